@@ -53,3 +53,25 @@ impl<T: MapKey> Lattice for Max<T> {
         Ok(*self)
     }
 }
+
+#[cfg(test)]
+mod tests {
+    use super::*;
+    use std::test::Fail;
+
+    /// Whether the order agrees with the join, through the bound.
+    fn is_joined_above<L: Lattice>(low: &L, high: &L) -> Result<bool, NoMemory> {
+        low.known();
+        high.known();
+        Ok(low.leq(high) && low.join(high)?.equal(high) && high.copy()?.equal(high))
+    }
+
+    #[test]
+    fn takes_the_greater(rt: HostRuntime) -> Result<(), Fail> {
+        assert!(rt; is_joined_above(&Max::new(2u64), &Max::new(5))?);
+        assert!(rt; is_joined_above(&Max::new(5u64), &Max::new(5))?);
+        assert!(rt; !is_joined_above(&Max::new(5u64), &Max::new(2))?);
+        assert_eq!(rt; Max::new(5u64).join(&Max::new(2))?.value, 5);
+        Ok(())
+    }
+}

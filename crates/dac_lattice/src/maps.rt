@@ -150,3 +150,60 @@ impl<K: MapKey, L: Lattice> Bottom for MapOf<K, L> {
         }
     }
 }
+
+#[cfg(test)]
+mod tests {
+    use super::*;
+    use crate::Max;
+    use dac_base::AppId;
+    use std::test::Fail;
+
+    const A: AppId = AppId(0);
+
+    const B: AppId = AppId(1);
+
+    /// Joins through the bound, as callers of any lattice do.
+    fn join_all<L: Bottom>(alloc: Global, values: &[L]) -> Result<L, NoMemory> {
+        let mut joined = L::bottom(alloc);
+        for value in values {
+            joined = joined.join(value)?;
+        }
+        Ok(joined)
+    }
+
+    fn greatest(map: &MapOf<AppId, Max<u32>>, key: AppId) -> Option<u32> {
+        map.get(key).map(|max| max.value)
+    }
+
+    #[test]
+    fn joins_at_each_key(rt: HostRuntime) -> Result<(), Fail> {
+        let one = MapOf::one(rt.alloc(), A, Max::new(1))?;
+        let three = MapOf::one(rt.alloc(), A, Max::new(3))?;
+        let two = MapOf::one(rt.alloc(), B, Max::new(2))?;
+        let wanted = three.join(&two)?;
+        let joined = one.join(&wanted)?;
+        assert_eq!(rt; greatest(&joined, A), Some(3));
+        assert_eq!(rt; greatest(&joined, B), Some(2));
+        assert_eq!(rt; greatest(&one, B), None);
+        assert!(rt; joined.equal(&wanted));
+        assert!(rt; one.leq(&joined));
+        assert!(rt; !joined.leq(&one));
+        assert!(rt; joined.copy()?.equal(&joined));
+        Ok(())
+    }
+
+    #[test]
+    fn order_of_joins(rt: HostRuntime) -> Result<(), Fail> {
+        let mut values = Vec::new(rt.alloc());
+        values.push(MapOf::one(rt.alloc(), B, Max::new(2))?)?;
+        values.push(MapOf::one(rt.alloc(), A, Max::new(3))?)?;
+        values.push(MapOf::one(rt.alloc(), A, Max::new(1))?)?;
+        let joined = join_all(rt.alloc(), &values)?;
+        assert_eq!(rt; greatest(&joined, A), Some(3));
+        assert_eq!(rt; greatest(&joined, B), Some(2));
+        let nothing = join_all(rt.alloc(), &[MapOf::bottom(rt.alloc())])?;
+        assert!(rt; nothing.leq(&joined));
+        assert_eq!(rt; greatest(&nothing, A), None);
+        Ok(())
+    }
+}

@@ -107,3 +107,42 @@ pub fn value_at<K: MapKey, X>(entries: &[(K, X)], key: K) -> Option<&X>
         Err(_) => None,
     }
 }
+
+#[cfg(test)]
+mod tests {
+    use super::*;
+    use std::test::Fail;
+
+    /// Keeps the keys of both maps alone, with the greater value.
+    struct GreaterOfShared;
+
+    impl Combine<u8, u16> for GreaterOfShared {
+        ghost use Rattle.std.specs.Option.{option_and_then, option_map};
+        ghost use Rattle.std.specs.Ordering.{ord_max, nat_cmp};
+
+        ghost combined = { λ _ _ a b. option_and_then (λ x. option_map (ord_max nat_cmp x) b) a };
+
+        fn left(&self, _key: u8, _mine: &u16) -> Result<Option<u16>, NoMemory> {
+            Ok(None)
+        }
+
+        fn right(&self, _key: u8, _theirs: &u16) -> Result<Option<u16>, NoMemory> {
+            Ok(None)
+        }
+
+        fn both(&self, _key: u8, mine: &u16, theirs: &u16) -> Result<Option<u16>, NoMemory> {
+            Ok(Some((*mine).max(*theirs)))
+        }
+    }
+
+    #[test]
+    fn merges_by_key(rt: HostRuntime) -> Result<(), Fail> {
+        let mine = [(1, 5), (2, 7), (4, 6)];
+        let theirs = [(2, 9), (3, 1), (4, 2)];
+        let merged = merge(rt.alloc(), &GreaterOfShared, &mine, &theirs)?;
+        assert_eq!(rt; merged.as_slice(), [(2, 9), (4, 6)].as_slice());
+        assert_eq!(rt; value_at(&mine, 2), Some(&7));
+        assert_eq!(rt; value_at(&mine, 3), None);
+        Ok(())
+    }
+}
