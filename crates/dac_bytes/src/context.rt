@@ -1,6 +1,6 @@
 //! Contexts as bytes: by origin, how far its counters go without a gap, and the further ones.
 ghost use Rattle.std.specs.Prelude.{◌≡◌, ◌++◌, IfOk, OnOk};
-ghost use Rattle.dac_bytes.specs.Rows.{AreRowsOf, Row, counters_of, further_of, origins_of, reach_of, row_of, rows_of};
+ghost use Rattle.dac_bytes.specs.Rows.{AreRowsOf, counters_of, further_of, origins_of, reach_of, row_of, rows_of};
 ghost use Rattle.dac_bytes.specs.Spelling.{context_bytes, row_bytes};
 ghost use Rattle.dac_bytes.specs.Numbers.{u64_bytes};
 ghost use Rattle.std.specs.List.{flat_map};
