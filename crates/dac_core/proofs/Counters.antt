@@ -72,19 +72,22 @@ next-is dots o d h = λ i. record { origin = h.same_origin i; n = number i }
   where
     g : ℕ
     g = greatest_counter o dots
+
     below : g < d.n
     below = elim (greatest-there o (set.items dots)) [
       | inl zero ↦ elim h.tight [
-          | inl one ↦ omega arith
-          | inr t ↦ let last : d.n - 1 < d.n = h.above (d.n - 1) t in omega arith
-        ]
+        | inl one ↦ omega arith
+        | inr t ↦ let last : d.n - 1 < d.n = h.above (d.n - 1) t in omega arith
+      ]
       | inr t ↦ h.above g (set.contains-items dots (dot o g) ∙ t)
     ]
+
     at_most : d.n ≤ g + 1
     at_most = elim h.tight [
       | inl one ↦ omega arith
       | inr t ↦ let last : d.n - 1 ≤ g = counter-greatest dots (dot o (d.n - 1)) t in omega arith
     ]
+
     number : d.n ≡ g + 1
     number = omega (arith, below, at_most)
 

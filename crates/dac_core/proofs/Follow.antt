@@ -52,20 +52,25 @@ refusal_same t w v h me e old here = ap (λ x. refusal_of t x e) (node_shown w v
 pub lacked_follows : (t : Table) (v : WorldValue) (me : NodeId) (e : Event) (old : NodeValue) → Here v me old → refusal_of t old e ≡ None → Follows v (λ w. happens_by t w me (Ok e)) out_of_memory v
 lacked_follows t v me e old here none = record {
   each = λ w h.
-    let st = step_accepted t me (w.node me) e (refusal_same t w v h me e old here ∙ none) in
-    (w, (inr (record {
-      answered = λ _. out_of_memory;
-      accepted = subst (λ (s : WorldStepped). IsOk s.answer) (sym (by_step t w me e _ st)) (is_ok_accepted w me (w.node me).last (w.node me).run e);
-      stayed = refl
-    }), h))
+      let st = step_accepted t me (w.node me) e (refusal_same t w v h me e old here ∙ none) in (
+        w,
+        (
+          inr (record {
+            answered = λ _. out_of_memory;
+            accepted = subst (λ (s : WorldStepped). IsOk s.answer) (sym (by_step t w me e _ st)) (is_ok_accepted w me (w.node me).last (w.node me).run e);
+            stayed = refl;
+          }),
+          h,
+        ),
+      );
 }
 
 refused_follows : (t : Table) (v : WorldValue) (me : NodeId) (e : Event) (old : NodeValue) (why : Refusal) → Here v me old → refusal_of t old e ≡ Some why → Follows v (λ w. happens_by t w me (Ok e)) (Err (Refused why)) v
 refused_follows t v me e old why here some = record {
   each = λ w h.
-    let st : model_step t me (w.node me) e ≡ record { node = w.node me; answer = Err why } = ap (λ r. step_by r me (w.node me) e) (refusal_same t w v h me e old here ∙ some) in
-    let all = by_step t w me e (record { node = w.node me; answer = Err why }) st in
-    (w, (inl (record { answered = ap (λ (s : WorldStepped). s.answer) (sym all); went_on = ap (λ (s : WorldStepped). s.world) (sym all) }), h))
+      let st : model_step t me (w.node me) e ≡ record { node = w.node me; answer = Err why } = ap (λ r. step_by r me (w.node me) e) (refusal_same t w v h me e old here ∙ some) in
+      let all = by_step t w me e (record { node = w.node me; answer = Err why }) st in
+      (w, (inl (record { answered = ap (λ (s : WorldStepped). s.answer) (sym all); went_on = ap (λ (s : WorldStepped). s.world) (sym all) }), h));
 }
 
 -- what a node refuses, or lacks memory for
@@ -89,27 +94,32 @@ changed_at v me old change there x is n =
 pub ok_follows : (t : Table) (v u : WorldValue) (me : NodeId) (e : Event) (old : NodeValue) (change : Change) (reply : Reply) → Here v me old → Prepared t me old e change → Goes v me change reply u → Follows v (λ w. happens_by t w me (Ok e)) (Ok reply) u
 ok_follows t v u me e old change reply here p goes = record {
   each = λ w h.
-    let d = w.node me in
-    let same = node_shown w v h me old here.inside here.there in
-    let st = step_accepted t me d e (refusal_same t w v h me e old here ∙ p.accepted) in
-    let answer : (accepted me d.last d.run e).answer ≡ Ok reply = answer_accepted me d.last d.run e ∙ ap (λ r. Ok r) (ap (λ (x : NodeValue). reply_by me x.last x.run e) same ∙ sym p.reply ∙ sym goes.reply) in
-    let new : ModelNode = (accepted me d.last d.run e).node in
-    let shows : shown new ≡ changed old change = shown_accepted me d.last d.run e ∙ (ap (λ (x : NodeValue). left_by me x.last x.run e) same ∙ sym p.left) in
-    let all : happens_by t w me (Ok e) ≡ answered_by w me new (Ok reply) = by_step t w me e _ st ∙ ap (answered_by w me new) answer in
-    let next : ModelWorld = record { count = w.count; node = with_node w.node me new; operations = w.operations ++ issued_by reply; messages = w.messages ++ shipped_by reply } in
-    (next, (inl (record { answered = ap (λ (s : WorldStepped). s.answer) (sym all); went_on = ap (λ (s : WorldStepped). s.world) (sym all) }),
-      record {
-        count = goes.count ∙ h.count;
-        nodes = λ n. goes.nodes n ∙ (changed_at v me old change here.there (shown new) shows n ∙ (ap (cond (nat_eq n me.0) (Some (shown new))) (h.nodes n) ∙ at w new n (ap (nat_lt me.0) (sym h.count) ∙ lt-ltb me.0 (length v.nodes) here.inside)));
-        operations = goes.operations ∙ (λ i. h.operations i ++ issued_by (sym goes.reply i));
-        messages = goes.messages ∙ (λ i. h.messages i ++ shipped_by (sym goes.reply i))
-      }))
+      let d = w.node me in
+      let same = node_shown w v h me old here.inside here.there in
+      let st = step_accepted t me d e (refusal_same t w v h me e old here ∙ p.accepted) in
+      let answer : (accepted me d.last d.run e).answer ≡ Ok reply = answer_accepted me d.last d.run e ∙ ap (λ r. Ok r) (ap (λ (x : NodeValue). reply_by me x.last x.run e) same ∙ sym p.reply ∙ sym goes.reply) in
+      let new : ModelNode = (accepted me d.last d.run e).node in
+      let shows : shown new ≡ changed old change = shown_accepted me d.last d.run e ∙ (ap (λ (x : NodeValue). left_by me x.last x.run e) same ∙ sym p.left) in
+      let all : happens_by t w me (Ok e) ≡ answered_by w me new (Ok reply) = by_step t w me e _ st ∙ ap (answered_by w me new) answer in
+      let next : ModelWorld = record { count = w.count; node = with_node w.node me new; operations = w.operations ++ issued_by reply; messages = w.messages ++ shipped_by reply } in (
+        next,
+        (
+          inl (record { answered = ap (λ (s : WorldStepped). s.answer) (sym all); went_on = ap (λ (s : WorldStepped). s.world) (sym all) }),
+          record {
+            count = goes.count ∙ h.count;
+            nodes = λ n. goes.nodes n ∙ (changed_at v me old change here.there (shown new) shows n ∙ (ap (cond (nat_eq n me.0) (Some (shown new))) (h.nodes n) ∙ at w new n (ap (nat_lt me.0) (sym h.count) ∙ lt-ltb me.0 (length v.nodes) here.inside)));
+            operations = goes.operations ∙ (λ i. h.operations i ++ issued_by (sym goes.reply i));
+            messages = goes.messages ∙ (λ i. h.messages i ++ shipped_by (sym goes.reply i));
+          },
+        ),
+      );
 }
   where
     pick : (w : ModelWorld) (new : ModelNode) (n : NodeId) (b c : Bool) → (b ≡ true → c ≡ true) → cond b (Some (shown new)) (cond c (Some (shown (w.node n))) None) ≡ cond c (Some (shown (cond b new (w.node n)))) None
     pick w new n true true f = refl
     pick w new n true false f = absurd (true≢false (sym (f refl)))
     pick w new n false c f = refl
+
     at : (w : ModelWorld) (new : ModelNode) (n : ℕ) → nat_lt me.0 w.count ≡ true → cond (nat_eq n me.0) (Some (shown new)) (cond (nat_lt n w.count) (Some (shown (w.node (numbered n)))) None) ≡ cond (nat_lt n w.count) (Some (shown (with_node w.node me new (numbered n)))) None
     at w new n inside = pick w new (numbered n) (nat_eq n me.0) (nat_lt n w.count) (λ x. ap (λ k. nat_lt k w.count) (exact_unsigned_eq n me.0 x) ∙ inside)
 
@@ -117,7 +127,7 @@ ok_follows t v u me e old change reply here p goes = record {
 -- the same step, said of the world that shows v
 pub follows_by : (v u : WorldValue) (answer : Result Reply WorldFault) (f g : ModelWorld → WorldStepped) → ((w : ModelWorld) → Shows w v → f w ≡ g w) → Follows v f answer u → Follows v g answer u
 follows_by v u answer f g same h = record {
-  each = λ w s. let r = h.each w s in (r.0, (subst (λ x. Step w x answer r.0) (same w s) r.1.0, r.1.1))
+  each = λ w s. let r = h.each w s in (r.0, (subst (λ x. Step w x answer r.0) (same w s) r.1.0, r.1.1));
 }
 
 -- an event at a node that there is
@@ -132,7 +142,7 @@ pub world_follows : (t : Table) (v u : WorldValue) (e : WorldEvent) (what : What
     Follows v (λ w. happens_by t w e.node (event_of v.messages what)) answer u → Follows v (λ w. happens t w e) answer u
 world_follows t v u e what answer lt is =
     follows_by v u answer (λ w. happens_by t w e.node (event_of v.messages what)) (λ w. happens t w e)
-      (λ w s. ap (λ x. happens_by t w e.node (event_of v.messages x)) (sym is) ∙ happens_at t v e lt w s)
+    (λ w s. ap (λ x. happens_by t w e.node (event_of v.messages x)) (sym is) ∙ happens_at t v e lt w s)
 
 -- the node that the code reads
 pub node_at : (v : WorldValue) (me : NodeId) (x : NodeValue) → me.0 < length v.nodes → x ≡ get_or v.nodes me.0 x → Here v me x
@@ -150,4 +160,4 @@ pub gone_follows : (t : Table) (v u : WorldValue) (me : NodeId) (e : Event) (old
 gone_follows t v u me e old change (Ok reply) here p goes lacked same = ok_follows t v u me e old change reply here p goes
 gone_follows t v u me e old change (Err fault) here p goes lacked same =
     subst (λ x. Follows v (λ w. happens_by t w me (Ok e)) x u) (sym lacked)
-      (subst (λ x. Follows v (λ w. happens_by t w me (Ok e)) out_of_memory x) (sym same) (lacked_follows t v me e old here p.accepted))
+    (subst (λ x. Follows v (λ w. happens_by t w me (Ok e)) out_of_memory x) (sym same) (lacked_follows t v me e old here p.accepted))

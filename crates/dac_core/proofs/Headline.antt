@@ -36,7 +36,7 @@ state_shown (Some r) = refl
 
 pub holds_sets : (w : ModelWorld) (v : WorldValue) (s : SetWorld) → Shows w v → Sound w s → HoldsSets v s
 holds_sets w v s shows h = record {
-  each = λ n x e. ap state_of (node_there w v shows n x e) ∙ (state_shown (w.node (numbered n)).run ∙ (h.nodes (numbered n)).state)
+  each = λ n x e. ap state_of (node_there w v shows n x e) ∙ (state_shown (w.node (numbered n)).run ∙ (h.nodes (numbered n)).state);
 }
 
 pub each_is_meaning : (w : ModelWorld) (v : WorldValue) (s : SetWorld) → Shows w v → Sound w s → EachIsMeaning v
@@ -46,9 +46,9 @@ each_is_meaning w v s shows h = record {
     | Some os ↦ λ held p.
         let is : meaning_of os ≡ st = some_same (meaning_of os) st p in
         subst (λ (x : StateValue). x ≡ meaning_of (heard_among x.heard v.operations)) is
-          (subst (λ ops. meaning_of os ≡ meaning_of (heard_among (meaning_of os).heard ops)) (sym shows.operations)
-            (meaning-heard_among os w.operations ((h.nodes (numbered n)).within os held) (DistinctDots-agree w.operations h.distinct)))
-  ] refl (sym ((holds_sets w v s shows h).each n runs.node runs.there) ∙ runs.state)
+        (subst (λ ops. meaning_of os ≡ meaning_of (heard_among (meaning_of os).heard ops)) (sym shows.operations)
+        (meaning-heard_among os w.operations ((h.nodes (numbered n)).within os held) (DistinctDots-agree w.operations h.distinct)))
+  ] refl (sym ((holds_sets w v s shows h).each n runs.node runs.there) ∙ runs.state);
 }
   where
     no : (x : StateValue) → None ≡ Some x → ⊥
@@ -57,7 +57,7 @@ each_is_meaning w v s shows h = record {
 -- states that are meanings of what they heard are equal where they heard the same
 pub agrees : (v : WorldValue) → EachIsMeaning v → Agrees v
 agrees v h = record {
-  each = λ m n s t a b same. h.each m s a ∙ (ap (λ heard. meaning_of (heard_among heard v.operations)) same ∙ sym (h.each n t b))
+  each = λ m n s t a b same. h.each m s a ∙ (ap (λ heard. meaning_of (heard_among heard v.operations)) same ∙ sym (h.each n t b));
 }
 
 -- what every run leaves
@@ -75,5 +75,5 @@ headline t events answers v r =
       meanings = meanings;
       agree = agrees v meanings;
       distinct = subst DistinctDots (sym r.shows.operations) h.distinct;
-      sets = holds_sets r.final v (set_run no_sets events answers) r.shows h
+      sets = holds_sets r.final v (set_run no_sets events answers) r.shows h;
     }

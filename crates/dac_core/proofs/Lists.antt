@@ -33,7 +33,7 @@ slice_get-set (y ∷ xs) (suc i) zero x h = ap (λ b. cond b (Some x) (Some y)) 
 slice_get-set (y ∷ xs) (suc i) (suc n) x h =
     slice_get-set xs i n x (omega arith)
     ∙ ap (λ b. cond b (Some x) (slice_get xs n)) (same_answer (nat_eq n i) (nat_eq (suc n) (suc i))
-      (λ t. eq-eqb (suc n) (suc i) (ap suc (exact_unsigned_eq n i t))) (λ t. eq-eqb n i (pred_eq n i (exact_unsigned_eq (suc n) (suc i) t))))
+    (λ t. eq-eqb (suc n) (suc i) (ap suc (exact_unsigned_eq n i t))) (λ t. eq-eqb n i (pred_eq n i (exact_unsigned_eq (suc n) (suc i) t))))
 
 -- two reads of one place
 pub same_item : {X : Type 0} (xs : List X) (i : ℕ) (x y : X) → i < length xs → x ≡ get_or xs i x → y ≡ get_or xs i y → x ≡ y

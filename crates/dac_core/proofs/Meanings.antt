@@ -21,7 +21,7 @@ meaning-none = same_state bottom (meaning_of []) (record {
   heard = λ d. set.contains-empty dot_cmp d ∙ sym (heard-meaning [] d);
   known = λ d. set.contains-empty dot_cmp d ∙ sym (known-meaning [] d);
   starts = λ q. set.contains-empty start_cmp q ∙ sym (starts-meaning [] q);
-  lives = λ n. map.get-empty node_cmp n ∙ sym (lives-meaning [] n)
+  lives = λ n. map.get-empty node_cmp n ∙ sym (lives-meaning [] n);
 })
 
 pub join-bottom : (os : List Operation) → Agree os → join bottom (meaning_of os) ≡ meaning_of os
@@ -40,7 +40,7 @@ in_heard os ops w agree o h t =
 pub below_adds_nothing : (os ps ops : List Operation) → Within os ops → Within ps ops → Agree ops → IsBelow (meaning_of ps) (meaning_of os) → meaning_of os ≡ meaning_of (os ++ ps)
 below_adds_nothing os ps ops w v agree below =
     meaning-same os (os ++ ps) (λ o h. In-append_left o os ps h)
-      (Within-append os ps os (λ o h. h) (λ o h. in_heard os ops w agree o (v o h) (below.heard o.dot (heard_in ps o h))))
+    (Within-append os ps os (λ o h. h) (λ o h. in_heard os ops w agree o (v o h) (below.heard o.dot (heard_in ps o h))))
 
 -- ---- the operations that were heard
 In-filter : (p : Operation → Bool) (os : List Operation) (o : Operation) → In o os → p o ≡ true → In o (filter p os)
@@ -61,5 +61,5 @@ In-from_filter p (x ∷ os) o h = In-kept p x os o (In-from_filter p os o) (p x)
 pub meaning-heard_among : (os ops : List Operation) → Within os ops → Agree ops → meaning_of os ≡ meaning_of (heard_among (meaning_of os).heard ops)
 meaning-heard_among os ops w agree =
     meaning-same os (heard_among (meaning_of os).heard ops)
-      (λ o h. In-filter (λ (p : Operation). set.contains (meaning_of os).heard p.dot) ops o (w o h) (heard_in os o h))
-      (λ o h. let r = In-from_filter (λ (p : Operation). set.contains (meaning_of os).heard p.dot) ops o h in in_heard os ops w agree o r.0 r.1)
+    (λ o h. In-filter (λ (p : Operation). set.contains (meaning_of os).heard p.dot) ops o (w o h) (heard_in os o h))
+    (λ o h. let r = In-from_filter (λ (p : Operation). set.contains (meaning_of os).heard p.dot) ops o h in in_heard os ops w agree o r.0 r.1)

@@ -36,7 +36,8 @@ step_accepted t me d e none = ap (λ r. step_by r me d e) none
 pub steps : (t : Table) (me : NodeId) (old : NodeValue) (e : Event) (change : Change) → Prepared t me old e change → Steps t me old e (changed old change) (Ok change.reply)
 steps t me old e change p = record {
   by = λ d same.
-    let st = step_accepted t me d e (ap (λ v. refusal_of t v e) same ∙ p.accepted) in
-    (ap (λ (s : Stepped). shown s.node) st ∙ shown_accepted me d.last d.run e ∙ ap (λ (v : NodeValue). left_by me v.last v.run e) same ∙ sym p.left,
-      ap (λ (s : Stepped). s.answer) st ∙ answer_accepted me d.last d.run e ∙ ap (λ (v : NodeValue). Ok (reply_by me v.last v.run e)) same ∙ ap (λ r. Ok r) (sym p.reply))
+      let st = step_accepted t me d e (ap (λ v. refusal_of t v e) same ∙ p.accepted) in (
+        ap (λ (s : Stepped). shown s.node) st ∙ shown_accepted me d.last d.run e ∙ ap (λ (v : NodeValue). left_by me v.last v.run e) same ∙ sym p.left,
+        ap (λ (s : Stepped). s.answer) st ∙ answer_accepted me d.last d.run e ∙ ap (λ (v : NodeValue). Ok (reply_by me v.last v.run e)) same ∙ ap (λ r. Ok r) (sym p.reply),
+      );
 }

@@ -44,6 +44,7 @@ apart d e h = not_true (same_dot d e) (λ t. true≢false (sym (same_by e d (sym
 
 pub DistinctDots-push : (os : List Operation) (o : Operation) → DistinctDots os → list_any (has_dot o.dot) os ≡ false → DistinctDots (os ++ o ∷ [])
 DistinctDots-push [] o d none = (refl, tt)
-DistinctDots-push (x ∷ os) o d none =
-    (list_any-append (has_dot x.dot) os (o ∷ []) ∙ (ap (λ b. b || (same_dot x.dot o.dot || false)) d.0 ∙ ap (λ b. b || false) (apart x.dot o.dot (either_false_left (same_dot o.dot x.dot) (list_any (has_dot o.dot) os) none))),
-      DistinctDots-push os o d.1 (either_false_right (same_dot o.dot x.dot) (list_any (has_dot o.dot) os) none))
+DistinctDots-push (x ∷ os) o d none = (
+  list_any-append (has_dot x.dot) os (o ∷ []) ∙ (ap (λ b. b || (same_dot x.dot o.dot || false)) d.0 ∙ ap (λ b. b || false) (apart x.dot o.dot (either_false_left (same_dot o.dot x.dot) (list_any (has_dot o.dot) os) none))),
+  DistinctDots-push os o d.1 (either_false_right (same_dot o.dot x.dot) (list_any (has_dot o.dot) os) none),
+)

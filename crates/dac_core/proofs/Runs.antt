@@ -26,4 +26,4 @@ pub ran_turn : (t : Table) (es : List WorldEvent) (i : ℕ) (bs : List (Result R
     Follows v (λ w. happens t w e) a u → i < length es → e ≡ get_or es i e → RanAs t (take i es) bs v → RanAs t (take (i + 1) es) (bs ++ a ∷ []) u
 ran_turn t es i bs v u e a f lt read r =
     subst (λ all. RanAs t all (bs ++ a ∷ []) u) (sym (take_more es i e lt ∙ ap (λ x. take i es ++ (x ∷ [])) (sym read)))
-      (ran_more t (take i es) bs v e a u r f)
+    (ran_more t (take i es) bs v e a u r f)

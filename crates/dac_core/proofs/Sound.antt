@@ -115,7 +115,7 @@ NodeOk-more ops n d held x far h = record {
   old = λ o i t. elim (In-append_cases o ops (x ∷ []) i) [
     | inl a ↦ h.old o a t
     | inr b ↦ absurd (far (ap (λ (y : Operation). y.dot.origin.node) (sym (one_in o x b)) ∙ t))
-  ]
+  ];
 }
 
 -- ---- one node's step
@@ -141,13 +141,15 @@ boot_node ops n d held h =
       old = λ o i t. elim (In-append_cases o ops (x ∷ []) i) [
         | inl a ↦ later d.last o.dot.origin.inc (h.old o a t)
         | inr b ↦ same_le o.dot.origin.inc (d.last + 1) (ap (λ (y : Operation). y.dot.origin.inc) (one_in o x b))
-      ]
+      ];
     }
   where
     above : (l i : ℕ) → i ≤ l → i ≡ l + 1 → ⊥
     above l i a b = omega arith
+
     later : (l i : ℕ) → i ≤ l → i ≤ l + 1
     later l i a = omega arith
+
     same_le : (i l : ℕ) → i ≡ l → i ≤ l
     same_le i l e = omega arith
 
@@ -160,6 +162,7 @@ boot_fresh ops n d held h = not_true (list_any (has_dot x.dot) ops) (λ t.
   where
     x : Operation
     x = up (own_origin n (d.last + 1))
+
     above : (l i : ℕ) → i ≤ l → i ≡ l + 1 → ⊥
     above l i a b = omega arith
 
@@ -197,7 +200,7 @@ issue_node ops os n last own log x origin mine agree state h =
       old = λ o i t. elim (In-append_cases o ops (x ∷ []) i) [
         | inl a ↦ h.old o a t
         | inr b ↦ same_le o.dot.origin.inc last (ap (λ (y : Operation). y.dot.origin.inc) (one_in o x b) ∙ ap (λ (q : Origin). q.inc) (origin ∙ mine))
-      ]
+      ];
     }
   where
     same_le : (i l : ℕ) → i ≡ l → i ≤ l
@@ -214,16 +217,17 @@ hear_node ops os ps n last own log body mine agree is inside state h b fresh =
       origin = same_run n last own (log ++ cond b (body ∷ []) []) mine;
       within = λ qs e o i. all o (subst (In o) (sym (some_same (os ++ ps) qs e)) i);
       own = λ qs e o i t. subst (In o) (some_same (os ++ ps) qs e) (In-append_left o os ps (h.own os refl o i t));
-      old = h.old
+      old = h.old;
     }
   where
     turned : (a : Bool) → not a ≡ false → a ≡ true
     turned true e = refl
     turned false e = absurd (true≢false e)
+
     heard : (b : Bool) → not (is_below body (joined log)) ≡ b → joined (log ++ cond b (body ∷ []) []) ≡ meaning_of (os ++ ps)
     heard true e = joined-append log (body ∷ []) ∙ ((λ i. join (state i) (is i)) ∙ join-meaning os ps (Agree-within (os ++ ps) ops (Within-append os ps ops (h.within os refl) inside) agree))
     heard false e = ap joined (append-nil log) ∙ (state ∙ below_adds_nothing os ps ops (h.within os refl) inside agree
-      ((is_below-is (meaning_of ps) (meaning_of os)).1 (sym (λ i. is_below (is i) (state i)) ∙ turned (is_below body (joined log)) e)))
+        ((is_below-is (meaning_of ps) (meaning_of os)).1 (sym (λ i. is_below (is i) (state i)) ∙ turned (is_below body (joined log)) e)))
 
 -- ---- one event of the world
 -- a node put in its place, beside its set
@@ -245,7 +249,7 @@ sound_more : (w : ModelWorld) (s : SetWorld) (n : NodeId) (d : ModelNode) (held 
 sound_more w s n d held x h mine fresh here = record {
   nodes = at_node (NodeOk (w.operations ++ x ∷ [])) n d held w.node s.node here (λ m far. NodeOk-more w.operations m (w.node m) (s.node m) x (λ e. far (sym e ∙ mine)) (h.nodes m));
   copies = subst (λ ms. CopiesOk (w.operations ++ x ∷ []) ms s.copies) (sym (append-nil w.messages)) (CopiesOk-more w.operations (x ∷ []) w.messages s.copies h.copies);
-  distinct = DistinctDots-push w.operations x h.distinct fresh
+  distinct = DistinctDots-push w.operations x h.distinct fresh;
 }
 
 -- nothing is issued: node n goes on to d with this set, and more may be on its way
@@ -255,7 +259,7 @@ sound_same : (w : ModelWorld) (s : SetWorld) (n : NodeId) (d : ModelNode) (held 
 sound_same w s n d held ms cs h here copies = subst (λ os. Sound (record { count = w.count; node = with_node w.node n d; operations = os; messages = w.messages ++ ms }) (record { node = with_set s.node n held; copies = cs })) (sym (append-nil w.operations)) (record {
   nodes = at_node (NodeOk w.operations) n d held w.node s.node here (λ m far. h.nodes m);
   copies = copies;
-  distinct = h.distinct
+  distinct = h.distinct;
 })
 
 -- which event is which
@@ -323,25 +327,25 @@ sound_issue w s n what r act h on =
     let d : ModelNode = running last r.origin (r.log ++ meaning_of (x ∷ []) ∷ []) in
     let next : ModelWorld = record { count = w.count; node = with_node w.node n d; operations = w.operations ++ x ∷ []; messages = w.messages ++ [] } in
     subst (λ (o : Option (List Operation)). Sound next (record { node = with_set s.node n (united o (x ∷ [])); copies = s.copies })) (sym held.is)
-      (sound_more w s n d (Some (held.set ++ x ∷ [])) x h (ap (λ (q : Origin). q.node) held.mine) fresh
-        (issue_node w.operations held.set n last r.origin r.log x refl held.mine agree held.state held.ok))
+    (sound_more w s n d (Some (held.set ++ x ∷ [])) x h (ap (λ (q : Origin). q.node) held.mine) fresh
+    (issue_node w.operations held.set n last r.origin r.log x refl held.mine agree held.state held.ok))
 
 sound_ship : (w : ModelWorld) (s : SetWorld) (n : NodeId) (what : What) (to : NodeId) (r : ModelRun) → Sound w s → (w.node n).run ≡ Some r → to_of what ≡ to →
     Sound (record { count = w.count; node = with_node w.node n (running (w.node n).last r.origin (r.log ++ [])); operations = w.operations ++ []; messages = w.messages ++ (record { from = r.origin; to = to; body = joined r.log }) ∷ [] })
-      (record { node = s.node; copies = s.copies ++ ship_from (s.node n) n (to_of what) })
+    (record { node = s.node; copies = s.copies ++ ship_from (s.node n) n (to_of what) })
 sound_ship w s n what to r h on is =
     let held = held_at w s n r h on in
     let d : ModelNode = running (w.node n).last r.origin (r.log ++ []) in
     let m : Message = record { from = r.origin; to = to; body = joined r.log } in
     let here : NodeOk w.operations n d (s.node n) = subst (λ (x : ModelNode). NodeOk w.operations n x (s.node n)) (λ i. record { last = (w.node n).last; run = (on ∙ ap (λ l. Some (record { origin = r.origin; log = l })) (sym (append-nil r.log))) i }) (h.nodes n) in
     let copies : CopiesOk w.operations (w.messages ++ m ∷ []) (s.copies ++ ship_from (s.node n) n (to_of what)) =
-      subst (λ (o : Option (List Operation)). CopiesOk w.operations (w.messages ++ m ∷ []) (s.copies ++ ship_from o n (to_of what))) (sym held.is)
-        (CopiesOk-push w.operations w.messages s.copies m (record { from = n; to = to_of what; operations = held.set }) h.copies
-          (record { body = held.state; within = held.ok.within held.set refl; to = sym is; from = ap (λ (q : Origin). q.node) held.mine })) in
+    subst (λ (o : Option (List Operation)). CopiesOk w.operations (w.messages ++ m ∷ []) (s.copies ++ ship_from o n (to_of what))) (sym held.is)
+    (CopiesOk-push w.operations w.messages s.copies m (record { from = n; to = to_of what; operations = held.set }) h.copies
+    (record { body = held.state; within = held.ok.within held.set refl; to = sym is; from = ap (λ (q : Origin). q.node) held.mine })) in
     subst (λ os. Sound (record { count = w.count; node = with_node w.node n d; operations = os; messages = w.messages ++ m ∷ [] }) (record { node = s.node; copies = s.copies ++ ship_from (s.node n) n (to_of what) })) (sym (append-nil w.operations)) (record {
       nodes = at_node (λ k x _. NodeOk w.operations k x (s.node k)) n d None w.node (λ _. None) here (λ k far. h.nodes k);
       copies = copies;
-      distinct = h.distinct
+      distinct = h.distinct;
     })
 
 for_me : (a b : Bool) → first ((a, OnSelf) ∷ (not b, NotForMe) ∷ []) ≡ None → (b && not a) ≡ true
@@ -351,7 +355,7 @@ for_me false false e = cc
 
 sound_hear : (w : ModelWorld) (s : SetWorld) (n : NodeId) (what : What) (m : Message) (r : ModelRun) → Sound w s → (w.node n).run ≡ Some r → message_at w.messages (number_of what) ≡ Some m → refusal_to_hear r.origin m ≡ None →
     Sound (record { count = w.count; node = with_node w.node n (running (w.node n).last r.origin (r.log ++ cond (not (is_below m.body (joined r.log))) (m.body ∷ []) [])); operations = w.operations ++ []; messages = w.messages ++ [] })
-      (receive s n (copy_at s.copies (number_of what)))
+    (receive s n (copy_at s.copies (number_of what)))
 sound_hear w s n what m r h on is accept =
     let held = held_at w s n r h on in
     let c = message_copy w.operations w.messages s.copies (number_of what) m h.copies is in
@@ -360,11 +364,11 @@ sound_hear w s n what m r h on is accept =
     let mine : refusal_to_hear (own_origin n (w.node n).last) m ≡ None = subst (λ q. refusal_to_hear q m ≡ None) held.mine accept in
     let goes : (nat_eq c.0.to.0 n.0 && not (nat_eq c.0.from.0 n.0)) ≡ true = sym (λ i. nat_eq (c.1.1.to i).0 n.0 && not (nat_eq (c.1.1.from i).0 n.0)) ∙ for_me (nat_eq m.from.node.0 n.0) (nat_eq m.to.0 n.0) mine in
     let here : NodeOk w.operations n d (united (s.node n) c.0.operations) = subst (λ (o : Option (List Operation)). NodeOk w.operations n d (united o c.0.operations)) (sym held.is)
-      (hear_node w.operations held.set c.0.operations n (w.node n).last r.origin r.log m.body held.mine (DistinctDots-agree w.operations h.distinct) c.1.1.body c.1.1.within held.state held.ok (not (is_below m.body (joined r.log))) refl) in
+    (hear_node w.operations held.set c.0.operations n (w.node n).last r.origin r.log m.body held.mine (DistinctDots-agree w.operations h.distinct) c.1.1.body c.1.1.within held.state held.ok (not (is_below m.body (joined r.log))) refl) in
     let copies : CopiesOk w.operations (w.messages ++ []) s.copies = subst (λ ms. CopiesOk w.operations ms s.copies) (sym (append-nil w.messages)) h.copies in
     subst (λ (o : Option Copy). Sound next (receive s n o)) (sym c.1.0)
-      (subst (λ b. Sound next (cond b (record { node = with_set s.node n (united (s.node n) c.0.operations); copies = s.copies }) s)) (sym goes)
-        (sound_same w s n d (united (s.node n) c.0.operations) [] s.copies h here copies))
+    (subst (λ b. Sound next (cond b (record { node = with_set s.node n (united (s.node n) c.0.operations); copies = s.copies }) s)) (sym goes)
+    (sound_same w s n d (united (s.node n) c.0.operations) [] s.copies h here copies))
 
 -- an event that isn't refused
 sound_ok : (t : Table) (w : ModelWorld) (s : SetWorld) (n : NodeId) (what : What) (e : Event) (run : Option ModelRun) → Sound w s → event_of w.messages what ≡ Ok e → refusal_of t (shown (w.node n)) e ≡ None → (w.node n).run ≡ run →
@@ -416,13 +420,14 @@ sound_start t = record {
     origin = λ r e. absurd (no_run r e);
     within = λ os e. absurd (no os e);
     own = λ os e. absurd (no os e);
-    old = λ o i. absurd i
+    old = λ o i. absurd i;
   };
   copies = tt;
-  distinct = tt
+  distinct = tt;
 }
   where
     no : (os : List Operation) → None ≡ Some os → ⊥
     no os e = cc
+
     no_run : (r : ModelRun) → None ≡ Some r → ⊥
     no_run r e = cc

@@ -53,9 +53,10 @@ passes p n (m ∷ ns) h there = elim (or_cases (eq_by_cmp node_cmp n m) (list_an
 ]
 
 lives_below-is : (x y : Lives) → (((n : NodeId) → IsNotAbove (map.get x n) (map.get y n)) → lives_below x y ≡ true) × (lives_below x y ≡ true → (n : NodeId) → IsNotAbove (map.get x n) (map.get y n))
-lives_below-is x y =
-    (λ h. all_pass (λ (n : NodeId). is_not_above (map.get x n) (map.get y n)) (λ n. (not_above-is (map.get x n) (map.get y n)).0 (h n)) (map.keys x),
-      λ h n. at n (map.get x n) refl h)
+lives_below-is x y = (
+  λ h. all_pass (λ (n : NodeId). is_not_above (map.get x n) (map.get y n)) (λ n. (not_above-is (map.get x n) (map.get y n)).0 (h n)) (map.keys x),
+  λ h n. at n (map.get x n) refl h,
+)
   where
     at : (n : NodeId) (a : Option ℕ) → map.get x n ≡ a → lives_below x y ≡ true → IsNotAbove a (map.get y n)
     at n None e h = tt
@@ -64,23 +65,25 @@ lives_below-is x y =
 -- the test is the order
 pub is_below-is : (x y : StateValue) → (IsBelow x y → is_below x y ≡ true) × (is_below x y ≡ true → IsBelow x y)
 unfolding is_below
-is_below-is x y =
-    (λ h. and_from _ _ (set.contains-is_subset dots_total x.heard y.heard h.heard)
+is_below-is x y = (
+  λ h. and_from _ _ (set.contains-is_subset dots_total x.heard y.heard h.heard)
       (and_from _ _ (set.contains-is_subset dots_total x.known y.known h.known)
       (and_from _ _ ((lives_below-is x.lives y.lives).0 h.lives)
       (set.contains-is_subset starts_total (set.retain y.starts known) x.starts (λ q t. let both = and_parts _ _ (sym (kept q) ∙ t) in h.starts q both.0 both.1)))),
-      λ t.
-        let a = and_parts _ _ t in
-        let b = and_parts _ _ a.1 in
-        let c = and_parts _ _ b.1 in
-        record {
-          heard = set.is_subset-contains dots_total x.heard y.heard a.0;
-          known = set.is_subset-contains dots_total x.known y.known b.0;
-          lives = (lives_below-is x.lives y.lives).1 c.0;
-          starts = λ q there named. set.is_subset-contains starts_total (set.retain y.starts known) x.starts c.1 q (kept q ∙ and_from _ _ there named)
-        })
+  λ t.
+      let a = and_parts _ _ t in
+      let b = and_parts _ _ a.1 in
+      let c = and_parts _ _ b.1 in
+      record {
+        heard = set.is_subset-contains dots_total x.heard y.heard a.0;
+        known = set.is_subset-contains dots_total x.known y.known b.0;
+        lives = (lives_below-is x.lives y.lives).1 c.0;
+        starts = λ q there named. set.is_subset-contains starts_total (set.retain y.starts known) x.starts c.1 q (kept q ∙ and_from _ _ there named);
+      },
+)
   where
     known : Start → Bool
     known q = set.contains x.known q.dot
+
     kept : (q : Start) → set.contains (set.retain y.starts known) q ≡ (set.contains y.starts q && set.contains x.known q.dot)
     kept q = set.contains-retain y.starts known q (λ r e. ap known (sym (exact_starts q r e)))

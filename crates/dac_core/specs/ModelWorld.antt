@@ -86,7 +86,7 @@ abbrev pub answered_by : ModelWorld → NodeId → ModelNode → Result Reply Re
 answered_by w n d (Err why) = record { world = w; answer = Err (Refused why) }
 answered_by w n d (Ok reply) = record {
   world = record { count = w.count; node = with_node w.node n d; operations = w.operations ++ issued_by reply; messages = w.messages ++ shipped_by reply };
-  answer = Ok reply
+  answer = Ok reply;
 }
 
 abbrev pub happens_by : Table → ModelWorld → NodeId → Result Event WorldFault → WorldStepped

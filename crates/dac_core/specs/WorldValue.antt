@@ -18,6 +18,6 @@ WorldParts = List NodeValue × (List Operation × List Message)
 abbrev pub coded_world : Coded Operation → Coded Message → Coded WorldValue
 coded_world operations messages =
     code_by WorldParts (coded× (coded_list coded_node_value) (coded× (coded_list operations) (coded_list messages)))
-      (λ w. (w.nodes, (w.operations, w.messages)))
-      (λ p. record { nodes = p.0; operations = p.1.0; messages = p.1.1 })
-      (λ _. refl)
+    (λ w. (w.nodes, (w.operations, w.messages)))
+    (λ p. record { nodes = p.0; operations = p.1.0; messages = p.1.1 })
+    (λ _. refl)

@@ -103,12 +103,7 @@ impl Node {
     /// One event. It is refused with the first cause that holds, and with `NoMemory` only where there is no
     /// other; the controller is then as before. A controller that boots is node `self_id` until it is off
     /// again.
-    pub fn step(
-        &mut self,
-        config: &Config,
-        self_id: NodeId,
-        event: Event,
-    ) -> Result<Reply, Refusal>
+    pub fn step(&mut self, config: &Config, self_id: NodeId, event: Event) -> Result<Reply, Refusal>
         ensures err { IfErr result (λ why. why ≡ unwrap_or (refusal_of config.now self.old event) Refusal.NoMemory) }
         ensures unchanged { OnErr result (self.new ≡ self.old) }
         ensures ok { IfOk result (λ reply. Steps config.now self_id self.old event self.new (Ok reply)) }

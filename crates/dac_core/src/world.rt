@@ -129,12 +129,7 @@ impl World {
     }
 
     /// An event at a node.
-    fn happen(
-        &mut self,
-        config: &Config,
-        node: NodeId,
-        event: &Event,
-    ) -> Result<Reply, WorldFault>
+    fn happen(&mut self, config: &Config, node: NodeId, event: &Event) -> Result<Reply, WorldFault>
         requires { node.0 < length self.old.nodes }
         ensures follows { Follows self.old (λ w. happens_by config.now w node (Ok event.now)) result self.new }
         ensures unchanged { OnErr result (self.new ≡ self.old) }
@@ -147,12 +142,7 @@ impl World {
     }
 
     /// The message of this number comes to a node.
-    fn deliver(
-        &mut self,
-        config: &Config,
-        node: NodeId,
-        number: u64,
-    ) -> Result<Reply, WorldFault>
+    fn deliver(&mut self, config: &Config, node: NodeId, number: u64) -> Result<Reply, WorldFault>
         requires { node.0 < length self.old.nodes }
         ensures follows { Follows self.old (λ w. happens_by config.now w node (heard_by (message_at self.old.messages number))) result self.new }
         ensures unchanged { OnErr result (self.new ≡ self.old) }

@@ -24,8 +24,8 @@ returns-in-Ok-clause-ok c =
       reply = c.apply-reply.ensures.reply ∙ ap (λ (x : Change). x.reply) c.in-Ok.ensures.same;
       count = length-set items me.0 c.apply-reply.new.self ∙ ap (λ (x : WorldValue). length x.nodes) c.self.view_is;
       nodes = λ n. slice_get-set items me.0 n c.apply-reply.new.self lt
-        ∙ (ap (λ (x : WorldValue). cond (nat_eq n me.0) (Some c.apply-reply.new.self) (slice_get x.nodes n)) c.self.view_is
-        ∙ sym (changed_at v me old c.args.change here.there c.apply-reply.new.self new n));
+          ∙ (ap (λ (x : WorldValue). cond (nat_eq n me.0) (Some c.apply-reply.new.self) (slice_get x.nodes n)) c.self.view_is
+          ∙ sym (changed_at v me old c.args.change here.there c.apply-reply.new.self new n));
       operations = c.note.ensures.operations ∙ (λ i. (c.make_room.ensures.operations ∙ ap (λ (x : WorldValue). x.operations) c.self.view_is) i ++ issued_by (c.in-Ok.ensures.copied i));
-      messages = c.note.ensures.messages ∙ (λ i. (c.make_room.ensures.messages ∙ ap (λ (x : WorldValue). x.messages) c.self.view_is) i ++ shipped_by (c.in-Ok.ensures.copied i))
+      messages = c.note.ensures.messages ∙ (λ i. (c.make_room.ensures.messages ∙ ap (λ (x : WorldValue). x.messages) c.self.view_is) i ++ shipped_by (c.in-Ok.ensures.copied i));
     }

@@ -19,7 +19,7 @@ loop-event-preserved c =
     record {
       ran = rw (c.push.ensures.items, ok) ran;
       as_many = c.push.ensures.len ∙ (ap (λ b. cond b (vec_len c.loop-event.answers + 1) (vec_len c.loop-event.answers)) ok ∙ ap (λ n. n + 1) c.loop-event.invariant.as_many);
-      room = search rules
+      room = search rules;
     }
 
 whole : (t : Table) (events : List WorldEvent) (answers : List Answer) (v : WorldValue) (i : ℕ) → length events ≤ i → RanAs t (take i events) answers v → RanAs t events answers v

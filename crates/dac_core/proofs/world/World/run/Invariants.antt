@@ -7,5 +7,5 @@ abbrev pub invariant-loop-event : goal.invariant-loop-event
 invariant-loop-event l = record {
   ran : RanAs l.config (take l.event-index l.events) l.answers.items l.world;
   as_many : vec_len l.answers ≡ l.event-index;
-  room : length l.events ≤ vec_capacity l.answers
+  room : length l.events ≤ vec_capacity l.answers;
 }
