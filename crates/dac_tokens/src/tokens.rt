@@ -77,7 +77,8 @@ impl<'a> Tokens<'a> {
         // where no fault comes, the end of the text does
         ensures end { IfOk result.last (λ t. t ≡ end_at (length text.now)) }
         // a text is read without fault exactly as the grammar of tokens spells it
-        ensures spelled { (ts : List LocatedWord) → (AreTokensOf text.now ts ↔ (result ≡ ended (length text.now) ts)) }
+        ensures spelled { (ts : List LocatedWord) →
+            (AreTokensOf text.now ts ↔ (result ≡ ended (length text.now) ts)) }
     {
         Tokens {
             rest: text,
