@@ -10,6 +10,8 @@
 
 mod fault;
 mod scan;
+#[cfg(test)]
+mod tests;
 mod token;
 mod tokens;
 

@@ -3,7 +3,8 @@
 ghost use Rattle.std.specs.Prelude.{◌≡◌, ◌↔◌, ◌≤◌, List, length, false, ◌<◌, IfOk, IfErr, OnErr};
 ghost use Rattle.dac_tokens.specs.Gives.{Gives, Reads};
 ghost use Rattle.dac_tokens.specs.Faults.{IsTokenFault};
-ghost use Rattle.dac_tokens.specs.Stream.{depth_after, end_at, ended, token_from, taken, tokens_of};
+ghost use Rattle.dac_tokens.specs.Stream.{depth_after, end_at, ended, stopped, token_from, taken, tokens_of};
+ghost use Rattle.dac_tokens.specs.TokenFaults.{StopAt};
 ghost use Rattle.dac_tokens.specs.TokenGrammar.{AreTokensOf};
 ghost use Rattle.dac_tokens.specs.Words.{Located as LocatedWord, is_end, located_of, word_of};
 
@@ -77,7 +78,11 @@ impl<'a> Tokens<'a> {
         // where no fault comes, the end of the text does
         ensures end { IfOk result.last (λ t. t ≡ end_at (length text.now)) }
         // a text is read without fault exactly as the grammar of tokens spells it
-        ensures spelled { (ts : List LocatedWord) → (AreTokensOf text.now ts ↔ (result ≡ ended (length text.now) ts)) }
+        ensures spelled { (ts : List LocatedWord) →
+            (AreTokensOf text.now ts ↔ (result ≡ ended (length text.now) ts)) }
+        // and with a fault exactly where, behind tokens, by the table of faults no token begins
+        ensures stopped { (ts : List LocatedWord) (e : ConfigFault) →
+            (StopAt 0 0 text.now ts e ↔ (result ≡ stopped ts e)) }
     {
         Tokens {
             rest: text,
