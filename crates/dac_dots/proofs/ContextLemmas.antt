@@ -1,11 +1,9 @@
 -- Lists of dots that rise, and the sets that they are.
 use Rattle.std.proofs.Common.{◌≡◌, ℕ, ◌+◌, true, false, cond, ◌||◌, ◌&&◌, nat_eq, List, [], ◌∷◌, length, zero, suc, get_or, take, Bool, ◌-◌, ◌^◌, ◌<◌, ◌≤◌, ◌⊎◌, inl, inr, subst, refl, sym, ap, ◌∙◌, arith}
-use Rattle.std.specs.declared.cmp.Ordering.{Ordering}
-use Rattle.std.specs.declared.cmp.Ordering.TheVariants.{Less, Equal, Greater}
 use Rattle.std.specs.Ordering.{eq_by_cmp, is_eq, is_lt, nat_cmp, ord_max}
 use Rattle.std.specs.List.{All}
 use Rattle.std.specs.FinSet as set
-use Rattle.std.proofs.lemmas.Bool.{and_parts, or_cases, false≢true, cases_Bool, cases_order, cases_eq, and_cases, eqb-true, eqb-false}
+use Rattle.std.proofs.lemmas.Bool.{and_parts, or_cases, false≢true, cases_order, cases_eq, and_cases, eqb-true, eqb-false}
 use Rattle.std.proofs.lemmas.Cmp.{tied_itself}
 use Rattle.std.proofs.lemmas.List.{take_all}
 use Rattle.std.proofs.lemmas.List.Elements.{All-more, All-weaker}
@@ -15,7 +13,8 @@ use Rattle.dac_dots.specs.Keys.{IsRising, has_key}
 use Rattle.dac_dots.specs.Dots.{Dots, dot_cmp, dots_total, exact_dots, dot, HasPrevious, IsVector, IsNext, IsUsedUp}
 use Rattle.dac_dots.specs.declared.dot.Dot.{Dot}
 use Rattle.dac_dots.specs.declared.dot.Origin.{Origin}
-use Rattle.dac_dots.proofs.KeyLemmas.{has_key-below, has_at}
+use Rattle.dac_dots.specs.InOrder.{tie, below_absent}
+use Rattle.dac_dots.proofs.KeyLemmas.{has_at}
 
 -- whether a set has a dot, by its list
 pub contains_list : (ks : List Dot) (q : Dot) → set.contains (set.from_list {R = dot_cmp} ks) q ≡ has_key dot_cmp ks q
@@ -34,7 +33,7 @@ len_list [] h = sym (set.len-empty dot_cmp)
 len_list (k ∷ ks) h =
     let parts = and_parts _ _ h in
     sym (set.len-insert dots_total (set.from_list ks) k
-    ∙ ap (λ b. cond b (set.len (set.from_list {R = dot_cmp} ks)) (set.len (set.from_list {R = dot_cmp} ks) + 1)) (contains_list ks k ∙ has_key-below dots_total k ks parts.0)
+    ∙ ap (λ b. cond b (set.len (set.from_list {R = dot_cmp} ks)) (set.len (set.from_list {R = dot_cmp} ks) + 1)) (contains_list ks k ∙ below_absent dots_total k ks parts.0)
     ∙ ap (λ n. n + 1) (sym (len_list ks parts.1))
     ∙ next (length ks))
   where
@@ -45,16 +44,11 @@ len_list (k ∷ ks) h =
 pub has_is : (ks : List Dot) (s : Dots) → set.from_list ks ≡ s → (q : Dot) → has_key dot_cmp ks q ≡ set.contains s q
 has_is ks s is q = sym (contains_list ks q) ∙ ap (λ s. set.contains s q) is
 
-equal : (r : Ordering) → is_eq r ≡ true → r ≡ Equal
-equal Less p = cc
-equal Equal p = refl
-equal Greater p = cc
-
 -- what holds of each dot of the list holds of each of the set
 pub all_members : (P : Dot → Type 0) (ks : List Dot) → All P ks → (q : Dot) → has_key dot_cmp ks q ≡ true → P q
 all_members P [] all q e = absurd (false≢true e)
 all_members P (k ∷ ks) all q e = elim (or_cases (eq_by_cmp dot_cmp q k) (has_key dot_cmp ks q) e) [
-  | inl tie ↦ subst P (sym (exact_dots q k (equal _ tie))) (all 0 k (omega arith))
+  | inl tied ↦ subst P (sym (exact_dots q k (tie _ tied))) (all 0 k (omega arith))
   | inr rest ↦ all_members P ks (λ i d p. all (suc i) d (omega arith)) q rest
 ]
 
@@ -65,15 +59,6 @@ member_at ks s is i e p = sym (has_is ks s is (get_or ks i e)) ∙ has_at dots_t
 module _ (ks : List Dot) (s : Dots) (is : set.from_list ks ≡ s) where
   pub each_member : (P : Dot → Type 0) → (i : ℕ) → length ks ≤ i → All P (take i ks) → (q : Dot) → set.contains s q ≡ true → P q
   each_member P i p all q e = all_members P ks (subst (All P) (take_all i ks p) all) q (has_is ks s is q ∙ e)
-
-  pub subset_when : (t : Dots) (i : ℕ) → length ks ≤ i → All (λ d. set.contains t d ≡ true) (take i ks) → set.is_subset s t ≡ true
-  subset_when t i p all = set.contains-is_subset dots_total s t (each_member (λ d. set.contains t d ≡ true) i p all)
-
-  pub subset_unless : (t : Dots) (i : ℕ) (e : Dot) → i < length ks → set.contains t (get_or ks i e) ≡ false → set.is_subset s t ≡ false
-  subset_unless t i e p out = elim (cases_Bool (set.is_subset s t)) [
-    | inl within ↦ absurd (false≢true (sym out ∙ set.is_subset-contains dots_total s t within (get_or ks i e) (member_at ks s is i e p)))
-    | inr without ↦ without
-  ]
 
   -- a list of one dot more is the union with one dot more
   pub union_done : (t both : Dots) (i : ℕ) → length ks ≤ i → ((q : Dot) → set.contains both q ≡ (set.contains t q || has_key dot_cmp (take i ks) q)) → both ≡ set.union t s

@@ -1,7 +1,7 @@
 -- What a search finds in a list of keys that rise, and what an insert in place does.
 use Rattle.std.proofs.Common.{◌≡◌, ℕ, zero, suc, ◌<◌, ◌≤◌, Bool, true, false, ◌||◌, List, [], ◌∷◌, length, get_or, take, drop, Result, Ok, Err, is_ok, inl, inr, refl, sym, ap, subst, ◌∙◌, arith, add-one, take-append-drop}
 use Rattle.std.specs.declared.cmp.Ordering.{Ordering}
-use Rattle.std.specs.declared.cmp.Ordering.TheVariants.{Less, Equal, Greater}
+use Rattle.std.specs.declared.cmp.Ordering.TheVariants.{Less, Greater}
 use Rattle.std.specs.Ordering.{is_lt, is_eq, eq_by_cmp, ordering_reverse, ordering_index}
 use Rattle.std.specs.Cmp.{IsTotalOrder}
 use Rattle.std.specs.List.{AllWithin, insert}
@@ -11,22 +11,8 @@ use Rattle.std.proofs.lemmas.Cmp.{tied_back}
 use Rattle.std.proofs.lemmas.List.Folds.{list_any-append, list_any_none}
 use Rattle.std.proofs.lemmas.List.Sorted.{searchable_from_sorted}
 use Rattle.std.proofs.lemmas.Map.Lookups.{CmpEqualImpliesEq}
+use Rattle.dac_dots.specs.InOrder.{less, tie, or_swap, below_more}
 use Rattle.dac_dots.specs.Keys.{is_below_all, IsRising, has_key}
-
-less : (r : Ordering) → is_lt r ≡ true → r ≡ Less
-less Less p = refl
-less Equal p = cc
-less Greater p = cc
-
-equal : (r : Ordering) → is_eq r ≡ true → r ≡ Equal
-equal Less p = cc
-equal Equal p = refl
-equal Greater p = cc
-
-swap_or : (a b c : Bool) → (a || (b || c)) ≡ (b || (a || c))
-swap_or true true c = refl
-swap_or true false c = refl
-swap_or false b c = refl
 
 or_same : (a b : Bool) → (a ≡ true → b ≡ true) → b ≡ (a || b)
 or_same true b h = h refl
@@ -72,12 +58,8 @@ module _ {K : Type 0} {R : K → K → Ordering} (o : IsTotalOrder R) where
   pub has_key-insert : (ks : List K) (i : ℕ) (k q : K) → has_key R (insert ks i k) q ≡ (eq_by_cmp R q k || has_key R ks q)
   has_key-insert ks i k q =
       list_any-append (eq_by_cmp R q) (take i ks) (k ∷ drop i ks)
-      ∙ swap_or (has_key R (take i ks) q) (eq_by_cmp R q k) (has_key R (drop i ks) q)
+      ∙ or_swap (has_key R (take i ks) q) (eq_by_cmp R q k) (has_key R (drop i ks) q)
       ∙ ap (λ b. eq_by_cmp R q k || b) (sym (list_any-append (eq_by_cmp R q) (take i ks) (drop i ks)) ∙ ap (λ l. has_key R l q) (take-append-drop i ks))
-
-  below_more : (x y : K) (ks : List K) → R x y ≡ Less → is_below_all R y ks ≡ true → is_below_all R x ks ≡ true
-  below_more x y [] p h = refl
-  below_more x y (k ∷ ks) p h = and_from _ _ (ap is_lt (o.trans x y k p (less _ (and_parts _ _ h).0))) (below_more x y ks p (and_parts _ _ h).1)
 
   below_insert : (x : K) (ks : List K) (i : ℕ) (k : K) → R x k ≡ Less → is_below_all R x ks ≡ true → is_below_all R x (insert ks i k) ≡ true
   below_insert x ks zero k p h = and_from _ _ (ap is_lt p) h
@@ -90,7 +72,7 @@ module _ {K : Type 0} {R : K → K → Ordering} (o : IsTotalOrder R) where
   rising_insert [] (suc i) k h p low high = absurd (omega arith)
   rising_insert (x ∷ ks) zero k h p low high =
       let k_first : R k x ≡ Less = smaller x k (high 0 x (omega arith) (omega arith)) in
-      and_from _ _ (and_from _ _ (ap is_lt k_first) (below_more k x ks k_first (and_parts _ _ h).0)) h
+      and_from _ _ (and_from _ _ (ap is_lt k_first) (below_more o k x ks k_first (and_parts _ _ h).0)) h
   rising_insert (x ∷ ks) (suc i) k h p low high =
       and_from _ _ (below_insert x ks i k (low 0 x (omega arith) (omega arith)) (and_parts _ _ h).0)
       (rising_insert ks i k (and_parts _ _ h).1 (omega arith) (λ j d a b. low (suc j) d (omega arith) (omega arith)) (λ j d a b. high (suc j) d (omega arith) (omega arith)))
@@ -100,9 +82,4 @@ module _ {K : Type 0} {R : K → K → Ordering} (o : IsTotalOrder R) where
 
   -- a key that is there adds nothing
   pub has_key-again : CmpEqualImpliesEq R → (ks : List K) (k : K) → has_key R ks k ≡ true → (q : K) → has_key R ks q ≡ (eq_by_cmp R q k || has_key R ks q)
-  has_key-again exact ks k here q = or_same (eq_by_cmp R q k) (has_key R ks q) (λ e. subst (λ q. has_key R ks q ≡ true) (sym (exact q k (equal _ e))) here)
-
-  -- a key below all others isn't among them
-  pub has_key-below : (k : K) (ks : List K) → is_below_all R k ks ≡ true → has_key R ks k ≡ false
-  has_key-below k [] h = refl
-  has_key-below k (x ∷ ks) h = ap (λ r. is_eq r || has_key R ks k) (less _ (and_parts _ _ h).0) ∙ has_key-below k ks (and_parts _ _ h).1
+  has_key-again exact ks k here q = or_same (eq_by_cmp R q k) (has_key R ks q) (λ e. subst (λ q. has_key R ks q ≡ true) (sym (exact q k (tie _ e))) here)

@@ -157,3 +157,72 @@ impl Context {
         Ok(self.copy()?.dots)
     }
 }
+
+#[cfg(test)]
+mod tests {
+    use super::*;
+    use dac_base::NodeId;
+    use std::test::Fail;
+
+    const FIRST: Origin = Origin {
+        node: NodeId(0),
+        inc: 1,
+    };
+
+    fn first(n: u64) -> Dot {
+        Dot { origin: FIRST, n }
+    }
+
+    #[test]
+    fn vector_gap(rt: HostRuntime) -> Result<(), Fail> {
+        let mut context = Context::empty(rt.alloc());
+        for n in [1, 2, 4] {
+            context.insert(first(n))?;
+        }
+        assert!(rt; !context.is_vector());
+        assert!(rt; !context.contains(first(3)));
+        assert_eq!(rt; context.next(FIRST), Some(first(5)));
+
+        context.insert(first(3))?;
+        assert!(rt; context.is_vector());
+        assert!(rt; context.contains(first(3)));
+        let dots = [first(1), first(2), first(3), first(4)];
+        assert_eq!(rt; context.dots()?.as_slice(), dots.as_slice());
+        let both = context.union(&context)?;
+        assert_eq!(rt; both.dots()?.as_slice(), dots.as_slice());
+        assert_eq!(rt; both.len(), 4);
+        Ok(())
+    }
+
+    #[test]
+    fn origins_are_apart(rt: HostRuntime) -> Result<(), Fail> {
+        let second = Origin {
+            node: NodeId(0),
+            inc: 2,
+        };
+        let restarted = Dot {
+            origin: second,
+            n: 1,
+        };
+        let mut context = Context::empty(rt.alloc());
+        context.insert(first(1))?;
+        let before = context.copy()?;
+        assert_eq!(rt; context.next(second), Some(restarted));
+        context.insert(restarted)?;
+        context.insert(restarted)?;
+        assert_eq!(rt; context.len(), 2);
+        assert!(rt; before.is_subset(&context));
+        assert!(rt; !context.is_subset(&before));
+        Ok(())
+    }
+
+    #[test]
+    fn last_counter(rt: HostRuntime) -> Result<(), Fail> {
+        let mut context = Context::empty(rt.alloc());
+        context.insert(first(MOST - 1))?;
+        assert_eq!(rt; context.next(FIRST), Some(first(MOST)));
+        context.insert(first(MOST))?;
+        assert_eq!(rt; context.next(FIRST), None);
+        Ok(())
+    }
+}

@@ -70,3 +70,22 @@ pub fn insert_key<K: MapKey>(keys: &mut Vec<K>, key: K) -> Result<(), NoMemory>
     }
     Ok(())
 }
+
+#[cfg(test)]
+mod tests {
+    use super::*;
+    use std::test::Fail;
+
+    #[test]
+    fn keeps_order(rt: HostRuntime) -> Result<(), Fail> {
+        let mut keys = Vec::new(rt.alloc());
+        insert_key(&mut keys, AppId(7))?;
+        insert_key(&mut keys, AppId(2))?;
+        insert_key(&mut keys, AppId(7))?;
+        insert_key(&mut keys, AppId(5))?;
+        assert_eq!(rt; keys.as_slice(), [AppId(2), AppId(5), AppId(7)].as_slice());
+        assert!(rt; holds_key(&keys, AppId(5)));
+        assert!(rt; !holds_key(&keys, AppId(3)));
+        Ok(())
+    }
+}

@@ -1,0 +1,15 @@
+use Rattle.std.proofs.Common.{ap, ◌∙◌, sym, option_map}
+use Rattle.std.specs.Option.{option_copied}
+use Rattle.std.specs.FinMap as map
+use Rattle.dac_state.proofs.Incarnations.{value_of, get-lives_in}
+use Rattle.dac_state.proofs.lives.Lives.get.Goals as goal
+
+pub returns-in-Some : goal.returns-in-Some
+returns-in-Some c =
+    ap (λ r. option_map value_of (option_copied r)) (sym c.in-Some.is) ∙ ap (option_map value_of) c.get.ensures
+    ∙ sym (get-lives_in c.self.inside.incarnations c.args.node) ∙ ap (λ m. map.get m c.args.node) c.self.view_is
+
+pub returns-in-None : goal.returns-in-None
+returns-in-None c =
+    ap (λ r. option_map value_of (option_copied r)) (sym c.in-None.is) ∙ ap (option_map value_of) c.get.ensures
+    ∙ sym (get-lives_in c.self.inside.incarnations c.args.node) ∙ ap (λ m. map.get m c.args.node) c.self.view_is

@@ -1,0 +1,10 @@
+pub mod Operations
+pub mod Tables
+pub mod Starts
+pub mod Lives
+pub mod Incarnations
+pub mod StateValue
+pub mod Order
+pub mod Meaning
+pub mod Wishes
+pub mod StateLaws
