@@ -6,3 +6,4 @@ pub mod Members
 pub mod Readers
 pub mod Joins
 pub mod Alone
+pub mod SpellingLemmas

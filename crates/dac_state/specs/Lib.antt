@@ -8,3 +8,4 @@ pub mod Order
 pub mod Meaning
 pub mod Wishes
 pub mod StateLaws
+pub mod StateSpelling

@@ -16,6 +16,7 @@ pub use starts::{Key, Start};
 pub use state::State;
 
 mod dot_list;
+mod encode;
 mod lives;
 mod operations;
 mod starts;
