@@ -52,7 +52,7 @@ impl<K: MapKey, L: Lattice> MapOf<K, L> {
     pub fn entries(&self) -> &[(K, L)]
         ensures { result.now ≡ self.now }
     {
-        &self.entries
+        self.entries.as_slice()
     }
 }
 

@@ -90,3 +90,94 @@ impl State {
         Ok(whole.into_bytes())
     }
 }
+
+#[cfg(test)]
+mod tests {
+    use super::*;
+    use crate::dot_list::DotList;
+    use crate::operations::{Act, Op};
+    use dac_base::{AppId, NodeId};
+    use dac_dots::Origin;
+    use dac_lattice::{Bottom, Lattice};
+    use std::alloc::Global;
+    use std::test::Fail;
+
+    fn dot(node: u8, n: u64) -> Dot {
+        Dot {
+            origin: Origin {
+                node: NodeId(node),
+                inc: 1,
+            },
+            n,
+        }
+    }
+
+    fn start_of(alloc: Global, app: u16) -> Act {
+        Act::Start {
+            key: Key {
+                app: AppId(app),
+                node: NodeId(0),
+                inc: 1,
+            },
+            over: DotList::new(Vec::new(alloc)),
+        }
+    }
+
+    #[test]
+    fn nothing_heard(rt: HostRuntime) -> Result<(), Fail> {
+        let state = State::bottom(rt.alloc());
+        let bytes = state.encode()?;
+        let expected = b"\x00\x00\x00\x00\x00\x00\x00\x00\x00\x00\x00\x00\x00\x00\x00";
+        assert_eq!(rt; bytes.as_slice(), expected.as_slice());
+        Ok(())
+    }
+
+    #[test]
+    fn booted_node(rt: HostRuntime) -> Result<(), Fail> {
+        let op = Op::new(dot(1, 1), Act::Up)?;
+        let bytes = State::delta_of(rt.alloc(), &op)?.encode()?;
+        let expected =
+            b"\x00\x01\x01\x00\x00\x00\x01\x00\x00\x00\x00\x00\x00\x00\x01\x00\x00\x00\x00\
+            \x00\x01\x01\x00\x00\x00\x01\x00\x00\x00\x00\x00\x00\x00\x01\x00\x00\x00\x00\
+            \x00\x00\x00\x00\x00\x00\x00\x00\
+            \x01\x01\x00\x00\x00\x01\x00\
+            \x00\x00";
+        assert_eq!(rt; bytes.as_slice(), expected.as_slice());
+        Ok(())
+    }
+
+    #[test]
+    fn wishes_of_two_keys(rt: HostRuntime) -> Result<(), Fail> {
+        let acts = [
+            (dot(0, 3), start_of(rt.alloc(), 2)),
+            (dot(1, 2), start_of(rt.alloc(), 0)),
+            (dot(0, 2), start_of(rt.alloc(), 0)),
+            (dot(0, 1), Act::Up),
+        ];
+        let mut state = State::bottom(rt.alloc());
+        for (dot, act) in acts {
+            let op = Op::new(dot, act)?;
+            state = state.join(&State::delta_of(rt.alloc(), &op)?)?;
+        }
+        let bytes = state.encode()?;
+        let expected = b"\x00\x02\
+            \x00\x00\x00\x00\x01\x00\x00\x00\x00\x00\x00\x00\x03\x00\x00\x00\x00\
+            \x01\x00\x00\x00\x01\x00\x00\x00\x00\x00\x00\x00\x00\x00\x00\x00\x01\
+            \x00\x00\x00\x00\x00\x00\x00\x02\
+            \x00\x02\
+            \x00\x00\x00\x00\x01\x00\x00\x00\x00\x00\x00\x00\x03\x00\x00\x00\x00\
+            \x01\x00\x00\x00\x01\x00\x00\x00\x00\x00\x00\x00\x00\x00\x00\x00\x01\
+            \x00\x00\x00\x00\x00\x00\x00\x02\
+            \x00\x00\x00\x00\
+            \x00\x00\x00\x02\
+            \x00\x00\x00\x00\x00\x00\x01\x00\x00\x00\x02\
+            \x00\x00\x00\x00\x01\x00\x00\x00\x00\x00\x00\x00\x02\
+            \x01\x00\x00\x00\x01\x00\x00\x00\x00\x00\x00\x00\x02\
+            \x00\x02\x00\x00\x00\x00\x01\x00\x00\x00\x01\
+            \x00\x00\x00\x00\x01\x00\x00\x00\x00\x00\x00\x00\x03\
+            \x01\x00\x00\x00\x00\x01\x00\
+            \x00\x00";
+        assert_eq!(rt; bytes.as_slice(), expected.as_slice());
+        Ok(())
+    }
+}
