@@ -1,11 +1,10 @@
 -- The laws of meanings: order and repeats don't matter, a meaning is a state, and a join of meanings is the
 -- meaning of all operations together.
-use Rattle.std.proofs.Common.{◌≡◌, Bool, true, false, not, ◌&&◌, ◌||◌, ◌⊎◌, List, [], ◌∷◌, ◌++◌, refl, sym, ap, ◌∙◌, inl, inr}
+use Rattle.std.proofs.Common.{◌≡◌, Bool, true, false, not, ◌&&◌, ◌||◌, List, [], ◌∷◌, ◌++◌, refl, sym, ap, ◌∙◌}
 use Rattle.std.specs.List.{list_any}
 use Rattle.std.specs.Ordering.{is_eq}
 use Rattle.std.specs.Cmp.{Equal-is, tied_itself}
 use Rattle.std.specs.FinSet as set
-use Rattle.std.specs.FinMap as map
 use Rattle.std.proofs.lemmas.Bool.{false≢true, and_parts, or_left}
 use Rattle.std.proofs.lemmas.List.Folds.{list_any-append}
 use Rattle.dac_dots.specs.declared.dot.Dot.{Dot}
@@ -13,8 +12,8 @@ use Rattle.dac_dots.specs.Dots.{dot_cmp, dots_total, exact_dots}
 use Rattle.dac_state.specs.declared.starts.Start.{Start}
 use Rattle.dac_state.specs.Operations.{Operation}
 use Rattle.dac_state.specs.Lives.{greater}
-use Rattle.dac_state.specs.StateValue.{StateValue, IsState, join}
-use Rattle.dac_state.specs.StateLaws.{ShowSame, same_state, heard-join, known-join, starts-join, lives-join}
+use Rattle.dac_state.specs.StateValue.{IsState, join}
+use Rattle.dac_state.specs.StateLaws.{same_state, heard-join, known-join, starts-join, lives-join}
 use Rattle.dac_state.specs.Meaning.{meaning_of, same_dot, has_dot, replaces, is_replaced, wishes, is_wish, In, Within, Agree}
 use Rattle.dac_state.proofs.Members.{In-append_left, In-append_right, found, finds, list_any-same, life_of-append, life_of-same}
 use Rattle.dac_state.proofs.Readers.{names, heard-meaning, known-meaning, starts-meaning, lives-meaning}

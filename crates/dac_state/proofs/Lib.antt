@@ -7,3 +7,4 @@ pub mod Readers
 pub mod Joins
 pub mod Alone
 pub mod SpellingLemmas
+pub mod Membership

@@ -1,5 +1,5 @@
 -- Finite sets, by lists of their keys.
-use Rattle.std.proofs.Common.{◌≡◌, ℕ, suc, ◌&&◌, ◌+◌, ◌<◌, ◌≤◌, Bool, true, false, ◌||◌, ◌⊎◌, inl, inr, List, [], ◌∷◌, length, get_or, take, refl, sym, ap, subst, ◌∙◌, arith}
+use Rattle.std.proofs.Common.{◌≡◌, ℕ, suc, ◌&&◌, ◌+◌, ◌<◌, ◌≤◌, Bool, true, false, ◌||◌, inl, inr, List, [], ◌∷◌, length, get_or, take, refl, sym, ap, subst, ◌∙◌, arith}
 use Rattle.std.specs.declared.cmp.Ordering.{Ordering}
 use Rattle.std.specs.Ordering.{eq_by_cmp, is_eq}
 use Rattle.std.specs.List.{All, list_any}
@@ -57,7 +57,7 @@ module _ {K : Type 0} {R : K → K → Ordering} (o : IsTotalOrder R) (exact : C
   member_at ks s is i e p = sym (has_is ks s is (get_or ks i e)) ∙ has_at o ks (get_or ks i e) i e p (ap is_eq (tied_itself o (get_or ks i e)))
 
   -- a test that k passes is passed in a list that has k
-  carried : (p : K → Bool) (k : K) (ls : List K) → p k ≡ true → list_any (eq_by_cmp R k) ls ≡ true → list_any p ls ≡ true
+  pub carried : (p : K → Bool) (k : K) (ls : List K) → p k ≡ true → list_any (eq_by_cmp R k) ls ≡ true → list_any p ls ≡ true
   carried p k [] t h = absurd (false≢true h)
   carried p k (l ∷ ls) t h =
       elim (or_cases (eq_by_cmp R k l) (list_any (eq_by_cmp R k) ls) h) [

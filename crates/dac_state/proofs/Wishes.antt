@@ -1,6 +1,5 @@
 -- The wishes of a key in a set.
 use Rattle.std.proofs.Common.{◌≡◌, Bool, true, false, cond, ◌||◌, ◌&&◌, List, [], ◌∷◌, map as list_map, length, refl, sym, ap, ◌∙◌}
-use Rattle.std.specs.declared.cmp.Ordering.{Ordering}
 use Rattle.std.specs.declared.cmp.Ordering.TheVariants.{Equal}
 use Rattle.std.specs.List.{list_any, count_by, filter}
 use Rattle.std.specs.Ordering.{eq_by_cmp, is_lt, ordering_then}
@@ -12,7 +11,7 @@ use Rattle.std.proofs.lemmas.List.{length-map}
 use Rattle.std.proofs.lemmas.List.Sums.{length-filter}
 use Rattle.dac_dots.specs.declared.dot.Dot.{Dot}
 use Rattle.dac_dots.specs.Dots.{dot_cmp, dots_total, exact_dots}
-use Rattle.dac_dots.specs.Keys.{is_below_all, is_rising, IsRising}
+use Rattle.dac_dots.specs.Keys.{is_below_all, IsRising}
 use Rattle.dac_dots.specs.InOrder.{in_order, in_order-one}
 use Rattle.dac_state.specs.declared.starts.Key.{Key}
 use Rattle.dac_state.specs.declared.starts.Start.{Start}

@@ -9,3 +9,4 @@ pub mod Meaning
 pub mod Wishes
 pub mod StateLaws
 pub mod StateSpelling
+pub mod MeaningLaws

@@ -17,6 +17,7 @@ pub use state::State;
 
 mod dot_list;
 mod encode;
+pub mod laws;
 mod lives;
 mod operations;
 mod starts;
