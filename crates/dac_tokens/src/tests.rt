@@ -1,7 +1,7 @@
 //! The table of tokens, each fault at its byte, and what is printed.
 
 use crate::{ConfigFault, FaultKind, Located, Symbol, Token, Tokens};
-use std::alloc::AllocError;
+use std::alloc::{AllocError, AllocFailed};
 use std::test::Fail;
 
 /// The first fault of a text's tokens.
@@ -187,5 +187,6 @@ fn want_of_memory(rt: HostRuntime) {
         at: 0,
     };
     assert_eq!(rt; ConfigFault::from(AllocError), fault);
+    assert_eq!(rt; ConfigFault::from(AllocFailed { value: 7u8 }), fault);
     assert_eq!(rt; ConfigFault::from(dac_base::NoMemory), fault);
 }
