@@ -1,0 +1,2 @@
+pub mod CounterLemmas
+pub mod RowLemmas

@@ -1,0 +1,24 @@
+-- Origins, dots and contexts as bytes.
+use Rattle.std.specs.Prelude.{ℕ, List, ◌++◌, length}
+use Rattle.std.specs.List.{flat_map}
+use Rattle.dac_dots.specs.Dots.{Dots}
+use Rattle.dac_dots.specs.declared.dot.Origin.{Origin}
+use Rattle.dac_dots.specs.declared.dot.Dot.{Dot}
+use Rattle.dac_bytes.specs.Numbers.{u8_bytes, u16_bytes, u32_bytes, u64_bytes}
+use Rattle.dac_bytes.specs.Rows.{Row, rows_of}
+
+-- node and incarnation, in five bytes
+unfoldable pub origin_bytes : Origin → List ℕ
+origin_bytes origin = u8_bytes origin.node.0 ++ u32_bytes origin.inc
+
+-- origin and counter, in thirteen bytes
+unfoldable pub dot_bytes : Dot → List ℕ
+dot_bytes d = origin_bytes d.origin ++ u64_bytes d.n
+
+-- origin, how far its counters go without a gap, how many further ones there are, and these
+unfoldable pub row_bytes : Row → List ℕ
+row_bytes row = origin_bytes row.origin ++ u64_bytes row.upto ++ u32_bytes (length row.further) ++ flat_map u64_bytes row.further
+
+-- how many origins have dots, and the row of each
+unfoldable pub context_bytes : Dots → List ℕ
+context_bytes dots = let rows = rows_of dots in u16_bytes (length rows) ++ flat_map row_bytes rows

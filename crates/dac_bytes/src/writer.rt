@@ -1,0 +1,182 @@
+//! Bytes that are being written: numbers, origins and dots.
+ghost use Rattle.std.specs.Prelude.{◌≡◌, [], ◌∷◌, ◌++◌, IfOk};
+ghost use Rattle.dac_bytes.specs.Numbers.{u8_bytes, u16_bytes, u32_bytes, u64_bytes};
+ghost use Rattle.dac_bytes.specs.Spelling.{dot_bytes, origin_bytes};
+
+use dac_base::NoMemory;
+use dac_dots::{Dot, Origin};
+use std::alloc::Global;
+use std::marker::Model;
+
+/// Bytes that are being written. Contracts see their list.
+///
+/// Each call takes the writer and gives it back with more bytes at its end. Where memory is refused the
+/// writer is gone, and its bytes with it; that is the only error of each call.
+#[derive(Debug, Drop)]
+pub struct ByteWriter {
+    bytes: Vec<u8>,
+}
+
+impl Model for ByteWriter {
+    ghost use Rattle.std.specs.Prelude.{ℕ, List};
+
+    ghost Value = { List ℕ };
+
+    ghost view = { λ w. w.bytes.items };
+}
+
+impl ByteWriter {
+    /// No bytes yet.
+    pub fn new(alloc: Global) -> Self
+        ensures { result ≡ [] }
+    {
+        ByteWriter {
+            bytes: Vec::new(alloc),
+        }
+    }
+
+    /// What was written.
+    pub fn into_bytes(self) -> Vec<u8>
+        ensures { result.items ≡ self }
+    {
+        let ByteWriter { bytes } = self;
+        bytes
+    }
+
+    fn write(mut self, bytes: &[u8]) -> Result<Self, NoMemory>
+        ensures { IfOk result (λ written. written ≡ self ++ bytes.now) }
+    {
+        self.bytes.extend_from_slice(bytes)?;
+        Ok(self)
+    }
+
+    /// A number in one byte.
+    #[tactic(auto, unfolding(crate::specs::Numbers::u8_bytes))]
+    pub fn write_u8(self, n: u8) -> Result<Self, NoMemory>
+        ensures { IfOk result (λ written. written ≡ self ++ u8_bytes n) }
+    {
+        let written = self.write(&u8::to_be_bytes(n))?;
+        Ok(written)
+    }
+
+    /// A number in two bytes, the high one first.
+    #[tactic(auto, unfolding(crate::specs::Numbers::u16_bytes))]
+    pub fn write_u16(self, n: u16) -> Result<Self, NoMemory>
+        ensures { IfOk result (λ written. written ≡ self ++ u16_bytes n) }
+    {
+        let written = self.write(&u16::to_be_bytes(n))?;
+        Ok(written)
+    }
+
+    /// A number in four bytes, the highest one first.
+    #[tactic(auto, unfolding(crate::specs::Numbers::u32_bytes))]
+    pub fn write_u32(self, n: u32) -> Result<Self, NoMemory>
+        ensures { IfOk result (λ written. written ≡ self ++ u32_bytes n) }
+    {
+        let written = self.write(&u32::to_be_bytes(n))?;
+        Ok(written)
+    }
+
+    /// A number in eight bytes, the highest one first.
+    #[tactic(auto, unfolding(crate::specs::Numbers::u64_bytes))]
+    pub fn write_u64(self, n: u64) -> Result<Self, NoMemory>
+        ensures { IfOk result (λ written. written ≡ self ++ u64_bytes n) }
+    {
+        let written = self.write(&u64::to_be_bytes(n))?;
+        Ok(written)
+    }
+
+    /// A number of things in one byte: its lowest 8 bits.
+    #[tactic(auto, unfolding(crate::specs::Numbers::u8_bytes))]
+    pub fn write_count_u8(self, count: usize) -> Result<Self, NoMemory>
+        ensures { IfOk result (λ written. written ≡ self ++ u8_bytes count) }
+    {
+        let written = self.write(&count.to_be_bytes()[7..])?;
+        Ok(written)
+    }
+
+    /// A number of things in two bytes: its lowest 16 bits.
+    #[tactic(auto, unfolding(crate::specs::Numbers::u16_bytes))]
+    pub fn write_count_u16(self, count: usize) -> Result<Self, NoMemory>
+        ensures { IfOk result (λ written. written ≡ self ++ u16_bytes count) }
+    {
+        let written = self.write(&count.to_be_bytes()[6..])?;
+        Ok(written)
+    }
+
+    /// A number of things in four bytes: its lowest 32 bits.
+    #[tactic(auto, unfolding(crate::specs::Numbers::u32_bytes))]
+    pub fn write_count_u32(self, count: usize) -> Result<Self, NoMemory>
+        ensures { IfOk result (λ written. written ≡ self ++ u32_bytes count) }
+    {
+        let written = self.write(&count.to_be_bytes()[4..])?;
+        Ok(written)
+    }
+
+    /// Who issued an operation: the node in one byte and its incarnation in four.
+    #[tactic(auto, unfolding(crate::specs::Spelling::origin_bytes))]
+    pub fn write_origin(self, origin: Origin) -> Result<Self, NoMemory>
+        ensures { IfOk result (λ written. written ≡ self ++ origin_bytes origin) }
+    {
+        let written = self.write_u8(origin.node.0)?.write_u32(origin.inc)?;
+        Ok(written)
+    }
+
+    /// The name of an operation: its origin in five bytes and its counter in eight.
+    #[tactic(auto, unfolding(crate::specs::Spelling::dot_bytes))]
+    pub fn write_dot(self, dot: Dot) -> Result<Self, NoMemory>
+        ensures { IfOk result (λ written. written ≡ self ++ dot_bytes dot) }
+    {
+        let written = self.write_origin(dot.origin)?.write_u64(dot.n)?;
+        Ok(written)
+    }
+}
+
+#[cfg(test)]
+mod tests {
+    use super::*;
+    use dac_base::NodeId;
+    use std::test::Fail;
+
+    #[test]
+    fn numbers(rt: HostRuntime) -> Result<(), Fail> {
+        let writer = ByteWriter::new(rt.alloc())
+            .write_u8(0x12)?
+            .write_u16(0x3456)?
+            .write_u32(0x789a_bcde)?
+            .write_u64(0x0102_0304_0506_0708)?;
+        let expected = b"\x12\x34\x56\x78\x9a\xbc\xde\x01\x02\x03\x04\x05\x06\x07\x08";
+        let bytes = writer.into_bytes();
+        assert_eq!(rt; bytes.as_slice(), expected.as_slice());
+        Ok(())
+    }
+
+    #[test]
+    fn counts_are_written_by_their_lowest_bits(rt: HostRuntime) -> Result<(), Fail> {
+        let writer = ByteWriter::new(rt.alloc())
+            .write_count_u8(0x1_02)?
+            .write_count_u16(0x1_0203)?
+            .write_count_u32(0x1_0203_0405)?;
+        let bytes = writer.into_bytes();
+        assert_eq!(rt;
+            bytes.as_slice(),
+            b"\x02\x02\x03\x02\x03\x04\x05".as_slice()
+        );
+        Ok(())
+    }
+
+    #[test]
+    fn origin_and_dot(rt: HostRuntime) -> Result<(), Fail> {
+        let origin = Origin {
+            node: NodeId(2),
+            inc: 1,
+        };
+        let writer = ByteWriter::new(rt.alloc())
+            .write_origin(origin)?
+            .write_dot(Dot { origin, n: 258 })?;
+        let bytes = writer.into_bytes();
+        let expected = b"\x02\x00\x00\x00\x01\x02\x00\x00\x00\x01\x00\x00\x00\x00\x00\x00\x01\x02";
+        assert_eq!(rt; bytes.as_slice(), expected.as_slice());
+        Ok(())
+    }
+}

@@ -1,0 +1,69 @@
+-- What the tables that are kept say at a number and of a name.
+use Rattle.std.proofs.Common.{◌≡◌, ℕ, suc, ◌+◌, ◌≤◌, Bool, cond, eqb, not, List, [], ◌∷◌, length, map, Option, Some, None, option_map, slice_get, refl, sym, ap, subst, ◌∙◌, arith}
+use Rattle.std.specs.Prelude.{position, All}
+use Rattle.std.specs.Global.{Vec}
+use Rattle.std.specs.List.{prefix_len, list_any}
+use Rattle.std.specs.Map.{keys_of, values_of}
+use Rattle.std.specs.Str.{bytes_eq}
+use Rattle.std.proofs.lemmas.Option.{slice_get-map, slice_get_within, get_or_from_slice_get}
+use Rattle.dac_base.specs.declared.NodeId.{NodeId}
+use Rattle.dac_base.specs.declared.AppId.{AppId}
+use Rattle.dac_config.specs.declared.config.App.{App}
+use Rattle.dac_config.specs.declared.config.Config.TheInside.{Inside}
+use Rattle.dac_config.specs.Table.{AppRow, node_named, app_named, group_of, timeout_of}
+use Rattle.dac_config.specs.ConfigView.{node_row, app_row, table_of}
+
+prefix_len-map : {A B : Type 0} (f : A → B) (p : B → Bool) (xs : List A) → prefix_len p (map f xs) ≡ prefix_len (λ x. p (f x)) xs
+prefix_len-map f p [] = refl
+prefix_len-map f p (x ∷ xs) = ap (λ n. cond (p (f x)) (1 + n) 0) (prefix_len-map f p xs)
+
+map_length : {A B : Type 0} (f : A → B) (xs : List A) → length (map f xs) ≡ length xs
+map_length f [] = refl
+map_length f (x ∷ xs) = ap suc (map_length f xs)
+
+-- the place in a mapped list
+pub position-map : {A B : Type 0} (f : A → B) (p : B → Bool) (xs : List A) → position p (map f xs) ≡ position (λ x. p (f x)) xs
+position-map f p xs = rw (prefix_len-map f (λ x. not (p x)) xs, map_length f xs) refl
+
+-- what is true of all is true of the one at a place
+pub all_at : {X : Type 0} (P : X → Type 0) (xs : List X) (i : ℕ) (x : X) → All P xs → slice_get xs i ≡ Some x → P x
+all_at P xs i x all e = subst P (get_or_from_slice_get xs i x x e) (all i x (slice_get_within xs i x e))
+
+-- the node with a name
+pub node_named-kept : (name : List ℕ) (c : Inside) → node_named (table_of c) name ≡ option_map (λ place. record { 0 = place }) (position (λ node. bytes_eq name node.name.items) c.nodes.items)
+node_named-kept name c = ap (option_map (λ place. record { 0 = place })) (position-map node_row (λ row. bytes_eq name row.name) c.nodes.items)
+
+-- the application with a name
+pub app_named-kept : (name : List ℕ) (c : Inside) → app_named (table_of c) name ≡ option_map (λ place. record { 0 = place }) (position (λ key. bytes_eq name key.items) (keys_of c.apps.entries))
+app_named-kept name c =
+    ap (option_map (λ place. record { 0 = place }))
+    (position-map app_row (λ row. bytes_eq name row.name) c.apps.entries
+    ∙ sym (position-map (λ entry. entry.0) (λ key. bytes_eq name key.items) c.apps.entries))
+
+-- the row of an application, from what the map has at its place
+pub row_at : (es : List (Vec ℕ × App)) (i : ℕ) (app : App) → slice_get (values_of es) i ≡ Some app → (name : Vec ℕ) × (slice_get (map app_row es) i ≡ Some (app_row (name, app)))
+row_at es i app e = rw (slice_get-map app_row es i) (by (slice_get es i) (sym (slice_get-map (λ x. x.1) es i) ∙ e))
+  where
+    by : (o : Option (Vec ℕ × App)) → option_map (λ x. x.1) o ≡ Some app → (name : Vec ℕ) × (option_map app_row o ≡ Some (app_row (name, app)))
+    by None h = absurd cc
+    by (Some x) h = let k : x.1 ≡ app = cc in (x.0, ap (λ (a : App). Some (app_row (x.0, a))) k)
+
+-- the wait of the application at a place
+pub timeout_of-kept : (c : Inside) (id : AppId) (app : App) → slice_get (values_of c.apps.entries) id.0 ≡ Some app → timeout_of (table_of c) id ≡ app.timeout
+timeout_of-kept c id app e =
+    let row = row_at c.apps.entries id.0 app e in
+    rw row.1 refl
+
+-- the group of a node in the list of the application at a place
+pub group_of-kept : (c : Inside) (id : AppId) (node : NodeId) (app : App) → slice_get (values_of c.apps.entries) id.0 ≡ Some app
+    → group_of (table_of c) id node ≡ position (λ group. list_any (λ other. eqb other node.0) group.items) app.groups.items
+group_of-kept c id node app e =
+    let row = row_at c.apps.entries id.0 app e in
+    rw row.1 (position-map (λ group. group.items) (λ group. list_any (λ other. eqb other node.0) group) app.groups.items)
+
+-- no application has many groups
+pub few_groups : (c : Inside) (i : ℕ) (app : App) → All (λ row. length row.groups ≤ 16) (table_of c).apps → slice_get (values_of c.apps.entries) i ≡ Some app → length app.groups.items ≤ 16
+few_groups c i app small e =
+    let row = row_at c.apps.entries i app e in
+    let few : length (map (λ group. group.items) app.groups.items) ≤ 16 = all_at (λ (r : AppRow). length r.groups ≤ 16) (map app_row c.apps.entries) i (app_row (row.0, app)) small row.1 in
+    omega (arith, few, map_length (λ group. group.items) app.groups.items)

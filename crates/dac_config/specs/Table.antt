@@ -1,0 +1,78 @@
+-- What a configuration says: nodes and applications by their numbers, and the wait of a starting node.
+use Rattle.std.specs.Prelude.{ℕ, ◌≤◌, Bool, false, List, [], length, position, option_map, Option, unwrap_or, slice_get, ◌==◌, All}
+use Rattle.std.specs.Option.{option_and_then}
+use Rattle.std.specs.List.{list_any}
+use Rattle.std.specs.Str.{bytes_eq}
+use Rattle.dac_base.specs.declared.NodeId.{NodeId}
+use Rattle.dac_base.specs.declared.AppId.{AppId}
+use Rattle.dac_config.specs.declared.sync_wait.SyncWait.{SyncWait}
+
+-- a node: its name, and whether a starting node waits for it as mandatory or as optional
+pub record NodeRow : Type 0 where
+  pub name : List ℕ
+  pub mandatory : Bool
+  pub optional : Bool
+
+-- an application: its name, the wait of a failover in milliseconds, and the nodes that may run it: groups
+-- of node numbers, the most preferred group first
+pub record AppRow : Type 0 where
+  pub name : List ℕ
+  pub timeout : ℕ
+  pub groups : List (List ℕ)
+
+-- a configuration: the nodes in the byte order of their names, so that a node's number is its place, the
+-- applications in the order of the file, and the wait of a starting node
+pub record Table : Type 0 where
+  pub nodes : List NodeRow
+  pub apps : List AppRow
+  pub sync_wait : SyncWait
+
+-- how many nodes there are
+abbrev pub node_count : Table → ℕ
+node_count table = length table.nodes
+
+-- how many applications there are
+abbrev pub app_count : Table → ℕ
+app_count table = length table.apps
+
+-- the name of a node
+abbrev pub node_name : Table → NodeId → List ℕ
+node_name table node = unwrap_or (option_map (λ row. row.name) (slice_get table.nodes node.0)) []
+
+-- the name of an application
+abbrev pub app_name : Table → AppId → List ℕ
+app_name table app = unwrap_or (option_map (λ row. row.name) (slice_get table.apps app.0)) []
+
+-- the node with this name
+abbrev pub node_named : Table → List ℕ → Option NodeId
+node_named table name = option_map (λ place. record { 0 = place }) (position (λ row. bytes_eq name row.name) table.nodes)
+
+-- the application with this name
+abbrev pub app_named : Table → List ℕ → Option AppId
+app_named table name = option_map (λ place. record { 0 = place }) (position (λ row. bytes_eq name row.name) table.apps)
+
+-- the first of these groups that has the node
+abbrev pub group_among : List (List ℕ) → ℕ → Option ℕ
+group_among groups node = position (λ group. list_any (λ other. other == node) group) groups
+
+-- the group of a node in an application's list, 0 for the most preferred; none where the list lacks the node
+abbrev pub group_of : Table → AppId → NodeId → Option ℕ
+group_of table app node = option_and_then (λ row. group_among row.groups node.0) (slice_get table.apps app.0)
+
+-- how long a failover of an application waits, in milliseconds
+abbrev pub timeout_of : Table → AppId → ℕ
+timeout_of table app = unwrap_or (option_map (λ row. row.timeout) (slice_get table.apps app.0)) 0
+
+-- whether a starting node waits for this one as mandatory
+abbrev pub is_mandatory : Table → NodeId → Bool
+is_mandatory table node = unwrap_or (option_map (λ row. row.mandatory) (slice_get table.nodes node.0)) false
+
+-- whether a starting node waits for this one as optional
+abbrev pub is_optional : Table → NodeId → Bool
+is_optional table node = unwrap_or (option_map (λ row. row.optional) (slice_get table.nodes node.0)) false
+
+-- the limits of a configuration
+pub record IsSmall (table : Table) : Type 0 where
+  pub nodes : node_count table ≤ 16
+  pub apps : app_count table ≤ 64
+  pub groups : All (λ app. length app.groups ≤ 16) table.apps

@@ -1,0 +1,173 @@
+//! The tables of a configuration and its readers.
+ghost use Rattle.std.specs.Prelude.{◌≡◌, ◌<◌, ◌≤◌, ◌==◌, length, position, IfOk, IfSome};
+ghost use Rattle.std.specs.Str.{bytes_eq};
+ghost use Rattle.std.specs.List.{list_any};
+ghost use Rattle.dac_config.specs.Table.{node_count, app_count, group_among};
+
+use crate::SyncWait;
+use dac_base::{AppId, NoMemory, NodeId};
+use indexmap::IndexMap;
+use std::marker::Model;
+
+#[derive(Clone, Drop)]
+struct Node {
+    name: Vec<u8>,
+    mandatory: bool,
+    optional: bool,
+}
+
+#[derive(Clone, Drop)]
+struct App {
+    timeout: u32,
+    groups: Vec<Vec<u8>>,
+}
+
+/// A configuration: what all controllers of a cluster agree on before they start.
+///
+/// A node's number is its place among the names of all nodes in byte order, an application's number its
+/// place in the file; both begin with 0.
+#[derive(Drop)]
+pub struct Config {
+    nodes: Vec<Node>,
+    apps: IndexMap<Vec<u8>, App>,
+    sync_wait: SyncWait,
+}
+
+impl Model for Config {
+    ghost use Rattle.dac_config.specs.Table.{Table};
+
+    ghost Value = { Table };
+
+    ghost use Rattle.dac_config.specs.ConfigView.{table_of, IsSmallTable};
+
+    ghost view = { table_of };
+
+    ghost invariant = { IsSmallTable };
+}
+
+/// The place of the first node with this name.
+fn place_of_node(nodes: &[Node], name: &[u8]) -> Option<usize>
+    ensures place { result ≡ position (λ node. bytes_eq name.now node.name.items) nodes.now }
+    ensures within { IfSome result (λ at. at < length nodes.now) }
+{
+    nodes.iter().position(|node| name == node.name.as_slice())
+}
+
+/// The place of the first group that has the node.
+fn place_of_group(groups: &[Vec<u8>], node: u8) -> Option<usize>
+    ensures place { result ≡ position (λ group. list_any (λ other. other == node) group.items) groups.now }
+    ensures within { IfSome result (λ at. at < length groups.now) }
+{
+    groups.iter().position(|group| group.contains(&node))
+}
+
+impl Config {
+    ghost use Rattle.dac_config.specs.Table.{node_name, app_name, node_named, app_named, group_of, timeout_of, is_mandatory, is_optional};
+
+    /// How many nodes there are.
+    pub fn nodes(&self) -> u8
+        ensures count { result ≡ node_count self.now }
+        ensures few { result ≤ 16 }
+    {
+        self.nodes.len() as u8
+    }
+
+    /// How many applications there are.
+    pub fn apps(&self) -> u16
+        ensures count { result ≡ app_count self.now }
+        ensures few { result ≤ 64 }
+    {
+        self.apps.len() as u16
+    }
+
+    /// The name of a node, without quotes.
+    pub fn node_name(&self, node: NodeId) -> &[u8]
+        requires { node.0 < node_count self.now }
+        ensures { result.now ≡ node_name self.now node }
+    {
+        &self.nodes[node.0 as usize].name
+    }
+
+    /// The name of an application, without quotes.
+    pub fn app_name(&self, app: AppId) -> &[u8]
+        requires { app.0 < app_count self.now }
+        ensures { result.now ≡ app_name self.now app }
+    {
+        let (name, _) = self.apps.get_index(app.0 as usize).unwrap();
+        name
+    }
+
+    /// The node with this name, if there is one.
+    pub fn node_named(&self, name: &[u8]) -> Option<NodeId>
+        ensures { result ≡ node_named self.now name.now }
+    {
+        let at = place_of_node(&self.nodes, name)?;
+        Some(NodeId(at as u8))
+    }
+
+    /// The application with this name, if there is one.
+    pub fn app_named(&self, name: &[u8]) -> Option<AppId>
+        ensures { result ≡ app_named self.now name.now }
+    {
+        let at = self.apps.get_index_of(name)?;
+        Some(AppId(at as u16))
+    }
+
+    /// The group that has the node in the application's list, 0 for the most preferred one, or `None`
+    /// where the list lacks the node. After OTP's kernel manual, parameter `distributed`: the list names
+    /// nodes and tuples of nodes in priority order.
+    pub fn group_of(&self, app: AppId, node: NodeId) -> Option<u16>
+        requires { app.0 < app_count self.now }
+        ensures { result ≡ group_of self.now app node }
+    {
+        let row = &self.apps[app.0 as usize];
+        let at = place_of_group(&row.groups, node.0)?;
+        Some(at as u16)
+    }
+
+    /// How long a failover of the application waits, in milliseconds: 0 where the file gives no time.
+    pub fn timeout(&self, app: AppId) -> u32
+        requires { app.0 < app_count self.now }
+        ensures { result ≡ timeout_of self.now app }
+    {
+        self.apps[app.0 as usize].timeout
+    }
+
+    /// Whether a starting node waits for this node and gives up without it, after OTP's kernel manual,
+    /// parameter `sync_nodes_mandatory`.
+    pub fn mandatory(&self, node: NodeId) -> bool
+        requires { node.0 < node_count self.now }
+        ensures { result ≡ is_mandatory self.now node }
+    {
+        self.nodes[node.0 as usize].mandatory
+    }
+
+    /// Whether a starting node waits for this node and goes on without it, after OTP's kernel manual,
+    /// parameter `sync_nodes_optional`.
+    pub fn optional(&self, node: NodeId) -> bool
+        requires { node.0 < node_count self.now }
+        ensures { result ≡ is_optional self.now node }
+    {
+        self.nodes[node.0 as usize].optional
+    }
+
+    /// How long a starting node waits for its mandatory and optional nodes.
+    pub fn sync_wait(&self) -> SyncWait
+        ensures { result ≡ self.now.sync_wait }
+    {
+        self.sync_wait
+    }
+
+    /// An equal configuration.
+    pub fn copy(&self) -> Result<Config, NoMemory>
+        ensures { IfOk result (λ copy. copy ≡ self.now) }
+    {
+        let nodes = self.nodes.clone()?;
+        let apps = self.apps.clone()?;
+        Ok(Config {
+            nodes,
+            apps,
+            sync_wait: self.sync_wait,
+        })
+    }
+}
