@@ -8,4 +8,5 @@ pub mod Order
 pub mod Meaning
 pub mod Wishes
 pub mod StateLaws
+pub mod StateSpelling
 pub mod MeaningLaws
