@@ -1,21 +1,19 @@
 -- The wishes of a key in a set.
-use Rattle.std.proofs.Common.{◌≡◌, Bool, true, false, cond, ◌||◌, ◌&&◌, List, [], ◌∷◌, map as list_map, length, refl, sym, ap, ◌∙◌}
+use Rattle.std.proofs.Common.{◌≡◌, Bool, true, false, cond, List, [], ◌∷◌, map as list_map, length, refl, sym, ap, ◌∙◌}
 use Rattle.std.specs.declared.cmp.Ordering.TheVariants.{Equal}
-use Rattle.std.specs.List.{list_any, count_by, filter}
-use Rattle.std.specs.Ordering.{eq_by_cmp, is_lt, ordering_then}
-use Rattle.std.specs.Cmp.{Equal-is, tied_itself, tied_then}
+use Rattle.std.specs.List.{count_by, filter}
+use Rattle.std.specs.Ordering.{is_lt, ordering_then}
+use Rattle.std.specs.Cmp.{Equal-is, tied_itself}
 use Rattle.std.specs.FinSet as set
 use Rattle.std.proofs.lemmas.Bool.{and_parts, and_from}
-use Rattle.std.proofs.lemmas.Cmp.{eq_by_cmp_equiv}
 use Rattle.std.proofs.lemmas.List.{length-map}
 use Rattle.std.proofs.lemmas.List.Sums.{length-filter}
-use Rattle.dac_dots.specs.declared.dot.Dot.{Dot}
 use Rattle.dac_dots.specs.Dots.{dot_cmp, dots_total, exact_dots}
 use Rattle.dac_dots.specs.Keys.{is_below_all, IsRising}
 use Rattle.dac_dots.specs.InOrder.{in_order, in_order-one}
 use Rattle.dac_state.specs.declared.starts.Key.{Key}
 use Rattle.dac_state.specs.declared.starts.Start.{Start}
-use Rattle.dac_state.specs.Starts.{Starts, start, start_cmp, key_cmp, same_key, keys_total, exact_keys, starts_total, exact_starts, dots_among, dots_at, is_at, dots_among-has}
+use Rattle.dac_state.specs.Starts.{Starts, start_cmp, key_cmp, same_key, keys_total, exact_keys, starts_total, exact_starts, dots_among, dots_at, is_at, dots_among-has}
 pub use Rattle.dac_state.specs.Starts.{contains-dots_at}
 use Rattle.dac_state.proofs.Sets.{list_any-items}
 
