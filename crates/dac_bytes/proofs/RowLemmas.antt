@@ -3,8 +3,6 @@ use Rattle.std.proofs.Common.{◌≡◌, ℕ, ◌+◌, ◌<◌, ◌⊎◌, inl, 
 use Rattle.std.specs.FinSet as set
 use Rattle.std.specs.List.{flat_map, AllByRecursion}
 use Rattle.std.specs.Ordering.{nat_cmp, eq_by_cmp, is_eq}
-use Rattle.std.specs.declared.cmp.Ordering.{Ordering}
-use Rattle.std.specs.declared.cmp.Ordering.TheVariants.{Less, Equal, Greater}
 use Rattle.std.proofs.lemmas.Bool.{and_parts, and_cases, or_cases, or_left, or_right, false≢true, cases_Bool, leb-true, leb-false, ltb-true, lt-ltb, eqb-true}
 use Rattle.std.proofs.lemmas.List.{map_more, length-map}
 use Rattle.std.proofs.lemmas.Cmp.{tied_itself}
@@ -17,7 +15,7 @@ use Rattle.dac_dots.specs.declared.dot.Dot.{Dot}
 use Rattle.dac_bytes.specs.Numbers.{u16_bytes}
 use Rattle.dac_bytes.specs.Rows.{Row, row_of, rows_of, origins_of, counters_of, further_of, reach_of, IsRowOf, AreRowsOf}
 use Rattle.dac_bytes.specs.Spelling.{row_bytes, context_bytes}
-use Rattle.dac_bytes.proofs.CounterLemmas.{on_the_way, ends_there, has_key-filter, rising_filter, has_key-counters, rising_counters}
+use Rattle.dac_bytes.proofs.CounterLemmas.{tie, on_the_way, ends_there, has_key-filter, rising_filter, has_key-counters, rising_counters}
 
 -- a rising list that has the origins of the dots is the list of them
 pub origins_from_keys : (dots : List Dot) (origins : List Origin) → IsRising origin_cmp origins
@@ -100,11 +98,6 @@ module _ (counters : List ℕ) where
         | inl above ↦ inr (let p = ltb-true v n above in omega arith)
         | inr zero ↦ inl (eqb-true n 0 zero)
       ]
-
-tie : (r : Ordering) → is_eq r ≡ true → r ≡ Equal
-tie Less p = absurd (false≢true p)
-tie Equal p = refl
-tie Greater p = absurd (false≢true p)
 
 has_origin : (o : Origin) (ds : List Dot) → has_key origin_cmp (map (λ (d : Dot). d.origin) ds) o ≡ true → (n : ℕ) × (has_key dot_cmp ds (dot o n) ≡ true)
 has_origin o [] e = absurd (false≢true e)

@@ -1,20 +1,19 @@
 -- Lists of dots that rise, and the sets that they are.
-use Rattle.std.proofs.Common.{◌≡◌, ℕ, ◌+◌, true, false, cond, ◌||◌, ◌&&◌, nat_eq, List, [], ◌∷◌, length, zero, suc, get_or, take, Bool, ◌-◌, ◌^◌, ◌<◌, ◌≤◌, ◌⊎◌, inl, inr, subst, refl, sym, ap, ◌∙◌, arith}
-use Rattle.std.specs.Ordering.{eq_by_cmp, is_eq, is_lt, nat_cmp, ord_max}
+use Rattle.std.proofs.Common.{◌≡◌, ℕ, ◌+◌, true, false, cond, ◌||◌, List, length, zero, suc, get_or, take, Bool, ◌-◌, ◌^◌, ◌<◌, ◌≤◌, ◌⊎◌, inl, inr, subst, refl, sym, ap, ◌∙◌, arith}
+use Rattle.std.specs.Ordering.{eq_by_cmp, is_lt, nat_cmp, ord_max}
 use Rattle.std.specs.List.{All}
 use Rattle.std.specs.FinSet as set
-use Rattle.std.proofs.lemmas.Bool.{and_parts, or_cases, false≢true, cases_order, cases_eq, and_cases, eqb-true, eqb-false}
-use Rattle.std.proofs.lemmas.Cmp.{tied_itself}
+use Rattle.std.proofs.lemmas.Bool.{cases_order, cases_eq}
 use Rattle.std.proofs.lemmas.List.{take_all}
 use Rattle.std.proofs.lemmas.List.Elements.{All-more, All-weaker}
 use Rattle.std.proofs.lemmas.Bool.Decides.{nat_tests}
 use Rattle.std.proofs.lemmas.List.Folds.{list_any_more}
-use Rattle.dac_dots.specs.Keys.{IsRising, has_key}
+use Rattle.dac_dots.specs.Keys.{has_key}
 use Rattle.dac_dots.specs.Dots.{Dots, dot_cmp, dots_total, exact_dots, dot, HasPrevious, IsVector, IsNext, IsUsedUp}
 use Rattle.dac_dots.specs.declared.dot.Dot.{Dot}
 use Rattle.dac_dots.specs.declared.dot.Origin.{Origin}
-use Rattle.dac_dots.specs.InOrder.{tie, below_absent}
-use Rattle.dac_dots.proofs.KeyLemmas.{has_at}
+use Rattle.dac_dots.specs.KeyLaws.{has_is, member_at}
+pub use Rattle.dac_dots.specs.KeyLaws.{equal_origins, other_origins}
 
 -- whether a set has a dot, by its list
 pub contains_list : (ks : List Dot) (q : Dot) → set.contains (set.from_list {R = dot_cmp} ks) q ≡ has_key dot_cmp ks q
@@ -23,47 +22,11 @@ contains_list ks q = set.contains-from_list dots_total ks q
 pub same_dots : (s t : Dots) → ((q : Dot) → set.contains s q ≡ set.contains t q) → s ≡ t
 same_dots = set.same_set dots_total exact_dots
 
--- a list with one dot more is the set with it
-pub one_inserted : (ks ls : List Dot) (d : Dot) → ((q : Dot) → has_key dot_cmp ls q ≡ (eq_by_cmp dot_cmp q d || has_key dot_cmp ks q)) → set.from_list {R = dot_cmp} ls ≡ set.insert (set.from_list ks) d
-one_inserted ks ls d h = same_dots _ _ (λ q. contains_list ls q ∙ h q ∙ ap (λ b. eq_by_cmp dot_cmp q d || b) (sym (contains_list ks q)) ∙ sym (set.contains-insert dots_total (set.from_list ks) d q))
-
--- each dot of a list that rises counts
-pub len_list : (ks : List Dot) → IsRising dot_cmp ks → length ks ≡ set.len (set.from_list {R = dot_cmp} ks)
-len_list [] h = sym (set.len-empty dot_cmp)
-len_list (k ∷ ks) h =
-    let parts = and_parts _ _ h in
-    sym (set.len-insert dots_total (set.from_list ks) k
-    ∙ ap (λ b. cond b (set.len (set.from_list {R = dot_cmp} ks)) (set.len (set.from_list {R = dot_cmp} ks) + 1)) (contains_list ks k ∙ below_absent dots_total k ks parts.0)
-    ∙ ap (λ n. n + 1) (sym (len_list ks parts.1))
-    ∙ next (length ks))
-  where
-    next : (n : ℕ) → n + 1 ≡ suc n
-    next n = omega arith
-
--- whether the list of a set has a dot
-pub has_is : (ks : List Dot) (s : Dots) → set.from_list ks ≡ s → (q : Dot) → has_key dot_cmp ks q ≡ set.contains s q
-has_is ks s is q = sym (contains_list ks q) ∙ ap (λ s. set.contains s q) is
-
--- what holds of each dot of the list holds of each of the set
-pub all_members : (P : Dot → Type 0) (ks : List Dot) → All P ks → (q : Dot) → has_key dot_cmp ks q ≡ true → P q
-all_members P [] all q e = absurd (false≢true e)
-all_members P (k ∷ ks) all q e = elim (or_cases (eq_by_cmp dot_cmp q k) (has_key dot_cmp ks q) e) [
-  | inl tied ↦ subst P (sym (exact_dots q k (tie _ tied))) (all 0 k (omega arith))
-  | inr rest ↦ all_members P ks (λ i d p. all (suc i) d (omega arith)) q rest
-]
-
--- a dot of the list is one of the set
-pub member_at : (ks : List Dot) (s : Dots) → set.from_list ks ≡ s → (i : ℕ) (e : Dot) → i < length ks → set.contains s (get_or ks i e) ≡ true
-member_at ks s is i e p = sym (has_is ks s is (get_or ks i e)) ∙ has_at dots_total ks (get_or ks i e) i e p (ap is_eq (tied_itself dots_total (get_or ks i e)))
-
 module _ (ks : List Dot) (s : Dots) (is : set.from_list ks ≡ s) where
-  pub each_member : (P : Dot → Type 0) → (i : ℕ) → length ks ≤ i → All P (take i ks) → (q : Dot) → set.contains s q ≡ true → P q
-  each_member P i p all q e = all_members P ks (subst (All P) (take_all i ks p) all) q (has_is ks s is q ∙ e)
-
   -- a list of one dot more is the union with one dot more
   pub union_done : (t both : Dots) (i : ℕ) → length ks ≤ i → ((q : Dot) → set.contains both q ≡ (set.contains t q || has_key dot_cmp (take i ks) q)) → both ≡ set.union t s
   union_done t both i p so_far = same_dots both (set.union t s) (λ q.
-      so_far q ∙ ap (λ l. set.contains t q || has_key dot_cmp l q) (take_all i ks p) ∙ ap (λ b. set.contains t q || b) (has_is ks s is q) ∙ sym (set.contains-union dots_total t s q))
+      so_far q ∙ ap (λ l. set.contains t q || has_key dot_cmp l q) (take_all i ks p) ∙ ap (λ b. set.contains t q || b) (has_is dots_total ks s is q) ∙ sym (set.contains-union dots_total t s q))
 
   pub union_more : (t both : Dots) (i : ℕ) (e : Dot) → i < length ks → ((q : Dot) → set.contains both q ≡ (set.contains t q || has_key dot_cmp (take i ks) q))
       → (q : Dot) → set.contains (set.insert both (get_or ks i e)) q ≡ (set.contains t q || has_key dot_cmp (take (i + 1) ks) q)
@@ -140,7 +103,7 @@ module _ (ks : List Dot) (s : Dots) (is : set.from_list ks ≡ s) (origin : Orig
         above = All-more (λ x. x.origin ≡ origin → x.n ≤ ord_max nat_cmp greatest d.n) ks i e within
             (All-weaker (λ x. x.origin ≡ origin → x.n ≤ greatest) (λ x. x.origin ≡ origin → x.n ≤ ord_max nat_cmp greatest d.n) (λ x h o. wider x.n (h o)) (take i ks) so_far.above) (λ _. max_right greatest d.n);
         there = max_of (λ m. (m ≡ 0) ⊎ (set.contains s (dot origin m) ≡ true)) greatest d.n so_far.there
-            (inr (subst (λ o. set.contains s (dot o d.n) ≡ true) same (member_at ks s is i e within)));
+            (inr (subst (λ o. set.contains s (dot o d.n) ≡ true) same (member_at dots_total ks s is i e within)));
       }
 
   pub greatest_same : ((get_or ks i e).origin ≡ origin → ⊥) → IsGreatest s origin greatest (take (i + 1) ks)
@@ -148,17 +111,3 @@ module _ (ks : List Dot) (s : Dots) (is : set.from_list ks ≡ s) (origin : Orig
     above = All-more (λ x. x.origin ≡ origin → x.n ≤ greatest) ks i e within so_far.above (λ o. absurd (other o));
     there = so_far.there;
   }
-
--- what `==` says of two origins
-pub equal_origins : (a b : Origin) → (nat_eq a.node.0 b.node.0 && nat_eq a.inc b.inc) ≡ true → a ≡ b
-equal_origins a b e =
-    let parts = and_parts _ _ e in
-    let nodes = eqb-true a.node.0 b.node.0 parts.0 in
-    let incs = eqb-true a.inc b.inc parts.1 in
-    λ i. record { node = record { 0 = nodes i }; inc = incs i }
-
-pub other_origins : (a b : Origin) → (nat_eq a.node.0 b.node.0 && nat_eq a.inc b.inc) ≡ false → a ≡ b → ⊥
-other_origins a b e same = elim (and_cases _ _ e) [
-  | inl nodes ↦ eqb-false _ _ nodes (ap (λ o. o.node.0) same)
-  | inr incs ↦ eqb-false _ _ incs (ap (λ o. o.inc) same)
-]

@@ -12,6 +12,7 @@ use Rattle.std.proofs.lemmas.List.Folds.{list_any-append, list_any_none}
 use Rattle.std.proofs.lemmas.List.Sorted.{searchable_from_sorted}
 use Rattle.std.proofs.lemmas.Map.Lookups.{CmpEqualImpliesEq}
 use Rattle.dac_dots.specs.InOrder.{less, tie, or_swap, below_more}
+pub use Rattle.dac_dots.specs.KeyLaws.{has_at}
 use Rattle.dac_dots.specs.Keys.{is_below_all, IsRising, has_key}
 
 or_same : (a b : Bool) → (a ≡ true → b ≡ true) → b ≡ (a || b)
@@ -38,11 +39,6 @@ module _ {K : Type 0} {R : K → K → Ordering} (o : IsTotalOrder R) where
   rises : (ks : List K) → IsRising R ks → (k : K) → IsNonDecreasingBy (λ y. ordering_index (R y k)) ks
   rises ks h k = searchable_from_sorted o (λ e. e) ks k (λ i d _ p. rw add-one (neighbours ks h i d (omega arith)))
 
-  pub has_at : (ks : List K) (q : K) (i : ℕ) (d : K) → i < length ks → eq_by_cmp R q (get_or ks i d) ≡ true → has_key R ks q ≡ true
-  has_at [] q i d p e = absurd (omega arith)
-  has_at (k ∷ ks) q zero d p e = ap (λ b. b || has_key R ks q) e
-  has_at (k ∷ ks) q (suc i) d p e = sym (or_same (eq_by_cmp R q k) (has_key R ks q) (λ _. has_at ks q i d (omega arith) e)) ∙ has_at ks q i d (omega arith) e
-
   absent_at : (ks : List K) (k : K) (i : ℕ) → AllWithin (λ y. R y k ≡ Less) ks 0 i → AllWithin (λ y. R y k ≡ Greater) ks i (length ks) → has_key R ks k ≡ false
   absent_at ks k i low high = list_any_none (eq_by_cmp R k) ks (λ j d p. elim (cases_lt j i) [
     | inl q ↦ ap is_eq (greater _ k (low j d (omega arith) q))
@@ -51,7 +47,7 @@ module _ {K : Type 0} {R : K → K → Ordering} (o : IsTotalOrder R) where
 
   -- a search answers Ok where the key is there
   pub found : (ks : List K) (k : K) (r : Result ℕ ℕ) → IsRising R ks → IsSearchInRange r (length ks) → IsBinarySearchResult (λ y. R y k) ks r → is_ok r ≡ has_key R ks k
-  found ks k (Ok i) h in_range at = sym (has_at ks k i k in_range (ap is_eq (tied_back o _ k (at k))))
+  found ks k (Ok i) h in_range at = sym (has_at o ks k i k in_range (ap is_eq (tied_back o _ k (at k))))
   found ks k (Err i) h in_range parted = let parts = parted (rises ks h k) in sym (absent_at ks k i parts.0 parts.1)
 
   -- one more key

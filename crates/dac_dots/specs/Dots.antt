@@ -1,5 +1,5 @@
 -- The order of dots, their code, and sets of dots.
-use Rattle.std.specs.Prelude.{◌≡◌, ℕ, ◌-◌, ◌<◌, ◌≤◌, ◌^◌, ◌⊎◌, true, List, refl}
+use Rattle.std.specs.Prelude.{◌≡◌, ℕ, ◌-◌, ◌<◌, ◌≤◌, ◌^◌, ◌⊎◌, true, refl}
 use Rattle.std.proofs.Common.{ap}
 use Rattle.std.specs.declared.cmp.Ordering.{Ordering}
 use Rattle.std.specs.Ordering.{nat_cmp, ordering_then}
@@ -8,7 +8,6 @@ use Rattle.std.specs.FinSet as set
 use Rattle.std.specs.Coded.{Coded, code_by, coded×, coded_ℕ}
 use Rattle.std.proofs.lemmas.Cmp.{nat_cmp_total, on_total, then_total}
 use Rattle.std.proofs.lemmas.Map.Lookups.{CmpEqualImpliesEq, exact_pairs, exact_unsigned}
-use Rattle.dac_dots.specs.Keys.{IsRising}
 use Rattle.dac_base.specs.Ids.{node_cmp, nodes_total, exact_nodes}
 use Rattle.dac_base.specs.declared.NodeId.{NodeId}
 use Rattle.dac_dots.specs.declared.dot.Origin.{Origin}
@@ -49,11 +48,6 @@ Dots = set.FinSet dot_cmp
 -- each dot of the first set is in the second
 abbrev pub IsSubset : Dots → Dots → Type 0
 IsSubset c d = (x : Dot) → set.contains c x ≡ true → set.contains d x ≡ true
-
--- the dots in order, each once
-pub record IsListOf (dots : Dots) (ks : List Dot) : Type 0 where
-  pub rising : IsRising dot_cmp ks
-  pub same : set.from_list ks ≡ dots
 
 -- the dot of an origin with a counter
 abbrev pub dot : Origin → ℕ → Dot

@@ -1,3 +1,4 @@
 pub mod Keys
 pub mod InOrder
 pub mod Dots
+pub mod KeyLaws

@@ -154,7 +154,8 @@ impl Context {
     pub fn dots(&self) -> Result<Vec<Dot>, NoMemory>
         ensures { IfOk result (λ dots. dots.items ≡ in_order self.now) }
     {
-        Ok(self.copy()?.dots)
+        let copied = self.copy()?;
+        Ok(copied.dots)
     }
 }
 

@@ -47,6 +47,13 @@ impl<K: MapKey, L: Lattice> MapOf<K, L> {
     {
         value_at(&self.entries, key)
     }
+
+    /// The entries in the order of the keys.
+    pub fn entries(&self) -> &[(K, L)]
+        ensures { result.now ≡ self.now }
+    {
+        self.entries.as_slice()
+    }
 }
 
 /// Whether a value is below what is at a key.

@@ -1,10 +1,9 @@
 -- The meaning of one operation, part by part.
-use Rattle.std.proofs.Common.{◌≡◌, ℕ, Bool, true, false, not, ◌&&◌, ◌||◌, List, [], ◌∷◌, refl, sym, ap, ◌∙◌}
+use Rattle.std.proofs.Common.{◌≡◌, Bool, true, false, not, ◌&&◌, ◌||◌, [], ◌∷◌, refl, sym, ap, ◌∙◌}
 use Rattle.std.specs.FinSet as set
 use Rattle.std.specs.FinMap as map
 use Rattle.std.proofs.lemmas.Bool.{and_parts}
 use Rattle.dac_base.specs.declared.NodeId.{NodeId}
-use Rattle.dac_dots.specs.declared.dot.Dot.{Dot}
 use Rattle.dac_dots.specs.Dots.{dot_cmp, dots_total}
 use Rattle.dac_state.specs.declared.starts.Start.{Start}
 use Rattle.dac_state.specs.Operations.{Operation, over_list, over_of, IsSound}
@@ -12,8 +11,8 @@ use Rattle.dac_state.specs.StateValue.{StateValue}
 use Rattle.dac_state.specs.StateLaws.{same_state}
 use Rattle.dac_state.specs.Lives.{came_up, greater-None}
 use Rattle.dac_state.specs.Meaning.{meaning_of, has_dot, replaces, wishes, is_wish}
-use Rattle.dac_state.proofs.Readers.{names, or-false, heard-meaning, known-meaning, starts-meaning, lives-meaning}
-use Rattle.dac_state.proofs.Joins.{same_dot_is}
+use Rattle.dac_state.specs.Readers.{names, or-false, heard-meaning, known-meaning, starts-meaning, lives-meaning}
+use Rattle.dac_state.specs.Joins.{same_dot_is}
 
 -- a wish that is the operation isn't replaced by it
 wish_apart : (o : Operation) → IsSound o → (q : Start) → is_wish q o ≡ (is_wish q o && not (replaces q.dot o))

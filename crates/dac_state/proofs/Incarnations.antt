@@ -1,6 +1,5 @@
 -- Lives, by the map of greatest incarnations that they are kept in.
 use Rattle.std.proofs.Common.{◌≡◌, ℕ, ◌≤◌, true, false, cond, max, List, [], ◌∷◌, Option, Some, None, nat_cmp, option_map, ◌↔◌, refl, sym, ap, ◌∙◌, arith, subst}
-use Rattle.std.specs.Bool.{IsTrue}
 use Rattle.std.specs.Ordering.{eq_by_cmp, ord_max, is_le}
 use Rattle.std.specs.FinMap as map
 use Rattle.std.specs.FinMap.{find}
@@ -13,7 +12,7 @@ use Rattle.dac_lattice.specs.declared.chain.Max.{Max}
 use Rattle.dac_lattice.specs.Chains.{IsAny, IsAtMost, chain_laws}
 use Rattle.dac_lattice.specs.Laws.{IsLattice, IsWithin, join_options, wrapped_laws}
 use Rattle.dac_lattice.specs.Maps.{IsMap, IsMapBelow, join_maps, find_join}
-use Rattle.dac_state.specs.Lives.{Lives, greater, joined_lives, get-joined_lives, IsNotAbove, AreNotAbove}
+use Rattle.dac_state.specs.Lives.{greater, joined_lives, get-joined_lives, IsNotAbove, AreNotAbove}
 use Rattle.dac_state.specs.Incarnations.{incarnations, lives_in}
 
 abbrev Entries : Type 0

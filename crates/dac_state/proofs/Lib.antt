@@ -6,3 +6,5 @@ pub mod Members
 pub mod Readers
 pub mod Joins
 pub mod Alone
+pub mod SpellingLemmas
+pub mod Membership

@@ -1,9 +1,8 @@
 -- What a set of operations means. The set is given as a list; order and repeats don't matter.
-use Rattle.std.specs.Prelude.{◌≡◌, Bool, true, false, not, ◌&&◌, ◌||◌, List, [], ◌∷◌, ◌++◌, map as list_map, ◌⊎◌}
+use Rattle.std.specs.Prelude.{◌≡◌, Bool, false, not, ◌&&◌, List, [], ◌∷◌, map as list_map, ◌⊎◌}
 use Rattle.std.specs.List.{list_any, flat_map}
 use Rattle.std.specs.Ordering.{eq_by_cmp}
 use Rattle.std.specs.FinSet as set
-use Rattle.std.specs.FinMap as map
 use Rattle.dac_base.specs.Ids.{node_cmp}
 use Rattle.dac_dots.specs.declared.dot.Dot.{Dot}
 use Rattle.dac_dots.specs.Dots.{Dots, dot_cmp}
@@ -13,7 +12,7 @@ use Rattle.dac_state.specs.declared.operations.Act.TheVariants.{Up, Start, Stop}
 use Rattle.dac_state.specs.declared.starts.Key.{Key}
 use Rattle.dac_state.specs.declared.starts.Start.{Start as Wish}
 use Rattle.dac_state.specs.Operations.{Operation, over_list}
-use Rattle.dac_state.specs.Starts.{Starts, start_cmp, same_key}
+use Rattle.dac_state.specs.Starts.{Starts, same_key}
 use Rattle.dac_state.specs.Tables.{table}
 use Rattle.dac_state.specs.Lives.{Lives, life_of}
 use Rattle.dac_state.specs.StateValue.{StateValue}

@@ -1,13 +1,13 @@
 -- The order of states is a partial order, and the join is the least upper bound, for every value of the type.
-use Rattle.std.specs.Prelude.{◌≡◌, ℕ, Bool, true, false, not, ◌&&◌, ◌||◌, Option, refl}
-use Rattle.std.proofs.Common.{sym, ap, subst, ◌∙◌, inl, inr}
+use Rattle.std.specs.Prelude.{◌≡◌, Bool, true, false, not, ◌&&◌, ◌||◌, refl}
+use Rattle.std.proofs.Common.{sym, subst, ◌∙◌, inl, inr}
 use Rattle.std.specs.FinSet as set
 use Rattle.std.specs.FinMap as map
 use Rattle.std.proofs.lemmas.Bool.{false≢true, or_cases, or_left, or_right, and_parts}
 use Rattle.dac_base.specs.declared.NodeId.{NodeId}
 use Rattle.dac_base.specs.Ids.{node_cmp, nodes_total, exact_nodes}
 use Rattle.dac_dots.specs.declared.dot.Dot.{Dot}
-use Rattle.dac_dots.specs.Dots.{Dots, dot_cmp, IsSubset, dots_total, exact_dots}
+use Rattle.dac_dots.specs.Dots.{dot_cmp, dots_total, exact_dots}
 use Rattle.dac_lattice.specs.Laws.{IsLattice}
 use Rattle.dac_state.specs.declared.starts.Start.{Start}
 use Rattle.dac_state.specs.Starts.{start_cmp, may_stand, starts_total, exact_starts, contains-joined_starts}
@@ -80,7 +80,7 @@ stands_joined false false false true f g h = absurd (false≢true (g refl))
 stands_joined false false false false f g h = absurd (false≢true h)
 
 -- two tests that bring each other are one
-both_ways : (a b : Bool) → (a ≡ true → b ≡ true) → (b ≡ true → a ≡ true) → a ≡ b
+pub both_ways : (a b : Bool) → (a ≡ true → b ≡ true) → (b ≡ true → a ≡ true) → a ≡ b
 both_ways true b f g = sym (f refl)
 both_ways false true f g = g refl
 both_ways false false f g = refl

@@ -16,6 +16,8 @@ pub use starts::{Key, Start};
 pub use state::State;
 
 mod dot_list;
+mod encode;
+pub mod laws;
 mod lives;
 mod operations;
 mod starts;

@@ -3,6 +3,7 @@ ghost use Rattle.std.specs.Prelude.{◌≡◌, ◌↔◌, IfOk, IsTrue, cond, So
 ghost use Rattle.std.specs.FinMap as map;
 ghost use Rattle.dac_base.specs.declared.NodeId.{NodeId};
 ghost use Rattle.dac_state.specs.Lives.{same_node, joined_lives, AreNotAbove};
+ghost use Rattle.dac_state.specs.Incarnations.{incarnations};
 
 use dac_base::{NoMemory, NodeId};
 use dac_lattice::{Bottom, Lattice, MapOf, Max};
@@ -64,6 +65,14 @@ impl Lives {
             Some(greatest) => Some(greatest.value),
             None => None,
         }
+    }
+
+    /// The nodes that came up in ascending order, each with its greatest incarnation.
+    pub(crate) fn entries(&self) -> &[(NodeId, Max<u32>)]
+        ensures { incarnations result.now ≡ map.entries self.now }
+    {
+        self.incarnations.known();
+        self.incarnations.entries()
     }
 
     /// The greater incarnation of each node.

@@ -211,3 +211,100 @@ fn is_before(first: Dot, second: Dot) -> bool
 {
     first < second
 }
+
+#[cfg(test)]
+mod tests {
+    use super::*;
+    use dac_base::{AppId, NodeId};
+    use dac_dots::Origin;
+    use std::alloc::Global;
+    use std::test::Fail;
+
+    const KEY: Key = Key {
+        app: AppId(0),
+        node: NodeId(1),
+        inc: 1,
+    };
+
+    /// A dot of incarnation 1.
+    fn dot(node: u8, n: u64) -> Dot {
+        let node = NodeId(node);
+        Dot {
+            origin: Origin { node, inc: 1 },
+            n,
+        }
+    }
+
+    fn start(alloc: Global, over: &[Dot]) -> Result<Act, NoMemory> {
+        let over = DotList::new(Vec::from_slice(alloc, over)?);
+        Ok(Act::Start { key: KEY, over })
+    }
+
+    fn fault(dot: Dot, act: Act) -> Option<OpFault> {
+        Op::new(dot, act).err()
+    }
+
+    #[test]
+    fn refusals(rt: HostRuntime) -> Result<(), Fail> {
+        let alloc = rt.alloc();
+        let descending = [dot(1, 2), dot(1, 1)];
+        let twice = [dot(1, 1), dot(1, 1)];
+        let own = [dot(0, 2)];
+        let own_descending = [dot(1, 2), dot(1, 1), dot(0, 2)];
+        assert_eq!(rt;
+            fault(dot(0, 2), start(alloc, &own)?),
+            Some(OpFault::OwnDot)
+        );
+        assert_eq!(rt;
+            fault(dot(0, 2), start(alloc, &own_descending)?),
+            Some(OpFault::OwnDot)
+        );
+        assert_eq!(rt;
+            fault(dot(0, 2), start(alloc, &descending)?),
+            Some(OpFault::BadOver)
+        );
+        assert_eq!(rt;
+            fault(dot(0, 1), start(alloc, &twice)?),
+            Some(OpFault::BadOver)
+        );
+        assert_eq!(rt;
+            fault(dot(0, 1), start(alloc, &[])?),
+            Some(OpFault::BadCounter)
+        );
+        assert_eq!(rt; fault(dot(0, 2), Act::Up), Some(OpFault::BadCounter));
+        Ok(())
+    }
+
+    #[test]
+    fn acceptances(rt: HostRuntime) -> Result<(), Fail> {
+        let alloc = rt.alloc();
+        let up = Op::new(dot(0, 1), Act::Up)?;
+        assert_eq!(rt; up.dot(), dot(0, 1));
+        assert!(rt; up.act().is_up());
+        let over = [dot(1, 1), dot(1, 2)];
+        let copied = Op::new(dot(0, 2), start(alloc, &over)?)?.copy()?;
+        copied.known();
+        assert_eq!(rt; copied.dot(), dot(0, 2));
+        assert_eq!(rt; copied.act().over(), over.as_slice());
+        let over = DotList::new(Vec::from_slice(alloc, &over)?);
+        let stop = Act::Stop { key: KEY, over };
+        assert_eq!(rt; fault(dot(0, 2), stop.copy()?), None);
+        assert_eq!(rt; stop.over(), copied.act().over());
+        Ok(())
+    }
+
+    #[test]
+    fn most_replaced(rt: HostRuntime) -> Result<(), Fail> {
+        let mut over = Vec::new(rt.alloc());
+        for n in 1..1_025 {
+            over.push(dot(1, n))?;
+        }
+        assert_eq!(rt; fault(dot(0, 2), start(rt.alloc(), &over)?), None);
+        over.push(dot(1, 1_025))?;
+        assert_eq!(rt;
+            fault(dot(0, 2), start(rt.alloc(), &over)?),
+            Some(OpFault::BadOver)
+        );
+        Ok(())
+    }
+}

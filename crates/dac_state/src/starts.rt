@@ -4,6 +4,7 @@ ghost use Rattle.std.specs.List.{list_any};
 ghost use Rattle.std.specs.FinSet as set;
 ghost use Rattle.dac_state.specs.Starts.{same_key, may_stand, EachMayStand, joined_starts, dots_among, dots_at, is_wished_in};
 ghost use Rattle.dac_dots.specs.InOrder.{in_order};
+ghost use Rattle.dac_state.specs.StateSpelling.{keys_among, keys_of};
 
 use crate::dot_list::DotList;
 use dac_base::{AppId, NoMemory, NodeId};
@@ -174,6 +175,25 @@ impl StartSet {
         let dots = dots_of(*self.starts.allocator(), &self.starts, key)?;
         Ok(DotList::new(dots))
     }
+
+    /// The keys of the wishes, in ascending order.
+    pub(crate) fn keys(&self) -> Result<Vec<Key>, NoMemory>
+        ensures { IfOk result (λ keys. keys.items ≡ keys_of self.now) }
+    {
+        let keys = keys_of_wishes(*self.starts.allocator(), &self.starts)?;
+        Ok(keys)
+    }
+}
+
+/// The keys of the wishes, in ascending order.
+fn keys_of_wishes(alloc: Global, starts: &[Start]) -> Result<Vec<Key>, NoMemory>
+    ensures { IfOk result (λ keys. keys.items ≡ keys_among starts.now) }
+{
+    let mut keys = Vec::new(alloc);
+    for start in starts {
+        insert_key(&mut keys, start.key)?;
+    }
+    Ok(keys)
 }
 
 /// Whether some wish of the list is of the key.

@@ -117,7 +117,7 @@ impl Lattice for State {
     ghost laws = { state_laws };
 
     fn known(&self) {
-        let _heard = &self.heard;
+        let _starts = &self.starts;
     }
 
     fn join(&self, other: &Self) -> Result<Self, NoMemory> {
@@ -239,4 +239,137 @@ fn lives_by(alloc: Global, dot: Dot, act: &Act) -> Result<Lives, NoMemory>
     }
     let lives = Lives::one(alloc, dot.origin.node, dot.origin.inc)?;
     Ok(lives)
+}
+
+#[cfg(test)]
+mod tests {
+    use super::*;
+    use crate::laws;
+    use dac_base::AppId;
+    use dac_dots::Origin;
+    use std::test::Fail;
+
+    const KEY: Key = Key {
+        app: AppId(0),
+        node: NodeId(1),
+        inc: 1,
+    };
+
+    /// A dot of node 0, incarnation 1.
+    fn dot(n: u64) -> Dot {
+        let node = NodeId(0);
+        Dot {
+            origin: Origin { node, inc: 1 },
+            n,
+        }
+    }
+
+    fn up(alloc: Global) -> Result<State, Fail> {
+        Ok(State::delta_of(alloc, &Op::new(dot(1), Act::Up)?)?)
+    }
+
+    fn list(alloc: Global, dots: &[Dot]) -> Result<DotList, Fail> {
+        Ok(DotList::new(Vec::from_slice(alloc, dots)?))
+    }
+
+    fn start(alloc: Global, n: u64, over: &[Dot]) -> Result<State, Fail> {
+        let over = list(alloc, over)?;
+        let op = Op::new(dot(n), Act::Start { key: KEY, over })?;
+        Ok(State::delta_of(alloc, &op)?)
+    }
+
+    fn stop(alloc: Global, n: u64, over: &[Dot]) -> Result<State, Fail> {
+        let over = list(alloc, over)?;
+        let op = Op::new(dot(n), Act::Stop { key: KEY, over })?;
+        Ok(State::delta_of(alloc, &op)?)
+    }
+
+    /// Joins through the bound, as callers of any lattice do.
+    fn join_all<L: Bottom>(alloc: Global, values: &[L]) -> Result<L, NoMemory> {
+        let mut joined = L::bottom(alloc);
+        for value in values {
+            joined = joined.join(value)?;
+        }
+        Ok(joined)
+    }
+
+    /// Whether the order agrees with the join, through the bound.
+    fn is_joined_above<L: Lattice>(low: &L, high: &L) -> Result<bool, NoMemory> {
+        low.known();
+        high.known();
+        Ok(low.leq(high) && low.join(high)?.equal(high) && high.copy()?.equal(high))
+    }
+
+    #[test]
+    fn an_up_hears_itself(rt: HostRuntime) -> Result<(), Fail> {
+        let state = up(rt.alloc())?;
+        assert_eq!(rt; state.heard().dots()?.as_slice(), [dot(1)].as_slice());
+        assert_eq!(rt; state.known().dots()?.as_slice(), [dot(1)].as_slice());
+        assert_eq!(rt; state.life(NodeId(0)), Some(1));
+        assert_eq!(rt; state.life(NodeId(1)), None);
+        assert!(rt; !state.wished(KEY));
+        assert_eq!(rt; state.standing_count(KEY), 0);
+        Ok(())
+    }
+
+    #[test]
+    fn starts_stand_until_replaced(rt: HostRuntime) -> Result<(), Fail> {
+        let alloc = rt.alloc();
+        let first = start(alloc, 2, &[])?;
+        let second = start(alloc, 3, &[])?;
+        let both = first.join(&second)?;
+        assert!(rt; both.wished(KEY));
+        assert_eq!(rt; both.standing_count(KEY), 2);
+        assert_eq!(rt; both.standing(KEY)?.as_slice(), [dot(2), dot(3)].as_slice());
+        let stopped = both.join(&stop(alloc, 4, &[dot(2)])?)?;
+        assert_eq!(rt; stopped.standing(KEY)?.as_slice(), [dot(3)].as_slice());
+        assert!(rt; stopped.join(&first)?.equal(&stopped));
+        assert!(rt; is_joined_above(&both, &stopped)?);
+        assert!(rt; !stopped.leq(&both));
+        Ok(())
+    }
+
+    #[test]
+    fn a_stop_may_come_first(rt: HostRuntime) -> Result<(), Fail> {
+        let alloc = rt.alloc();
+        let stopped = stop(alloc, 3, &[dot(2)])?;
+        assert_eq!(rt; stopped.heard().dots()?.as_slice(), [dot(3)].as_slice());
+        assert_eq!(rt;
+            stopped.known().dots()?.as_slice(),
+            [dot(2), dot(3)].as_slice()
+        );
+        let joined = stopped.join(&start(alloc, 2, &[])?)?;
+        assert!(rt; !joined.wished(KEY));
+        assert_eq!(rt;
+            joined.heard().dots()?.as_slice(),
+            [dot(2), dot(3)].as_slice()
+        );
+        Ok(())
+    }
+
+    #[test]
+    fn order_of_joins(rt: HostRuntime) -> Result<(), Fail> {
+        let alloc = rt.alloc();
+        laws::parts_of_meaning();
+        laws::wishes_of_meaning();
+        laws::order_and_repeats();
+        laws::join_of_meanings();
+        laws::order_of_states();
+        let mut states = Vec::new(alloc);
+        states.push(stop(alloc, 4, &[dot(2), dot(3)])?)?;
+        states.push(start(alloc, 3, &[dot(2)])?)?;
+        states.push(up(alloc)?)?;
+        states.push(start(alloc, 2, &[])?)?;
+        let joined = join_all(alloc, &states)?;
+        let turned = states[3]
+            .join(&states[2])?
+            .join(&states[1])?
+            .join(&states[0])?;
+        assert!(rt; joined.equal(&turned));
+        assert!(rt; State::bottom(alloc).leq(&joined));
+        assert!(rt; !joined.equal(&State::bottom(alloc)));
+        assert_eq!(rt; joined.heard().len(), 4);
+        assert!(rt; !joined.wished(KEY));
+        Ok(())
+    }
 }

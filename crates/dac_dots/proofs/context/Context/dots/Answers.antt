@@ -4,4 +4,4 @@ use Rattle.dac_dots.specs.InOrder.{in_order-one}
 use Rattle.dac_dots.proofs.context.Context.dots.Goals as goal
 
 pub returns : goal.returns
-returns c = in_order-one dots_total exact_dots c.args.self.now c.result.inside.dots.items c.result.invariant (c.result.view_is ∙ c.in_ok-copy.ensures)
+returns c = in_order-one dots_total exact_dots c.args.self.now c.copied.inside.dots.items c.copied.invariant (c.copied.view_is ∙ c.in_ok-copied.ensures)

@@ -1,5 +1,7 @@
 use Rattle.std.proofs.Common.{◌≡◌, ◌≤◌, sym}
-use Rattle.dac_dots.proofs.ContextLemmas.{each_member, equal_origins, greatest_more, greatest_same, next_is, other_origins, used_up}
+use Rattle.dac_dots.specs.Dots.{dots_total, exact_dots}
+use Rattle.dac_dots.specs.KeyLaws.{each_member, equal_origins, other_origins}
+use Rattle.dac_dots.proofs.ContextLemmas.{greatest_more, greatest_same, next_is, used_up}
 use Rattle.dac_dots.proofs.context.Context.next.Goals as goal
 use Rattle.dac_dots.proofs.context.Context.next.Goals.{then-eq, else-eq}
 
@@ -12,7 +14,7 @@ loop-dot-preserved c =
 
 pub returns-then-greatest-lt-MOST : goal.returns-then-greatest-lt-MOST
 returns-then-greatest-lt-MOST c =
-    next_is c.args.self.now c.args.origin _ (each_member c.deref-dot-items.result.now c.args.self.now (rw c.deref-dot-items.ensures.value c.self.view_is) (λ d. d.origin ≡ c.args.origin → d.n ≤ c.loop-dot.greatest) _ c.loop-dot-test.false c.loop-dot.invariant.above)
+    next_is c.args.self.now c.args.origin _ (each_member dots_total exact_dots c.deref-dot-items.result.now c.args.self.now (rw c.deref-dot-items.ensures.value c.self.view_is) (λ d. d.origin ≡ c.args.origin → d.n ≤ c.loop-dot.greatest) _ c.loop-dot-test.false c.loop-dot.invariant.above)
     c.loop-dot.invariant.there c.if-greatest-lt-MOST.true
 
 pub returns-else-greatest-lt-MOST : goal.returns-else-greatest-lt-MOST

@@ -1,5 +1,5 @@
 use Rattle.std.proofs.Common.{◌≡◌, ◌∙◌, sym, subst}
-use Rattle.dac_state.specs.StateValue.{StateValue, IsState, join}
+use Rattle.dac_state.specs.StateValue.{IsState, join}
 use Rattle.dac_state.specs.StateLaws.{state_laws}
 use Rattle.dac_state.proofs.state.StateLattice.join.Goals as goal
 
