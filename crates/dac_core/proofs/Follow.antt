@@ -16,7 +16,7 @@ use Rattle.dac_core.specs.declared.world_event.WorldEvent.{WorldEvent}
 use Rattle.dac_core.specs.declared.world_event.What.{What}
 use Rattle.dac_core.specs.declared.world_event.WorldFault.{WorldFault}
 use Rattle.dac_core.specs.declared.world_event.WorldFault.TheVariants.{NoSuchNode, Refused}
-use Rattle.dac_core.specs.declared.node.Change.{Change}
+use Rattle.dac_core.specs.declared.change.Change.{Change}
 use Rattle.dac_core.specs.NodeValue.{NodeValue, RunValue}
 use Rattle.dac_core.specs.ModelNode.{ModelNode, ModelRun, shown, run_shown, refusal_of, model_step, step_by, accepted, Stepped}
 use Rattle.dac_core.specs.Changes.{Prepared, changed, left_by, reply_by}

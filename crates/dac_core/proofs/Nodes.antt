@@ -8,7 +8,7 @@ use Rattle.dac_config.specs.Table.{Table}
 use Rattle.dac_state.specs.StateValue.{StateValue, join, bottom}
 use Rattle.dac_core.specs.declared.event.Event.{Event}
 use Rattle.dac_core.specs.declared.event.Reply.{Reply}
-use Rattle.dac_core.specs.declared.node.Change.{Change}
+use Rattle.dac_core.specs.declared.change.Change.{Change}
 use Rattle.dac_core.specs.NodeValue.{NodeValue, RunValue}
 use Rattle.dac_core.specs.ModelNode.{ModelNode, ModelRun, shown, run_shown, joined, refusal_of, model_step, step_by, accepted, added, reply_on, Stepped, Steps}
 use Rattle.dac_core.specs.Changes.{Prepared, changed, left_by, reply_by, booted, grown}

@@ -9,7 +9,7 @@ use Rattle.dac_core.specs.declared.event.Event.{Event}
 use Rattle.dac_core.specs.declared.event.Reply.{Reply}
 use Rattle.dac_core.specs.declared.event.Reply.TheVariants.{Booted}
 use Rattle.dac_core.specs.NodeValue.{NodeValue, RunValue}
-use Rattle.dac_core.specs.declared.node.Change.{Change}
+use Rattle.dac_core.specs.declared.change.Change.{Change}
 use Rattle.dac_core.specs.ModelNode.{refusal_of, reply_on, added, up}
 
 -- the reply to an accepted event

@@ -4,7 +4,7 @@ use Rattle.std.specs.List.{slice_get}
 use Rattle.std.specs.Option.{option_map}
 use Rattle.dac_base.specs.declared.NodeId.{NodeId}
 use Rattle.dac_core.specs.declared.event.Reply.{Reply}
-use Rattle.dac_core.specs.declared.node.Change.{Change}
+use Rattle.dac_core.specs.declared.change.Change.{Change}
 use Rattle.dac_core.specs.NodeValue.{NodeValue}
 use Rattle.dac_core.specs.Changes.{changed}
 use Rattle.dac_core.specs.WorldValue.{WorldValue}

@@ -16,6 +16,7 @@ pub use refusal::Refusal;
 pub use world::World;
 pub use world_event::{What, WorldEvent, WorldFault};
 
+mod change;
 mod event;
 mod node;
 mod refusal;

@@ -1,10 +1,10 @@
 //! One controller.
 
-ghost use Rattle.std.specs.Prelude.{◌≡◌, ◌<◌, ◌+◌, ◌-◌, ◌^◌, IfOk, IfErr, OnErr, unwrap_or, ℕ};
+ghost use Rattle.std.specs.Prelude.{◌≡◌, IfOk, IfErr, OnErr, unwrap_or};
 ghost use Rattle.dac_config.specs.Table.{Table};
-ghost use Rattle.dac_core.specs.ModelNode.{refusal_off as refused_off, refusal_on, up};
-ghost use Rattle.dac_core.specs.Changes.{booted, Effect};
+ghost use Rattle.dac_core.specs.ModelNode.{refusal_off as refused_off};
 
+use crate::change::Change;
 use crate::event::{Event, Message, Reply};
 use crate::refusal::Refusal;
 use crate::running::Running;
@@ -34,15 +34,6 @@ impl Model for Node {
     ghost coded = { coded_node_value };
 
     ghost view = { λ a. record { last = a.last; run = a.run } };
-}
-
-/// What an accepted event does: the number of the last incarnation from then on, what runs where that
-/// changes, and the reply.
-#[derive(Drop)]
-pub(crate) struct Change {
-    pub(crate) last: u32,
-    pub(crate) run: Option<Running>,
-    pub(crate) reply: Reply,
 }
 
 impl Node {
@@ -136,8 +127,8 @@ impl Node {
             return Err(why);
         }
         match &self.run {
-            None => Ok(boot(self.alloc, self_id, self.last)?),
-            Some(run) => Ok(effect_on(self.last, run, event)?),
+            None => Ok(Change::boot(self.alloc, self_id, self.last)?),
+            Some(run) => Ok(Change::of(self.last, run, event)?),
         }
     }
 
@@ -152,7 +143,7 @@ impl Node {
         if let Some(why) = run.refusal_to_hear(message) {
             return Err(why);
         }
-        Ok(hear(self.last, run, message)?)
+        Ok(Change::hear(self.last, run, message)?)
     }
 
     /// Does what was prepared.
@@ -177,72 +168,5 @@ fn refusal_off(last: u32, event: &Event) -> Option<Refusal>
         Event::Boot { now: _ } if last == u32::MAX => Some(Refusal::IncarnationsUsedUp),
         Event::Boot { now: _ } => None,
         _ => Some(Refusal::Off),
-    }
-}
-
-/// A controller that is off comes up as this node.
-fn boot(alloc: Global, node: NodeId, last: u32) -> Result<Change, NoMemory>
-    requires { last < 2 ^ 32 - 1 }
-    ensures last { IfOk result (λ change. change.last ≡ last + 1) }
-    ensures run { IfOk result (λ change. change.run ≡ Some (booted (record { node = node; inc = last + 1 }))) }
-    ensures reply { IfOk result (λ change. change.reply ≡ Reply.Booted (up (record { node = node; inc = last + 1 }))) }
-{
-    let origin = Origin {
-        node,
-        inc: last + 1,
-    };
-    let (run, operation) = Running::boot(alloc, origin)?;
-    Ok(Change {
-        last: last + 1,
-        run: Some(run),
-        reply: Reply::Booted(operation),
-    })
-}
-
-/// What an event that isn't refused does at a running controller.
-fn effect_on(last: u32, run: &Running, event: &Event) -> Result<Change, NoMemory>
-    requires { (t : Table) × (refusal_on t run.now.origin run.now.state event.now ≡ None) }
-    ensures { IfOk result (Effect last run.now event.now) }
-{
-    match event {
-        Event::Boot { now: _ } => unreachable!(),
-        Event::Command(command) => {
-            let (run, operation) = run.command(*command)?;
-            Ok(Change {
-                last,
-                run: Some(run),
-                reply: Reply::Issued(operation),
-            })
-        }
-        Event::Ship { to } => {
-            let message = run.ship(*to)?;
-            Ok(Change {
-                last,
-                run: None,
-                reply: Reply::Shipped(message),
-            })
-        }
-        Event::Hear(message) => {
-            let change = hear(last, run, message)?;
-            Ok(change)
-        }
-    }
-}
-
-/// What a message that isn't refused does at a running controller.
-fn hear(last: u32, run: &Running, message: &Message) -> Result<Change, NoMemory>
-    ensures { IfOk result (Effect last run.now (Event.Hear message.now)) }
-{
-    match run.hear(&message.body)? {
-        None => Ok(Change {
-            last,
-            run: None,
-            reply: Reply::Heard(false),
-        }),
-        Some(more) => Ok(Change {
-            last,
-            run: Some(more),
-            reply: Reply::Heard(true),
-        }),
     }
 }

@@ -3,8 +3,9 @@
 ghost use Rattle.std.specs.Prelude.{◌≡◌, ◌<◌, ◌++◌, IfOk, OnOk, vec_len, vec_capacity};
 ghost use Rattle.dac_core.specs.ModelWorld.{issued_by, shipped_by};
 
+use crate::change::Change;
 use crate::event::{Event, Message, Reply};
-use crate::node::{Change, Node};
+use crate::node::Node;
 use crate::refusal::Refusal;
 use crate::world_event::{What, WorldEvent, WorldFault};
 use dac_base::{NoMemory, NodeId};
@@ -69,6 +70,7 @@ impl World {
     ) -> Result<(World, Vec<Result<Reply, WorldFault>>), NoMemory>
         ensures run { IfOk result (λ both. RanAs config.now events.now both.1.items both.0) }
         ensures answers { IfOk result (λ both. length both.1.items ≡ length events.now) }
+        ensures count { IfOk result (λ both. length both.0.nodes ≡ node_count config.now) }
 
         // Each running controller's state is the meaning of the issued operations whose dots it has heard.
         ensures headline { IfOk result (λ both. EachIsMeaning both.0) }
@@ -118,14 +120,14 @@ impl World {
     pub fn operations(&self) -> &[Op]
         ensures { result.now ≡ self.now.operations }
     {
-        &self.operations
+        self.operations.as_slice()
     }
 
     /// The messages that were shipped, in the order of shipping.
     pub fn messages(&self) -> &[Message]
         ensures { result.now ≡ self.now.messages }
     {
-        &self.messages
+        self.messages.as_slice()
     }
 
     /// An event at a node.

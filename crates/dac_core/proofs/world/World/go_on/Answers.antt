@@ -2,7 +2,7 @@ use Rattle.std.proofs.Common.{◌≡◌, ◌<◌, ◌++◌, ap, sym, subst, ◌�
 use Rattle.std.specs.List.{slice_get}
 use Rattle.std.proofs.Math.ListN.{length-set}
 use Rattle.dac_core.specs.declared.event.Reply.{Reply}
-use Rattle.dac_core.specs.declared.node.Change.{Change}
+use Rattle.dac_core.specs.declared.change.Change.{Change}
 use Rattle.dac_core.specs.NodeValue.{NodeValue}
 use Rattle.dac_core.specs.Changes.{changed}
 use Rattle.dac_core.specs.WorldValue.{WorldValue}

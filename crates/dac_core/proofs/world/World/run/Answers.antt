@@ -18,6 +18,7 @@ loop-event-preserved c =
     let ran = ran_turn c.args.config.now c.args.events.now c.loop-event.event-index c.loop-event.answers.items c.loop-event.world c.step-answer.new.self e c.step-answer.result c.step-answer.ensures.follows c.loop-event-test.true (get_or_default c.args.events.now c.loop-event.event-index _ _ c.loop-event-test.true) c.loop-event.invariant.ran in
     record {
       ran = rw (c.push.ensures.items, ok) ran;
+      count = c.step-answer.ensures.count ∙ c.loop-event.invariant.count;
       as_many = c.push.ensures.len ∙ (ap (λ b. cond b (vec_len c.loop-event.answers + 1) (vec_len c.loop-event.answers)) ok ∙ ap (λ n. n + 1) c.loop-event.invariant.as_many);
       room = search rules;
     }
