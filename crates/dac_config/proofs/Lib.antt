@@ -1,2 +1,5 @@
 pub mod Tables
 pub mod Copies
+pub mod Names
+pub mod Numbers
+pub mod Apps

@@ -7,8 +7,8 @@
 #![tactic(auto)]
 
 mod config;
-mod sync_wait;
+mod draft;
 
 pub use config::Config;
 pub use dac_base::{AppId, NoMemory, NodeId};
-pub use sync_wait::SyncWait;
+pub use draft::SyncWait;
