@@ -1,0 +1,18 @@
+//! Dots, the names of operations, and causal contexts, the sets of dots that a replica has heard of.
+//!
+//! Each operation that a node issues has a dot: the node, its incarnation and a counter from 1. The sets
+//! are after the causal contexts of delta-state replicated data types. Contracts see a context as a
+//! finite set of dots and nothing of how it is kept, so this crate promises the sets' own laws: what a
+//! set contains, that equal sets are equal values, and which dot of an origin comes next.
+//!
+//! A context is kept as one sorted list: a look-up takes a binary search, an insertion moves the dots
+//! above it, and a union inserts each dot of the other set.
+#![tactic(auto)]
+
+pub use context::Context;
+pub use dot::{Dot, Origin};
+pub use keys::MapKey;
+
+mod context;
+mod dot;
+pub mod keys;

@@ -1,0 +1,6 @@
+pub mod Laws
+pub mod Joins
+pub mod Chains
+pub mod Entries
+pub mod Search
+pub mod Maps

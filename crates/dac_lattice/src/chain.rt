@@ -1,0 +1,55 @@
+//! The greatest of totally ordered values.
+ghost use Rattle.std.specs.Prelude.{◌≡◌, ◌↔◌, IsTrue, IfOk};
+
+use crate::Lattice;
+use dac_base::NoMemory;
+use dac_dots::MapKey;
+
+/// The greatest value seen. The order is that of the values, and a join takes the greater of two.
+#[derive(Clone, Copy, Debug)]
+pub struct Max<T> {
+    /// The greatest value seen.
+    pub value: T,
+}
+
+impl<T: MapKey> Max<T> {
+    /// This value, as the greatest one seen.
+    pub fn new(value: T) -> Self
+        ensures { result ≡ record { value = value } }
+    {
+        Max { value }
+    }
+}
+
+impl<T: MapKey> Lattice for Max<T> {
+    ghost use Rattle.std.specs.Prelude.{refl};
+    ghost use Rattle.std.specs.Ordering.{ord_max};
+    ghost use Rattle.dac_lattice.specs.Chains.{IsAny, IsAtMost, chain_laws};
+    ghost use Rattle.dac_lattice.specs.Laws.{wrapped_laws};
+
+    ghost is_value = { IsAny };
+
+    ghost below = { λ x y. IsAtMost T.cmp x.value y.value };
+
+    ghost join = { λ x y. record { value = ord_max T.cmp x.value y.value } };
+
+    ghost laws = { wrapped_laws (λ m. m.value) (λ v. record { value = v }) (λ _. refl) (λ _. refl) (chain_laws T.total T.exact) };
+
+    fn known(&self) {}
+
+    fn join(&self, other: &Self) -> Result<Self, NoMemory> {
+        Ok(Max::new(self.value.max(other.value)))
+    }
+
+    fn leq(&self, other: &Self) -> bool {
+        self.value.cmp(&other.value).is_le()
+    }
+
+    fn equal(&self, other: &Self) -> bool {
+        self.value.cmp(&other.value).is_eq()
+    }
+
+    fn copy(&self) -> Result<Self, NoMemory> {
+        Ok(*self)
+    }
+}

@@ -1,0 +1,152 @@
+//! Maps whose values are a lattice.
+ghost use Rattle.std.specs.Prelude.{◌≡◌, ◌↔◌, [], ◌∷◌, IsTrue, IfOk, Some};
+ghost use Rattle.std.specs.Option.{option_copied};
+ghost use Rattle.std.specs.FinMap.{find};
+ghost use Rattle.dac_lattice.specs.Laws.{IsWithin};
+
+use crate::merging::{Combine, merge, value_at};
+use crate::{Bottom, Lattice};
+use dac_base::NoMemory;
+use dac_dots::MapKey;
+use std::alloc::Global;
+use std::marker::Model;
+
+/// A map from keys to values of a lattice. Its order and its join are those of the values at each key,
+/// where no value is below every value. Contracts see it as the list of its entries in the order of the
+/// keys.
+#[derive(Drop)]
+pub struct MapOf<K: MapKey, L: Lattice> {
+    entries: Vec<(K, L)>,
+}
+
+impl<K: MapKey, L: Lattice> Model for MapOf<K, L> {
+    ghost use Rattle.std.specs.Prelude.{List};
+    ghost use Rattle.dac_lattice.specs.Maps.{IsMap};
+
+    ghost Value = { List (K × L) };
+
+    ghost view = { λ m. m.entries.items };
+
+    ghost invariant = { λ m. IsMap K.cmp L.is_value m.entries.items };
+}
+
+impl<K: MapKey, L: Lattice> MapOf<K, L> {
+    /// The map that has this value at this key, and no other key. [`NoMemory`] is the only error.
+    pub fn one(alloc: Global, key: K, value: L) -> Result<Self, NoMemory>
+        ensures { IfOk result (λ map. map ≡ (key, value) ∷ []) }
+    {
+        value.known();
+        let mut entries = Vec::new(alloc);
+        entries.push((key, value))?;
+        Ok(MapOf { entries })
+    }
+
+    /// The value at a key, if there is one.
+    pub fn get(&self, key: K) -> Option<&L>
+        ensures { option_copied result ≡ find K.cmp key self.now }
+    {
+        value_at(&self.entries, key)
+    }
+}
+
+/// Whether a value is below what is at a key.
+fn is_within<L: Lattice>(mine: &L, theirs: Option<&L>) -> bool
+    ensures { IsTrue result ↔ IsWithin L.below (Some mine.now) (option_copied theirs.entry) }
+{
+    match theirs {
+        Some(theirs) => mine.leq(theirs),
+        None => false,
+    }
+}
+
+/// Keeps the value of a key that one of two maps has, and joins the two of a key that both have.
+struct JoinValues;
+
+impl<K: MapKey, L: Lattice> Combine<K, L> for JoinValues {
+    ghost use Rattle.dac_lattice.specs.Laws.{join_options};
+
+    ghost combined = { λ _ _. join_options L.join };
+
+    fn left(&self, _key: K, mine: &L) -> Result<Option<L>, NoMemory> {
+        Ok(Some(mine.copy()?))
+    }
+
+    fn right(&self, _key: K, theirs: &L) -> Result<Option<L>, NoMemory> {
+        Ok(Some(theirs.copy()?))
+    }
+
+    fn both(&self, _key: K, mine: &L, theirs: &L) -> Result<Option<L>, NoMemory> {
+        Ok(Some(mine.join(theirs)?))
+    }
+}
+
+impl<K: MapKey, L: Lattice> Lattice for MapOf<K, L> {
+    ghost use Rattle.dac_lattice.specs.Maps.{IsMap, IsMapBelow, join_maps, map_laws};
+
+    ghost is_value = { IsMap K.cmp L.is_value };
+
+    ghost below = { IsMapBelow K.cmp L.below };
+
+    ghost join = { join_maps K.cmp L.join };
+
+    ghost laws = { map_laws K.total K.exact L.laws };
+
+    fn known(&self) {
+        let _entries = &self.entries;
+    }
+
+    fn join(&self, other: &Self) -> Result<Self, NoMemory> {
+        let entries = merge(
+            *self.entries.allocator(),
+            &JoinValues,
+            &self.entries,
+            &other.entries,
+        )?;
+        Ok(MapOf { entries })
+    }
+
+    fn leq(&self, other: &Self) -> bool {
+        for (key, value) in &self.entries {
+            if !is_within(value, other.get(*key)) {
+                return false;
+            }
+        }
+        true
+    }
+
+    fn equal(&self, other: &Self) -> bool {
+        if self.entries.len() != other.entries.len() {
+            return false;
+        }
+        for i in 0..self.entries.len() {
+            let (x, a) = &self.entries[i];
+            let (y, b) = &other.entries[i];
+            if x != y || !a.equal(b) {
+                return false;
+            }
+        }
+        true
+    }
+
+    fn copy(&self) -> Result<Self, NoMemory> {
+        let mut entries = Vec::new(*self.entries.allocator());
+        for (key, value) in &self.entries {
+            entries.push((*key, value.copy()?))?;
+        }
+        Ok(MapOf { entries })
+    }
+}
+
+impl<K: MapKey, L: Lattice> Bottom for MapOf<K, L> {
+    ghost bottom = { [] };
+
+    ghost least = { λ x v k. tt };
+
+    ghost bottom_value = { record { in_order = tt; values = λ k. tt } };
+
+    fn bottom(alloc: Global) -> Self {
+        MapOf {
+            entries: Vec::new(alloc),
+        }
+    }
+}

@@ -1,0 +1,30 @@
+-- What a reader of the code answers, beside what reading gives on lists.
+use Rattle.std.specs.Prelude.{◌≡◌, Result, Ok, Err}
+use Rattle.dac_tokens.specs.declared.fault.FaultKind.{FaultKind}
+use Rattle.dac_tokens.specs.declared.fault.FaultKind.TheVariants.{NoMemory}
+use Rattle.dac_tokens.specs.declared.fault.ConfigFault.{ConfigFault}
+
+-- one reading after another; the first fault is the fault of both
+infixl 10 ◌>>=◌
+abbrev pub ◌>>=◌ : {A B : Type 0} → Result A ConfigFault → (A → Result B ConfigFault) → Result B ConfigFault
+(Ok x) >>= f = f x
+(Err e) >>= f = Err e
+
+-- what a function returned that takes no memory is, seen by view, what reading gives
+abbrev pub Reads : {X Y : Type 0} → (X → Y) → Result X ConfigFault → Result Y ConfigFault → Type 0
+Reads view (Ok x) read = read ≡ Ok (view x)
+Reads view (Err e) read = read ≡ Err e
+
+-- a claim about any kind of fault but want of memory
+abbrev pub UnlessMemory : FaultKind → Type 0 → Type 0
+UnlessMemory NoMemory P = Unit {0}
+UnlessMemory _ P = P
+
+-- reading has this fault, unless it is want of memory, which says nothing of the text
+abbrev pub Fails : {Y : Type 0} → ConfigFault → Result Y ConfigFault → Type 0
+Fails e read = UnlessMemory e.kind (read ≡ Err e)
+
+-- what a function returned is, seen by view, what reading gives, unless memory ran out
+abbrev pub Gives : {X Y : Type 0} → (X → Y) → Result X ConfigFault → Result Y ConfigFault → Type 0
+Gives view (Ok x) read = read ≡ Ok (view x)
+Gives view (Err e) read = Fails e read

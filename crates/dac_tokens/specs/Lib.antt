@@ -1,0 +1,5 @@
+pub mod Faults
+pub mod Gives
+pub mod Scan
+pub mod Stream
+pub mod Words

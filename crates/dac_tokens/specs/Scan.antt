@@ -1,0 +1,95 @@
+-- The tokens of a text, one at a time, as they are read.
+use Rattle.std.specs.Prelude.{ℕ, Bool, true, false, ◌&&◌, ◌||◌, List, [], ◌∷◌, length, take, drop, Result, Ok, Err, nat_le, ◌==◌, if◌then◌else◌, codes}
+use Rattle.std.specs.Str.{bytes_eq}
+use Rattle.std.specs.List.{take_while}
+use Rattle.std.specs.Char.{is_ascii_digit, is_ascii_alphanumeric}
+use Rattle.dac_tokens.specs.declared.fault.FaultKind.TheVariants.{BadToken, Unsupported}
+use Rattle.dac_tokens.specs.declared.fault.ConfigFault.{ConfigFault}
+use Rattle.dac_tokens.specs.declared.token.Symbol.TheVariants.{OpenList, CloseList, OpenTuple, CloseTuple, Comma, FullStop}
+use Rattle.dac_tokens.specs.declared.token.Class.{Class}
+use Rattle.dac_tokens.specs.declared.token.Class.TheVariants as class
+use Rattle.dac_tokens.specs.Words.{Word, Mark, Name, Number, End}
+
+-- how many bytes at the front pass
+abbrev pub run : (ℕ → Bool) → List ℕ → ℕ
+run passes bs = length (take_while passes bs)
+
+-- a space, or a control character below it
+abbrev pub is_blank : ℕ → Bool
+is_blank b = nat_le b 32
+
+-- the bytes from the first that is no blank
+abbrev pub after_blanks : List ℕ → List ℕ
+after_blanks bs = drop (run is_blank bs) bs
+
+-- what may begin with a byte
+abbrev pub class_of : ℕ → Class
+class_of b =
+    if b == 91 then class.Bracket OpenList
+    else (if b == 93 then class.Bracket CloseList
+    else (if b == 123 then class.Bracket OpenTuple
+    else (if b == 125 then class.Bracket CloseTuple
+    else (if b == 44 then class.Comma
+    else (if b == 46 then class.Dot
+    else (if b == 45 then class.Minus
+    else (if nat_le 97 b && nat_le b 122 then class.Letter
+    else (if nat_le 48 b && nat_le b 57 then class.Digit
+    else (if b == 39 || b == 34 || b == 37 || b == 60 || b == 35 || b == 36 || b == 43 || b == 126 || b == 124 || nat_le 128 b then class.Refused
+    else class.Unknown)))))))))
+
+-- what a bare atom may go on with
+abbrev pub is_name_byte : ℕ → Bool
+is_name_byte b = is_ascii_alphanumeric b || b == 95 || b == 64
+
+-- a full stop's dot has a blank, a comment or the end behind it
+abbrev pub ends_stop : List ℕ → Bool
+ends_stop [] = true
+ends_stop (b ∷ bs) = nat_le b 32 || b == 37
+
+-- a number has no base, underscore or fraction behind it
+abbrev pub breaks_number : List ℕ → Bool
+breaks_number [] = false
+breaks_number (b ∷ []) = b == 35 || b == 95
+breaks_number (b ∷ c ∷ bs) = b == 35 || b == 95 || (b == 46 && is_ascii_digit c)
+
+-- the bare word that is no atom
+abbrev pub is_fun : List ℕ → Bool
+is_fun name = bytes_eq name (codes "fun")
+
+abbrev pub bad_token : {A : Type 0} → ℕ → Result A ConfigFault
+bad_token at = Err (record { kind = BadToken; at = at })
+
+abbrev pub unsupported : {A : Type 0} → ℕ → Result A ConfigFault
+unsupported at = Err (record { kind = Unsupported; at = at })
+
+-- the bare atom at the front, which begins at `at`: the longest run of its bytes
+abbrev pub atom_at : ℕ → List ℕ → Result (Word × List ℕ) ConfigFault
+atom_at at bs =
+    let n = run is_name_byte bs in
+    if is_fun (take n bs) then unsupported at else Ok (Name (take n bs), drop n bs)
+
+-- the digits at the front, of a number that begins at `at`
+abbrev pub number_at : ℕ → Bool → List ℕ → Result (Word × List ℕ) ConfigFault
+number_at at negative bs =
+    let n = run is_ascii_digit bs in
+    if breaks_number (drop n bs) then unsupported at else Ok (Number negative (take n bs), drop n bs)
+
+-- the digits behind a minus at `at`
+abbrev pub negative_at : ℕ → List ℕ → Result (Word × List ℕ) ConfigFault
+negative_at at bs = if run is_ascii_digit bs == 0 then bad_token at else number_at at true bs
+
+-- the token that begins with the byte b of this class, at `at`, and bs behind it
+abbrev pub token_of : Class → ℕ → ℕ → List ℕ → Result (Word × List ℕ) ConfigFault
+token_of (class.Bracket symbol) at b bs = Ok (Mark symbol, bs)
+token_of class.Comma at b bs = Ok (Mark Comma, bs)
+token_of class.Dot at b bs = if ends_stop bs then Ok (Mark FullStop, bs) else bad_token at
+token_of class.Letter at b bs = atom_at at (b ∷ bs)
+token_of class.Digit at b bs = number_at at false (b ∷ bs)
+token_of class.Minus at b bs = negative_at at bs
+token_of class.Refused at b bs = unsupported at
+token_of class.Unknown at b bs = bad_token at
+
+-- the token at the front, with no blank before it, and the bytes after it
+unfoldable pub word_at : ℕ → List ℕ → Result (Word × List ℕ) ConfigFault
+word_at at [] = Ok (End, [])
+word_at at (b ∷ bs) = token_of (class_of b) at b bs

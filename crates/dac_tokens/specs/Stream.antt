@@ -1,0 +1,62 @@
+-- A text as the list of its tokens.
+use Rattle.std.specs.Prelude.{ℕ, zero, suc, ◌+◌, ◌-◌, List, [], ◌∷◌, length, Result, Ok, Err, nat_le, if◌then◌else◌}
+use Rattle.dac_tokens.specs.declared.fault.ConfigFault.{ConfigFault}
+use Rattle.dac_tokens.specs.declared.token.Symbol.TheVariants.{OpenList, CloseList, OpenTuple, CloseTuple, Comma, FullStop}
+use Rattle.dac_tokens.specs.Words.{Word, Mark, Name, Number, End, is_end, Located}
+use Rattle.dac_tokens.specs.Gives.{◌>>=◌}
+use Rattle.dac_tokens.specs.Scan.{after_blanks, word_at, unsupported}
+
+-- how many brackets are open after a token at `at`, where `depth` were before it: at most 64
+abbrev pub opened : ℕ → ℕ → Result ℕ ConfigFault
+opened at depth = if nat_le 64 depth then unsupported at else Ok (depth + 1)
+
+abbrev pub depth_after : ℕ → ℕ → Word → Result ℕ ConfigFault
+depth_after at depth (Mark OpenList) = opened at depth
+depth_after at depth (Mark OpenTuple) = opened at depth
+depth_after at depth (Mark CloseList) = Ok (depth - 1)
+depth_after at depth (Mark CloseTuple) = Ok (depth - 1)
+depth_after at depth (Mark Comma) = Ok depth
+depth_after at depth (Mark FullStop) = Ok depth
+depth_after at depth (Name name) = Ok depth
+depth_after at depth (Number negative digits) = Ok depth
+depth_after at depth End = Ok depth
+
+-- The first token of the bytes, which stand before the offset `end`, with `depth` brackets open: the token,
+-- the depth after it and the bytes after it.
+unfoldable pub token_from : ℕ → ℕ → List ℕ → Result (Located × ℕ × List ℕ) ConfigFault
+token_from end depth bytes = do
+  let rest = after_blanks bytes
+  let at = end - length rest
+  word ← word_at at rest
+  after ← depth_after at depth word.0
+  Ok (record { word = word.0; at = at }, after, word.1)
+
+-- the tokens of a text up to the end or the first token with a fault of its own, and what is there
+pub record Stream : Type 0 where
+  pub tokens : List Located
+  pub last : Result Located ConfigFault
+
+-- what was read first, and the tokens after it
+abbrev pub and_then : Result (Located × ℕ × List ℕ) ConfigFault → (ℕ → List ℕ → Stream) → Stream
+and_then (Err e) rest = record { tokens = []; last = Err e }
+and_then (Ok first) rest =
+    if is_end first.0.word then record { tokens = []; last = Ok first.0 }
+    else record { tokens = first.0 ∷ (rest first.1 first.2).tokens; last = (rest first.1 first.2).last }
+
+-- at most n tokens
+unfoldable pub tokens_within : ℕ → ℕ → ℕ → List ℕ → Stream
+tokens_within zero end depth bytes = record { tokens = []; last = Ok (record { word = End; at = end }) }
+tokens_within (suc n) end depth bytes = and_then (token_from end depth bytes) (tokens_within n end)
+
+-- the tokens of the bytes, which stand before the offset `end`, with `depth` brackets open
+unfoldable pub tokens_of : ℕ → ℕ → List ℕ → Stream
+tokens_of end depth bytes = tokens_within (suc (length bytes)) end depth bytes
+
+abbrev pub taken_of : List Located → Result Located ConfigFault → Result (Located × Stream) ConfigFault
+taken_of [] (Err e) = Err e
+taken_of [] (Ok t) = Ok (t, record { tokens = []; last = Ok t })
+taken_of (t ∷ ts) last = Ok (t, record { tokens = ts; last = last })
+
+-- the first token of a stream, and the stream after it; behind the end stands the end
+abbrev pub taken : Stream → Result (Located × Stream) ConfigFault
+taken s = taken_of s.tokens s.last

@@ -1,0 +1,149 @@
+//! One token, from the bytes that begin with it.
+
+ghost use Rattle.std.specs.Prelude.{◌≡◌, ◌+◌, ◌^◌, ◌<◌, ◌≤◌, length, take, drop};
+ghost use Rattle.std.specs.Char.{is_ascii_digit};
+ghost use Rattle.dac_tokens.specs.Gives.{Reads};
+ghost use Rattle.dac_tokens.specs.Scan.{is_blank, after_blanks, class_of, is_name_byte, run, ends_stop, breaks_number, atom_at, number_at, negative_at, word_at};
+ghost use Rattle.dac_tokens.specs.Words.{word_of};
+
+use crate::fault::{ConfigFault, FaultKind};
+use crate::token::{Class, Symbol, Token};
+
+pub fn fault(kind: FaultKind, at: usize) -> ConfigFault
+    ensures { result ≡ record { kind = kind; at = at } }
+{
+    ConfigFault { kind, at }
+}
+
+fn blanks_len(bytes: &[u8]) -> usize
+    ensures length { result ≡ run is_blank bytes.now }
+    ensures within { result ≤ length bytes.now }
+{
+    bytes.iter().take_while(|b| **b <= b' ').count()
+}
+
+/// The bytes from the first that is no blank.
+pub fn after_blanks(bytes: &[u8]) -> &[u8]
+    ensures rest { result.now ≡ after_blanks bytes.now }
+    ensures within { length result.now ≤ length bytes.now }
+{
+    let (_blanks, rest) = bytes.split_at(blanks_len(bytes));
+    rest
+}
+
+/// What may begin with a byte. Quotes and the percent sign are refused as long as quoted atoms, strings
+/// and comments aren't read.
+fn class_of(b: u8) -> Class
+    ensures { result ≡ class_of b }
+{
+    match b {
+        b'[' => Class::Bracket(Symbol::OpenList),
+        b']' => Class::Bracket(Symbol::CloseList),
+        b'{' => Class::Bracket(Symbol::OpenTuple),
+        b'}' => Class::Bracket(Symbol::CloseTuple),
+        b',' => Class::Comma,
+        b'.' => Class::Dot,
+        b'-' => Class::Minus,
+        b'a'..=b'z' => Class::Letter,
+        b'0'..=b'9' => Class::Digit,
+        b'\'' | b'"' | b'%' | b'<' | b'#' | b'$' | b'+' | b'~' | b'|' | 0x80.. => Class::Refused,
+        _ => Class::Unknown,
+    }
+}
+
+fn is_name_byte(b: u8) -> bool
+    ensures { result ≡ is_name_byte b }
+{
+    b.is_ascii_alphanumeric() || b == b'_' || b == b'@'
+}
+
+fn name_len(bytes: &[u8]) -> usize
+    ensures length { result ≡ run is_name_byte bytes.now }
+    ensures within { result ≤ length bytes.now }
+{
+    bytes.iter().take_while(|b| is_name_byte(**b)).count()
+}
+
+fn digits_len(bytes: &[u8]) -> usize
+    ensures length { result ≡ run is_ascii_digit bytes.now }
+    ensures within { result ≤ length bytes.now }
+{
+    bytes.iter().take_while(|b| b.is_ascii_digit()).count()
+}
+
+/// Whether a dot with these bytes behind it is a full stop.
+fn ends_stop(bytes: &[u8]) -> bool
+    ensures { result ≡ ends_stop bytes.now }
+{
+    match bytes {
+        [] => true,
+        [b, ..] => *b <= b' ' || *b == b'%',
+    }
+}
+
+/// Whether digits with these bytes behind them would go on as a fraction, in a base or after an underscore.
+fn breaks_number(bytes: &[u8]) -> bool
+    ensures { result ≡ breaks_number bytes.now }
+{
+    match bytes {
+        [] => false,
+        [b] => *b == b'#' || *b == b'_',
+        [b, c, ..] => *b == b'#' || *b == b'_' || *b == b'.' && c.is_ascii_digit(),
+    }
+}
+
+fn atom_at(at: usize, bytes: &[u8]) -> Result<(Token<'_>, &[u8]), ConfigFault>
+    ensures { Reads (λ x. (word_of x.0, x.1.now)) result (atom_at at bytes.now) }
+{
+    let (name, rest) = bytes.split_at(name_len(bytes));
+    if name == b"fun".as_slice() {
+        return Err(fault(FaultKind::Unsupported, at));
+    }
+    Ok((Token::Atom(name), rest))
+}
+
+fn number_at(at: usize, negative: bool, bytes: &[u8]) -> Result<(Token<'_>, &[u8]), ConfigFault>
+    ensures { Reads (λ x. (word_of x.0, x.1.now)) result (number_at at negative bytes.now) }
+{
+    let (digits, rest) = bytes.split_at(digits_len(bytes));
+    if breaks_number(rest) {
+        return Err(fault(FaultKind::Unsupported, at));
+    }
+    Ok((Token::Number { negative, digits }, rest))
+}
+
+/// The number at `at` whose minus stands before the bytes.
+fn negative_at(at: usize, bytes: &[u8]) -> Result<(Token<'_>, &[u8]), ConfigFault>
+    ensures { Reads (λ x. (word_of x.0, x.1.now)) result (negative_at at bytes.now) }
+{
+    if digits_len(bytes) == 0 {
+        return Err(fault(FaultKind::BadToken, at));
+    }
+    number_at(at, true, bytes)
+}
+
+/// The token at the front of bytes that begin at `at` with no blank before it, and the bytes behind it.
+#[tactic(auto, unfolding(crate::specs::Scan::word_at))]
+pub fn token_at(at: usize, bytes: &[u8]) -> Result<(Token<'_>, &[u8]), ConfigFault>
+    requires { at + length bytes.now < 2 ^ 64 }
+    ensures { Reads (λ x. (word_of x.0, x.1.now)) result (word_at at bytes.now) }
+{
+    let [b, rest @ ..] = bytes else {
+        return Ok((Token::End, bytes));
+    };
+    match class_of(*b) {
+        Class::Bracket(symbol) => Ok((Token::Symbol(symbol), rest)),
+        Class::Comma => Ok((Token::Symbol(Symbol::Comma), rest)),
+        Class::Dot => {
+            if !ends_stop(rest) {
+                return Err(fault(FaultKind::BadToken, at));
+            }
+            Ok((Token::Symbol(Symbol::FullStop), rest))
+        }
+        Class::Letter => atom_at(at, bytes),
+        Class::Digit => number_at(at, false, bytes),
+        Class::Minus => negative_at(at, rest),
+        Class::Refused => Err(fault(FaultKind::Unsupported, at)),
+        Class::Unknown => Err(fault(FaultKind::BadToken, at)),
+    }
+}

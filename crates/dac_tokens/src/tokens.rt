@@ -1,0 +1,102 @@
+//! The tokens of a text, one after another.
+
+ghost use Rattle.std.specs.Prelude.{◌≡◌, ◌≤◌, length, false, ◌<◌, IfOk, IfErr, OnErr};
+ghost use Rattle.dac_tokens.specs.Gives.{Gives, Reads};
+ghost use Rattle.dac_tokens.specs.Faults.{IsTokenFault};
+ghost use Rattle.dac_tokens.specs.Stream.{depth_after, token_from, taken, tokens_of};
+ghost use Rattle.dac_tokens.specs.Words.{is_end, located_of, word_of};
+
+use crate::fault::{ConfigFault, FaultKind};
+use crate::scan::{after_blanks, fault, token_at};
+use crate::token::{Located, MAX_DEPTH, Symbol, Token};
+use std::marker::Model;
+
+/// How many brackets are open behind a token at `at`, with `depth` open before it.
+fn depth_after(at: usize, depth: usize, token: &Token<'_>) -> Result<usize, ConfigFault>
+    requires { depth ≤ 64 }
+    ensures after { Reads (λ x. x) result (depth_after at depth (word_of token.now)) }
+    ensures within { IfOk result (λ x. x ≤ 64) }
+{
+    match token {
+        Token::Symbol(Symbol::OpenList | Symbol::OpenTuple) => {
+            if depth >= MAX_DEPTH {
+                return Err(fault(FaultKind::Unsupported, at));
+            }
+            Ok(depth + 1)
+        }
+        Token::Symbol(Symbol::CloseList | Symbol::CloseTuple) => Ok(depth.saturating_sub(1)),
+        _ => Ok(depth),
+    }
+}
+
+/// The first token of the bytes, which stand before the offset `end`; the depth and the bytes behind it.
+#[tactic(auto, unfolding(crate::specs::Stream::token_from))]
+fn token_from(
+    end: usize,
+    depth: usize,
+    bytes: &[u8],
+) -> Result<(Located<'_>, usize, &[u8]), ConfigFault>
+    requires depth { depth ≤ 64 }
+    requires within { length bytes.now ≤ end }
+    ensures first { Reads (λ x. (located_of x.0, x.1, x.2.now)) result (token_from end depth bytes.now) }
+    ensures depth { IfOk result (λ x. x.1 ≤ 64) }
+    ensures within { IfOk result (λ x. length x.2.now ≤ end) }
+{
+    let bytes = after_blanks(bytes);
+    let at = end - bytes.len();
+    let (token, rest) = token_at(at, bytes)?;
+    let depth = depth_after(at, depth, &token)?;
+    Ok((Located { token, at }, depth, rest))
+}
+
+/// The tokens that are left of a text: contracts see their list, up to the end or the first fault, and
+/// what stands there.
+#[derive(Drop)]
+pub struct Tokens<'a> {
+    rest: &'a [u8],
+    end: usize,
+    depth: usize,
+}
+
+impl<'a> Model for Tokens<'a> {
+    ghost use Rattle.std.specs.Prelude.{◌≤◌, length};
+    ghost use Rattle.dac_tokens.specs.Stream.{Stream, tokens_of};
+
+    ghost Value = { Stream };
+
+    ghost view = { λ t. tokens_of t.end t.depth t.rest.now };
+
+    ghost invariant = { λ t. (length t.rest.now ≤ t.end) × (t.depth ≤ 64) };
+}
+
+impl<'a> Tokens<'a> {
+    /// The tokens of a text, whatever its length.
+    pub fn new(text: &'a [u8]) -> Self
+        ensures { result ≡ tokens_of (length text.now) 0 text.now }
+    {
+        Tokens {
+            rest: text,
+            end: text.len(),
+            depth: 0,
+        }
+    }
+
+    /// The next token; behind the end stands the end again.
+    ///
+    /// # Errors
+    ///
+    /// Where no token begins, `BadToken` or `Unsupported` at the first byte of what stands there, by the
+    /// table of tokens; then nothing is taken, and the next call answers the same.
+    pub fn next(&mut self) -> Result<Located<'a>, ConfigFault>
+        ensures taken { Gives (λ x. (located_of x, self.new)) result (taken self.old) }
+        ensures fault { IfErr result (λ e. IsTokenFault e.kind) }
+        ensures left { length self.new.tokens ≤ length self.old.tokens }
+        ensures fewer { IfOk result (λ x. is_end (word_of x.token) ≡ false → length self.new.tokens < length self.old.tokens) }
+        ensures err { OnErr result (self.new ≡ self.old) }
+    {
+        let (token, depth, rest) = token_from(self.end, self.depth, self.rest)?;
+        self.rest = rest;
+        self.depth = depth;
+        Ok(token)
+    }
+}
