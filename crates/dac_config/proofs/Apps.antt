@@ -7,9 +7,9 @@ use Rattle.std.proofs.lemmas.List.{drop_more, map_push, append_assoc}
 use Rattle.indexmap.specs.IndexMap.{IndexMap, insert_entry}
 use Rattle.indexmap.proofs.CallerLemmas.{insert_entry-new}
 use Rattle.dac_config.specs.declared.config.App.{App}
-use Rattle.dac_config.specs.declared.draft.DraftApp.{DraftApp}
-use Rattle.dac_config.specs.Limits.{is_among}
-use Rattle.dac_config.specs.Views.{app_of, apps_of}
+use Rattle.dac_shapes.specs.declared.draft.DraftApp.{DraftApp}
+use Rattle.dac_shapes.specs.Limits.{is_among}
+use Rattle.dac_shapes.specs.Views.{app_of, apps_of}
 use Rattle.dac_config.specs.Table.{NodeRow, AppRow}
 use Rattle.dac_config.specs.ConfigView.{app_row}
 use Rattle.dac_config.specs.Numbering.{numbered_app, AllNew}

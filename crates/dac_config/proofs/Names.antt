@@ -4,8 +4,8 @@ use Rattle.std.proofs.lemmas.Bool.Decides.{nat_tests}
 use Rattle.std.specs.Str.{bytes_eq}
 use Rattle.std.specs.List.{list_any}
 use Rattle.std.specs.Borrow.{Bor}
-use Rattle.dac_config.specs.Limits.{is_among}
-use Rattle.dac_config.specs.Views.{names_of}
+use Rattle.dac_shapes.specs.Limits.{is_among}
+use Rattle.dac_shapes.specs.Views.{names_of}
 
 pub among_names : (name : List ℕ) (names : List (Bor (List ℕ))) → is_among name (names_of names) ≡ list_any (λ other. bytes_eq other.now name) names
 among_names name [] = refl

@@ -10,8 +10,8 @@ use Rattle.std.proofs.lemmas.List.{drop_more, drop_all}
 use Rattle.std.proofs.lemmas.List.{length-map}
 use Rattle.std.proofs.lemmas.List.Elements.{All-map}
 use Rattle.dac_config.specs.declared.config.Node.{Node}
-use Rattle.dac_config.specs.Written.{Written}
-use Rattle.dac_config.specs.Views.{names_of}
+use Rattle.dac_shapes.specs.Written.{Written}
+use Rattle.dac_shapes.specs.Views.{names_of}
 use Rattle.dac_config.specs.Table.{IsSmall}
 use Rattle.dac_config.specs.declared.config.Config.TheInside.{Inside}
 use Rattle.dac_config.specs.ConfigView.{node_row, app_row, table_of}

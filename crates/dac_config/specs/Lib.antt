@@ -1,7 +1,6 @@
-pub mod Written
-pub mod Views
-pub mod Limits
 pub mod Table
 pub mod ConfigView
 pub mod Numbering
+pub mod Says
+pub mod Reading
 pub use Rattle.dac_base.specs.Ids

@@ -4,8 +4,8 @@ use Rattle.std.specs.declared.cmp.Ordering.{Ordering}
 use Rattle.std.specs.Ordering.{nat_cmp}
 use Rattle.std.specs.Cmp.Lexicographic.{slice_cmp}
 use Rattle.std.specs.BTreeSet.{insert_key}
-use Rattle.dac_config.specs.Written.{App, Written}
-use Rattle.dac_config.specs.Limits.{is_among}
+use Rattle.dac_shapes.specs.Written.{App, Written}
+use Rattle.dac_shapes.specs.Limits.{is_among}
 use Rattle.dac_config.specs.Table.{NodeRow, AppRow, Table}
 
 -- the byte order of names

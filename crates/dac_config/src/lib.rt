@@ -7,8 +7,10 @@
 #![tactic(auto)]
 
 mod config;
-mod draft;
+mod read;
 
 pub use config::Config;
+pub use read::read_config;
 pub use dac_base::{AppId, NoMemory, NodeId};
-pub use draft::SyncWait;
+pub use dac_shapes::SyncWait;
+pub use dac_tokens::{ConfigFault, FaultKind};

@@ -1,12 +1,12 @@
 //! Numbers in place of names.
 ghost use Rattle.std.specs.Prelude.{◌≡◌, ◌≤◌, [], map, length, IfOk};
-ghost use Rattle.dac_config.specs.Views.{names_of, groups_of, app_of, apps_of, draft_of};
-ghost use Rattle.dac_config.specs.Limits.{is_among};
+ghost use Rattle.dac_shapes.specs.Views.{names_of, groups_of, app_of, apps_of, draft_of};
+ghost use Rattle.dac_shapes.specs.Limits.{is_among};
 ghost use Rattle.dac_config.specs.Numbering.{in_byte_order, numbers_from, numbered_node, numbered_nodes, numbered_app, numbered, AllNew, IsNumberable};
 ghost use Rattle.dac_config.specs.ConfigView.{node_row, app_row};
 
 use super::{App, Config, Node};
-use crate::draft::{Draft, DraftApp};
+use dac_shapes::{Draft, DraftApp};
 use dac_base::NoMemory;
 use indexmap::IndexMap;
 use std::alloc::Global;

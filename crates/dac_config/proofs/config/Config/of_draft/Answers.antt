@@ -1,6 +1,6 @@
 use Rattle.std.proofs.Common.{◌≡◌, ◌≤◌, sym, ◌∙◌, length, subst, refl, ap, map}
 use Rattle.dac_config.specs.Table.{Table, IsSmall}
-use Rattle.dac_config.specs.Views.{draft_of, apps_of}
+use Rattle.dac_shapes.specs.Views.{draft_of, apps_of}
 use Rattle.dac_config.specs.ConfigView.{node_row}
 use Rattle.dac_config.specs.Numbering.{numbered_app}
 use Rattle.dac_config.proofs.Numbers.{few_numbered, small_numbered, table_numbered}

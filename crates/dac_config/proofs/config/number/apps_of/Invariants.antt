@@ -1,5 +1,5 @@
 use Rattle.std.proofs.Common.{◌≡◌, ◌++◌, map, drop}
-use Rattle.dac_config.specs.Views.{apps_of}
+use Rattle.dac_shapes.specs.Views.{apps_of}
 use Rattle.dac_config.specs.Numbering.{numbered_app, AllNew}
 use Rattle.dac_config.specs.ConfigView.{node_row, app_row}
 use Rattle.dac_config.proofs.config.number.apps_of.Given as goal

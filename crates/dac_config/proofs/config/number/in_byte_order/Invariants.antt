@@ -1,7 +1,7 @@
 use Rattle.std.proofs.Common.{◌≡◌, [], drop}
 use Rattle.std.specs.Prelude.{fold}
 use Rattle.std.specs.BTreeSet.{insert_key}
-use Rattle.dac_config.specs.Views.{names_of}
+use Rattle.dac_shapes.specs.Views.{names_of}
 use Rattle.dac_config.specs.Numbering.{name_cmp, in_byte_order}
 use Rattle.dac_config.proofs.config.number.in_byte_order.Given as goal
 
