@@ -1,2 +1,6 @@
+pub mod Bytes
 pub mod Faults
+pub mod Runs
 pub mod Shorter
+pub mod Spelling
+pub mod Texts

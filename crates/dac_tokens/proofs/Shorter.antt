@@ -18,10 +18,10 @@ use Rattle.dac_tokens.specs.declared.token.Symbol.TheVariants.{FullStop}
 pub after_blanks-short : (bs : List ℕ) → length (after_blanks bs) ≤ length bs
 after_blanks-short bs = omega (arith, length-drop (run is_blank bs) bs)
 
-letter_is_name : (b : ℕ) → class_of b ≡ class.Letter → is_name_byte b ≡ true
+pub letter_is_name : (b : ℕ) → class_of b ≡ class.Letter → is_name_byte b ≡ true
 letter_is_name b e = grind (arith, nat_tests)
 
-digit_is_digit : (b : ℕ) → class_of b ≡ class.Digit → is_ascii_digit b ≡ true
+pub digit_is_digit : (b : ℕ) → class_of b ≡ class.Digit → is_ascii_digit b ≡ true
 digit_is_digit b e = grind (arith, nat_tests)
 
 -- a token was read that is not the end, and fewer than n bytes are left
@@ -32,7 +32,7 @@ refused_or : {A : Type 0} (P : A → Type 0) (b : Bool) (e : ConfigFault) (r : R
 refused_or P true e r p = tt
 refused_or P false e r p = p
 
-run-first : (passes : ℕ → Bool) (b : ℕ) (bs : List ℕ) → passes b ≡ true → 0 < run passes (b ∷ bs)
+pub run-first : (passes : ℕ → Bool) (b : ℕ) (bs : List ℕ) → passes b ≡ true → 0 < run passes (b ∷ bs)
 run-first passes b bs e = rw (take_while-cons passes b bs, e) (omega arith)
 
 drop_less : (n : ℕ) (b : ℕ) (bs : List ℕ) → 0 < n → length (drop n (b ∷ bs)) < suc (length bs)
@@ -67,7 +67,7 @@ pub record IsFirst (end n : ℕ) (x : Located × ℕ × List ℕ) : Type 0 where
   pub less : is_end x.0.word ≡ false → length x.2 < n
   pub at_end : is_end x.0.word ≡ true → (x.2 ≡ []) × (x.0 ≡ record { word = End; at = end })
 
-bind_if_ok : {A B : Type 0} (P : A → Type 0) (Q : B → Type 0) (r : Result A ConfigFault) (f : A → Result B ConfigFault) → IfOk r P → ((x : A) → P x → IfOk (f x) Q) → IfOk (r >>= f) Q
+pub bind_if_ok : {A B : Type 0} (P : A → Type 0) (Q : B → Type 0) (r : Result A ConfigFault) (f : A → Result B ConfigFault) → IfOk r P → ((x : A) → P x → IfOk (f x) Q) → IfOk (r >>= f) Q
 bind_if_ok P Q (Ok x) f p k = k x p
 bind_if_ok P Q (Err e) f p k = tt
 

@@ -2,4 +2,5 @@ pub mod Faults
 pub mod Gives
 pub mod Scan
 pub mod Stream
+pub mod TokenGrammar
 pub mod Words

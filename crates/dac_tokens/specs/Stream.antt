@@ -36,6 +36,14 @@ pub record Stream : Type 0 where
   pub tokens : List Located
   pub last : Result Located ConfigFault
 
+-- the end of a text of so many bytes
+abbrev pub end_at : ℕ → Located
+end_at end = record { word = End; at = end }
+
+-- these tokens, and the end behind them
+abbrev pub ended : ℕ → List Located → Stream
+ended end ts = record { tokens = ts; last = Ok (end_at end) }
+
 -- what was read first, and the tokens after it
 abbrev pub and_then : Result (Located × ℕ × List ℕ) ConfigFault → (ℕ → List ℕ → Stream) → Stream
 and_then (Err e) rest = record { tokens = []; last = Err e }

@@ -1,10 +1,11 @@
 //! The tokens of a text, one after another.
 
-ghost use Rattle.std.specs.Prelude.{◌≡◌, ◌≤◌, length, false, ◌<◌, IfOk, IfErr, OnErr};
+ghost use Rattle.std.specs.Prelude.{◌≡◌, ◌↔◌, ◌≤◌, List, length, false, ◌<◌, IfOk, IfErr, OnErr};
 ghost use Rattle.dac_tokens.specs.Gives.{Gives, Reads};
 ghost use Rattle.dac_tokens.specs.Faults.{IsTokenFault};
-ghost use Rattle.dac_tokens.specs.Stream.{depth_after, token_from, taken, tokens_of};
-ghost use Rattle.dac_tokens.specs.Words.{is_end, located_of, word_of};
+ghost use Rattle.dac_tokens.specs.Stream.{depth_after, end_at, ended, token_from, taken, tokens_of};
+ghost use Rattle.dac_tokens.specs.TokenGrammar.{AreTokensOf};
+ghost use Rattle.dac_tokens.specs.Words.{Located as LocatedWord, is_end, located_of, word_of};
 
 use crate::fault::{ConfigFault, FaultKind};
 use crate::scan::{after_blanks, fault, token_at};
@@ -72,7 +73,11 @@ impl<'a> Model for Tokens<'a> {
 impl<'a> Tokens<'a> {
     /// The tokens of a text, whatever its length.
     pub fn new(text: &'a [u8]) -> Self
-        ensures { result ≡ tokens_of (length text.now) 0 text.now }
+        ensures read { result ≡ tokens_of (length text.now) 0 text.now }
+        // where no fault comes, the end of the text does
+        ensures end { IfOk result.last (λ t. t ≡ end_at (length text.now)) }
+        // a text is read without fault exactly as the grammar of tokens spells it
+        ensures spelled { (ts : List LocatedWord) → (AreTokensOf text.now ts ↔ (result ≡ ended (length text.now) ts)) }
     {
         Tokens {
             rest: text,

@@ -1,0 +1,5 @@
+pub mod Written
+pub mod Shape
+pub mod Limits
+pub mod Grammar
+pub mod Views
