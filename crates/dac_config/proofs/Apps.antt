@@ -56,4 +56,4 @@ module _ {S : Type 0} (nodes : List NodeRow) (m : IndexMap (Vec ℕ) App S) (nam
   pub still_once : (new : List (Vec ℕ × App)) → new ≡ insert_entry same_name m.entries name app → AllNew (names_in new) (map (λ a. a.name) (apps_of (drop (i + 1) apps)))
   still_once new is =
       subst (λ (names : List (List ℕ)). AllNew names (map (λ a. a.name) (apps_of (drop (i + 1) apps))))
-        (sym (ap names_in (is ∙ goes_last) ∙ map_push (λ entry. entry.0.items) m.entries (name, app) ∙ ap (λ n. names_in m.entries ++ n ∷ []) same_names)) next.1
+      (sym (ap names_in (is ∙ goes_last) ∙ map_push (λ entry. entry.0.items) m.entries (name, app) ∙ ap (λ n. names_in m.entries ++ n ∷ []) same_names)) next.1

@@ -7,3 +7,4 @@ pub mod Listed
 pub mod Numberable
 pub mod Rising
 pub mod SaysLemmas
+pub mod Faults

@@ -94,7 +94,7 @@ groups_apps : (before : List App) (seen : Seen) (apps : List App) → AllMay wit
 groups_apps before seen [] may few some = All-nil (λ app. length app.groups ≤ 16)
 groups_apps before seen (app ∷ apps) may few some =
     All-cons (λ a. length a.groups ≤ 16) app apps (few_groups_listed (listing seen) app.groups refl few may.0.nodes some.0)
-      (groups_apps (before ++ app ∷ []) (with_app seen app) apps may.1 (few_groups_met (listing seen) app.groups may.0.nodes few) some.1)
+    (groups_apps (before ++ app ∷ []) (with_app seen app) apps may.1 (few_groups_met (listing seen) app.groups may.0.nodes few) some.1)
 
 once_apps : (before : List App) (seen : Seen) (apps : List App) → AllMay with_app MayApp before seen apps → AllNew (map (λ app. app.name) before) (map (λ app. app.name) apps)
 once_apps before seen [] may = tt

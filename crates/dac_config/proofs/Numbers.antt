@@ -63,10 +63,10 @@ few_numbered w nodes few rows =
 -- a configuration that is numbered is within the limits
 pub small_numbered : (w : Written) → IsNumberable w → IsSmall (numbered w)
 small_numbered w can = record {
-    nodes = omega (arith, can.nodes, length-inserted [] w.nodes, length-map (in_byte_order w.nodes) (numbered_node w));
-    apps = omega (arith, can.apps, length-map w.apps (numbered_app (numbered_nodes w)));
-    groups = All-map (λ row. length row.groups ≤ 16) (numbered_app (numbered_nodes w)) w.apps (λ i d within. subst (λ n. n ≤ 16) (sym (length-map (get_or w.apps i d).groups (numbers_from 0 (numbered_nodes w)))) (can.groups i d within));
-  }
+  nodes = omega (arith, can.nodes, length-inserted [] w.nodes, length-map (in_byte_order w.nodes) (numbered_node w));
+  apps = omega (arith, can.apps, length-map w.apps (numbered_app (numbered_nodes w)));
+  groups = All-map (λ row. length row.groups ≤ 16) (numbered_app (numbered_nodes w)) w.apps (λ i d within. subst (λ n. n ≤ 16) (sym (length-map (get_or w.apps i d).groups (numbers_from 0 (numbered_nodes w)))) (can.groups i d within));
+}
 
 -- tables whose nodes and applications are numbered are the configuration that the text says
 pub table_numbered : (w : Written) (c : Inside) (nodes : List Node) → map node_row c.nodes.items ≡ numbered_nodes w → nodes ≡ c.nodes.items

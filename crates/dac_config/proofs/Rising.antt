@@ -115,7 +115,7 @@ module _ {K : Type 0} {R : K → K → Ordering} (o : IsTotalOrder R) (same : Is
     same_rising (x ∷ xs) (y ∷ ys) g h alike =
         let first = heads x y xs ys g h alike in
         let rest : (q : K) → has xs q ≡ has ys q = λ q. rest_alike (e x q) (has xs q) (has ys q)
-          (λ t. ap (has xs) (sym (exact x q t)) ∙ absent x xs g.0)
-          (λ t. ap (has ys) (sym (exact x q t) ∙ first) ∙ absent y ys h.0)
-          (alike q ∙ ap (λ k. e k q || has ys q) (sym first)) in
+        (λ t. ap (has xs) (sym (exact x q t)) ∙ absent x xs g.0)
+        (λ t. ap (has ys) (sym (exact x q t) ∙ first) ∙ absent y ys h.0)
+        (alike q ∙ ap (λ k. e k q || has ys q) (sym first)) in
         λ i. first i ∷ same_rising xs ys g.1 h.1 rest i

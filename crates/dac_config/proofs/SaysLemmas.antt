@@ -63,7 +63,7 @@ members_from n (suc k) (node ∷ nodes) group =
     let same : n + suc k ≡ (n + 1) + k = omega arith in
     let other : eqb n (n + suc k) ≡ false = grind (arith, nat_tests) in
     let later : list_any (λ m. eqb m (n + suc k)) (numbers_from (n + 1) nodes group) ≡ is_named group (slice_get nodes k) =
-      ap (λ j. list_any (λ m. eqb m j) (numbers_from (n + 1) nodes group)) same ∙ members_from (n + 1) k nodes group in
+    ap (λ j. list_any (λ m. eqb m j) (numbers_from (n + 1) nodes group)) same ∙ members_from (n + 1) k nodes group in
     elim (is_among node.name group) as (λ b. list_any (λ m. eqb m (n + suc k)) (cond b (n ∷ numbers_from (n + 1) nodes group) (numbers_from (n + 1) nodes group)) ≡ is_named group (slice_get nodes k)) [
       | true ↦ rw other later
       | false ↦ later
@@ -71,9 +71,9 @@ members_from n (suc k) (node ∷ nodes) group =
 
 group_numbered : (nodes : List NodeRow) (group : List (List ℕ)) → IsGroup nodes group (numbers_from 0 nodes group)
 group_numbered nodes group = record {
-    rising = rising_numbers 0 nodes group;
-    members = λ number. (let from : 0 + number ≡ number = omega arith in ap (λ k. list_any (λ m. eqb m k) (numbers_from 0 nodes group)) (sym from) ∙ members_from 0 number nodes group);
-  }
+  rising = rising_numbers 0 nodes group;
+  members = λ number. (let from : 0 + number ≡ number = omega arith in ap (λ k. list_any (λ m. eqb m k) (numbers_from 0 nodes group)) (sym from) ∙ members_from 0 number nodes group);
+}
 
 -- ---- what is numbered is what is written
 
@@ -97,13 +97,13 @@ none = tt
 
 pub numbered_says : (w : Written) → IsTableOf w (numbered w)
 numbered_says w = record {
-    rising = subst (IsStrictlySortedBy name_cmp) (sym (names_numbered w)) (rising_all nat_list_cmp_total (slice_cmp-IsAntisymmetric nat_cmp-IsAntisymmetric) [] w.nodes none);
-    nodes = λ name. ap (is_among name) (names_numbered w) ∙ any_all nat_list_cmp_total (slice_cmp-IsAntisymmetric nat_cmp-IsAntisymmetric) (λ other. bytes_eq other name) [] w.nodes;
-    mandatory = All-map (λ node. node.mandatory ≡ is_among node.name w.mandatory) (numbered_node w) (in_byte_order w.nodes) (λ _ _ _. refl);
-    optional = All-map (λ node. node.optional ≡ is_among node.name w.optional) (numbered_node w) (in_byte_order w.nodes) (λ _ _ _. refl);
-    apps = zip_map (IsApp (numbered_nodes w)) (numbered_app (numbered_nodes w)) (app_numbered (numbered_nodes w)) w.apps;
-    sync_wait = refl;
-  }
+  rising = subst (IsStrictlySortedBy name_cmp) (sym (names_numbered w)) (rising_all nat_list_cmp_total (slice_cmp-IsAntisymmetric nat_cmp-IsAntisymmetric) [] w.nodes none);
+  nodes = λ name. ap (is_among name) (names_numbered w) ∙ any_all nat_list_cmp_total (slice_cmp-IsAntisymmetric nat_cmp-IsAntisymmetric) (λ other. bytes_eq other name) [] w.nodes;
+  mandatory = All-map (λ node. node.mandatory ≡ is_among node.name w.mandatory) (numbered_node w) (in_byte_order w.nodes) (λ _ _ _. refl);
+  optional = All-map (λ node. node.optional ≡ is_among node.name w.optional) (numbered_node w) (in_byte_order w.nodes) (λ _ _ _. refl);
+  apps = zip_map (IsApp (numbered_nodes w)) (numbered_app (numbered_nodes w)) (app_numbered (numbered_nodes w)) w.apps;
+  sync_wait = refl;
+}
 
 -- ---- and nothing else is
 
@@ -149,8 +149,8 @@ pub table_same : (w : Written) (table : Table) → IsTableOf w table → table �
 table_same w table is =
     let one = numbered_says w in
     let names : map (λ node. node.name) table.nodes ≡ in_byte_order w.nodes =
-      same_rising nat_list_cmp_total (slice_cmp-IsAntisymmetric nat_cmp-IsAntisymmetric) bytes_eq itself bytes_exact (map (λ node. node.name) table.nodes) (map (λ node. node.name) (numbered_nodes w)) is.rising one.rising (λ q. is.nodes q ∙ sym (one.nodes q))
-      ∙ names_numbered w in
+    same_rising nat_list_cmp_total (slice_cmp-IsAntisymmetric nat_cmp-IsAntisymmetric) bytes_eq itself bytes_exact (map (λ node. node.name) table.nodes) (map (λ node. node.name) (numbered_nodes w)) is.rising one.rising (λ q. is.nodes q ∙ sym (one.nodes q))
+    ∙ names_numbered w in
     let nodes : table.nodes ≡ numbered_nodes w = rows_same w table.nodes is.mandatory is.optional ∙ ap (map (numbered_node w)) names in
     let apps : table.apps ≡ map (numbered_app (numbered_nodes w)) w.apps = zip_same (IsApp table.nodes) (numbered_app table.nodes) (app_same table.nodes) w.apps table.apps is.apps ∙ ap (λ rows. map (numbered_app rows) w.apps) nodes in
     λ i. record { nodes = nodes i; apps = apps i; sync_wait = is.sync_wait i }

@@ -21,7 +21,7 @@ abbrev pub numbers_from : ℕ → List NodeRow → List (List ℕ) → List ℕ
 numbers_from number [] group = []
 numbers_from number (node ∷ nodes) group =
     if is_among node.name group then number ∷ numbers_from (number + 1) nodes group
-      else numbers_from (number + 1) nodes group
+    else numbers_from (number + 1) nodes group
 
 -- a node by its name
 abbrev pub numbered_node : Written → List ℕ → NodeRow

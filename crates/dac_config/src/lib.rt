@@ -10,7 +10,10 @@ mod config;
 mod read;
 
 pub use config::Config;
-pub use read::read_config;
 pub use dac_base::{AppId, NoMemory, NodeId};
 pub use dac_shapes::SyncWait;
 pub use dac_tokens::{ConfigFault, FaultKind};
+pub use read::read_config;
+
+#[cfg(test)]
+mod tests;

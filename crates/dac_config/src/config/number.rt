@@ -6,8 +6,8 @@ ghost use Rattle.dac_config.specs.Numbering.{in_byte_order, numbers_from, number
 ghost use Rattle.dac_config.specs.ConfigView.{node_row, app_row};
 
 use super::{App, Config, Node};
-use dac_shapes::{Draft, DraftApp};
 use dac_base::NoMemory;
+use dac_shapes::{Draft, DraftApp};
 use indexmap::IndexMap;
 use std::alloc::Global;
 use std::collections::BTreeSet;
@@ -85,11 +85,7 @@ fn groups_of(alloc: Global, nodes: &[Node], groups: &[Vec<&[u8]>]) -> Result<Vec
 }
 
 /// The application with its name.
-fn app_of(
-    alloc: Global,
-    nodes: &[Node],
-    app: &DraftApp<'_>,
-) -> Result<(Vec<u8>, App), NoMemory>
+fn app_of(alloc: Global, nodes: &[Node], app: &DraftApp<'_>) -> Result<(Vec<u8>, App), NoMemory>
     requires { length nodes.now ≤ 16 }
     ensures { IfOk result (λ entry. app_row entry ≡ numbered_app (map node_row nodes.now) (app_of app.now)) }
 {

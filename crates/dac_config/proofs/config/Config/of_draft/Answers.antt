@@ -13,4 +13,4 @@ apps_of-requires-clause-few c =
 pub invariant_of-result : goal.invariant_of-result
 invariant_of-result c =
     subst IsSmall (sym (table_numbered (draft_of c.args.draft.now) (record { nodes = c.in_ok-nodes.nodes; apps = c.in_ok-apps.apps; sync_wait = c.args.draft.now.sync_wait }) c.deref.result.now c.in_ok-nodes.ensures c.deref.ensures.value (c.in_ok-apps.ensures ∙ ap (λ apps. map (numbered_app (map node_row c.deref.result.now)) (apps_of apps)) c.deref-2.ensures.value) refl))
-      (small_numbered (draft_of c.args.draft.now) c.requires)
+    (small_numbered (draft_of c.args.draft.now) c.requires)

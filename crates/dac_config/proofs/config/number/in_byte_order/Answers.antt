@@ -17,5 +17,5 @@ loop-name-preserved c =
 pub returns : goal.returns
 returns c =
     let taken : c.in_ok-sorted.sorted.items ≡ c.loop-name.sorted.keys = IfOk-at_ok (λ w. vec_items w ≡ c.loop-name.sorted.keys) c.in_ok-sorted.was
-      (items_from_collect c.collect.result c.collect.ensures.ran (YieldsList-from_copied (YieldsList-at c.copied.ensures.source (YieldsList-from_rest c.loop-name.sorted.keys c.iter.ensures.rest)))) in
+    (items_from_collect c.collect.result c.collect.ensures.ran (YieldsList-from_copied (YieldsList-at c.copied.ensures.source (YieldsList-from_rest c.loop-name.sorted.keys c.iter.ensures.rest)))) in
     ap names_of taken ∙ all_inserted c.args.names.now c.loop-name.name-index c.loop-name.sorted.keys (omega (arith, c.loop-name-test.false)) c.loop-name.invariant
