@@ -11,8 +11,8 @@ use Rattle.dac_state.specs.StateValue.{StateValue}
 use Rattle.dac_state.specs.StateLaws.{same_state}
 use Rattle.dac_state.specs.Lives.{came_up, greater-None}
 use Rattle.dac_state.specs.Meaning.{meaning_of, has_dot, replaces, wishes, is_wish}
-use Rattle.dac_state.proofs.Readers.{names, or-false, heard-meaning, known-meaning, starts-meaning, lives-meaning}
-use Rattle.dac_state.proofs.Joins.{same_dot_is}
+use Rattle.dac_state.specs.Readers.{names, or-false, heard-meaning, known-meaning, starts-meaning, lives-meaning}
+use Rattle.dac_state.specs.Joins.{same_dot_is}
 
 -- a wish that is the operation isn't replaced by it
 wish_apart : (o : Operation) → IsSound o → (q : Start) → is_wish q o ≡ (is_wish q o && not (replaces q.dot o))

@@ -20,9 +20,9 @@ use Rattle.dac_state.specs.Lives.{same_node, greater, came_up, life_of}
 use Rattle.dac_state.specs.Meaning.{meaning_of, has_dot, replaces, is_replaced, wishes, is_wish, same_dot, In, Stands}
 use Rattle.dac_state.specs.MeaningLaws.{HeardAreDots, KnownAreNamed, Names, Starts, IsWish, StandingAreUnreplaced, CameUp, LivesAreGreatest, WishedHaveStarts}
 use Rattle.dac_state.proofs.Sets.{carried}
-use Rattle.dac_state.proofs.Members.{found, finds}
-use Rattle.dac_state.proofs.Readers.{names, heard-meaning, known-meaning, starts-meaning, lives-meaning}
-use Rattle.dac_state.proofs.Joins.{same_dot_is, same_dot_itself}
+use Rattle.dac_state.specs.Members.{found, finds}
+use Rattle.dac_state.specs.Readers.{names, heard-meaning, known-meaning, starts-meaning, lives-meaning}
+use Rattle.dac_state.specs.Joins.{same_dot_is, same_dot_itself}
 
 -- ---- dots
 

@@ -1,8 +1,8 @@
 -- Finite sets, by lists of their keys.
-use Rattle.std.proofs.Common.{◌≡◌, ℕ, suc, ◌&&◌, ◌+◌, ◌<◌, ◌≤◌, Bool, true, false, ◌||◌, inl, inr, List, [], ◌∷◌, length, get_or, take, refl, sym, ap, subst, ◌∙◌, arith}
+use Rattle.std.proofs.Common.{◌≡◌, ℕ, ◌&&◌, ◌+◌, ◌<◌, ◌≤◌, Bool, true, false, ◌||◌, inl, inr, List, [], ◌∷◌, length, get_or, take, refl, sym, ap, ◌∙◌}
 use Rattle.std.specs.declared.cmp.Ordering.{Ordering}
 use Rattle.std.specs.Ordering.{eq_by_cmp, is_eq}
-use Rattle.std.specs.List.{All, list_any}
+use Rattle.std.specs.List.{list_any}
 use Rattle.std.specs.Cmp.{IsTotalOrder, Equal-is, tied_itself}
 use Rattle.std.specs.FinSet as set
 use Rattle.std.proofs.lemmas.Bool.{false≢true, or_cases, or_left, or_right}
@@ -10,13 +10,8 @@ use Rattle.std.proofs.lemmas.List.{take_all}
 use Rattle.std.proofs.lemmas.List.Folds.{list_any_more}
 use Rattle.std.proofs.lemmas.Map.Lookups.{CmpEqualImpliesEq}
 use Rattle.dac_dots.specs.Keys.{has_key}
-use Rattle.dac_dots.proofs.KeyLemmas.{has_at}
-
--- two tests that bring each other are one
-pub same_answer : (a b : Bool) → (a ≡ true → b ≡ true) → (b ≡ true → a ≡ true) → a ≡ b
-same_answer true b f g = sym (f refl)
-same_answer false true f g = g refl
-same_answer false false f g = refl
+use Rattle.dac_dots.specs.KeyLaws.{has_is}
+use Rattle.dac_state.specs.StateLaws.{both_ways}
 
 -- e: the key; h: there before; r: among those so far; b: passes
 kept_test : (e h r b : Bool) → (e ≡ true → b ≡ true) → (e || (h || (r && b))) ≡ (h || ((r || e) && b))
@@ -33,29 +28,6 @@ dropped_test false h true b f = refl
 dropped_test false h false b f = refl
 
 module _ {K : Type 0} {R : K → K → Ordering} (o : IsTotalOrder R) (exact : CmpEqualImpliesEq R) where
-  -- whether the list of a set has a key
-  pub has_is : (ks : List K) (s : set.FinSet R) → set.from_list ks ≡ s → (q : K) → has_key R ks q ≡ set.contains s q
-  has_is ks s is q = sym (set.contains-from_list o ks q) ∙ ap (λ s. set.contains s q) is
-
-  -- a list with one key more is the set with it
-  pub inserted : (ks ls : List K) (k : K) → ((q : K) → has_key R ls q ≡ (eq_by_cmp R q k || has_key R ks q)) → set.from_list {R = R} ls ≡ set.insert (set.from_list ks) k
-  inserted ks ls k h = set.same_set o exact _ _ (λ q. set.contains-from_list o ls q ∙ h q ∙ ap (λ b. eq_by_cmp R q k || b) (sym (set.contains-from_list o ks q)) ∙ sym (set.contains-insert o (set.from_list ks) k q))
-
-  -- what holds of each key of the list holds of each of the set
-  all_members : (P : K → Type 0) (ks : List K) → All P ks → (q : K) → has_key R ks q ≡ true → P q
-  all_members P [] all q e = absurd (false≢true e)
-  all_members P (k ∷ ks) all q e = elim (or_cases (eq_by_cmp R q k) (has_key R ks q) e) [
-    | inl tie ↦ subst P (sym (exact q k ((Equal-is (R q k)).0 tie))) (all 0 k (omega arith))
-    | inr rest ↦ all_members P ks (λ i d p. all (suc i) d (omega arith)) q rest
-  ]
-
-  pub each_member : (ks : List K) (s : set.FinSet R) → set.from_list ks ≡ s → (P : K → Type 0) (i : ℕ) → length ks ≤ i → All P (take i ks) → (q : K) → set.contains s q ≡ true → P q
-  each_member ks s is P i p all q e = all_members P ks (subst (All P) (take_all i ks p) all) q (has_is ks s is q ∙ e)
-
-  -- a key of the list is one of the set
-  pub member_at : (ks : List K) (s : set.FinSet R) → set.from_list ks ≡ s → (i : ℕ) (e : K) → i < length ks → set.contains s (get_or ks i e) ≡ true
-  member_at ks s is i e p = sym (has_is ks s is (get_or ks i e)) ∙ has_at o ks (get_or ks i e) i e p (ap is_eq (tied_itself o (get_or ks i e)))
-
   -- a test that k passes is passed in a list that has k
   pub carried : (p : K → Bool) (k : K) (ls : List K) → p k ≡ true → list_any (eq_by_cmp R k) ls ≡ true → list_any p ls ≡ true
   carried p k [] t h = absurd (false≢true h)
@@ -75,11 +47,11 @@ module _ {K : Type 0} {R : K → K → Ordering} (o : IsTotalOrder R) (exact : C
 
   -- any test answers alike on lists of the same keys
   pub list_any-same_keys : (p : K → Bool) (ks ls : List K) → ((x : K) → list_any (eq_by_cmp R x) ks ≡ list_any (eq_by_cmp R x) ls) → list_any p ks ≡ list_any p ls
-  list_any-same_keys p ks ls f = same_answer (list_any p ks) (list_any p ls) (passed_on p ks ls (λ x m. sym (f x) ∙ m)) (passed_on p ls ks (λ x m. f x ∙ m))
+  list_any-same_keys p ks ls f = both_ways (list_any p ks) (list_any p ls) (passed_on p ks ls (λ x m. sym (f x) ∙ m)) (passed_on p ls ks (λ x m. f x ∙ m))
 
   -- any test answers alike on a list and on the items of its set
   pub list_any-items : (p : K → Bool) (ks : List K) (s : set.FinSet R) → set.from_list ks ≡ s → list_any p ks ≡ list_any p (set.items s)
-  list_any-items p ks s is = list_any-same_keys p ks (set.items s) (λ q. has_is ks s is q ∙ set.contains-items s q)
+  list_any-items p ks s is = list_any-same_keys p ks (set.items s) (λ q. has_is o ks s is q ∙ set.contains-items s q)
 
   -- a set to which those keys of a list are added that pass a test
   abbrev pub AddsPassing : (K → Bool) → List K → set.FinSet R → set.FinSet R → Type 0
@@ -115,7 +87,7 @@ module _ {K : Type 0} {R : K → K → Ordering} (o : IsTotalOrder R) (exact : C
 
     -- all keys
     pub adds_all : (s : set.FinSet R) → set.from_list ks ≡ s → (i : ℕ) → length ks ≤ i → AddsPassing p (take i ks) had now → (q : K) → set.contains now q ≡ (set.contains had q || (set.contains s q && p q))
-    adds_all s is i h so_far q = so_far q ∙ ap (λ l. set.contains had q || (has_key R l q && p q)) (take_all i ks h) ∙ ap (λ b. set.contains had q || (b && p q)) (has_is ks s is q)
+    adds_all s is i h so_far q = so_far q ∙ ap (λ l. set.contains had q || (has_key R l q && p q)) (take_all i ks h) ∙ ap (λ b. set.contains had q || (b && p q)) (has_is o ks s is q)
 
   -- a set to which all keys of a list are added is the list's
   pub adds_whole : (ks : List K) (now : set.FinSet R) (i : ℕ) → length ks ≤ i → AddsPassing (λ _. true) (take i ks) set.empty now → now ≡ set.from_list ks

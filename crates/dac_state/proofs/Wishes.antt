@@ -1,47 +1,21 @@
 -- The wishes of a key in a set.
-use Rattle.std.proofs.Common.{◌≡◌, Bool, true, false, cond, ◌||◌, ◌&&◌, List, [], ◌∷◌, map as list_map, length, refl, sym, ap, ◌∙◌}
+use Rattle.std.proofs.Common.{◌≡◌, Bool, true, false, cond, List, [], ◌∷◌, map as list_map, length, refl, sym, ap, ◌∙◌}
 use Rattle.std.specs.declared.cmp.Ordering.TheVariants.{Equal}
-use Rattle.std.specs.List.{list_any, count_by, filter}
-use Rattle.std.specs.Ordering.{eq_by_cmp, is_lt, ordering_then}
-use Rattle.std.specs.Cmp.{Equal-is, tied_itself, tied_then}
+use Rattle.std.specs.List.{count_by, filter}
+use Rattle.std.specs.Ordering.{is_lt, ordering_then}
+use Rattle.std.specs.Cmp.{Equal-is, tied_itself}
 use Rattle.std.specs.FinSet as set
 use Rattle.std.proofs.lemmas.Bool.{and_parts, and_from}
-use Rattle.std.proofs.lemmas.Cmp.{eq_by_cmp_equiv}
 use Rattle.std.proofs.lemmas.List.{length-map}
 use Rattle.std.proofs.lemmas.List.Sums.{length-filter}
-use Rattle.dac_dots.specs.declared.dot.Dot.{Dot}
 use Rattle.dac_dots.specs.Dots.{dot_cmp, dots_total, exact_dots}
 use Rattle.dac_dots.specs.Keys.{is_below_all, IsRising}
 use Rattle.dac_dots.specs.InOrder.{in_order, in_order-one}
 use Rattle.dac_state.specs.declared.starts.Key.{Key}
 use Rattle.dac_state.specs.declared.starts.Start.{Start}
-use Rattle.dac_state.specs.Starts.{Starts, start, start_cmp, key_cmp, same_key, keys_total, exact_keys, starts_total, exact_starts, dots_among, dots_at}
+use Rattle.dac_state.specs.Starts.{Starts, start_cmp, key_cmp, same_key, keys_total, exact_keys, starts_total, exact_starts, dots_among, dots_at, is_at, dots_among-has}
+pub use Rattle.dac_state.specs.Starts.{contains-dots_at}
 use Rattle.dac_state.proofs.Sets.{list_any-items}
-
--- tests that agree find alike
-pub list_any-alike : {X : Type 0} (p q : X → Bool) → ((x : X) → p x ≡ q x) → (xs : List X) → list_any p xs ≡ list_any q xs
-list_any-alike p q h [] = refl
-list_any-alike p q h (x ∷ xs) = λ i. h x i || list_any-alike p q h xs i
-
--- the wish is of the key and has the dot
-abbrev pub is_at : Key → Dot → Start → Bool
-is_at key d q = same_key q.key key && eq_by_cmp dot_cmp d q.dot
-
--- a dot is among those of a key
-pub dots_among-has : (key : Key) (d : Dot) (qs : List Start) → list_any (eq_by_cmp dot_cmp d) (dots_among key qs) ≡ list_any (is_at key d) qs
-dots_among-has key d [] = refl
-dots_among-has key d (q ∷ qs) = elim (same_key q.key key) as (λ b. list_any (eq_by_cmp dot_cmp d) (list_map (λ (q : Start). q.dot) (cond b (q ∷ filter (λ (q : Start). same_key q.key key) qs) (filter (λ (q : Start). same_key q.key key) qs))) ≡ ((b && eq_by_cmp dot_cmp d q.dot) || list_any (is_at key d) qs)) [
-  | true ↦ ap (λ b. eq_by_cmp dot_cmp d q.dot || b) (dots_among-has key d qs)
-  | false ↦ dots_among-has key d qs
-]
-
--- a dot stands at a key exactly if the wish of both is there
-pub contains-dots_at : (key : Key) (starts : Starts) (d : Dot) → set.contains (dots_at key starts) d ≡ set.contains starts (start key d)
-contains-dots_at key starts d =
-    set.contains-from_list dots_total (dots_among key (set.items starts)) d
-    ∙ dots_among-has key d (set.items starts)
-    ∙ list_any-alike (is_at key d) (eq_by_cmp start_cmp (start key d)) (λ q. ap (λ b. b && eq_by_cmp dot_cmp d q.dot) ((eq_by_cmp_equiv keys_total).symm q.key key) ∙ tied_then (key_cmp key q.key) (dot_cmp d q.dot)) (set.items starts)
-    ∙ sym (set.contains-items starts (start key d))
 
 same_key_is : (a b : Key) → same_key a b ≡ true → a ≡ b
 same_key_is a b t = exact_keys a b ((Equal-is (key_cmp a b)).0 t)

@@ -8,5 +8,8 @@ pub mod Order
 pub mod Meaning
 pub mod Wishes
 pub mod StateLaws
+pub mod Members
+pub mod Readers
+pub mod Joins
 pub mod StateSpelling
 pub mod MeaningLaws

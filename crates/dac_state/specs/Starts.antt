@@ -1,13 +1,13 @@
 -- Start wishes, and sets of them.
-use Rattle.std.specs.Prelude.{◌≡◌, ℕ, Bool, true, not, ◌||◌, ◌&&◌, List, filter, map as list_map, refl}
+use Rattle.std.specs.Prelude.{◌≡◌, ℕ, Bool, true, false, not, cond, ◌||◌, ◌&&◌, List, [], ◌∷◌, filter, map as list_map, refl}
 use Rattle.std.proofs.Common.{ap, ◌∙◌, sym}
 use Rattle.std.specs.declared.cmp.Ordering.{Ordering}
 use Rattle.std.specs.List.{list_any}
 use Rattle.std.specs.Ordering.{nat_cmp, ordering_then, eq_by_cmp}
-use Rattle.std.specs.Cmp.{IsTotalOrder}
+use Rattle.std.specs.Cmp.{IsTotalOrder, tied_then}
 use Rattle.std.specs.Coded.{Coded, code_by, coded×, coded_ℕ}
 use Rattle.std.specs.FinSet as set
-use Rattle.std.proofs.lemmas.Cmp.{nat_cmp_total, on_total, then_total}
+use Rattle.std.proofs.lemmas.Cmp.{nat_cmp_total, on_total, then_total, eq_by_cmp_equiv}
 use Rattle.std.proofs.lemmas.Map.Lookups.{CmpEqualImpliesEq, exact_pairs, exact_unsigned}
 use Rattle.dac_base.specs.declared.AppId.{AppId}
 use Rattle.dac_base.specs.declared.NodeId.{NodeId}
@@ -93,3 +93,30 @@ unfolding joined_starts
 contains-joined_starts s k t l q =
     set.contains-union starts_total (set.retain s (may_stand t l)) (set.retain t (may_stand s k)) q
     ∙ (λ i. set.contains-retain s (may_stand t l) q (λ x e. ap (may_stand t l) (sym (exact_starts q x e))) i || set.contains-retain t (may_stand s k) q (λ x e. ap (may_stand s k) (sym (exact_starts q x e))) i)
+
+-- ---- the dots at a key
+
+-- tests that agree find alike
+pub list_any-alike : {X : Type 0} (p q : X → Bool) → ((x : X) → p x ≡ q x) → (xs : List X) → list_any p xs ≡ list_any q xs
+list_any-alike p q h [] = refl
+list_any-alike p q h (x ∷ xs) = λ i. h x i || list_any-alike p q h xs i
+
+-- the wish is of the key and has the dot
+abbrev pub is_at : Key → Dot → Start → Bool
+is_at key d q = same_key q.key key && eq_by_cmp dot_cmp d q.dot
+
+-- a dot is among those of a key
+pub dots_among-has : (key : Key) (d : Dot) (qs : List Start) → list_any (eq_by_cmp dot_cmp d) (dots_among key qs) ≡ list_any (is_at key d) qs
+dots_among-has key d [] = refl
+dots_among-has key d (q ∷ qs) = elim (same_key q.key key) as (λ b. list_any (eq_by_cmp dot_cmp d) (list_map (λ (q : Start). q.dot) (cond b (q ∷ filter (λ (q : Start). same_key q.key key) qs) (filter (λ (q : Start). same_key q.key key) qs))) ≡ ((b && eq_by_cmp dot_cmp d q.dot) || list_any (is_at key d) qs)) [
+  | true ↦ ap (λ b. eq_by_cmp dot_cmp d q.dot || b) (dots_among-has key d qs)
+  | false ↦ dots_among-has key d qs
+]
+
+-- a dot stands at a key exactly if the wish of both is there
+pub contains-dots_at : (key : Key) (starts : Starts) (d : Dot) → set.contains (dots_at key starts) d ≡ set.contains starts (start key d)
+contains-dots_at key starts d =
+    set.contains-from_list dots_total (dots_among key (set.items starts)) d
+    ∙ dots_among-has key d (set.items starts)
+    ∙ list_any-alike (is_at key d) (eq_by_cmp start_cmp (start key d)) (λ q. ap (λ b. b && eq_by_cmp dot_cmp d q.dot) ((eq_by_cmp_equiv keys_total).symm q.key key) ∙ tied_then (key_cmp key q.key) (dot_cmp d q.dot)) (set.items starts)
+    ∙ sym (set.contains-items starts (start key d))

@@ -80,7 +80,7 @@ stands_joined false false false true f g h = absurd (false≢true (g refl))
 stands_joined false false false false f g h = absurd (false≢true h)
 
 -- two tests that bring each other are one
-both_ways : (a b : Bool) → (a ≡ true → b ≡ true) → (b ≡ true → a ≡ true) → a ≡ b
+pub both_ways : (a b : Bool) → (a ≡ true → b ≡ true) → (b ≡ true → a ≡ true) → a ≡ b
 both_ways true b f g = sym (f refl)
 both_ways false true f g = g refl
 both_ways false false f g = refl

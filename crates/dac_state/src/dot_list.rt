@@ -25,7 +25,7 @@ impl DotList {
     pub fn new(dots: Vec<Dot>) -> Self
         ensures { result ≡ dots.items }
     {
-        DotList { dots }
+        Self { dots }
     }
 
     /// The vector of the dots. It takes no memory.

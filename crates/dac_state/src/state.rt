@@ -117,7 +117,7 @@ impl Lattice for State {
     ghost laws = { state_laws };
 
     fn known(&self) {
-        let _heard = &self.heard;
+        let _starts = &self.starts;
     }
 
     fn join(&self, other: &Self) -> Result<Self, NoMemory> {

@@ -1,4 +1,4 @@
-use Rattle.dac_state.proofs.Joins.{meaning-state}
+use Rattle.dac_state.specs.Joins.{meaning-state}
 use Rattle.dac_state.proofs.Membership.{heard_are_dots, known_are_named, standing_are_unreplaced, lives_are_greatest}
 use Rattle.dac_state.proofs.laws.parts_of_meaning.Goals as goal
 

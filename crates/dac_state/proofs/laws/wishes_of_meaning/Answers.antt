@@ -1,4 +1,4 @@
-use Rattle.dac_state.proofs.Wishes.{contains-dots_at}
+use Rattle.dac_state.specs.Starts.{contains-dots_at}
 use Rattle.dac_state.proofs.Membership.{wished_have_starts}
 use Rattle.dac_state.proofs.laws.wishes_of_meaning.Goals as goal
 

@@ -6,7 +6,7 @@ use Rattle.dac_dots.specs.Dots.{dot_cmp}
 use Rattle.dac_state.specs.Operations.{operation}
 use Rattle.dac_state.specs.Starts.{start, start_cmp, key_cmp, starts_total}
 use Rattle.dac_state.specs.Meaning.{is_wish}
-use Rattle.dac_state.proofs.Readers.{or-false}
+use Rattle.dac_state.specs.Readers.{or-false}
 use Rattle.dac_state.proofs.state.wishes_by.Goals as goal
 
 pub returns-in-Up : goal.returns-in-Up

@@ -5,7 +5,7 @@ use Rattle.dac_state.specs.StateValue.{IsState}
 use Rattle.dac_state.specs.Lives.{came_up}
 use Rattle.dac_state.specs.Meaning.{is_wish}
 use Rattle.dac_state.proofs.Alone.{alone}
-use Rattle.dac_state.proofs.Joins.{meaning-state}
+use Rattle.dac_state.specs.Joins.{meaning-state}
 use Rattle.dac_state.proofs.state.State.delta_of.Goals as goal
 
 pub returns : goal.returns
