@@ -2,11 +2,12 @@
 use Rattle.std.proofs.Common.{◌≡◌, ℕ, zero, suc, ◌<◌, ◌≤◌, true, false, cond, List, [], ◌∷◌, ◌++◌, length, Result, Ok, refl, sym, ap, ◌∙◌, arith}
 use Rattle.dac_tokens.specs.declared.fault.ConfigFault.{ConfigFault}
 use Rattle.dac_tokens.specs.declared.token.Symbol.{Symbol}
-use Rattle.dac_tokens.specs.Gives.{◌>>=◌, Fails}
+use Rattle.dac_tokens.specs.Gives.{◌>>=◌}
+use Rattle.dac_shapes.specs.Outcome.{Fails}
 use Rattle.dac_tokens.specs.Words.{Located}
 use Rattle.dac_tokens.specs.Stream.{Stream, taken}
 use Rattle.dac_shapes.specs.Shape.{State, token, more_at, room, comma_list}
-use Rattle.dac_shapes.proofs.Faults.{unless_memory, fails_then}
+use Rattle.dac_shapes.proofs.Faults.{fails_too}
 
 module _ {A : Type 0} (read : List A → Located → State → Result (A × State) ConfigFault) (close : Symbol) where
   -- what is read on from here is what is read in all
@@ -34,12 +35,12 @@ module _ {A : Type 0} (read : List A → Located → State → Result (A × Stat
       by (suc n) lt same = (n, omega arith, sym (opened n done t s) ∙ same)
 
   pub fails_reading : (e : ConfigFault) (total : Result (List A × State) ConfigFault) (done : List A) (t : Located) (s : State) → Goes total done t s → Fails e (read done t s) → Fails e total
-  fails_reading e total done t s g h = let p = step total done t s g in unless_memory e.kind _ _ (λ q. sym p.2 ∙ ap (λ r. r >>= after p.0 done) q) h
+  fails_reading e total done t s g h = let p = step total done t s g in fails_too e _ _ (λ q. sym p.2 ∙ ap (λ r. r >>= after p.0 done) q) h
 
   pub fails_after : (e : ConfigFault) (total : Result (List A × State) ConfigFault) (done : List A) (t : Located) (s : State) (one : A × State) → Goes total done t s → read done t s ≡ Ok one → Fails e (more_at close one.1) → Fails e total
   fails_after e total done t s one g r h =
       let p = step total done t s g in
-      unless_memory e.kind _ _ (λ q. sym p.2 ∙ ap (λ x. x >>= after p.0 done) r ∙ ap (λ x. x >>= λ more. cond more.0 (token more.1 >>= λ next. comma_list read close p.0 (done ++ one.0 ∷ []) next.0 next.1) (Ok (done ++ one.0 ∷ [], more.1))) q) h
+      fails_too e _ _ (λ q. sym p.2 ∙ ap (λ x. x >>= after p.0 done) r ∙ ap (λ x. x >>= λ more. cond more.0 (token more.1 >>= λ next. comma_list read close p.0 (done ++ one.0 ∷ []) next.0 next.1) (Ok (done ++ one.0 ∷ [], more.1))) q) h
 
   pub ends : (total : Result (List A × State) ConfigFault) (done : List A) (t : Located) (s : State) (one : A × State) (u : State) → Goes total done t s → read done t s ≡ Ok one → more_at close one.1 ≡ Ok (false, u) → total ≡ Ok (done ++ one.0 ∷ [], u)
   ends total done t s one u g r m =
@@ -56,16 +57,10 @@ module _ {A : Type 0} (read : List A → Located → State → Result (A × Stat
   pub fails_at_token : (e : ConfigFault) (total : Result (List A × State) ConfigFault) (done : List A) (t : Located) (s : State) (one : A × State) (u : State) → Goes total done t s → read done t s ≡ Ok one → more_at close one.1 ≡ Ok (true, u) → Fails e (token u) → Fails e total
   fails_at_token e total done t s one u g r m h =
       let p = goes_by total done t s one u g r m in
-      unless_memory e.kind _ _ (λ q. sym p.2 ∙ ap (λ x. x >>= λ next. comma_list read close p.0 (done ++ one.0 ∷ []) next.0 next.1) q) h
+      fails_too e _ _ (λ q. sym p.2 ∙ ap (λ x. x >>= λ next. comma_list read close p.0 (done ++ one.0 ∷ []) next.0 next.1) q) h
 
   pub goes_on : (total : Result (List A × State) ConfigFault) (done : List A) (t : Located) (s : State) (one : A × State) (u : State) (next : Located × State) → Goes total done t s → read done t s ≡ Ok one → more_at close one.1 ≡ Ok (true, u) → token u ≡ Ok next
       → length next.1.left.tokens < length s.left.tokens → Goes total (done ++ one.0 ∷ []) next.0 next.1
   goes_on total done t s one u next g r m k lt =
       let p = goes_by total done t s one u g r m in
       record { n = p.0; enough = omega arith; same = sym (ap (λ x. x >>= λ y. comma_list read close p.0 (done ++ one.0 ∷ []) y.0 y.1) k) ∙ p.2 }
-
-pub token_ok : (s : State) (x : Located × Stream) → taken s.left ≡ Ok x → token s ≡ Ok (x.0, record s { left = x.1 })
-token_ok s x e = ap (λ r. r >>= λ t. Ok (t.0, record s { left = t.1 })) e
-
-pub token_fails : (e : ConfigFault) (s : State) → Fails e (taken s.left) → Fails e (token s)
-token_fails e s h = fails_then e (taken s.left) (λ t. Ok (t.0, record s { left = t.1 })) h

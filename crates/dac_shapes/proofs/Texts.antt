@@ -1,13 +1,15 @@
 -- A whole text is read exactly where its tokens are a file whose names may stand where they stand.
 use Rattle.std.proofs.Common.{◌≡◌, ℕ, zero, suc, ◌≤◌, Bool, true, false, cond, eqb, List, [], ◌∷◌, ◌++◌, length, map, Result, Ok, Err, refl, sym, ap, subst, ◌∙◌}
-use Rattle.std.specs.Prelude.{IfOk, MatchResult, ◌↔◌, ◌≢◌}
+use Rattle.std.specs.Prelude.{IfOk, IfErr, MatchResult, ◌↔◌, ◌≢◌}
 use Rattle.std.specs.List.{AllByRecursion}
 use Rattle.std.proofs.lemmas.Bool.{eqb-false, ne_eqb}
 use Rattle.dac_tokens.specs.declared.fault.ConfigFault.{ConfigFault}
 use Rattle.dac_tokens.specs.declared.fault.FaultKind.{FaultKind}
 use Rattle.dac_tokens.specs.declared.fault.FaultKind.TheVariants.{BadShape, NoDistributed, NoMemory}
 use Rattle.dac_tokens.specs.declared.token.Symbol.TheVariants.{FullStop}
-use Rattle.dac_tokens.specs.Gives.{◌>>=◌, Gives, UnlessMemory}
+use Rattle.dac_tokens.specs.Gives.{◌>>=◌, Gives as GivesOrNone}
+use Rattle.dac_shapes.specs.Outcome.{OrMemory, Gives}
+use Rattle.dac_shapes.proofs.Faults.{unless_memory, at_start}
 use Rattle.dac_tokens.specs.TokenGrammar.{AreTokensOf}
 use Rattle.dac_tokens.specs.Words.{Word, Mark, End, Located, is_end}
 use Rattle.dac_tokens.specs.Stream.{Stream, token_from, and_then, tokens_within, tokens_of, taken_of, end_at as end_of, ended as ended_by}
@@ -172,10 +174,18 @@ pub found_in : (text : List ℕ) (s : Stream) (r : Result Draft ConfigFault) →
 found_in text s (Ok draft) known short e = text_found text s (draft_of draft) known short e
 found_in text s (Err fault) known short e = tt
 
-only_memory : (kind : FaultKind) (P : Type 0) → ¬ P → UnlessMemory kind P → kind ≡ NoMemory
-only_memory NoMemory P not h = refl
-only_memory _ P not h = absurd (not h)
+only_memory : (kind : FaultKind) (place : ℕ) (P : Type 0) → ¬ P → OrMemory kind place P → kind ≡ NoMemory
+only_memory NoMemory place P not h = refl
+only_memory _ place P not h = absurd (not h)
 
 pub only_in : (text : List ℕ) (s : Stream) (r : Result Draft ConfigFault) → Tokenizes text s → Gives draft_of r (file_at (whole s)) → (draft : Written) → IsTextOf text draft → MatchResult r (λ d. draft_of d ≡ draft) (λ e. e.kind ≡ NoMemory)
 only_in text s (Ok d) known e draft is = ok_same (draft_of d) draft (file_at (whole s)) e (text_again text s draft known is)
-only_in text s (Err fault) known e draft is = only_memory fault.kind (file_at (whole s) ≡ Err fault) (λ f. let both : Ok draft ≡ Err fault = sym (text_again text s draft known is) ∙ f in absurd cc) e
+only_in text s (Err fault) known e draft is = only_memory fault.kind fault.at (file_at (whole s) ≡ Err fault) (λ f. let both : Ok draft ≡ Err fault = sym (text_again text s draft known is) ∙ f in absurd cc) e
+
+pub exact_in : (s : Stream) (r : Result Draft ConfigFault) → Gives draft_of r (file_at (whole s)) → GivesOrNone draft_of r (file_at (whole s))
+exact_in s (Ok draft) e = e
+exact_in s (Err fault) e = unless_memory fault.kind fault.at _ e
+
+pub memory_in : (s : Stream) (r : Result Draft ConfigFault) → Gives draft_of r (file_at (whole s)) → IfErr r (λ e. e.kind ≡ NoMemory → e.at ≡ 0)
+memory_in s (Ok draft) e = tt
+memory_in s (Err fault) e = λ is. at_start fault.kind fault.at _ is e

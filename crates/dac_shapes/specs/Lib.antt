@@ -3,3 +3,4 @@ pub mod Shape
 pub mod Limits
 pub mod Grammar
 pub mod Views
+pub mod Outcome

@@ -2,7 +2,7 @@
 
 ghost use Rattle.std.specs.Prelude.{◌≡◌, ◌≤◌, []};
 ghost use Rattle.dac_tokens.specs.declared.token.Symbol.TheVariants.{CloseList};
-ghost use Rattle.dac_tokens.specs.Gives.{Gives};
+ghost use Rattle.dac_shapes.specs.Outcome.{Gives};
 ghost use Rattle.dac_tokens.specs.Words.{located_of};
 ghost use Rattle.dac_shapes.specs.Shape.{timeout_at, app_value_at, app_at, comma_list, list_of, room};
 ghost use Rattle.dac_shapes.specs.Views.{app_of, apps_of, state_of, tokens_left};
@@ -26,7 +26,7 @@ impl<'a> Parser<'a> {
         };
         let timeout = timeout_of(token.at, negative, digits)?;
         self.symbol(Symbol::Comma)?;
-        let next = self.tokens.next()?;
+        let next = self.next()?;
         Ok((timeout, next))
     }
 
@@ -36,7 +36,7 @@ impl<'a> Parser<'a> {
         ensures read { Gives (λ app. (app_of app, state_of self.new)) result (app_value_at name.now (state_of self.old)) }
         ensures left { tokens_left self.new ≤ tokens_left self.old }
     {
-        let first = self.tokens.next()?;
+        let first = self.next()?;
         let (timeout, bracket) = self.timeout(first)?;
         let groups = self.groups(alloc, bracket)?;
         Ok(DraftApp {
@@ -60,7 +60,7 @@ impl<'a> Parser<'a> {
         if !is_mark(Symbol::OpenTuple, token.token) {
             return Err(fault(FaultKind::BadShape, token.at));
         }
-        let first = self.tokens.next()?;
+        let first = self.next()?;
         let name = app_name_of(before, first)?;
         self.symbol(Symbol::Comma)?;
         let app = self.app_value(alloc, name)?;
@@ -81,7 +81,7 @@ impl<'a> Parser<'a> {
             if !self.more(Symbol::CloseList)? {
                 return Ok(apps);
             }
-            token = self.tokens.next()?;
+            token = self.next()?;
         }
     }
 
@@ -92,7 +92,7 @@ impl<'a> Parser<'a> {
         ensures left { tokens_left self.new ≤ tokens_left self.old }
     {
         self.symbol(Symbol::OpenList)?;
-        let first = self.tokens.next()?;
+        let first = self.next()?;
         if is_mark(Symbol::CloseList, first.token) {
             return Ok(Vec::new(alloc));
         }

@@ -18,6 +18,8 @@ mod param;
 mod parser;
 mod reading;
 mod sections;
+#[cfg(test)]
+mod tests;
 
 pub use draft::{Draft, DraftApp, SyncWait};
 pub use limits::{MAX_APPS, MAX_NAME, MAX_NODES, MAX_TEXT};

@@ -1,9 +1,9 @@
 //! What is left of a text, and its node lists.
 
-ghost use Rattle.std.specs.Prelude.{◌≡◌, ◌<◌, ◌≤◌, IfOk, true};
-ghost use Rattle.dac_tokens.specs.Gives.{Gives};
-ghost use Rattle.dac_tokens.specs.Words.{located_of};
-ghost use Rattle.dac_shapes.specs.Shape.{symbol_at, more_at, node_of, names_at, item_at, items_at, groups_at};
+ghost use Rattle.std.specs.Prelude.{◌≡◌, ◌<◌, ◌≤◌, IfOk, true, false};
+ghost use Rattle.dac_shapes.specs.Outcome.{Gives};
+ghost use Rattle.dac_tokens.specs.Words.{located_of, word_of, is_end};
+ghost use Rattle.dac_shapes.specs.Shape.{token, symbol_at, more_at, node_of, names_at, item_at, items_at, groups_at};
 ghost use Rattle.dac_shapes.specs.Views.{names_of, groups_of, state_of, tokens_left};
 
 use crate::limits::MAX_NODES;
@@ -20,13 +20,23 @@ pub struct Parser<'a> {
 }
 
 impl<'a> Parser<'a> {
+    /// The next token; behind the end stands the end again.
+    pub fn next(&mut self) -> Result<Located<'a>, ConfigFault>
+        ensures read { Gives (λ t. (located_of t, state_of self.new)) result (token (state_of self.old)) }
+        ensures left { tokens_left self.new ≤ tokens_left self.old }
+        ensures fewer { IfOk result (λ t. is_end (word_of t.token) ≡ false → tokens_left self.new < tokens_left self.old) }
+    {
+        let next = self.tokens.next()?;
+        Ok(next)
+    }
+
     /// Passes over this symbol, which comes next.
     #[tactic(auto, unfolding(crate::specs::Shape::symbol_at))]
     pub fn symbol(&mut self, symbol: Symbol) -> Result<(), ConfigFault>
         ensures read { Gives (λ _. state_of self.new) result (symbol_at symbol (state_of self.old)) }
         ensures left { tokens_left self.new ≤ tokens_left self.old }
     {
-        let next = self.tokens.next()?;
+        let next = self.next()?;
         match next.token {
             Token::Symbol(other) if other == symbol => Ok(()),
             _ => Err(fault(FaultKind::BadShape, next.at)),
@@ -40,7 +50,7 @@ impl<'a> Parser<'a> {
         ensures left { tokens_left self.new ≤ tokens_left self.old }
         ensures fewer { IfOk result (λ b. b ≡ true → tokens_left self.new < tokens_left self.old) }
     {
-        let next = self.tokens.next()?;
+        let next = self.next()?;
         match next.token {
             Token::Symbol(Symbol::Comma) => Ok(true),
             Token::Symbol(other) if other == close => Ok(false),
@@ -86,7 +96,7 @@ impl<'a> Parser<'a> {
             if !self.more(close)? {
                 return Ok(group);
             }
-            token = self.tokens.next()?;
+            token = self.next()?;
         }
     }
 
@@ -97,7 +107,7 @@ impl<'a> Parser<'a> {
         ensures left { tokens_left self.new ≤ tokens_left self.old }
     {
         if is_mark(Symbol::OpenTuple, token.token) {
-            let first = self.tokens.next()?;
+            let first = self.next()?;
             if is_mark(Symbol::CloseTuple, first.token) {
                 return Err(fault(FaultKind::EmptyTuple, token.at));
             }
@@ -125,7 +135,7 @@ impl<'a> Parser<'a> {
             if !self.more(Symbol::CloseList)? {
                 return Ok(groups);
             }
-            token = self.tokens.next()?;
+            token = self.next()?;
         }
     }
 
@@ -142,7 +152,7 @@ impl<'a> Parser<'a> {
         if !is_mark(Symbol::OpenList, token.token) {
             return Err(fault(FaultKind::BadShape, token.at));
         }
-        let first = self.tokens.next()?;
+        let first = self.next()?;
         if is_mark(Symbol::CloseList, first.token) {
             return Err(fault(FaultKind::EmptyList, token.at));
         }

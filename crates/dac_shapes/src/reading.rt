@@ -1,6 +1,6 @@
 //! A whole text.
 
-ghost use Rattle.std.specs.Prelude.{◌≡◌, IfOk, MatchResult};
+ghost use Rattle.std.specs.Prelude.{◌≡◌, IfErr, IfOk, MatchResult};
 ghost use Rattle.dac_tokens.specs.declared.fault.FaultKind.TheVariants.{NoMemory};
 ghost use Rattle.dac_tokens.specs.Gives.{Gives};
 ghost use Rattle.dac_shapes.specs.Shape.{draft_at};
@@ -30,6 +30,7 @@ pub fn read_draft(alloc: Global, text: &[u8]) -> Result<Draft<'_>, ConfigFault>
     ensures only { (draft : Written) → IsTextOf text.now draft → MatchResult result (λ d. draft_of d ≡ draft) (λ e. e.kind ≡ NoMemory) }
     // Which fault it is, unless memory ran out.
     ensures exact { Gives draft_of result (draft_at text.now) }
+    ensures memory { IfErr result (λ e. e.kind ≡ NoMemory → e.at ≡ 0) }
 {
     if text.len() > MAX_TEXT {
         return Err(fault(FaultKind::TooLong, MAX_TEXT));

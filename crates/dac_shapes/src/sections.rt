@@ -2,7 +2,7 @@
 
 ghost use Rattle.std.specs.Prelude.{◌≡◌, ◌≤◌, [], true};
 ghost use Rattle.dac_tokens.specs.declared.token.Symbol.TheVariants.{CloseList};
-ghost use Rattle.dac_tokens.specs.Gives.{Gives};
+ghost use Rattle.dac_shapes.specs.Outcome.{Gives};
 ghost use Rattle.dac_tokens.specs.Words.{located_of};
 ghost use Rattle.dac_shapes.specs.Shape.{node_of, comma_list, list_of, room, param_value_at, param_at, section_at, end_at, file_at};
 ghost use Rattle.dac_shapes.specs.Views.{names_of, param_of, params_of, sections_of, draft_of, state_of, tokens_left};
@@ -23,7 +23,7 @@ impl<'a> Parser<'a> {
         ensures left { tokens_left self.new ≤ tokens_left self.old }
     {
         self.symbol(Symbol::OpenList)?;
-        let first = self.tokens.next()?;
+        let first = self.next()?;
         if is_mark(Symbol::CloseList, first.token) {
             return Ok(Vec::new(alloc));
         }
@@ -50,7 +50,7 @@ impl<'a> Parser<'a> {
                 Ok(Param::Optional(names))
             }
             ParamName::Timeout => {
-                let next = self.tokens.next()?;
+                let next = self.next()?;
                 let wait = wait_of(next)?;
                 Ok(Param::Timeout(wait))
             }
@@ -71,7 +71,7 @@ impl<'a> Parser<'a> {
         if !is_mark(Symbol::OpenTuple, token.token) {
             return Err(fault(FaultKind::BadShape, token.at));
         }
-        let first = self.tokens.next()?;
+        let first = self.next()?;
         let name = param_name_of(before, first)?;
         self.symbol(Symbol::Comma)?;
         let param = self.param_value(alloc, name)?;
@@ -92,7 +92,7 @@ impl<'a> Parser<'a> {
             if !self.more(Symbol::CloseList)? {
                 return Ok(params);
             }
-            token = self.tokens.next()?;
+            token = self.next()?;
         }
     }
 
@@ -103,7 +103,7 @@ impl<'a> Parser<'a> {
         ensures left { tokens_left self.new ≤ tokens_left self.old }
     {
         self.symbol(Symbol::OpenList)?;
-        let first = self.tokens.next()?;
+        let first = self.next()?;
         if is_mark(Symbol::CloseList, first.token) {
             return Ok(Vec::new(alloc));
         }
@@ -124,7 +124,7 @@ impl<'a> Parser<'a> {
         if !is_mark(Symbol::OpenTuple, token.token) {
             return Err(fault(FaultKind::BadShape, token.at));
         }
-        let first = self.tokens.next()?;
+        let first = self.next()?;
         section_name_of(before, first)?;
         self.symbol(Symbol::Comma)?;
         let params = self.kernel(alloc)?;
@@ -149,7 +149,7 @@ impl<'a> Parser<'a> {
             if !self.more(Symbol::CloseList)? {
                 return Ok(sections);
             }
-            token = self.tokens.next()?;
+            token = self.next()?;
         }
     }
 
@@ -159,7 +159,7 @@ impl<'a> Parser<'a> {
         ensures { Gives (λ sections. (sections_of sections.items, state_of self.new)) result (list_of section_at (state_of self.old)) }
     {
         self.symbol(Symbol::OpenList)?;
-        let first = self.tokens.next()?;
+        let first = self.next()?;
         if is_mark(Symbol::CloseList, first.token) {
             return Ok(Vec::new(alloc));
         }
@@ -172,7 +172,7 @@ impl<'a> Parser<'a> {
         ensures { Gives (λ at. (at, state_of self.new)) result (end_at (state_of self.old)) }
     {
         self.symbol(Symbol::FullStop)?;
-        let end = self.tokens.next()?;
+        let end = self.next()?;
         match end.token {
             Token::End => Ok(end.at),
             _ => Err(fault(FaultKind::BadShape, end.at)),

@@ -1,11 +1,11 @@
-use Rattle.std.proofs.Common.{◌≡◌, ◌++◌, ◌∷◌, [], arith, Ok, true, false}
+use Rattle.std.proofs.Common.{◌≡◌, ◌++◌, ◌∷◌, [], ◌<◌, ap, refl, ◌∙◌, arith, subst, Ok, Result, List, ℕ, length, true, false}
 use Rattle.std.proofs.lemmas.Result.{err_from_is_err_and}
 use Rattle.std.proofs.lemmas.List.{map_push}
 use Rattle.dac_tokens.specs.declared.token.Symbol.TheVariants.{CloseList}
 use Rattle.dac_tokens.specs.Words.{located_of}
 use Rattle.dac_shapes.specs.Shape.{item_at, comma_list, room, more_at}
 use Rattle.dac_shapes.specs.Views.{groups_of, names_of, state_of}
-use Rattle.dac_shapes.proofs.Lists.{fails_reading, fails_after, ends, fails_at_token, goes_on, token_ok, token_fails}
+use Rattle.dac_shapes.proofs.Lists.{fails_reading, fails_after, ends, fails_at_token, goes_on}
 use Rattle.dac_shapes.proofs.parser.Parser.items.Goals as goal
 
 pub returns-in_err-item-clause-read : goal.returns-in_err-item-clause-read
@@ -31,7 +31,7 @@ returns-in_err-token-clause-read c =
     let p = err_from_is_err_and c.from_residual-in_err-token.result c.from_residual-in_err-token.ensures.1 in
     let more : more_at CloseList (state_of c.item.new.self) ≡ Ok (true, state_of c.more.new.self) = rw c.if-not-branch.false at c.in_ok-more.ensures.read in
     rw (p.1, p.2) (fails_at_token (λ _. item_at) CloseList _ (comma_list (λ _. item_at) CloseList (room (state_of c.args.self.now)) [] (located_of c.args.first) (state_of c.args.self.now)) (groups_of c.loop-groups.groups.items) (located_of c.loop-groups.token) (state_of c.loop-groups.self)
-    (names_of c.in_ok-item.field-0.items, state_of c.item.new.self) (state_of c.more.new.self) c.loop-groups.invariant.goes c.in_ok-item.ensures.read more (token_fails _ (state_of c.more.new.self) c.in_err-token.ensures.taken))
+    (names_of c.in_ok-item.field-0.items, state_of c.item.new.self) (state_of c.more.new.self) c.loop-groups.invariant.goes c.in_ok-item.ensures.read more c.in_err-token.ensures.read)
 
 pub loop-groups-preserved : goal.loop-groups-preserved
 loop-groups-preserved c =
@@ -39,8 +39,8 @@ loop-groups-preserved c =
     let more : more_at CloseList (state_of c.item.new.self) ≡ Ok (true, state_of c.more.new.self) = rw c.if-not-branch.false at c.in_ok-more.ensures.read in
     record {
       goes = rw pushed (goes_on (λ _. item_at) CloseList (comma_list (λ _. item_at) CloseList (room (state_of c.args.self.now)) [] (located_of c.args.first) (state_of c.args.self.now)) (groups_of c.loop-groups.groups.items) (located_of c.loop-groups.token) (state_of c.loop-groups.self)
-          (names_of c.in_ok-item.field-0.items, state_of c.item.new.self) (state_of c.more.new.self) (located_of c.in_ok-token.token, record { left = c.next.new.self; seen = record { met = names_of c.more.new.self.met.items; listed = names_of c.more.new.self.listed.items } })
-          c.loop-groups.invariant.goes c.in_ok-item.ensures.read more (token_ok (state_of c.more.new.self) (located_of c.in_ok-token.token, c.next.new.self) c.in_ok-token.ensures.taken)
+          (names_of c.in_ok-item.field-0.items, state_of c.item.new.self) (state_of c.more.new.self) (located_of c.in_ok-token.token, state_of c.next.new.self)
+          c.loop-groups.invariant.goes c.in_ok-item.ensures.read more c.in_ok-token.ensures.read
           (let fewer = c.in_ok-more.ensures.fewer c.if-not-branch.false in omega (arith, fewer, c.in_ok-token.ensures.left, c.in_ok-item.ensures.left)));
       left = (let fewer = c.in_ok-more.ensures.fewer c.if-not-branch.false in omega (arith, fewer, c.in_ok-token.ensures.left, c.in_ok-item.ensures.left));
     }
