@@ -124,3 +124,34 @@ impl Reply {
         }
     }
 }
+
+#[cfg(test)]
+mod tests {
+    use super::*;
+    use dac_dots::Dot;
+    use dac_lattice::Bottom;
+    use dac_state::Act;
+    use std::test::Fail;
+
+    #[test]
+    fn copies_with_ample_memory(rt: HostRuntime) -> Result<(), Fail> {
+        let from = Origin {
+            node: NodeId(0),
+            inc: 1,
+        };
+        let message = Message {
+            from,
+            to: NodeId(1),
+            body: State::bottom(rt.alloc()),
+        };
+        let copy = message.copy()?;
+        assert_eq!(rt; copy.to, NodeId(1));
+        assert!(rt; matches!(Event::Hear(copy).copy()?, Event::Hear(_)));
+        let up = Op::new(Dot { origin: from, n: 1 }, Act::Up)
+            .ok()
+            .ok_or("no operation")?;
+        assert!(rt; matches!(Reply::Booted(up).copy()?, Reply::Booted(_)));
+        assert!(rt; matches!(Reply::Shipped(message).copy()?, Reply::Shipped(_)));
+        Ok(())
+    }
+}

@@ -170,3 +170,35 @@ fn refusal_off(last: u32, event: &Event) -> Option<Refusal>
         _ => Some(Refusal::Off),
     }
 }
+
+#[cfg(test)]
+mod tests {
+    use super::*;
+    use dac_config::read_config;
+    use std::test::Fail;
+
+    const ONE: &[u8] = b"[{kernel,[{distributed,[{a,[c1@h,c2@h]}]}]}].";
+
+    #[test]
+    fn a_boot_goes_by_the_next_number(rt: HostRuntime) -> Result<(), Fail> {
+        let config = read_config(rt.alloc(), ONE)?;
+        let mut node = Node::off(rt.alloc(), 4);
+        assert_eq!(rt; node.origin(), None);
+        let answer = node.step(&config, NodeId(1), Event::Boot { now: 0 });
+        assert!(rt; matches!(answer, Ok(Reply::Booted(_))));
+        let origin = node.origin();
+        assert_eq!(rt; origin.map(|origin| origin.inc), Some(5));
+        let copy = node.copy()?;
+        assert!(rt; copy.state().is_some());
+        Ok(())
+    }
+
+    #[test]
+    fn numbers_of_incarnations_end(rt: HostRuntime) -> Result<(), Fail> {
+        let config = read_config(rt.alloc(), ONE)?;
+        let mut node = Node::off(rt.alloc(), u32::MAX);
+        let answer = node.step(&config, NodeId(0), Event::Boot { now: 0 });
+        assert!(rt; matches!(answer, Err(Refusal::IncarnationsUsedUp)));
+        Ok(())
+    }
+}

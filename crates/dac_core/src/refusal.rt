@@ -99,3 +99,17 @@ impl From<NoMemory> for Refusal {
         Refusal::NoMemory
     }
 }
+
+#[cfg(test)]
+mod tests {
+    use super::*;
+    use std::test::Fail;
+
+    #[test]
+    fn shown_by_its_name(rt: HostRuntime) -> Result<(), Fail> {
+        let shown = format!(in rt.alloc(); "{}", Refusal::NotForMe)?;
+        assert_eq!(rt; shown.as_str(), "NotForMe");
+        assert_eq!(rt; Refusal::NotForMe.number(), 15);
+        Ok(())
+    }
+}

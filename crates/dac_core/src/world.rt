@@ -217,3 +217,189 @@ fn note(operations: &mut Vec<Op>, messages: &mut Vec<Message>, reply: Reply)
         Reply::Heard(_) => {}
     }
 }
+
+#[cfg(test)]
+mod tests {
+    use super::*;
+    use crate::event::Command;
+    use dac_base::AppId;
+    use dac_config::read_config;
+    use dac_lattice::Lattice;
+    use std::process::Abort;
+    use std::test::Fail;
+
+    /// The example of OTP's manual on distributed applications.
+    const EXAMPLE: &[u8] =
+        b"[{kernel,[{distributed,[{myapp,5000,[cp1@cave,{cp2@cave,cp3@cave}]}]},{sync_nodes_mandatory,[cp2@cave,cp3@cave]},{sync_nodes_timeout,5000}]}].";
+
+    /// Two applications, the second at the second node alone.
+    const TWO: &[u8] = b"[{kernel,[{distributed,[{a,5000,[c1@h,{c2@h,c3@h}]},{b,[c2@h]}]}]}].";
+
+    const FIRST: NodeId = NodeId(0);
+
+    const SECOND: NodeId = NodeId(1);
+
+    const THIRD: NodeId = NodeId(2);
+
+    const UNKNOWN: NodeId = NodeId(3);
+
+    fn boot(node: NodeId) -> WorldEvent {
+        WorldEvent {
+            node,
+            what: What::Boot { now: 0 },
+        }
+    }
+
+    fn ship(node: NodeId, to: NodeId) -> WorldEvent {
+        WorldEvent {
+            node,
+            what: What::Ship { to },
+        }
+    }
+
+    fn deliver(node: NodeId, number: u64) -> WorldEvent {
+        WorldEvent {
+            node,
+            what: What::Deliver(number),
+        }
+    }
+
+    fn start(node: NodeId, app: u16, about: NodeId) -> WorldEvent {
+        let app = AppId(app);
+        WorldEvent {
+            node,
+            what: What::Command(Command::Start { app, node: about }),
+        }
+    }
+
+    fn stop(node: NodeId, app: u16, about: NodeId) -> WorldEvent {
+        let app = AppId(app);
+        WorldEvent {
+            node,
+            what: What::Command(Command::Stop { app, node: about }),
+        }
+    }
+
+    /// An answer as a word and a number: a counter, an addressee or a refusal.
+    fn told(answer: &Result<Reply, WorldFault>) -> (&'static str, u64) {
+        match answer {
+            Ok(Reply::Booted(operation)) => ("booted", operation.dot().n),
+            Ok(Reply::Issued(operation)) => ("issued", operation.dot().n),
+            Ok(Reply::Shipped(message)) => ("shipped to", message.to.0 as u64),
+            Ok(Reply::Heard(true)) => ("heard new", 0),
+            Ok(Reply::Heard(false)) => ("heard nothing new", 0),
+            Err(WorldFault::NoSuchNode) => ("no such node", 0),
+            Err(WorldFault::NoSuchMessage) => ("no such message", 0),
+            Err(WorldFault::Refused(why)) => ("refused", why.number() as u64),
+        }
+    }
+
+    /// The world after these events, each of which is answered as wanted.
+    fn played<R: Abort>(
+        rt: &R,
+        alloc: Global,
+        text: &[u8],
+        events: &[(WorldEvent, (&'static str, u64))],
+    ) -> Result<World, Fail> {
+        let config = read_config(alloc, text)?;
+        let mut world = World::new(alloc, &config)?;
+        for (event, want) in events {
+            let answer = world.step(&config, event);
+            assert_eq!(rt; told(&answer), *want, "at {event:?}");
+        }
+        Ok(world)
+    }
+
+    /// Whether the first two nodes run and hold equal states.
+    fn are_same(world: &World) -> bool {
+        if world.nodes.len() < 2 {
+            return false;
+        }
+        match (world.nodes[0].state(), world.nodes[1].state()) {
+            (Some(mine), Some(theirs)) => mine.equal(theirs),
+            _ => false,
+        }
+    }
+
+    #[test]
+    fn first_path(rt: HostRuntime) -> Result<(), Fail> {
+        let events = [
+            (boot(FIRST), ("booted", 1)),
+            (boot(SECOND), ("booted", 1)),
+            (start(FIRST, 0, FIRST), ("issued", 2)),
+            (ship(FIRST, SECOND), ("shipped to", 1)),
+            (deliver(SECOND, 1), ("heard new", 0)),
+            (ship(SECOND, FIRST), ("shipped to", 0)),
+            (deliver(FIRST, 2), ("heard new", 0)),
+        ];
+        let world = played(&rt, rt.alloc(), EXAMPLE, &events)?;
+        assert!(rt; are_same(&world));
+        assert_eq!(rt; world.operations().len(), 3);
+        assert_eq!(rt; world.messages().len(), 2);
+        Ok(())
+    }
+
+    #[test]
+    fn a_stop_makes_states_differ(rt: HostRuntime) -> Result<(), Fail> {
+        let events = [
+            (boot(FIRST), ("booted", 1)),
+            (boot(SECOND), ("booted", 1)),
+            (start(FIRST, 0, FIRST), ("issued", 2)),
+            (ship(FIRST, SECOND), ("shipped to", 1)),
+            (deliver(SECOND, 1), ("heard new", 0)),
+            (stop(SECOND, 0, FIRST), ("issued", 2)),
+        ];
+        let world = played(&rt, rt.alloc(), EXAMPLE, &events)?;
+        assert!(rt; !are_same(&world));
+        Ok(())
+    }
+
+    #[test]
+    fn late_and_repeated_messages(rt: HostRuntime) -> Result<(), Fail> {
+        let events = [
+            (boot(FIRST), ("booted", 1)),
+            (ship(FIRST, SECOND), ("shipped to", 1)),
+            (deliver(SECOND, 1), ("refused", 1)),
+            (boot(SECOND), ("booted", 1)),
+            (deliver(SECOND, 1), ("heard new", 0)),
+            (deliver(SECOND, 1), ("heard nothing new", 0)),
+            (deliver(SECOND, 2), ("no such message", 0)),
+            (deliver(SECOND, 0), ("no such message", 0)),
+            (deliver(FIRST, 1), ("refused", 6)),
+            (boot(UNKNOWN), ("no such node", 0)),
+        ];
+        let _ = played(&rt, rt.alloc(), EXAMPLE, &events)?;
+        Ok(())
+    }
+
+    #[test]
+    fn refusals_in_order(rt: HostRuntime) -> Result<(), Fail> {
+        let events = [
+            (start(FIRST, 2, UNKNOWN), ("refused", 1)),
+            (boot(FIRST), ("booted", 1)),
+            (boot(FIRST), ("refused", 2)),
+            (start(FIRST, 2, UNKNOWN), ("refused", 4)),
+            (start(FIRST, 1, UNKNOWN), ("refused", 5)),
+            (start(FIRST, 1, FIRST), ("refused", 7)),
+            (start(FIRST, 1, SECOND), ("refused", 9)),
+            (stop(FIRST, 0, FIRST), ("refused", 10)),
+            (ship(FIRST, UNKNOWN), ("refused", 5)),
+            (ship(FIRST, FIRST), ("refused", 6)),
+            (ship(FIRST, SECOND), ("shipped to", 1)),
+            (boot(THIRD), ("booted", 1)),
+            (deliver(THIRD, 1), ("refused", 15)),
+        ];
+        let _ = played(&rt, rt.alloc(), TWO, &events)?;
+        Ok(())
+    }
+
+    #[test]
+    fn a_run_answers_each_event(rt: HostRuntime) -> Result<(), Fail> {
+        let config = read_config(rt.alloc(), TWO)?;
+        let events = [boot(FIRST), ship(FIRST, SECOND)];
+        let (world, answers) = World::run(rt.alloc(), &config, &events)?;
+        assert_eq!(rt; world.messages().len(), 1);
+        assert_eq!(rt; answers.len(), 2);
+        Ok(())
+    }
+}
