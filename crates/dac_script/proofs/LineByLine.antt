@@ -32,7 +32,7 @@ reads_more table lines script i line said lt here says answer reads =
     ∙ ap (λ (b : Bool). filter is_said (take i lines) ++ cond b (line ∷ []) []) says in
     record {
       said = ap (map (line_in table)) more ∙ map_push (line_in table) (filter is_said (take i lines)) line
-      ∙ ap (λ l. l ++ line_in table line ∷ []) reads.said ∙ ap (λ r. map readable script ++ r ∷ []) answer ∙ sym (map_push readable script said)
+          ∙ ap (λ l. l ++ line_in table line ∷ []) reads.said ∙ ap (λ r. map readable script ++ r ∷ []) answer ∙ sym (map_push readable script said);
     }
 
 -- before the first line nothing is read

@@ -30,10 +30,10 @@ pub event_plays : (table : Table) (old new : WorldValue) (event : WorldEvent) (a
     → answer ≢ out_of_memory → counts.operations ≡ length new.operations → counts.messages ≡ length new.messages → text ≡ answer_text table event answer counts → PlaysLine table old (says.Event event) text new
 event_plays table old new event answer counts text follows enough operations messages is_text = record {
   each = λ w shows.
-    let p = follows.each w shows in
-    ⊎_elim (λ (done : Done (happens table w event) answer p.0).
-        let shows_next = subst (λ x. Shows x new) done.went_on p.1.1 in
-        (is_text ∙ ap (λ a. answer_text table event a counts) done.answered ∙ ap (answer_text table event (happens table w event).answer) (same_counts (happens table w event).world new counts shows_next operations messages), shows_next))
+      let p = follows.each w shows in
+      ⊎_elim (λ (done : Done (happens table w event) answer p.0).
+      let shows_next = subst (λ x. Shows x new) done.went_on p.1.1 in
+      (is_text ∙ ap (λ a. answer_text table event a counts) done.answered ∙ ap (answer_text table event (happens table w event).answer) (same_counts (happens table w event).world new counts shows_next operations messages), shows_next))
       (λ (lacked : Lacked w (happens table w event) answer p.0). absurd (enough lacked.answered))
       p.1.0;
 }
@@ -83,8 +83,8 @@ played_more table script i line v u text old mid new lt d here plays written pla
       shows = step.1;
       done = played.done ++ text;
       whole = played.whole ∙ ap (λ l. played.done ++ script_text table played.world l) opened
-        ∙ ap (λ t. played.done ++ (t ++ script_text table (world_after table played.world line) (drop (i + 1) script))) (sym step.0)
-        ∙ sym (append_assoc played.done text (script_text table (world_after table played.world line) (drop (i + 1) script)));
+          ∙ ap (λ t. played.done ++ (t ++ script_text table (world_after table played.world line) (drop (i + 1) script))) (sym step.0)
+          ∙ sym (append_assoc played.done text (script_text table (world_after table played.world line) (drop (i + 1) script)));
       appended = Appends-trans old mid new played.done text played.appended written;
     }
 

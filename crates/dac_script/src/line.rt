@@ -61,9 +61,7 @@ fn actor(config: &Config, name: &[u8]) -> Result<NodeId, ScriptFaultKind>
     ensures node { result ≡ actor config.now name.now }
     ensures below { IfOk result (λ node. node.0 < node_count config.now) }
 {
-    config
-        .node_named(name)
-        .ok_or(ScriptFaultKind::UnknownActor)
+    config.node_named(name).ok_or(ScriptFaultKind::UnknownActor)
 }
 
 /// The node that an event is about: the number past all nodes where the configuration has no such node.

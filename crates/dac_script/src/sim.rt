@@ -25,7 +25,7 @@ use std::io::{Read, Write};
 
 /// Why a script was not played to its end.
 #[derive(Clone, Copy, Debug, PartialEq, Eq)]
-enum Stop {
+pub enum Stop {
     /// Memory was refused.
     NoMemory,
     /// The output took no more.
@@ -96,7 +96,9 @@ fn step(
 }
 
 /// Plays the lines of a script one after another, from all nodes off, and prints the line for each.
-fn play<W: Write>(
+///
+/// It stops where memory is refused, and where the output takes no more; nothing is said then of what was printed.
+pub fn play<W: Write>(
     alloc: Global,
     config: &Config,
     script: &[ScriptLine],
@@ -132,11 +134,9 @@ fn parts_of(alloc: Global, text: &[u8]) -> Result<(Config, Vec<ScriptLine>), Fai
     Ok((config, script))
 }
 
-/// Reads and checks a whole input: the input as such, its configuration and then its script.
-fn prepared<R: Read>(
-    alloc: Global,
-    input: &mut R,
-) -> Result<(Config, Vec<ScriptLine>), Failure>
+/// Reads and checks a whole input: the input as such, its configuration and then its script. The first of these
+/// that has a fault is answered; `NoMemory` only where memory is refused before a fault is met.
+pub fn prepare<R: Read>(alloc: Global, input: &mut R) -> Result<(Config, Vec<ScriptLine>), Failure>
     ensures says { IfOk result (λ both. IfSome (R.remaining input.old) (λ bytes. Says bytes both.0 both.1.items)) }
     ensures actors { IfOk result (λ both. All (HasActors (node_count both.0)) both.1.items) }
     ensures fails { IfErr result (λ why. IfSome (R.remaining input.old) (λ bytes. IsFailureOf bytes why)) }
@@ -162,7 +162,7 @@ pub fn simulate<R: Read, W: Write>(alloc: Global, input: &mut R, output: &mut W)
     ensures status { result ≤ 1 }
     ensures played { result ≡ 0 → IfSome (R.remaining input.old) (λ bytes. IsSimulated bytes (W.contents output.old) (W.contents output.new)) }
 {
-    let (config, script) = match prepared(alloc, input) {
+    let (config, script) = match prepare(alloc, input) {
         Ok(both) => both,
         Err(failure) => {
             report(alloc, failure, output);

@@ -2,8 +2,8 @@
 
 use super::{
     Failure, InputFault, ScriptFault, ScriptFaultKind, booted_line, config_fault_line, heard_line,
-    input_fault_line, issued_line, no_message_line, off_line, parted, printed_name, read_input,
-    read_script, refused_line, same_line, script_fault_line, shipped_line, simulate,
+    input_fault_line, issued_line, no_message_line, off_line, parted, play, prepare, printed_name,
+    read_input, read_script, refused_line, same_line, script_fault_line, shipped_line, simulate,
 };
 use dac_config::read_config;
 use dac_tokens::{ConfigFault, FaultKind};
@@ -47,11 +47,26 @@ fn prints_each_line(rt: HostRuntime) -> Result<(), Fail> {
         (no_message_line(alloc, 7)?, "no message 7\n"),
         (refused_line(alloc, 9, "NotLive")?, "refused 9 NotLive\n"),
         (off_line(alloc, b"c1@h")?, "node c1@h off\n"),
-        (input_fault_line(alloc, InputFault::Read)?, "input fault 3 Read\n"),
-        (config_fault_line(alloc, fault)?, "config fault 7 TwiceInList at 37\n"),
-        (script_fault_line(alloc, line)?, "script fault 3 4 BadNumber\n"),
-        (Failure::Input(InputFault::TooLong).line(alloc)?, "input fault 1 TooLong\n"),
-        (Failure::Script(line).line(alloc)?, "script fault 3 4 BadNumber\n"),
+        (
+            input_fault_line(alloc, InputFault::Read)?,
+            "input fault 3 Read\n",
+        ),
+        (
+            config_fault_line(alloc, fault)?,
+            "config fault 7 TwiceInList at 37\n",
+        ),
+        (
+            script_fault_line(alloc, line)?,
+            "script fault 3 4 BadNumber\n",
+        ),
+        (
+            Failure::Input(InputFault::TooLong).line(alloc)?,
+            "input fault 1 TooLong\n",
+        ),
+        (
+            Failure::Script(line).line(alloc)?,
+            "script fault 3 4 BadNumber\n",
+        ),
         (Failure::NoMemory.line(alloc)?, "out of memory\n"),
     ];
     for (printed, expected) in &cases {
@@ -74,7 +89,9 @@ fn parts_inputs(rt: HostRuntime) -> Result<(), Fail> {
         ("", None),
     ];
     for (input, expected) in cases {
-        let text = read_input(rt.alloc(), &mut input.as_bytes()).ok().ok_or("unread")?;
+        let text = read_input(rt.alloc(), &mut input.as_bytes())
+            .ok()
+            .ok_or("unread")?;
         assert_eq!(rt; text.as_slice(), input.as_bytes());
         let parts = expected.map(|both| (both.0.as_bytes(), both.1.as_bytes()));
         assert_eq!(rt; parted(&text), parts, "{input}");
@@ -99,9 +116,21 @@ fn reads_and_plays(rt: HostRuntime) -> Result<(), Fail> {
 
     let mut input = String::from_str(alloc, EXAMPLE)?;
     input.push_str("--\nboot c1@h 0\nsame c1@h c2@h\n")?;
+    let prepared = prepare(alloc, &mut input.as_bytes());
+    let (config, script) = prepared.ok().ok_or("refused")?;
+    assert_eq!(rt; script.len(), 2);
+    let mut played = Vec::new(alloc);
+    assert_eq!(rt; play(alloc, &config, &script, &mut played), Ok(()));
+    assert_eq!(rt;
+        played.as_slice(),
+        b"booted 1 op 1\nnode c2@h off\n".as_slice()
+    );
     let mut output = Vec::new(alloc);
     let status = simulate(alloc, &mut input.as_bytes(), &mut output);
-    assert_eq!(rt; output.as_slice(), b"booted 1 op 1\nnode c2@h off\n".as_slice());
+    assert_eq!(rt;
+        output.as_slice(),
+        b"booted 1 op 1\nnode c2@h off\n".as_slice()
+    );
     assert_eq!(rt; status, 0);
     Ok(())
 }

@@ -9,7 +9,7 @@ returns-in_err-checked_mul c =
     c.from_residual.ensures ∙ too_large (value_from 0 c.args.digits.now) (2 ^ 64) (omega (arith, c.in_err-checked_mul.ensures))
 
 pub returns-in_err-value : goal.returns-in_err-value
-returns-in_err-value c = 
+returns-in_err-value c =
     let least = not_less c.loop-digit.value c.loop-digit.digit-index (value_from 0 c.args.digits.now) c.args.digits.now c.loop-digit-test.true c.loop-digit.invariant.so_far in
     c.from_residual-in_err-value.ensures ∙ too_large (value_from 0 c.args.digits.now) (2 ^ 64) (omega (arith, c.in_err-value.ensures, c.in_ok-checked_mul.ensures.1, c.from.ensures, c.saturating_sub.ensures))
 
