@@ -1,5 +1,5 @@
 -- Names by their bytes, wherever they lie.
-use Rattle.std.proofs.Common.{◌≡◌, ℕ, Bool, eqb, ◌||◌, List, [], ◌∷◌, refl, ap, arith}
+use Rattle.std.proofs.Common.{◌≡◌, ℕ, eqb, ◌||◌, List, [], ◌∷◌, refl, ap, arith}
 use Rattle.std.proofs.lemmas.Bool.Decides.{nat_tests}
 use Rattle.std.specs.Str.{bytes_eq}
 use Rattle.std.specs.List.{list_any}

@@ -1,13 +1,12 @@
 -- What the grammar and the limits of a text say of what is numbered.
-use Rattle.std.proofs.Common.{◌≡◌, ℕ, suc, ◌+◌, ◌<◌, ◌≤◌, Bool, true, false, List, [], ◌∷◌, ◌++◌, length, map, get_or, refl, sym, ap, subst, ◌∙◌, inl, inr, arith}
-use Rattle.std.specs.Prelude.{All, codes, fold}
-use Rattle.std.specs.List.{AllByRecursion}
+use Rattle.std.proofs.Common.{◌≡◌, ℕ, ◌+◌, ◌<◌, ◌≤◌, true, List, [], ◌∷◌, ◌++◌, length, map, refl, sym, ap, subst, ◌∙◌, inl, inr, arith}
+use Rattle.std.specs.Prelude.{All, fold}
 use Rattle.std.proofs.lemmas.List.{length-append, map_push}
 use Rattle.std.proofs.lemmas.List.Elements.{All-nil, All-cons}
 use Rattle.dac_tokens.specs.Words.{Word}
-use Rattle.dac_shapes.specs.Written.{App, Param, Distributed, Mandatory, Optional, Timeout, Written, put, put_all, unsaid, written}
-use Rattle.dac_shapes.specs.Limits.{Seen, nothing, AllMay, steps, listing, with_app, MayApp, with_apps, with_param, MayParam, MayValue, with_section, MaySection, MaySections, nodes_in}
-use Rattle.dac_shapes.specs.Grammar.{Parted, PartedOrNone, IsListOf, IsNode, IsItem, IsNodeList, IsApp, IsAppValue, IsParam, IsParamValue, IsSection, IsFile, IsTextOf}
+use Rattle.dac_shapes.specs.Written.{App, Param, Distributed, Mandatory, Optional, Timeout, Written, put, put_all, unsaid}
+use Rattle.dac_shapes.specs.Limits.{Seen, nothing, AllMay, listing, with_app, MayApp, with_apps, with_param, MayParam, MayValue, with_section, MaySection, MaySections, nodes_in}
+use Rattle.dac_shapes.specs.Grammar.{Parted, IsListOf, IsNode, IsItem, IsApp, IsParam, IsSection, IsFile, IsTextOf}
 use Rattle.dac_config.specs.Numbering.{AllNew, IsNumberable}
 use Rattle.dac_config.proofs.Listed.{kept, IsFew, few_nodes, few_groups_met, few_groups_listed, AllSome}
 

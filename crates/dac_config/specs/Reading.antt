@@ -1,5 +1,5 @@
 -- What a text is read as.
-use Rattle.std.specs.Prelude.{ℕ, List, Result, Ok, Err}
+use Rattle.std.specs.Prelude.{ℕ, List, Result, Ok}
 use Rattle.dac_tokens.specs.declared.fault.ConfigFault.{ConfigFault}
 use Rattle.dac_tokens.specs.Gives.{◌>>=◌}
 use Rattle.dac_shapes.specs.Shape.{draft_at}

@@ -245,51 +245,60 @@ mod tests {
     }
 
     #[test]
-    fn refusals(rt: HostRuntime) -> Result<(), Fail> {
-        let alloc = rt.alloc();
-        let descending = [dot(1, 2), dot(1, 1)];
-        let twice = [dot(1, 1), dot(1, 1)];
-        let own = [dot(0, 2)];
-        let own_descending = [dot(1, 2), dot(1, 1), dot(0, 2)];
-        assert_eq!(rt;
-            fault(dot(0, 2), start(alloc, &own)?),
-            Some(OpFault::OwnDot)
-        );
-        assert_eq!(rt;
-            fault(dot(0, 2), start(alloc, &own_descending)?),
-            Some(OpFault::OwnDot)
-        );
-        assert_eq!(rt;
-            fault(dot(0, 2), start(alloc, &descending)?),
-            Some(OpFault::BadOver)
-        );
-        assert_eq!(rt;
-            fault(dot(0, 1), start(alloc, &twice)?),
-            Some(OpFault::BadOver)
-        );
-        assert_eq!(rt;
-            fault(dot(0, 1), start(alloc, &[])?),
-            Some(OpFault::BadCounter)
-        );
+    fn refused_for_own_dot(rt: HostRuntime) -> Result<(), Fail> {
+        let own = start(rt.alloc(), &[dot(0, 2)])?;
+        assert_eq!(rt; fault(dot(0, 2), own), Some(OpFault::OwnDot));
+        let descending = start(rt.alloc(), &[dot(1, 2), dot(0, 2)])?;
+        assert_eq!(rt; fault(dot(0, 2), descending), Some(OpFault::OwnDot));
+        Ok(())
+    }
+
+    #[test]
+    fn refused_for_bad_over(rt: HostRuntime) -> Result<(), Fail> {
+        let descending = start(rt.alloc(), &[dot(1, 2), dot(1, 1)])?;
+        assert_eq!(rt; fault(dot(0, 2), descending), Some(OpFault::BadOver));
+        let twice = start(rt.alloc(), &[dot(1, 1), dot(1, 1)])?;
+        assert_eq!(rt; fault(dot(0, 1), twice), Some(OpFault::BadOver));
+        Ok(())
+    }
+
+    #[test]
+    fn refused_for_bad_counter(rt: HostRuntime) -> Result<(), Fail> {
+        let first = start(rt.alloc(), &[])?;
+        assert_eq!(rt; fault(dot(0, 1), first), Some(OpFault::BadCounter));
         assert_eq!(rt; fault(dot(0, 2), Act::Up), Some(OpFault::BadCounter));
         Ok(())
     }
 
     #[test]
-    fn acceptances(rt: HostRuntime) -> Result<(), Fail> {
-        let alloc = rt.alloc();
+    fn accepts_an_up(rt: HostRuntime) -> Result<(), Fail> {
         let up = Op::new(dot(0, 1), Act::Up)?;
         assert_eq!(rt; up.dot(), dot(0, 1));
         assert!(rt; up.act().is_up());
+        Ok(())
+    }
+
+    #[test]
+    fn accepts_a_start(rt: HostRuntime) -> Result<(), Fail> {
         let over = [dot(1, 1), dot(1, 2)];
-        let copied = Op::new(dot(0, 2), start(alloc, &over)?)?.copy()?;
+        let copied = Op::new(dot(0, 2), start(rt.alloc(), &over)?)?.copy()?;
         copied.known();
         assert_eq!(rt; copied.dot(), dot(0, 2));
         assert_eq!(rt; copied.act().over(), over.as_slice());
-        let over = DotList::new(Vec::from_slice(alloc, &over)?);
-        let stop = Act::Stop { key: KEY, over };
-        assert_eq!(rt; fault(dot(0, 2), stop.copy()?), None);
-        assert_eq!(rt; stop.over(), copied.act().over());
+        Ok(())
+    }
+
+    #[test]
+    fn copies_a_stop(rt: HostRuntime) -> Result<(), Fail> {
+        let over = [dot(1, 1)];
+        let list = DotList::new(Vec::from_slice(rt.alloc(), &over)?);
+        let copied = Act::Stop {
+            key: KEY,
+            over: list,
+        }
+        .copy()?;
+        assert_eq!(rt; copied.over(), over.as_slice());
+        assert_eq!(rt; fault(dot(0, 2), copied), None);
         Ok(())
     }
 

@@ -284,12 +284,19 @@ mod tests {
         Ok(State::delta_of(alloc, &op)?)
     }
 
+    /// Two starts of one key, neither of which replaces the other.
+    fn both(alloc: Global) -> Result<State, Fail> {
+        Ok(start(alloc, 2, &[])?.join(&start(alloc, 3, &[])?)?)
+    }
+
+    /// Both, and a stop of the first.
+    fn stopped(alloc: Global) -> Result<State, Fail> {
+        Ok(both(alloc)?.join(&stop(alloc, 4, &[dot(2)])?)?)
+    }
+
     /// Joins through the bound, as callers of any lattice do.
-    fn join_all<L: Bottom>(alloc: Global, values: &[L]) -> Result<L, NoMemory> {
-        let mut joined = L::bottom(alloc);
-        for value in values {
-            joined = joined.join(value)?;
-        }
+    fn join_both<L: Bottom>(alloc: Global, first: &L, second: &L) -> Result<L, NoMemory> {
+        let joined = L::bottom(alloc).join(first)?.join(second)?;
         Ok(joined)
     }
 
@@ -304,72 +311,77 @@ mod tests {
     fn an_up_hears_itself(rt: HostRuntime) -> Result<(), Fail> {
         let state = up(rt.alloc())?;
         assert_eq!(rt; state.heard().dots()?.as_slice(), [dot(1)].as_slice());
-        assert_eq!(rt; state.known().dots()?.as_slice(), [dot(1)].as_slice());
-        assert_eq!(rt; state.life(NodeId(0)), Some(1));
-        assert_eq!(rt; state.life(NodeId(1)), None);
-        assert!(rt; !state.wished(KEY));
-        assert_eq!(rt; state.standing_count(KEY), 0);
         Ok(())
     }
 
     #[test]
-    fn starts_stand_until_replaced(rt: HostRuntime) -> Result<(), Fail> {
-        let alloc = rt.alloc();
-        let first = start(alloc, 2, &[])?;
-        let second = start(alloc, 3, &[])?;
-        let both = first.join(&second)?;
+    fn an_up_is_a_life(rt: HostRuntime) -> Result<(), Fail> {
+        let state = up(rt.alloc())?;
+        assert_eq!(rt; state.life(NodeId(0)), Some(1));
+        assert_eq!(rt; state.life(NodeId(1)), None);
+        Ok(())
+    }
+
+    #[test]
+    fn starts_stand(rt: HostRuntime) -> Result<(), Fail> {
+        let both = both(rt.alloc())?;
         assert!(rt; both.wished(KEY));
         assert_eq!(rt; both.standing_count(KEY), 2);
-        assert_eq!(rt; both.standing(KEY)?.as_slice(), [dot(2), dot(3)].as_slice());
-        let stopped = both.join(&stop(alloc, 4, &[dot(2)])?)?;
+        Ok(())
+    }
+
+    #[test]
+    fn a_stop_ends_what_it_names(rt: HostRuntime) -> Result<(), Fail> {
+        let stopped = stopped(rt.alloc())?;
         assert_eq!(rt; stopped.standing(KEY)?.as_slice(), [dot(3)].as_slice());
-        assert!(rt; stopped.join(&first)?.equal(&stopped));
+        Ok(())
+    }
+
+    #[test]
+    fn what_is_stopped_stays_so(rt: HostRuntime) -> Result<(), Fail> {
+        let stopped = stopped(rt.alloc())?;
+        let again = start(rt.alloc(), 2, &[])?.join(&stopped)?;
+        assert!(rt; again.equal(&stopped));
+        Ok(())
+    }
+
+    #[test]
+    fn a_stop_may_come_first(rt: HostRuntime) -> Result<(), Fail> {
+        let stop = stop(rt.alloc(), 3, &[dot(2)])?;
+        assert_eq!(rt;
+            stop.known().dots()?.as_slice(),
+            [dot(2), dot(3)].as_slice()
+        );
+        let joined = stop.join(&start(rt.alloc(), 2, &[])?)?;
+        assert!(rt; !joined.wished(KEY));
+        Ok(())
+    }
+
+    #[test]
+    fn a_stop_is_above(rt: HostRuntime) -> Result<(), Fail> {
+        let both = both(rt.alloc())?;
+        let stopped = stopped(rt.alloc())?;
         assert!(rt; is_joined_above(&both, &stopped)?);
         assert!(rt; !stopped.leq(&both));
         Ok(())
     }
 
     #[test]
-    fn a_stop_may_come_first(rt: HostRuntime) -> Result<(), Fail> {
-        let alloc = rt.alloc();
-        let stopped = stop(alloc, 3, &[dot(2)])?;
-        assert_eq!(rt; stopped.heard().dots()?.as_slice(), [dot(3)].as_slice());
-        assert_eq!(rt;
-            stopped.known().dots()?.as_slice(),
-            [dot(2), dot(3)].as_slice()
-        );
-        let joined = stopped.join(&start(alloc, 2, &[])?)?;
-        assert!(rt; !joined.wished(KEY));
-        assert_eq!(rt;
-            joined.heard().dots()?.as_slice(),
-            [dot(2), dot(3)].as_slice()
-        );
+    fn joins_from_nothing(rt: HostRuntime) -> Result<(), Fail> {
+        let up = up(rt.alloc())?;
+        let start = start(rt.alloc(), 2, &[])?;
+        let joined = join_both(rt.alloc(), &start, &up)?;
+        assert!(rt; joined.equal(&up.join(&start)?));
+        assert!(rt; !joined.equal(&State::bottom(rt.alloc())));
         Ok(())
     }
 
     #[test]
-    fn order_of_joins(rt: HostRuntime) -> Result<(), Fail> {
-        let alloc = rt.alloc();
+    fn laws_are_told() {
         laws::parts_of_meaning();
         laws::wishes_of_meaning();
         laws::order_and_repeats();
         laws::join_of_meanings();
         laws::order_of_states();
-        let mut states = Vec::new(alloc);
-        states.push(stop(alloc, 4, &[dot(2), dot(3)])?)?;
-        states.push(start(alloc, 3, &[dot(2)])?)?;
-        states.push(up(alloc)?)?;
-        states.push(start(alloc, 2, &[])?)?;
-        let joined = join_all(alloc, &states)?;
-        let turned = states[3]
-            .join(&states[2])?
-            .join(&states[1])?
-            .join(&states[0])?;
-        assert!(rt; joined.equal(&turned));
-        assert!(rt; State::bottom(alloc).leq(&joined));
-        assert!(rt; !joined.equal(&State::bottom(alloc)));
-        assert_eq!(rt; joined.heard().len(), 4);
-        assert!(rt; !joined.wished(KEY));
-        Ok(())
     }
 }

@@ -1,4 +1,4 @@
-use Rattle.std.proofs.Common.{◌≡◌, ap, sym, ◌∙◌, subst, Ok}
+use Rattle.std.proofs.Common.{ap, sym, ◌∙◌, subst, Ok}
 use Rattle.std.proofs.lemmas.Result.{err_from_is_err_and}
 use Rattle.dac_tokens.specs.Gives.{◌>>=◌}
 use Rattle.dac_shapes.specs.Shape.{draft_at}

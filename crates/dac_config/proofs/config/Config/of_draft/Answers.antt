@@ -1,5 +1,5 @@
-use Rattle.std.proofs.Common.{◌≡◌, ◌≤◌, sym, ◌∙◌, length, subst, refl, ap, map}
-use Rattle.dac_config.specs.Table.{Table, IsSmall}
+use Rattle.std.proofs.Common.{◌≤◌, sym, ◌∙◌, length, subst, refl, ap, map}
+use Rattle.dac_config.specs.Table.{IsSmall}
 use Rattle.dac_shapes.specs.Views.{draft_of, apps_of}
 use Rattle.dac_config.specs.ConfigView.{node_row}
 use Rattle.dac_config.specs.Numbering.{numbered_app}

@@ -1,12 +1,9 @@
-use Rattle.std.proofs.Common.{◌≡◌, ℕ, ◌+◌, ◌<◌, List, [], ◌∷◌, ap, sym, ◌∙◌, drop, length, get_or, arith}
-use Rattle.std.specs.Prelude.{fold}
-use Rattle.std.specs.BTreeSet.{insert_key}
+use Rattle.std.proofs.Common.{◌≡◌, ap, ◌∙◌, arith}
 use Rattle.std.specs.Vec.{vec_items}
 use Rattle.std.proofs.lemmas.Result.{IfOk-at_ok}
 use Rattle.std.proofs.lemmas.Iterator.{items_from_collect}
 use Rattle.std.proofs.lemmas.Iterator.Consumers.{YieldsList-from_copied, YieldsList-from_rest, YieldsList-at}
 use Rattle.dac_shapes.specs.Views.{names_of}
-use Rattle.dac_config.specs.Numbering.{name_cmp, in_byte_order}
 use Rattle.dac_config.proofs.Numbers.{one_inserted, all_inserted}
 use Rattle.dac_config.proofs.config.number.in_byte_order.Goals as goal
 
