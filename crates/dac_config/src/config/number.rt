@@ -115,7 +115,7 @@ fn apps_of(
 
 impl Config {
     /// What a text says, with numbers in place of names.
-    pub fn of_draft(alloc: Global, draft: &Draft<'_>) -> Result<Config, NoMemory>
+    pub(crate) fn of_draft(alloc: Global, draft: &Draft<'_>) -> Result<Config, NoMemory>
         requires { IsNumberable (draft_of draft.now) }
         ensures { IfOk result (λ config. config ≡ numbered (draft_of draft.now)) }
     {
