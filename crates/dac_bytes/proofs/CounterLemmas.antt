@@ -8,7 +8,8 @@ use Rattle.std.proofs.lemmas.Bool.{and_parts, and_from, or_from, or_left, or_rig
 use Rattle.std.proofs.lemmas.Bool.Decides.{nat_tests}
 use Rattle.std.proofs.lemmas.Cmp.{tied_itself}
 use Rattle.dac_dots.specs.Keys.{is_below_all, is_rising, IsRising, has_key}
-use Rattle.dac_dots.specs.Dots.{dot, dot_cmp, origin_cmp, origins_total, exact_origins}
+use Rattle.dac_dots.specs.Dots.{dot, dot_cmp, origin_cmp, origins_total}
+use Rattle.dac_dots.specs.KeyLaws.{equal_origins}
 use Rattle.dac_dots.specs.declared.dot.Origin.{Origin}
 use Rattle.dac_dots.specs.declared.dot.Dot.{Dot}
 use Rattle.dac_bytes.specs.Rows.{is_of, counters_of}
@@ -147,18 +148,10 @@ has_key-counters o (d ∷ ds) n =
       | false ↦ λ e. has_key-counters o ds n ∙ ap (λ b. b || has_key dot_cmp ds (dot o n)) (sym (tied_dots o n d ∙ ap (λ b. b && eq_by_cmp nat_cmp n d.n) e))
     ] refl
 
-pub tie : (r : Ordering) → is_eq r ≡ true → r ≡ Equal
-tie Less p = absurd (false≢true p)
-tie Equal p = refl
-tie Greater p = absurd (false≢true p)
-
-origin_is : (o : Origin) (d : Dot) → is_of o d ≡ true → o ≡ d.origin
-origin_is o d e = exact_origins o d.origin (tie _ (tied_origins o d.origin ∙ e))
-
 -- of two dots of one origin in order, the counters are in order
 below_dot : (o : Origin) (d e : Dot) → is_of o d ≡ true → is_of o e ≡ true → is_lt (dot_cmp d e) ≡ true → is_lt (nat_cmp d.n e.n) ≡ true
 below_dot o d e at too h =
-    let one : d.origin ≡ e.origin = sym (origin_is o d at) ∙ origin_is o e too in
+    let one : d.origin ≡ e.origin = equal_origins d.origin o at ∙ sym (equal_origins e.origin o too) in
     let level : origin_cmp d.origin e.origin ≡ Equal = ap (origin_cmp d.origin) (sym one) ∙ tied_itself origins_total d.origin in
     sym (ap (λ r. is_lt (ordering_then r (nat_cmp d.n e.n))) level) ∙ h
 

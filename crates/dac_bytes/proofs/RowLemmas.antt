@@ -8,14 +8,14 @@ use Rattle.std.proofs.lemmas.List.{map_more, length-map}
 use Rattle.std.proofs.lemmas.Cmp.{tied_itself}
 use Rattle.std.proofs.lemmas.List.Folds.{flat_map-map, list_any-append}
 use Rattle.dac_dots.specs.Keys.{IsRising, has_key}
-use Rattle.dac_dots.specs.InOrder.{in_order, in_order-one, in_order-rising, has_key-in_order}
+use Rattle.dac_dots.specs.InOrder.{tie, in_order, in_order-one, in_order-rising, has_key-in_order}
 use Rattle.dac_dots.specs.Dots.{Dots, dot, dot_cmp, dots_total, exact_dots, origin_cmp, origins_total, exact_origins}
 use Rattle.dac_dots.specs.declared.dot.Origin.{Origin}
 use Rattle.dac_dots.specs.declared.dot.Dot.{Dot}
 use Rattle.dac_bytes.specs.Numbers.{u16_bytes}
 use Rattle.dac_bytes.specs.Rows.{Row, row_of, rows_of, origins_of, counters_of, further_of, reach_of, IsRowOf, AreRowsOf}
 use Rattle.dac_bytes.specs.Spelling.{row_bytes, context_bytes}
-use Rattle.dac_bytes.proofs.CounterLemmas.{tie, on_the_way, ends_there, has_key-filter, rising_filter, has_key-counters, rising_counters}
+use Rattle.dac_bytes.proofs.CounterLemmas.{on_the_way, ends_there, has_key-filter, rising_filter, has_key-counters, rising_counters}
 
 -- a rising list that has the origins of the dots is the list of them
 pub origins_from_keys : (dots : List Dot) (origins : List Origin) → IsRising origin_cmp origins

@@ -1,2 +1,10 @@
 pub mod Tables
 pub mod Copies
+pub mod Names
+pub mod Numbers
+pub mod Apps
+pub mod Listed
+pub mod Numberable
+pub mod Rising
+pub mod SaysLemmas
+pub mod Faults

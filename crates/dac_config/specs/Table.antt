@@ -5,7 +5,7 @@ use Rattle.std.specs.List.{list_any}
 use Rattle.std.specs.Str.{bytes_eq}
 use Rattle.dac_base.specs.declared.NodeId.{NodeId}
 use Rattle.dac_base.specs.declared.AppId.{AppId}
-use Rattle.dac_config.specs.declared.sync_wait.SyncWait.{SyncWait}
+use Rattle.dac_shapes.specs.declared.draft.SyncWait.{SyncWait}
 
 -- a node: its name, and whether a starting node waits for it as mandatory or as optional
 pub record NodeRow : Type 0 where

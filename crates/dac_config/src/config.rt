@@ -4,6 +4,8 @@ ghost use Rattle.std.specs.Str.{bytes_eq};
 ghost use Rattle.std.specs.List.{list_any};
 ghost use Rattle.dac_config.specs.Table.{node_count, app_count, group_among};
 
+mod number;
+
 use crate::SyncWait;
 use dac_base::{AppId, NoMemory, NodeId};
 use indexmap::IndexMap;

@@ -7,8 +7,13 @@
 #![tactic(auto)]
 
 mod config;
-mod sync_wait;
+mod read;
 
 pub use config::Config;
 pub use dac_base::{AppId, NoMemory, NodeId};
-pub use sync_wait::SyncWait;
+pub use dac_shapes::SyncWait;
+pub use dac_tokens::{ConfigFault, FaultKind};
+pub use read::read_config;
+
+#[cfg(test)]
+mod tests;

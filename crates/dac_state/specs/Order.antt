@@ -6,7 +6,8 @@ use Rattle.dac_state.specs.declared.starts.Start.{Start}
 use Rattle.dac_state.specs.Lives.{AreNotAbove}
 use Rattle.dac_state.specs.StateValue.{StateValue}
 
--- x is below y: y knows all that x knows, and has replaced what x lacks of it. Written without join.
+-- x is below y: y has heard and knows all that x has, no life is greater in x, and what x knows and lets
+-- stand no more doesn't stand in y. Written without join.
 pub record IsBelow (x y : StateValue) : Type 0 where
   pub heard : IsSubset x.heard y.heard
   pub known : IsSubset x.known y.known

@@ -18,7 +18,7 @@ all_first P b bs h = h 0 0 (omega arith)
 pub all_more : (P : ℕ → Type 0) (b : ℕ) (bs : List ℕ) → All P (b ∷ bs) → All P bs
 all_more P b bs h = λ k d lt. h (suc k) d (omega arith)
 
-true_false : {A : Type 0} → true ≡ false → A
+pub true_false : {A : Type 0} → true ≡ false → A
 true_false e = cc
 
 prefix_passes : (p : ℕ → Bool) (P : ℕ → Type 0) → ((b : ℕ) → Decides (p b) (P b)) → (bs : List ℕ) → All P (take (prefix_len p bs) bs)
@@ -75,3 +75,6 @@ dropped_run p P tells xs ys all stops = rw (run_of p P tells xs ys all stops) (d
 
 pub taken_length : (p : ℕ → Bool) (bs : List ℕ) → length (take (run p bs) bs) ≡ run p bs
 taken_length p bs = ap (λ (n : ℕ). length (take n bs)) (run_is p bs)
+
+pub run_none : (p : ℕ → Bool) (P : ℕ → Type 0) → ((b : ℕ) → Decides (p b) (P b)) → (bs : List ℕ) → (Begins P bs → ⊥) → run p bs ≡ 0
+run_none p P tells bs stops = run_is p bs ∙ none_passes p P tells bs stops

@@ -8,6 +8,7 @@ use Rattle.dac_tokens.specs.declared.fault.ConfigFault.{ConfigFault}
 use Rattle.dac_tokens.specs.declared.token.Class.{Class}
 use Rattle.dac_tokens.specs.declared.token.Class.TheVariants as class
 use Rattle.dac_tokens.specs.Words.{Word, Mark, Name, Number, End, is_end, Located}
+use Rattle.dac_tokens.proofs.Runs.{true_false}
 use Rattle.dac_tokens.specs.Scan.{is_blank, after_blanks, class_of, is_name_byte, run, ends_stop, bad_token, atom_at, number_at, token_of, word_at}
 use Rattle.std.proofs.lemmas.Result.{IfOk-weaker, IfOk-at_ok}
 use Rattle.dac_tokens.specs.Gives.{◌>>=◌, Fails}
@@ -71,10 +72,7 @@ pub bind_if_ok : {A B : Type 0} (P : A → Type 0) (Q : B → Type 0) (r : Resul
 bind_if_ok P Q (Ok x) f p k = k x p
 bind_if_ok P Q (Err e) f p k = tt
 
-true_false : {A : Type 0} → true ≡ false → A
-true_false e = cc
-
-any : {A : Type 0} (r : Result A ConfigFault) → IfOk r (λ _. Unit {0})
+pub any : {A : Type 0} (r : Result A ConfigFault) → IfOk r (λ _. Unit {0})
 any (Ok x) = tt
 any (Err e) = tt
 

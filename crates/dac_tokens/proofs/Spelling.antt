@@ -14,11 +14,8 @@ use Rattle.dac_tokens.specs.Words.{Word, Mark, Name, Number, End, is_end}
 use Rattle.dac_tokens.specs.Scan.{class_of, is_name_byte, is_fun, run, ends_stop, breaks_number, bad_token, unsupported, atom_at, number_at, token_of, word_at}
 use Rattle.dac_tokens.specs.TokenGrammar.{IsBlank, IsNameByte, Begins, IsBareAtom, IsDigits, IsSpelledBy, GoesOnAsNumber, MayFollow}
 use Rattle.dac_tokens.proofs.Bytes.{tells_digit, tells_name_byte, tells_letter, letter_class, digit_class, tells_minus, tells_dot, tells_comma, tells_bracket, no_stop_bracket, tells_stop, tells_break, no_break}
-use Rattle.dac_tokens.proofs.Runs.{all_first, run_passes, run_stops, run_of, taken_run, dropped_run, taken_length}
+use Rattle.dac_tokens.proofs.Runs.{true_false, all_first, run_passes, run_stops, run_of, taken_run, dropped_run, taken_length}
 use Rattle.dac_tokens.proofs.Shorter.{run-first, letter_is_name, digit_is_digit}
-
-true_false : {A : Type 0} → true ≡ false → A
-true_false e = cc
 
 -- bytes without blanks before them: those of a token, and what may stand behind it
 pub record IsToken (bytes : List ℕ) (w : Word) (rest : List ℕ) : Type 0 where
@@ -27,19 +24,19 @@ pub record IsToken (bytes : List ℕ) (w : Word) (rest : List ℕ) : Type 0 wher
   pub spelled : IsSpelledBy w own
   pub follows : MayFollow w rest
 
-suc_not_zero : (n : ℕ) → eqb (suc n) 0 ≡ false
+pub suc_not_zero : (n : ℕ) → eqb (suc n) 0 ≡ false
 suc_not_zero n = grind (arith, nat_tests)
 
-abbrev stop_if : ℕ → List ℕ → Bool → Result (Word × List ℕ) ConfigFault
+abbrev pub stop_if : ℕ → List ℕ → Bool → Result (Word × List ℕ) ConfigFault
 stop_if at bs c = cond c (Ok (Mark FullStop, bs)) (bad_token at)
 
-abbrev atom_if : ℕ → List ℕ → List ℕ → Bool → Result (Word × List ℕ) ConfigFault
+abbrev pub atom_if : ℕ → List ℕ → List ℕ → Bool → Result (Word × List ℕ) ConfigFault
 atom_if at xs ys c = cond c (unsupported at) (Ok (Name xs, ys))
 
-abbrev number_if : ℕ → Bool → List ℕ → List ℕ → Bool → Result (Word × List ℕ) ConfigFault
+abbrev pub number_if : ℕ → Bool → List ℕ → List ℕ → Bool → Result (Word × List ℕ) ConfigFault
 number_if at negative xs ys c = cond c (unsupported at) (Ok (Number negative xs, ys))
 
-abbrev negative_if : ℕ → List ℕ → Bool → Result (Word × List ℕ) ConfigFault
+abbrev pub negative_if : ℕ → List ℕ → Bool → Result (Word × List ℕ) ConfigFault
 negative_if at bs c = cond c (bad_token at) (number_at at true bs)
 
 abbrev GivesToken : List ℕ → Result (Word × List ℕ) ConfigFault → Type 0
@@ -57,7 +54,7 @@ begins_all : (P : ℕ → Type 0) (bs : List ℕ) → All P bs → 0 < length bs
 begins_all P [] all lt = absurd (omega arith)
 begins_all P (b ∷ bs) all lt = all_first P b bs all
 
-digits_of_run : (bs : List ℕ) → 0 < run is_ascii_digit bs → IsDigits (take (run is_ascii_digit bs) bs)
+pub digits_of_run : (bs : List ℕ) → 0 < run is_ascii_digit bs → IsDigits (take (run is_ascii_digit bs) bs)
 digits_of_run bs lt =
     let all = run_passes is_ascii_digit IsAsciiDigit tells_digit bs in
     record { begins = begins_all IsAsciiDigit (take (run is_ascii_digit bs) bs) all (omega (arith, taken_length is_ascii_digit bs)); goes_on = all }

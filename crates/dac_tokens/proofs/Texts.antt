@@ -11,12 +11,9 @@ use Rattle.dac_tokens.specs.Scan.{is_blank, after_blanks, class_of, run, unsuppo
 use Rattle.dac_tokens.specs.Stream.{Stream, depth_after, opened, token_from, and_then, tokens_within, tokens_of, end_at, ended}
 use Rattle.dac_tokens.specs.TokenGrammar.{IsBlank, IsSpelledBy, MayFollow, IsNextToken, AreSpelled, depth_behind, NestWell, AreTokensOf}
 use Rattle.dac_tokens.proofs.Bytes.{tells_blank}
-use Rattle.dac_tokens.proofs.Runs.{run_passes, dropped_run}
+use Rattle.dac_tokens.proofs.Runs.{true_false, run_passes, dropped_run}
 use Rattle.dac_tokens.proofs.Shorter.{IsFirst, token_is_first, bind_if_ok}
 use Rattle.dac_tokens.proofs.Spelling.{IsToken, token_found, token_read, own_some, no_blank, no_end}
-
-true_false : {A : Type 0} → true ≡ false → A
-true_false e = cc
 
 -- the depth as it is read, and as the grammar has it
 abbrev DeeperBy : ℕ → Word → ℕ → Type 0
@@ -65,7 +62,7 @@ pub record IsStep (at end depth : ℕ) (bytes : List ℕ) (x : Located × ℕ ×
   pub goes_on : is_end x.0.word ≡ false → IsRead at end depth bytes x
 
 -- reads one token from bytes without blanks before them
-abbrev step : ℕ → ℕ → ℕ → List ℕ → Result (Located × ℕ × List ℕ) ConfigFault
+abbrev pub step : ℕ → ℕ → ℕ → List ℕ → Result (Located × ℕ × List ℕ) ConfigFault
 step end depth at rest = word_at at rest >>= λ word. depth_after at depth word.0 >>= λ after. Ok (record { word = word.0; at = at }, after, word.1)
 
 step_found : (at end depth : ℕ) (bytes blanks rest : List ℕ) → bytes ≡ blanks ++ rest → All IsBlank blanks → at + length bytes ≡ end → depth ≤ 64 → IfOk (step end depth (end - length rest) rest) (IsStep at end depth bytes)
@@ -109,7 +106,7 @@ step_read end depth t own rest spelled follows le =
     ap (λ (r : Result (Word × List ℕ) ConfigFault). r >>= λ word. depth_after t.at depth word.0 >>= λ after. Ok (record { word = word.0; at = t.at }, after, word.1)) (token_read t.word t.at own rest spelled follows)
     ∙ ap (λ (r : Result ℕ ConfigFault). r >>= λ after. Ok (record { word = t.word; at = t.at }, after, rest)) (depth_read t.at depth t.word le)
 
-first_read : (at end depth : ℕ) (bytes : List ℕ) (t : Located) (own rest : List ℕ) → IsNextToken at bytes t own rest → at + length bytes ≡ end → depth_behind depth t.word ≤ 64 → token_from end depth bytes ≡ Ok (t, depth_behind depth t.word, rest)
+pub first_read : (at end depth : ℕ) (bytes : List ℕ) (t : Located) (own rest : List ℕ) → IsNextToken at bytes t own rest → at + length bytes ≡ end → depth_behind depth t.word ≤ 64 → token_from end depth bytes ≡ Ok (t, depth_behind depth t.word, rest)
 unfolding token_from
 first_read at end depth bytes t own rest next whole le =
     let left : after_blanks bytes ≡ own ++ rest = rw next.parts (dropped_run is_blank IsBlank tells_blank next.blanks (own ++ rest) next.blank (no_blank t.word own rest next.spelled)) in

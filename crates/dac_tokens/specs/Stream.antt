@@ -44,6 +44,10 @@ end_at end = record { word = End; at = end }
 abbrev pub ended : ℕ → List Located → Stream
 ended end ts = record { tokens = ts; last = Ok (end_at end) }
 
+-- these tokens, and a fault behind them
+abbrev pub stopped : List Located → ConfigFault → Stream
+stopped ts e = record { tokens = ts; last = Err e }
+
 -- what was read first, and the tokens after it
 abbrev pub and_then : Result (Located × ℕ × List ℕ) ConfigFault → (ℕ → List ℕ → Stream) → Stream
 and_then (Err e) rest = record { tokens = []; last = Err e }

@@ -97,14 +97,20 @@ pub struct ConfigFault {
     pub at: usize,
 }
 
+fn no_memory() -> ConfigFault
+    ensures { (result.kind ≡ NoMemory) × (result.at ≡ 0) }
+{
+    ConfigFault {
+        kind: FaultKind::NoMemory,
+        at: 0,
+    }
+}
+
 impl From<AllocError> for ConfigFault {
     ghost from_gives = { λ _ e. (e.kind ≡ NoMemory) × (e.at ≡ 0) };
 
     fn from(_error: AllocError) -> ConfigFault {
-        ConfigFault {
-            kind: FaultKind::NoMemory,
-            at: 0,
-        }
+        no_memory()
     }
 }
 
@@ -112,10 +118,7 @@ impl<T: Drop> From<AllocFailed<T>> for ConfigFault {
     ghost from_gives = { λ _ e. (e.kind ≡ NoMemory) × (e.at ≡ 0) };
 
     fn from(_failed: AllocFailed<T>) -> ConfigFault {
-        ConfigFault {
-            kind: FaultKind::NoMemory,
-            at: 0,
-        }
+        no_memory()
     }
 }
 
@@ -123,9 +126,6 @@ impl From<dac_base::NoMemory> for ConfigFault {
     ghost from_gives = { λ _ e. (e.kind ≡ NoMemory) × (e.at ≡ 0) };
 
     fn from(_refused: dac_base::NoMemory) -> ConfigFault {
-        ConfigFault {
-            kind: FaultKind::NoMemory,
-            at: 0,
-        }
+        no_memory()
     }
 }

@@ -3,7 +3,8 @@
 ghost use Rattle.std.specs.Prelude.{◌≡◌, ◌↔◌, ◌≤◌, List, length, false, ◌<◌, IfOk, IfErr, OnErr};
 ghost use Rattle.dac_tokens.specs.Gives.{Gives, Reads};
 ghost use Rattle.dac_tokens.specs.Faults.{IsTokenFault};
-ghost use Rattle.dac_tokens.specs.Stream.{depth_after, end_at, ended, token_from, taken, tokens_of};
+ghost use Rattle.dac_tokens.specs.Stream.{depth_after, end_at, ended, stopped, token_from, taken, tokens_of};
+ghost use Rattle.dac_tokens.specs.TokenFaults.{StopAt};
 ghost use Rattle.dac_tokens.specs.TokenGrammar.{AreTokensOf};
 ghost use Rattle.dac_tokens.specs.Words.{Located as LocatedWord, is_end, located_of, word_of};
 
@@ -50,8 +51,8 @@ fn token_from(
     Ok((Located { token, at }, depth, rest))
 }
 
-/// The tokens that are left of a text: contracts see their list, up to the end or the first fault, and
-/// what stands there.
+/// The tokens that are left of a text, after Erlang's scanner of terms: contracts see their list, up to
+/// the end or the first fault, and what stands there.
 #[derive(Drop)]
 pub struct Tokens<'a> {
     rest: &'a [u8],
@@ -77,7 +78,11 @@ impl<'a> Tokens<'a> {
         // where no fault comes, the end of the text does
         ensures end { IfOk result.last (λ t. t ≡ end_at (length text.now)) }
         // a text is read without fault exactly as the grammar of tokens spells it
-        ensures spelled { (ts : List LocatedWord) → (AreTokensOf text.now ts ↔ (result ≡ ended (length text.now) ts)) }
+        ensures spelled { (ts : List LocatedWord) →
+            (AreTokensOf text.now ts ↔ (result ≡ ended (length text.now) ts)) }
+        // and with a fault exactly where, behind tokens, by the table of faults no token begins
+        ensures stopped { (ts : List LocatedWord) (e : ConfigFault) →
+            (StopAt 0 0 text.now ts e ↔ (result ≡ stopped ts e)) }
     {
         Tokens {
             rest: text,
@@ -90,13 +95,16 @@ impl<'a> Tokens<'a> {
     ///
     /// # Errors
     ///
-    /// Where no token begins, `BadToken` or `Unsupported` at the first byte of what stands there, by the
-    /// table of tokens; then nothing is taken, and the next call answers the same.
+    /// Where no token begins, at the first byte of what stands there. `Unsupported` for what Erlang has and
+    /// this doesn't read: a quote, `%`, `<`, `#`, `$`, `+`, `~`, `|`, a byte from 80 hexadecimal on, the word
+    /// `fun`, a number with a fraction, a base or underscores, and a 65th open bracket. `BadToken` for
+    /// anything else, as a dot that ends no term. Then nothing is taken: the next call answers the same.
     pub fn next(&mut self) -> Result<Located<'a>, ConfigFault>
         ensures taken { Gives (λ x. (located_of x, self.new)) result (taken self.old) }
         ensures fault { IfErr result (λ e. IsTokenFault e.kind) }
         ensures left { length self.new.tokens ≤ length self.old.tokens }
-        ensures fewer { IfOk result (λ x. is_end (word_of x.token) ≡ false → length self.new.tokens < length self.old.tokens) }
+        ensures fewer { IfOk result (λ x.
+            is_end (word_of x.token) ≡ false → length self.new.tokens < length self.old.tokens) }
         ensures err { OnErr result (self.new ≡ self.old) }
     {
         let (token, depth, rest) = token_from(self.end, self.depth, self.rest)?;

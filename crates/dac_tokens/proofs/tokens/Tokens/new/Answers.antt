@@ -1,5 +1,6 @@
 use Rattle.std.proofs.Common.{length, refl}
 use Rattle.dac_tokens.specs.Stream.{tokens_of}
+use Rattle.dac_tokens.proofs.StopTexts.{text_stops}
 use Rattle.dac_tokens.proofs.Texts.{text_ends, text_spelled}
 use Rattle.dac_tokens.proofs.tokens.Tokens.new.Goals as goal
 
@@ -8,3 +9,6 @@ returns-clause-end c = text_ends c.args.text.now (tokens_of (length c.args.text.
 
 pub returns-clause-spelled : goal.returns-clause-spelled
 returns-clause-spelled c = λ ts. text_spelled c.args.text.now ts
+
+pub returns-clause-stopped : goal.returns-clause-stopped
+returns-clause-stopped c = λ ts e. text_stops c.args.text.now ts e

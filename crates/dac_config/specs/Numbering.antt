@@ -1,0 +1,51 @@
+-- From what a text says, by names, to the tables of a configuration, by numbers.
+use Rattle.std.specs.Prelude.{◌≡◌, ℕ, ◌+◌, ◌≤◌, false, List, [], ◌∷◌, ◌++◌, map, fold, length, if◌then◌else◌, All}
+use Rattle.std.specs.declared.cmp.Ordering.{Ordering}
+use Rattle.std.specs.Ordering.{nat_cmp}
+use Rattle.std.specs.Cmp.Lexicographic.{slice_cmp}
+use Rattle.std.specs.BTreeSet.{insert_key}
+use Rattle.dac_shapes.specs.Written.{App, Written}
+use Rattle.dac_shapes.specs.Limits.{is_among}
+use Rattle.dac_config.specs.Table.{NodeRow, AppRow, Table}
+
+-- the byte order of names
+abbrev pub name_cmp : List ℕ → List ℕ → Ordering
+name_cmp a b = slice_cmp nat_cmp a b
+
+-- names in byte order, each once
+abbrev pub in_byte_order : List (List ℕ) → List (List ℕ)
+in_byte_order names = fold (insert_key name_cmp) [] names
+
+-- the numbers of those nodes that a group names, where the first of the nodes has this number
+abbrev pub numbers_from : ℕ → List NodeRow → List (List ℕ) → List ℕ
+numbers_from number [] group = []
+numbers_from number (node ∷ nodes) group =
+    if is_among node.name group then number ∷ numbers_from (number + 1) nodes group
+    else numbers_from (number + 1) nodes group
+
+-- a node by its name
+abbrev pub numbered_node : Written → List ℕ → NodeRow
+numbered_node w name = record { name = name; mandatory = is_among name w.mandatory; optional = is_among name w.optional }
+
+-- an application, with numbers for the names of these nodes
+abbrev pub numbered_app : List NodeRow → App → AppRow
+numbered_app nodes app = record { name = app.name; timeout = app.timeout; groups = map (numbers_from 0 nodes) app.groups }
+
+abbrev pub numbered_nodes : Written → List NodeRow
+numbered_nodes w = map (numbered_node w) (in_byte_order w.nodes)
+
+-- the configuration that a text says
+abbrev pub numbered : Written → Table
+numbered w = record { nodes = numbered_nodes w; apps = map (numbered_app (numbered_nodes w)) w.apps; sync_wait = w.sync_wait }
+
+-- each name is none of those before it
+abbrev pub AllNew : List (List ℕ) → List (List ℕ) → Type 0
+AllNew before [] = Unit {0}
+AllNew before (name ∷ names) = (is_among name before ≡ false) × AllNew (before ++ name ∷ []) names
+
+-- what holds of each text that is read: the limits, and that no application stands twice
+pub record IsNumberable (w : Written) : Type 0 where
+  pub nodes : length w.nodes ≤ 16
+  pub apps : length w.apps ≤ 64
+  pub groups : All (λ app. length app.groups ≤ 16) w.apps
+  pub once : AllNew [] (map (λ app. app.name) w.apps)

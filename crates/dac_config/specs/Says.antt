@@ -1,0 +1,42 @@
+-- What it means that a text says a configuration, whatever a reader does.
+use Rattle.std.specs.Prelude.{◌≡◌, ℕ, Bool, false, List, map, Option, None, Some, slice_get, ◌==◌, All}
+use Rattle.std.specs.Ordering.{nat_cmp}
+use Rattle.std.specs.List.{list_any, AllZip}
+use Rattle.std.specs.List.Sorted.{IsStrictlySortedBy}
+use Rattle.dac_shapes.specs.Written.{App, Written}
+use Rattle.dac_shapes.specs.Limits.{is_among}
+use Rattle.dac_shapes.specs.Grammar.{IsTextOf}
+use Rattle.dac_config.specs.Table.{NodeRow, AppRow, Table}
+use Rattle.dac_config.specs.Numbering.{name_cmp}
+
+-- whether there is a node, and the group names it
+abbrev pub is_named : List (List ℕ) → Option NodeRow → Bool
+is_named group None = false
+is_named group (Some node) = is_among node.name group
+
+-- the numbers, rising, are those of the nodes that the group names
+pub record IsGroup (nodes : List NodeRow) (group : List (List ℕ)) (numbers : List ℕ) : Type 0 where
+  pub rising : IsStrictlySortedBy nat_cmp numbers
+  pub members : (number : ℕ) → list_any (λ other. other == number) numbers ≡ is_named group (slice_get nodes number)
+
+-- an application keeps its name and its timeout, and its groups in their order
+pub record IsApp (nodes : List NodeRow) (app : App) (row : AppRow) : Type 0 where
+  pub name : row.name ≡ app.name
+  pub timeout : row.timeout ≡ app.timeout
+  pub groups : AllZip (IsGroup nodes) app.groups row.groups
+
+-- The tables say by numbers what is written by names: the nodes are those that are named, in the byte order of
+-- their names, and the applications stand in the order of the text.
+pub record IsTableOf (w : Written) (table : Table) : Type 0 where
+  pub rising : IsStrictlySortedBy name_cmp (map (λ node. node.name) table.nodes)
+  pub nodes : (name : List ℕ) → is_among name (map (λ node. node.name) table.nodes) ≡ is_among name w.nodes
+  pub mandatory : All (λ node. node.mandatory ≡ is_among node.name w.mandatory) table.nodes
+  pub optional : All (λ node. node.optional ≡ is_among node.name w.optional) table.nodes
+  pub apps : AllZip (IsApp table.nodes) w.apps table.apps
+  pub sync_wait : table.sync_wait ≡ w.sync_wait
+
+-- the text is spelled by the grammar, and the tables say what is written in it
+pub record IsConfigOf (text : List ℕ) (table : Table) : Type 0 where
+  pub written : Written
+  pub spelled : IsTextOf text written
+  pub numbers : IsTableOf written table

@@ -1,0 +1,10 @@
+pub mod Lists
+pub mod Nodes
+pub mod Follow
+pub mod Runs
+pub mod Operations
+pub mod Meanings
+pub mod Counters
+pub mod Issues
+pub mod Sound
+pub mod Headline

@@ -1,0 +1,14 @@
+use Rattle.std.proofs.Common.{◌≡◌, [], ◌∷◌, sym, ap, subst, ◌∙◌}
+use Rattle.dac_state.specs.Operations.{Operation}
+use Rattle.dac_state.specs.StateValue.{StateValue, join, bottom}
+use Rattle.dac_state.specs.Meaning.{meaning_of}
+use Rattle.dac_core.specs.NodeValue.{KnowsItself}
+use Rattle.dac_core.specs.ModelNode.{up}
+use Rattle.dac_core.proofs.Issues.{knows-boot}
+use Rattle.dac_core.proofs.running.Running.boot.Goals as goal
+
+pub invariant_of-result : goal.invariant_of-result
+invariant_of-result c =
+    let delta : c.in_ok-delta.delta ≡ meaning_of (up c.args.origin ∷ []) = c.in_ok-delta.ensures ∙ ap (λ (o : Operation). meaning_of (o ∷ [])) c.operation_of-operation.ensures in
+    let state : c.in_ok-state.state ≡ join bottom (meaning_of (up c.args.origin ∷ [])) = c.in_ok-state.ensures ∙ (λ i. join (c.bottom.ensures i) (delta i)) in
+    subst (KnowsItself c.args.origin) (sym state) (knows-boot c.args.origin)

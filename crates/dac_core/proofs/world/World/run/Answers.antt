@@ -1,0 +1,39 @@
+use Rattle.std.proofs.Common.{◌≡◌, ℕ, ◌+◌, ◌<◌, ◌≤◌, ◌++◌, ◌∷◌, [], List, cond, true, ap, sym, ◌∙◌, rules, take, take_all, get_or, length, vec_len}
+use Rattle.std.specs.Prelude.{is_ok}
+use Rattle.std.proofs.lemmas.List.{get_or_default}
+use Rattle.dac_config.specs.Table.{Table}
+use Rattle.dac_core.specs.declared.world_event.WorldEvent.{WorldEvent}
+use Rattle.dac_core.specs.declared.world_event.What.TheVariants.{Boot}
+use Rattle.dac_core.specs.WorldValue.{WorldValue}
+use Rattle.dac_core.specs.ModelWorld.{RanAs}
+use Rattle.dac_core.proofs.Runs.{ran_turn}
+use Rattle.dac_core.proofs.Sound.{Answer}
+use Rattle.dac_core.proofs.Headline.{headline}
+use Rattle.dac_core.proofs.world.World.run.Goals as goal
+
+pub loop-event-preserved : goal.loop-event-preserved
+loop-event-preserved c =
+    let ok : is_ok c.push.result ≡ true = c.push.ensures.succeeds (search rules) in
+    let e : WorldEvent = get_or c.args.events.now c.loop-event.event-index (record { node = record { 0 = 0 }; what = Boot 0 }) in
+    let ran = ran_turn c.args.config.now c.args.events.now c.loop-event.event-index c.loop-event.answers.items c.loop-event.world c.step-answer.new.self e c.step-answer.result c.step-answer.ensures.follows c.loop-event-test.true (get_or_default c.args.events.now c.loop-event.event-index _ _ c.loop-event-test.true) c.loop-event.invariant.ran in
+    record {
+      ran = rw (c.push.ensures.items, ok) ran;
+      count = c.step-answer.ensures.count ∙ c.loop-event.invariant.count;
+      as_many = c.push.ensures.len ∙ (ap (λ b. cond b (vec_len c.loop-event.answers + 1) (vec_len c.loop-event.answers)) ok ∙ ap (λ n. n + 1) c.loop-event.invariant.as_many);
+      room = search rules;
+    }
+
+whole : (t : Table) (events : List WorldEvent) (answers : List Answer) (v : WorldValue) (i : ℕ) → length events ≤ i → RanAs t (take i events) answers v → RanAs t events answers v
+whole t events answers v i h r = rw take_all at r
+
+pub returns-clause-headline : goal.returns-clause-headline
+returns-clause-headline c = (headline c.args.config.now c.args.events.now c.loop-event.answers.items c.loop-event.world (whole c.args.config.now c.args.events.now c.loop-event.answers.items c.loop-event.world c.loop-event.event-index c.loop-event-test.false c.loop-event.invariant.ran)).meanings
+
+pub returns-clause-agree : goal.returns-clause-agree
+returns-clause-agree c = (headline c.args.config.now c.args.events.now c.loop-event.answers.items c.loop-event.world (whole c.args.config.now c.args.events.now c.loop-event.answers.items c.loop-event.world c.loop-event.event-index c.loop-event-test.false c.loop-event.invariant.ran)).agree
+
+pub returns-clause-distinct : goal.returns-clause-distinct
+returns-clause-distinct c = (headline c.args.config.now c.args.events.now c.loop-event.answers.items c.loop-event.world (whole c.args.config.now c.args.events.now c.loop-event.answers.items c.loop-event.world c.loop-event.event-index c.loop-event-test.false c.loop-event.invariant.ran)).distinct
+
+pub returns-clause-sets : goal.returns-clause-sets
+returns-clause-sets c = (headline c.args.config.now c.args.events.now c.loop-event.answers.items c.loop-event.world (whole c.args.config.now c.args.events.now c.loop-event.answers.items c.loop-event.world c.loop-event.event-index c.loop-event-test.false c.loop-event.invariant.ran)).sets

@@ -1,0 +1,10 @@
+pub mod Refusals
+pub mod NodeValue
+pub mod Below
+pub mod ModelNode
+pub mod Changes
+pub mod WorldValue
+pub mod ModelWorld
+pub mod WorldChanges
+pub mod SetWorld
+pub mod Convergence

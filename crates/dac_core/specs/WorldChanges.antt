@@ -1,0 +1,19 @@
+-- What an accepted event does to what the program's world holds.
+use Rattle.std.specs.Prelude.{◌≡◌, ℕ, cond, nat_eq, List, ◌++◌, length, Option}
+use Rattle.std.specs.List.{slice_get}
+use Rattle.std.specs.Option.{option_map}
+use Rattle.dac_base.specs.declared.NodeId.{NodeId}
+use Rattle.dac_core.specs.declared.event.Reply.{Reply}
+use Rattle.dac_core.specs.declared.change.Change.{Change}
+use Rattle.dac_core.specs.NodeValue.{NodeValue}
+use Rattle.dac_core.specs.Changes.{changed}
+use Rattle.dac_core.specs.WorldValue.{WorldValue}
+use Rattle.dac_core.specs.ModelWorld.{issued_by, shipped_by}
+
+-- from v the world goes on to u: one node changes, and what its reply issues and ships is noted
+pub record Goes (v : WorldValue) (node : NodeId) (change : Change) (given : Reply) (u : WorldValue) : Type 0 where
+  pub reply : given ≡ change.reply
+  pub count : length u.nodes ≡ length v.nodes
+  pub nodes : (n : ℕ) → slice_get u.nodes n ≡ cond (nat_eq n node.0) (option_map (λ (x : NodeValue). changed x change) (slice_get v.nodes n)) (slice_get v.nodes n)
+  pub operations : u.operations ≡ v.operations ++ issued_by change.reply
+  pub messages : u.messages ≡ v.messages ++ shipped_by change.reply

@@ -1,0 +1,273 @@
+//! What a controller keeps while it runs, and its rules: which events it refuses, and what it does.
+
+ghost use Rattle.std.specs.Prelude.{◌≡◌, ◌∷◌, [], IfOk, cond, false};
+ghost use Rattle.dac_config.specs.Table.{Table};
+ghost use Rattle.dac_state.specs.Operations.{operation, fault_of};
+ghost use Rattle.dac_core.specs.ModelNode.{first, causes_to_name, causes_to_issue, key_at, refusal_of_command as refused_command, refusal_to_ship as refused_ship, refusal_to_hear as refused_hear, refusal_on, next_operation, used_up, up, act_of};
+
+use crate::event::{Command, Event, Message};
+use crate::refusal::Refusal;
+use dac_base::{AppId, NoMemory, NodeId};
+use dac_config::Config;
+use dac_dots::{Dot, Origin};
+use dac_lattice::{Bottom, Lattice};
+use dac_state::{Act, Key, Op, State};
+use std::alloc::Global;
+use std::marker::Model;
+
+/// How many dots an operation may replace.
+const MOST_REPLACED: usize = 1_024;
+
+/// What a controller keeps while it runs. Its state knows the operation of its own boot.
+#[derive(Drop)]
+pub(crate) struct Running {
+    alloc: Global,
+    origin: Origin,
+    state: State,
+}
+
+impl Model for Running {
+    ghost use Rattle.dac_core.specs.NodeValue.{RunValue, coded_run, KnowsItself};
+
+    ghost Value = { RunValue };
+
+    ghost coded = { coded_run };
+
+    ghost view = { λ a. record { origin = a.origin; state = a.state } };
+
+    ghost invariant = { λ a. KnowsItself a.origin a.state };
+}
+
+impl Running {
+    ghost use Rattle.dac_core.specs.Changes.{booted, grown};
+    ghost use Rattle.dac_core.specs.Below.{is_below};
+    ghost use Rattle.dac_state.specs.Meaning.{meaning_of};
+
+    /// The present incarnation.
+    pub(crate) fn origin(&self) -> Origin
+        ensures { result ≡ self.now.origin }
+    {
+        self.origin
+    }
+
+    /// The state.
+    pub(crate) fn state(&self) -> &State
+        ensures { result.now ≡ self.now.state }
+    {
+        &self.state
+    }
+
+    /// An equal one.
+    pub(crate) fn copy(&self) -> Result<Self, NoMemory>
+        ensures { IfOk result (λ copied. copied ≡ self.now) }
+    {
+        let state = self.state.copy()?;
+        Ok(Running {
+            alloc: self.alloc,
+            origin: self.origin,
+            state,
+        })
+    }
+
+    /// A controller that comes up as this incarnation, and the operation that says so.
+    pub(crate) fn boot(alloc: Global, origin: Origin) -> Result<(Self, Op), NoMemory>
+        ensures run { IfOk result (λ both. both.0 ≡ booted origin) }
+        ensures operation { IfOk result (λ both. both.1 ≡ up origin) }
+    {
+        let operation = operation_of(Dot { origin, n: 1 }, Act::Up);
+        let delta = State::delta_of(alloc, &operation)?;
+        let state = State::bottom(alloc).join(&delta)?;
+        Ok((
+            Running {
+                alloc,
+                origin,
+                state,
+            },
+            operation,
+        ))
+    }
+
+    /// Why the event is refused, if it is.
+    pub(crate) fn refusal(&self, config: &Config, event: &Event) -> Option<Refusal>
+        ensures { result ≡ refusal_on config.now self.now.origin self.now.state event.now }
+    {
+        match event {
+            Event::Boot { now: _ } => Some(Refusal::AlreadyOn),
+            Event::Command(command) => self.refusal_of_command(config, *command),
+            Event::Ship { to } => self.refusal_to_ship(config, *to),
+            Event::Hear(message) => self.refusal_to_hear(message),
+        }
+    }
+
+    /// Why a command is refused, if it is.
+    fn refusal_of_command(&self, config: &Config, command: Command) -> Option<Refusal>
+        ensures { result ≡ refused_command config.now self.now.origin self.now.state command }
+    {
+        match command {
+            Command::Start { app, node } => {
+                if let Some(why) = refusal_to_name(config, &self.state, app, node) {
+                    return Some(why);
+                }
+                refusal_to_issue(self.origin, &self.state, key_of(&self.state, app, node))
+            }
+            Command::Stop { app, node } => {
+                if let Some(why) = refusal_to_name(config, &self.state, app, node) {
+                    return Some(why);
+                }
+                let key = key_of(&self.state, app, node);
+                if !self.state.wished(key) {
+                    return Some(Refusal::NotStarted);
+                }
+                refusal_to_issue(self.origin, &self.state, key)
+            }
+        }
+    }
+
+    /// Why nothing is shipped to a node, if nothing is.
+    fn refusal_to_ship(&self, config: &Config, to: NodeId) -> Option<Refusal>
+        ensures { result ≡ refused_ship config.now self.now.origin to }
+    {
+        if to.0 >= config.nodes() {
+            return Some(Refusal::UnknownNode);
+        }
+        if to == self.origin.node {
+            return Some(Refusal::OnSelf);
+        }
+        None
+    }
+
+    /// Why a message isn't heard, if it isn't.
+    pub(crate) fn refusal_to_hear(&self, message: &Message) -> Option<Refusal>
+        ensures { result ≡ refused_hear self.now.origin message.now }
+    {
+        if message.from.node == self.origin.node {
+            return Some(Refusal::OnSelf);
+        }
+        if message.to != self.origin.node {
+            return Some(Refusal::NotForMe);
+        }
+        None
+    }
+
+    /// Issues what a command says.
+    pub(crate) fn command(&self, command: Command) -> Result<(Self, Op), NoMemory>
+        requires { (t : Table) × (refused_command t self.now.origin self.now.state command ≡ None) }
+        ensures run { IfOk result (λ both. both.0 ≡ grown self.now (meaning_of (both.1 ∷ []) ∷ [])) }
+        ensures operation { IfOk result (λ both. both.1 ≡ next_operation self.now.state self.now.origin (act_of self.now.state command)) }
+    {
+        // What stands in a state is known there, so it doesn't have the next dot.
+        Lattice::known(&self.state);
+        match command {
+            Command::Start { app, node } => {
+                let key = key_of(&self.state, app, node);
+                let over = self.state.standing(key)?;
+                self.issue(Act::Start { key, over })
+            }
+            Command::Stop { app, node } => {
+                let key = key_of(&self.state, app, node);
+                let over = self.state.standing(key)?;
+                self.issue(Act::Stop { key, over })
+            }
+        }
+    }
+
+    /// Issues an act under the next counter.
+    fn issue(&self, act: Act) -> Result<(Self, Op), NoMemory>
+        requires left { used_up self.now.state self.now.origin ≡ false }
+        requires sound { fault_of (next_operation self.now.state self.now.origin act).dot act ≡ None }
+        ensures run { IfOk result (λ both. both.0 ≡ grown self.now (meaning_of (both.1 ∷ []) ∷ [])) }
+        ensures operation { IfOk result (λ both. both.1 ≡ next_operation self.now.state self.now.origin act) }
+    {
+        let dot = self.state.known().next(self.origin).unwrap();
+        let operation = operation_of(dot, act);
+        let delta = State::delta_of(self.alloc, &operation)?;
+        let run = self.joined(&delta)?;
+        Ok((run, operation))
+    }
+
+    /// The message that is shipped to a node.
+    pub(crate) fn ship(&self, to: NodeId) -> Result<Message, NoMemory>
+        ensures { IfOk result (λ message. message ≡ record { from = self.now.origin; to = to; body = self.now.state }) }
+    {
+        let body = self.state.copy()?;
+        Ok(Message {
+            from: self.origin,
+            to,
+            body,
+        })
+    }
+
+    /// What runs after this body is heard, where it adds anything.
+    pub(crate) fn hear(&self, body: &State) -> Result<Option<Self>, NoMemory>
+        ensures { IfOk result (λ run. run ≡ cond (is_below body.now self.now.state) None (Some (grown self.now (body.now ∷ [])))) }
+    {
+        if body.leq(&self.state) {
+            return Ok(None);
+        }
+        let run = self.joined(body)?;
+        Ok(Some(run))
+    }
+
+    /// What runs after a state is joined.
+    fn joined(&self, other: &State) -> Result<Self, NoMemory>
+        ensures { IfOk result (λ run. run ≡ grown self.now (other.now ∷ [])) }
+    {
+        let state = self.state.join(other)?;
+        Ok(Running {
+            alloc: self.alloc,
+            origin: self.origin,
+            state,
+        })
+    }
+}
+
+/// An application at the live incarnation of a node.
+fn key_of(state: &State, app: AppId, node: NodeId) -> Key
+    ensures { result ≡ key_at state.now app node }
+{
+    Key {
+        app,
+        node,
+        inc: state.life(node).unwrap_or(0),
+    }
+}
+
+/// The operation of a dot and an act that make one.
+fn operation_of(dot: Dot, act: Act) -> Op
+    requires { fault_of dot act ≡ None }
+    ensures { result ≡ operation dot act }
+{
+    Op::new(dot, act).unwrap()
+}
+
+/// Why a command about an application and a node isn't taken up, if it isn't.
+fn refusal_to_name(config: &Config, state: &State, app: AppId, node: NodeId) -> Option<Refusal>
+    ensures { result ≡ first (causes_to_name config.now state.now app node) }
+{
+    if app.0 >= config.apps() {
+        return Some(Refusal::UnknownApp);
+    }
+    if node.0 >= config.nodes() {
+        return Some(Refusal::UnknownNode);
+    }
+    if config.group_of(app, node).is_none() {
+        return Some(Refusal::NotInList);
+    }
+    if state.life(node).is_none() {
+        return Some(Refusal::NotLive);
+    }
+    None
+}
+
+/// Why no operation is issued for a key, if none is.
+fn refusal_to_issue(own: Origin, state: &State, key: Key) -> Option<Refusal>
+    ensures { result ≡ first (causes_to_issue own state.now key) }
+{
+    if state.standing_count(key) > MOST_REPLACED {
+        return Some(Refusal::TooManyDots);
+    }
+    if state.known().next(own).is_none() {
+        return Some(Refusal::DotsUsedUp);
+    }
+    None
+}

@@ -1,0 +1,6 @@
+mod LineByLine
+mod Numbers
+mod Parting
+mod Playing
+mod Preparing
+mod ReadOn

@@ -1,0 +1,12 @@
+use Rattle.std.proofs.Common.{◌≡◌, List, ◌++◌, ℕ, length}
+use Rattle.std.specs.Prelude.{All, ◌≢◌}
+use Rattle.dac_script.specs.Script.{lines_of}
+use Rattle.dac_script.specs.Input.{mark, with_feeds}
+use Rattle.dac_script.proofs.Parting.{IsFront}
+use Rattle.dac_script.proofs.input.parted.Given as goal
+
+abbrev pub invariant-loop-rest : goal.invariant-loop-rest
+invariant-loop-rest l = IsFront l.text l.rest
+
+abbrev pub decreases-loop-rest : goal.decreases-loop-rest
+decreases-loop-rest l = length l.rest

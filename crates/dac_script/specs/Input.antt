@@ -1,0 +1,53 @@
+-- The whole input.
+use Rattle.std.specs.Prelude.{◌≡◌, ◌≢◌, ℕ, ◌<◌, ◌≤◌, List, [], ◌∷◌, ◌++◌, length, All, Option, Result, OnOk, IfSome, codes, ◌==◌}
+use Rattle.std.specs.List.{join_with_byte, position_or_len}
+use Rattle.std.specs.Io.KnownBytes.{Consumes}
+use Rattle.dac_script.specs.declared.failure.Failure.{Failure}
+use Rattle.dac_script.specs.declared.failure.Failure.TheVariants as failure
+use Rattle.dac_script.specs.declared.fault.InputFault.TheVariants.{TooLong, NoScript, Read}
+use Rattle.dac_script.specs.Script.{lines_of}
+
+-- the line that parts a configuration from a script
+abbrev pub mark : List ℕ
+mark = codes "--"
+
+-- how many bytes stand before the first line feed
+abbrev pub line_len : List ℕ → ℕ
+line_len text = position_or_len (λ b. b == 10) text
+
+-- lines one after another, each with the line feed that ends it
+abbrev pub with_feeds : List (List ℕ) → List ℕ
+with_feeds [] = []
+with_feeds (line ∷ lines) = line ++ 10 ∷ with_feeds lines
+
+-- a text is parted at the first of its lines that is the mark: the lines before it with their line feeds are
+-- the configuration, and those behind it are the script
+pub record IsParted (text config script : List ℕ) : Type 0 where
+  pub before : List (List ℕ)
+  pub behind : List (List ℕ)
+  pub lines : lines_of text ≡ before ++ mark ∷ behind
+  pub first : All (λ line. line ≢ mark) before
+  pub config_is : config ≡ with_feeds before
+  pub script_is : script ≡ join_with_byte 10 behind
+
+-- a reader gave at most so many bytes, which stand behind the text unless an error was answered
+pub record Takes {T : Type 0} (had left : Option (List ℕ)) (room : ℕ) (old new : List ℕ) (result : Result T Failure) : Type 0 where
+  pub bytes : List ℕ
+  pub taken : Consumes had left bytes
+  pub few : length bytes ≤ room
+  pub kept : OnOk result (new ≡ old ++ bytes)
+
+-- why an input isn't read to its end: it is too long, a read failed, or want of memory
+abbrev pub IsReadFailure : Option (List ℕ) → Failure → Type 0
+IsReadFailure had (failure.Input TooLong) = IfSome had (λ bytes. 2097152 < length bytes)
+IsReadFailure had (failure.Input NoScript) = ⊥
+IsReadFailure had (failure.Input Read) = Unit {0}
+IsReadFailure had (failure.Config fault) = ⊥
+IsReadFailure had (failure.Script fault) = ⊥
+IsReadFailure had failure.NoMemory = Unit {0}
+
+-- a reader gave at most so many bytes
+pub record TakesAtMost (had left : Option (List ℕ)) (most : ℕ) : Type 0 where
+  pub bytes : List ℕ
+  pub taken : Consumes had left bytes
+  pub few : length bytes ≤ most

@@ -1,0 +1,11 @@
+pub mod Names
+pub mod Words
+pub mod Faults
+pub mod Texts
+pub mod Line
+pub mod Script
+pub mod Input
+pub mod Failures
+pub mod Answers
+pub mod Play
+pub mod Inputs

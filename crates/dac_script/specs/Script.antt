@@ -1,0 +1,56 @@
+-- A whole script.
+use Rattle.std.specs.Prelude.{◌≡◌, ℕ, ◌+◌, ◌-◌, ◌<◌, Bool, true, false, not, List, [], ◌∷◌, map, filter, take, Some, Ok, Err, Result, slice_get, ◌==◌}
+use Rattle.std.specs.List.{slice_split}
+use Rattle.dac_config.specs.Table.{Table}
+use Rattle.dac_script.specs.declared.failure.Failure.{Failure}
+use Rattle.dac_script.specs.declared.failure.Failure.TheVariants as failure
+use Rattle.dac_script.specs.declared.fault.ScriptFault.{ScriptFault}
+use Rattle.dac_script.specs.declared.fault.ScriptFaultKind.{ScriptFaultKind}
+use Rattle.dac_script.specs.declared.line.ScriptLine.{ScriptLine}
+use Rattle.dac_script.specs.Words.{words_of}
+use Rattle.dac_script.specs.Line.{line_of}
+
+-- the lines of a text stand between its line feeds
+abbrev pub lines_of : List ℕ → List (List ℕ)
+lines_of text = slice_split (λ b. b == 10) text
+
+-- neither empty nor a comment
+abbrev pub is_said : List ℕ → Bool
+is_said [] = false
+is_said (b ∷ bs) = not (b == 37)
+
+-- what a line says
+abbrev pub line_in : Table → List ℕ → Result ScriptLine ScriptFaultKind
+line_in table line = line_of table (words_of line)
+
+-- a line that can be read
+abbrev pub readable : ScriptLine → Result ScriptLine ScriptFaultKind
+readable said = Ok said
+
+-- of these lines, those that say something say this, in their order
+pub record ReadsAs (table : Table) (lines : List (List ℕ)) (script : List ScriptLine) : Type 0 where
+  pub said : map (line_in table) (filter is_said lines) ≡ map readable script
+
+-- the fault of the first line that has one: all lines before it can be read
+pub record IsFirstFault (table : Table) (lines : List (List ℕ)) (fault : ScriptFault) : Type 0 where
+  pub before : List ScriptLine
+  pub reads : ReadsAs table (take (fault.line - 1) lines) before
+  pub counted : 0 < fault.line
+  pub line : List ℕ
+  pub stands : slice_get lines (fault.line - 1) ≡ Some line
+  pub said : is_said line ≡ true
+  pub answered : line_in table line ≡ Err fault.kind
+
+-- why a script isn't read: its first fault, or want of memory
+abbrev pub IsScriptFailure : Table → List (List ℕ) → Failure → Type 0
+IsScriptFailure table lines (failure.Input fault) = ⊥
+IsScriptFailure table lines (failure.Config fault) = ⊥
+IsScriptFailure table lines (failure.Script fault) = IsFirstFault table lines fault
+IsScriptFailure table lines failure.NoMemory = Unit {0}
+
+-- why the line of this number isn't read: its fault, or want of memory
+abbrev pub IsLineFailure : Table → ℕ → List ℕ → Failure → Type 0
+IsLineFailure table number line (failure.Input fault) = ⊥
+IsLineFailure table number line (failure.Config fault) = ⊥
+IsLineFailure table number line (failure.Script fault) = (fault.line ≡ number) × (line_in table line ≡ Err fault.kind)
+IsLineFailure table number line failure.NoMemory = Unit {0}

@@ -1,0 +1,38 @@
+-- The words of a line, and what a word says.
+use Rattle.std.specs.Prelude.{ℕ, ◌+◌, ◌-◌, ◌*◌, ◌^◌, Bool, true, false, not, ◌&&◌, ◌||◌, List, [], ◌∷◌, length, take, drop, filter, nat_le, ◌==◌, slice_index, if◌then◌else◌, Option, Some, None}
+use Rattle.std.specs.List.{slice_split, list_all}
+use Rattle.std.specs.Char.{is_ascii_digit}
+use Rattle.dac_script.specs.Names.{is_bare, is_quotable}
+
+-- the words of a line stand between its spaces
+abbrev pub words_of : List ℕ → List (List ℕ)
+words_of line = filter (λ word. not (length word == 0)) (slice_split (λ b. b == 32) line)
+
+-- what stands before the last byte, where that is a quote
+abbrev pub before_quote : List ℕ → Option (List ℕ)
+before_quote [] = None
+before_quote (b ∷ bs) = let name = take (length bs) (b ∷ bs) in if slice_index (b ∷ bs) (length bs) == 39 && list_all is_quotable name then Some name else None
+
+-- the name of an atom in quotes
+abbrev pub quoted_name : List ℕ → Option (List ℕ)
+quoted_name [] = None
+quoted_name (b ∷ bs) = if b == 39 then before_quote bs else None
+
+-- the name of the atom that the word is
+abbrev pub name_in : List ℕ → Option (List ℕ)
+name_in word = if is_bare word then Some word else quoted_name word
+
+-- decimal digits, with no zero before another digit
+abbrev pub is_digits : List ℕ → Bool
+is_digits [] = false
+is_digits (d ∷ []) = is_ascii_digit d
+is_digits (d ∷ e ∷ ds) = not (d == 48) && list_all is_ascii_digit (d ∷ e ∷ ds)
+
+-- the number that begins with n and goes on with these digits
+abbrev pub value_from : ℕ → List ℕ → ℕ
+value_from n [] = n
+value_from n (d ∷ ds) = value_from (10 * n + (d - 48)) ds
+
+-- the number that the word is, at most 2 ^ 62
+abbrev pub number_in : List ℕ → Option ℕ
+number_in word = if is_digits word && nat_le (value_from 0 word) (2 ^ 62) then Some (value_from 0 word) else None

@@ -1,0 +1,94 @@
+//! The words of a line, and what a single word says.
+
+ghost use Rattle.std.specs.Prelude.{◌≡◌, ◌<◌, ◌≤◌, ◌^◌, IfOk, map, option_map, Some, None, nat_lt, if◌then◌else◌};
+ghost use Rattle.std.specs.List.{list_all};
+ghost use Rattle.std.specs.Char.{is_ascii_digit};
+ghost use Rattle.dac_script.specs.Names.{is_quotable};
+ghost use Rattle.dac_script.specs.Words.{words_of, quoted_name, is_digits, value_from, number_in, name_in};
+
+use crate::names::{is_bare, is_quotable};
+use std::alloc::{AllocError, Global};
+
+/// The greatest number that a script may name.
+pub const MAX_NUMBER: u64 = 1 << 62;
+
+/// The words of a line: what stands between its spaces. Only spaces part words.
+pub fn words_of<'a>(alloc: Global, line: &'a [u8]) -> Result<Vec<&'a [u8]>, AllocError>
+    ensures { IfOk result (λ words. map (λ word. word.now) words.items ≡ words_of line.now) }
+{
+    line.split(|byte| *byte == b' ')
+        .filter(|word| !word.is_empty())
+        .collect(alloc)
+}
+
+fn all_quotable(name: &[u8]) -> bool
+    ensures { result ≡ list_all is_quotable name.now }
+{
+    name.iter().all(|byte| is_quotable(*byte))
+}
+
+fn all_digits(digits: &[u8]) -> bool
+    ensures { result ≡ list_all is_ascii_digit digits.now }
+{
+    digits.iter().all(|byte| byte.is_ascii_digit())
+}
+
+/// What stands between the quotes of a word that is an atom in quotes.
+fn quoted_name(word: &[u8]) -> Option<&[u8]>
+    ensures { option_map (λ name. name.now) result ≡ quoted_name word.now }
+{
+    let (first, rest) = word.split_first()?;
+    let (last, name) = rest.split_last()?;
+    if *first != b'\'' || *last != b'\'' || !all_quotable(name) {
+        return None;
+    }
+    Some(name)
+}
+
+/// The name of the atom that the word is, bare or in quotes, as Erlang writes atoms.
+pub fn name_in(word: &[u8]) -> Option<&[u8]>
+    ensures { option_map (λ name. name.now) result ≡ name_in word.now }
+{
+    if is_bare(word) {
+        return Some(word);
+    }
+    quoted_name(word)
+}
+
+/// Whether the word is a number in decimal digits, without a zero before its first other digit.
+fn is_digits(word: &[u8]) -> bool
+    ensures { result ≡ is_digits word.now }
+{
+    match word {
+        [] => false,
+        [digit] => digit.is_ascii_digit(),
+        [first, ..] => *first != b'0' && all_digits(word),
+    }
+}
+
+/// The number that the digits are, where it has 64 bits.
+fn value_of(digits: &[u8]) -> Option<u64>
+    ensures { result ≡ (if nat_lt (value_from 0 digits.now) (2 ^ 64) then Some (value_from 0 digits.now) else None) }
+{
+    let mut value: u64 = 0;
+    for digit in digits {
+        value = value
+            .checked_mul(10)?
+            .checked_add(u64::from(digit.saturating_sub(b'0')))?;
+    }
+    Some(value)
+}
+
+/// The number that the word is: decimal, without a leading zero, at most 2 ^ 62.
+pub fn number_in(word: &[u8]) -> Option<u64>
+    ensures { result ≡ number_in word.now }
+{
+    if !is_digits(word) {
+        return None;
+    }
+    let value = value_of(word)?;
+    if value > MAX_NUMBER {
+        return None;
+    }
+    Some(value)
+}

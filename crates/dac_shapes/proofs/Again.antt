@@ -1,0 +1,251 @@
+-- What is in the grammar, with names that may stand where they stand, is read.
+use Rattle.std.proofs.Common.{◌≡◌, ℕ, ◌<◌, ◌≤◌, Bool, true, false, not, ◌&&◌, eqb, ltb, leb, List, [], ◌∷◌, ◌++◌, length, map, Some, Result, Ok, refl, sym, ap, subst, ◌∙◌, append_assoc, arith, codes, inl, inr}
+use Rattle.std.proofs.lemmas.Bool.{le-ltb, lt-ltb, lt-leb, eq-eqb}
+use Rattle.dac_tokens.specs.declared.fault.ConfigFault.{ConfigFault}
+use Rattle.dac_tokens.specs.declared.token.Symbol.TheVariants.{OpenList, CloseList, OpenTuple, CloseTuple, Comma}
+use Rattle.dac_tokens.specs.Words.{Word, Mark, Name, Number, Located}
+use Rattle.dac_shapes.specs.declared.draft.SyncWait.{SyncWait}
+use Rattle.dac_shapes.specs.declared.draft.SyncWait.TheVariants.{NoSync, Forever, Ms}
+use Rattle.dac_shapes.specs.declared.param.ParamName.{ParamName}
+use Rattle.dac_shapes.specs.declared.param.ParamName.TheVariants as named
+use Rattle.dac_shapes.specs.Written.{App, Param, Distributed, Mandatory, Optional, Timeout, name_of, spelled}
+use Rattle.dac_shapes.specs.Limits.{Seen, AllMay, steps, is_among, has_param, with_node, MayNode, with_nodes, MayNodes, with_groups, MayGroups, listing, with_app, MayApp, with_param, MayValue, MayParam, with_section, MaySection}
+use Rattle.dac_shapes.specs.Shape.{State, is_mark, token, atom_of, short_name_of, node_of, names_at, item_at, items_at, groups_at, timeout_of, timeout_at, wait_of, value_from, app_name_of, app_value_at, app_at, param_named, param_name_of, param_value_at, param_at, section_name_of, section_at, list_of}
+use Rattle.dac_shapes.specs.Grammar.{Parted, IsListOf, IsNode, IsItem, IsNodeList, IsAppValue, IsApp, IsWait, IsParamValue, IsParam, IsSection}
+use Rattle.dac_shapes.proofs.AgainLists.{words_of, cons_is, split, cut, none, Begins, at, symbol_again, whole_again, bracketed_again, pair_again}
+
+-- ---- single tokens
+
+atom_again : (w : Word) (place : ℕ) (name : List ℕ) → w ≡ Name name → atom_of (record { word = w; at = place }) ≡ Ok name
+unfolding atom_of
+atom_again w place name e = rw e refl
+
+short_name_again : (t : Located) (name : List ℕ) → t.word ≡ Name name → length name ≤ 255 → short_name_of t ≡ Ok name
+unfolding short_name_of
+short_name_again t name e short = let long : ltb 255 (length name) ≡ false = le-ltb 255 (length name) short in rw (atom_again t.word t.at name e, long) refl
+
+-- a test whose first part is false leaves the second to be false
+both_false : (a b : Bool) → (a ≡ false → b ≡ false) → (not a && b) ≡ false
+both_false true b f = refl
+both_false false b f = f refl
+
+ms_again : (place : ℕ) (negative : Bool) (v n : ℕ) → n ≡ v → n < 4294967296 → (negative ≡ true → n ≡ 0) → timeout_of place negative v ≡ Ok n
+ms_again place negative v n e few zero_if =
+    let small : ltb v 4294967296 ≡ true = lt-ltb v 4294967296 (omega arith) in
+    rw (negative_zero negative v (λ f. sym e ∙ zero_if f), small) (ap (λ (m : ℕ). Ok m) (sym e))
+  where
+    negative_zero : (b : Bool) (v : ℕ) → (b ≡ true → v ≡ 0) → (b && not (eqb v 0)) ≡ false
+    negative_zero true v f = let z : eqb v 0 ≡ true = eq-eqb v 0 (f refl) in rw z refl
+    negative_zero false v f = refl
+
+module _ (last : Result Located ConfigFault) where
+  -- ---- nodes and node lists
+
+  node_begins : (ws : List Word) (name : List ℕ) → IsNode ws name → Begins ws
+  node_begins ws name is = record { head = Name name; tail = []; whole = is; no_list = refl; no_tuple = refl }
+
+  node_again : (repeats : Bool) (t : Located) (us : List Located) (seen : Seen) (name : List ℕ) → t.word ≡ Name name → MayNode repeats seen name → node_of repeats t (at last us seen) ≡ Ok (name, at last us (with_node seen name))
+  unfolding node_of
+  node_again repeats t us seen name w may =
+      let once : (not repeats && is_among name seen.listed) ≡ false = both_false repeats (is_among name seen.listed) may.once in
+      let few : (not (is_among name seen.met) && leb 16 (length seen.met)) ≡ false = both_false (is_among name seen.met) (leb 16 (length seen.met)) (λ f. lt-leb 16 (length seen.met) (may.few f)) in
+      rw (short_name_again t name w may.short, once, few) refl
+
+  nodes_again : (repeats : Bool) (before : List (List ℕ)) (t : Located) (ts us : List Located) (seen : Seen) (name : List ℕ) → IsNode (words_of (t ∷ ts)) name → MayNode repeats seen name → node_of repeats t (at last (ts ++ us) seen) ≡ Ok (name, at last us (with_node seen name))
+  nodes_again repeats before t ts us seen name is may =
+      let c = cons_is t.word (Name name) (words_of ts) [] is in
+      ap (λ (l : List Located). node_of repeats t (at last (l ++ us) seen)) (none ts c.1) ∙ node_again repeats t us seen name c.0 may
+
+  item_begins : (ws : List Word) (group : List (List ℕ)) → IsItem ws group → Begins ws
+  item_begins ws group is = elim is [
+    | inl h ↦ record { head = Name h.0; tail = []; whole = h.1; no_list = refl; no_tuple = refl }
+    | inr h ↦ record { head = Mark OpenTuple; tail = h.0 ++ Mark CloseTuple ∷ []; whole = h.1; no_list = refl; no_tuple = refl }
+  ]
+
+  alone_again : (t : Located) (us : List Located) (seen : Seen) (name : List ℕ) → t.word ≡ Name name → MayNode false seen name → item_at t (at last us seen) ≡ Ok (name ∷ [], at last us (with_node seen name))
+  unfolding item_at
+  alone_again t us seen name w may = rw (node_again false t us seen name w may, w) refl
+
+  tuple_again : (t f : Located) (ts : List Located) (seen : Seen) → t.word ≡ Mark OpenTuple → is_mark CloseTuple f.word ≡ false → item_at t (at last (f ∷ ts) seen) ≡ names_at false CloseTuple f (at last ts seen)
+  unfolding item_at
+  tuple_again t f ts seen w e = rw (w, e) refl
+
+  -- tokens from a mark on, up to the mark that closes it: things parted by commas are between
+  record Within (ts : List Located) (inner : List Word) (right : Word) : Type 0 where
+    pub first : Located
+    pub mid : List Located
+    pub close_at : Located
+    pub whole : ts ≡ first ∷ (mid ++ close_at ∷ [])
+    pub is : inner ≡ words_of (first ∷ mid)
+    pub closes : close_at.word ≡ right
+    pub no_list : is_mark CloseList first.word ≡ false
+    pub no_tuple : is_mark CloseTuple first.word ≡ false
+
+  within : (t : Located) (ts : List Located) (left : Word) (inner : List Word) (right : Word) → words_of (t ∷ ts) ≡ left ∷ inner ++ right ∷ [] → Begins inner → Within ts inner right
+  within t ts left inner right e b =
+      let c = cons_is t.word left (words_of ts) (inner ++ right ∷ []) e in
+      let s = split ts inner (right ∷ []) c.1 in
+      let d = cut s.rest right [] s.second in
+      let f = cut s.front b.head b.tail (s.first ∙ b.whole) in
+      record {
+        first = f.head;
+        mid = f.tail;
+        close_at = d.head;
+        whole = s.whole ∙ ap (λ (l : List Located). l ++ s.rest) f.whole ∙ ap (λ (l : List Located). f.head ∷ (f.tail ++ l)) (d.whole ∙ ap (λ (l : List Located). d.head ∷ l) (none d.tail d.rest));
+        is = sym s.first ∙ ap words_of f.whole;
+        closes = d.is;
+        no_list = ap (is_mark CloseList) f.is ∙ b.no_list;
+        no_tuple = ap (is_mark CloseTuple) f.is ∙ b.no_tuple;
+      }
+
+  filled : {A : Type 0} (Is : List Word → A → Type 0) → ((ws : List Word) (x : A) → Is ws x → Begins ws) → (ws : List Word) (xs : List A) → Parted Is ws xs → Begins ws
+  filled Is begins ws [] p = absurd p
+  filled Is begins ws (x ∷ []) p = begins ws x p
+  filled Is begins ws (x ∷ y ∷ ys) p =
+      let f = begins p.0 x p.3 in
+      record { head = f.head; tail = f.tail ++ Mark Comma ∷ p.1; whole = p.2 ∙ ap (λ (l : List Word). l ++ Mark Comma ∷ p.1) f.whole; no_list = f.no_list; no_tuple = f.no_tuple }
+
+  item_again : (before : List (List (List ℕ))) (t : Located) (ts us : List Located) (seen : Seen) (group : List (List ℕ)) → IsItem (words_of (t ∷ ts)) group → MayNodes false seen group → item_at t (at last (ts ++ us) seen) ≡ Ok (group, at last us (with_nodes seen group))
+  item_again before t ts us seen group is may = elim is [
+    | inl h ↦
+        let c = cons_is t.word (Name h.0) (words_of ts) [] h.1 in
+        let one = subst (λ (g : List (List ℕ)). MayNodes false seen g) h.2 may in
+        subst (λ (g : List (List ℕ)). item_at t (at last (ts ++ us) seen) ≡ Ok (g, at last us (with_nodes seen g))) (sym h.2)
+        (ap (λ (l : List Located). item_at t (at last (l ++ us) seen)) (none ts c.1) ∙ alone_again t us seen h.0 c.0 one.0)
+    | inr h ↦
+        let w = within t ts (Mark OpenTuple) h.0 (Mark CloseTuple) h.1 (filled IsNode node_begins h.0 group h.2) in
+        let begun = cons_is t.word (Mark OpenTuple) (words_of ts) (h.0 ++ Mark CloseTuple ∷ []) h.1 in
+        let apart : ts ++ us ≡ w.first ∷ (w.mid ++ w.close_at ∷ us) = ap (λ (l : List Located). l ++ us) w.whole ∙ ap (λ (l : List Located). w.first ∷ l) (append_assoc w.mid (w.close_at ∷ []) us) in
+        ap (λ (l : List Located). item_at t (at last l seen)) apart
+        ∙ tuple_again t w.first (w.mid ++ w.close_at ∷ us) seen begun.0 w.no_tuple
+        ∙ whole_again last IsNode (λ _. node_of false) CloseTuple with_node (λ _. MayNode false) refl refl node_begins (nodes_again false) w.first w.mid w.close_at us seen group (subst (λ (l : List Word). Parted IsNode l group) w.is h.2) may w.closes
+  ]
+
+  list_opened : (t f : Located) (ts : List Located) (seen : Seen) → t.word ≡ Mark OpenList → is_mark CloseList f.word ≡ false → groups_at t (at last (f ∷ ts) seen) ≡ items_at f (at last ts (listing seen))
+  unfolding groups_at
+  list_opened t f ts seen w e = rw (w, e) refl
+
+  groups_again : (t : Located) (ts us : List Located) (seen : Seen) (groups : List (List (List ℕ))) → IsNodeList (words_of (t ∷ ts)) groups → MayGroups (listing seen) groups → groups_at t (at last (ts ++ us) seen) ≡ Ok (groups, at last us (with_groups (listing seen) groups))
+  groups_again t ts us seen groups is may =
+      let w = within t ts (Mark OpenList) is.0 (Mark CloseList) is.1 (filled IsItem item_begins is.0 groups is.2) in
+      let begun = cons_is t.word (Mark OpenList) (words_of ts) (is.0 ++ Mark CloseList ∷ []) is.1 in
+      let apart : ts ++ us ≡ w.first ∷ (w.mid ++ w.close_at ∷ us) = ap (λ (l : List Located). l ++ us) w.whole ∙ ap (λ (l : List Located). w.first ∷ l) (append_assoc w.mid (w.close_at ∷ []) us) in
+      ap (λ (l : List Located). groups_at t (at last l seen)) apart
+      ∙ list_opened t w.first (w.mid ++ w.close_at ∷ us) seen begun.0 w.no_list
+      ∙ whole_again last IsItem (λ _. item_at) CloseList with_nodes (λ _. MayNodes false) refl refl item_begins item_again w.first w.mid w.close_at us (listing seen) groups (subst (λ (l : List Word). Parted IsItem l groups) w.is is.2) may w.closes
+
+  -- ---- applications
+
+  untimed_again : (w : Word) (place : ℕ) (s : State) → w ≡ Mark OpenList → timeout_at (record { word = w; at = place }) s ≡ Ok (0, record { word = w; at = place }, s)
+  unfolding timeout_at
+  untimed_again w place s e = rw e refl
+
+  timed_again : (place : ℕ) (c f : Located) (ts : List Located) (seen : Seen) (negative : Bool) (digits : List ℕ) (n : ℕ) → timeout_of place negative (value_from 0 digits) ≡ Ok n → c.word ≡ Mark Comma
+      → timeout_at (record { word = Number negative digits; at = place }) (at last (c ∷ f ∷ ts) seen) ≡ Ok (n, f, at last ts seen)
+  unfolding timeout_at
+  timed_again place c f ts seen negative digits n e w = rw (e, symbol_again last Comma c (f ∷ ts) seen refl w) refl
+
+  app_value_by : (name : List ℕ) (n : ℕ) (groups : List (List (List ℕ))) (first f : Located) (ts us : List Located) (s : State) (seen : Seen) → timeout_at first s ≡ Ok (n, f, at last ts seen) → groups_at f (at last ts seen) ≡ Ok (groups, at last us (with_groups (listing seen) groups))
+      → (t : State) → token t ≡ Ok (first, s) → app_value_at name t ≡ Ok (record { name = name; timeout = n; groups = groups }, at last us (with_groups (listing seen) groups))
+  unfolding app_value_at
+  app_value_by name n groups first f ts us s seen a b t e = rw (e, a, b) refl
+
+  app_value_again : (vs us : List Located) (seen : Seen) (app : App) → IsAppValue (words_of vs) app → MayGroups (listing seen) app.groups → app_value_at app.name (at last (vs ++ us) seen) ≡ Ok (app, at last us (with_groups (listing seen) app.groups))
+  app_value_again vs us seen app is may = elim is.3 [
+    | inl h ↦
+        let whole : words_of vs ≡ is.1 = is.2 ∙ ap (λ (l : List Word). l ++ is.1) h.0 in
+        let c = cut vs (Mark OpenList) (is.4.0 ++ Mark CloseList ∷ []) (whole ∙ is.4.1) in
+        let list : IsNodeList (words_of (c.head ∷ c.tail)) app.groups = subst (λ (l : List Word). IsNodeList l app.groups) (sym whole ∙ ap words_of c.whole) is.4 in
+        ap (λ (l : List Located). app_value_at app.name (at last (l ++ us) seen)) c.whole
+        ∙ app_value_by app.name 0 app.groups c.head c.head (c.tail ++ us) us (at last (c.tail ++ us) seen) seen (untimed_again c.head.word c.head.at (at last (c.tail ++ us) seen) c.is) (groups_again c.head c.tail us seen app.groups list may) (at last (c.head ∷ c.tail ++ us) seen) refl
+        ∙ ap (λ (n : ℕ). Ok (record { name = app.name; timeout = n; groups = app.groups }, at last us (with_groups (listing seen) app.groups))) (sym h.1)
+    | inr h ↦
+        let ms = h.2 in
+        let whole : words_of vs ≡ h.0 ∷ Mark Comma ∷ is.1 = is.2 ∙ ap (λ (l : List Word). l ++ is.1) h.1 in
+        let c = cut vs h.0 (Mark Comma ∷ is.1) whole in
+        let d = cut c.tail (Mark Comma) is.1 c.rest in
+        let f = cut d.tail (Mark OpenList) (is.4.0 ++ Mark CloseList ∷ []) (d.rest ∙ is.4.1) in
+        let list : IsNodeList (words_of (f.head ∷ f.tail)) app.groups = subst (λ (l : List Word). IsNodeList l app.groups) (sym d.rest ∙ ap words_of f.whole) is.4 in
+        let apart : vs ≡ c.head ∷ d.head ∷ f.head ∷ f.tail = c.whole ∙ ap (λ (l : List Located). c.head ∷ l) (d.whole ∙ ap (λ (l : List Located). d.head ∷ l) f.whole) in
+        let number : c.head.word ≡ Number ms.0 ms.1 = c.is ∙ ms.2 in
+        let time = timed_again c.head.at d.head f.head (f.tail ++ us) seen ms.0 ms.1 app.timeout (ms_again c.head.at ms.0 (value_from 0 ms.1) app.timeout ms.3 ms.4 ms.5) d.is in
+        let timed : timeout_at c.head (at last (d.head ∷ f.head ∷ f.tail ++ us) seen) ≡ Ok (app.timeout, f.head, at last (f.tail ++ us) seen) = ap (λ (w : Word). timeout_at (record { word = w; at = c.head.at }) (at last (d.head ∷ f.head ∷ f.tail ++ us) seen)) number ∙ time in
+        ap (λ (l : List Located). app_value_at app.name (at last (l ++ us) seen)) apart
+        ∙ app_value_by app.name app.timeout app.groups c.head f.head (f.tail ++ us) us (at last (d.head ∷ f.head ∷ f.tail ++ us) seen) seen timed (groups_again f.head f.tail us seen app.groups list may) (at last (c.head ∷ d.head ∷ f.head ∷ f.tail ++ us) seen) refl
+  ]
+
+  app_begins : (ws : List Word) (app : App) → IsApp ws app → Begins ws
+  app_begins ws app is = record { head = Mark OpenTuple; tail = Name app.name ∷ Mark Comma ∷ is.0 ++ Mark CloseTuple ∷ []; whole = is.1; no_list = refl; no_tuple = refl }
+
+  app_named_again : (before : List App) (t : Located) (name : List ℕ) → t.word ≡ Name name → length name ≤ 255 → is_among name (map (λ a. a.name) before) ≡ false → length before < 64 → app_name_of before t ≡ Ok name
+  unfolding app_name_of
+  app_named_again before t name w short once few = let room : leb 64 (length before) ≡ false = lt-leb 64 (length before) few in rw (short_name_again t name w short, once, room) refl
+
+  app_again : (before : List App) (t : Located) (ts us : List Located) (seen : Seen) (app : App) → IsApp (words_of (t ∷ ts)) app → MayApp before seen app → app_at before t (at last (ts ++ us) seen) ≡ Ok (app, at last us (with_app seen app))
+  app_again before = pair_again last (λ (app : App). app.name) (λ name. name) (λ app value. IsAppValue value app) (app_name_of before) app_value_at with_app (MayApp before)
+      (λ t seen app w may. app_named_again before t app.name w may.short may.once may.few) (λ vs us seen app is may. app_value_again vs us seen app is may.nodes)
+
+  -- ---- parameters and sections
+
+  param_begins : (ws : List Word) (p : Param) → IsParam ws p → Begins ws
+  param_begins ws p is = record { head = Mark OpenTuple; tail = Name (spelled (name_of p)) ∷ Mark Comma ∷ is.0 ++ Mark CloseTuple ∷ []; whole = is.1; no_list = refl; no_tuple = refl }
+
+  spelled_so : (name : ParamName) → param_named (spelled name) ≡ Some name
+  spelled_so named.Distributed = refl
+  spelled_so named.Mandatory = refl
+  spelled_so named.Optional = refl
+  spelled_so named.Timeout = refl
+
+  param_named_again : (before : List Param) (t : Located) (name : ParamName) → t.word ≡ Name (spelled name) → has_param name before ≡ false → param_name_of before t ≡ Ok name
+  unfolding param_name_of
+  param_named_again before t name w once = rw (atom_again t.word t.at (spelled name) w, spelled_so name, once) refl
+
+  wait_again : (w : Word) (place : ℕ) (wait : SyncWait) → IsWait (w ∷ []) wait → wait_of (record { word = w; at = place }) ≡ Ok wait
+  unfolding wait_of
+  wait_again w place NoSync is = absurd is
+  wait_again w place Forever is = let c = cons_is w (Name (codes "infinity")) [] [] is in rw c.0 refl
+  wait_again w place (Ms n) is =
+      let c = cons_is w is.0 [] [] is.1 in
+      let ms = is.2 in
+      let number : w ≡ Number ms.0 ms.1 = c.0 ∙ ms.2 in
+      rw (number, ms_again place ms.0 (value_from 0 ms.1) n ms.3 ms.4 ms.5) refl
+
+  timeout_again : (t : Located) (us : List Located) (seen : Seen) (wait : SyncWait) → IsWait (t.word ∷ []) wait → param_value_at named.Timeout (at last (t ∷ us) seen) ≡ Ok (Timeout wait, at last us seen)
+  unfolding param_value_at
+  timeout_again t us seen wait is = rw (wait_again t.word t.at wait is) refl
+
+  -- a wait is one word
+  wait_word : (ws : List Word) (wait : SyncWait) → IsWait ws wait → (w : Word) × (ws ≡ w ∷ [])
+  wait_word ws NoSync is = absurd is
+  wait_word ws Forever is = (Name (codes "infinity"), is)
+  wait_word ws (Ms n) is = (is.0, is.1)
+
+  param_value_again : (vs us : List Located) (seen : Seen) (p : Param) → IsParamValue (words_of vs) p → MayValue seen p → param_value_at (name_of p) (at last (vs ++ us) seen) ≡ Ok (p, at last us (with_param seen p))
+  unfolding param_value_at
+  param_value_again vs us seen (Distributed apps) is may = rw (bracketed_again last IsApp app_at with_app MayApp app_begins app_again vs us seen apps is may) refl
+  param_value_again vs us seen (Mandatory names) is may = rw (bracketed_again last IsNode (λ _. node_of true) with_node (λ _. MayNode true) node_begins (nodes_again true) vs us seen names is may) refl
+  param_value_again vs us seen (Optional names) is may = rw (bracketed_again last IsNode (λ _. node_of true) with_node (λ _. MayNode true) node_begins (nodes_again true) vs us seen names is may) refl
+  param_value_again vs us seen (Timeout wait) is may =
+      let w = wait_word (words_of vs) wait is in
+      let c = cut vs w.0 [] w.1 in
+      let only : vs ≡ c.head ∷ [] = c.whole ∙ ap (λ (l : List Located). c.head ∷ l) (none c.tail c.rest) in
+      let said : IsWait (c.head.word ∷ []) wait = subst (λ (l : List Located). IsWait (words_of l) wait) only is in
+      ap (λ (l : List Located). param_value_at named.Timeout (at last (l ++ us) seen)) only ∙ timeout_again c.head us seen wait said
+
+  param_again : (before : List Param) (t : Located) (ts us : List Located) (seen : Seen) (p : Param) → IsParam (words_of (t ∷ ts)) p → MayParam before seen p → param_at before t (at last (ts ++ us) seen) ≡ Ok (p, at last us (with_param seen p))
+  param_again before = pair_again last name_of spelled (λ p value. IsParamValue value p) (param_name_of before) param_value_at with_param (MayParam before)
+      (λ t seen p w may. param_named_again before t (name_of p) w may.once) (λ vs us seen p is may. param_value_again vs us seen p is may.value)
+
+  section_begins : (ws : List Word) (params : List Param) → IsSection ws params → Begins ws
+  section_begins ws params is = record { head = Mark OpenTuple; tail = Name (codes "kernel") ∷ Mark Comma ∷ is.0 ++ Mark CloseTuple ∷ []; whole = is.1; no_list = refl; no_tuple = refl }
+
+  section_named_again : (before : List (List Param)) (t : Located) → t.word ≡ Name (codes "kernel") → length before ≡ 0 → section_name_of before t ≡ Ok tt
+  unfolding section_name_of
+  section_named_again before t w once = rw (atom_again t.word t.at (codes "kernel") w, once) refl
+
+  pub section_again : (before : List (List Param)) (t : Located) (ts us : List Located) (seen : Seen) (params : List Param) → IsSection (words_of (t ∷ ts)) params → MaySection before seen params → section_at before t (at last (ts ++ us) seen) ≡ Ok (params, at last us (with_section seen params))
+  section_again before = pair_again last (λ (params : List Param). tt) (λ (k : Unit {0}). codes "kernel") (λ params value. IsListOf IsParam value params) (section_name_of before) (λ _. list_of param_at) with_section (MaySection before)
+      (λ t seen params w may. section_named_again before t w may.once) (λ vs us seen params is may. bracketed_again last IsParam param_at with_param MayParam param_begins param_again vs us seen params is may.params)
+
+  pub sections_again : (ts us : List Located) (sections : List (List Param)) (seen : Seen) → IsListOf IsSection (words_of ts) sections → AllMay with_section MaySection [] seen sections → list_of section_at (at last (ts ++ us) seen) ≡ Ok (sections, at last us (steps with_section seen sections))
+  sections_again ts us sections seen is may = bracketed_again last IsSection section_at with_section MaySection section_begins section_again ts us seen sections is may

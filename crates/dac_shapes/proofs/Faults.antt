@@ -1,0 +1,37 @@
+-- Faults that are passed on.
+use Rattle.std.proofs.Common.{◌≡◌, ℕ, Result, Ok, Err, ap}
+use Rattle.dac_tokens.specs.declared.fault.FaultKind.{FaultKind}
+use Rattle.dac_tokens.specs.declared.fault.FaultKind.TheVariants.{BadToken, Unsupported, NoMemory}
+use Rattle.dac_tokens.specs.declared.fault.ConfigFault.{ConfigFault}
+use Rattle.dac_tokens.specs.Faults.{IsTokenFault}
+use Rattle.dac_tokens.specs.Gives.{◌>>=◌, UnlessMemory}
+use Rattle.dac_tokens.specs.Stream.{taken}
+use Rattle.dac_shapes.specs.Outcome.{OrMemory, Fails}
+use Rattle.dac_shapes.specs.Shape.{State, token}
+
+or_memory : (k : FaultKind) (at : ℕ) (P Q : Type 0) → (P → Q) → OrMemory k at P → OrMemory k at Q
+or_memory NoMemory at P Q f h = h
+or_memory _ at P Q f h = f h
+
+-- where one reading fails, another does, if its fault is the other's
+pub fails_too : {A B : Type 0} (e : ConfigFault) (r : Result A ConfigFault) (q : Result B ConfigFault) → (r ≡ Err e → q ≡ Err e) → Fails e r → Fails e q
+fails_too e r q f h = or_memory e.kind e.at _ _ f h
+
+-- a claim about a fault that is no want of memory
+pub unless_memory : (k : FaultKind) (at : ℕ) (P : Type 0) → OrMemory k at P → UnlessMemory k P
+unless_memory NoMemory at P h = tt
+unless_memory _ at P h = h
+
+-- want of memory stands at 0
+pub at_start : (k : FaultKind) (at : ℕ) (P : Type 0) → k ≡ NoMemory → OrMemory k at P → at ≡ 0
+at_start NoMemory at P e h = h
+at_start _ at P e h = absurd cc
+
+-- a token's own fault is no want of memory
+of_token : (k : FaultKind) (at : ℕ) (P Q : Type 0) → IsTokenFault k → (P → Q) → UnlessMemory k P → OrMemory k at Q
+of_token BadToken at P Q is f h = f h
+of_token Unsupported at P Q is f h = f h
+of_token _ at P Q is f h = absurd is
+
+pub token_fails : (e : ConfigFault) (s : State) → IsTokenFault e.kind → UnlessMemory e.kind (taken s.left ≡ Err e) → Fails e (token s)
+token_fails e s is h = of_token e.kind e.at _ _ is (λ p. ap (λ r. r >>= λ t. Ok (t.0, record s { left = t.1 })) p) h

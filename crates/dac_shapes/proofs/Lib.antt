@@ -1,0 +1,10 @@
+pub mod Faults
+pub mod Lists
+pub mod Among
+pub mod Digits
+pub mod Moves
+pub mod FoundLists
+pub mod Found
+pub mod AgainLists
+pub mod Again
+pub mod Texts

@@ -1,0 +1,9 @@
+use Rattle.std.proofs.Common.{◌≡◌, ◌<◌, drop}
+use Rattle.dac_shapes.specs.Shape.{value_from}
+use Rattle.dac_shapes.proofs.numbers.number_of.Given as goal
+
+abbrev pub invariant-loop-digit : goal.invariant-loop-digit
+invariant-loop-digit l = record {
+  so_far : value_from l.value (drop l.digit-index l.digits) ≡ value_from 0 l.digits;
+  fits : l.value < 4294967296;
+}

@@ -1,0 +1,33 @@
+use Rattle.std.proofs.Common.{◌≡◌, ◌≤◌, length, arith, ltb, false}
+use Rattle.std.proofs.lemmas.Bool.{le-ltb}
+use Rattle.dac_tokens.specs.Gives.{Gives as GivesOrNone}
+use Rattle.dac_shapes.specs.Outcome.{Gives}
+use Rattle.dac_shapes.specs.Shape.{file_at, draft_at}
+use Rattle.dac_shapes.specs.Views.{draft_of}
+use Rattle.dac_shapes.proofs.Texts.{Tokenizes, whole, found_in, only_in, exact_in, memory_in}
+use Rattle.dac_shapes.proofs.reading.read_draft.Goals as goal
+
+pub returns-clause-found : goal.returns-clause-found
+returns-clause-found c =
+    let known : Tokenizes c.args.text.now c.new.result = record { read = c.new.ensures.read; end = c.new.ensures.end; spelled = c.new.ensures.spelled } in
+    let read : Gives draft_of c.file.result (file_at (whole c.new.result)) = rw (c.new-2.ensures.items, c.new-3.ensures.items) at c.file.ensures in
+    found_in c.args.text.now c.new.result c.file.result known (omega arith) read
+
+pub returns-clause-only : goal.returns-clause-only
+returns-clause-only c =
+    let known : Tokenizes c.args.text.now c.new.result = record { read = c.new.ensures.read; end = c.new.ensures.end; spelled = c.new.ensures.spelled } in
+    let read : Gives draft_of c.file.result (file_at (whole c.new.result)) = rw (c.new-2.ensures.items, c.new-3.ensures.items) at c.file.ensures in
+    λ draft is. only_in c.args.text.now c.new.result c.file.result known read draft is
+
+pub returns-clause-exact : goal.returns-clause-exact
+unfolding draft_at
+returns-clause-exact c =
+    let read : Gives draft_of c.file.result (file_at (whole c.new.result)) = rw (c.new-2.ensures.items, c.new-3.ensures.items) at c.file.ensures in
+    let short : length c.args.text.now ≤ 65536 = omega arith in
+    let fits : ltb 65536 (length c.args.text.now) ≡ false = le-ltb 65536 (length c.args.text.now) short in
+    rw fits (rw c.new.ensures.read at (exact_in c.new.result c.file.result read))
+
+pub returns-clause-memory : goal.returns-clause-memory
+returns-clause-memory c =
+    let read : Gives draft_of c.file.result (file_at (whole c.new.result)) = rw (c.new-2.ensures.items, c.new-3.ensures.items) at c.file.ensures in
+    memory_in c.new.result c.file.result read

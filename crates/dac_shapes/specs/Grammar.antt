@@ -1,0 +1,96 @@
+-- The shapes of a configuration, as a grammar on tokens, whatever a reader does.
+use Rattle.std.specs.Prelude.{◌≡◌, ◌≢◌, ◌⊎◌, ℕ, ◌<◌, ◌≤◌, Bool, true, List, [], ◌∷◌, ◌++◌, length, map, codes}
+use Rattle.dac_tokens.specs.declared.token.Symbol.{Symbol}
+use Rattle.dac_tokens.specs.declared.token.Symbol.TheVariants.{OpenList, CloseList, OpenTuple, CloseTuple, Comma, FullStop}
+use Rattle.dac_tokens.specs.TokenGrammar.{AreTokensOf}
+use Rattle.dac_tokens.specs.Words.{Word, Mark, Name, Number, Located}
+use Rattle.dac_shapes.specs.declared.draft.SyncWait.{SyncWait}
+use Rattle.dac_shapes.specs.declared.draft.SyncWait.TheVariants.{NoSync, Forever, Ms}
+use Rattle.dac_shapes.specs.Written.{App, Param, Distributed, Mandatory, Optional, Timeout, Written, name_of, spelled, written}
+use Rattle.dac_shapes.specs.Shape.{value_from}
+use Rattle.dac_shapes.specs.Limits.{MaySections, nodes_in}
+
+-- one or more things, each by `Is`, parted by commas
+abbrev pub Parted : {A : Type 0} → (List Word → A → Type 0) → List Word → List A → Type 0
+Parted Is words [] = ⊥
+Parted Is words (x ∷ []) = Is words x
+Parted Is words (x ∷ y ∷ ys) = (first rest : List Word) × (words ≡ first ++ Mark Comma ∷ rest) × Is first x × Parted Is rest (y ∷ ys)
+
+abbrev pub between : Symbol → List Word → Symbol → List Word
+between left words right = Mark left ∷ words ++ Mark right ∷ []
+
+-- nothing, or things parted by commas
+abbrev pub PartedOrNone : {A : Type 0} → (List Word → A → Type 0) → List Word → List A → Type 0
+PartedOrNone Is words [] = words ≡ []
+PartedOrNone Is words (x ∷ xs) = Parted Is words (x ∷ xs)
+
+-- a list in brackets, which may be empty
+abbrev pub IsListOf : {A : Type 0} → (List Word → A → Type 0) → List Word → List A → Type 0
+IsListOf Is words xs = (inner : List Word) × (words ≡ between OpenList inner CloseList) × PartedOrNone Is inner xs
+
+-- a pair of this name and a value
+abbrev pub IsPair : List ℕ → (List Word → Type 0) → List Word → Type 0
+IsPair name IsValue words = (value : List Word) × (words ≡ Mark OpenTuple ∷ Name name ∷ Mark Comma ∷ value ++ Mark CloseTuple ∷ []) × IsValue value
+
+abbrev pub IsNode : List Word → List ℕ → Type 0
+IsNode words name = words ≡ Name name ∷ []
+
+-- a node by itself, or a tuple of nodes
+abbrev pub IsItem : List Word → List (List ℕ) → Type 0
+IsItem words group =
+    ((name : List ℕ) × (words ≡ Name name ∷ []) × (group ≡ name ∷ []))
+    ⊎ ((inner : List Word) × (words ≡ between OpenTuple inner CloseTuple) × Parted IsNode inner group)
+
+-- a node list, which is not empty
+abbrev pub IsNodeList : List Word → List (List (List ℕ)) → Type 0
+IsNodeList words groups = (inner : List Word) × (words ≡ between OpenList inner CloseList) × Parted IsItem inner groups
+
+-- this token is a number of milliseconds below 2 ^ 32, which is not negative
+abbrev pub IsMs : Word → ℕ → Type 0
+IsMs word n = (negative : Bool) × (digits : List ℕ) × (word ≡ Number negative digits) × (n ≡ value_from 0 digits) × (n < 4294967296) × (negative ≡ true → n ≡ 0)
+
+-- nothing, which is 0, or a number and a comma
+abbrev pub IsTimeout : List Word → ℕ → Type 0
+IsTimeout words n =
+    ((words ≡ []) × (n ≡ 0))
+    ⊎ ((word : Word) × (words ≡ word ∷ Mark Comma ∷ []) × IsMs word n)
+
+abbrev pub IsAppValue : List Word → App → Type 0
+IsAppValue words app = (timeout list : List Word) × (words ≡ timeout ++ list) × IsTimeout timeout app.timeout × IsNodeList list app.groups
+
+abbrev pub IsApp : List Word → App → Type 0
+IsApp words app = IsPair app.name (λ value. IsAppValue value app) words
+
+-- a number, or `infinity`
+abbrev pub IsWait : List Word → SyncWait → Type 0
+IsWait words NoSync = ⊥
+IsWait words Forever = words ≡ Name (codes "infinity") ∷ []
+IsWait words (Ms n) = (word : Word) × (words ≡ word ∷ []) × IsMs word n
+
+abbrev pub IsParamValue : List Word → Param → Type 0
+IsParamValue words (Distributed apps) = IsListOf IsApp words apps
+IsParamValue words (Mandatory names) = IsListOf IsNode words names
+IsParamValue words (Optional names) = IsListOf IsNode words names
+IsParamValue words (Timeout wait) = IsWait words wait
+
+abbrev pub IsParam : List Word → Param → Type 0
+IsParam words param = IsPair (spelled (name_of param)) (λ value. IsParamValue value param) words
+
+-- the section `kernel`, with these parameters
+abbrev pub IsSection : List Word → List Param → Type 0
+IsSection words params = IsPair (codes "kernel") (λ value. IsListOf IsParam value params) words
+
+abbrev pub IsFile : List Word → List (List Param) → Type 0
+IsFile words sections = (list : List Word) × (words ≡ list ++ Mark FullStop ∷ []) × IsListOf IsSection list sections
+
+-- A text of at most 65,536 bytes says this: its tokens are a file, whose names may stand where they stand, and which
+-- lists one application at least.
+pub record IsTextOf (text : List ℕ) (draft : Written) : Type 0 where
+  pub short : length text ≤ 65536
+  pub tokens : List Located
+  pub sections : List (List Param)
+  pub spelled : AreTokensOf text tokens
+  pub file : IsFile (map (λ t. t.word) tokens) sections
+  pub may : MaySections sections
+  pub says : draft ≡ written sections (nodes_in sections)
+  pub some : length draft.apps ≢ 0

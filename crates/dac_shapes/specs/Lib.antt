@@ -1,0 +1,6 @@
+pub mod Written
+pub mod Shape
+pub mod Limits
+pub mod Grammar
+pub mod Views
+pub mod Outcome

@@ -1,0 +1,120 @@
+-- Which names may stand where: each thing may come after those before it.
+use Rattle.std.specs.Prelude.{◌≡◌, ℕ, ◌<◌, ◌≤◌, ◌==◌, Bool, true, false, List, [], ◌∷◌, ◌++◌, length, map, if◌then◌else◌}
+use Rattle.std.specs.Str.{bytes_eq}
+use Rattle.std.specs.List.{list_any}
+use Rattle.dac_shapes.specs.declared.param.ParamName.{ParamName}
+use Rattle.dac_shapes.specs.declared.param.ParamName.TheVariants as named
+use Rattle.dac_shapes.specs.Written.{App, Param, Distributed, Mandatory, Optional, Timeout, name_of}
+
+-- the different names of nodes met so far, and the names of the node list that is being read
+pub record Seen : Type 0 where
+  pub met : List (List ℕ)
+  pub listed : List (List ℕ)
+
+abbrev pub nothing : Seen
+nothing = record { met = []; listed = [] }
+
+abbrev pub is_among : List ℕ → List (List ℕ) → Bool
+is_among name names = list_any (λ other. bytes_eq other name) names
+
+abbrev pub number_of : ParamName → ℕ
+number_of named.Distributed = 0
+number_of named.Mandatory = 1
+number_of named.Optional = 2
+number_of named.Timeout = 3
+
+-- whether one of the parameters has this name
+abbrev pub has_param : ParamName → List Param → Bool
+has_param name params = list_any (λ param. number_of (name_of param) == number_of name) params
+
+module _ {A : Type 0} (step : Seen → A → Seen) (May : List A → Seen → A → Type 0) where
+  -- each thing may come after those before it
+  abbrev pub AllMay : List A → Seen → List A → Type 0
+  AllMay before seen [] = Unit {0}
+  AllMay before seen (x ∷ xs) = May before seen x × AllMay (before ++ x ∷ []) (step seen x) xs
+
+-- what was seen after these things
+abbrev pub steps : {A : Type 0} → (Seen → A → Seen) → Seen → List A → Seen
+steps step seen [] = seen
+steps step seen (x ∷ xs) = steps step (step seen x) xs
+
+-- ---- nodes
+
+abbrev pub with_name : List (List ℕ) → List ℕ → List (List ℕ)
+with_name names name = if is_among name names then names else names ++ name ∷ []
+
+abbrev pub with_node : Seen → List ℕ → Seen
+with_node seen name = record { met = with_name seen.met name; listed = seen.listed ++ name ∷ [] }
+
+-- A node may come: its name has at most 255 bytes, it stands in its list once unless repeats are taken there, and
+-- it is known or fewer than 16 are.
+pub record MayNode (repeats : Bool) (seen : Seen) (name : List ℕ) : Type 0 where
+  pub short : length name ≤ 255
+  pub once : repeats ≡ false → is_among name seen.listed ≡ false
+  pub few : is_among name seen.met ≡ false → length seen.met < 16
+
+abbrev pub with_nodes : Seen → List (List ℕ) → Seen
+with_nodes seen names = steps with_node seen names
+
+abbrev pub MayNodes : Bool → Seen → List (List ℕ) → Type 0
+MayNodes repeats seen names = AllMay with_node (λ _. MayNode repeats) [] seen names
+
+abbrev pub with_groups : Seen → List (List (List ℕ)) → Seen
+with_groups seen groups = steps with_nodes seen groups
+
+abbrev pub MayGroups : Seen → List (List (List ℕ)) → Type 0
+MayGroups seen groups = AllMay with_nodes (λ _. MayNodes false) [] seen groups
+
+-- ---- applications
+
+-- a node list begins
+abbrev pub listing : Seen → Seen
+listing seen = record seen { listed = [] }
+
+abbrev pub with_app : Seen → App → Seen
+with_app seen app = with_groups (listing seen) app.groups
+
+-- An application may come after these: its name has at most 255 bytes and is new, fewer than 64 came, and its nodes
+-- may come.
+pub record MayApp (before : List App) (seen : Seen) (app : App) : Type 0 where
+  pub short : length app.name ≤ 255
+  pub once : is_among app.name (map (λ a. a.name) before) ≡ false
+  pub few : length before < 64
+  pub nodes : MayGroups (listing seen) app.groups
+
+abbrev pub with_apps : Seen → List App → Seen
+with_apps seen apps = steps with_app seen apps
+
+-- ---- parameters and sections
+
+abbrev pub with_param : Seen → Param → Seen
+with_param seen (Distributed apps) = with_apps seen apps
+with_param seen (Mandatory names) = with_nodes seen names
+with_param seen (Optional names) = with_nodes seen names
+with_param seen (Timeout wait) = seen
+
+abbrev pub MayValue : Seen → Param → Type 0
+MayValue seen (Distributed apps) = AllMay with_app MayApp [] seen apps
+MayValue seen (Mandatory names) = MayNodes true seen names
+MayValue seen (Optional names) = MayNodes true seen names
+MayValue seen (Timeout wait) = Unit {0}
+
+-- a parameter may come after these: there is none of its name, and its value may come
+pub record MayParam (before : List Param) (seen : Seen) (param : Param) : Type 0 where
+  pub once : has_param (name_of param) before ≡ false
+  pub value : MayValue seen param
+
+abbrev pub with_section : Seen → List Param → Seen
+with_section seen params = steps with_param seen params
+
+-- a section `kernel` may come: it is the first, and its parameters may come
+pub record MaySection (before : List (List Param)) (seen : Seen) (section : List Param) : Type 0 where
+  pub once : length before ≡ 0
+  pub params : AllMay with_param MayParam [] seen section
+
+abbrev pub MaySections : List (List Param) → Type 0
+MaySections sections = AllMay with_section MaySection [] nothing sections
+
+-- the different names of nodes of the sections, in the order in which they first stand
+abbrev pub nodes_in : List (List Param) → List (List ℕ)
+nodes_in sections = (steps with_section nothing sections).met

@@ -1,0 +1,19 @@
+-- What a reader of the code answers, beside what reading gives on lists.
+use Rattle.std.specs.Prelude.{◌≡◌, ℕ, Result, Ok, Err}
+use Rattle.dac_tokens.specs.declared.fault.FaultKind.{FaultKind}
+use Rattle.dac_tokens.specs.declared.fault.FaultKind.TheVariants.{NoMemory}
+use Rattle.dac_tokens.specs.declared.fault.ConfigFault.{ConfigFault}
+
+-- want of memory stands at 0 and says nothing of the text; of any other fault, a claim
+abbrev pub OrMemory : FaultKind → ℕ → Type 0 → Type 0
+OrMemory NoMemory at P = at ≡ 0
+OrMemory _ at P = P
+
+-- reading has this fault, unless it is want of memory
+abbrev pub Fails : {Y : Type 0} → ConfigFault → Result Y ConfigFault → Type 0
+Fails e read = OrMemory e.kind e.at (read ≡ Err e)
+
+-- what a function returned is, seen by view, what reading gives, unless memory ran out
+abbrev pub Gives : {X Y : Type 0} → (X → Y) → Result X ConfigFault → Result Y ConfigFault → Type 0
+Gives view (Ok x) read = read ≡ Ok (view x)
+Gives view (Err e) read = Fails e read

@@ -1,0 +1,46 @@
+-- What contracts see of the values that are read.
+use Rattle.std.specs.Prelude.{ℕ, List, map, length}
+use Rattle.std.specs.Borrow.{Bor}
+use Rattle.std.specs.Global.{Vec}
+use Rattle.dac_shapes.specs.declared.parser.Parser.{Parser}
+use Rattle.dac_shapes.specs.declared.draft.DraftApp.{DraftApp}
+use Rattle.dac_shapes.specs.declared.draft.Draft.{Draft}
+use Rattle.dac_shapes.specs.declared.param.Param.{Param as ReadParam}
+use Rattle.dac_shapes.specs.declared.param.Param.TheVariants as read
+use Rattle.dac_shapes.specs.Written.{App, Param, Distributed, Mandatory, Optional, Timeout, Written}
+use Rattle.dac_shapes.specs.Shape.{State}
+
+-- names without where they lie in memory
+abbrev pub names_of : List (Bor (List ℕ)) → List (List ℕ)
+names_of names = map (λ name. name.now) names
+
+abbrev pub groups_of : List (Vec (Bor (List ℕ))) → List (List (List ℕ))
+groups_of groups = map (λ group. names_of group.items) groups
+
+abbrev pub app_of : DraftApp → App
+app_of app = record { name = app.name.now; timeout = app.timeout; groups = groups_of app.groups.items }
+
+abbrev pub apps_of : List DraftApp → List App
+apps_of apps = map app_of apps
+
+abbrev pub param_of : ReadParam → Param
+param_of (read.Distributed apps) = Distributed (apps_of apps.items)
+param_of (read.Mandatory names) = Mandatory (names_of names.items)
+param_of (read.Optional names) = Optional (names_of names.items)
+param_of (read.Timeout wait) = Timeout wait
+
+abbrev pub params_of : List ReadParam → List Param
+params_of params = map param_of params
+
+abbrev pub sections_of : List (Vec ReadParam) → List (List Param)
+sections_of sections = map (λ params. params_of params.items) sections
+
+-- a draft without where its names lie in memory
+abbrev pub draft_of : Draft → Written
+draft_of d = record { apps = apps_of d.apps.items; mandatory = names_of d.mandatory.items; optional = names_of d.optional.items; sync_wait = d.sync_wait; nodes = names_of d.nodes.items }
+
+abbrev pub state_of : Parser → State
+state_of p = record { left = p.tokens; seen = record { met = names_of p.met.items; listed = names_of p.listed.items } }
+
+abbrev pub tokens_left : Parser → ℕ
+tokens_left p = length p.tokens.tokens

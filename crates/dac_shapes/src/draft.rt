@@ -1,0 +1,81 @@
+//! What a configuration text says, as it is written.
+
+ghost use Rattle.std.specs.Prelude.{◌≡◌, fold};
+ghost use Rattle.dac_shapes.specs.Written.{put, put_all, unsaid, written};
+ghost use Rattle.dac_shapes.specs.Views.{draft_of, names_of, param_of, params_of, sections_of};
+
+use crate::param::Param;
+use std::alloc::Global;
+
+/// How long a node waits for others at its start (OTP's kernel parameter `sync_nodes_timeout`).
+#[derive(Clone, Copy, Debug, PartialEq, Eq)]
+pub enum SyncWait {
+    /// The parameter isn't defined: the node doesn't wait.
+    NoSync,
+    /// Until all of them are there.
+    Forever,
+    /// At most so many milliseconds.
+    Ms(u32),
+}
+
+/// An application as the text lists it (OTP's kernel parameter `distributed`).
+#[derive(Drop)]
+pub struct DraftApp<'a> {
+    pub name: &'a [u8],
+    /// How long a failover waits, in milliseconds; 0 if it isn't written.
+    pub timeout: u32,
+    /// The nodes by priority: each item of the list is a group, a node by itself or a tuple.
+    pub groups: Vec<Vec<&'a [u8]>>,
+}
+
+/// What a text says, with the names that lie in the text.
+#[derive(Drop)]
+pub struct Draft<'a> {
+    /// The applications in the order of the text.
+    pub apps: Vec<DraftApp<'a>>,
+    /// The nodes that have to be there at a start, as written.
+    pub mandatory: Vec<&'a [u8]>,
+    /// The nodes that may be there at a start, as written.
+    pub optional: Vec<&'a [u8]>,
+    pub sync_wait: SyncWait,
+    /// The names of all nodes, each once, in the order in which they first stand.
+    pub nodes: Vec<&'a [u8]>,
+}
+
+impl<'a> Draft<'a> {
+    fn put(&mut self, param: Param<'a>)
+        ensures { draft_of self.new ≡ put (draft_of self.old) (param_of param.entry) }
+    {
+        match param {
+            Param::Distributed(apps) => self.apps = apps,
+            Param::Mandatory(names) => self.mandatory = names,
+            Param::Optional(names) => self.optional = names,
+            Param::Timeout(wait) => self.sync_wait = wait,
+        }
+    }
+
+    fn put_all(&mut self, params: Vec<Param<'a>>)
+        ensures { draft_of self.new ≡ put_all (draft_of self.old) (params_of params.entry.items) }
+    {
+        for param in params {
+            self.put(param);
+        }
+    }
+
+    /// What sections, each with its parameters, say of these nodes.
+    pub fn of_sections(alloc: Global, sections: Vec<Vec<Param<'a>>>, nodes: Vec<&'a [u8]>) -> Self
+        ensures { draft_of result ≡ written (sections_of sections.entry.items) (names_of nodes.entry.items) }
+    {
+        let mut draft = Draft {
+            apps: Vec::new(alloc),
+            mandatory: Vec::new(alloc),
+            optional: Vec::new(alloc),
+            sync_wait: SyncWait::NoSync,
+            nodes,
+        };
+        for params in sections {
+            draft.put_all(params);
+        }
+        draft
+    }
+}

@@ -1,0 +1,26 @@
+//! The shape of a configuration text: from tokens to the names and numbers that are written.
+//!
+//! [`read_draft`] answers what a text says as a [`Draft`], or its first fault in text order. The promise: a text is
+//! read exactly if its tokens are a file by the grammar of OTP's `sys.config` (as far as it is taken here) and its
+//! names may stand where they stand, and then what it says is given; any other text has its first fault answered, at
+//! its place.
+//!
+//! What is taken for now: a section `kernel` with the parameters `distributed`, `sync_nodes_mandatory`,
+//! `sync_nodes_optional` and `sync_nodes_timeout`. Another section or parameter is `Unsupported` at its name.
+#![tactic(auto)]
+
+mod apps;
+mod draft;
+mod limits;
+mod names;
+mod numbers;
+mod param;
+mod parser;
+mod reading;
+mod sections;
+#[cfg(test)]
+mod tests;
+
+pub use draft::{Draft, DraftApp, SyncWait};
+pub use limits::{MAX_APPS, MAX_NAME, MAX_NODES, MAX_TEXT};
+pub use reading::read_draft;

@@ -1,0 +1,112 @@
+//! The names that tokens are.
+
+ghost use Rattle.std.specs.Prelude.{◌≡◌};
+ghost use Rattle.std.specs.List.{list_any};
+ghost use Rattle.std.specs.Str.{bytes_eq};
+ghost use Rattle.dac_shapes.specs.Outcome.{Gives};
+ghost use Rattle.dac_tokens.specs.Words.{word_of, located_of};
+ghost use Rattle.dac_shapes.specs.Limits.{is_among};
+ghost use Rattle.dac_shapes.specs.Shape.{is_mark, atom_of, short_name_of, app_name_of, param_name_of, section_name_of};
+ghost use Rattle.dac_shapes.specs.Views.{names_of, apps_of, params_of, sections_of};
+
+use crate::draft::DraftApp;
+use crate::limits::{MAX_APPS, MAX_NAME};
+use crate::param::{Param, ParamName, has_param};
+use dac_tokens::{ConfigFault, FaultKind, Located, Symbol, Token};
+
+pub fn fault(kind: FaultKind, at: usize) -> ConfigFault
+    ensures { result ≡ record { kind = kind; at = at } }
+{
+    ConfigFault { kind, at }
+}
+
+pub fn is_mark(symbol: Symbol, token: Token<'_>) -> bool
+    ensures { result ≡ is_mark symbol (word_of token.entry) }
+{
+    match token {
+        Token::Symbol(other) => other == symbol,
+        _ => false,
+    }
+}
+
+#[tactic(auto, using(crate::proofs::Among::among_names))]
+pub fn is_among(name: &[u8], names: &[&[u8]]) -> bool
+    ensures { result ≡ is_among name.now (names_of names.now) }
+{
+    names.contains(&name)
+}
+
+/// The name that a token is.
+#[tactic(auto, unfolding(crate::specs::Shape::atom_of))]
+fn atom_of<'a>(token: Located<'a>) -> Result<&'a [u8], ConfigFault>
+    ensures { Gives (λ x. x.now) result (atom_of (located_of token.entry)) }
+{
+    match token.token {
+        Token::Atom(name) => Ok(name),
+        _ => Err(fault(FaultKind::BadShape, token.at)),
+    }
+}
+
+/// The name, of at most 255 bytes, that a token is.
+#[tactic(auto, unfolding(crate::specs::Shape::short_name_of))]
+pub fn short_name_of<'a>(token: Located<'a>) -> Result<&'a [u8], ConfigFault>
+    ensures { Gives (λ x. x.now) result (short_name_of (located_of token.entry)) }
+{
+    let name = atom_of(token)?;
+    if name.len() > MAX_NAME {
+        return Err(fault(FaultKind::NameTooLong, token.at));
+    }
+    Ok(name)
+}
+
+/// Whether one of the applications has this name.
+fn has_app(name: &[u8], apps: &[DraftApp<'_>]) -> bool
+    ensures { result ≡ list_any (λ app. bytes_eq app.name.now name.now) apps.now }
+{
+    apps.iter().any(|app| app.name == name)
+}
+
+/// The name of an application that is not among those before it.
+#[tactic(auto, using(crate::proofs::Among::apps), unfolding(crate::specs::Shape::app_name_of))]
+pub fn app_name_of<'a>(before: &[DraftApp<'a>], token: Located<'a>) -> Result<&'a [u8], ConfigFault>
+    ensures { Gives (λ name. name.now) result (app_name_of (apps_of before.now) (located_of token.entry)) }
+{
+    let name = short_name_of(token)?;
+    if has_app(name, before) {
+        return Err(fault(FaultKind::TwiceApp, token.at));
+    }
+    if before.len() >= MAX_APPS {
+        return Err(fault(FaultKind::TooManyApps, token.at));
+    }
+    Ok(name)
+}
+
+/// The name of a parameter that is read, and is not among those before it.
+#[tactic(auto, using(crate::proofs::Among::has_params), unfolding(crate::specs::Shape::param_name_of))]
+pub fn param_name_of(before: &[Param<'_>], token: Located<'_>) -> Result<ParamName, ConfigFault>
+    ensures { Gives (λ name. name) result (param_name_of (params_of before.now) (located_of token.entry)) }
+{
+    let name = atom_of(token)?;
+    let Some(param) = ParamName::named(name) else {
+        return Err(fault(FaultKind::Unsupported, token.at));
+    };
+    if has_param(param, before) {
+        return Err(fault(FaultKind::BadShape, token.at));
+    }
+    Ok(param)
+}
+
+/// The name of the section `kernel`, which stands once.
+#[tactic(auto, using(crate::proofs::Among::length_sections), unfolding(crate::specs::Shape::section_name_of))]
+pub fn section_name_of(before: &[Vec<Param<'_>>], token: Located<'_>) -> Result<(), ConfigFault>
+    ensures { Gives (λ _. tt) result (section_name_of (sections_of before.now) (located_of token.entry)) }
+{
+    let name = atom_of(token)?;
+    if name != b"kernel".as_slice() {
+        return Err(fault(FaultKind::Unsupported, token.at));
+    }
+    if !before.is_empty() {
+        return Err(fault(FaultKind::BadShape, token.at));
+    }
+    Ok(())
+}

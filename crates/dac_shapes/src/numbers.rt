@@ -1,0 +1,60 @@
+//! The numbers that tokens are.
+
+ghost use Rattle.std.specs.Prelude.{◌≡◌, ◌<◌, Some, None, if◌then◌else◌, nat_lt};
+ghost use Rattle.dac_shapes.specs.Outcome.{Gives};
+ghost use Rattle.dac_tokens.specs.Words.{located_of};
+ghost use Rattle.dac_shapes.specs.Shape.{value_from, timeout_of, wait_of};
+
+use crate::draft::SyncWait;
+use crate::names::fault;
+use dac_tokens::{ConfigFault, FaultKind, Located, Token};
+
+/// The number that the digits are, if it fits.
+fn number_of(digits: &[u8]) -> Option<u32>
+    ensures { result ≡ (if nat_lt (value_from 0 digits.now) 4294967296 then Some (value_from 0 digits.now) else None) }
+{
+    let mut value: u32 = 0;
+    for digit in digits {
+        value = value
+            .checked_mul(10)?
+            .checked_add(u32::from(digit.saturating_sub(b'0')))?;
+    }
+    Some(value)
+}
+
+/// A timeout is not negative and below 2 ^ 32.
+pub fn timeout_of(at: usize, negative: bool, digits: &[u8]) -> Result<u32, ConfigFault>
+    ensures { Gives (λ n. n) result (timeout_of at negative (value_from 0 digits.now)) }
+{
+    match number_of(digits) {
+        Some(value) => {
+            if negative && value != 0 {
+                return Err(fault(FaultKind::BadShape, at));
+            }
+            Ok(value)
+        }
+        None => Err(fault(
+            if negative {
+                FaultKind::BadShape
+            } else {
+                FaultKind::NumberTooLarge
+            },
+            at,
+        )),
+    }
+}
+
+/// How long to wait at the start: a number, or `infinity`.
+#[tactic(auto, unfolding(crate::specs::Shape::wait_of))]
+pub fn wait_of(token: Located<'_>) -> Result<SyncWait, ConfigFault>
+    ensures { Gives (λ wait. wait) result (wait_of (located_of token.entry)) }
+{
+    match token.token {
+        Token::Number { negative, digits } => {
+            let ms = timeout_of(token.at, negative, digits)?;
+            Ok(SyncWait::Ms(ms))
+        }
+        Token::Atom(name) if name == b"infinity".as_slice() => Ok(SyncWait::Forever),
+        _ => Err(fault(FaultKind::BadShape, token.at)),
+    }
+}

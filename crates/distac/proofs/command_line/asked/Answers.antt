@@ -1,0 +1,39 @@
+use Rattle.std.proofs.Common.{◌≡◌, ap, ap₂, ◌∙◌, map, option_map, true, refl, sym, Some, None, codes, List, rules}
+use Rattle.std.proofs.lemmas.Result.{err_from_is_err_and}
+use Rattle.clap.specs.Words.{App, Text, takes, kind_of, app_of, is_simple, subcommand_of, subcommand_name_of, subcommand_rows, subcommand_rows_of}
+use Rattle.clap.specs.declared.parser.matches.ArgMatches.{ArgMatches}
+use Rattle.clap.specs.declared.parser.matches.ArgMatches.TheViews.{out-ArgMatches, out-SubCommand}
+use Rattle.std.specs.Box.{box_value}
+use Rattle.clap.proofs.OnLiterals.{clap_on_literals}
+use Rattle.distac.specs.CommandLine.{distac, sim_words, subcommand_in}
+use Rattle.distac.proofs.command_line.asked.Goals as goal
+
+is_taken : takes distac sim_words ≡ true
+unfolding clap_on_literals
+is_taken = refl
+
+is_sim : subcommand_in sim_words ≡ Some (codes "sim")
+unfolding clap_on_literals
+is_sim = refl
+
+is_plain : is_simple distac ≡ true
+is_plain = refl
+
+pub returns-in_err-matches : goal.returns-in_err-matches
+returns-in_err-matches c = record {
+  sim = λ same.
+      let p = err_from_is_err_and c.from_residual-in_err-matches.result c.from_residual-in_err-matches.ensures.1 in
+      rw (p.1, p.2) (c.in_err-matches.ensures.passes (ap₂ takes c.in_ok-command.ensures same ∙ is_taken));
+}
+
+-- the name is that of the rows
+named : (m : ArgMatches) → subcommand_name_of m ≡ option_map (λ p. p.0) (subcommand_rows_of m)
+named m =
+    elim ((out-ArgMatches m).subcommand) as (λ o. option_map (λ b. (out-SubCommand (box_value b)).name.now) o ≡ option_map (λ p. p.0) (subcommand_rows o)) [ None ↦ refl | Some b ↦ refl ]
+
+pub returns : goal.returns
+returns c = record {
+  sim = λ same.
+      let rows = (c.in_ok-matches.ensures.matches (ap is_simple c.in_ok-command.ensures ∙ is_plain)).1 ∙ ap₂ subcommand_of c.in_ok-command.ensures same in
+      c.request_of.ensures (c.subcommand_name.ensures ∙ named c.in_ok-matches.matches ∙ ap (option_map (λ p. p.0)) rows ∙ is_sim);
+}

@@ -1,0 +1,19 @@
+-- The command line.
+use Rattle.std.specs.Prelude.{ℕ, List, [], ◌∷◌, Option, option_map, true, codes}
+use Rattle.clap.specs.Words.{App, Text, new_app, with_subcommand, subcommand_of}
+
+-- one of the subcommands has to be there
+abbrev pub required : App → App
+required app = record { top = record app.top { subcommand_required = true }; subs = app.subs }
+
+-- the program, with its subcommand
+abbrev pub distac : App
+distac = with_subcommand (required (new_app (codes "distac"))) (new_app (codes "sim")).top
+
+-- the words that ask for a script to be played
+abbrev pub sim_words : List Text
+sim_words = codes "distac" ∷ codes "sim" ∷ []
+
+-- the subcommand that the words name
+abbrev pub subcommand_in : List Text → Option Text
+subcommand_in words = option_map (λ p. p.0) (subcommand_of distac words)

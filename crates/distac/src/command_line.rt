@@ -1,0 +1,47 @@
+//! The command line.
+
+ghost use Rattle.std.specs.Prelude.{◌≡◌, map, option_map, codes, Some, IfOk, MatchResult};
+ghost use Rattle.clap.specs.Words.{app_of, kind_of};
+ghost use Rattle.distac.specs.CommandLine.{distac, sim_words};
+
+use clap::error::ErrorKind;
+use clap::{Command, Error};
+use std::alloc::{AllocError, Global};
+
+/// What the words of a command line ask for.
+#[derive(Clone, Copy, Debug, PartialEq, Eq)]
+pub enum Request {
+    /// A script is to be played.
+    Sim,
+}
+
+fn command<'a>(alloc: Global) -> Result<Command<'a>, AllocError>
+    ensures { IfOk result (λ command. app_of command ≡ distac) }
+{
+    let sim = Command::new(alloc, "sim").about(
+        "Plays a script: standard input is a configuration, a line `--`, and the script",
+    );
+    let distac = Command::new(alloc, "distac")
+        .about("A replicated controller for distributed applications of Erlang/OTP")
+        .subcommand_required(true);
+    distac.subcommand(sim)
+}
+
+fn request_of(name: Option<&str>) -> Option<Request>
+    ensures { option_map (λ s. s.now) name.entry ≡ Some (codes "sim") → result ≡ Some Request.Sim }
+{
+    let name = name?;
+    if name == "sim" {
+        return Some(Request::Sim);
+    }
+    None
+}
+
+/// What the words ask for, the program's name first. An error holds what to print, help among it.
+pub fn asked<'a>(alloc: Global, words: &'a [&'a str]) -> Result<Option<Request>, Error>
+    ensures sim { map (λ word. word.now) words.entry.now ≡ sim_words → MatchResult result (λ request. request ≡ Some Request.Sim) (λ error. kind_of error ≡ ErrorKind.OutOfMemory) }
+{
+    let command = command(alloc)?;
+    let matches = command.try_get_matches_from(words)?;
+    Ok(request_of(matches.subcommand_name()))
+}

@@ -1,0 +1,24 @@
+//! `distac`, a replicated controller for distributed applications of Erlang/OTP.
+//!
+//! `distac sim` reads a configuration and a script, plays the script in a world of controllers, and prints what
+//! comes of each line. This crate is the command line alone: `run` is the whole program over a reader and a
+//! writer, and `main` calls it.
+#![tactic(auto)]
+
+mod command_line;
+mod run;
+#[cfg(test)]
+mod tests;
+
+use std::process::ExitCode;
+
+fn main(rt: HostRuntime) -> anyhow::Result<ExitCode> {
+    let alloc = rt.alloc();
+    let words: Vec<String> = std::env::args(&rt)?.collect(alloc)?;
+    let mut texts = Vec::new(alloc);
+    for word in &words {
+        texts.push(word.as_str())?;
+    }
+    let status = run::run(&rt, alloc, &texts, &mut rt.stdin(), &mut rt.stdout());
+    Ok(ExitCode::from(status))
+}

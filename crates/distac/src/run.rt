@@ -1,0 +1,52 @@
+//! The whole program over a reader and a writer.
+
+ghost use Rattle.std.specs.Prelude.{◌≡◌, ◌≤◌, map, IfSome};
+ghost use Rattle.clap.specs.Words.{kind_of};
+ghost use Rattle.dac_script.specs.Inputs.{IsSimulated};
+ghost use Rattle.distac.specs.CommandLine.{sim_words};
+
+use crate::command_line::{Request, asked};
+use clap::Error;
+use clap::error::ErrorKind;
+use dac_script::{OUT_OF_MEMORY, simulate};
+use std::alloc::Global;
+use std::io::{Eprint, Print, Read, Write};
+
+/// Prints why the words are no command line, or the help that they ask for, and answers the status.
+fn refuse<T: Print + Eprint, W: Write>(rt: &T, error: &Error, output: &mut W) -> u8
+    ensures status { result ≤ 2 }
+    ensures memory { kind_of error.now ≡ ErrorKind.OutOfMemory → result ≡ 1 }
+{
+    if error.kind() == ErrorKind::OutOfMemory {
+        let _printed = output.write_all(OUT_OF_MEMORY.as_bytes());
+        return 1;
+    }
+    if error.print(rt).is_err() {
+        return 1;
+    }
+    if error.use_stderr() { 2 } else { 0 }
+}
+
+/// Runs the program on the words of a command line, the program's name first, and answers its status: 2 where
+/// the words are no command line, 1 where an input has a fault, memory was refused or a write failed, and else 0.
+///
+/// `distac sim` writes to the output alone. Help goes to the standard output, and the text about words that are
+/// no command line to the standard error.
+pub fn run<'a, T: Print + Eprint, R: Read, W: Write>(
+    rt: &T,
+    alloc: Global,
+    words: &'a [&'a str],
+    input: &mut R,
+    output: &mut W,
+) -> u8
+    ensures status { result ≤ 2 }
+    ensures known { map (λ word. word.now) words.entry.now ≡ sim_words → result ≤ 1 }
+    // Where `distac sim` ends well, it printed what the script of its input does.
+    ensures sim { map (λ word. word.now) words.entry.now ≡ sim_words → result ≡ 0 → IfSome (R.remaining input.old) (λ bytes. IsSimulated bytes (W.contents output.old) (W.contents output.new)) }
+{
+    match asked(alloc, words) {
+        Ok(Some(Request::Sim)) => simulate(alloc, input, output),
+        Ok(None) => 2,
+        Err(error) => refuse(rt, &error, output),
+    }
+}

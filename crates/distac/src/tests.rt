@@ -1,0 +1,246 @@
+//! The program over readers and writers in memory.
+
+use crate::command_line::asked;
+use crate::run::run;
+use std::alloc::Global;
+use std::io;
+use std::io::{ErrorKind, Read, Write};
+use std::test::Fail;
+
+const EXAMPLE: &str =
+    "[{kernel,\n[{distributed, [{myapp, 5000, [cp1@cave, {cp2@cave, cp3@cave}]}]},\n{sync_nodes_mandatory, [cp2@cave, cp3@cave]},\n{sync_nodes_timeout, 5000}\n]\n}\n].\n";
+
+/// A reader whose every read fails.
+#[derive(Drop)]
+struct Broken(ErrorKind);
+
+impl Read for Broken {
+    fn read(&mut self, _buf: &mut [u8]) -> io::Result<usize> {
+        Err(io::Error::from(self.0))
+    }
+}
+
+/// A reader of spaces without an end.
+#[derive(Drop)]
+struct Endless;
+
+impl Read for Endless {
+    fn read(&mut self, buf: &mut [u8]) -> io::Result<usize> {
+        for byte in buf.iter_mut() {
+            *byte = b' ';
+        }
+        Ok(buf.len())
+    }
+}
+
+/// A writer that takes nothing.
+#[derive(Drop)]
+struct Full;
+
+impl Write for Full {
+    fn write(&mut self, _buf: &[u8]) -> io::Result<usize> {
+        Err(io::Error::from(ErrorKind::StorageFull))
+    }
+
+    fn flush(&mut self) -> io::Result<()> {
+        Ok(())
+    }
+}
+
+/// The status and the output of `distac sim` for what a reader gives.
+fn simulated<R: Read>(rt: &HostRuntime, input: &mut R) -> (u8, Vec<u8>) {
+    let alloc = rt.alloc();
+    let words = ["distac", "sim"];
+    let mut output = Vec::new(alloc);
+    let status = run(rt, alloc, &words, input, &mut output);
+    (status, output)
+}
+
+/// What `distac sim` writes for the example's configuration and this script, and its status.
+fn played(rt: &HostRuntime, script: &str) -> Result<(u8, Vec<u8>), Fail> {
+    let mut text = String::from_str(rt.alloc(), EXAMPLE)?;
+    text.push_str("--\n")?;
+    text.push_str(script)?;
+    Ok(simulated(rt, &mut text.as_bytes()))
+}
+
+#[test]
+fn plays_the_first_path(rt: HostRuntime) -> Result<(), Fail> {
+    let script =
+        "boot cp1@cave 0\nboot cp2@cave 0\nstart cp1@cave myapp cp1@cave\nship cp1@cave cp2@cave\nhear cp2@cave 1\nship cp2@cave cp1@cave\nhear cp1@cave 2\nsame cp1@cave cp2@cave\n";
+    let printed =
+        "booted 1 op 1\nbooted 1 op 2\nissued 3 cp1@cave 1 2\nshipped 1 whole 2\nheard new\nshipped 2 whole 3\nheard new\nsame\n";
+    let (status, output) = played(&rt, script)?;
+    assert_eq!(rt; output.as_slice(), printed.as_bytes());
+    assert_eq!(rt; status, 0);
+
+    let mut longer = String::from_str(rt.alloc(), script)?;
+    longer.push_str("stop cp2@cave myapp cp1@cave\nsame cp1@cave cp2@cave")?;
+    let mut more = String::from_str(rt.alloc(), printed)?;
+    more.push_str("issued 4 cp2@cave 1 2\ndiffer\n")?;
+    let (status, output) = played(&rt, longer.as_str())?;
+    assert_eq!(rt; output.as_slice(), more.as_bytes());
+    assert_eq!(rt; status, 0);
+    Ok(())
+}
+
+#[test]
+fn prints_refusals(rt: HostRuntime) -> Result<(), Fail> {
+    let cases = [
+        ("start cp1@cave myapp cp1@cave", "refused 1 Off\n"),
+        (
+            "boot cp1@cave 0\nboot cp1@cave 1",
+            "booted 1 op 1\nrefused 2 AlreadyOn\n",
+        ),
+        (
+            "boot cp1@cave 0\nstart cp1@cave other cp1@cave",
+            "booted 1 op 1\nrefused 4 UnknownApp\n",
+        ),
+        (
+            "boot cp1@cave 0\nship cp1@cave nobody",
+            "booted 1 op 1\nrefused 5 UnknownNode\n",
+        ),
+        (
+            "boot cp1@cave 0\nship cp1@cave cp1@cave",
+            "booted 1 op 1\nrefused 6 OnSelf\n",
+        ),
+        (
+            "boot cp1@cave 0\nstart cp1@cave myapp cp2@cave",
+            "booted 1 op 1\nrefused 9 NotLive\n",
+        ),
+        (
+            "boot cp1@cave 0\nstop cp1@cave myapp cp1@cave",
+            "booted 1 op 1\nrefused 10 NotStarted\n",
+        ),
+        (
+            "hear cp1@cave 0\nhear cp1@cave 7",
+            "no message 0\nno message 7\n",
+        ),
+        (
+            "boot cp2@cave 0\nsame cp2@cave cp1@cave",
+            "booted 1 op 1\nnode cp1@cave off\n",
+        ),
+        ("same cp2@cave cp1@cave", "node cp2@cave off\n"),
+        ("% nothing\n\n  boot   'cp1@cave'  0 ", "booted 1 op 1\n"),
+    ];
+    for (script, printed) in cases {
+        let (status, output) = played(&rt, script)?;
+        assert_eq!(rt; output.as_slice(), printed.as_bytes(), "{script}");
+        assert_eq!(rt; status, 0, "{script}");
+    }
+    Ok(())
+}
+
+#[test]
+fn names_script_faults(rt: HostRuntime) -> Result<(), Fail> {
+    let cases = [
+        ("jump cp1@cave 0", "script fault 1 1 BadWord\n"),
+        ("\n% boot\n ", "script fault 3 1 BadWord\n"),
+        (
+            "boot cp1@cave 0\nboot cp1@cave",
+            "script fault 2 2 BadCount\n",
+        ),
+        ("boot cp1@cave 0 0", "script fault 1 2 BadCount\n"),
+        ("boot Cp1 01", "script fault 1 3 BadName\n"),
+        ("boot fun 0", "script fault 1 3 BadName\n"),
+        ("boot nobody 01", "script fault 1 4 BadNumber\n"),
+        (
+            "boot cp1@cave 4611686018427387905",
+            "script fault 1 4 BadNumber\n",
+        ),
+        ("boot cp1@cave 0x", "script fault 1 4 BadNumber\n"),
+        ("same cp1@cave nobody", "script fault 1 5 UnknownActor\n"),
+        (
+            "boot nobody 4611686018427387904\njump",
+            "script fault 1 5 UnknownActor\n",
+        ),
+    ];
+    for (script, printed) in cases {
+        let (status, output) = played(&rt, script)?;
+        assert_eq!(rt; output.as_slice(), printed.as_bytes(), "{script}");
+        assert_eq!(rt; status, 1, "{script}");
+    }
+    Ok(())
+}
+
+#[test]
+fn names_faults_of_input_and_configuration(rt: HostRuntime) {
+    let cases = [
+        ("", "input fault 2 NoScript\n"),
+        ("[].\n--x\n --\n", "input fault 2 NoScript\n"),
+        ("[].\n--\njump", "config fault 5 NoDistributed at 4\n"),
+        ("--", "config fault 4 BadShape at 0\n"),
+        (
+            "[{kernel,[{distributed,[{a,[]}]}]}].\n--\n",
+            "config fault 8 EmptyList at 27\n",
+        ),
+    ];
+    for (input, printed) in cases {
+        let (status, output) = simulated(&rt, &mut input.as_bytes());
+        assert_eq!(rt; output.as_slice(), printed.as_bytes(), "{input}");
+        assert_eq!(rt; status, 1, "{input}");
+    }
+}
+
+#[test]
+fn gives_up_inputs_that_cannot_be_read(rt: HostRuntime) {
+    let (status, output) = simulated(&rt, &mut Broken(ErrorKind::Other));
+    assert_eq!(rt; output.as_slice(), b"input fault 3 Read\n".as_slice());
+    assert_eq!(rt; status, 1);
+    let (status, output) = simulated(&rt, &mut Broken(ErrorKind::Interrupted));
+    assert_eq!(rt; output.as_slice(), b"input fault 3 Read\n".as_slice());
+    assert_eq!(rt; status, 1);
+    let (status, output) = simulated(&rt, &mut Endless);
+    assert_eq!(rt; output.as_slice(), b"input fault 1 TooLong\n".as_slice());
+    assert_eq!(rt; status, 1);
+}
+
+#[test]
+fn fails_where_nothing_can_be_written(rt: HostRuntime) -> Result<(), Fail> {
+    let mut text = String::from_str(rt.alloc(), EXAMPLE)?;
+    text.push_str("--\nboot cp1@cave 0")?;
+    let words = ["distac", "sim"];
+    let status = run(&rt, rt.alloc(), &words, &mut text.as_bytes(), &mut Full);
+    assert_eq!(rt; status, 1);
+    Ok(())
+}
+
+/// What clap prints for these words, and whether it is an error.
+fn refused(alloc: Global, words: &[&str]) -> Result<Option<(String, bool)>, Fail> {
+    match asked(alloc, words) {
+        Ok(_) => Ok(None),
+        Err(error) => {
+            let text = format!(in alloc; "{error}")?;
+            Ok(Some((text, error.use_stderr())))
+        }
+    }
+}
+
+#[test]
+fn prints_help_and_refuses_other_words(rt: HostRuntime) -> Result<(), Fail> {
+    let alloc = rt.alloc();
+    let help = refused(alloc, &["distac", "--help"])?.ok_or("accepted")?;
+    assert_eq!(rt;
+        help.0.as_str(),
+        "A replicated controller for distributed applications of Erlang/OTP\n\nUsage: distac <COMMAND>\n\nCommands:\n  sim   Plays a script: standard input is a configuration, a line `--`, and the script\n  help  Print this message or the help of the given subcommand(s)\n\nOptions:\n  -h, --help  Print help\n"
+    );
+    assert!(rt; !help.1);
+    let unknown = refused(alloc, &["distac", "jump"])?.ok_or("accepted")?;
+    assert_eq!(rt;
+        unknown.0.as_str(),
+        "error: unrecognized subcommand 'jump'\n\nUsage: distac <COMMAND>\n\nFor more information, try '--help'.\n"
+    );
+    assert!(rt; unknown.1);
+
+    let mut output = Vec::new(alloc);
+    for (words, expected) in [
+        (["distac", "--help"], 0),
+        (["distac", "jump"], 2),
+        (["distac", "sim=1"], 2),
+    ] {
+        let status = run(&rt, alloc, &words, &mut b"".as_slice(), &mut output);
+        assert_eq!(rt; status, expected);
+    }
+    assert_eq!(rt; output.len(), 0);
+    Ok(())
+}
