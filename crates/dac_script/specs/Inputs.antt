@@ -11,6 +11,8 @@ use Rattle.dac_script.specs.declared.failure.Failure.TheVariants as failure
 use Rattle.dac_script.specs.declared.fault.InputFault.TheVariants.{TooLong, NoScript, Read}
 use Rattle.dac_script.specs.declared.fault.ScriptFault.{ScriptFault}
 use Rattle.dac_script.specs.declared.line.ScriptLine.{ScriptLine}
+use Rattle.dac_script.specs.declared.ending.Ending.{Ending}
+use Rattle.dac_script.specs.Endings.{Ends}
 use Rattle.dac_script.specs.Script.{lines_of, ReadsAs, IsFirstFault}
 use Rattle.dac_script.specs.Input.{mark, IsParted}
 use Rattle.dac_script.specs.Play.{script_text}
@@ -54,3 +56,6 @@ pub record IsSimulated (bytes : List ℕ) (old new : Option (List ℕ)) : Type 0
   pub lines : List ScriptLine
   pub says : Says bytes table lines
   pub printed : Appends old new (script_text table (start table) lines)
+
+abbrev pub EndsSim : List ℕ → Ending → Option (List ℕ) → Option (List ℕ) → Type 0
+EndsSim bytes = Ends (IsSimulated bytes) (IsFailureOf bytes)

@@ -6,6 +6,8 @@ pub mod Line
 pub mod Script
 pub mod Input
 pub mod Failures
+pub mod Endings
+pub mod Checks
 pub mod Answers
 pub mod Play
 pub mod Inputs

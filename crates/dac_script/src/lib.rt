@@ -8,6 +8,8 @@
 #![tactic(auto)]
 
 mod answers;
+mod check;
+mod ending;
 mod failure;
 mod fault;
 mod input;
@@ -21,6 +23,8 @@ mod texts;
 mod words;
 
 pub use answers::{Counts, answer_line};
+pub use check::{canonical, check};
+pub use ending::{Ending, print, refuse};
 pub use failure::{Failure, OUT_OF_MEMORY};
 pub use fault::{InputFault, ScriptFault, ScriptFaultKind};
 pub use input::{MAX_INPUT, MAX_READS, parted, read_input};

@@ -6,10 +6,11 @@ ghost use Rattle.std.specs.Io.KnownBytes.{Appends};
 ghost use Rattle.dac_config.specs.Table.{node_count, node_name};
 ghost use Rattle.dac_core.specs.ModelWorld.{start};
 ghost use Rattle.dac_script.specs.Line.{HasActors};
-ghost use Rattle.dac_script.specs.Inputs.{Says, IsFailureOf, IsSimulated};
+ghost use Rattle.dac_script.specs.Inputs.{Says, IsFailureOf, EndsSim};
 ghost use Rattle.dac_script.specs.Play.{state_at, compare_text, script_text, PlaysLine};
 
 use crate::answers::{Counts, answer_line};
+use crate::ending::{Ending, print, refuse};
 use crate::failure::{Failure, OUT_OF_MEMORY};
 use crate::fault::InputFault;
 use crate::input::{parted, read_input};
@@ -146,35 +147,21 @@ pub fn prepare<R: Read>(alloc: Global, input: &mut R) -> Result<(Config, Vec<Scr
     Ok(both)
 }
 
-/// Prints why nothing is run, as far as the output takes it.
-fn report<W: Write>(alloc: Global, failure: Failure, output: &mut W) {
-    let _printed = match failure.line(alloc) {
-        Ok(line) => output.write_all(&line),
-        Err(NoMemory) => output.write_all(OUT_OF_MEMORY.as_bytes()),
-    };
-    let _flushed = output.flush();
-}
-
-/// Reads a configuration and a script, plays the script and prints what comes of each line. Answers the
-/// status: 0 where the script was played to its end, and else 1. The whole input is read and checked before
-/// anything is played; a line then says what is wrong with it.
-pub fn simulate<R: Read, W: Write>(alloc: Global, input: &mut R, output: &mut W) -> u8
-    ensures status { result ≤ 1 }
-    ensures played { result ≡ 0 → IfSome (R.remaining input.old) (λ bytes. IsSimulated bytes (W.contents output.old) (W.contents output.new)) }
+/// Reads a configuration and a script, plays the script and prints what comes of each line. The whole input is
+/// read and checked before anything is played; where it has a fault, a line that says so is all that is printed.
+pub fn simulate<R: Read, W: Write>(alloc: Global, input: &mut R, output: &mut W) -> Ending
+    ensures { IfSome (R.remaining input.old) (λ bytes. EndsSim bytes result (W.contents output.old) (W.contents output.new)) }
 {
     let (config, script) = match prepare(alloc, input) {
         Ok(both) => both,
-        Err(failure) => {
-            report(alloc, failure, output);
-            return 1;
-        }
+        Err(failure) => return refuse(alloc, failure, output),
     };
     match play(alloc, &config, &script, output) {
-        Ok(()) => 0,
-        Err(Stop::Output) => 1,
+        Ok(()) => Ending::Done,
+        Err(Stop::Output) => Ending::Stopped,
         Err(Stop::NoMemory) => {
-            report(alloc, Failure::NoMemory, output);
-            1
+            let _printed = print(OUT_OF_MEMORY.as_bytes(), output);
+            Ending::Stopped
         }
     }
 }

@@ -1,7 +1,7 @@
 //! The public calls, each with ample memory.
 
 use super::{
-    Failure, InputFault, ScriptFault, ScriptFaultKind, booted_line, config_fault_line, heard_line,
+    Ending, Failure, InputFault, ScriptFault, ScriptFaultKind, booted_line, config_fault_line, heard_line,
     input_fault_line, issued_line, no_message_line, off_line, parted, prepare, printed_name,
     read_input, read_script, refused_line, same_line, script_fault_line, shipped_line, simulate,
 };
@@ -120,11 +120,11 @@ fn reads_and_plays(rt: HostRuntime) -> Result<(), Fail> {
     let both = prepared.ok().ok_or("refused")?;
     assert_eq!(rt; both.1.len(), 2);
     let mut output = Vec::new(alloc);
-    let status = simulate(alloc, &mut input.as_bytes(), &mut output);
+    let ending = simulate(alloc, &mut input.as_bytes(), &mut output);
     assert_eq!(rt;
         output.as_slice(),
         b"booted 1 op 1\nnode c2@h off\n".as_slice()
     );
-    assert_eq!(rt; status, 0);
+    assert_eq!(rt; ending, Ending::Done);
     Ok(())
 }

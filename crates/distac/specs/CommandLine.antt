@@ -6,9 +6,13 @@ use Rattle.clap.specs.Words.{App, Text, new_app, with_subcommand, subcommand_of}
 abbrev pub required : App → App
 required app = record { top = record app.top { subcommand_required = true }; subs = app.subs }
 
--- the program, with its subcommand
+-- the program, with its subcommands
 abbrev pub distac : App
-distac = with_subcommand (required (new_app (codes "distac"))) (new_app (codes "sim")).top
+distac = with_subcommand (with_subcommand (required (new_app (codes "distac"))) (new_app (codes "check")).top) (new_app (codes "sim")).top
+
+-- the words that ask for a configuration to be checked
+abbrev pub check_words : List Text
+check_words = codes "distac" ∷ codes "check" ∷ []
 
 -- the words that ask for a script to be played
 abbrev pub sim_words : List Text

@@ -2,7 +2,7 @@
 
 ghost use Rattle.std.specs.Prelude.{◌≡◌, map, option_map, codes, Some, IfOk, MatchResult};
 ghost use Rattle.clap.specs.Words.{app_of, kind_of};
-ghost use Rattle.distac.specs.CommandLine.{distac, sim_words};
+ghost use Rattle.distac.specs.CommandLine.{distac, check_words, sim_words};
 
 use clap::error::ErrorKind;
 use clap::{Command, Error};
@@ -11,6 +11,8 @@ use std::alloc::{AllocError, Global};
 /// What the words of a command line ask for.
 #[derive(Clone, Copy, Debug, PartialEq, Eq)]
 pub enum Request {
+    /// A configuration is to be checked.
+    Check,
     /// A script is to be played.
     Sim,
 }
@@ -18,19 +20,27 @@ pub enum Request {
 fn command<'a>(alloc: Global) -> Result<Command<'a>, AllocError>
     ensures { IfOk result (λ command. app_of command ≡ distac) }
 {
+    let check = Command::new(alloc, "check").about(
+        "Checks a configuration: standard input is its text, and its canonical text is printed",
+    );
     let sim = Command::new(alloc, "sim").about(
         "Plays a script: standard input is a configuration, a line `--`, and the script",
     );
     let distac = Command::new(alloc, "distac")
         .about("A replicated controller for distributed applications of Erlang/OTP")
         .subcommand_required(true);
+    let distac = distac.subcommand(check)?;
     distac.subcommand(sim)
 }
 
 fn request_of(name: Option<&str>) -> Option<Request>
-    ensures { option_map (λ s. s.now) name.entry ≡ Some (codes "sim") → result ≡ Some Request.Sim }
+    ensures check { option_map (λ s. s.now) name.entry ≡ Some (codes "check") → result ≡ Some Request.Check }
+    ensures sim { option_map (λ s. s.now) name.entry ≡ Some (codes "sim") → result ≡ Some Request.Sim }
 {
     let name = name?;
+    if name == "check" {
+        return Some(Request::Check);
+    }
     if name == "sim" {
         return Some(Request::Sim);
     }
@@ -39,6 +49,7 @@ fn request_of(name: Option<&str>) -> Option<Request>
 
 /// What the words ask for, the program's name first. An error holds what to print, help among it.
 pub fn asked<'a>(alloc: Global, words: &'a [&'a str]) -> Result<Option<Request>, Error>
+    ensures check { map (λ word. word.now) words.entry.now ≡ check_words → MatchResult result (λ request. request ≡ Some Request.Check) (λ error. kind_of error ≡ ErrorKind.OutOfMemory) }
     ensures sim { map (λ word. word.now) words.entry.now ≡ sim_words → MatchResult result (λ request. request ≡ Some Request.Sim) (λ error. kind_of error ≡ ErrorKind.OutOfMemory) }
 {
     let command = command(alloc)?;

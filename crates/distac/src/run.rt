@@ -1,14 +1,16 @@
 //! The whole program over a reader and a writer.
 
-ghost use Rattle.std.specs.Prelude.{◌≡◌, ◌≤◌, map, IfSome};
+ghost use Rattle.std.specs.Prelude.{◌≡◌, ◌≤◌, map};
 ghost use Rattle.clap.specs.Words.{kind_of};
-ghost use Rattle.dac_script.specs.Inputs.{IsSimulated};
-ghost use Rattle.distac.specs.CommandLine.{sim_words};
+ghost use Rattle.dac_script.specs.Checks.{EndsCheck};
+ghost use Rattle.dac_script.specs.Endings.{EndsWith};
+ghost use Rattle.dac_script.specs.Inputs.{EndsSim};
+ghost use Rattle.distac.specs.CommandLine.{check_words, sim_words};
 
 use crate::command_line::{Request, asked};
 use clap::Error;
 use clap::error::ErrorKind;
-use dac_script::{OUT_OF_MEMORY, simulate};
+use dac_script::{OUT_OF_MEMORY, check, simulate};
 use std::alloc::Global;
 use std::io::{Eprint, Print, Read, Write};
 
@@ -30,7 +32,7 @@ fn refuse<T: Print + Eprint, W: Write>(rt: &T, error: &Error, output: &mut W) ->
 /// Runs the program on the words of a command line, the program's name first, and answers its status: 2 where
 /// the words are no command line, 1 where an input has a fault, memory was refused or a write failed, and else 0.
 ///
-/// `distac sim` writes to the output alone. Help goes to the standard output, and the text about words that are
+/// `distac check` and `distac sim` write to the output alone. Help goes to the standard output, and the text about words that are
 /// no command line to the standard error.
 pub fn run<'a, T: Print + Eprint, R: Read, W: Write>(
     rt: &T,
@@ -40,12 +42,14 @@ pub fn run<'a, T: Print + Eprint, R: Read, W: Write>(
     output: &mut W,
 ) -> u8
     ensures status { result ≤ 2 }
-    ensures known { map (λ word. word.now) words.entry.now ≡ sim_words → result ≤ 1 }
-    // Where `distac sim` ends well, it printed what the script of its input does.
-    ensures sim { map (λ word. word.now) words.entry.now ≡ sim_words → result ≡ 0 → IfSome (R.remaining input.old) (λ bytes. IsSimulated bytes (W.contents output.old) (W.contents output.new)) }
+    // What `distac check` prints is the canonical text of its input, or the line of the input's failure.
+    ensures check { map (λ word. word.now) words.entry.now ≡ check_words → EndsWith (λ bytes ending. EndsCheck bytes ending (W.contents output.old) (W.contents output.new)) (R.remaining input.old) result }
+    // What `distac sim` prints is what the script of its input does, or the line of the input's failure.
+    ensures sim { map (λ word. word.now) words.entry.now ≡ sim_words → EndsWith (λ bytes ending. EndsSim bytes ending (W.contents output.old) (W.contents output.new)) (R.remaining input.old) result }
 {
     match asked(alloc, words) {
-        Ok(Some(Request::Sim)) => simulate(alloc, input, output),
+        Ok(Some(Request::Check)) => check(alloc, input, output).status(),
+        Ok(Some(Request::Sim)) => simulate(alloc, input, output).status(),
         Ok(None) => 2,
         Err(error) => refuse(rt, &error, output),
     }

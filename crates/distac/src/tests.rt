@@ -1,5 +1,7 @@
 //! The program over readers and writers in memory.
 
+mod configs;
+
 use crate::command_line::asked;
 use crate::run::run;
 use std::alloc::Global;
@@ -62,6 +64,76 @@ fn played(rt: &HostRuntime, script: &str) -> Result<(u8, Vec<u8>), Fail> {
     text.push_str("--\n")?;
     text.push_str(script)?;
     Ok(simulated(rt, &mut text.as_bytes()))
+}
+
+/// The status and the output of `distac check` for a configuration.
+fn checked(rt: &HostRuntime, text: &[u8]) -> (u8, Vec<u8>) {
+    let alloc = rt.alloc();
+    let words = ["distac", "check"];
+    let mut input = text;
+    let mut output = Vec::new(alloc);
+    let status = run(rt, alloc, &words, &mut input, &mut output);
+    (status, output)
+}
+
+#[test]
+fn checks_configurations_of_all_kinds(rt: HostRuntime) {
+    for case in &configs::CASES {
+        let (status, output) = checked(&rt, case.text.as_bytes());
+        assert_eq!(rt; output.as_slice(), case.printed.as_bytes(), "{}", case.text);
+        assert_eq!(rt; status, case.status);
+    }
+}
+
+#[test]
+fn names_faults_of_configurations(rt: HostRuntime) -> Result<(), Fail> {
+    let cases = [
+        (
+            "[{kernel,[{distributed,[{a,[b@h,{c@h,b@h}]}]}]}].",
+            "7 TwiceInList at 37",
+        ),
+        (
+            "[{kernel,[{distributed,[{a,[b@h,{}]}]}]}].",
+            "9 EmptyTuple at 32",
+        ),
+        ("[{kernel,[{distributed,[{a,[]}]}]}].", "8 EmptyList at 27"),
+        (
+            "[{kernel,[{distributed,[{a,5.0,[b@h]}]}]}].",
+            "3 Unsupported at 27",
+        ),
+        ("[{kernel,[", "4 BadShape at 10"),
+        ("[].", "5 NoDistributed at 3"),
+        ("[{kernel,[;", "2 BadToken at 10"),
+        (
+            "[{kernel,[{distributed,[{a,[b@h]},{a,[b@h]}]}]}].",
+            "6 TwiceApp at 35",
+        ),
+        (
+            "[{kernel,[{distributed,[{a,4294967296,[b@h]}]}]}].",
+            "12 NumberTooLarge at 27",
+        ),
+        (
+            "[{kernel,[{distributed,[{a,-1,[b@h]}]}]}].",
+            "4 BadShape at 27",
+        ),
+        ("[{kernel,[{f,fun a:b/1}]}].", "3 Unsupported at 13"),
+        ("[{kernel,[{f,~\"a\"}]}].", "3 Unsupported at 13"),
+        ("[\"a", "2 BadToken at 1"),
+        ("[\"a\" \"b", "3 Unsupported at 1"),
+    ];
+    for (text, fault) in cases {
+        let (status, output) = checked(&rt, text.as_bytes());
+        let printed = format!(in rt.alloc(); "config fault {fault}\n")?;
+        assert_eq!(rt; output.as_slice(), printed.as_bytes(), "{text}");
+        assert_eq!(rt; status, 1);
+    }
+    let (status, output) = checked(&rt, vec![in rt.alloc(); b' '; 65_537]?.as_slice());
+    assert_eq!(rt;
+        output.as_slice(),
+        b"config fault 1 TooLong at 65536\n".as_slice()
+    );
+    assert_eq!(rt; status, 1);
+    Ok(())
 }
 
 #[test]
@@ -222,7 +294,7 @@ fn prints_help_and_refuses_other_words(rt: HostRuntime) -> Result<(), Fail> {
     let help = refused(alloc, &["distac", "--help"])?.ok_or("accepted")?;
     assert_eq!(rt;
         help.0.as_str(),
-        "A replicated controller for distributed applications of Erlang/OTP\n\nUsage: distac <COMMAND>\n\nCommands:\n  sim   Plays a script: standard input is a configuration, a line `--`, and the script\n  help  Print this message or the help of the given subcommand(s)\n\nOptions:\n  -h, --help  Print help\n"
+        "A replicated controller for distributed applications of Erlang/OTP\n\nUsage: distac <COMMAND>\n\nCommands:\n  check  Checks a configuration: standard input is its text, and its canonical text is printed\n  sim    Plays a script: standard input is a configuration, a line `--`, and the script\n  help   Print this message or the help of the given subcommand(s)\n\nOptions:\n  -h, --help  Print help\n"
     );
     assert!(rt; !help.1);
     let unknown = refused(alloc, &["distac", "jump"])?.ok_or("accepted")?;

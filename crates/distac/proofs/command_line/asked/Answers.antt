@@ -5,12 +5,20 @@ use Rattle.clap.specs.declared.parser.matches.ArgMatches.{ArgMatches}
 use Rattle.clap.specs.declared.parser.matches.ArgMatches.TheViews.{out-ArgMatches, out-SubCommand}
 use Rattle.std.specs.Box.{box_value}
 use Rattle.clap.proofs.OnLiterals.{clap_on_literals}
-use Rattle.distac.specs.CommandLine.{distac, sim_words, subcommand_in}
+use Rattle.distac.specs.CommandLine.{distac, check_words, sim_words, subcommand_in}
 use Rattle.distac.proofs.command_line.asked.Goals as goal
 
 is_taken : takes distac sim_words ≡ true
 unfolding clap_on_literals
 is_taken = refl
+
+check_taken : takes distac check_words ≡ true
+unfolding clap_on_literals
+check_taken = refl
+
+is_check : subcommand_in check_words ≡ Some (codes "check")
+unfolding clap_on_literals
+is_check = refl
 
 is_sim : subcommand_in sim_words ≡ Some (codes "sim")
 unfolding clap_on_literals
