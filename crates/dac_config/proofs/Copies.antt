@@ -23,7 +23,7 @@ abbrev pub IsNodeCopy : Node → Node → Type 0
 IsNodeCopy x y = IsBytesCopy x.name y.name × ((y.mandatory ≡ x.mandatory) × (y.optional ≡ x.optional))
 
 abbrev pub IsAppCopy : App → App → Type 0
-IsAppCopy x y = (y.timeout ≡ x.timeout) × (AllZip IsBytesCopy x.groups.items y.groups.items × (vec_len y.groups ≡ vec_len x.groups))
+IsAppCopy x y = (y.timeout ≡ x.timeout) × ((AllZip IsBytesCopy x.groups.items y.groups.items × (vec_len y.groups ≡ vec_len x.groups)) × (y.permission ≡ x.permission))
 
 abbrev pub IsEntryCopy : Vec ℕ × App → Vec ℕ × App → Type 0
 IsEntryCopy x y = IsBytesCopy x.0 y.0 × IsAppCopy x.1 y.1
@@ -32,10 +32,10 @@ node_copied : (x y : Node) → IsNodeCopy x y → node_row y ≡ node_row x
 node_copied x y h = λ i. record { name = each_same x.name.items y.name.items h.0.0 i; mandatory = h.1.0 i; optional = h.1.1 i }
 
 groups_copied : (x y : App) → IsAppCopy x y → map (λ group. group.items) y.groups.items ≡ map (λ group. group.items) x.groups.items
-groups_copied x y h = map_from_zip IsBytesCopy (λ group. group.items) (λ a b r. each_same a.items b.items r.0) x.groups.items y.groups.items h.1.0
+groups_copied x y h = map_from_zip IsBytesCopy (λ group. group.items) (λ a b r. each_same a.items b.items r.0) x.groups.items y.groups.items h.1.0.0
 
 entry_copied : (x y : Vec ℕ × App) → IsEntryCopy x y → app_row y ≡ app_row x
-entry_copied x y h = λ i. record { name = each_same x.0.items y.0.items h.0.0 i; timeout = h.1.0 i; groups = groups_copied x.1 y.1 h.1 i }
+entry_copied x y h = λ i. record { name = each_same x.0.items y.0.items h.0.0 i; timeout = h.1.0 i; groups = groups_copied x.1 y.1 h.1 i; permission = h.1.1.1 i }
 
 -- the tables of copies are equal
 pub table_copied : (c d : Inside) → AllZip IsNodeCopy c.nodes.items d.nodes.items → AllZip IsEntryCopy c.apps.entries d.apps.entries → d.sync_wait ≡ c.sync_wait → table_of d ≡ table_of c

@@ -8,3 +8,4 @@ pub mod Numberable
 pub mod Rising
 pub mod SaysLemmas
 pub mod Faults
+pub mod Gaining

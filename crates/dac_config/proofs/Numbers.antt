@@ -1,17 +1,18 @@
 -- Names in byte order, and the limits of what is numbered.
-use Rattle.std.proofs.Common.{◌≡◌, ℕ, suc, ◌+◌, ◌<◌, ◌≤◌, List, [], ◌∷◌, length, map, drop, get_or, refl, sym, ap, subst, ◌∙◌, arith}
-use Rattle.std.specs.Prelude.{fold}
+use Rattle.std.proofs.Common.{◌≡◌, ℕ, suc, ◌+◌, ◌<◌, ◌≤◌, true, false, cond, List, [], ◌∷◌, length, map, drop, get_or, refl, sym, ap, subst, ◌∙◌, arith}
+use Rattle.std.specs.Prelude.{fold, All}
 use Rattle.std.specs.declared.cmp.Ordering.TheVariants.{Less, Equal, Greater}
 use Rattle.std.specs.Ordering.{match_ordering}
 use Rattle.std.specs.Borrow.{Bor}
 use Rattle.std.specs.BTreeSet.{insert_key}
 use Rattle.std.proofs.lemmas.List.{drop_more, drop_all}
 use Rattle.std.proofs.lemmas.List.{length-map}
-use Rattle.std.proofs.lemmas.List.Elements.{All-map}
+use Rattle.std.proofs.lemmas.List.Elements.{All-map, All-nil, All-cons}
 use Rattle.dac_config.specs.declared.config.Node.{Node}
 use Rattle.dac_shapes.specs.Written.{Written}
 use Rattle.dac_shapes.specs.Views.{names_of}
-use Rattle.dac_config.specs.Table.{IsSmall}
+use Rattle.dac_shapes.specs.Limits.{is_among}
+use Rattle.dac_config.specs.Table.{NodeRow, IsTable}
 use Rattle.dac_config.specs.declared.config.Config.TheInside.{Inside}
 use Rattle.dac_config.specs.ConfigView.{node_row, app_row, table_of}
 use Rattle.dac_config.specs.Numbering.{name_cmp, in_byte_order, numbers_from, numbered_node, numbered_nodes, numbered_app, numbered, IsNumberable}
@@ -59,12 +60,25 @@ pub few_numbered : (w : Written) (nodes : List Node) → length w.nodes ≤ 16 �
 few_numbered w nodes few rows =
     omega (arith, few, length-inserted [] w.nodes, length-map nodes node_row, ap length rows, length-map (in_byte_order w.nodes) (numbered_node w))
 
+-- only numbers of these nodes are given
+numbers_below : (n limit : ℕ) (nodes : List NodeRow) (group : List (List ℕ)) → n + length nodes ≤ limit → All (λ m. m < limit) (numbers_from n nodes group)
+numbers_below n limit [] group h = All-nil (λ m. m < limit)
+numbers_below n limit (node ∷ nodes) group h =
+    let more = numbers_below (n + 1) limit nodes group (omega (arith, h)) in
+    elim (is_among node.name group) as (λ b. All (λ m. m < limit) (cond b (n ∷ numbers_from (n + 1) nodes group) (numbers_from (n + 1) nodes group))) [
+      | true ↦ All-cons (λ m. m < limit) n (numbers_from (n + 1) nodes group) (omega (arith, h)) more
+      | false ↦ more
+    ]
+
 -- a configuration that is numbered is within the limits
-pub small_numbered : (w : Written) → IsNumberable w → IsSmall (numbered w)
+pub small_numbered : (w : Written) → IsNumberable w → IsTable (numbered w)
 small_numbered w can = record {
   nodes = omega (arith, can.nodes, length-inserted [] w.nodes, length-map (in_byte_order w.nodes) (numbered_node w));
   apps = omega (arith, can.apps, length-map w.apps (numbered_app (numbered_nodes w)));
   groups = All-map (λ row. length row.groups ≤ 16) (numbered_app (numbered_nodes w)) w.apps (λ i d within. subst (λ n. n ≤ 16) (sym (length-map (get_or w.apps i d).groups (numbers_from 0 (numbered_nodes w)))) (can.groups i d within));
+  members = (let below : ℕ → Type 0 = λ number. number < length (numbered_nodes w) in
+      All-map (λ row. All (λ group. All below group) row.groups) (numbered_app (numbered_nodes w)) w.apps (λ i d _.
+      All-map (All below) (numbers_from 0 (numbered_nodes w)) (get_or w.apps i d).groups (λ j e _. numbers_below 0 (length (numbered_nodes w)) (numbered_nodes w) (get_or (get_or w.apps i d).groups j e) (omega arith))));
 }
 
 -- tables whose nodes and applications are numbered are the configuration that the text says

@@ -82,7 +82,7 @@ zip_map P f each [] = tt
 zip_map P f each (x ∷ xs) = (each x, zip_map P f each xs)
 
 app_numbered : (nodes : List NodeRow) (app : App) → IsApp nodes app (numbered_app nodes app)
-app_numbered nodes app = record { name = refl; timeout = refl; groups = zip_map (IsGroup nodes) (numbers_from 0 nodes) (group_numbered nodes) app.groups }
+app_numbered nodes app = record { name = refl; timeout = refl; groups = zip_map (IsGroup nodes) (numbers_from 0 nodes) (group_numbered nodes) app.groups; permission = refl }
 
 same_map : {A : Type 0} (f : List ℕ → A) (name : A → List ℕ) → ((x : List ℕ) → name (f x) ≡ x) → (names : List (List ℕ)) → map name (map f names) ≡ names
 same_map f name is [] = refl
@@ -124,7 +124,7 @@ group_same nodes group numbers is =
 app_same : (nodes : List NodeRow) (app : App) (row : AppRow) → IsApp nodes app row → row ≡ numbered_app nodes app
 app_same nodes app row is =
     let groups = zip_same (IsGroup nodes) (numbers_from 0 nodes) (group_same nodes) app.groups row.groups is.groups in
-    λ i. record { name = is.name i; timeout = is.timeout i; groups = groups i }
+    λ i. record { name = is.name i; timeout = is.timeout i; groups = groups i; permission = is.permission i }
 
 all_head : {A : Type 0} (P : A → Type 0) (x : A) (xs : List A) → All P (x ∷ xs) → P x
 all_head P x xs all = all 0 x (omega arith)

@@ -3,4 +3,7 @@ pub mod ConfigView
 pub mod Numbering
 pub mod Says
 pub mod Reading
+pub mod Sinks
+pub mod Mark
+pub mod Canonical
 pub use Rattle.dac_base.specs.Ids

@@ -1,5 +1,5 @@
 -- From what a text says, by names, to the tables of a configuration, by numbers.
-use Rattle.std.specs.Prelude.{◌≡◌, ℕ, ◌+◌, ◌≤◌, false, List, [], ◌∷◌, ◌++◌, map, fold, length, if◌then◌else◌, All}
+use Rattle.std.specs.Prelude.{◌≡◌, ℕ, ◌+◌, ◌≤◌, true, false, List, [], ◌∷◌, ◌++◌, map, fold, length, if◌then◌else◌, All}
 use Rattle.std.specs.declared.cmp.Ordering.{Ordering}
 use Rattle.std.specs.Ordering.{nat_cmp}
 use Rattle.std.specs.Cmp.Lexicographic.{slice_cmp}
@@ -29,7 +29,7 @@ numbered_node w name = record { name = name; mandatory = is_among name w.mandato
 
 -- an application, with numbers for the names of these nodes
 abbrev pub numbered_app : List NodeRow → App → AppRow
-numbered_app nodes app = record { name = app.name; timeout = app.timeout; groups = map (numbers_from 0 nodes) app.groups }
+numbered_app nodes app = record { name = app.name; timeout = app.timeout; groups = map (numbers_from 0 nodes) app.groups; permission = true }
 
 abbrev pub numbered_nodes : Written → List NodeRow
 numbered_nodes w = map (numbered_node w) (in_byte_order w.nodes)

@@ -1,5 +1,5 @@
 -- What it means that a text says a configuration, whatever a reader does.
-use Rattle.std.specs.Prelude.{◌≡◌, ℕ, Bool, false, List, map, Option, None, Some, slice_get, ◌==◌, All}
+use Rattle.std.specs.Prelude.{◌≡◌, ℕ, Bool, true, false, List, map, Option, None, Some, slice_get, ◌==◌, All}
 use Rattle.std.specs.Ordering.{nat_cmp}
 use Rattle.std.specs.List.{list_any, AllZip}
 use Rattle.std.specs.List.Sorted.{IsStrictlySortedBy}
@@ -24,6 +24,7 @@ pub record IsApp (nodes : List NodeRow) (app : App) (row : AppRow) : Type 0 wher
   pub name : row.name ≡ app.name
   pub timeout : row.timeout ≡ app.timeout
   pub groups : AllZip (IsGroup nodes) app.groups row.groups
+  pub permission : row.permission ≡ true
 
 -- The tables say by numbers what is written by names: the nodes are those that are named, in the byte order of
 -- their names, and the applications stand in the order of the text.

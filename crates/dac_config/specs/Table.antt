@@ -1,5 +1,5 @@
 -- What a configuration says: nodes and applications by their numbers, and the wait of a starting node.
-use Rattle.std.specs.Prelude.{ℕ, ◌≤◌, Bool, false, List, [], length, position, option_map, Option, unwrap_or, slice_get, ◌==◌, All}
+use Rattle.std.specs.Prelude.{ℕ, ◌<◌, ◌≤◌, Bool, true, false, List, [], length, position, option_map, Option, unwrap_or, slice_get, ◌==◌, All}
 use Rattle.std.specs.Option.{option_and_then}
 use Rattle.std.specs.List.{list_any}
 use Rattle.std.specs.Str.{bytes_eq}
@@ -13,12 +13,13 @@ pub record NodeRow : Type 0 where
   pub mandatory : Bool
   pub optional : Bool
 
--- an application: its name, the wait of a failover in milliseconds, and the nodes that may run it: groups
--- of node numbers, the most preferred group first
+-- an application: its name, the wait of a failover in milliseconds, the nodes that may run it: groups of node
+-- numbers, the most preferred group first, and whether it is permitted where no one has said
 pub record AppRow : Type 0 where
   pub name : List ℕ
   pub timeout : ℕ
   pub groups : List (List ℕ)
+  pub permission : Bool
 
 -- a configuration: the nodes in the byte order of their names, so that a node's number is its place, the
 -- applications in the order of the file, and the wait of a starting node
@@ -63,6 +64,10 @@ group_of table app node = option_and_then (λ row. group_among row.groups node.0
 abbrev pub timeout_of : Table → AppId → ℕ
 timeout_of table app = unwrap_or (option_map (λ row. row.timeout) (slice_get table.apps app.0)) 0
 
+-- whether an application is permitted where no one has said
+abbrev pub default_permission : Table → AppId → Bool
+default_permission table app = unwrap_or (option_map (λ row. row.permission) (slice_get table.apps app.0)) true
+
 -- whether a starting node waits for this one as mandatory
 abbrev pub is_mandatory : Table → NodeId → Bool
 is_mandatory table node = unwrap_or (option_map (λ row. row.mandatory) (slice_get table.nodes node.0)) false
@@ -71,8 +76,9 @@ is_mandatory table node = unwrap_or (option_map (λ row. row.mandatory) (slice_g
 abbrev pub is_optional : Table → NodeId → Bool
 is_optional table node = unwrap_or (option_map (λ row. row.optional) (slice_get table.nodes node.0)) false
 
--- the limits of a configuration
-pub record IsSmall (table : Table) : Type 0 where
+-- what holds of each configuration: its limits, and that its groups are of nodes that there are
+pub record IsTable (table : Table) : Type 0 where
   pub nodes : node_count table ≤ 16
   pub apps : app_count table ≤ 64
   pub groups : All (λ app. length app.groups ≤ 16) table.apps
+  pub members : All (λ app. All (λ group. All (λ number. number < node_count table) group) app.groups) table.apps

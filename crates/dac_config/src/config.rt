@@ -5,11 +5,14 @@ ghost use Rattle.std.specs.List.{list_any};
 ghost use Rattle.dac_config.specs.Table.{node_count, app_count, group_among};
 
 mod number;
+mod text;
 
 use crate::SyncWait;
+use crate::mark::Mark;
 use dac_base::{AppId, NoMemory, NodeId};
 use indexmap::IndexMap;
 use std::marker::Model;
+use text::put_config;
 
 #[derive(Clone, Drop)]
 struct Node {
@@ -22,6 +25,7 @@ struct Node {
 struct App {
     timeout: u32,
     groups: Vec<Vec<u8>>,
+    permission: bool,
 }
 
 /// A configuration: what all controllers of a cluster agree on before they start.
@@ -40,11 +44,11 @@ impl Model for Config {
 
     ghost Value = { Table };
 
-    ghost use Rattle.dac_config.specs.ConfigView.{table_of, IsSmallTable};
+    ghost use Rattle.dac_config.specs.ConfigView.{table_of, IsKeptTable};
 
     ghost view = { table_of };
 
-    ghost invariant = { IsSmallTable };
+    ghost invariant = { IsKeptTable };
 }
 
 /// The place of the first node with this name.
@@ -64,7 +68,9 @@ fn place_of_group(groups: &[Vec<u8>], node: u8) -> Option<usize>
 }
 
 impl Config {
-    ghost use Rattle.dac_config.specs.Table.{node_name, app_name, node_named, app_named, group_of, timeout_of, is_mandatory, is_optional};
+    ghost use Rattle.dac_config.specs.Table.{node_name, app_name, node_named, app_named, group_of, timeout_of, default_permission, is_mandatory, is_optional};
+    ghost use Rattle.dac_config.specs.Canonical.{canonical_text};
+    ghost use Rattle.dac_config.specs.Mark.{fnv1a};
 
     /// How many nodes there are.
     pub fn nodes(&self) -> u8
@@ -158,6 +164,37 @@ impl Config {
         ensures { result ≡ self.now.sync_wait }
     {
         self.sync_wait
+    }
+
+    /// Whether the application is permitted at a node where no one has said, after OTP's kernel manual, parameter
+    /// `permissions`.
+    pub fn default_permission(&self, app: AppId) -> bool
+        requires { app.0 < app_count self.now }
+        ensures { result ≡ default_permission self.now app }
+    {
+        self.apps[app.0 as usize].permission
+    }
+
+    /// The one text of this configuration: a line without spaces that reads as this configuration, with every
+    /// timeout, and with the nodes of a tuple and those to wait for in the order of their names.
+    pub fn canonical_text(&self) -> Result<Vec<u8>, NoMemory>
+        ensures { IfOk result (λ text. text.items ≡ canonical_text self.now) }
+    {
+        let mut text = Vec::new(*self.nodes.allocator());
+        put_config(&mut text, &self.nodes, &self.apps, self.sync_wait)?;
+        Ok(text)
+    }
+
+    /// A number that stands for the configuration: the 64-bit FNV-1a value of its canonical text. Two
+    /// configurations of one mark aren't told apart.
+    pub fn mark(&self) -> u64
+        ensures { result ≡ fnv1a (canonical_text self.now) }
+    {
+        let mut mark = Mark::new();
+        match put_config(&mut mark, &self.nodes, &self.apps, self.sync_wait) {
+            Ok(()) => mark.value,
+            Err(never) => match never {},
+        }
     }
 
     /// An equal configuration.

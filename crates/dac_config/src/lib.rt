@@ -7,7 +7,9 @@
 #![tactic(auto)]
 
 mod config;
+mod mark;
 mod read;
+mod sink;
 
 pub use config::Config;
 pub use dac_base::{AppId, NoMemory, NodeId};

@@ -1,5 +1,5 @@
 //! A configuration from its text.
-ghost use Rattle.std.specs.Prelude.{◌≡◌, IfOk, MatchResult};
+ghost use Rattle.std.specs.Prelude.{◌≡◌, IfErr, IfOk, MatchResult};
 ghost use Rattle.dac_tokens.specs.declared.fault.FaultKind.TheVariants.{NoMemory};
 ghost use Rattle.dac_tokens.specs.Gives.{Gives};
 ghost use Rattle.dac_config.specs.Table.{Table};
@@ -26,6 +26,7 @@ pub fn read_config(alloc: Global, text: &[u8]) -> Result<Config, ConfigFault>
     ensures only { (table : Table) → IsConfigOf text.now table → MatchResult result (λ config. config ≡ table) (λ fault. fault.kind ≡ NoMemory) }
     // Which fault it is, unless memory ran out.
     ensures exact { Gives (λ config. config) result (config_at text.now) }
+    ensures memory { IfErr result (λ fault. fault.kind ≡ NoMemory → fault.at ≡ 0) }
 {
     let draft = read_draft(alloc, text)?;
     let config = Config::of_draft(alloc, &draft)?;

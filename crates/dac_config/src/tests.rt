@@ -7,6 +7,14 @@ const EXAMPLE: &[u8] =
 const TWO_APPLICATIONS: &[u8] =
     b"[{kernel,[{distributed,[{b,5000,[c1@h,{c3@h,c2@h}]},{a,[c2@h]}]},{sync_nodes_optional,[b@h,c1@h]}]}].";
 
+const MARK_OF_EXAMPLE: u64 = 15451059380765602643;
+
+const EXAMPLE_IN_ONE_LINE: &[u8] =
+    b"[{kernel,[{distributed,[{myapp,5000,[cp1@cave,{cp2@cave,cp3@cave}]}]},{permissions,[]},{sync_nodes_mandatory,[cp2@cave,cp3@cave]},{sync_nodes_optional,[]},{sync_nodes_timeout,5000}]}].\n";
+
+const TWO_APPLICATIONS_IN_ONE_LINE: &[u8] =
+    b"[{kernel,[{distributed,[{b,5000,[c1@h,{c2@h,c3@h}]},{a,0,[c2@h]}]},{permissions,[]},{sync_nodes_mandatory,[]},{sync_nodes_optional,[b@h,c1@h]}]}].\n";
+
 const NODE_TWICE: &[u8] = b"[{kernel,[{distributed,[{a,[b@h,{c@h,b@h}]}]}]}].";
 
 #[test]
@@ -51,6 +59,24 @@ fn nodes_by_name_and_applications_by_place(rt: HostRuntime) -> Result<(), Fail> 
     assert!(rt; config.optional(NodeId(1)));
     assert!(rt; !config.optional(NodeId(2)));
     assert_eq!(rt; config.sync_wait(), SyncWait::NoSync);
+    Ok(())
+}
+
+#[test]
+fn one_text_and_its_mark(rt: HostRuntime) -> Result<(), Fail> {
+    let config = read_config(rt.alloc(), EXAMPLE)?;
+    let text = config.canonical_text()?;
+    assert_eq!(rt; text.as_slice(), EXAMPLE_IN_ONE_LINE);
+    assert_eq!(rt; config.mark(), MARK_OF_EXAMPLE);
+    assert!(rt; config.default_permission(AppId(0)));
+    Ok(())
+}
+
+#[test]
+fn every_timeout_and_tuples_in_order(rt: HostRuntime) -> Result<(), Fail> {
+    let config = read_config(rt.alloc(), TWO_APPLICATIONS)?;
+    let text = config.canonical_text()?;
+    assert_eq!(rt; text.as_slice(), TWO_APPLICATIONS_IN_ONE_LINE);
     Ok(())
 }
 

@@ -92,7 +92,14 @@ fn app_of(alloc: Global, nodes: &[Node], app: &DraftApp<'_>) -> Result<(Vec<u8>,
     let name = app.name.to_vec(alloc)?;
     let groups = groups_of(alloc, nodes, &app.groups)?;
     let timeout = app.timeout;
-    Ok((name, App { timeout, groups }))
+    Ok((
+        name,
+        App {
+            timeout,
+            groups,
+            permission: true,
+        },
+    ))
 }
 
 /// The applications by their numbers.

@@ -1,11 +1,11 @@
 use Rattle.std.proofs.Common.{refl, sym, ◌∙◌, subst}
-use Rattle.dac_config.specs.Table.{IsSmall}
+use Rattle.dac_config.specs.Table.{IsTable}
 use Rattle.dac_config.proofs.Copies.{table_copied}
 use Rattle.dac_config.proofs.config.Config.copy.Goals as goal
 
 pub invariant_of-result : goal.invariant_of-result
 invariant_of-result c =
-    subst IsSmall (sym (table_copied c.self.inside (record { nodes = c.in_ok-nodes.nodes; apps = c.in_ok-apps.apps; sync_wait = c.self.inside.sync_wait }) c.in_ok-nodes.ensures.cases.0 c.in_ok-apps.ensures.cases refl)) c.self.invariant
+    subst IsTable (sym (table_copied c.self.inside (record { nodes = c.in_ok-nodes.nodes; apps = c.in_ok-apps.apps; sync_wait = c.self.inside.sync_wait }) c.in_ok-nodes.ensures.cases.0 c.in_ok-apps.ensures.cases refl)) c.self.invariant
 
 pub returns : goal.returns
 returns c =

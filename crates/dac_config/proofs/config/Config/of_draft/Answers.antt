@@ -1,5 +1,5 @@
 use Rattle.std.proofs.Common.{◌≤◌, sym, ◌∙◌, length, subst, refl, ap, map}
-use Rattle.dac_config.specs.Table.{IsSmall}
+use Rattle.dac_config.specs.Table.{IsTable}
 use Rattle.dac_shapes.specs.Views.{draft_of, apps_of}
 use Rattle.dac_config.specs.ConfigView.{node_row}
 use Rattle.dac_config.specs.Numbering.{numbered_app}
@@ -12,5 +12,5 @@ apps_of-requires-clause-few c =
 
 pub invariant_of-result : goal.invariant_of-result
 invariant_of-result c =
-    subst IsSmall (sym (table_numbered (draft_of c.args.draft.now) (record { nodes = c.in_ok-nodes.nodes; apps = c.in_ok-apps.apps; sync_wait = c.args.draft.now.sync_wait }) c.deref.result.now c.in_ok-nodes.ensures c.deref.ensures.value (c.in_ok-apps.ensures ∙ ap (λ apps. map (numbered_app (map node_row c.deref.result.now)) (apps_of apps)) c.deref-2.ensures.value) refl))
+    subst IsTable (sym (table_numbered (draft_of c.args.draft.now) (record { nodes = c.in_ok-nodes.nodes; apps = c.in_ok-apps.apps; sync_wait = c.args.draft.now.sync_wait }) c.deref.result.now c.in_ok-nodes.ensures c.deref.ensures.value (c.in_ok-apps.ensures ∙ ap (λ apps. map (numbered_app (map node_row c.deref.result.now)) (apps_of apps)) c.deref-2.ensures.value) refl))
     (small_numbered (draft_of c.args.draft.now) c.requires)

@@ -1,0 +1,31 @@
+-- Texts that are taken piece by piece.
+use Rattle.std.proofs.Common.{◌≡◌, ℕ, List, [], ◌∷◌, ◌++◌, sym, subst, append_assoc, append-nil}
+use Rattle.dac_config.specs.Sinks.{Gains}
+use Rattle.dac_config.specs.Canonical.{parted_behind, parted}
+
+-- once these texts are taken, the first behind `before`, the total is taken since the start
+pub record Goes {S : Type 0} (H : S → List ℕ → Type 0) (start now : S) (before : List ℕ) (left : List (List ℕ)) (total : List ℕ) : Type 0 where
+  pub on : (end : S) → Gains H now end (parted_behind before left) → Gains H start end total
+
+module _ {S : Type 0} {H : S → List ℕ → Type 0} where
+  -- one text and then another
+  pub then : {a b c : S} {xs ys : List ℕ} → Gains H a b xs → Gains H b c ys → Gains H a c (xs ++ ys)
+  then {c = c} {xs = xs} {ys = ys} p q = record { held = λ text h. subst (H c) (append_assoc text xs ys) (q.held (text ++ xs) (p.held text h)) }
+
+  pub nothing_more : {a : S} → Gains H a a []
+  nothing_more {a} = record { held = λ text h. subst (H a) (sym (append-nil text)) h }
+
+  pub begun : {a : S} (texts : List (List ℕ)) → Goes H a a [] texts (parted texts)
+  begun texts = record { on = λ end h. h }
+
+  pub one_more : {start a b c : S} {before text total behind : List ℕ} {left rest : List (List ℕ)} → Goes H start a before left total → left ≡ text ∷ rest → Gains H a b before → Gains H b c text → behind ≡ 44 ∷ [] → Goes H start c behind rest total
+  one_more {a = a} {c = c} {before = before} {left = left} {rest = rest} so_far is p q comma = record {
+    on = λ end h. so_far.on end (subst (λ (l : List (List ℕ)). Gains H a end (parted_behind before l)) (sym is) (then p (then q (subst (λ (b : List ℕ). Gains H c end (parted_behind b rest)) comma h))));
+  }
+
+  pub all_taken : {start now : S} {before total : List ℕ} {left : List (List ℕ)} → Goes H start now before left total → left ≡ [] → Gains H start now total
+  all_taken {now = now} {before = before} so_far is = so_far.on now (subst (λ (l : List (List ℕ)). Gains H now now (parted_behind before l)) (sym is) nothing_more)
+
+  -- what is left may be said in other words
+  pub same_left : {start now : S} {before total : List ℕ} {left rest : List (List ℕ)} → Goes H start now before left total → left ≡ rest → Goes H start now before rest total
+  same_left {start} {now} {before} {total} so_far is = subst (λ (l : List (List ℕ)). Goes H start now before l total) is so_far

@@ -1,0 +1,9 @@
+use Rattle.std.proofs.Common.{◌%◌, arith}
+use Rattle.std.proofs.lemmas.Fmt.{decimal_step, decimal_digit}
+use Rattle.dac_config.proofs.Gaining.{then}
+use Rattle.dac_config.proofs.config.text.+put_number.Goals as goal
+
+pub returns : goal.returns
+returns g t c =
+    let last = rw (decimal_digit (c.args.number % 10) (omega arith)) at c.in_ok-put_digit.ensures in
+    rw (decimal_step c.args.number (omega arith) (omega arith)) (then c.in_ok-put_number.ensures last)

@@ -1,0 +1,4 @@
+use Rattle.dac_config.proofs.config.text.+put_number.Given as goal
+
+abbrev pub decreases-put_number : goal.decreases-put_number
+decreases-put_number g l = l.number

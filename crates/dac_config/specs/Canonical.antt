@@ -1,0 +1,91 @@
+-- The one text of a configuration: without spaces, ended by a line feed.
+use Rattle.std.specs.Prelude.{ℕ, Bool, true, false, not, ◌&&◌, ◌||◌, List, [], ◌∷◌, ◌++◌, map, filter, ◌==◌, unwrap_or, option_map, slice_get, if◌then◌else◌, codes}
+use Rattle.std.specs.Fmt.{decimal}
+use Rattle.std.specs.Str.{bytes_eq}
+use Rattle.std.specs.List.{list_all}
+use Rattle.std.specs.Char.{is_ascii_lowercase, is_ascii_alphanumeric}
+use Rattle.dac_shapes.specs.declared.draft.SyncWait.{SyncWait}
+use Rattle.dac_shapes.specs.declared.draft.SyncWait.TheVariants.{NoSync, Forever, Ms}
+use Rattle.dac_config.specs.Table.{NodeRow, AppRow, Table}
+
+-- ---- names
+
+-- an ASCII letter, a digit, an underscore or an at sign
+abbrev pub is_name_byte : ℕ → Bool
+is_name_byte b = is_ascii_alphanumeric b || b == 95 || b == 64
+
+abbrev pub begins_small : List ℕ → Bool
+begins_small [] = false
+begins_small (b ∷ bs) = is_ascii_lowercase b
+
+-- a small letter and further bytes of names; the word `fun` is no atom
+abbrev pub is_bare : List ℕ → Bool
+is_bare name = begins_small name && not (bytes_eq name (codes "fun")) && list_all is_name_byte name
+
+-- a name as Erlang writes an atom: bare where it can be, else between quotes
+abbrev pub name_text : List ℕ → List ℕ
+name_text name = if is_bare name then name else codes "'" ++ (name ++ codes "'")
+
+-- ---- lists
+
+-- these texts, the first behind `before` and each further one behind a comma
+abbrev pub parted_behind : List ℕ → List (List ℕ) → List ℕ
+parted_behind before [] = []
+parted_behind before (text ∷ texts) = before ++ (text ++ parted_behind (codes ",") texts)
+
+-- these texts with a comma between any two
+abbrev pub parted : List (List ℕ) → List ℕ
+parted texts = parted_behind [] texts
+
+-- ---- the parts of a configuration
+
+-- the name of the node with this number
+abbrev pub node_text : List NodeRow → ℕ → List ℕ
+node_text nodes number = name_text (unwrap_or (option_map (λ node. node.name) (slice_get nodes number)) [])
+
+-- several nodes
+abbrev pub tuple_text : List NodeRow → List ℕ → List ℕ
+tuple_text nodes numbers = codes "{" ++ (parted (map (node_text nodes) numbers) ++ codes "}")
+
+-- a group: one node by itself, any more as a tuple
+abbrev pub group_text : List NodeRow → List ℕ → List ℕ
+group_text nodes (number ∷ []) = node_text nodes number
+group_text nodes numbers = tuple_text nodes numbers
+
+-- an application with its timeout and its groups
+abbrev pub app_text : List NodeRow → AppRow → List ℕ
+app_text nodes app =
+    codes "{" ++ (name_text app.name ++ (codes "," ++ (decimal app.timeout ++ (codes ",[" ++ (parted (map (group_text nodes) app.groups) ++ codes "]}")))))
+
+-- an application that may not run unless it is permitted
+abbrev pub ban_text : List ℕ → List ℕ
+ban_text name = codes "{" ++ (name_text name ++ codes ",false}")
+
+abbrev pub apps_text : Table → List ℕ
+apps_text table = parted (map (app_text table.nodes) table.apps)
+
+abbrev pub bans_text : Table → List ℕ
+bans_text table = parted (map (λ app. ban_text app.name) (filter (λ app. not app.permission) table.apps))
+
+abbrev pub mandatory_text : Table → List ℕ
+mandatory_text table = parted (map (λ node. name_text node.name) (filter (λ node. node.mandatory) table.nodes))
+
+abbrev pub optional_text : Table → List ℕ
+optional_text table = parted (map (λ node. name_text node.name) (filter (λ node. node.optional) table.nodes))
+
+-- the parameter of the wait, where it is defined
+abbrev pub wait_text : SyncWait → List ℕ
+wait_text NoSync = []
+wait_text Forever = codes ",{sync_nodes_timeout,infinity}"
+wait_text (Ms n) = codes ",{sync_nodes_timeout," ++ (decimal n ++ codes "}")
+
+-- what follows the applications: those that are not permitted by themselves, the nodes to wait for, and the wait
+abbrev pub rest_text : Table → List ℕ
+rest_text table =
+    codes "]},{permissions,[" ++ (bans_text table ++ (codes "]},{sync_nodes_mandatory,[" ++ (mandatory_text table
+    ++ (codes "]},{sync_nodes_optional,[" ++ (optional_text table ++ (codes "]}" ++ (wait_text table.sync_wait ++ codes "]}].\n")))))))
+
+-- A configuration's one text: the applications stand in the order of the file, nodes to wait for in the order of
+-- their names.
+abbrev pub canonical_text : Table → List ℕ
+canonical_text table = codes "[{kernel,[{distributed,[" ++ (apps_text table ++ rest_text table)

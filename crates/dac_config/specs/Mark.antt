@@ -1,0 +1,10 @@
+-- A number that stands for a text: its 64-bit FNV-1a value.
+use Rattle.std.specs.Prelude.{ℕ, ◌*◌, ◌%◌, ◌^◌, List, fold, bit_xor}
+
+-- one more byte
+abbrev pub mixed : ℕ → ℕ → ℕ
+mixed mark byte = (bit_xor mark byte * 1099511628211) % 2 ^ 64
+
+-- begin with this number, and mix in each byte
+abbrev pub fnv1a : List ℕ → ℕ
+fnv1a text = fold mixed 14695981039346656037 text

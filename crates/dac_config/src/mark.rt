@@ -1,0 +1,45 @@
+//! The mark of a text.
+
+ghost use Rattle.std.specs.Prelude.{◌≡◌, []};
+ghost use Rattle.dac_config.specs.Mark.{mixed, fnv1a};
+
+use crate::sink::Sink;
+use std::convert::Infallible;
+
+const NO_BYTES: u64 = 14695981039346656037;
+
+const FACTOR: u64 = 1099511628211;
+
+/// One more byte.
+fn mixed(mark: u64, byte: u8) -> u64
+    ensures { result ≡ mixed mark byte }
+{
+    (mark ^ u64::from(byte)).wrapping_mul(FACTOR)
+}
+
+/// The 64-bit FNV-1a value of the bytes that it took, which keeps none of them.
+#[derive(Drop)]
+pub(crate) struct Mark {
+    pub value: u64,
+}
+
+impl Mark {
+    pub fn new() -> Self
+        ensures { result.value ≡ fnv1a [] }
+    {
+        Mark { value: NO_BYTES }
+    }
+}
+
+impl Sink for Mark {
+    type Fault = Infallible;
+
+    ghost holds = { λ mark text. mark.value ≡ fnv1a text };
+
+    fn put(&mut self, bytes: &[u8]) -> Result<(), Infallible> {
+        for byte in bytes {
+            self.value = mixed(self.value, *byte);
+        }
+        Ok(())
+    }
+}
