@@ -8,7 +8,7 @@
 #![tactic(auto)]
 
 mod answers;
-mod check;
+mod checking;
 mod ending;
 mod failure;
 mod fault;
@@ -23,7 +23,7 @@ mod texts;
 mod words;
 
 pub use answers::{Counts, answer_line};
-pub use check::{canonical, check};
+pub use checking::{canonical, check};
 pub use ending::{Ending, print, refuse};
 pub use failure::{Failure, OUT_OF_MEMORY};
 pub use fault::{InputFault, ScriptFault, ScriptFaultKind};

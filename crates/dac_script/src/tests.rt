@@ -1,9 +1,10 @@
 //! The public calls, each with ample memory.
 
 use super::{
-    Ending, Failure, InputFault, ScriptFault, ScriptFaultKind, booted_line, config_fault_line, heard_line,
-    input_fault_line, issued_line, no_message_line, off_line, parted, prepare, printed_name,
-    read_input, read_script, refused_line, same_line, script_fault_line, shipped_line, simulate,
+    Ending, Failure, InputFault, ScriptFault, ScriptFaultKind, booted_line, config_fault_line,
+    heard_line, input_fault_line, issued_line, no_message_line, off_line, parted, prepare,
+    printed_name, read_input, read_script, refused_line, same_line, script_fault_line,
+    shipped_line, simulate,
 };
 use dac_config::read_config;
 use dac_tokens::{ConfigFault, FaultKind};
