@@ -29,6 +29,9 @@ is_plain = refl
 
 pub returns-in_err-matches : goal.returns-in_err-matches
 returns-in_err-matches c = record {
+  check = λ same.
+      let p = err_from_is_err_and c.from_residual-in_err-matches.result c.from_residual-in_err-matches.ensures.1 in
+      rw (p.1, p.2) (c.in_err-matches.ensures.passes (ap₂ takes c.in_ok-command.ensures same ∙ check_taken));
   sim = λ same.
       let p = err_from_is_err_and c.from_residual-in_err-matches.result c.from_residual-in_err-matches.ensures.1 in
       rw (p.1, p.2) (c.in_err-matches.ensures.passes (ap₂ takes c.in_ok-command.ensures same ∙ is_taken));
@@ -41,7 +44,10 @@ named m =
 
 pub returns : goal.returns
 returns c = record {
+  check = λ same.
+      let rows = (c.in_ok-matches.ensures.matches (ap is_simple c.in_ok-command.ensures ∙ is_plain)).1 ∙ ap₂ subcommand_of c.in_ok-command.ensures same in
+      c.request_of.ensures.check (c.subcommand_name.ensures ∙ named c.in_ok-matches.matches ∙ ap (option_map (λ p. p.0)) rows ∙ is_check);
   sim = λ same.
       let rows = (c.in_ok-matches.ensures.matches (ap is_simple c.in_ok-command.ensures ∙ is_plain)).1 ∙ ap₂ subcommand_of c.in_ok-command.ensures same in
-      c.request_of.ensures (c.subcommand_name.ensures ∙ named c.in_ok-matches.matches ∙ ap (option_map (λ p. p.0)) rows ∙ is_sim);
+      c.request_of.ensures.sim (c.subcommand_name.ensures ∙ named c.in_ok-matches.matches ∙ ap (option_map (λ p. p.0)) rows ∙ is_sim);
 }
