@@ -2,7 +2,6 @@
 use Rattle.std.specs.Prelude.{◌≡◌, ℕ, Option, None, Some, refl}
 use Rattle.std.proofs.Common.{zero, suc, ap}
 use Rattle.std.specs.declared.cmp.Ordering.{Ordering}
-use Rattle.std.specs.declared.cmp.Ordering.TheVariants.{Less, Equal, Greater}
 use Rattle.std.specs.Ordering.{nat_cmp, ordering_then}
 use Rattle.std.specs.Option.{option_cmp}
 use Rattle.std.specs.Cmp.{IsTotalOrder}
@@ -21,7 +20,7 @@ use Rattle.dac_chains.specs.declared.claims.How.{How}
 use Rattle.dac_chains.specs.declared.claims.How.TheVariants.{Normal, Failover, Takeover}
 use Rattle.dac_chains.specs.declared.claims.Claim.{Claim}
 use Rattle.dac_chains.specs.declared.claims.ClaimAct.{ClaimAct}
-use Rattle.dac_chains.specs.declared.claims.ClaimAct.TheVariants.{Claim as Claims_app, Other}
+use Rattle.dac_chains.specs.declared.claims.ClaimAct.TheVariants.{Claim as Claimed, Other}
 
 -- the place of a way to claim
 abbrev pub place : How → ℕ
@@ -47,7 +46,7 @@ Claims = map.FinMap app_cmp Claim
 
 -- what an operation says of which application: its issuer claims it
 abbrev pub said_claim : Dot → ClaimAct → Option (AppId × Claim)
-said_claim d (Claims_app app term how from) = Some (app, record { term = term; origin = d.origin; how = how; from = from })
+said_claim d (Claimed app term how from) = Some (app, record { term = term; origin = d.origin; how = how; from = from })
 said_claim d Other = None
 
 -- ---- laws

@@ -1,11 +1,10 @@
 -- At each key the greatest of what operations said of it, in a total order of values.
-use Rattle.std.specs.Prelude.{◌≡◌, ◌⊎◌, true, false, cond, List, [], ◌∷◌, Option, None, Some, option_map, refl, map as list_map}
+use Rattle.std.specs.Prelude.{◌≡◌, ◌⊎◌, true, false, cond, List, [], ◌∷◌, Option, None, Some, refl}
 use Rattle.std.proofs.Common.{inl, inr, sym, ap, subst, ◌∙◌}
 use Rattle.std.specs.declared.cmp.Ordering.{Ordering}
 use Rattle.std.specs.Ordering.{eq_by_cmp, is_eq, is_lt, ord_max}
 use Rattle.std.specs.Cmp.{IsTotalOrder, Equal-is}
 use Rattle.std.specs.FinMap as map
-use Rattle.std.specs.FinMap.{find}
 use Rattle.std.proofs.lemmas.Bool.{true≢false}
 use Rattle.std.proofs.lemmas.Cmp.{tied_itself}
 use Rattle.std.proofs.lemmas.Map.Lookups.{CmpEqualImpliesEq}
@@ -13,7 +12,7 @@ use Rattle.dac_dots.specs.declared.dot.Dot.{Dot}
 use Rattle.dac_lattice.specs.Chains.{IsAny, IsAtMost, chain_laws}
 use Rattle.dac_lattice.specs.Laws.{IsLattice, IsIn, IsWithin, join_options, optional_laws}
 use Rattle.dac_lattice.specs.Entries.{merge_entries, find_merge}
-use Rattle.dac_lattice.specs.Pieces.{In, AreOperations, IsPiece}
+use Rattle.dac_lattice.specs.Pieces.{In, IsPiece}
 
 -- some operation said the value of the key, where `said` is what an operation says of which key
 abbrev pub IsSaid : {K T A : Type 0} → (Dot → A → Option (K × T)) → List (Dot × A) → K → T → Type 0
@@ -75,15 +74,16 @@ any : {T : Type 0} (x : Option T) → IsIn {T = T} IsAny x
 any None = tt
 any (Some v) = tt
 
-module _ {K T : Type 0} {R : K → K → Ordering} {cmp : T → T → Ordering} (keys : IsTotalOrder R) (exact_keys : CmpEqualImpliesEq R) (o : IsTotalOrder cmp) (exact : CmpEqualImpliesEq cmp) where
+module _ {K T : Type 0} {R : K → K → Ordering} (keys : IsTotalOrder R) (exact_keys : CmpEqualImpliesEq R) where
   -- what the greater of two maps has at a key
-  pub get-greater : (s t : map.FinMap R T) (k : K) → map.get (greater cmp s t) k ≡ join_options (ord_max cmp) (map.get s k) (map.get t k)
+  pub get-greater : (cmp : T → T → Ordering) (s t : map.FinMap R T) (k : K) → map.get (greater cmp s t) k ≡ join_options (ord_max cmp) (map.get s k) (map.get t k)
   unfolding greater
-  get-greater s t k =
+  get-greater cmp s t k =
       map.get-from_entries keys _ k
       ∙ find_merge keys exact_keys (λ _. join_options (ord_max cmp)) (λ _. refl) k (map.entries s) (map.entries t) (map.entries_sorted s) (map.entries_sorted t)
       ∙ (λ i. join_options (ord_max cmp) (sym (map.get-entries s k) i) (sym (map.get-entries t k) i))
 
+module _ {K T : Type 0} {R : K → K → Ordering} {cmp : T → T → Ordering} (keys : IsTotalOrder R) (exact_keys : CmpEqualImpliesEq R) (o : IsTotalOrder cmp) (exact : CmpEqualImpliesEq cmp) where
   -- maps are a lattice, in which the greater map is the least upper bound
   pub greatest_laws : IsLattice {T = map.FinMap R T} IsAny (AreNotAbove cmp) (greater cmp)
   greatest_laws =
@@ -93,9 +93,9 @@ module _ {K T : Type 0} {R : K → K → Ordering} {cmp : T → T → Ordering} 
         trans = λ s t u _ _ _ p q k. values.trans (map.get s k) (map.get t k) (map.get u k) (any _) (any _) (any _) (p k) (q k);
         antisymm = λ s t _ _ p q. map.same_map keys exact_keys s t (λ k. values.antisymm (map.get s k) (map.get t k) (any _) (any _) (p k) (q k));
         closed = λ s t _ _. tt;
-        left = λ s t _ _ k. subst (IsWithin (IsAtMost cmp) (map.get s k)) (sym (get-greater s t k)) (values.left (map.get s k) (map.get t k) (any _) (any _));
-        right = λ s t _ _ k. subst (IsWithin (IsAtMost cmp) (map.get t k)) (sym (get-greater s t k)) (values.right (map.get s k) (map.get t k) (any _) (any _));
-        least = λ s t u _ _ _ p q k. subst (λ x. IsWithin (IsAtMost cmp) x (map.get u k)) (sym (get-greater s t k)) (values.least (map.get s k) (map.get t k) (map.get u k) (any _) (any _) (any _) (p k) (q k));
+        left = λ s t _ _ k. subst (IsWithin (IsAtMost cmp) (map.get s k)) (sym (get-greater keys exact_keys cmp s t k)) (values.left (map.get s k) (map.get t k) (any _) (any _));
+        right = λ s t _ _ k. subst (IsWithin (IsAtMost cmp) (map.get t k)) (sym (get-greater keys exact_keys cmp s t k)) (values.right (map.get s k) (map.get t k) (any _) (any _));
+        least = λ s t u _ _ _ p q k. subst (λ x. IsWithin (IsAtMost cmp) x (map.get u k)) (sym (get-greater keys exact_keys cmp s t k)) (values.least (map.get s k) (map.get t k) (map.get u k) (any _) (any _) (any _) (p k) (q k));
       }
 
   -- a map without keys is below all
@@ -122,7 +122,7 @@ module _ {K T : Type 0} {R : K → K → Ordering} {cmp : T → T → Ordering} 
   alone_says : (e : Option (K × T)) (k : K) → IsGreatest cmp (λ v. e ≡ Some (k, v)) (map.get (alone {R = R} e) k)
   alone_says None k = subst (IsGreatest cmp (λ v. None ≡ Some (k, v))) (sym (map.get-empty R k)) (λ v same. nothing v same)
     where
-      nothing : (v : T) → ¬ (None {T = K × T} ≡ Some (k, v))
+      nothing : (v : T) → ¬ (◌≡◌ {A = Option (K × T)} None (Some (k, v)))
       nothing v same = cc
   alone_says (Some e) k =
       subst (IsGreatest cmp (λ v. Some e ≡ Some (k, v)))
@@ -141,7 +141,7 @@ module _ {K T : Type 0} {R : K → K → Ordering} {cmp : T → T → Ordering} 
           | inl is ↦ inr (subst (λ (q : Dot × A). said q.0 q.1 ≡ Some (k, v)) is s.1.1)
           | inr rest ↦ inl (s.0, (rest, s.1.1))
         ])
-        (subst (IsGreatest cmp (λ v. IsSaid said os k v ⊎ (said p.0 p.1 ≡ Some (k, v)))) (sym (get-greater m (alone (said p.0 p.1)) k))
+        (subst (IsGreatest cmp (λ v. IsSaid said os k v ⊎ (said p.0 p.1 ≡ Some (k, v)))) (sym (get-greater keys exact_keys cmp m (alone (said p.0 p.1)) k))
         (greatest_either o exact (IsSaid said os k) (λ v. said p.0 p.1 ≡ Some (k, v)) (map.get m k) (map.get (alone (said p.0 p.1)) k) (h k) (alone_says (said p.0 p.1) k)))
 
     -- to add an operation is to take the greater of what it says

@@ -206,3 +206,92 @@ impl Piece for Claims {
         }
     }
 }
+
+#[cfg(test)]
+mod tests {
+    use super::*;
+    use dac_lattice::pieces::join_deltas;
+    use std::test::Fail;
+
+    const APP: AppId = AppId(0);
+
+    const X: NodeId = NodeId(0);
+
+    const Z: NodeId = NodeId(2);
+
+    /// A claim of a node's first incarnation.
+    fn claim(node: NodeId, term: u64, how: How, from: Option<NodeId>) -> Claim {
+        let origin = Origin { node, inc: 1 };
+        Claim {
+            term,
+            origin,
+            how,
+            from,
+        }
+    }
+
+    /// The operation that claims the application so.
+    fn operation(claim: Claim) -> (Dot, ClaimAct) {
+        let Claim {
+            term,
+            origin,
+            how,
+            from,
+        } = claim;
+        let act = ClaimAct::Claim {
+            app: APP,
+            term,
+            how,
+            from,
+        };
+        (Dot { origin, n: 2 }, act)
+    }
+
+    /// The greatest of two claims, that of the second operation joined to that of the first.
+    fn greatest(alloc: Global, first: Claim, second: Claim) -> Result<Option<Claim>, NoMemory> {
+        let (dot, act) = operation(first);
+        let one = Claims::delta(alloc, dot, &act)?;
+        let (dot, act) = operation(second);
+        let both = one.join(&Claims::delta(alloc, dot, &act)?)?;
+        Ok(both.greatest(APP))
+    }
+
+    #[test]
+    fn greater_claim_wins(rt: HostRuntime) -> Result<(), Fail> {
+        let early = claim(X, 1, How::Takeover, Some(Z));
+        let late = claim(Z, 1, How::Normal, None);
+        let rows = [
+            (early, late),
+            (late, claim(X, 2, How::Normal, None)),
+            (late, claim(Z, 1, How::Failover, None)),
+            (
+                claim(Z, 1, How::Failover, Some(Z)),
+                claim(Z, 1, How::Takeover, None),
+            ),
+            (late, claim(Z, 1, How::Normal, Some(X))),
+        ];
+        for (low, high) in rows {
+            assert_eq!(rt; greatest(rt.alloc(), low, high)?, Some(high));
+            assert_eq!(rt; greatest(rt.alloc(), high, low)?, Some(high));
+        }
+        Ok(())
+    }
+
+    #[test]
+    fn claims_of_two_applications(rt: HostRuntime) -> Result<(), Fail> {
+        let normal = claim(X, 1, How::Normal, None);
+        let first: Claims = join_deltas(rt.alloc(), &[operation(normal)])?;
+        let both = first.join(&Claims::one(rt.alloc(), AppId(1), normal)?)?;
+        assert_eq!(rt; first.greatest(AppId(1)), None);
+        assert_eq!(rt; both.greatest(AppId(1)), Some(normal));
+        assert!(rt; first.leq(&both) && !both.leq(&first));
+        assert!(rt; both.copy()?.equal(&both) && !both.equal(&first));
+        let entries = both.entries();
+        assert_eq!(rt; entries.len(), 2);
+        assert_eq!(rt; (entries[0].0, entries[0].1.value), (APP, normal));
+        let (dot, _) = operation(normal);
+        let nothing = Claims::delta(rt.alloc(), dot, &ClaimAct::Other)?;
+        assert!(rt; nothing.equal(&Claims::bottom(rt.alloc())));
+        Ok(())
+    }
+}

@@ -205,3 +205,79 @@ impl Piece for Lives {
         }
     }
 }
+
+#[cfg(test)]
+mod tests {
+    use super::*;
+    use dac_dots::Origin;
+    use dac_lattice::pieces::join_deltas;
+    use std::test::Fail;
+
+    const A: NodeId = NodeId(0);
+
+    const B: NodeId = NodeId(1);
+
+    /// An incarnation came up.
+    fn up(node: NodeId, inc: u32) -> (Dot, LifeAct) {
+        let origin = Origin { node, inc };
+        (Dot { origin, n: 1 }, LifeAct::Up)
+    }
+
+    /// The second node declares an incarnation down.
+    fn down(node: NodeId, inc: u32) -> (Dot, LifeAct) {
+        let origin = Origin { node: B, inc: 1 };
+        (Dot { origin, n: 2 }, LifeAct::Down { node, inc })
+    }
+
+    /// What the operations say, joined in turn.
+    fn heard(alloc: Global, operations: &[(Dot, LifeAct)]) -> Result<Lives, NoMemory> {
+        let mut lives = Lives::bottom(alloc);
+        for (dot, act) in operations {
+            lives = lives.join(&Lives::delta(alloc, *dot, act)?)?;
+        }
+        Ok(lives)
+    }
+
+    #[test]
+    fn down_is_above_up_of_its_incarnation(rt: HostRuntime) -> Result<(), Fail> {
+        let one: Lives = join_deltas(rt.alloc(), &[up(A, 1)])?;
+        assert_eq!(rt; one.life(A), Some((1, Flag::Up)));
+        assert_eq!(rt; one.live(A), Some(1));
+        assert_eq!(rt; one.life(B), None);
+        assert_eq!(rt; one.live(B), None);
+        let gone = heard(rt.alloc(), &[down(A, 1), up(A, 1)])?;
+        assert_eq!(rt; gone.life(A), Some((1, Flag::Down)));
+        assert_eq!(rt; gone.live(A), None);
+        let back = heard(rt.alloc(), &[up(A, 2), down(A, 1), up(A, 1)])?;
+        assert_eq!(rt; back.life(A), Some((2, Flag::Up)));
+        assert_eq!(rt; back.live(A), Some(2));
+        assert!(rt; one.leq(&gone) && gone.leq(&back) && !back.leq(&gone));
+        Ok(())
+    }
+
+    #[test]
+    fn lives_of_two_nodes(rt: HostRuntime) -> Result<(), Fail> {
+        let both = heard(rt.alloc(), &[up(B, 1), up(A, 3)])?;
+        let other = Life {
+            inc: 3,
+            flag: Flag::Up,
+        };
+        assert!(rt; Lives::one(rt.alloc(), A, other)?.leq(&both));
+        assert!(rt; !Lives::one(rt.alloc(), A, other)?.equal(&both));
+        assert!(rt; both.copy()?.equal(&both));
+        let entries = both.entries();
+        assert_eq!(rt; entries.len(), 2);
+        assert_eq!(rt; (entries[0].0, entries[1].0), (A, B));
+        assert_eq!(rt; entries[0].1.value, other);
+        Ok(())
+    }
+
+    #[test]
+    fn nothing_is_said(rt: HostRuntime) -> Result<(), Fail> {
+        let (dot, _) = up(A, 1);
+        let nothing = Lives::delta(rt.alloc(), dot, &LifeAct::Other)?;
+        assert!(rt; nothing.equal(&Lives::bottom(rt.alloc())));
+        assert!(rt; nothing.entries().is_empty());
+        Ok(())
+    }
+}
