@@ -1,5 +1,5 @@
 -- The greatest claim of each application.
-use Rattle.std.specs.Prelude.{◌≡◌, ℕ, Option, None, Some, refl}
+use Rattle.std.specs.Prelude.{◌≡◌, ℕ, List, Option, None, Some, refl}
 use Rattle.std.proofs.Common.{zero, suc, ap}
 use Rattle.std.specs.declared.cmp.Ordering.{Ordering}
 use Rattle.std.specs.Ordering.{nat_cmp, ordering_then}
@@ -16,6 +16,7 @@ use Rattle.dac_base.specs.Ids.{app_cmp, node_cmp, nodes_total, exact_nodes, code
 use Rattle.dac_dots.specs.declared.dot.Dot.{Dot}
 use Rattle.dac_dots.specs.declared.dot.Origin.{Origin}
 use Rattle.dac_dots.specs.Dots.{origin_cmp, origins_total, exact_origins, coded_origin}
+use Rattle.dac_chains.specs.Greatest.{IsGreatest, IsSaid}
 use Rattle.dac_chains.specs.declared.claims.How.{How}
 use Rattle.dac_chains.specs.declared.claims.How.TheVariants.{Normal, Failover, Takeover}
 use Rattle.dac_chains.specs.declared.claims.Claim.{Claim}
@@ -48,6 +49,14 @@ Claims = map.FinMap app_cmp Claim
 abbrev pub said_claim : Dot → ClaimAct → Option (AppId × Claim)
 said_claim d (Claimed app term how from) = Some (app, record { term = term; origin = d.origin; how = how; from = from })
 said_claim d Other = None
+
+-- the greatest claim of an application by some operations, and none where they don't claim it
+abbrev pub IsGreatestClaimOf : AppId → List (Dot × ClaimAct) → Option Claim → Type 0
+IsGreatestClaimOf app os claim = IsGreatest claim_cmp (IsSaid said_claim os app) claim
+
+-- each application has its greatest claim by the operations
+abbrev pub AreGreatestClaims : List (Dot × ClaimAct) → Claims → Type 0
+AreGreatestClaims os claims = (app : AppId) → IsGreatestClaimOf app os (map.get claims app)
 
 -- ---- laws
 

@@ -1,5 +1,5 @@
 -- The life of each node: the greatest of what was said of it, by incarnation, and Up below Down at one incarnation. So who went down stays down until it comes up as a later incarnation.
-use Rattle.std.specs.Prelude.{◌≡◌, ℕ, Option, None, Some, option_and_then, refl}
+use Rattle.std.specs.Prelude.{◌≡◌, ℕ, List, Option, None, Some, option_and_then, refl}
 use Rattle.std.proofs.Common.{ap}
 use Rattle.std.specs.declared.cmp.Ordering.{Ordering}
 use Rattle.std.specs.Ordering.{nat_cmp, ordering_then}
@@ -14,6 +14,7 @@ use Rattle.dac_dots.specs.declared.dot.Dot.{Dot}
 use Rattle.dac_lattice.specs.declared.flags.Flag.{Flag}
 use Rattle.dac_lattice.specs.declared.flags.Flag.TheVariants.{Up, Down}
 use Rattle.dac_lattice.specs.Flags.{flag_cmp, flags_total, coded_flag}
+use Rattle.dac_chains.specs.Greatest.{IsGreatest, IsSaid}
 use Rattle.dac_chains.specs.declared.lives.Life.{Life}
 use Rattle.dac_chains.specs.declared.lives.LifeAct.{LifeAct}
 use Rattle.dac_chains.specs.declared.lives.LifeAct.TheVariants.{Up as CameUp, Down as WentDown, Other}
@@ -31,6 +32,14 @@ abbrev pub said_life : Dot → LifeAct → Option (NodeId × Life)
 said_life d CameUp = Some (d.origin.node, record { inc = d.origin.inc; flag = Up })
 said_life d (WentDown n i) = Some (n, record { inc = i; flag = Down })
 said_life d Other = None
+
+-- the life of node n by some operations: the greatest that they say of it, and none where they say nothing
+abbrev pub IsLifeOf : NodeId → List (Dot × LifeAct) → Option Life → Type 0
+IsLifeOf n os life = IsGreatest life_cmp (IsSaid said_life os n) life
+
+-- each node has its life by the operations
+abbrev pub AreLives : List (Dot × LifeAct) → Lives → Type 0
+AreLives os lives = (n : NodeId) → IsLifeOf n os (map.get lives n)
 
 -- incarnation i of node n is live: the life of the node says that it is up
 abbrev pub IsLive : Lives → NodeId → ℕ → Type 0

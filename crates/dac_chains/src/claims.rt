@@ -172,8 +172,8 @@ impl Bottom for Claims {
 
 impl Piece for Claims {
     ghost use Rattle.dac_base.specs.Ids.{apps_total, exact_apps};
-    ghost use Rattle.dac_chains.specs.Greatest.{AreGreatest, alone, greatest_piece};
-    ghost use Rattle.dac_chains.specs.Claims.{how_cmp, claim_cmp, claims_total, exact_hows, exact_claims, said_claim};
+    ghost use Rattle.dac_chains.specs.Greatest.{alone, greatest_piece};
+    ghost use Rattle.dac_chains.specs.Claims.{AreGreatestClaims, how_cmp, claims_total, exact_hows, exact_claims, said_claim};
 
     type Act = ClaimAct;
 
@@ -181,7 +181,7 @@ impl Piece for Claims {
 
     ghost delta = { λ dot act. alone (said_claim dot act) };
 
-    ghost means = { AreGreatest claim_cmp said_claim };
+    ghost means = { AreGreatestClaims };
 
     ghost piece_laws = { greatest_piece apps_total exact_apps claims_total (exact_claims how_cmp exact_hows) said_claim };
 

@@ -170,8 +170,8 @@ impl Bottom for Lives {
 impl Piece for Lives {
     ghost use Rattle.dac_base.specs.Ids.{nodes_total, exact_nodes};
     ghost use Rattle.dac_lattice.specs.Flags.{flag_cmp, flags_exact};
-    ghost use Rattle.dac_chains.specs.Greatest.{AreGreatest, alone, greatest_piece};
-    ghost use Rattle.dac_chains.specs.Lives.{life_cmp, lives_total, exact_lives, said_life};
+    ghost use Rattle.dac_chains.specs.Greatest.{alone, greatest_piece};
+    ghost use Rattle.dac_chains.specs.Lives.{AreLives, lives_total, exact_lives, said_life};
 
     type Act = LifeAct;
 
@@ -179,7 +179,7 @@ impl Piece for Lives {
 
     ghost delta = { λ dot act. alone (said_life dot act) };
 
-    ghost means = { AreGreatest life_cmp said_life };
+    ghost means = { AreLives };
 
     ghost piece_laws = { greatest_piece nodes_total exact_nodes lives_total (exact_lives flag_cmp flags_exact) said_life };
 
