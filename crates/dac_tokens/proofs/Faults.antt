@@ -10,7 +10,7 @@ use Rattle.dac_tokens.specs.declared.token.Symbol.TheVariants.{OpenList, CloseLi
 use Rattle.dac_tokens.specs.Faults.{IsTokenFault}
 use Rattle.dac_tokens.specs.Gives.{◌>>=◌, UnlessMemory}
 use Rattle.dac_tokens.specs.Words.{Word, Mark, Name, Number, Text, End, Located}
-use Rattle.dac_tokens.specs.Scan.{after_blanks, class_of, ends_stop, number_at, token_of, word_at, bad_token, unsupported}
+use Rattle.dac_tokens.specs.Scan.{after_gap, class_of, ends_stop, number_at, token_of, word_at, bad_token, unsupported}
 use Rattle.dac_tokens.specs.Stream.{depth_after, token_from}
 
 -- what holds at all holds unless memory ran out
@@ -68,7 +68,7 @@ depth_faults at depth End = tt
 pub reading_faults : (end depth : ℕ) (bytes : List ℕ) → FailsAsToken (token_from end depth bytes)
 unfolding token_from
 reading_faults end depth bytes =
-    let rest = after_blanks bytes in
+    let rest = after_gap false bytes in
     let at = end - length rest in
     then_faults (word_at at rest) _ (word_faults at rest) (λ word. then_faults (depth_after at depth word.0) _ (depth_faults at depth word.0) (λ after. tt))
 

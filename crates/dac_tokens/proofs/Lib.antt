@@ -1,5 +1,6 @@
 pub mod Bytes
 pub mod Faults
+pub mod Gaps
 pub mod Runs
 pub mod Shorter
 pub mod Spelling

@@ -9,15 +9,13 @@ use Rattle.dac_tokens.specs.declared.token.Class.{Class}
 use Rattle.dac_tokens.specs.declared.token.Class.TheVariants as class
 use Rattle.dac_tokens.specs.Words.{Word, Mark, Name, Number, End, is_end, Located}
 use Rattle.dac_tokens.proofs.Runs.{true_false}
-use Rattle.dac_tokens.specs.Scan.{is_blank, after_blanks, class_of, is_name_byte, run, ends_stop, bad_token, atom_at, number_at, token_of, word_at}
+use Rattle.dac_tokens.specs.Scan.{after_gap, class_of, is_name_byte, run, ends_stop, bad_token, atom_at, number_at, token_of, word_at}
 use Rattle.std.proofs.lemmas.Result.{IfOk-weaker, IfOk-at_ok}
 use Rattle.dac_tokens.specs.Gives.{◌>>=◌, Fails}
 use Rattle.dac_tokens.proofs.Faults.{unless_memory}
+use Rattle.dac_tokens.proofs.Gaps.{length_after_gap}
 use Rattle.dac_tokens.specs.Stream.{Stream, depth_after, token_from, and_then, tokens_within, tokens_of, taken}
 use Rattle.dac_tokens.specs.declared.token.Symbol.TheVariants.{FullStop}
-
-pub after_blanks-short : (bs : List ℕ) → length (after_blanks bs) ≤ length bs
-after_blanks-short bs = omega (arith, length-drop (run is_blank bs) bs)
 
 pub letter_is_name : (b : ℕ) → class_of b ≡ class.Letter → is_name_byte b ≡ true
 letter_is_name b e = grind (arith, nat_tests)
@@ -88,7 +86,7 @@ first_of end depth n (b ∷ bs) le =
 
 pub token_is_first : (end depth : ℕ) (bytes : List ℕ) → IfOk (token_from end depth bytes) (IsFirst end (length bytes))
 unfolding token_from
-token_is_first end depth bytes = first_of end depth (length bytes) (after_blanks bytes) (after_blanks-short bytes)
+token_is_first end depth bytes = first_of end depth (length bytes) (after_gap false bytes) (length_after_gap false bytes)
 
 -- the tokens after the first matter only where there are any
 same_after : (end n : ℕ) (r : Result (Located × ℕ × List ℕ) ConfigFault) (f g : ℕ → List ℕ → Stream) → IfOk r (IsFirst end n) → ((depth : ℕ) (bytes : List ℕ) → length bytes < n → f depth bytes ≡ g depth bytes) → and_then r f ≡ and_then r g

@@ -1,5 +1,5 @@
 -- One token: what is read is spelled so, and what is spelled so is read.
-use Rattle.std.proofs.Common.{◌≡◌, ◌≢◌, inl, ℕ, zero, suc, ◌<◌, ◌≤◌, Bool, true, false, cond, eqb, List, [], ◌∷◌, ◌++◌, length, take, drop, Result, Ok, Err, refl, sym, ap, subst, ◌∙◌, arith}
+use Rattle.std.proofs.Common.{◌≡◌, ◌≢◌, inl, inr, ℕ, zero, suc, ◌<◌, ◌≤◌, Bool, true, false, cond, eqb, List, [], ◌∷◌, ◌++◌, length, take, drop, Result, Ok, Err, refl, sym, ap, subst, ◌∙◌, arith}
 use Rattle.std.specs.Prelude.{IfOk, All, codes}
 use Rattle.std.specs.Char.{is_ascii_digit, IsAsciiDigit, IsAsciiLowercase}
 use Rattle.std.proofs.lemmas.Bool.Decides.{nat_tests}
@@ -12,7 +12,7 @@ use Rattle.dac_tokens.specs.declared.token.Symbol.{Symbol}
 use Rattle.dac_tokens.specs.declared.token.Symbol.TheVariants.{OpenList, CloseList, OpenTuple, CloseTuple, Comma, FullStop}
 use Rattle.dac_tokens.specs.Words.{Word, Mark, Name, Number, Text, End, is_end}
 use Rattle.dac_tokens.specs.Scan.{class_of, is_name_byte, is_fun, run, ends_stop, breaks_number, bad_token, unsupported, atom_at, number_at, token_of, word_at}
-use Rattle.dac_tokens.specs.TokenGrammar.{IsBlank, IsNameByte, Begins, IsBareAtom, IsDigits, IsSpelledBy, GoesOnAsNumber, MayFollow}
+use Rattle.dac_tokens.specs.TokenGrammar.{StartsGap, IsNameByte, Begins, IsBareAtom, IsDigits, IsSpelledBy, GoesOnAsNumber, MayFollow}
 use Rattle.dac_tokens.proofs.Bytes.{tells_digit, tells_name_byte, tells_letter, letter_class, digit_class, tells_minus, tells_dot, tells_comma, tells_bracket, no_stop_bracket, tells_stop, tells_break, no_break}
 use Rattle.dac_tokens.proofs.Runs.{true_false, all_first, run_passes, run_stops, run_of, taken_run, dropped_run, taken_length}
 use Rattle.dac_tokens.proofs.Shorter.{run-first, letter_is_name, digit_is_digit}
@@ -187,23 +187,25 @@ own_some (Number true digits) own spelled = rw spelled.0 (omega arith)
 own_some Text own spelled = absurd spelled
 own_some End own spelled = absurd spelled
 
-small : {A : Type 0} (n : ℕ) → 33 ≤ n → n ≤ 32 → A
-small n le lu = absurd (omega arith)
+-- above a percent sign no gap begins
+pub high : {A : Type 0} (n : ℕ) → 38 ≤ n → StartsGap n → A
+high n le (inl blank) = absurd (omega arith)
+high n le (inr is) = absurd (omega arith)
 
-pub no_blank : (w : Word) (own rest : List ℕ) → IsSpelledBy w own → Begins IsBlank (own ++ rest) → ⊥
-no_blank (Mark OpenList) own rest spelled h = small 91 (omega arith) (rw spelled at h)
-no_blank (Mark CloseList) own rest spelled h = small 93 (omega arith) (rw spelled at h)
-no_blank (Mark OpenTuple) own rest spelled h = small 123 (omega arith) (rw spelled at h)
-no_blank (Mark CloseTuple) own rest spelled h = small 125 (omega arith) (rw spelled at h)
-no_blank (Mark Comma) own rest spelled h = small 44 (omega arith) (rw spelled at h)
-no_blank (Mark FullStop) own rest spelled h = small 46 (omega arith) (rw spelled at h)
-no_blank (Name []) own rest spelled h = spelled.1.begins
-no_blank (Name (b ∷ more)) own rest spelled h = let low : 97 ≤ b = spelled.1.begins.0 in small b (omega arith) (rw spelled.0 at h)
-no_blank (Number false []) own rest spelled h = spelled.1.begins
-no_blank (Number false (d ∷ ds)) own rest spelled h = let low : 48 ≤ d = spelled.1.begins.0 in small d (omega arith) (rw spelled.0 at h)
-no_blank (Number true digits) own rest spelled h = small 45 (omega arith) (rw spelled.0 at h)
-no_blank Text own rest spelled h = spelled
-no_blank End own rest spelled h = spelled
+pub no_gap : (w : Word) (own rest : List ℕ) → IsSpelledBy w own → Begins StartsGap (own ++ rest) → ⊥
+no_gap (Mark OpenList) own rest spelled h = high 91 (omega arith) (rw spelled at h)
+no_gap (Mark CloseList) own rest spelled h = high 93 (omega arith) (rw spelled at h)
+no_gap (Mark OpenTuple) own rest spelled h = high 123 (omega arith) (rw spelled at h)
+no_gap (Mark CloseTuple) own rest spelled h = high 125 (omega arith) (rw spelled at h)
+no_gap (Mark Comma) own rest spelled h = high 44 (omega arith) (rw spelled at h)
+no_gap (Mark FullStop) own rest spelled h = high 46 (omega arith) (rw spelled at h)
+no_gap (Name []) own rest spelled h = spelled.1.begins
+no_gap (Name (b ∷ more)) own rest spelled h = let low : 97 ≤ b = spelled.1.begins.0 in high b (omega arith) (rw spelled.0 at h)
+no_gap (Number false []) own rest spelled h = spelled.1.begins
+no_gap (Number false (d ∷ ds)) own rest spelled h = let low : 48 ≤ d = spelled.1.begins.0 in high d (omega arith) (rw spelled.0 at h)
+no_gap (Number true digits) own rest spelled h = high 45 (omega arith) (rw spelled.0 at h)
+no_gap Text own rest spelled h = spelled
+no_gap End own rest spelled h = spelled
 
 pub no_end : (w : Word) (own : List ℕ) → IsSpelledBy w own → is_end w ≡ false
 no_end (Mark symbol) own spelled = refl

@@ -18,12 +18,12 @@ use Rattle.dac_tokens.specs.Gives.{◌>>=◌}
 use Rattle.dac_tokens.specs.Words.{Word, Mark, Name, Number, Text, End, Located}
 use Rattle.dac_tokens.specs.Scan.{class_of, is_name_byte, is_fun, run, ends_stop, breaks_number, bad_token, unsupported, atom_at, number_at, token_of, word_at}
 use Rattle.dac_tokens.specs.Stream.{depth_after}
-use Rattle.dac_tokens.specs.TokenGrammar.{IsBlank, IsNameByte, Begins, IsDigits, bytes_of, IsSpelledBy, GoesOnAsNumber, MayFollow}
+use Rattle.dac_tokens.specs.TokenGrammar.{StartsGap, IsNameByte, Begins, IsDigits, bytes_of, IsSpelledBy, GoesOnAsNumber, MayFollow}
 use Rattle.dac_tokens.specs.TokenFaults.{IsOpening, IsRefused, IsUnknown, NoToken, LoneDot, LoneMinus, Unknown, Function, OtherNumber, Refused, TooDeep}
 use Rattle.dac_tokens.proofs.Bytes.{tells_digit, tells_name_byte, tells_letter, tells_digit_class, digit_class, tells_minus, tells_dot, tells_comma, tells_bracket, tells_stop}
 use Rattle.dac_tokens.proofs.Runs.{true_false, run_stops, run_of, run_none, taken_run, dropped_run}
 use Rattle.dac_tokens.proofs.Shorter.{run-first, digit_is_digit}
-use Rattle.dac_tokens.proofs.Spelling.{IsToken, suc_not_zero, stop_if, atom_if, number_if, negative_if, digits_of_run, no_blank}
+use Rattle.dac_tokens.proofs.Spelling.{IsToken, suc_not_zero, stop_if, atom_if, number_if, negative_if, digits_of_run, high, no_gap}
 
 goes_break : (rest : List ℕ) → (Begins IsAsciiDigit rest → ⊥) → GoesOnAsNumber rest → breaks_number rest ≡ true
 goes_break [] no_digit h = absurd h
@@ -50,8 +50,7 @@ refused_class b (inr (inr (inr (inr (inl e))))) = rw e refl
 refused_class b (inr (inr (inr (inr (inr (inl e)))))) = rw e refl
 refused_class b (inr (inr (inr (inr (inr (inr (inl e))))))) = rw e refl
 refused_class b (inr (inr (inr (inr (inr (inr (inr (inl e)))))))) = rw e refl
-refused_class b (inr (inr (inr (inr (inr (inr (inr (inr (inl e))))))))) = rw e refl
-refused_class b (inr (inr (inr (inr (inr (inr (inr (inr (inr h))))))))) = past_ascii b h
+refused_class b (inr (inr (inr (inr (inr (inr (inr (inr h)))))))) = past_ascii b h
 
 -- a byte of no other class
 unknown_class : (b : ℕ) → IsUnknown b → class_of b ≡ class.Unknown
@@ -75,9 +74,9 @@ is_unknown _ = false
 other_class : (b : ℕ) (c : Class) → class_of b ≡ class.Unknown → class_of b ≡ c → is_unknown c ≡ false → ⊥
 other_class b c e d other = true_false (ap is_unknown (sym e ∙ d) ∙ other)
 
-tells_unknown : (b : ℕ) → (IsBlank b → ⊥) → class_of b ≡ class.Unknown → IsUnknown b
-tells_unknown b no_blank e = record {
-  no_blank = no_blank;
+tells_unknown : (b : ℕ) → (StartsGap b → ⊥) → class_of b ≡ class.Unknown → IsUnknown b
+tells_unknown b no_start e = record {
+  no_gap = no_start;
   no_mark = λ symbol same. mark symbol same;
   no_letter = λ h. grind (arith, nat_tests);
   no_digit = λ h. grind (arith, nat_tests);
@@ -140,15 +139,15 @@ atom_stops at depth b bs true e =
     (refl, Function (drop n (b ∷ bs)) (sym (take-append-drop n (b ∷ bs)) ∙ ap (λ (xs : List ℕ). xs ++ drop n (b ∷ bs)) same) (run_stops is_name_byte IsNameByte tells_name_byte (b ∷ bs)))
 atom_stops at depth b bs false e = tt
 
-pub fault_found : (c : Class) (at depth b : ℕ) (bs : List ℕ) → (IsBlank b → ⊥) → class_of b ≡ c → IfStopped at depth (b ∷ bs) (token_of c at b bs)
-fault_found (class.Bracket symbol) at depth b bs no_blank e = tt
-fault_found class.Comma at depth b bs no_blank e = tt
-fault_found class.Dot at depth b bs no_blank e = dot_stops at depth b bs (tells_dot b e) (ends_stop bs) refl
-fault_found class.Letter at depth b bs no_blank e = atom_stops at depth b bs (is_fun (take (run is_name_byte (b ∷ bs)) (b ∷ bs))) refl
-fault_found class.Digit at depth b bs no_blank e = plain_stops at depth b bs e
-fault_found class.Minus at depth b bs no_blank e = minus_stops at depth b bs (tells_minus b e) (run is_ascii_digit bs) refl (eqb (run is_ascii_digit bs) 0) refl
-fault_found class.Refused at depth b bs no_blank e = (refl, Refused (tells_refused b e))
-fault_found class.Unknown at depth b bs no_blank e = (refl, Unknown (tells_unknown b no_blank e))
+pub fault_found : (c : Class) (at depth b : ℕ) (bs : List ℕ) → (StartsGap b → ⊥) → class_of b ≡ c → IfStopped at depth (b ∷ bs) (token_of c at b bs)
+fault_found (class.Bracket symbol) at depth b bs no_start e = tt
+fault_found class.Comma at depth b bs no_start e = tt
+fault_found class.Dot at depth b bs no_start e = dot_stops at depth b bs (tells_dot b e) (ends_stop bs) refl
+fault_found class.Letter at depth b bs no_start e = atom_stops at depth b bs (is_fun (take (run is_name_byte (b ∷ bs)) (b ∷ bs))) refl
+fault_found class.Digit at depth b bs no_start e = plain_stops at depth b bs e
+fault_found class.Minus at depth b bs no_start e = minus_stops at depth b bs (tells_minus b e) (run is_ascii_digit bs) refl (eqb (run is_ascii_digit bs) 0) refl
+fault_found class.Refused at depth b bs no_start e = (refl, Refused (tells_refused b e))
+fault_found class.Unknown at depth b bs no_start e = (refl, Unknown (tells_unknown b no_start e))
 
 too_deep : (at depth : ℕ) (bytes : List ℕ) → Begins IsOpening bytes → (c : Bool) → leb 64 depth ≡ c → IfStopped at depth bytes (cond c (unsupported {A = ℕ} at) (Ok (depth + 1)))
 too_deep at depth bytes begins true e = (refl, TooDeep (leb-true 64 depth e) begins)
@@ -249,31 +248,29 @@ stop_read at depth f bytes kind (OtherNumber negative digits own rest parts spel
 stop_read at depth f bytes kind (Refused h) = no_word at depth f bytes Unsupported (class_read class.Refused at bytes (record { kind = Unsupported; at = at }) (begins_with IsRefused (λ b. class_of b ≡ class.Refused) bytes refused_class h) (λ b bs. refl))
 stop_read at depth f bytes kind (TooDeep le h) = deep_read at depth f bytes le h
 
-below : {A : Type 0} (n : ℕ) → 33 ≤ n → n ≤ 32 → A
-below n le lu = absurd (omega arith)
+refused_starts : (b : ℕ) → IsRefused b → StartsGap b → ⊥
+refused_starts b r (inl blank) = grind arith
+refused_starts b r (inr is) = grind arith
 
-no_refused_blank : (b : ℕ) → IsRefused b → b ≤ 32 → ⊥
-no_refused_blank b h le = grind arith
-
--- no token begins with a blank, nor where nothing is left
-pub no_blank_stop : (depth : ℕ) (bytes : List ℕ) (kind : FaultKind) → NoToken depth bytes kind → Begins IsBlank bytes → ⊥
-no_blank_stop depth bytes kind (LoneDot rest parts h) b = below 46 (omega arith) (rw parts at b)
-no_blank_stop depth bytes kind (LoneMinus rest parts h) b = below 45 (omega arith) (rw parts at b)
-no_blank_stop depth bytes kind (Unknown h) b = both bytes h b
+-- behind a gap that ends no token begins with one, nor where nothing is left
+pub no_gap_stop : (depth : ℕ) (bytes : List ℕ) (kind : FaultKind) → NoToken depth bytes kind → Begins StartsGap bytes → ⊥
+no_gap_stop depth bytes kind (LoneDot rest parts h) g = high 46 (omega arith) (rw parts at g)
+no_gap_stop depth bytes kind (LoneMinus rest parts h) g = high 45 (omega arith) (rw parts at g)
+no_gap_stop depth bytes kind (Unknown h) g = both bytes h g
   where
-    both : (bs : List ℕ) → Begins IsUnknown bs → Begins IsBlank bs → ⊥
-    both [] u b = u
-    both (x ∷ xs) u b = u.no_blank b
-no_blank_stop depth bytes kind (Function rest parts h) b = below 102 (omega arith) (rw parts at b)
-no_blank_stop depth bytes kind (OtherNumber negative digits own rest parts spelled h goes) b = no_blank (Number negative digits) own rest spelled (rw parts at b)
-no_blank_stop depth bytes kind (Refused h) b = both bytes h b
+    both : (bs : List ℕ) → Begins IsUnknown bs → Begins StartsGap bs → ⊥
+    both [] u g = u
+    both (x ∷ xs) u g = u.no_gap g
+no_gap_stop depth bytes kind (Function rest parts h) g = high 102 (omega arith) (rw parts at g)
+no_gap_stop depth bytes kind (OtherNumber negative digits own rest parts spelled h goes) g = no_gap (Number negative digits) own rest spelled (rw parts at g)
+no_gap_stop depth bytes kind (Refused h) g = both bytes h g
   where
-    both : (bs : List ℕ) → Begins IsRefused bs → Begins IsBlank bs → ⊥
-    both [] r b = r
-    both (x ∷ xs) r b = no_refused_blank x r b
-no_blank_stop depth bytes kind (TooDeep le h) b = both bytes h b
+    both : (bs : List ℕ) → Begins IsRefused bs → Begins StartsGap bs → ⊥
+    both [] r g = r
+    both (x ∷ xs) r g = refused_starts x r g
+no_gap_stop depth bytes kind (TooDeep le h) g = both bytes h g
   where
-    both : (bs : List ℕ) → Begins IsOpening bs → Begins IsBlank bs → ⊥
-    both [] o b = o
-    both (x ∷ xs) (inl e) b = below 91 (omega arith) (rw e at b)
-    both (x ∷ xs) (inr e) b = below 123 (omega arith) (rw e at b)
+    both : (bs : List ℕ) → Begins IsOpening bs → Begins StartsGap bs → ⊥
+    both [] o g = o
+    both (x ∷ xs) (inl e) g = high 91 (omega arith) (rw e at g)
+    both (x ∷ xs) (inr e) g = high 123 (omega arith) (rw e at g)

@@ -1,5 +1,5 @@
 -- The tokens of a text, one at a time, as they are read.
-use Rattle.std.specs.Prelude.{ℕ, Bool, true, false, ◌&&◌, ◌||◌, List, [], ◌∷◌, length, take, drop, Result, Ok, Err, nat_le, ◌==◌, if◌then◌else◌, codes}
+use Rattle.std.specs.Prelude.{ℕ, Bool, true, false, not, ◌&&◌, ◌||◌, List, [], ◌∷◌, length, take, drop, Result, Ok, Err, nat_le, ◌==◌, if◌then◌else◌, codes}
 use Rattle.std.specs.Str.{bytes_eq}
 use Rattle.std.specs.List.{take_while}
 use Rattle.std.specs.Char.{is_ascii_digit, is_ascii_alphanumeric}
@@ -18,9 +18,14 @@ run passes bs = length (take_while passes bs)
 abbrev pub is_blank : ℕ → Bool
 is_blank b = nat_le b 32
 
--- the bytes from the first that is no blank
-abbrev pub after_blanks : List ℕ → List ℕ
-after_blanks bs = drop (run is_blank bs) bs
+-- the bytes from the first that is neither blank nor in a comment, which goes on up to a line feed
+abbrev pub after_gap : Bool → List ℕ → List ℕ
+after_gap comment [] = []
+after_gap true (b ∷ bs) = after_gap (not (b == 10)) bs
+after_gap false (b ∷ bs) =
+    if b == 37 then after_gap true bs
+    else (if is_blank b then after_gap false bs
+    else b ∷ bs)
 
 -- what may begin with a byte
 abbrev pub class_of : ℕ → Class
@@ -34,7 +39,7 @@ class_of b =
     else (if b == 45 then class.Minus
     else (if nat_le 97 b && nat_le b 122 then class.Letter
     else (if nat_le 48 b && nat_le b 57 then class.Digit
-    else (if b == 39 || b == 34 || b == 37 || b == 60 || b == 35 || b == 36 || b == 43 || b == 126 || b == 124 || nat_le 128 b then class.Refused
+    else (if b == 39 || b == 34 || b == 60 || b == 35 || b == 36 || b == 43 || b == 126 || b == 124 || nat_le 128 b then class.Refused
     else class.Unknown)))))))))
 
 -- what a bare atom may go on with

@@ -1,5 +1,5 @@
 -- Where no token begins, and why: the table of the faults of tokens, whatever a reader does.
-use Rattle.std.specs.Prelude.{◌≡◌, ◌≢◌, ◌⊎◌, ℕ, ◌+◌, ◌≤◌, Bool, List, [], ◌∷◌, ◌++◌, length, All, codes}
+use Rattle.std.specs.Prelude.{◌≡◌, ◌≢◌, ◌⊎◌, ℕ, ◌+◌, ◌≤◌, Bool, List, [], ◌∷◌, ◌++◌, length, codes}
 use Rattle.std.specs.Char.{IsAsciiDigit, IsAsciiLowercase}
 use Rattle.dac_tokens.specs.declared.fault.FaultKind.{FaultKind}
 use Rattle.dac_tokens.specs.declared.fault.FaultKind.TheVariants.{BadToken, Unsupported}
@@ -7,20 +7,20 @@ use Rattle.dac_tokens.specs.declared.fault.ConfigFault.{ConfigFault}
 use Rattle.dac_tokens.specs.declared.token.Symbol.{Symbol}
 use Rattle.dac_tokens.specs.declared.token.Symbol.TheVariants.{FullStop}
 use Rattle.dac_tokens.specs.Words.{Mark, Number, Located}
-use Rattle.dac_tokens.specs.TokenGrammar.{IsBlank, IsNameByte, Begins, bytes_of, IsSpelledBy, GoesOnAsNumber, MayFollow, IsNextToken, depth_behind}
+use Rattle.dac_tokens.specs.TokenGrammar.{StartsGap, IsGap, IsNameByte, Begins, bytes_of, IsSpelledBy, GoesOnAsNumber, MayFollow, IsNextToken, depth_behind}
 
 -- an opening bracket
 abbrev pub IsOpening : ℕ → Type 0
 IsOpening b = (b ≡ 91) ⊎ (b ≡ 123)
 
--- a byte with which something of Erlang begins that isn't read: a quote, `%`, `<`, `#`, `$`, `+`, `~`, `|`, or one past ASCII
+-- a byte with which something of Erlang begins that isn't read: a quote, `<`, `#`, `$`, `+`, `~`, `|`, or one past ASCII
 abbrev pub IsRefused : ℕ → Type 0
 IsRefused b =
-    (b ≡ 39) ⊎ (b ≡ 34) ⊎ (b ≡ 37) ⊎ (b ≡ 60) ⊎ (b ≡ 35) ⊎ (b ≡ 36) ⊎ (b ≡ 43) ⊎ (b ≡ 126) ⊎ (b ≡ 124) ⊎ (128 ≤ b)
+    (b ≡ 39) ⊎ (b ≡ 34) ⊎ (b ≡ 60) ⊎ (b ≡ 35) ⊎ (b ≡ 36) ⊎ (b ≡ 43) ⊎ (b ≡ 126) ⊎ (b ≡ 124) ⊎ (128 ≤ b)
 
 -- a byte with which nothing begins
 pub record IsUnknown (b : ℕ) : Type 0 where
-  pub no_blank : ¬ IsBlank b
+  pub no_gap : ¬ StartsGap b
   pub no_mark : (symbol : Symbol) → b ∷ [] ≢ bytes_of symbol
   pub no_letter : ¬ IsAsciiLowercase b
   pub no_digit : ¬ IsAsciiDigit b
@@ -37,13 +37,13 @@ pub data NoToken (depth : ℕ) (bytes : List ℕ) : FaultKind → Type 0 where
   Refused : Begins IsRefused bytes → NoToken depth bytes Unsupported
   TooDeep : 64 ≤ depth → Begins IsOpening bytes → NoToken depth bytes Unsupported
 
--- Bytes that begin at the offset `at` have this fault behind blanks.
+-- Bytes that begin at the offset `at` have this fault behind a gap.
 pub record IsFaultAt (at depth : ℕ) (bytes : List ℕ) (e : ConfigFault) : Type 0 where
-  pub blanks : List ℕ
+  pub gap : List ℕ
   pub rest : List ℕ
-  pub parts : bytes ≡ blanks ++ rest
-  pub blank : All IsBlank blanks
-  pub place : e.at ≡ at + length blanks
+  pub parts : bytes ≡ gap ++ rest
+  pub is_gap : IsGap gap
+  pub place : e.at ≡ at + length gap
   pub fault : NoToken depth rest e.kind
 
 -- bytes that begin at the offset `at`, with so many brackets open, are these tokens up to this fault

@@ -9,6 +9,25 @@ use Rattle.dac_tokens.specs.Words.{Word, Mark, Name, Number, Text, End, Located}
 abbrev pub IsBlank : ℕ → Type 0
 IsBlank b = b ≤ 32
 
+-- a byte with which a gap begins: a blank, or the percent sign of a comment
+abbrev pub StartsGap : ℕ → Type 0
+StartsGap b = IsBlank b ⊎ (b ≡ 37)
+
+-- bytes within one line
+abbrev pub IsLine : List ℕ → Type 0
+IsLine bytes = All (λ b. b ≢ 10) bytes
+
+-- what may stand before a token: blanks, and comments from a percent sign to the line feed
+pub data IsGap : List ℕ → Type 0 where
+  Nothing : IsGap []
+  Blank : (b : ℕ) (more : List ℕ) → IsBlank b → IsGap more → IsGap (b ∷ more)
+  Comment : (line more : List ℕ) → IsLine line → IsGap more → IsGap (37 ∷ (line ++ 10 ∷ more))
+
+-- what may stand behind the last token: a gap, and then possibly a comment up to the end of the text
+pub data IsLastGap (bytes : List ℕ) : Type 0 where
+  Closed : IsGap bytes → IsLastGap bytes
+  Open : (gap line : List ℕ) → bytes ≡ gap ++ 37 ∷ line → IsGap gap → IsLine line → IsLastGap bytes
+
 -- an ASCII letter or digit, `_` or `@`
 abbrev pub IsNameByte : ℕ → Type 0
 IsNameByte b = IsAsciiAlphanumeric b ⊎ (b ≡ 95) ⊎ (b ≡ 64)
@@ -54,26 +73,26 @@ GoesOnAsNumber (b ∷ bs) = IsAsciiDigit b ⊎ (b ≡ 35) ⊎ (b ≡ 95) ⊎ ((b
 -- What may stand behind a token. An atom and a number are as long as they can be; a dot is the full stop
 -- only before a blank, a comment's percent sign or the end of the text.
 abbrev pub MayFollow : Word → List ℕ → Type 0
-MayFollow (Mark FullStop) rest = (rest ≡ []) ⊎ Begins (λ b. IsBlank b ⊎ (b ≡ 37)) rest
+MayFollow (Mark FullStop) rest = (rest ≡ []) ⊎ Begins StartsGap rest
 MayFollow (Mark _) rest = Unit {0}
 MayFollow (Name name) rest = ¬ Begins IsNameByte rest
 MayFollow (Number negative digits) rest = ¬ GoesOnAsNumber rest
 MayFollow Text rest = Unit {0}
 MayFollow End rest = Unit {0}
 
--- Of bytes that begin at the offset `at`, the first token, its own bytes and the rest behind it: blanks may
+-- Of bytes that begin at the offset `at`, the first token, its own bytes and the rest behind it: a gap may
 -- stand before it, and its place is the number of bytes before its own.
 pub record IsNextToken (at : ℕ) (bytes : List ℕ) (t : Located) (own rest : List ℕ) : Type 0 where
-  pub blanks : List ℕ
-  pub parts : bytes ≡ blanks ++ (own ++ rest)
-  pub blank : All IsBlank blanks
-  pub place : t.at ≡ at + length blanks
+  pub gap : List ℕ
+  pub parts : bytes ≡ gap ++ (own ++ rest)
+  pub is_gap : IsGap gap
+  pub place : t.at ≡ at + length gap
   pub spelled : IsSpelledBy t.word own
   pub follows : MayFollow t.word rest
 
--- bytes that begin at the offset `at` are these tokens one after another, and behind them blanks alone
+-- bytes that begin at the offset `at` are these tokens one after another, and behind them at most a gap
 abbrev pub AreSpelled : ℕ → List ℕ → List Located → Type 0
-AreSpelled at bytes [] = All IsBlank bytes
+AreSpelled at bytes [] = IsLastGap bytes
 AreSpelled at bytes (t ∷ ts) = (own rest : List ℕ) × IsNextToken at bytes t own rest × AreSpelled (t.at + length own) rest ts
 
 -- how many brackets are open behind a token, where so many were before it

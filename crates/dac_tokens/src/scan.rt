@@ -1,9 +1,9 @@
 //! One token, from the bytes that begin with it.
 
-ghost use Rattle.std.specs.Prelude.{◌≡◌, ◌+◌, ◌^◌, ◌<◌, ◌≤◌, length, take, drop};
+ghost use Rattle.std.specs.Prelude.{◌≡◌, ◌+◌, ◌^◌, ◌<◌, ◌≤◌, false, length, take, drop};
 ghost use Rattle.std.specs.Char.{is_ascii_digit};
 ghost use Rattle.dac_tokens.specs.Gives.{Reads};
-ghost use Rattle.dac_tokens.specs.Scan.{is_blank, after_blanks, class_of, is_name_byte, run, ends_stop, breaks_number, atom_at, number_at, negative_at, word_at};
+ghost use Rattle.dac_tokens.specs.Scan.{after_gap, class_of, is_name_byte, run, ends_stop, breaks_number, atom_at, number_at, negative_at, word_at};
 ghost use Rattle.dac_tokens.specs.Words.{word_of};
 
 use crate::fault::{ConfigFault, FaultKind};
@@ -15,24 +15,28 @@ pub fn fault(kind: FaultKind, at: usize) -> ConfigFault
     ConfigFault { kind, at }
 }
 
-fn blanks_len(bytes: &[u8]) -> usize
-    ensures length { result ≡ run is_blank bytes.now }
-    ensures within { result ≤ length bytes.now }
-{
-    bytes.iter().take_while(|b| **b <= b' ').count()
-}
-
-/// The bytes from the first that is no blank.
-pub fn after_blanks(bytes: &[u8]) -> &[u8]
-    ensures rest { result.now ≡ after_blanks bytes.now }
+/// The bytes from the first that is neither blank nor in a comment.
+#[tactic(auto, using(crate::proofs::Gaps::length_after_gap))]
+pub fn after_gap(bytes: &[u8]) -> &[u8]
+    ensures rest { result.now ≡ after_gap false bytes.now }
     ensures within { length result.now ≤ length bytes.now }
 {
-    let (_blanks, rest) = bytes.split_at(blanks_len(bytes));
+    let mut rest = bytes;
+    let mut comment = false;
+    while let [b, tail @ ..] = rest {
+        if comment {
+            comment = *b != b'\n';
+        } else if *b == b'%' {
+            comment = true;
+        } else if *b > b' ' {
+            break;
+        }
+        rest = tail;
+    }
     rest
 }
 
-/// What may begin with a byte. Quotes and the percent sign are refused as long as quoted atoms, strings
-/// and comments aren't read.
+/// What may begin with a byte. Quotes are refused as long as quoted atoms and strings aren't read.
 fn class_of(b: u8) -> Class
     ensures { result ≡ class_of b }
 {
@@ -46,7 +50,7 @@ fn class_of(b: u8) -> Class
         b'-' => Class::Minus,
         b'a'..=b'z' => Class::Letter,
         b'0'..=b'9' => Class::Digit,
-        b'\'' | b'"' | b'%' | b'<' | b'#' | b'$' | b'+' | b'~' | b'|' | 0x80.. => Class::Refused,
+        b'\'' | b'"' | b'<' | b'#' | b'$' | b'+' | b'~' | b'|' | 0x80.. => Class::Refused,
         _ => Class::Unknown,
     }
 }
@@ -122,7 +126,7 @@ fn negative_at(at: usize, bytes: &[u8]) -> Result<(Token<'_>, &[u8]), ConfigFaul
     number_at(at, true, bytes)
 }
 
-/// The token at the front of bytes that begin at `at` with no blank before it, and the bytes behind it.
+/// The token at the front of bytes that begin at `at` with no gap before it, and the bytes behind it.
 #[tactic(auto, unfolding(crate::specs::Scan::word_at))]
 pub fn token_at(at: usize, bytes: &[u8]) -> Result<(Token<'_>, &[u8]), ConfigFault>
     requires { at + length bytes.now < 2 ^ 64 }

@@ -50,7 +50,7 @@ pub struct Located<'a> {
     pub at: usize,
 }
 
-/// What may begin with a byte that is no blank.
+/// What may begin with a byte behind a gap.
 #[derive(Clone, Copy, Debug, PartialEq, Eq)]
 pub enum Class {
     Bracket(Symbol),
