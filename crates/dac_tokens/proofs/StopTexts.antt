@@ -31,7 +31,7 @@ step_stops at end depth bytes (b ∷ bs) left whole =
     let passed : IsPassed bytes (b ∷ bs) = gap_before bytes b bs left in
     let there : (e : ConfigFault) → StopsThere place depth (b ∷ bs) e → IsFaultAt at depth bytes e = λ e h.
     (let size = ap length passed.parts ∙ length-append passed.gap (b ∷ bs) in
-    record { gap = passed.gap; rest = b ∷ bs; parts = passed.parts; is_gap = passed.is_gap; place = omega (arith, size, whole, h.0); fault = h.1 }) in
+    record { gap = passed.gap; rest = b ∷ bs; parts = passed.parts; is_gap = passed.is_gap; behind = h.0; place = omega (arith, size, whole, h.1); fault = h.2 }) in
     then_if_err (λ x. IsToken (b ∷ bs) x.0 x.1) (IsFaultAt at depth bytes) (token_of (class_of b) place b bs) _ (token_found (class_of b) place b bs refl)
     (if_err_weaker (StopsThere place depth (b ∷ bs)) (IsFaultAt at depth bytes) (token_of (class_of b) place b bs) there (fault_found (class_of b) place depth b bs passed.stops refl))
     (λ word h. then_if_err (λ _. Unit {0}) (IsFaultAt at depth bytes) (depth_after place depth word.0) _ (any (depth_after place depth word.0))
@@ -45,12 +45,13 @@ first_stops at end depth bytes whole = step_stops at end depth bytes (after_gap 
 first_fault : (at end depth : ℕ) (bytes : List ℕ) (e : ConfigFault) → IsFaultAt at depth bytes e → at + length bytes ≡ end → token_from end depth bytes ≡ Err e
 unfolding token_from
 first_fault at end depth bytes e h whole =
-    let left : after_gap false bytes ≡ h.rest = rw h.parts (gap_read h.gap h.rest h.is_gap (no_gap_stop depth h.rest e.kind h.fault)) in
+    let left : after_gap false bytes ≡ h.rest = rw h.parts (gap_read h.gap h.rest h.is_gap (no_gap_stop depth h.rest h.behind e.kind h.fault)) in
     let size = ap length h.parts ∙ length-append h.gap h.rest in
-    let place : end - length h.rest ≡ e.at = omega (arith, size, whole, h.place) in
+    let at' = end - length h.rest in
+    let place : at' + h.behind ≡ e.at = omega (arith, size, whole, h.place) in
     ap (λ (r : List ℕ). step end depth (end - length r) r) left
-    ∙ ap (λ (k : ℕ). step end depth k h.rest) place
-    ∙ stop_read e.at depth (λ word after. Ok (record { word = word.0; at = e.at }, after, word.1)) h.rest e.kind h.fault
+    ∙ stop_read at' depth (λ word after. Ok (record { word = word.0; at = at' }, after, word.1)) h.rest h.behind e.kind h.fault
+    ∙ ap (λ (k : ℕ). Err (record { kind = e.kind; at = k })) place
 
 abbrev IfStops : ℕ → ℕ → List ℕ → Stream → Type 0
 IfStops at depth bytes s = IfErr s.last (λ e. StopAt at depth bytes s.tokens e)
@@ -87,11 +88,11 @@ within_fault (t ∷ ts) (suc n) at end depth bytes e lt whole stop =
     let next : IsNextToken at bytes t own rest = stop.2 in
     let size = ap length next.parts ∙ length-append next.gap (own ++ rest) in
     let inner = length-append own rest in
-    let some = own_some t.word own next.spelled in
+    let some = own_some t.word own rest next.spelled in
     let more : tokens_within n end (depth_behind depth t.word) rest ≡ stopped ts e = within_fault ts n (t.at + length own) end (depth_behind depth t.word) rest e (omega (arith, size, inner, some)) (omega (arith, size, inner, next.place, whole)) stop.4 in
     let joined : Stream → Bool → Stream = λ s c. cond c (record { tokens = []; last = Ok t }) (record { tokens = t ∷ s.tokens; last = s.last }) in
     ap (λ (r : Result (Located × ℕ × List ℕ) ConfigFault). and_then r (tokens_within n end)) (first_read at end depth bytes t own rest next whole stop.3)
-    ∙ ap (joined (tokens_within n end (depth_behind depth t.word) rest)) (no_end t.word own next.spelled)
+    ∙ ap (joined (tokens_within n end (depth_behind depth t.word) rest)) (no_end t.word own rest next.spelled)
     ∙ ap (λ (s : Stream). joined s false) more
 
 stop_found : (text : List ℕ) (ts : List Located) (e : ConfigFault) → tokens_of (length text) 0 text ≡ stopped ts e → StopAt 0 0 text ts e

@@ -9,7 +9,7 @@ use Rattle.dac_tokens.specs.Gives.{◌>>=◌}
 use Rattle.dac_tokens.specs.Words.{Word, Mark, Name, Number, Text, End, is_end, Located}
 use Rattle.dac_tokens.specs.Scan.{after_gap, class_of, unsupported, token_of, word_at}
 use Rattle.dac_tokens.specs.Stream.{Stream, depth_after, opened, token_from, and_then, tokens_within, tokens_of, end_at, ended}
-use Rattle.dac_tokens.specs.TokenGrammar.{IsLastGap, IsSpelledBy, MayFollow, IsNextToken, AreSpelled, depth_behind, NestWell, AreTokensOf}
+use Rattle.dac_tokens.specs.TokenGrammar.{IsLastGap, Spells, IsNextToken, AreSpelled, depth_behind, NestWell, AreTokensOf}
 use Rattle.dac_tokens.proofs.Gaps.{IsPassed, last_gap, gap_before, gap_read, last_read}
 use Rattle.dac_tokens.proofs.Runs.{true_false}
 use Rattle.dac_tokens.proofs.Shorter.{IsFirst, token_is_first, bind_if_ok}
@@ -79,7 +79,7 @@ step_found at end depth bytes (b ∷ bs) left whole le =
     let size = ap length passed.parts ∙ length-append passed.gap (b ∷ bs) in
     let own_size = ap length h.parts ∙ length-append h.own word.1 in
     record {
-      ends = λ e. true_false (sym e ∙ no_end word.0 h.own h.spelled);
+      ends = λ e. true_false (sym e ∙ no_end word.0 h.own word.1 h.spelled);
       goes_on = λ e. record {
         own = h.own;
         token = record {
@@ -88,7 +88,6 @@ step_found at end depth bytes (b ∷ bs) left whole le =
           is_gap = passed.is_gap;
           place = omega (arith, size, whole);
           spelled = h.spelled;
-          follows = h.follows;
         };
         deeper = d.0;
         within = d.1;
@@ -100,9 +99,9 @@ pub first_found : (at end depth : ℕ) (bytes : List ℕ) → at + length bytes 
 unfolding token_from
 first_found at end depth bytes whole le = step_found at end depth bytes (after_gap false bytes) refl whole le
 
-step_read : (end depth : ℕ) (t : Located) (own rest : List ℕ) → IsSpelledBy t.word own → MayFollow t.word rest → depth_behind depth t.word ≤ 64 → step end depth t.at (own ++ rest) ≡ Ok (t, depth_behind depth t.word, rest)
-step_read end depth t own rest spelled follows le =
-    ap (λ (r : Result (Word × List ℕ) ConfigFault). r >>= λ word. depth_after t.at depth word.0 >>= λ after. Ok (record { word = word.0; at = t.at }, after, word.1)) (token_read t.word t.at own rest spelled follows)
+step_read : (end depth : ℕ) (t : Located) (own rest : List ℕ) → Spells t.word own rest → depth_behind depth t.word ≤ 64 → step end depth t.at (own ++ rest) ≡ Ok (t, depth_behind depth t.word, rest)
+step_read end depth t own rest spelled le =
+    ap (λ (r : Result (Word × List ℕ) ConfigFault). r >>= λ word. depth_after t.at depth word.0 >>= λ after. Ok (record { word = word.0; at = t.at }, after, word.1)) (token_read t.word t.at own rest spelled)
     ∙ ap (λ (r : Result ℕ ConfigFault). r >>= λ after. Ok (record { word = t.word; at = t.at }, after, rest)) (depth_read t.at depth t.word le)
 
 pub first_read : (at end depth : ℕ) (bytes : List ℕ) (t : Located) (own rest : List ℕ) → IsNextToken at bytes t own rest → at + length bytes ≡ end → depth_behind depth t.word ≤ 64 → token_from end depth bytes ≡ Ok (t, depth_behind depth t.word, rest)
@@ -113,7 +112,7 @@ first_read at end depth bytes t own rest next whole le =
     let place : end - length (own ++ rest) ≡ t.at = omega (arith, size, whole, next.place) in
     ap (λ (r : List ℕ). step end depth (end - length r) r) left
     ∙ ap (λ (k : ℕ). step end depth k (own ++ rest)) place
-    ∙ step_read end depth t own rest next.spelled next.follows le
+    ∙ step_read end depth t own rest next.spelled le
 
 last_gap_read : (end depth : ℕ) (bytes : List ℕ) → IsLastGap bytes → token_from end depth bytes ≡ Ok (end_at end, depth, [])
 unfolding token_from word_at
@@ -170,11 +169,11 @@ within_read (t ∷ ts) (suc n) at end depth bytes lt whole spelled nested =
     let next : IsNextToken at bytes t own rest = spelled.2 in
     let size = ap length next.parts ∙ length-append next.gap (own ++ rest) in
     let inner = length-append own rest in
-    let some = own_some t.word own next.spelled in
+    let some = own_some t.word own rest next.spelled in
     let more : tokens_within n end (depth_behind depth t.word) rest ≡ ended end ts = within_read ts n (t.at + length own) end (depth_behind depth t.word) rest (omega (arith, size, inner, some)) (omega (arith, size, inner, next.place, whole)) spelled.3 nested.1 in
     let joined : Stream → Bool → Stream = λ s c. cond c (record { tokens = []; last = Ok t }) (record { tokens = t ∷ s.tokens; last = s.last }) in
     ap (λ (r : Result (Located × ℕ × List ℕ) ConfigFault). and_then r (tokens_within n end)) (first_read at end depth bytes t own rest next whole nested.0)
-    ∙ ap (joined (tokens_within n end (depth_behind depth t.word) rest)) (no_end t.word own next.spelled)
+    ∙ ap (joined (tokens_within n end (depth_behind depth t.word) rest)) (no_end t.word own rest next.spelled)
     ∙ ap (λ (s : Stream). joined s false) more
 
 -- what the tokens of a text are, where they go up to the end

@@ -3,7 +3,7 @@
 ghost use Rattle.std.specs.Prelude.{◌≡◌, ◌+◌, ◌^◌, ◌<◌, ◌≤◌, false, length, take, drop};
 ghost use Rattle.std.specs.Char.{is_ascii_digit};
 ghost use Rattle.dac_tokens.specs.Gives.{Reads};
-ghost use Rattle.dac_tokens.specs.Scan.{after_gap, class_of, is_name_byte, run, ends_stop, breaks_number, atom_at, number_at, negative_at, word_at};
+ghost use Rattle.dac_tokens.specs.Scan.{after_gap, class_of, is_name_byte, is_quotable, run, ends_stop, breaks_number, atom_at, number_at, negative_at, quoted_at, word_at};
 ghost use Rattle.dac_tokens.specs.Words.{word_of};
 
 use crate::fault::{ConfigFault, FaultKind};
@@ -36,7 +36,7 @@ pub fn after_gap(bytes: &[u8]) -> &[u8]
     rest
 }
 
-/// What may begin with a byte. Quotes are refused as long as quoted atoms and strings aren't read.
+/// What may begin with a byte. A double quote is refused as long as strings aren't read.
 fn class_of(b: u8) -> Class
     ensures { result ≡ class_of b }
 {
@@ -48,9 +48,10 @@ fn class_of(b: u8) -> Class
         b',' => Class::Comma,
         b'.' => Class::Dot,
         b'-' => Class::Minus,
+        b'\'' => Class::Quote,
         b'a'..=b'z' => Class::Letter,
         b'0'..=b'9' => Class::Digit,
-        b'\'' | b'"' | b'<' | b'#' | b'$' | b'+' | b'~' | b'|' | 0x80.. => Class::Refused,
+        b'"' | b'<' | b'#' | b'$' | b'+' | b'~' | b'|' | 0x80.. => Class::Refused,
         _ => Class::Unknown,
     }
 }
@@ -61,11 +62,25 @@ fn is_name_byte(b: u8) -> bool
     b.is_ascii_alphanumeric() || b == b'_' || b == b'@'
 }
 
+/// Whether a quoted atom may hold the byte.
+fn is_quotable(b: u8) -> bool
+    ensures { result ≡ is_quotable b }
+{
+    b >= b' ' && b != 0x7f && b != b'\'' && b != b'\\'
+}
+
 fn name_len(bytes: &[u8]) -> usize
     ensures length { result ≡ run is_name_byte bytes.now }
     ensures within { result ≤ length bytes.now }
 {
     bytes.iter().take_while(|b| is_name_byte(**b)).count()
+}
+
+fn quotable_len(bytes: &[u8]) -> usize
+    ensures length { result ≡ run is_quotable bytes.now }
+    ensures within { result ≤ length bytes.now }
+{
+    bytes.iter().take_while(|b| is_quotable(**b)).count()
 }
 
 fn digits_len(bytes: &[u8]) -> usize
@@ -104,6 +119,19 @@ fn atom_at(at: usize, bytes: &[u8]) -> Result<(Token<'_>, &[u8]), ConfigFault>
         return Err(fault(FaultKind::Unsupported, at));
     }
     Ok((Token::Atom(name), rest))
+}
+
+/// The quoted atom at `at` whose opening quote stands before the bytes.
+fn quoted_at(at: usize, bytes: &[u8]) -> Result<(Token<'_>, &[u8]), ConfigFault>
+    requires { at + 1 + length bytes.now < 2 ^ 64 }
+    ensures { Reads (λ x. (word_of x.0, x.1.now)) result (quoted_at at bytes.now) }
+{
+    let (name, rest) = bytes.split_at(quotable_len(bytes));
+    match rest {
+        [] => Err(fault(FaultKind::BadToken, at)),
+        [b'\'', rest @ ..] => Ok((Token::Atom(name), rest)),
+        [_, ..] => Err(fault(FaultKind::Unsupported, at + 1 + name.len())),
+    }
 }
 
 fn number_at(at: usize, negative: bool, bytes: &[u8]) -> Result<(Token<'_>, &[u8]), ConfigFault>
@@ -147,6 +175,7 @@ pub fn token_at(at: usize, bytes: &[u8]) -> Result<(Token<'_>, &[u8]), ConfigFau
         Class::Letter => atom_at(at, bytes),
         Class::Digit => number_at(at, false, bytes),
         Class::Minus => negative_at(at, rest),
+        Class::Quote => quoted_at(at, rest),
         Class::Refused => Err(fault(FaultKind::Unsupported, at)),
         Class::Unknown => Err(fault(FaultKind::BadToken, at)),
     }

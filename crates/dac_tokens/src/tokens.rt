@@ -96,9 +96,11 @@ impl<'a> Tokens<'a> {
     /// # Errors
     ///
     /// Where no token begins, at the first byte of what stands there. `Unsupported` for what Erlang has and
-    /// this doesn't read: a quote, `<`, `#`, `$`, `+`, `~`, `|`, a byte from 80 hexadecimal on, the word
-    /// `fun`, a number with a fraction, a base or underscores, and a 65th open bracket. `BadToken` for
-    /// anything else, as a dot that ends no term. Then nothing is taken: the next call answers the same.
+    /// this doesn't read: a double quote, `<`, `#`, `$`, `+`, `~`, `|`, a byte from 80 hexadecimal on, the
+    /// word `fun`, a number with a fraction, a base or underscores, and a 65th open bracket; and, at its own
+    /// place, the first backslash or control character between quotes. `BadToken` for anything else, as a
+    /// dot that ends no term or a quote that is never closed. Then nothing is taken: the next call answers
+    /// the same.
     pub fn next(&mut self) -> Result<Located<'a>, ConfigFault>
         ensures taken { Gives (λ x. (located_of x, self.new)) result (taken self.old) }
         ensures fault { IfErr result (λ e. IsTokenFault e.kind) }
