@@ -36,6 +36,9 @@ tells_minus b e = grind (arith, nat_tests)
 pub tells_quote : (b : ℕ) → class_of b ≡ class.Quote → b ≡ 39
 tells_quote b e = grind (arith, nat_tests)
 
+pub tells_double_quote : (b : ℕ) → class_of b ≡ class.DoubleQuote → b ≡ 34
+tells_double_quote b e = grind (arith, nat_tests)
+
 pub tells_dot : (b : ℕ) → class_of b ≡ class.Dot → b ≡ 46
 tells_dot b e = grind (arith, nat_tests)
 

@@ -86,13 +86,27 @@ IsBare name own rest = (own ≡ name) × IsBareAtom name × (¬ Begins IsNameByt
 abbrev pub IsQuoted : List ℕ → List ℕ → Type 0
 IsQuoted name own = (own ≡ codes "'" ++ (name ++ codes "'")) × All IsQuotable name
 
+-- What stands between the quotes of a string: a backslash takes the byte behind it along, which is not `^`,
+-- and any other byte but a double quote may stand there.
+pub data IsStringText : List ℕ → Type 0 where
+  Empty : IsStringText []
+  Plain : (b : ℕ) (more : List ℕ) → b ≢ 34 → b ≢ 92 → IsStringText more → IsStringText (b ∷ more)
+  Escape : (b : ℕ) (more : List ℕ) → b ≢ 94 → IsStringText more → IsStringText (92 ∷ b ∷ more)
+
+-- a string between double quotes; where it is empty no third one stands behind it
+pub record IsString (own rest : List ℕ) : Type 0 where
+  pub inner : List ℕ
+  pub parts : own ≡ 34 ∷ (inner ++ 34 ∷ [])
+  pub is_text : IsStringText inner
+  pub no_third : inner ≡ [] → ¬ Begins (λ b. b ≡ 34) rest
+
 -- a token is spelled by its own bytes where these bytes stand behind them: a number, too, is as long as it can be
 abbrev pub Spells : Word → List ℕ → List ℕ → Type 0
 Spells (Mark FullStop) own rest = (own ≡ codes ".") × EndsTerm rest
 Spells (Mark symbol) own rest = own ≡ bytes_of symbol
 Spells (Name name) own rest = IsBare name own rest ⊎ IsQuoted name own
 Spells (Number negative digits) own rest = IsNumber negative digits own × (¬ GoesOnAsNumber rest)
-Spells Text own rest = ⊥
+Spells Text own rest = IsString own rest
 Spells End own rest = ⊥
 
 -- Of bytes that begin at the offset `at`, the first token, its own bytes and the rest behind it: a gap may
