@@ -12,7 +12,7 @@ use Rattle.dac_tokens.specs.declared.token.Symbol.{Symbol}
 use Rattle.dac_tokens.specs.declared.token.Symbol.TheVariants.{OpenList, CloseList, OpenTuple, CloseTuple, Comma, FullStop}
 use Rattle.dac_tokens.specs.Words.{Word, Mark, Name, Number, Text, End, is_end}
 use Rattle.dac_tokens.specs.Scan.{class_of, is_name_byte, is_fun, run, ends_stop, breaks_number, bad_token, unsupported, atom_at, number_at, quoted_at, two_quotes, inside_string, string_at, token_of, word_at}
-use Rattle.dac_tokens.specs.TokenGrammar.{StartsGap, IsNameByte, Begins, IsBareAtom, IsQuotable, IsDigits, IsNumber, GoesOnAsNumber, IsBare, IsQuoted, Spells}
+use Rattle.dac_tokens.specs.TokenGrammar.{StartsGap, IsNameByte, Begins, IsBareAtom, IsDigits, IsNumber, GoesOnAsNumber, IsBare, IsQuoted, Spells}
 use Rattle.dac_tokens.proofs.Bytes.{tells_digit, tells_name_byte, tells_letter, letter_class, digit_class, tells_minus, tells_quote, tells_double_quote, tells_dot, tells_comma, tells_bracket, no_stop_bracket, tells_stop, tells_break, no_break}
 use Rattle.dac_tokens.proofs.Quotes.{FoundQuoted, quoted_found, quoted_read}
 use Rattle.dac_tokens.proofs.Strings.{FoundInside, string_found, string_read}
