@@ -16,13 +16,12 @@ use Rattle.dac_state.specs.declared.operations.OpFault.{OpFault}
 use Rattle.dac_state.specs.declared.operations.OpFault.TheVariants.{OwnDot, BadOver, BadCounter}
 use Rattle.dac_state.specs.declared.starts.Key.{Key}
 use Rattle.dac_state.specs.Operations.{Operation, fault_of, replaces_itself, has_bad_over, has_bad_counter, over_list, is_up}
-use Rattle.dac_state.specs.Starts.{dots_at, start}
+use Rattle.dac_state.specs.Starts.{dots_at, start, contains-dots_at}
 use Rattle.dac_state.specs.StateValue.{StateValue, IsState, bottom, join}
 use Rattle.dac_state.specs.StateLaws.{known-join}
 use Rattle.dac_state.specs.Meaning.{meaning_of, same_dot}
-use Rattle.dac_state.proofs.Wishes.{contains-dots_at}
-use Rattle.dac_state.proofs.Readers.{known-meaning}
-use Rattle.dac_state.proofs.Joins.{same_dot_itself}
+use Rattle.dac_state.specs.Readers.{known-meaning}
+use Rattle.dac_state.specs.Joins.{same_dot_itself}
 use Rattle.dac_base.specs.declared.AppId.{AppId}
 use Rattle.dac_base.specs.declared.NodeId.{NodeId}
 use Rattle.dac_config.specs.Table.{Table}

@@ -11,9 +11,9 @@ use Rattle.dac_state.specs.StateValue.{StateValue, bottom, join}
 use Rattle.dac_state.specs.StateLaws.{same_state}
 use Rattle.dac_state.specs.Order.{IsBelow}
 use Rattle.dac_state.specs.Meaning.{meaning_of, In, Within, Agree, has_dot}
-use Rattle.dac_state.proofs.Readers.{heard-meaning, known-meaning, starts-meaning, lives-meaning}
-use Rattle.dac_state.proofs.Members.{In-append_left, Within-append, found, finds}
-use Rattle.dac_state.proofs.Joins.{same_dot_is, same_dot_itself, meaning-same, join-meaning}
+use Rattle.dac_state.specs.Readers.{heard-meaning, known-meaning, starts-meaning, lives-meaning}
+use Rattle.dac_state.specs.Members.{In-append_left, Within-append, found, finds}
+use Rattle.dac_state.specs.Joins.{same_dot_is, same_dot_itself, meaning-same, join-meaning}
 use Rattle.dac_core.specs.Convergence.{heard_among}
 
 pub meaning-none : bottom ≡ meaning_of []

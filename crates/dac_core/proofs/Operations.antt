@@ -5,8 +5,8 @@ use Rattle.std.proofs.lemmas.List.Folds.{list_any-append}
 use Rattle.dac_dots.specs.declared.dot.Dot.{Dot}
 use Rattle.dac_state.specs.Operations.{Operation}
 use Rattle.dac_state.specs.Meaning.{In, Within, Agree, has_dot, same_dot}
-use Rattle.dac_state.proofs.Joins.{same_dot_is, same_dot_itself}
-use Rattle.dac_state.proofs.Members.{finds}
+use Rattle.dac_state.specs.Joins.{same_dot_is, same_dot_itself}
+use Rattle.dac_state.specs.Members.{finds}
 use Rattle.dac_core.specs.Convergence.{DistinctDots}
 use Rattle.dac_core.proofs.Lists.{not_true}
 

@@ -16,9 +16,9 @@ use Rattle.dac_state.specs.declared.operations.Act.{Act}
 use Rattle.dac_state.specs.Operations.{Operation, over_list}
 use Rattle.dac_state.specs.StateValue.{StateValue, join, bottom}
 use Rattle.dac_state.specs.Meaning.{meaning_of, In, Within, Agree, has_dot, replaces}
-use Rattle.dac_state.proofs.Readers.{names, known-meaning}
-use Rattle.dac_state.proofs.Members.{Within-append, In-append_left, In-append_right, In-append_cases, found, finds}
-use Rattle.dac_state.proofs.Joins.{same_dot_is, same_dot_itself, join-meaning}
+use Rattle.dac_state.specs.Readers.{names, known-meaning}
+use Rattle.dac_state.specs.Members.{Within-append, In-append_left, In-append_right, In-append_cases, found, finds}
+use Rattle.dac_state.specs.Joins.{same_dot_is, same_dot_itself, join-meaning}
 use Rattle.dac_core.specs.declared.event.Message.{Message}
 use Rattle.dac_core.specs.declared.event.Event.{Event}
 use Rattle.dac_core.specs.declared.event.Event.TheVariants.{Boot, Command as Told, Ship, Hear}

@@ -13,7 +13,6 @@ use Rattle.dac_dots.specs.Dots.{Dots, dot_cmp, dots_total, exact_dots, dot, HasP
 use Rattle.dac_dots.specs.declared.dot.Dot.{Dot}
 use Rattle.dac_dots.specs.declared.dot.Origin.{Origin}
 use Rattle.dac_dots.specs.KeyLaws.{has_is, member_at}
-pub use Rattle.dac_dots.specs.KeyLaws.{equal_origins, other_origins}
 
 -- whether a set has a dot, by its list
 pub contains_list : (ks : List Dot) (q : Dot) → set.contains (set.from_list {R = dot_cmp} ks) q ≡ has_key dot_cmp ks q

@@ -34,6 +34,10 @@ pub enum Stop {
 }
 
 impl From<NoMemory> for Stop {
+    ghost use Rattle.dac_script.specs.declared.sim.Stop.TheVariants.{NoMemory as WantOfMemory};
+
+    ghost from_gives = { λ _ stop. stop ≡ WantOfMemory };
+
     fn from(_refused: NoMemory) -> Self {
         Stop::NoMemory
     }

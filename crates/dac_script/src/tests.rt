@@ -1,13 +1,15 @@
 //! The public calls, each with ample memory.
 
 use super::{
-    Ending, Failure, InputFault, ScriptFault, ScriptFaultKind, booted_line, config_fault_line,
+    Ending, Failure, InputFault, ScriptFault, ScriptFaultKind, ScriptLine, booted_line, config_fault_line,
     heard_line, input_fault_line, issued_line, no_message_line, off_line, parted, prepare,
     printed_name, read_input, read_script, refused_line, same_line, script_fault_line,
     shipped_line, simulate,
 };
+use dac_base::NoMemory;
 use dac_config::read_config;
 use dac_tokens::{ConfigFault, FaultKind};
+use std::alloc::Global;
 use std::test::Fail;
 
 const EXAMPLE: &str = "[{kernel,[{distributed,[{a,5000,[c1@h,{c2@h,c3@h}]},{b,[c2@h]}]}]}].\n";
@@ -29,54 +31,70 @@ fn prints_names(rt: HostRuntime) -> Result<(), Fail> {
     Ok(())
 }
 
+/// Whether a line was printed, and reads so.
+fn is_line(line: Result<Vec<u8>, NoMemory>, expected: &str) -> Result<bool, Fail> {
+    Ok(line?.as_slice() == expected.as_bytes())
+}
+
 #[test]
-fn prints_each_line(rt: HostRuntime) -> Result<(), Fail> {
+fn prints_what_is_issued(rt: HostRuntime) -> Result<(), Fail> {
     let alloc = rt.alloc();
-    let fault = ConfigFault {
-        kind: FaultKind::TwiceInList,
-        at: 37,
-    };
-    let line = ScriptFault {
-        line: 3,
-        kind: ScriptFaultKind::BadNumber,
-    };
-    let cases = [
-        (booted_line(alloc, 1, 2)?, "booted 1 op 2\n"),
-        (issued_line(alloc, 3, b"c1@h", 1, 2)?, "issued 3 c1@h 1 2\n"),
-        (issued_line(alloc, 3, b"c-1", 4, 5)?, "issued 3 'c-1' 4 5\n"),
-        (shipped_line(alloc, 1, 2)?, "shipped 1 whole 2\n"),
-        (no_message_line(alloc, 7)?, "no message 7\n"),
-        (refused_line(alloc, 9, "NotLive")?, "refused 9 NotLive\n"),
-        (off_line(alloc, b"c1@h")?, "node c1@h off\n"),
-        (
-            input_fault_line(alloc, InputFault::Read)?,
-            "input fault 3 Read\n",
-        ),
-        (
-            config_fault_line(alloc, fault)?,
-            "config fault 7 TwiceInList at 37\n",
-        ),
-        (
-            script_fault_line(alloc, line)?,
-            "script fault 3 4 BadNumber\n",
-        ),
-        (
-            Failure::Input(InputFault::TooLong).line(alloc)?,
-            "input fault 1 TooLong\n",
-        ),
-        (
-            Failure::Script(line).line(alloc)?,
-            "script fault 3 4 BadNumber\n",
-        ),
-        (Failure::NoMemory.line(alloc)?, "out of memory\n"),
-    ];
-    for (printed, expected) in &cases {
-        assert_eq!(rt; printed.as_slice(), expected.as_bytes());
-    }
+    assert!(rt; is_line(booted_line(alloc, 1, 2), "booted 1 op 2\n")?);
+    assert!(rt; is_line(issued_line(alloc, 3, b"c1@h", 1, 2), "issued 3 c1@h 1 2\n")?);
+    assert!(rt; is_line(issued_line(alloc, 3, b"c-1", 4, 5), "issued 3 'c-1' 4 5\n")?);
+    Ok(())
+}
+
+#[test]
+fn prints_messages_and_refusals(rt: HostRuntime) -> Result<(), Fail> {
+    let alloc = rt.alloc();
+    assert!(rt; is_line(shipped_line(alloc, 1, 2), "shipped 1 whole 2\n")?);
+    assert!(rt; is_line(no_message_line(alloc, 7), "no message 7\n")?);
+    assert!(rt; is_line(refused_line(alloc, 9, "NotLive"), "refused 9 NotLive\n")?);
     assert_eq!(rt; heard_line(true), "heard new\n");
     assert_eq!(rt; heard_line(false), "heard nothing new\n");
+    Ok(())
+}
+
+#[test]
+fn prints_comparisons(rt: HostRuntime) -> Result<(), Fail> {
+    assert!(rt; is_line(off_line(rt.alloc(), b"c1@h"), "node c1@h off\n")?);
     assert_eq!(rt; same_line(true), "same\n");
     assert_eq!(rt; same_line(false), "differ\n");
+    Ok(())
+}
+
+const CONFIG_FAULT: ConfigFault = ConfigFault {
+    kind: FaultKind::TwiceInList,
+    at: 37,
+};
+
+const SCRIPT_FAULT: ScriptFault = ScriptFault {
+    line: 3,
+    kind: ScriptFaultKind::BadNumber,
+};
+
+#[test]
+fn prints_faults(rt: HostRuntime) -> Result<(), Fail> {
+    let alloc = rt.alloc();
+    let input = input_fault_line(alloc, InputFault::Read);
+    assert!(rt; is_line(input, "input fault 3 Read\n")?);
+    let config = config_fault_line(alloc, CONFIG_FAULT);
+    assert!(rt; is_line(config, "config fault 7 TwiceInList at 37\n")?);
+    let script = script_fault_line(alloc, SCRIPT_FAULT);
+    assert!(rt; is_line(script, "script fault 3 4 BadNumber\n")?);
+    Ok(())
+}
+
+#[test]
+fn prints_why_nothing_is_run(rt: HostRuntime) -> Result<(), Fail> {
+    let alloc = rt.alloc();
+    let input = Failure::Input(InputFault::TooLong).line(alloc);
+    assert!(rt; is_line(input, "input fault 1 TooLong\n")?);
+    let script = Failure::Script(SCRIPT_FAULT).line(alloc);
+    assert!(rt; is_line(script, "script fault 3 4 BadNumber\n")?);
+    let memory = Failure::NoMemory.line(alloc);
+    assert!(rt; is_line(memory, "out of memory\n")?);
     Ok(())
 }
 
@@ -100,32 +118,48 @@ fn parts_inputs(rt: HostRuntime) -> Result<(), Fail> {
     Ok(())
 }
 
-#[test]
-fn reads_and_plays(rt: HostRuntime) -> Result<(), Fail> {
-    let alloc = rt.alloc();
+/// The script of a text, under the example's configuration.
+fn script_of(alloc: Global, text: &[u8]) -> Result<Result<Vec<ScriptLine>, Failure>, Fail> {
     let config = read_config(alloc, EXAMPLE.as_bytes())?;
-    let script = read_script(alloc, &config, b"boot c1@h 0\n%\n\nsame c1@h 'c2@h'")
-        .ok()
-        .ok_or("unread")?;
+    Ok(read_script(alloc, &config, text))
+}
+
+#[test]
+fn reads_scripts(rt: HostRuntime) -> Result<(), Fail> {
+    let text = b"boot c1@h 0\n%\n\nsame c1@h 'c2@h'";
+    let script = script_of(rt.alloc(), text)?.ok().ok_or("unread")?;
     assert_eq!(rt; script.len(), 2);
-    let failed = read_script(alloc, &config, b"boot c1@h 0\nship c1@h");
+    Ok(())
+}
+
+#[test]
+fn names_the_fault_of_a_script(rt: HostRuntime) -> Result<(), Fail> {
+    let why = script_of(rt.alloc(), b"boot c1@h 0\nship c1@h")?.err();
     let expected = ScriptFault {
         line: 2,
         kind: ScriptFaultKind::BadCount,
     };
-    assert_eq!(rt; failed.err(), Some(Failure::Script(expected)));
-
-    let mut input = String::from_str(alloc, EXAMPLE)?;
-    input.push_str("--\nboot c1@h 0\nsame c1@h c2@h\n")?;
-    let prepared = prepare(alloc, &mut input.as_bytes());
-    let both = prepared.ok().ok_or("refused")?;
-    assert_eq!(rt; both.1.len(), 2);
-    let mut output = Vec::new(alloc);
-    let ending = simulate(alloc, &mut input.as_bytes(), &mut output);
-    assert_eq!(rt;
-        output.as_slice(),
-        b"booted 1 op 1\nnode c2@h off\n".as_slice()
-    );
-    assert_eq!(rt; ending, Ending::Done);
+    assert_eq!(rt; why, Some(Failure::Script(expected)));
     Ok(())
+}
+
+const INPUT: &[u8] =
+    b"[{kernel,[{distributed,[{a,5000,[c1@h,{c2@h,c3@h}]},{b,[c2@h]}]}]}].\n--\nboot c1@h 0\nsame c1@h c2@h\n";
+
+#[test]
+fn prepares_inputs(rt: HostRuntime) -> Result<(), Fail> {
+    let mut input = INPUT;
+    let both = prepare(rt.alloc(), &mut input).ok().ok_or("refused")?;
+    assert_eq!(rt; both.1.len(), 2);
+    Ok(())
+}
+
+#[test]
+fn plays_inputs(rt: HostRuntime) {
+    let mut input = INPUT;
+    let mut output = Vec::new(rt.alloc());
+    let ending = simulate(rt.alloc(), &mut input, &mut output);
+    let printed = b"booted 1 op 1\nnode c2@h off\n";
+    assert_eq!(rt; output.as_slice(), printed.as_slice());
+    assert_eq!(rt; ending, Ending::Done);
 }

@@ -7,7 +7,7 @@ use Rattle.dac_tokens.specs.declared.fault.ConfigFault.{ConfigFault}
 use Rattle.dac_tokens.specs.declared.token.Symbol.TheVariants.{OpenList, CloseList, OpenTuple, CloseTuple, Comma}
 use Rattle.dac_tokens.specs.declared.fault.FaultKind.TheVariants.{Unsupported, BadShape, EmptyList, EmptyTuple, TwiceInList, TwiceApp, TooManyApps, TooManyNodes, NumberTooLarge, NameTooLong}
 use Rattle.dac_tokens.specs.Gives.{◌>>=◌}
-use Rattle.dac_tokens.specs.Words.{Word, Mark, Name, Number, End, Located, is_end}
+use Rattle.dac_tokens.specs.Words.{Word, Mark, Name, Number, Text, End, Located, is_end}
 use Rattle.dac_shapes.specs.declared.draft.SyncWait.{SyncWait}
 use Rattle.dac_shapes.specs.declared.draft.SyncWait.TheVariants.{Forever, Ms}
 use Rattle.dac_shapes.specs.declared.param.ParamName.{ParamName}
@@ -26,6 +26,7 @@ unfolding atom_of
 atom_is (Name n) at name e = ap Name (ok_same n name (Ok n) refl e)
 atom_is (Mark x) at name e = absurd cc
 atom_is (Number b ds) at name e = absurd cc
+atom_is Text at name e = absurd cc
 atom_is End at name e = absurd cc
 
 short_name_is : (t : Located) (name : List ℕ) → short_name_of t ≡ Ok name → (t.word ≡ Name name) × (length name ≤ 255)
@@ -156,6 +157,7 @@ timed : (w : Word) (at : ℕ) (s : State) (n : ℕ) (t1 : Located) (u : State) �
 unfolding timeout_at
 timed (Name name) at s n t1 u well e = untimed (record { word = Name name; at = at }) s n t1 u well e
 timed (Mark x) at s n t1 u well e = untimed (record { word = Mark x; at = at }) s n t1 u well e
+timed Text at s n t1 u well e = untimed (record { word = Text; at = at }) s n t1 u well e
 timed End at s n t1 u well e = untimed (record { word = End; at = at }) s n t1 u well e
 timed (Number negative digits) at s n t1 u well e =
     let a = bind_ok (timeout_of at negative (value_from 0 digits)) (λ m. symbol_at Comma s >>= λ comma. token comma >>= λ next. Ok (m, next.0, next.1)) (n, t1, u) e in
@@ -261,6 +263,7 @@ wait_is (Name name) at wait e =
     let h = held (bytes_eq name (codes "infinity")) Forever _ wait e in
     (subst (IsWait (Name name ∷ [])) h.1 (ap (λ (n : List ℕ). Name n ∷ []) (is_named name _ h.0)), refl)
 wait_is (Mark x) at wait e = absurd cc
+wait_is Text at wait e = absurd cc
 wait_is End at wait e = absurd cc
 
 -- a value of the parameter of this name

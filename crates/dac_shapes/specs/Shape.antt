@@ -7,7 +7,7 @@ use Rattle.dac_tokens.specs.declared.fault.ConfigFault.{ConfigFault}
 use Rattle.dac_tokens.specs.declared.token.Symbol.{Symbol}
 use Rattle.dac_tokens.specs.declared.token.Symbol.TheVariants.{OpenList, CloseList, OpenTuple, CloseTuple, Comma, FullStop}
 use Rattle.dac_tokens.specs.Gives.{◌>>=◌}
-use Rattle.dac_tokens.specs.Words.{Word, Mark, Name, Number, End, Located, is_end}
+use Rattle.dac_tokens.specs.Words.{Word, Mark, Name, Number, Text, End, Located, is_end}
 use Rattle.dac_tokens.specs.Stream.{Stream, tokens_of, taken}
 use Rattle.dac_shapes.specs.declared.draft.SyncWait.{SyncWait}
 use Rattle.dac_shapes.specs.declared.draft.SyncWait.TheVariants.{Forever, Ms}
@@ -36,6 +36,7 @@ abbrev pub is_mark : Symbol → Word → Bool
 is_mark symbol (Mark other) = byte_of symbol == byte_of other
 is_mark symbol (Name name) = false
 is_mark symbol (Number negative digits) = false
+is_mark symbol Text = false
 is_mark symbol End = false
 
 -- ---- one token
@@ -68,6 +69,7 @@ atom_of t = named t.word
     named (Name name) = Ok name
     named (Mark symbol) = fails BadShape t.at
     named (Number negative digits) = fails BadShape t.at
+    named Text = fails BadShape t.at
     named End = fails BadShape t.at
 
 -- the name, of at most 255 bytes, that a token is
@@ -96,6 +98,7 @@ wait_of t = waits t.word
       Ok (Ms n)
     waits (Name name) = if bytes_eq name (codes "infinity") then Ok Forever else fails BadShape t.at
     waits (Mark symbol) = fails BadShape t.at
+    waits Text = fails BadShape t.at
     waits End = fails BadShape t.at
 
 -- the parameter that has this name
@@ -226,6 +229,7 @@ timeout_at t s = timed t.word
       Ok (n, next.0, next.1)
     timed (Mark symbol) = Ok (0, t, s)
     timed (Name name) = Ok (0, t, s)
+    timed Text = Ok (0, t, s)
     timed End = Ok (0, t, s)
 
 -- the timeout, if any, and the node list of the application of this name

@@ -2,9 +2,6 @@ pub mod Rising
 pub mod Sets
 pub mod Wishes
 pub mod Incarnations
-pub mod Members
-pub mod Readers
-pub mod Joins
 pub mod Alone
 pub mod SpellingLemmas
 pub mod Membership

@@ -14,7 +14,6 @@ use Rattle.dac_dots.specs.InOrder.{in_order, in_order-one}
 use Rattle.dac_state.specs.declared.starts.Key.{Key}
 use Rattle.dac_state.specs.declared.starts.Start.{Start}
 use Rattle.dac_state.specs.Starts.{Starts, start_cmp, key_cmp, same_key, keys_total, exact_keys, starts_total, exact_starts, dots_among, dots_at, is_at, dots_among-has}
-pub use Rattle.dac_state.specs.Starts.{contains-dots_at}
 use Rattle.dac_state.proofs.Sets.{list_any-items}
 
 same_key_is : (a b : Key) → same_key a b ≡ true → a ≡ b

@@ -123,6 +123,21 @@ mod tests {
         }
     }
 
+    /// The state that heard one operation more.
+    fn with(alloc: Global, state: &State, dot: Dot, act: Act) -> Result<State, Fail> {
+        let op = Op::new(dot, act)?;
+        let delta = State::delta_of(alloc, &op)?;
+        Ok(state.join(&delta)?)
+    }
+
+    /// Wishes of two keys, two of them of one key, and the operation of a boot; heard in no order.
+    fn two_keys(alloc: Global) -> Result<State, Fail> {
+        let state = with(alloc, &State::bottom(alloc), dot(0, 3), start_of(alloc, 2))?;
+        let state = with(alloc, &state, dot(1, 2), start_of(alloc, 0))?;
+        let state = with(alloc, &state, dot(0, 2), start_of(alloc, 0))?;
+        with(alloc, &state, dot(0, 1), Act::Up)
+    }
+
     #[test]
     fn nothing_heard(rt: HostRuntime) -> Result<(), Fail> {
         let state = State::bottom(rt.alloc());
@@ -148,18 +163,7 @@ mod tests {
 
     #[test]
     fn wishes_of_two_keys(rt: HostRuntime) -> Result<(), Fail> {
-        let acts = [
-            (dot(0, 3), start_of(rt.alloc(), 2)),
-            (dot(1, 2), start_of(rt.alloc(), 0)),
-            (dot(0, 2), start_of(rt.alloc(), 0)),
-            (dot(0, 1), Act::Up),
-        ];
-        let mut state = State::bottom(rt.alloc());
-        for (dot, act) in acts {
-            let op = Op::new(dot, act)?;
-            state = state.join(&State::delta_of(rt.alloc(), &op)?)?;
-        }
-        let bytes = state.encode()?;
+        let bytes = two_keys(rt.alloc())?.encode()?;
         let expected = b"\x00\x02\
             \x00\x00\x00\x00\x01\x00\x00\x00\x00\x00\x00\x00\x03\x00\x00\x00\x00\
             \x01\x00\x00\x00\x01\x00\x00\x00\x00\x00\x00\x00\x00\x00\x00\x00\x01\

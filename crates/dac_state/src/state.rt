@@ -294,17 +294,44 @@ mod tests {
         Ok(both(alloc)?.join(&stop(alloc, 4, &[dot(2)])?)?)
     }
 
+    /// The first start comes once more.
+    fn started_again(alloc: Global, state: &State) -> Result<State, Fail> {
+        Ok(start(alloc, 2, &[])?.join(state)?)
+    }
+
+    /// A stop, and then the start that it names.
+    fn stopped_first(alloc: Global) -> Result<State, Fail> {
+        Ok(stop(alloc, 3, &[dot(2)])?.join(&start(alloc, 2, &[])?)?)
+    }
+
+    fn known_dots(state: &State) -> Result<Vec<Dot>, NoMemory> {
+        state.known().dots()
+    }
+
     /// Joins through the bound, as callers of any lattice do.
     fn join_both<L: Bottom>(alloc: Global, first: &L, second: &L) -> Result<L, NoMemory> {
         let joined = L::bottom(alloc).join(first)?.join(second)?;
         Ok(joined)
     }
 
+    /// Whether the states joined into nothing, one after the other, are their join in the other order.
+    fn is_join_from_nothing(
+        alloc: Global,
+        first: &State,
+        second: &State,
+    ) -> Result<bool, NoMemory> {
+        let joined = join_both(alloc, first, second)?;
+        let other = second.join(first)?;
+        Ok(joined.equal(&other))
+    }
+
     /// Whether the order agrees with the join, through the bound.
     fn is_joined_above<L: Lattice>(low: &L, high: &L) -> Result<bool, NoMemory> {
         low.known();
         high.known();
-        Ok(low.leq(high) && low.join(high)?.equal(high) && high.copy()?.equal(high))
+        let joined = low.join(high)?;
+        let copied = high.copy()?;
+        Ok(low.leq(high) && joined.equal(high) && copied.equal(high))
     }
 
     #[test]
@@ -340,19 +367,21 @@ mod tests {
     #[test]
     fn what_is_stopped_stays_so(rt: HostRuntime) -> Result<(), Fail> {
         let stopped = stopped(rt.alloc())?;
-        let again = start(rt.alloc(), 2, &[])?.join(&stopped)?;
+        let again = started_again(rt.alloc(), &stopped)?;
         assert!(rt; again.equal(&stopped));
         Ok(())
     }
 
     #[test]
+    fn a_stop_knows_what_it_names(rt: HostRuntime) -> Result<(), Fail> {
+        let known = known_dots(&stop(rt.alloc(), 3, &[dot(2)])?)?;
+        assert_eq!(rt; known.as_slice(), [dot(2), dot(3)].as_slice());
+        Ok(())
+    }
+
+    #[test]
     fn a_stop_may_come_first(rt: HostRuntime) -> Result<(), Fail> {
-        let stop = stop(rt.alloc(), 3, &[dot(2)])?;
-        assert_eq!(rt;
-            stop.known().dots()?.as_slice(),
-            [dot(2), dot(3)].as_slice()
-        );
-        let joined = stop.join(&start(rt.alloc(), 2, &[])?)?;
+        let joined = stopped_first(rt.alloc())?;
         assert!(rt; !joined.wished(KEY));
         Ok(())
     }
@@ -370,9 +399,15 @@ mod tests {
     fn joins_from_nothing(rt: HostRuntime) -> Result<(), Fail> {
         let up = up(rt.alloc())?;
         let start = start(rt.alloc(), 2, &[])?;
-        let joined = join_both(rt.alloc(), &start, &up)?;
-        assert!(rt; joined.equal(&up.join(&start)?));
-        assert!(rt; !joined.equal(&State::bottom(rt.alloc())));
+        assert!(rt; is_join_from_nothing(rt.alloc(), &start, &up)?);
+        Ok(())
+    }
+
+    #[test]
+    fn an_up_is_something(rt: HostRuntime) -> Result<(), Fail> {
+        let up = up(rt.alloc())?;
+        let nothing = State::bottom(rt.alloc());
+        assert!(rt; !up.equal(&nothing));
         Ok(())
     }
 

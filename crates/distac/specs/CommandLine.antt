@@ -1,6 +1,9 @@
 -- The command line.
-use Rattle.std.specs.Prelude.{ℕ, List, [], ◌∷◌, Option, option_map, true, codes}
+use Rattle.std.specs.Prelude.{ℕ, List, [], ◌∷◌, Option, Some, None, option_map, true, codes, if◌then◌else◌}
+use Rattle.std.specs.Str.{bytes_eq}
 use Rattle.clap.specs.Words.{App, Text, new_app, with_subcommand, subcommand_of}
+use Rattle.distac.specs.declared.command_line.Request.{Request}
+use Rattle.distac.specs.declared.command_line.Request.TheVariants.{Check, Sim}
 
 -- one of the subcommands has to be there
 abbrev pub required : App → App
@@ -21,3 +24,11 @@ sim_words = codes "distac" ∷ codes "sim" ∷ []
 -- the subcommand that the words name
 abbrev pub subcommand_in : List Text → Option Text
 subcommand_in words = option_map (λ p. p.0) (subcommand_of distac words)
+
+-- what the name of a subcommand asks for
+abbrev pub request_in : Option Text → Option Request
+request_in None = None
+request_in (Some name) =
+    if bytes_eq name (codes "check") then Some Check
+    else (if bytes_eq name (codes "sim") then Some Sim
+    else None)

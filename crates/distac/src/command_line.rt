@@ -1,8 +1,8 @@
 //! The command line.
 
-ghost use Rattle.std.specs.Prelude.{◌≡◌, map, option_map, codes, Some, IfOk, MatchResult};
+ghost use Rattle.std.specs.Prelude.{◌≡◌, map, option_map, Some, IfOk, MatchResult};
 ghost use Rattle.clap.specs.Words.{app_of, kind_of};
-ghost use Rattle.distac.specs.CommandLine.{distac, check_words, sim_words};
+ghost use Rattle.distac.specs.CommandLine.{distac, check_words, sim_words, subcommand_in, request_in};
 
 use clap::error::ErrorKind;
 use clap::{Command, Error};
@@ -34,8 +34,7 @@ fn command<'a>(alloc: Global) -> Result<Command<'a>, AllocError>
 }
 
 fn request_of(name: Option<&str>) -> Option<Request>
-    ensures check { option_map (λ s. s.now) name.entry ≡ Some (codes "check") → result ≡ Some Request.Check }
-    ensures sim { option_map (λ s. s.now) name.entry ≡ Some (codes "sim") → result ≡ Some Request.Sim }
+    ensures { result ≡ request_in (option_map (λ s. s.now) name.entry) }
 {
     let name = name?;
     if name == "check" {
@@ -49,6 +48,7 @@ fn request_of(name: Option<&str>) -> Option<Request>
 
 /// What the words ask for, the program's name first. An error holds what to print, help among it.
 pub fn asked<'a>(alloc: Global, words: &'a [&'a str]) -> Result<Option<Request>, Error>
+    ensures request { IfOk result (λ request. request ≡ request_in (subcommand_in (map (λ word. word.now) words.entry.now))) }
     ensures check { map (λ word. word.now) words.entry.now ≡ check_words → MatchResult result (λ request. request ≡ Some Request.Check) (λ error. kind_of error ≡ ErrorKind.OutOfMemory) }
     ensures sim { map (λ word. word.now) words.entry.now ≡ sim_words → MatchResult result (λ request. request ≡ Some Request.Sim) (λ error. kind_of error ≡ ErrorKind.OutOfMemory) }
 {

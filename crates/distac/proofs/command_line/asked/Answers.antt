@@ -5,7 +5,7 @@ use Rattle.clap.specs.declared.parser.matches.ArgMatches.{ArgMatches}
 use Rattle.clap.specs.declared.parser.matches.ArgMatches.TheViews.{out-ArgMatches, out-SubCommand}
 use Rattle.std.specs.Box.{box_value}
 use Rattle.clap.proofs.OnLiterals.{clap_on_literals}
-use Rattle.distac.specs.CommandLine.{distac, check_words, sim_words, subcommand_in}
+use Rattle.distac.specs.CommandLine.{distac, check_words, sim_words, subcommand_in, request_in}
 use Rattle.distac.proofs.command_line.asked.Goals as goal
 
 is_taken : takes distac sim_words ≡ true
@@ -27,15 +27,15 @@ is_sim = refl
 is_plain : is_simple distac ≡ true
 is_plain = refl
 
-pub returns-in_err-matches : goal.returns-in_err-matches
-returns-in_err-matches c = record {
-  check = λ same.
-      let p = err_from_is_err_and c.from_residual-in_err-matches.result c.from_residual-in_err-matches.ensures.1 in
-      rw (p.1, p.2) (c.in_err-matches.ensures.passes (ap₂ takes c.in_ok-command.ensures same ∙ check_taken));
-  sim = λ same.
-      let p = err_from_is_err_and c.from_residual-in_err-matches.result c.from_residual-in_err-matches.ensures.1 in
-      rw (p.1, p.2) (c.in_err-matches.ensures.passes (ap₂ takes c.in_ok-command.ensures same ∙ is_taken));
-}
+pub returns-in_err-matches-clause-check : goal.returns-in_err-matches-clause-check
+returns-in_err-matches-clause-check c = λ same.
+    let p = err_from_is_err_and c.from_residual-in_err-matches.result c.from_residual-in_err-matches.ensures.1 in
+    rw (p.1, p.2) (c.in_err-matches.ensures.passes (ap₂ takes c.in_ok-command.ensures same ∙ check_taken))
+
+pub returns-in_err-matches-clause-sim : goal.returns-in_err-matches-clause-sim
+returns-in_err-matches-clause-sim c = λ same.
+    let p = err_from_is_err_and c.from_residual-in_err-matches.result c.from_residual-in_err-matches.ensures.1 in
+    rw (p.1, p.2) (c.in_err-matches.ensures.passes (ap₂ takes c.in_ok-command.ensures same ∙ is_taken))
 
 -- the name is that of the rows
 named : (m : ArgMatches) → subcommand_name_of m ≡ option_map (λ p. p.0) (subcommand_rows_of m)
@@ -43,11 +43,12 @@ named m =
     elim ((out-ArgMatches m).subcommand) as (λ o. option_map (λ b. (out-SubCommand (box_value b)).name.now) o ≡ option_map (λ p. p.0) (subcommand_rows o)) [ None ↦ refl | Some b ↦ refl ]
 
 pub returns : goal.returns
-returns c = record {
-  check = λ same.
-      let rows = (c.in_ok-matches.ensures.matches (ap is_simple c.in_ok-command.ensures ∙ is_plain)).1 ∙ ap₂ subcommand_of c.in_ok-command.ensures same in
-      c.request_of.ensures.check (c.subcommand_name.ensures ∙ named c.in_ok-matches.matches ∙ ap (option_map (λ p. p.0)) rows ∙ is_check);
-  sim = λ same.
-      let rows = (c.in_ok-matches.ensures.matches (ap is_simple c.in_ok-command.ensures ∙ is_plain)).1 ∙ ap₂ subcommand_of c.in_ok-command.ensures same in
-      c.request_of.ensures.sim (c.subcommand_name.ensures ∙ named c.in_ok-matches.matches ∙ ap (option_map (λ p. p.0)) rows ∙ is_sim);
-}
+returns c =
+    let rows = (c.in_ok-matches.ensures.matches (ap is_simple c.in_ok-command.ensures ∙ is_plain)).1 ∙ ap (λ a. subcommand_of a (map (λ word. word.now) c.args.words.now)) c.in_ok-command.ensures in
+    let name_is = c.subcommand_name.ensures ∙ named c.in_ok-matches.matches ∙ ap (option_map (λ p. p.0)) rows in
+    let request_is = c.request_of.ensures ∙ ap request_in name_is in
+    record {
+      request = request_is;
+      check = λ same. request_is ∙ ap request_in (ap subcommand_in same ∙ is_check);
+      sim = λ same. request_is ∙ ap request_in (ap subcommand_in same ∙ is_sim);
+    }

@@ -1,0 +1,2 @@
+mod KeptLemmas
+mod Orders

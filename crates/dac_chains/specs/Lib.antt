@@ -1,0 +1,5 @@
+pub mod Greatest
+pub mod Kept
+pub mod Lives
+pub mod Claims
+pub mod Hows

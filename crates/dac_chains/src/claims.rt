@@ -1,0 +1,297 @@
+//! The greatest claim of each application.
+ghost use Rattle.std.specs.Prelude.{◌≡◌, ◌↔◌, IfOk, IsTrue};
+ghost use Rattle.std.specs.FinMap as map;
+ghost use Rattle.dac_chains.specs.Kept.{unwrapped};
+
+use dac_base::{AppId, NoMemory, NodeId};
+use dac_dots::{Dot, MapKey, Origin};
+use dac_lattice::{Bottom, Lattice, MapOf, Max, Piece};
+use std::alloc::Global;
+use std::marker::Model;
+
+/// How an application came to the node that claims it. The ways are ordered as they stand here.
+#[derive(Clone, Copy, Debug, PartialEq, Eq, PartialOrd, Ord, Hash)]
+pub enum How {
+    /// It was started, or moved by a permission.
+    Normal,
+    /// It was restarted after the node that ran it went down.
+    Failover,
+    /// It was taken over from the node that ran it.
+    Takeover,
+}
+
+/// That an incarnation of a node runs an application.
+///
+/// Claims are ordered by term, then by the node and the incarnation that claims, then by how, and then by
+/// the node that it was taken from, none first. Later claims have greater terms; between claims of one
+/// term, which nodes that were out of touch may make, the order of the names decides.
+#[derive(Clone, Copy, Debug, PartialEq, Eq, PartialOrd, Ord, Hash)]
+pub struct Claim {
+    /// Which claim of the application it was, from 1.
+    pub term: u64,
+    /// Who claims it.
+    pub origin: Origin,
+    /// How it came there.
+    pub how: How,
+    /// The node that it was taken from, unless it was started.
+    pub from: Option<NodeId>,
+}
+
+impl MapKey for Claim {
+    ghost use Rattle.dac_chains.specs.Claims.{exact_claims};
+    ghost use Rattle.dac_chains.specs.Hows.{exact_derived};
+
+    ghost exact = { exact_claims ⟦<How as Ord>⟧.cmp exact_derived };
+}
+
+/// What an operation does to claims.
+#[derive(Clone, Copy, Debug, PartialEq, Eq)]
+pub enum ClaimAct {
+    /// Its issuer claims an application.
+    Claim {
+        /// The application.
+        app: AppId,
+        /// The term of the claim.
+        term: u64,
+        /// How the application came there.
+        how: How,
+        /// The node that it was taken from, unless it was started.
+        from: Option<NodeId>,
+    },
+    /// Nothing.
+    Other,
+}
+
+/// For each application that was claimed, its greatest claim. Contracts see it as a finite map from
+/// applications to claims.
+#[derive(Drop)]
+pub struct Claims {
+    claims: MapOf<AppId, Max<Claim>>,
+}
+
+impl Model for Claims {
+    ghost use Rattle.std.specs.FinMap as map;
+    ghost use Rattle.dac_base.specs.Ids.{app_cmp, coded_app};
+    ghost use Rattle.dac_chains.specs.declared.claims.Claim.{Claim};
+    ghost use Rattle.dac_chains.specs.Claims.{coded_claim};
+
+    ghost Value = { map.FinMap app_cmp Claim };
+
+    ghost coded = { map.code coded_app coded_claim };
+
+    ghost use Rattle.dac_chains.specs.Kept.{kept};
+
+    ghost view = { λ a. kept a.claims };
+}
+
+impl Claims {
+    /// One application has this claim, and no other is claimed. [`NoMemory`] is the only error.
+    pub fn one(alloc: Global, app: AppId, claim: Claim) -> Result<Self, NoMemory>
+        ensures { IfOk result (λ claims. claims ≡ map.insert map.empty app claim) }
+    {
+        let claims = MapOf::one(alloc, app, Max::new(claim))?;
+        Ok(Claims { claims })
+    }
+
+    /// The greatest claim of an application, if it was claimed.
+    pub fn greatest(&self, app: AppId) -> Option<Claim>
+        ensures { result ≡ map.get self.now app }
+    {
+        match self.claims.get(app) {
+            Some(greatest) => Some(greatest.value),
+            None => None,
+        }
+    }
+
+    /// The applications that were claimed, in ascending order, each with its greatest claim.
+    pub fn entries(&self) -> &[(AppId, Max<Claim>)]
+        ensures { unwrapped result.now ≡ map.entries self.now }
+    {
+        self.claims.known();
+        self.claims.entries()
+    }
+}
+
+impl Lattice for Claims {
+    ghost use Rattle.dac_base.specs.Ids.{apps_total, exact_apps};
+    ghost use Rattle.dac_lattice.specs.Chains.{IsAny};
+    ghost use Rattle.dac_chains.specs.Greatest.{AreNotAbove, greater, greatest_laws};
+    ghost use Rattle.dac_chains.specs.Claims.{how_cmp, claim_cmp, claims_total, exact_hows, exact_claims};
+
+    ghost is_value = { IsAny };
+
+    ghost below = { AreNotAbove claim_cmp };
+
+    ghost join = { greater claim_cmp };
+
+    ghost laws = { greatest_laws apps_total exact_apps claims_total (exact_claims how_cmp exact_hows) };
+
+    fn known(&self) {}
+
+    fn join(&self, other: &Self) -> Result<Self, NoMemory> {
+        self.claims.known();
+        other.claims.known();
+        let claims = self.claims.join(&other.claims)?;
+        Ok(Claims { claims })
+    }
+
+    fn leq(&self, other: &Self) -> bool {
+        self.claims.leq(&other.claims)
+    }
+
+    fn equal(&self, other: &Self) -> bool {
+        self.claims.known();
+        other.claims.known();
+        self.claims.equal(&other.claims)
+    }
+
+    fn copy(&self) -> Result<Self, NoMemory> {
+        let claims = self.claims.copy()?;
+        Ok(Claims { claims })
+    }
+}
+
+impl Bottom for Claims {
+    ghost use Rattle.std.specs.FinMap as map;
+    ghost use Rattle.dac_base.specs.Ids.{apps_total, exact_apps};
+    ghost use Rattle.dac_chains.specs.Greatest.{empty_is_least};
+    ghost use Rattle.dac_chains.specs.Claims.{how_cmp, claims_total, exact_hows, exact_claims};
+
+    ghost bottom = { map.empty };
+
+    ghost least = { λ claims _. empty_is_least apps_total exact_apps claims_total (exact_claims how_cmp exact_hows) claims };
+
+    ghost bottom_value = { tt };
+
+    fn bottom(alloc: Global) -> Self {
+        Claims {
+            claims: MapOf::bottom(alloc),
+        }
+    }
+}
+
+impl Piece for Claims {
+    ghost use Rattle.dac_base.specs.Ids.{apps_total, exact_apps};
+    ghost use Rattle.dac_chains.specs.Greatest.{alone, greatest_piece};
+    ghost use Rattle.dac_chains.specs.Claims.{AreGreatestClaims, how_cmp, claims_total, exact_hows, exact_claims, said_claim};
+
+    type Act = ClaimAct;
+
+    ghost fits = { λ _ _. Unit {0} };
+
+    ghost delta = { λ dot act. alone (said_claim dot act) };
+
+    ghost means = { AreGreatestClaims };
+
+    ghost piece_laws = { greatest_piece apps_total exact_apps claims_total (exact_claims how_cmp exact_hows) said_claim };
+
+    fn delta(alloc: Global, dot: Dot, act: &ClaimAct) -> Result<Self, NoMemory> {
+        match act {
+            ClaimAct::Claim {
+                app,
+                term,
+                how,
+                from,
+            } => {
+                let claim = Claim {
+                    term: *term,
+                    origin: dot.origin,
+                    how: *how,
+                    from: *from,
+                };
+                let claims = Claims::one(alloc, *app, claim)?;
+                Ok(claims)
+            }
+            ClaimAct::Other => Ok(Claims::bottom(alloc)),
+        }
+    }
+}
+
+#[cfg(test)]
+mod tests {
+    use super::*;
+    use dac_lattice::pieces::join_deltas;
+    use std::test::Fail;
+
+    const APP: AppId = AppId(0);
+
+    const X: NodeId = NodeId(0);
+
+    const Z: NodeId = NodeId(2);
+
+    /// A claim of a node's first incarnation.
+    fn claim(node: NodeId, term: u64, how: How, from: Option<NodeId>) -> Claim {
+        let origin = Origin { node, inc: 1 };
+        Claim {
+            term,
+            origin,
+            how,
+            from,
+        }
+    }
+
+    /// The operation that claims the application so.
+    fn operation(claim: Claim) -> (Dot, ClaimAct) {
+        let Claim {
+            term,
+            origin,
+            how,
+            from,
+        } = claim;
+        let act = ClaimAct::Claim {
+            app: APP,
+            term,
+            how,
+            from,
+        };
+        (Dot { origin, n: 2 }, act)
+    }
+
+    /// The greatest of two claims, that of the second operation joined to that of the first.
+    fn greatest(alloc: Global, first: Claim, second: Claim) -> Result<Option<Claim>, NoMemory> {
+        let (dot, act) = operation(first);
+        let one = Claims::delta(alloc, dot, &act)?;
+        let (dot, act) = operation(second);
+        let both = one.join(&Claims::delta(alloc, dot, &act)?)?;
+        Ok(both.greatest(APP))
+    }
+
+    #[test]
+    fn greater_claim_wins(rt: HostRuntime) -> Result<(), Fail> {
+        let early = claim(X, 1, How::Takeover, Some(Z));
+        let late = claim(Z, 1, How::Normal, None);
+        let rows = [
+            (early, late),
+            (late, claim(X, 2, How::Normal, None)),
+            (late, claim(Z, 1, How::Failover, None)),
+            (
+                claim(Z, 1, How::Failover, Some(Z)),
+                claim(Z, 1, How::Takeover, None),
+            ),
+            (late, claim(Z, 1, How::Normal, Some(X))),
+        ];
+        for (low, high) in rows {
+            assert_eq!(rt; greatest(rt.alloc(), low, high)?, Some(high));
+            assert_eq!(rt; greatest(rt.alloc(), high, low)?, Some(high));
+        }
+        Ok(())
+    }
+
+    #[test]
+    fn claims_of_two_applications(rt: HostRuntime) -> Result<(), Fail> {
+        let normal = claim(X, 1, How::Normal, None);
+        let first: Claims = join_deltas(rt.alloc(), &[operation(normal)])?;
+        let both = first.join(&Claims::one(rt.alloc(), AppId(1), normal)?)?;
+        assert_eq!(rt; first.greatest(AppId(1)), None);
+        assert_eq!(rt; both.greatest(AppId(1)), Some(normal));
+        assert!(rt; first.leq(&both) && !both.leq(&first));
+        assert!(rt; both.copy()?.equal(&both) && !both.equal(&first));
+        let entries = both.entries();
+        assert_eq!(rt; entries.len(), 2);
+        assert_eq!(rt; (entries[0].0, entries[0].1.value), (APP, normal));
+        let (dot, _) = operation(normal);
+        let nothing = Claims::delta(rt.alloc(), dot, &ClaimAct::Other)?;
+        assert!(rt; nothing.equal(&Claims::bottom(rt.alloc())));
+        Ok(())
+    }
+}

@@ -1,0 +1,283 @@
+//! The life of each node.
+ghost use Rattle.std.specs.Prelude.{◌≡◌, ◌↔◌, ℕ, IfOk, IsTrue, Some, option_map};
+ghost use Rattle.std.specs.FinMap as map;
+ghost use Rattle.dac_chains.specs.Kept.{unwrapped};
+ghost use Rattle.dac_chains.specs.Lives.{IsLive, live_at};
+
+use dac_base::{NoMemory, NodeId};
+use dac_dots::{Dot, MapKey};
+use dac_lattice::{Bottom, Flag, Lattice, MapOf, Max, Piece};
+use std::alloc::Global;
+use std::marker::Model;
+
+/// What is said of a node: that one of its incarnations is up, or that it is down.
+///
+/// Lives are ordered by incarnation, and then Up below Down: what went down stays down, and the node comes
+/// up again as a later incarnation.
+#[derive(Clone, Copy, Debug, PartialEq, Eq, PartialOrd, Ord, Hash)]
+pub struct Life {
+    /// Which of its incarnations.
+    pub inc: u32,
+    /// Whether that one is up.
+    pub flag: Flag,
+}
+
+impl MapKey for Life {
+    ghost use Rattle.std.specs.Prelude.{refl};
+    ghost use Rattle.dac_lattice.specs.Flags.{exact_flags};
+    ghost use Rattle.dac_chains.specs.Lives.{exact_lives};
+
+    ghost exact = { exact_lives ⟦<Flag as Ord>⟧.cmp (exact_flags ⟦<Flag as Ord>⟧.cmp refl refl) };
+}
+
+/// What an operation does to lives.
+#[derive(Clone, Copy, Debug, PartialEq, Eq)]
+pub enum LifeAct {
+    /// The incarnation that issued it came up.
+    Up,
+    /// An incarnation of a node is declared down.
+    Down {
+        /// The node.
+        node: NodeId,
+        /// Which of its incarnations.
+        inc: u32,
+    },
+    /// Nothing.
+    Other,
+}
+
+/// For each node of which something was said, its life: the greatest that was said of it. Contracts see it
+/// as a finite map from nodes to lives.
+#[derive(Drop)]
+pub struct Lives {
+    lives: MapOf<NodeId, Max<Life>>,
+}
+
+impl Model for Lives {
+    ghost use Rattle.std.specs.FinMap as map;
+    ghost use Rattle.dac_base.specs.Ids.{node_cmp, coded_node};
+    ghost use Rattle.dac_chains.specs.declared.lives.Life.{Life};
+    ghost use Rattle.dac_chains.specs.Lives.{coded_life};
+
+    ghost Value = { map.FinMap node_cmp Life };
+
+    ghost coded = { map.code coded_node coded_life };
+
+    ghost use Rattle.dac_chains.specs.Kept.{kept};
+
+    ghost view = { λ a. kept a.lives };
+}
+
+impl Lives {
+    /// One node has this life, and of no other anything was said. [`NoMemory`] is the only error.
+    pub fn one(alloc: Global, node: NodeId, life: Life) -> Result<Self, NoMemory>
+        ensures { IfOk result (λ lives. lives ≡ map.insert map.empty node life) }
+    {
+        let lives = MapOf::one(alloc, node, Max::new(life))?;
+        Ok(Lives { lives })
+    }
+
+    /// The life of a node, as the incarnation and whether it is up, if anything was said of it.
+    pub fn life(&self, node: NodeId) -> Option<(u32, Flag)>
+        ensures { result ≡ option_map (λ l. (l.inc, l.flag)) (map.get self.now node) }
+    {
+        match self.lives.get(node) {
+            Some(greatest) => Some((greatest.value.inc, greatest.value.flag)),
+            None => None,
+        }
+    }
+
+    /// The incarnation of a node that is live: the one of its life, if it is up.
+    pub fn live(&self, node: NodeId) -> Option<u32>
+        ensures value { result ≡ live_at self.now node }
+        ensures exact { (i : ℕ) → (result ≡ Some i) ↔ IsLive self.now node i }
+    {
+        match self.life(node) {
+            Some((inc, Flag::Up)) => Some(inc),
+            _ => None,
+        }
+    }
+
+    /// The nodes of which something was said, in ascending order, each with its life.
+    pub fn entries(&self) -> &[(NodeId, Max<Life>)]
+        ensures { unwrapped result.now ≡ map.entries self.now }
+    {
+        self.lives.known();
+        self.lives.entries()
+    }
+}
+
+impl Lattice for Lives {
+    ghost use Rattle.dac_base.specs.Ids.{nodes_total, exact_nodes};
+    ghost use Rattle.dac_lattice.specs.Chains.{IsAny};
+    ghost use Rattle.dac_lattice.specs.Flags.{flag_cmp, flags_exact};
+    ghost use Rattle.dac_chains.specs.Greatest.{AreNotAbove, greater, greatest_laws};
+    ghost use Rattle.dac_chains.specs.Lives.{life_cmp, lives_total, exact_lives};
+
+    ghost is_value = { IsAny };
+
+    ghost below = { AreNotAbove life_cmp };
+
+    ghost join = { greater life_cmp };
+
+    ghost laws = { greatest_laws nodes_total exact_nodes lives_total (exact_lives flag_cmp flags_exact) };
+
+    fn known(&self) {}
+
+    fn join(&self, other: &Self) -> Result<Self, NoMemory> {
+        self.lives.known();
+        other.lives.known();
+        let lives = self.lives.join(&other.lives)?;
+        Ok(Lives { lives })
+    }
+
+    fn leq(&self, other: &Self) -> bool {
+        self.lives.leq(&other.lives)
+    }
+
+    fn equal(&self, other: &Self) -> bool {
+        self.lives.known();
+        other.lives.known();
+        self.lives.equal(&other.lives)
+    }
+
+    fn copy(&self) -> Result<Self, NoMemory> {
+        let lives = self.lives.copy()?;
+        Ok(Lives { lives })
+    }
+}
+
+impl Bottom for Lives {
+    ghost use Rattle.std.specs.FinMap as map;
+    ghost use Rattle.dac_base.specs.Ids.{nodes_total, exact_nodes};
+    ghost use Rattle.dac_lattice.specs.Flags.{flag_cmp, flags_exact};
+    ghost use Rattle.dac_chains.specs.Greatest.{empty_is_least};
+    ghost use Rattle.dac_chains.specs.Lives.{lives_total, exact_lives};
+
+    ghost bottom = { map.empty };
+
+    ghost least = { λ lives _. empty_is_least nodes_total exact_nodes lives_total (exact_lives flag_cmp flags_exact) lives };
+
+    ghost bottom_value = { tt };
+
+    fn bottom(alloc: Global) -> Self {
+        Lives {
+            lives: MapOf::bottom(alloc),
+        }
+    }
+}
+
+impl Piece for Lives {
+    ghost use Rattle.dac_base.specs.Ids.{nodes_total, exact_nodes};
+    ghost use Rattle.dac_lattice.specs.Flags.{flag_cmp, flags_exact};
+    ghost use Rattle.dac_chains.specs.Greatest.{alone, greatest_piece};
+    ghost use Rattle.dac_chains.specs.Lives.{AreLives, lives_total, exact_lives, said_life};
+
+    type Act = LifeAct;
+
+    ghost fits = { λ _ _. Unit {0} };
+
+    ghost delta = { λ dot act. alone (said_life dot act) };
+
+    ghost means = { AreLives };
+
+    ghost piece_laws = { greatest_piece nodes_total exact_nodes lives_total (exact_lives flag_cmp flags_exact) said_life };
+
+    fn delta(alloc: Global, dot: Dot, act: &LifeAct) -> Result<Self, NoMemory> {
+        match act {
+            LifeAct::Up => {
+                let life = Life {
+                    inc: dot.origin.inc,
+                    flag: Flag::Up,
+                };
+                let lives = Lives::one(alloc, dot.origin.node, life)?;
+                Ok(lives)
+            }
+            LifeAct::Down { node, inc } => {
+                let life = Life {
+                    inc: *inc,
+                    flag: Flag::Down,
+                };
+                let lives = Lives::one(alloc, *node, life)?;
+                Ok(lives)
+            }
+            LifeAct::Other => Ok(Lives::bottom(alloc)),
+        }
+    }
+}
+
+#[cfg(test)]
+mod tests {
+    use super::*;
+    use dac_dots::Origin;
+    use dac_lattice::pieces::join_deltas;
+    use std::test::Fail;
+
+    const A: NodeId = NodeId(0);
+
+    const B: NodeId = NodeId(1);
+
+    /// An incarnation came up.
+    fn up(node: NodeId, inc: u32) -> (Dot, LifeAct) {
+        let origin = Origin { node, inc };
+        (Dot { origin, n: 1 }, LifeAct::Up)
+    }
+
+    /// The second node declares an incarnation down.
+    fn down(node: NodeId, inc: u32) -> (Dot, LifeAct) {
+        let origin = Origin { node: B, inc: 1 };
+        (Dot { origin, n: 2 }, LifeAct::Down { node, inc })
+    }
+
+    /// What the operations say, joined in turn.
+    fn heard(alloc: Global, operations: &[(Dot, LifeAct)]) -> Result<Lives, NoMemory> {
+        let mut lives = Lives::bottom(alloc);
+        for (dot, act) in operations {
+            lives = lives.join(&Lives::delta(alloc, *dot, act)?)?;
+        }
+        Ok(lives)
+    }
+
+    #[test]
+    fn down_is_above_up_of_its_incarnation(rt: HostRuntime) -> Result<(), Fail> {
+        let one: Lives = join_deltas(rt.alloc(), &[up(A, 1)])?;
+        assert_eq!(rt; one.life(A), Some((1, Flag::Up)));
+        assert_eq!(rt; one.live(A), Some(1));
+        assert_eq!(rt; one.life(B), None);
+        assert_eq!(rt; one.live(B), None);
+        let gone = heard(rt.alloc(), &[down(A, 1), up(A, 1)])?;
+        assert_eq!(rt; gone.life(A), Some((1, Flag::Down)));
+        assert_eq!(rt; gone.live(A), None);
+        let back = heard(rt.alloc(), &[up(A, 2), down(A, 1), up(A, 1)])?;
+        assert_eq!(rt; back.life(A), Some((2, Flag::Up)));
+        assert_eq!(rt; back.live(A), Some(2));
+        assert!(rt; one.leq(&gone) && gone.leq(&back) && !back.leq(&gone));
+        Ok(())
+    }
+
+    #[test]
+    fn lives_of_two_nodes(rt: HostRuntime) -> Result<(), Fail> {
+        let both = heard(rt.alloc(), &[up(B, 1), up(A, 3)])?;
+        let other = Life {
+            inc: 3,
+            flag: Flag::Up,
+        };
+        assert!(rt; Lives::one(rt.alloc(), A, other)?.leq(&both));
+        assert!(rt; !Lives::one(rt.alloc(), A, other)?.equal(&both));
+        assert!(rt; both.copy()?.equal(&both));
+        let entries = both.entries();
+        assert_eq!(rt; entries.len(), 2);
+        assert_eq!(rt; (entries[0].0, entries[1].0), (A, B));
+        assert_eq!(rt; entries[0].1.value, other);
+        Ok(())
+    }
+
+    #[test]
+    fn nothing_is_said(rt: HostRuntime) -> Result<(), Fail> {
+        let (dot, _) = up(A, 1);
+        let nothing = Lives::delta(rt.alloc(), dot, &LifeAct::Other)?;
+        assert!(rt; nothing.equal(&Lives::bottom(rt.alloc())));
+        assert!(rt; nothing.entries().is_empty());
+        Ok(())
+    }
+}
