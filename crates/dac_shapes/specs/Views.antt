@@ -8,7 +8,9 @@ use Rattle.dac_shapes.specs.declared.draft.Draft.{Draft}
 use Rattle.dac_shapes.specs.declared.draft.Permission.{Permission as ReadPermission}
 use Rattle.dac_shapes.specs.declared.param.Param.{Param as ReadParam}
 use Rattle.dac_shapes.specs.declared.param.Param.TheVariants as read
-use Rattle.dac_shapes.specs.Written.{App, Permission, Param, Distributed, Permissions, Mandatory, Optional, Timeout, Written}
+use Rattle.dac_shapes.specs.declared.param.Section.{Section as ReadSection}
+use Rattle.dac_shapes.specs.declared.param.Section.TheVariants as section
+use Rattle.dac_shapes.specs.Written.{App, Permission, Param, Distributed, Permissions, Mandatory, Optional, Timeout, Section, Kernel, Written}
 use Rattle.dac_shapes.specs.Shape.{State}
 
 -- names without where they lie in memory
@@ -36,12 +38,17 @@ param_of (read.Permissions permissions) = Permissions (permissions_of permission
 param_of (read.Mandatory names) = Mandatory (names_of names.items)
 param_of (read.Optional names) = Optional (names_of names.items)
 param_of (read.Timeout wait) = Timeout wait
+param_of read.Other = Param.Other
 
 abbrev pub params_of : List ReadParam → List Param
 params_of params = map param_of params
 
-abbrev pub sections_of : List (Vec ReadParam) → List (List Param)
-sections_of sections = map (λ params. params_of params.items) sections
+abbrev pub section_of : ReadSection → Section
+section_of (section.Kernel params) = Kernel (params_of params.items)
+section_of section.Other = Section.Other
+
+abbrev pub sections_of : List ReadSection → List Section
+sections_of sections = map section_of sections
 
 -- a draft without where its names lie in memory
 abbrev pub draft_of : Draft → Written

@@ -1,10 +1,10 @@
 //! What a configuration text says, as it is written.
 
 ghost use Rattle.std.specs.Prelude.{◌≡◌, fold};
-ghost use Rattle.dac_shapes.specs.Written.{put, put_all, unsaid, written};
-ghost use Rattle.dac_shapes.specs.Views.{draft_of, names_of, param_of, params_of, sections_of};
+ghost use Rattle.dac_shapes.specs.Written.{put, put_all, put_section, unsaid, written};
+ghost use Rattle.dac_shapes.specs.Views.{draft_of, names_of, param_of, params_of, section_of, sections_of};
 
-use crate::param::Param;
+use crate::param::{Param, Section};
 use std::alloc::Global;
 
 /// How long a node waits for others at its start (OTP's kernel parameter `sync_nodes_timeout`).
@@ -62,6 +62,7 @@ impl<'a> Draft<'a> {
             Param::Mandatory(names) => self.mandatory = names,
             Param::Optional(names) => self.optional = names,
             Param::Timeout(wait) => self.sync_wait = wait,
+            Param::Other => {}
         }
     }
 
@@ -73,8 +74,17 @@ impl<'a> Draft<'a> {
         }
     }
 
-    /// What sections, each with its parameters, say of these nodes.
-    pub fn of_sections(alloc: Global, sections: Vec<Vec<Param<'a>>>, nodes: Vec<&'a [u8]>) -> Self
+    fn put_section(&mut self, section: Section<'a>)
+        ensures { draft_of self.new ≡ put_section (draft_of self.old) (section_of section.entry) }
+    {
+        match section {
+            Section::Kernel(params) => self.put_all(params),
+            Section::Other => {}
+        }
+    }
+
+    /// What sections say of these nodes.
+    pub fn of_sections(alloc: Global, sections: Vec<Section<'a>>, nodes: Vec<&'a [u8]>) -> Self
         ensures { draft_of result ≡ written (sections_of sections.entry.items) (names_of nodes.entry.items) }
     {
         let mut draft = Draft {
@@ -85,8 +95,8 @@ impl<'a> Draft<'a> {
             sync_wait: SyncWait::NoSync,
             nodes,
         };
-        for params in sections {
-            draft.put_all(params);
+        for section in sections {
+            draft.put_section(section);
         }
         draft
     }
