@@ -1,8 +1,11 @@
 pub mod Bytes
 pub mod Faults
+pub mod Gaps
+pub mod Quotes
 pub mod Runs
 pub mod Shorter
 pub mod Spelling
 pub mod StopTexts
 pub mod Stops
+pub mod Strings
 pub mod Texts

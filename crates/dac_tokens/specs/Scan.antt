@@ -1,5 +1,5 @@
 -- The tokens of a text, one at a time, as they are read.
-use Rattle.std.specs.Prelude.{ℕ, Bool, true, false, ◌&&◌, ◌||◌, List, [], ◌∷◌, length, take, drop, Result, Ok, Err, nat_le, ◌==◌, if◌then◌else◌, codes}
+use Rattle.std.specs.Prelude.{ℕ, ◌+◌, ◌-◌, Bool, true, false, not, ◌&&◌, ◌||◌, List, [], ◌∷◌, length, take, drop, Result, Ok, Err, nat_le, ◌==◌, if◌then◌else◌, codes}
 use Rattle.std.specs.Str.{bytes_eq}
 use Rattle.std.specs.List.{take_while}
 use Rattle.std.specs.Char.{is_ascii_digit, is_ascii_alphanumeric}
@@ -8,7 +8,7 @@ use Rattle.dac_tokens.specs.declared.fault.ConfigFault.{ConfigFault}
 use Rattle.dac_tokens.specs.declared.token.Symbol.TheVariants.{OpenList, CloseList, OpenTuple, CloseTuple, Comma, FullStop}
 use Rattle.dac_tokens.specs.declared.token.Class.{Class}
 use Rattle.dac_tokens.specs.declared.token.Class.TheVariants as class
-use Rattle.dac_tokens.specs.Words.{Word, Mark, Name, Number, End}
+use Rattle.dac_tokens.specs.Words.{Word, Mark, Name, Number, Text, End}
 
 -- how many bytes at the front pass
 abbrev pub run : (ℕ → Bool) → List ℕ → ℕ
@@ -18,9 +18,14 @@ run passes bs = length (take_while passes bs)
 abbrev pub is_blank : ℕ → Bool
 is_blank b = nat_le b 32
 
--- the bytes from the first that is no blank
-abbrev pub after_blanks : List ℕ → List ℕ
-after_blanks bs = drop (run is_blank bs) bs
+-- the bytes from the first that is neither blank nor in a comment, which goes on up to a line feed
+abbrev pub after_gap : Bool → List ℕ → List ℕ
+after_gap comment [] = []
+after_gap true (b ∷ bs) = after_gap (not (b == 10)) bs
+after_gap false (b ∷ bs) =
+    if b == 37 then after_gap true bs
+    else (if is_blank b then after_gap false bs
+    else b ∷ bs)
 
 -- what may begin with a byte
 abbrev pub class_of : ℕ → Class
@@ -32,14 +37,20 @@ class_of b =
     else (if b == 44 then class.Comma
     else (if b == 46 then class.Dot
     else (if b == 45 then class.Minus
+    else (if b == 39 then class.Quote
+    else (if b == 34 then class.DoubleQuote
     else (if nat_le 97 b && nat_le b 122 then class.Letter
     else (if nat_le 48 b && nat_le b 57 then class.Digit
-    else (if b == 39 || b == 34 || b == 37 || b == 60 || b == 35 || b == 36 || b == 43 || b == 126 || b == 124 || nat_le 128 b then class.Refused
-    else class.Unknown)))))))))
+    else (if b == 60 || b == 35 || b == 36 || b == 43 || b == 126 || b == 124 || nat_le 128 b then class.Refused
+    else class.Unknown)))))))))))
 
 -- what a bare atom may go on with
 abbrev pub is_name_byte : ℕ → Bool
 is_name_byte b = is_ascii_alphanumeric b || b == 95 || b == 64
+
+-- what a quoted atom may hold
+abbrev pub is_quotable : ℕ → Bool
+is_quotable b = nat_le 32 b && not (b == 127) && not (b == 39) && not (b == 92)
 
 -- a full stop's dot has a blank, a comment or the end behind it
 abbrev pub ends_stop : List ℕ → Bool
@@ -68,6 +79,36 @@ atom_at at bs =
     let n = run is_name_byte bs in
     if is_fun (take n bs) then unsupported at else Ok (Name (take n bs), drop n bs)
 
+-- the quoted atom of this name, whose opening quote is at `at`, with these bytes behind the name
+abbrev pub closed_at : ℕ → List ℕ → List ℕ → Result (Word × List ℕ) ConfigFault
+closed_at at name [] = bad_token at
+closed_at at name (b ∷ rest) = if b == 39 then Ok (Name name, rest) else unsupported (at + 1 + length name)
+
+-- the quoted atom whose opening quote, at `at`, stands before the bytes
+abbrev pub quoted_at : ℕ → List ℕ → Result (Word × List ℕ) ConfigFault
+quoted_at at bs =
+    let n = run is_quotable bs in
+    closed_at at (take n bs) (drop n bs)
+
+-- whether two more double quotes stand behind a first
+abbrev pub two_quotes : List ℕ → Bool
+two_quotes [] = false
+two_quotes (b ∷ []) = false
+two_quotes (b ∷ c ∷ bs) = b == 34 && c == 34
+
+-- reads on in the string whose opening quote is at `at`, from the byte at `place` on, which a backslash may
+-- have taken along
+abbrev pub inside_string : ℕ → ℕ → Bool → List ℕ → Result (Word × List ℕ) ConfigFault
+inside_string at place escaped [] = bad_token at
+inside_string at place escaped (b ∷ bs) =
+    if escaped && b == 94 then unsupported (place - 1)
+    else (if not escaped && b == 34 then Ok (Text, bs)
+    else inside_string at (place + 1) (not escaped && b == 92) bs)
+
+-- the string whose opening quote, at `at`, stands before the bytes
+abbrev pub string_at : ℕ → List ℕ → Result (Word × List ℕ) ConfigFault
+string_at at bs = if two_quotes bs then unsupported at else inside_string at (at + 1) false bs
+
 -- the digits at the front, of a number that begins at `at`
 abbrev pub number_at : ℕ → Bool → List ℕ → Result (Word × List ℕ) ConfigFault
 number_at at negative bs =
@@ -86,6 +127,8 @@ token_of class.Dot at b bs = if ends_stop bs then Ok (Mark FullStop, bs) else ba
 token_of class.Letter at b bs = atom_at at (b ∷ bs)
 token_of class.Digit at b bs = number_at at false (b ∷ bs)
 token_of class.Minus at b bs = negative_at at bs
+token_of class.Quote at b bs = quoted_at at bs
+token_of class.DoubleQuote at b bs = string_at at bs
 token_of class.Refused at b bs = unsupported at
 token_of class.Unknown at b bs = bad_token at
 

@@ -25,7 +25,7 @@ pub enum Symbol {
 pub enum Token<'a> {
     /// A bracket, a comma or the full stop.
     Symbol(Symbol),
-    /// An atom, by its name.
+    /// An atom, by its name: its bytes, or those between its quotes, of which there may be none.
     Atom(&'a [u8]),
     /// A whole number, as it is written: its value is for whoever needs it, with a bound of their own.
     Number {
@@ -34,8 +34,7 @@ pub enum Token<'a> {
         /// The decimal digits as ASCII, the most significant first, at least one; leading zeros stay.
         digits: &'a [u8],
     },
-    /// A string. What it holds isn't looked at, and several in a row are for the reader of shapes to take
-    /// as one.
+    /// A string. What it holds isn't kept, and several in a row are for the reader of shapes to take as one.
     Text,
     /// The end of the text.
     End,
@@ -50,7 +49,7 @@ pub struct Located<'a> {
     pub at: usize,
 }
 
-/// What may begin with a byte that is no blank.
+/// What may begin with a byte behind a gap.
 #[derive(Clone, Copy, Debug, PartialEq, Eq)]
 pub enum Class {
     Bracket(Symbol),
@@ -59,6 +58,8 @@ pub enum Class {
     Letter,
     Digit,
     Minus,
+    Quote,
+    DoubleQuote,
     Refused,
     Unknown,
 }
