@@ -10,7 +10,7 @@ use Rattle.dac_shapes.specs.declared.param.ParamName.{ParamName}
 use Rattle.dac_shapes.specs.declared.param.ParamName.TheVariants as named
 use Rattle.dac_shapes.specs.Written.{App, Permission, Param, Distributed, Permissions, Mandatory, Optional, Timeout, Section, Kernel, name_of, spelled}
 use Rattle.dac_shapes.specs.Limits.{Seen, AllMay, steps, is_among, has_param, with_node, MayNode, with_nodes, MayNodes, with_groups, MayGroups, listing, with_app, MayApp, with_permission, MayPermission, with_param, MayValue, MayParam, has_kernel, with_section, MaySection}
-use Rattle.dac_shapes.specs.Shape.{State, is_mark, token, atom_of, short_name_of, node_of, names_at, item_at, items_at, groups_at, timeout_of, timeout_at, wait_of, value_from, app_name_of, app_value_at, app_at, flag_of, permission_value_at, permission_at, param_named, param_name_of, first_param, param_value_at, param_rest_at, param_at, section_name_of, kernel_at, section_rest_at, section_at, passed_at, pair_at, closed, is_text, list_of}
+use Rattle.dac_shapes.specs.Shape.{State, is_mark, token, atom_of, short_name_of, node_of, names_at, item_at, items_at, groups_at, timeout_of, timeout_at, wait_of, value_from, app_name_of, app_value_at, app_at, flag_of, permission_value_at, permission_at, param_named, param_name_of, param_value_at, param_rest_at, param_at, names_kernel, kernel_at, section_rest_at, section_at, passed_at, pair_at, closed, list_of}
 use Rattle.std.specs.Str.{bytes_eq}
 use Rattle.dac_shapes.specs.Grammar.{Parted, IsListOf, IsPair, IsNode, IsItem, IsNodeList, IsAppValue, IsApp, IsFlag, IsPermission, IsTerm, IsWait, IsParam, IsSection}
 use Rattle.dac_shapes.proofs.Found.{same_seen, is_named, param_is}
@@ -336,12 +336,12 @@ module _ (last : Result Located ConfigFault) where
   section_begins ws (Kernel params) is = pair_begins (codes "kernel") (λ value. IsListOf IsParam value params) ws is
   section_begins ws Section.Other is = pair_begins is.0 IsTerm ws is.2
 
-  kernel_named_again : (before : List Section) (t : Located) → t.word ≡ Name (codes "kernel") → has_kernel before ≡ false → section_name_of before t ≡ Ok true
-  unfolding section_name_of
+  kernel_named_again : (before : List Section) (t : Located) → t.word ≡ Name (codes "kernel") → has_kernel before ≡ false → names_kernel before t ≡ Ok true
+  unfolding names_kernel
   kernel_named_again before t w once = rw (atom_again t.word t.at (codes "kernel") w, once) refl
 
-  other_section_again : (before : List Section) (t : Located) (name : List ℕ) → t.word ≡ Name name → bytes_eq name (codes "kernel") ≡ false → section_name_of before t ≡ Ok false
-  unfolding section_name_of
+  other_section_again : (before : List Section) (t : Located) (name : List ℕ) → t.word ≡ Name name → bytes_eq name (codes "kernel") ≡ false → names_kernel before t ≡ Ok false
+  unfolding names_kernel
   other_section_again before t name w other = rw (atom_again t.word t.at name w, other) refl
 
   -- a name that is not `kernel`
@@ -364,12 +364,12 @@ module _ (last : Result Located ConfigFault) where
   unfolding section_rest_at
   rest_of_section s u e = rw e refl
 
-  section_pair_again : (before : List Section) (t : Located) (ts us : List Located) (seen : Seen) (x : Section) → IsSection (words_of (t ∷ ts)) x → MaySection before seen x → pair_at (section_name_of before) section_rest_at t (at last (ts ++ us) seen) ≡ Ok (x, at last us (with_section seen x))
+  section_pair_again : (before : List Section) (t : Located) (ts us : List Located) (seen : Seen) (x : Section) → IsSection (words_of (t ∷ ts)) x → MaySection before seen x → pair_at (names_kernel before) section_rest_at t (at last (ts ++ us) seen) ≡ Ok (x, at last us (with_section seen x))
   section_pair_again before t ts us seen (Kernel params) is may =
-      pair_again last (section_name_of before) section_rest_at (codes "kernel") true (Kernel params) seen (with_section seen (Kernel params)) (λ n w. kernel_named_again before n w may.once)
+      pair_again last (names_kernel before) section_rest_at (codes "kernel") true (Kernel params) seen (with_section seen (Kernel params)) (λ n w. kernel_named_again before n w may.once)
       kernel_at (λ value. IsListOf IsParam value params) rest_of_kernel (λ vs us' value. kernel_value_again vs us' seen params value may.params) t ts us is
   section_pair_again before t ts us seen Section.Other is may =
-      rest_again last (section_name_of before) section_rest_at is.0 false Section.Other seen seen (λ n w. other_section_again before n is.0 w (no_kernel is.0 is.1))
+      rest_again last (names_kernel before) section_rest_at is.0 false Section.Other seen seen (λ n w. other_section_again before n is.0 w (no_kernel is.0 is.1))
       (is.2.0 ++ Mark CloseTuple ∷ []) t ts us is.2.1 (λ vs e. rest_of_section (at last (vs ++ us) seen) (at last us seen) (passed_again last is.2.0 vs us seen is.2.2 e))
 
   -- a section begins with a brace
@@ -377,7 +377,7 @@ module _ (last : Result Located ConfigFault) where
   braced t ts (Kernel params) is = (cons_is t.word (Mark OpenTuple) (words_of ts) (Name (codes "kernel") ∷ Mark Comma ∷ is.0 ++ Mark CloseTuple ∷ []) is.1).0
   braced t ts Section.Other is = (cons_is t.word (Mark OpenTuple) (words_of ts) (Name is.0 ∷ Mark Comma ∷ is.2.0 ++ Mark CloseTuple ∷ []) is.2.1).0
 
-  no_text : (before : List Section) (t : Located) (s : State) → t.word ≡ Mark OpenTuple → section_at before t s ≡ pair_at (section_name_of before) section_rest_at t s
+  no_text : (before : List Section) (t : Located) (s : State) → t.word ≡ Mark OpenTuple → section_at before t s ≡ pair_at (names_kernel before) section_rest_at t s
   unfolding section_at
   no_text before t s w = rw w refl
 

@@ -1,5 +1,5 @@
 -- A term is passed over.
-use Rattle.std.proofs.Common.{◌≡◌, ℕ, zero, suc, ◌+◌, ◌<◌, ◌≤◌, Bool, true, false, List, [], ◌∷◌, ◌++◌, length, Result, Ok, refl, sym, ap, subst, ◌∙◌, append_assoc, arith}
+use Rattle.std.proofs.Common.{◌≡◌, ℕ, zero, suc, ◌+◌, ◌<◌, ◌≤◌, true, false, List, [], ◌∷◌, ◌++◌, length, Result, Ok, refl, sym, ap, subst, ◌∙◌, append_assoc, arith}
 use Rattle.std.specs.Prelude.{All}
 use Rattle.std.proofs.lemmas.List.{length-append}
 use Rattle.std.proofs.lemmas.List.Elements.{All-head, All-tail}
@@ -9,7 +9,7 @@ use Rattle.dac_tokens.specs.declared.token.Symbol.TheVariants.{OpenList, CloseLi
 use Rattle.dac_tokens.specs.Words.{Word, Mark, Name, Number, Text, Located}
 use Rattle.dac_shapes.specs.Limits.{Seen}
 use Rattle.dac_shapes.specs.Shape.{State, is_mark, is_text, token, room, terms_at, terms_in, texts_at, term_by, term_at, passed_at}
-use Rattle.dac_shapes.specs.Grammar.{AreBrackets, IsTerm, AreTerms, OfList, OfTuple, Atom, Integer, Strings, Empty, Between, One, More}
+use Rattle.dac_shapes.specs.Grammar.{IsTerm, AreTerms, OfList, OfTuple, Atom, Integer, Strings, Empty, Between, One, More}
 use Rattle.dac_shapes.proofs.TermCases.{by_name, by_number, by_text, by_mark}
 use Rattle.dac_shapes.proofs.AgainLists.{words_of, cons_is, split, cut, none, ended, Begins, at}
 

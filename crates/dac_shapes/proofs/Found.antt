@@ -5,7 +5,7 @@ use Rattle.std.specs.Cmp.Lexicographic.{same_text}
 use Rattle.std.proofs.lemmas.Bool.{ltb-true, ltb-false, leb-false, eqb-true}
 use Rattle.dac_tokens.specs.declared.fault.ConfigFault.{ConfigFault}
 use Rattle.dac_tokens.specs.declared.token.Symbol.TheVariants.{OpenList, CloseList, OpenTuple, CloseTuple, Comma}
-use Rattle.dac_tokens.specs.declared.fault.FaultKind.TheVariants.{Unsupported, BadShape, EmptyList, EmptyTuple, TwiceInList, TwiceApp, TooManyApps, TooManyNodes, NumberTooLarge, NameTooLong}
+use Rattle.dac_tokens.specs.declared.fault.FaultKind.TheVariants.{BadShape, EmptyList, EmptyTuple, TwiceInList, TwiceApp, TooManyApps, TooManyNodes, NumberTooLarge, NameTooLong}
 use Rattle.dac_tokens.specs.Gives.{◌>>=◌}
 use Rattle.dac_tokens.specs.Words.{Word, Mark, Name, Number, Text, End, Located, is_end}
 use Rattle.dac_shapes.specs.declared.draft.SyncWait.{SyncWait}
@@ -13,9 +13,9 @@ use Rattle.dac_shapes.specs.declared.draft.SyncWait.TheVariants.{Forever, Ms}
 use Rattle.dac_shapes.specs.declared.param.ParamName.{ParamName}
 use Rattle.dac_shapes.specs.declared.param.ParamName.TheVariants as named
 use Rattle.dac_shapes.specs.Written.{App, Permission, Param, Distributed, Permissions, Mandatory, Optional, Timeout, Section, Kernel, name_of, spelled}
-use Rattle.dac_shapes.specs.Limits.{Seen, steps, is_among, has_param, with_node, MayNode, with_nodes, MayNodes, with_groups, MayGroups, listing, with_app, MayApp, with_permission, MayPermission, with_param, MayValue, MayParam, has_kernel, with_section, MayKernel, MaySection}
-use Rattle.dac_shapes.specs.Shape.{State, fails, is_mark, token, symbol_at, atom_of, short_name_of, node_of, names_at, item_at, items_at, groups_at, timeout_of, timeout_at, wait_of, value_from, app_name_of, app_value_at, app_at, flag_of, permission_value_at, permission_at, param_named, first_param, param_name_of, param_value_at, param_rest_at, param_at, section_name_of, kernel_at, section_rest_at, section_at, passed_at, closed, pair_at, is_text, list_of, room}
-use Rattle.dac_shapes.specs.Grammar.{between, IsListOf, IsNode, IsItem, IsNodeList, IsMs, IsTimeout, IsApp, IsFlag, IsPermission, IsWait, IsParam, IsTerm, IsSection}
+use Rattle.dac_shapes.specs.Limits.{Seen, steps, is_among, has_param, with_node, MayNode, with_nodes, MayNodes, with_groups, MayGroups, listing, with_app, MayApp, with_permission, MayPermission, with_param, MayValue, MayParam, has_kernel, with_section, MaySection}
+use Rattle.dac_shapes.specs.Shape.{State, fails, is_mark, token, symbol_at, atom_of, short_name_of, node_of, names_at, item_at, items_at, groups_at, timeout_of, timeout_at, wait_of, value_from, app_name_of, app_value_at, app_at, flag_of, permission_value_at, permission_at, param_named, first_param, param_name_of, param_value_at, param_rest_at, param_at, names_kernel, kernel_at, section_rest_at, section_at, passed_at, closed, pair_at, is_text, list_of, room}
+use Rattle.dac_shapes.specs.Grammar.{between, IsListOf, IsNode, IsItem, IsNodeList, IsMs, IsTimeout, IsApp, IsFlag, IsPermission, IsWait, IsParam, IsSection}
 use Rattle.dac_shapes.proofs.Moves.{bind_ok, held, required, passed, chosen, ok_same, words_in, EndsWell, Moves, Moves-then, same_last, token_is, token_moves, word_passes, mark_is, symbol_passes, back}
 use Rattle.dac_shapes.proofs.FoundLists.{Reads, Gets, token_then, list_found, bracketed_found, pair_begun, pair_words, closed_found, pair_found}
 use Rattle.dac_shapes.proofs.FoundTerms.{passed_found}
@@ -417,8 +417,8 @@ data FineSection (before : List Section) (name : List ℕ) : Bool → Type 0 whe
   IsKernel : name ≡ codes "kernel" → has_kernel before ≡ false → FineSection before name true
   IsOther : bytes_eq name (codes "kernel") ≡ false → FineSection before name false
 
-section_named : (before : List Section) (t : Located) (k : Bool) → section_name_of before t ≡ Ok k → (name : List ℕ) × (t.word ≡ Name name) × FineSection before name k
-unfolding section_name_of
+section_named : (before : List Section) (t : Located) (k : Bool) → names_kernel before t ≡ Ok k → (name : List ℕ) × (t.word ≡ Name name) × FineSection before name k
+unfolding names_kernel
 section_named before t k e =
     let first : Result Bool ConfigFault = cond (has_kernel before) (fails BadShape t.at) (Ok true) in
     let b = bind_ok (atom_of t) (λ name. cond (bytes_eq name (codes "kernel")) first (Ok false)) k e in
@@ -455,5 +455,5 @@ section_rested before false name s x u well (IsOther other) e =
 pub section_found : (before : List Section) (t : Located) (s : State) (x : Section) (u : State) → EndsWell s → section_at before t s ≡ Ok (x, u) → Reads IsSection with_section (MaySection before) t s x u
 unfolding section_at
 section_found before t s x u well e =
-    let p = passed (is_text t.word) _ (pair_at (section_name_of before) section_rest_at t s) (x, u) e in
-    pair_found IsSection (section_name_of before) (λ k name. FineSection before name k) section_rest_at with_section (MaySection before) (section_named before) (section_rested before) t s x u well p.1
+    let p = passed (is_text t.word) _ (pair_at (names_kernel before) section_rest_at t s) (x, u) e in
+    pair_found IsSection (names_kernel before) (λ k name. FineSection before name k) section_rest_at with_section (MaySection before) (section_named before) (section_rested before) t s x u well p.1

@@ -1,5 +1,5 @@
 -- What is passed over is a term.
-use Rattle.std.proofs.Common.{◌≡◌, ℕ, zero, suc, Bool, true, false, cond, List, [], ◌∷◌, ◌++◌, Result, Ok, refl, sym, ap, subst, ◌∙◌, ◌⊎◌, inl, inr, append_assoc}
+use Rattle.std.proofs.Common.{◌≡◌, ℕ, zero, suc, true, false, cond, List, [], ◌∷◌, ◌++◌, Result, Ok, refl, sym, ap, subst, ◌∙◌, ◌⊎◌, inl, inr, append_assoc}
 use Rattle.std.specs.Prelude.{All}
 use Rattle.std.proofs.lemmas.List.Elements.{All-nil, All-cons}
 use Rattle.dac_tokens.specs.declared.fault.ConfigFault.{ConfigFault}
@@ -10,7 +10,7 @@ use Rattle.dac_tokens.specs.Gives.{◌>>=◌}
 use Rattle.dac_tokens.specs.Words.{Word, Mark, Name, Number, Text, End, Located, is_end}
 use Rattle.dac_shapes.specs.Shape.{State, fails, is_mark, is_text, token, room, terms_at, terms_in, texts_at, term_by, term_at, passed_at}
 use Rattle.dac_shapes.specs.Grammar.{AreBrackets, IsTerm, AreTerms, OfList, OfTuple, Atom, Integer, Strings, Empty, Between, One, More}
-use Rattle.dac_shapes.proofs.Moves.{bind_ok, held, required, chosen, ok_same, words_in, EndsWell, Moves, Passes, Moves-then, same_last, token_is, token_moves, word_passes, mark_is, back}
+use Rattle.dac_shapes.proofs.Moves.{bind_ok, held, required, chosen, words_in, EndsWell, Moves, Moves-then, same_last, token_is, mark_is, back}
 use Rattle.dac_shapes.proofs.FoundLists.{token_then}
 
 -- these words were passed over from s on, and behind them the token t was read

@@ -1,9 +1,9 @@
 -- What is read from the first token of a term on.
-use Rattle.std.proofs.Common.{◌≡◌, ℕ, Bool, List, Option, None, Some, Result, refl}
+use Rattle.std.proofs.Common.{◌≡◌, ℕ, Bool, List, None, Some, Result, refl}
 use Rattle.dac_tokens.specs.declared.fault.ConfigFault.{ConfigFault}
 use Rattle.dac_tokens.specs.declared.fault.FaultKind.TheVariants.{BadShape}
 use Rattle.dac_tokens.specs.declared.token.Symbol.{Symbol}
-use Rattle.dac_tokens.specs.Words.{Word, Mark, Name, Number, Text, End, Located}
+use Rattle.dac_tokens.specs.Words.{Mark, Name, Number, Text, End, Located}
 use Rattle.dac_shapes.specs.Shape.{State, fails, token, closing_of, terms_in, texts_at, term_by}
 
 module _ (pass : Located → State → Result (Located × State) ConfigFault) (n : ℕ) (t : Located) (s : State) where

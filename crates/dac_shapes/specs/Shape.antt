@@ -138,8 +138,8 @@ param_name_of before t = do
   first_param before t.at (param_named name)
 
 -- whether a section is `kernel` by its name, after these
-unfoldable pub section_name_of : List Section → Located → Result Bool ConfigFault
-section_name_of before t = do
+unfoldable pub names_kernel : List Section → Located → Result Bool ConfigFault
+names_kernel before t = do
   name ← atom_of t
   if bytes_eq name (codes "kernel") then (if has_kernel before then fails BadShape t.at else Ok true)
       else Ok false
@@ -396,7 +396,7 @@ section_rest_at false s = do
 -- file to include, which isn't taken.
 unfoldable pub section_at : List Section → Located → State → Result (Section × State) ConfigFault
 section_at before t s =
-    if is_text t.word then fails Unsupported t.at else pair_at (section_name_of before) section_rest_at t s
+    if is_text t.word then fails Unsupported t.at else pair_at (names_kernel before) section_rest_at t s
 
 -- ---- the file
 

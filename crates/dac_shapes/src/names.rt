@@ -6,7 +6,7 @@ ghost use Rattle.std.specs.Str.{bytes_eq};
 ghost use Rattle.dac_shapes.specs.Outcome.{Gives};
 ghost use Rattle.dac_tokens.specs.Words.{word_of, located_of};
 ghost use Rattle.dac_shapes.specs.Limits.{is_among};
-ghost use Rattle.dac_shapes.specs.Shape.{is_mark, is_text, atom_of, short_name_of, app_name_of, param_name_of, section_name_of};
+ghost use Rattle.dac_shapes.specs.Shape.{is_mark, is_text, atom_of, short_name_of, app_name_of, param_name_of, names_kernel};
 ghost use Rattle.dac_shapes.specs.Views.{names_of, apps_of, params_of, sections_of};
 
 use crate::draft::DraftApp;
@@ -109,9 +109,9 @@ pub fn param_name_of(
 }
 
 /// Whether a section is `kernel` by its name; it is then not among those before it.
-#[tactic(auto, using(crate::proofs::Among::has_kernels), unfolding(crate::specs::Shape::section_name_of))]
-pub fn section_name_of(before: &[Section<'_>], token: Located<'_>) -> Result<bool, ConfigFault>
-    ensures { Gives (λ kernel. kernel) result (section_name_of (sections_of before.now) (located_of token.entry)) }
+#[tactic(auto, using(crate::proofs::Among::has_kernels), unfolding(crate::specs::Shape::names_kernel))]
+pub fn names_kernel(before: &[Section<'_>], token: Located<'_>) -> Result<bool, ConfigFault>
+    ensures { Gives (λ kernel. kernel) result (names_kernel (sections_of before.now) (located_of token.entry)) }
 {
     let name = atom_of(token)?;
     if name != b"kernel".as_slice() {

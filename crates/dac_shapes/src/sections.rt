@@ -8,7 +8,7 @@ ghost use Rattle.dac_shapes.specs.Shape.{node_of, comma_list, list_of, room, par
 ghost use Rattle.dac_shapes.specs.Views.{names_of, param_of, params_of, section_of, sections_of, draft_of, state_of, tokens_left};
 
 use crate::draft::Draft;
-use crate::names::{fault, is_mark, is_text, param_name_of, section_name_of};
+use crate::names::{fault, is_mark, is_text, names_kernel, param_name_of};
 use crate::numbers::wait_of;
 use crate::param::{Param, ParamName, Section};
 use crate::parser::Parser;
@@ -164,7 +164,7 @@ impl<'a> Parser<'a> {
             return Err(fault(FaultKind::BadShape, token.at));
         }
         let first = self.next()?;
-        let kernel = section_name_of(before, first)?;
+        let kernel = names_kernel(before, first)?;
         self.symbol(Symbol::Comma)?;
         self.section_rest(alloc, kernel)
     }

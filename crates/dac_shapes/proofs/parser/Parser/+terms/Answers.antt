@@ -1,11 +1,8 @@
-use Rattle.std.proofs.Common.{◌≡◌, ◌<◌, ◌≤◌, ◌∙◌, sym, ap, subst, ℕ, Ok, Result, true, false, length, arith, inl, inr}
+use Rattle.std.proofs.Common.{◌≡◌, ◌<◌, ◌∙◌, sym, ap, true, false, arith, inl, inr}
 use Rattle.std.proofs.lemmas.Result.{err_from_is_err_and}
-use Rattle.dac_tokens.specs.declared.token.Located.{Located}
-use Rattle.dac_tokens.specs.declared.token.Symbol.{Symbol}
-use Rattle.dac_tokens.specs.declared.token.Symbol.TheVariants.{OpenList, CloseList, OpenTuple, CloseTuple, Comma}
-use Rattle.dac_tokens.specs.Words.{Mark, located_of, word_of}
-use Rattle.dac_shapes.specs.Outcome.{Gives, Fails}
-use Rattle.dac_shapes.specs.Shape.{IsEnough, State, is_mark, token, texts_at, terms_in, term_at}
+use Rattle.dac_tokens.specs.declared.token.Symbol.TheVariants.{Comma}
+use Rattle.dac_tokens.specs.Words.{located_of, word_of}
+use Rattle.dac_shapes.specs.Shape.{IsEnough, is_mark, terms_in, term_at}
 use Rattle.dac_shapes.specs.Views.{state_of, tokens_left}
 use Rattle.dac_shapes.proofs.TermLoops.{comma_no_end, in_fail, in_empty, in_begin, terms_fail, terms_end, terms_bad, terms_fail_more, terms_go, on_name, on_number, on_texts, on_mark, on_other_mark, on_end}
 use Rattle.dac_shapes.proofs.parser.Parser.+terms.Goals as goal

@@ -1,4 +1,4 @@
-use Rattle.std.proofs.Common.{◌≡◌, ℕ, ◌<◌, ◌≤◌, ◌+◌, ◌*◌, false, cond, length}
+use Rattle.std.proofs.Common.{◌≡◌, ℕ, ◌<◌, ◌≤◌, ◌+◌, ◌*◌, false, cond}
 use Rattle.dac_tokens.specs.Words.{located_of, word_of, is_end}
 use Rattle.dac_shapes.specs.Shape.{terms_in, term_at}
 use Rattle.dac_shapes.specs.Views.{state_of, tokens_left}

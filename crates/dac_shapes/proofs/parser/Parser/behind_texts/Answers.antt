@@ -1,9 +1,9 @@
-use Rattle.std.proofs.Common.{◌≡◌, ◌<◌, ◌∙◌, sym, Ok, arith, true, length}
+use Rattle.std.proofs.Common.{◌≡◌, ◌∙◌, sym, arith, true}
 use Rattle.std.proofs.lemmas.Result.{err_from_is_err_and}
 use Rattle.dac_tokens.specs.Words.{located_of, word_of}
 use Rattle.dac_shapes.specs.Shape.{texts_at, is_text}
 use Rattle.dac_shapes.specs.Views.{state_of}
-use Rattle.dac_shapes.proofs.TermLoops.{texts_fail, texts_begin, texts_fail_more, texts_go, texts_done, text_lighter}
+use Rattle.dac_shapes.proofs.TermLoops.{texts_fail, texts_begin, texts_fail_more, texts_go}
 use Rattle.dac_shapes.proofs.parser.Parser.behind_texts.Goals as goal
 
 pub returns-in_err-next-clause-read : goal.returns-in_err-next-clause-read

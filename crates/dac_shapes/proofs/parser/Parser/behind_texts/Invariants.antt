@@ -1,4 +1,4 @@
-use Rattle.std.proofs.Common.{◌≡◌, ℕ, ◌<◌, ◌≤◌, false, length}
+use Rattle.std.proofs.Common.{◌≡◌, ℕ, ◌<◌, ◌≤◌, false}
 use Rattle.dac_tokens.specs.Words.{located_of, word_of, is_end}
 use Rattle.dac_shapes.specs.Shape.{texts_at}
 use Rattle.dac_shapes.specs.Views.{state_of, tokens_left}
