@@ -1,5 +1,5 @@
 -- What is in the grammar, with names that may stand where they stand, is read.
-use Rattle.std.proofs.Common.{◌≡◌, ℕ, ◌<◌, ◌≤◌, Bool, true, false, not, ◌&&◌, eqb, ltb, leb, List, [], ◌∷◌, ◌++◌, length, map, Some, Result, Ok, refl, sym, ap, subst, ◌∙◌, append_assoc, arith, codes, inl, inr}
+use Rattle.std.proofs.Common.{◌≡◌, ℕ, ◌<◌, ◌≤◌, Bool, true, false, not, ◌&&◌, eqb, ltb, leb, List, [], ◌∷◌, ◌++◌, length, map, Option, None, Some, ◌≢◌, Result, Ok, refl, sym, ap, subst, ◌∙◌, append_assoc, arith, codes, inl, inr}
 use Rattle.std.proofs.lemmas.Bool.{le-ltb, lt-ltb, lt-leb, eq-eqb}
 use Rattle.dac_tokens.specs.declared.fault.ConfigFault.{ConfigFault}
 use Rattle.dac_tokens.specs.declared.token.Symbol.TheVariants.{OpenList, CloseList, OpenTuple, CloseTuple, Comma}
@@ -8,11 +8,14 @@ use Rattle.dac_shapes.specs.declared.draft.SyncWait.{SyncWait}
 use Rattle.dac_shapes.specs.declared.draft.SyncWait.TheVariants.{NoSync, Forever, Ms}
 use Rattle.dac_shapes.specs.declared.param.ParamName.{ParamName}
 use Rattle.dac_shapes.specs.declared.param.ParamName.TheVariants as named
-use Rattle.dac_shapes.specs.Written.{App, Param, Distributed, Mandatory, Optional, Timeout, name_of, spelled}
-use Rattle.dac_shapes.specs.Limits.{Seen, AllMay, steps, is_among, has_param, with_node, MayNode, with_nodes, MayNodes, with_groups, MayGroups, listing, with_app, MayApp, with_param, MayValue, MayParam, with_section, MaySection}
-use Rattle.dac_shapes.specs.Shape.{State, is_mark, token, atom_of, short_name_of, node_of, names_at, item_at, items_at, groups_at, timeout_of, timeout_at, wait_of, value_from, app_name_of, app_value_at, app_at, param_named, param_name_of, param_value_at, param_at, section_name_of, section_at, list_of}
-use Rattle.dac_shapes.specs.Grammar.{Parted, IsListOf, IsNode, IsItem, IsNodeList, IsAppValue, IsApp, IsWait, IsParamValue, IsParam, IsSection}
-use Rattle.dac_shapes.proofs.AgainLists.{words_of, cons_is, split, cut, none, Begins, at, symbol_again, whole_again, bracketed_again, pair_again}
+use Rattle.dac_shapes.specs.Written.{App, Permission, Param, Distributed, Permissions, Mandatory, Optional, Timeout, Section, Kernel, name_of, spelled}
+use Rattle.dac_shapes.specs.Limits.{Seen, AllMay, steps, is_among, has_param, with_node, MayNode, with_nodes, MayNodes, with_groups, MayGroups, listing, with_app, MayApp, with_permission, MayPermission, with_param, MayValue, MayParam, has_kernel, with_section, MaySection}
+use Rattle.dac_shapes.specs.Shape.{State, is_mark, token, atom_of, short_name_of, node_of, names_at, item_at, items_at, groups_at, timeout_of, timeout_at, wait_of, value_from, app_name_of, app_value_at, app_at, flag_of, permission_value_at, permission_at, param_named, param_name_of, param_value_at, param_rest_at, param_at, names_kernel, kernel_at, section_rest_at, section_at, passed_at, pair_at, closed, list_of}
+use Rattle.std.specs.Str.{bytes_eq}
+use Rattle.dac_shapes.specs.Grammar.{Parted, IsListOf, IsPair, IsNode, IsItem, IsNodeList, IsAppValue, IsApp, IsFlag, IsPermission, IsTerm, IsWait, IsParam, IsSection}
+use Rattle.dac_shapes.proofs.Found.{same_seen, is_named, param_is}
+use Rattle.dac_shapes.proofs.AgainLists.{words_of, cons_is, split, cut, none, Begins, at, symbol_again, whole_again, bracketed_again, rest_again, pair_again}
+use Rattle.dac_shapes.proofs.AgainTerms.{passed_again}
 
 -- ---- single tokens
 
@@ -182,23 +185,77 @@ module _ (last : Result Located ConfigFault) where
   app_named_again before t name w short once few = let room : leb 64 (length before) ≡ false = lt-leb 64 (length before) few in rw (short_name_again t name w short, once, room) refl
 
   app_again : (before : List App) (t : Located) (ts us : List Located) (seen : Seen) (app : App) → IsApp (words_of (t ∷ ts)) app → MayApp before seen app → app_at before t (at last (ts ++ us) seen) ≡ Ok (app, at last us (with_app seen app))
-  app_again before = pair_again last (λ (app : App). app.name) (λ name. name) (λ app value. IsAppValue value app) (app_name_of before) app_value_at with_app (MayApp before)
-      (λ t seen app w may. app_named_again before t app.name w may.short may.once may.few) (λ vs us seen app is may. app_value_again vs us seen app is may.nodes)
+  app_again before t ts us seen app is may =
+      pair_again last (app_name_of before) (λ name. closed (app_value_at name)) app.name app.name app seen (with_app seen app) (λ n w. app_named_again before n app.name w may.short may.once may.few)
+      (app_value_at app.name) (λ value. IsAppValue value app) (λ s. refl) (λ vs us' value. app_value_again vs us' seen app value may.nodes) t ts us is
+
+  -- ---- permissions
+
+  permission_begins : (ws : List Word) (x : Permission) → IsPermission ws x → Begins ws
+  permission_begins ws x is = record { head = Mark OpenTuple; tail = Name x.name ∷ Mark Comma ∷ is.0 ++ Mark CloseTuple ∷ []; whole = is.1; no_list = refl; no_tuple = refl }
+
+  flag_again : (t : Located) (b : Bool) → IsFlag (t.word ∷ []) b → flag_of t ≡ Ok b
+  unfolding flag_of
+  flag_again t true is = rw (atom_again t.word t.at (codes "true") (cons_is t.word (Name (codes "true")) [] [] is).0) refl
+  flag_again t false is = rw (atom_again t.word t.at (codes "false") (cons_is t.word (Name (codes "false")) [] [] is).0) refl
+
+  -- `true` or `false` is one word
+  flag_word : (ws : List Word) (b : Bool) → IsFlag ws b → (w : Word) × (ws ≡ w ∷ [])
+  flag_word ws true is = (Name (codes "true"), is)
+  flag_word ws false is = (Name (codes "false"), is)
+
+  permission_value_by : (t : Located) (us : List Located) (seen : Seen) (x : Permission) → flag_of t ≡ Ok x.value → permission_value_at x.name (at last (t ∷ us) seen) ≡ Ok (x, at last us seen)
+  unfolding permission_value_at
+  permission_value_by t us seen x e = rw e refl
+
+  permission_value_again : (vs us : List Located) (seen : Seen) (x : Permission) → IsFlag (words_of vs) x.value → permission_value_at x.name (at last (vs ++ us) seen) ≡ Ok (x, at last us seen)
+  permission_value_again vs us seen x is =
+      let w = flag_word (words_of vs) x.value is in
+      let c = cut vs w.0 [] w.1 in
+      let only : vs ≡ c.head ∷ [] = c.whole ∙ ap (λ (l : List Located). c.head ∷ l) (none c.tail c.rest) in
+      let said : IsFlag (c.head.word ∷ []) x.value = subst (λ (l : List Located). IsFlag (words_of l) x.value) only is in
+      ap (λ (l : List Located). permission_value_at x.name (at last (l ++ us) seen)) only ∙ permission_value_by c.head us seen x (flag_again c.head x.value said)
+
+  permission_again : (before : List Permission) (t : Located) (ts us : List Located) (seen : Seen) (x : Permission) → IsPermission (words_of (t ∷ ts)) x → MayPermission before seen x → permission_at t (at last (ts ++ us) seen) ≡ Ok (x, at last us (with_permission seen x))
+  permission_again before t ts us seen x is may =
+      pair_again last short_name_of (λ name. closed (permission_value_at name)) x.name x.name x seen seen (λ n w. short_name_again n x.name w may)
+      (permission_value_at x.name) (λ value. IsFlag value x.value) (λ s. refl) (λ vs us' value. permission_value_again vs us' seen x value) t ts us is
 
   -- ---- parameters and sections
 
+  pair_begins : (name : List ℕ) (IsValue : List Word → Type 0) (ws : List Word) → IsPair name IsValue ws → Begins ws
+  pair_begins name IsValue ws is = record { head = Mark OpenTuple; tail = Name name ∷ Mark Comma ∷ is.0 ++ Mark CloseTuple ∷ []; whole = is.1; no_list = refl; no_tuple = refl }
+
   param_begins : (ws : List Word) (p : Param) → IsParam ws p → Begins ws
-  param_begins ws p is = record { head = Mark OpenTuple; tail = Name (spelled (name_of p)) ∷ Mark Comma ∷ is.0 ++ Mark CloseTuple ∷ []; whole = is.1; no_list = refl; no_tuple = refl }
+  param_begins ws (Distributed apps) is = pair_begins (spelled named.Distributed) (λ value. IsListOf IsApp value apps) ws is
+  param_begins ws (Permissions permissions) is = pair_begins (spelled named.Permissions) (λ value. IsListOf IsPermission value permissions) ws is
+  param_begins ws (Mandatory names) is = pair_begins (spelled named.Mandatory) (λ value. IsListOf IsNode value names) ws is
+  param_begins ws (Optional names) is = pair_begins (spelled named.Optional) (λ value. IsListOf IsNode value names) ws is
+  param_begins ws (Timeout wait) is = pair_begins (spelled named.Timeout) (λ value. IsWait value wait) ws is
+  param_begins ws Param.Other is = pair_begins is.0 IsTerm ws is.2
 
   spelled_so : (name : ParamName) → param_named (spelled name) ≡ Some name
   spelled_so named.Distributed = refl
+  spelled_so named.Permissions = refl
   spelled_so named.Mandatory = refl
   spelled_so named.Optional = refl
   spelled_so named.Timeout = refl
 
-  param_named_again : (before : List Param) (t : Located) (name : ParamName) → t.word ≡ Name (spelled name) → has_param name before ≡ false → param_name_of before t ≡ Ok name
+  param_named_again : (before : List Param) (t : Located) (name : ParamName) → t.word ≡ Name (spelled name) → has_param name before ≡ false → param_name_of before t ≡ Ok (Some name)
   unfolding param_name_of
   param_named_again before t name w once = rw (atom_again t.word t.at (spelled name) w, spelled_so name, once) refl
+
+  -- a name that no parameter that is read has
+  unknown_so : (name : List ℕ) → ((known : ParamName) → name ≢ spelled known) → param_named name ≡ None
+  unknown_so name other = by (param_named name) refl
+    where
+      by : (o : Option ParamName) → param_named name ≡ o → o ≡ None
+      by None e = refl
+      by (Some known) e = absurd (other known (param_is name known e))
+
+  other_named_again : (before : List Param) (t : Located) (name : List ℕ) → t.word ≡ Name name → param_named name ≡ None → param_name_of before t ≡ Ok None
+  unfolding param_name_of
+  other_named_again before t name w other = rw (atom_again t.word t.at name w, other) refl
 
   wait_again : (w : Word) (place : ℕ) (wait : SyncWait) → IsWait (w ∷ []) wait → wait_of (record { word = w; at = place }) ≡ Ok wait
   unfolding wait_of
@@ -220,32 +277,112 @@ module _ (last : Result Located ConfigFault) where
   wait_word ws Forever is = (Name (codes "infinity"), is)
   wait_word ws (Ms n) is = (is.0, is.1)
 
-  param_value_again : (vs us : List Located) (seen : Seen) (p : Param) → IsParamValue (words_of vs) p → MayValue seen p → param_value_at (name_of p) (at last (vs ++ us) seen) ≡ Ok (p, at last us (with_param seen p))
-  unfolding param_value_at
-  param_value_again vs us seen (Distributed apps) is may = rw (bracketed_again last IsApp app_at with_app MayApp app_begins app_again vs us seen apps is may) refl
-  param_value_again vs us seen (Mandatory names) is may = rw (bracketed_again last IsNode (λ _. node_of true) with_node (λ _. MayNode true) node_begins (nodes_again true) vs us seen names is may) refl
-  param_value_again vs us seen (Optional names) is may = rw (bracketed_again last IsNode (λ _. node_of true) with_node (λ _. MayNode true) node_begins (nodes_again true) vs us seen names is may) refl
-  param_value_again vs us seen (Timeout wait) is may =
+  timeout_value_again : (vs us : List Located) (seen : Seen) (wait : SyncWait) → IsWait (words_of vs) wait → param_value_at named.Timeout (at last (vs ++ us) seen) ≡ Ok (Timeout wait, at last us seen)
+  timeout_value_again vs us seen wait is =
       let w = wait_word (words_of vs) wait is in
       let c = cut vs w.0 [] w.1 in
       let only : vs ≡ c.head ∷ [] = c.whole ∙ ap (λ (l : List Located). c.head ∷ l) (none c.tail c.rest) in
       let said : IsWait (c.head.word ∷ []) wait = subst (λ (l : List Located). IsWait (words_of l) wait) only is in
       ap (λ (l : List Located). param_value_at named.Timeout (at last (l ++ us) seen)) only ∙ timeout_again c.head us seen wait said
 
+  distributed_again : (vs us : List Located) (seen : Seen) (apps : List App) → IsListOf IsApp (words_of vs) apps → MayValue seen (Distributed apps) → param_value_at named.Distributed (at last (vs ++ us) seen) ≡ Ok (Distributed apps, at last us (with_param seen (Distributed apps)))
+  unfolding param_value_at
+  distributed_again vs us seen apps is may = rw (bracketed_again last IsApp app_at with_app MayApp app_begins app_again vs us seen apps is may) refl
+
+  permissions_again : (vs us : List Located) (seen : Seen) (permissions : List Permission) → IsListOf IsPermission (words_of vs) permissions → MayValue seen (Permissions permissions) → param_value_at named.Permissions (at last (vs ++ us) seen) ≡ Ok (Permissions permissions, at last us seen)
+  unfolding param_value_at
+  permissions_again vs us seen permissions is may =
+      rw (bracketed_again last IsPermission (λ _. permission_at) with_permission MayPermission permission_begins permission_again vs us seen permissions is may, same_seen seen permissions) refl
+
+  mandatory_again : (vs us : List Located) (seen : Seen) (names : List (List ℕ)) → IsListOf IsNode (words_of vs) names → MayNodes true seen names → param_value_at named.Mandatory (at last (vs ++ us) seen) ≡ Ok (Mandatory names, at last us (with_nodes seen names))
+  unfolding param_value_at
+  mandatory_again vs us seen names is may = rw (bracketed_again last IsNode (λ _. node_of true) with_node (λ _. MayNode true) node_begins (nodes_again true) vs us seen names is may) refl
+
+  optional_again : (vs us : List Located) (seen : Seen) (names : List (List ℕ)) → IsListOf IsNode (words_of vs) names → MayNodes true seen names → param_value_at named.Optional (at last (vs ++ us) seen) ≡ Ok (Optional names, at last us (with_nodes seen names))
+  unfolding param_value_at
+  optional_again vs us seen names is may = rw (bracketed_again last IsNode (λ _. node_of true) with_node (λ _. MayNode true) node_begins (nodes_again true) vs us seen names is may) refl
+
+  rest_of_known : (name : ParamName) (s : State) → param_rest_at (Some name) s ≡ closed (param_value_at name) s
+  unfolding param_rest_at
+  rest_of_known name s = refl
+
+  rest_of_other : (s u : State) → passed_at s ≡ Ok u → param_rest_at None s ≡ Ok (Param.Other, u)
+  unfolding param_rest_at
+  rest_of_other s u e = rw e refl
+
+  -- a parameter that is read, by its name
+  known_again : (name : ParamName) (before : List Param) (p : Param) (seen : Seen) (IsValue : List Word → Type 0) → name_of p ≡ Some name → MayParam before seen p → ((vs us : List Located) → IsValue (words_of vs) → param_value_at name (at last (vs ++ us) seen) ≡ Ok (p, at last us (with_param seen p)))
+      → (t : Located) (ts us : List Located) → IsPair (spelled name) IsValue (words_of (t ∷ ts)) → param_at before t (at last (ts ++ us) seen) ≡ Ok (p, at last us (with_param seen p))
+  known_again name before p seen IsValue is may value t ts us pair =
+      pair_again last (param_name_of before) param_rest_at (spelled name) (Some name) p seen (with_param seen p) (λ n w. param_named_again before n name w (may.once name is))
+      (param_value_at name) IsValue (rest_of_known name) value t ts us pair
+
   param_again : (before : List Param) (t : Located) (ts us : List Located) (seen : Seen) (p : Param) → IsParam (words_of (t ∷ ts)) p → MayParam before seen p → param_at before t (at last (ts ++ us) seen) ≡ Ok (p, at last us (with_param seen p))
-  param_again before = pair_again last name_of spelled (λ p value. IsParamValue value p) (param_name_of before) param_value_at with_param (MayParam before)
-      (λ t seen p w may. param_named_again before t (name_of p) w may.once) (λ vs us seen p is may. param_value_again vs us seen p is may.value)
+  param_again before t ts us seen (Distributed apps) is may =
+      known_again named.Distributed before (Distributed apps) seen (λ value. IsListOf IsApp value apps) refl may (λ vs us' value. distributed_again vs us' seen apps value may.value) t ts us is
+  param_again before t ts us seen (Permissions permissions) is may =
+      known_again named.Permissions before (Permissions permissions) seen (λ value. IsListOf IsPermission value permissions) refl may (λ vs us' value. permissions_again vs us' seen permissions value may.value) t ts us is
+  param_again before t ts us seen (Mandatory names) is may =
+      known_again named.Mandatory before (Mandatory names) seen (λ value. IsListOf IsNode value names) refl may (λ vs us' value. mandatory_again vs us' seen names value may.value) t ts us is
+  param_again before t ts us seen (Optional names) is may =
+      known_again named.Optional before (Optional names) seen (λ value. IsListOf IsNode value names) refl may (λ vs us' value. optional_again vs us' seen names value may.value) t ts us is
+  param_again before t ts us seen (Timeout wait) is may =
+      known_again named.Timeout before (Timeout wait) seen (λ value. IsWait value wait) refl may (λ vs us' value. timeout_value_again vs us' seen wait value) t ts us is
+  param_again before t ts us seen Param.Other is may =
+      rest_again last (param_name_of before) param_rest_at is.0 None Param.Other seen seen (λ n w. other_named_again before n is.0 w (unknown_so is.0 is.1))
+      (is.2.0 ++ Mark CloseTuple ∷ []) t ts us is.2.1 (λ vs e. rest_of_other (at last (vs ++ us) seen) (at last us seen) (passed_again last is.2.0 vs us seen is.2.2 e))
 
-  section_begins : (ws : List Word) (params : List Param) → IsSection ws params → Begins ws
-  section_begins ws params is = record { head = Mark OpenTuple; tail = Name (codes "kernel") ∷ Mark Comma ∷ is.0 ++ Mark CloseTuple ∷ []; whole = is.1; no_list = refl; no_tuple = refl }
+  section_begins : (ws : List Word) (x : Section) → IsSection ws x → Begins ws
+  section_begins ws (Kernel params) is = pair_begins (codes "kernel") (λ value. IsListOf IsParam value params) ws is
+  section_begins ws Section.Other is = pair_begins is.0 IsTerm ws is.2
 
-  section_named_again : (before : List (List Param)) (t : Located) → t.word ≡ Name (codes "kernel") → length before ≡ 0 → section_name_of before t ≡ Ok tt
-  unfolding section_name_of
-  section_named_again before t w once = rw (atom_again t.word t.at (codes "kernel") w, once) refl
+  kernel_named_again : (before : List Section) (t : Located) → t.word ≡ Name (codes "kernel") → has_kernel before ≡ false → names_kernel before t ≡ Ok true
+  unfolding names_kernel
+  kernel_named_again before t w once = rw (atom_again t.word t.at (codes "kernel") w, once) refl
 
-  pub section_again : (before : List (List Param)) (t : Located) (ts us : List Located) (seen : Seen) (params : List Param) → IsSection (words_of (t ∷ ts)) params → MaySection before seen params → section_at before t (at last (ts ++ us) seen) ≡ Ok (params, at last us (with_section seen params))
-  section_again before = pair_again last (λ (params : List Param). tt) (λ (k : Unit {0}). codes "kernel") (λ params value. IsListOf IsParam value params) (section_name_of before) (λ _. list_of param_at) with_section (MaySection before)
-      (λ t seen params w may. section_named_again before t w may.once) (λ vs us seen params is may. bracketed_again last IsParam param_at with_param MayParam param_begins param_again vs us seen params is may.params)
+  other_section_again : (before : List Section) (t : Located) (name : List ℕ) → t.word ≡ Name name → bytes_eq name (codes "kernel") ≡ false → names_kernel before t ≡ Ok false
+  unfolding names_kernel
+  other_section_again before t name w other = rw (atom_again t.word t.at name w, other) refl
 
-  pub sections_again : (ts us : List Located) (sections : List (List Param)) (seen : Seen) → IsListOf IsSection (words_of ts) sections → AllMay with_section MaySection [] seen sections → list_of section_at (at last (ts ++ us) seen) ≡ Ok (sections, at last us (steps with_section seen sections))
+  -- a name that is not `kernel`
+  no_kernel : (name : List ℕ) → name ≢ codes "kernel" → bytes_eq name (codes "kernel") ≡ false
+  no_kernel name other = by (bytes_eq name (codes "kernel")) refl
+    where
+      by : (b : Bool) → bytes_eq name (codes "kernel") ≡ b → b ≡ false
+      by true e = absurd (other (is_named name (codes "kernel") e))
+      by false e = refl
+
+  kernel_value_again : (vs us : List Located) (seen : Seen) (params : List Param) → IsListOf IsParam (words_of vs) params → AllMay with_param MayParam [] seen params → kernel_at (at last (vs ++ us) seen) ≡ Ok (Kernel params, at last us (with_section seen (Kernel params)))
+  unfolding kernel_at
+  kernel_value_again vs us seen params is may = rw (bracketed_again last IsParam param_at with_param MayParam param_begins param_again vs us seen params is may) refl
+
+  rest_of_kernel : (s : State) → section_rest_at true s ≡ closed kernel_at s
+  unfolding section_rest_at
+  rest_of_kernel s = refl
+
+  rest_of_section : (s u : State) → passed_at s ≡ Ok u → section_rest_at false s ≡ Ok (Section.Other, u)
+  unfolding section_rest_at
+  rest_of_section s u e = rw e refl
+
+  section_pair_again : (before : List Section) (t : Located) (ts us : List Located) (seen : Seen) (x : Section) → IsSection (words_of (t ∷ ts)) x → MaySection before seen x → pair_at (names_kernel before) section_rest_at t (at last (ts ++ us) seen) ≡ Ok (x, at last us (with_section seen x))
+  section_pair_again before t ts us seen (Kernel params) is may =
+      pair_again last (names_kernel before) section_rest_at (codes "kernel") true (Kernel params) seen (with_section seen (Kernel params)) (λ n w. kernel_named_again before n w may.once)
+      kernel_at (λ value. IsListOf IsParam value params) rest_of_kernel (λ vs us' value. kernel_value_again vs us' seen params value may.params) t ts us is
+  section_pair_again before t ts us seen Section.Other is may =
+      rest_again last (names_kernel before) section_rest_at is.0 false Section.Other seen seen (λ n w. other_section_again before n is.0 w (no_kernel is.0 is.1))
+      (is.2.0 ++ Mark CloseTuple ∷ []) t ts us is.2.1 (λ vs e. rest_of_section (at last (vs ++ us) seen) (at last us seen) (passed_again last is.2.0 vs us seen is.2.2 e))
+
+  -- a section begins with a brace
+  braced : (t : Located) (ts : List Located) (x : Section) → IsSection (words_of (t ∷ ts)) x → t.word ≡ Mark OpenTuple
+  braced t ts (Kernel params) is = (cons_is t.word (Mark OpenTuple) (words_of ts) (Name (codes "kernel") ∷ Mark Comma ∷ is.0 ++ Mark CloseTuple ∷ []) is.1).0
+  braced t ts Section.Other is = (cons_is t.word (Mark OpenTuple) (words_of ts) (Name is.0 ∷ Mark Comma ∷ is.2.0 ++ Mark CloseTuple ∷ []) is.2.1).0
+
+  no_text : (before : List Section) (t : Located) (s : State) → t.word ≡ Mark OpenTuple → section_at before t s ≡ pair_at (names_kernel before) section_rest_at t s
+  unfolding section_at
+  no_text before t s w = rw w refl
+
+  pub section_again : (before : List Section) (t : Located) (ts us : List Located) (seen : Seen) (x : Section) → IsSection (words_of (t ∷ ts)) x → MaySection before seen x → section_at before t (at last (ts ++ us) seen) ≡ Ok (x, at last us (with_section seen x))
+  section_again before t ts us seen x is may = no_text before t (at last (ts ++ us) seen) (braced t ts x is) ∙ section_pair_again before t ts us seen x is may
+
+  pub sections_again : (ts us : List Located) (sections : List Section) (seen : Seen) → IsListOf IsSection (words_of ts) sections → AllMay with_section MaySection [] seen sections → list_of section_at (at last (ts ++ us) seen) ≡ Ok (sections, at last us (steps with_section seen sections))
   sections_again ts us sections seen is may = bracketed_again last IsSection section_at with_section MaySection section_begins section_again ts us seen sections is may

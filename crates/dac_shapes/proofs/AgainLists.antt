@@ -5,7 +5,7 @@ use Rattle.dac_tokens.specs.declared.token.Symbol.{Symbol}
 use Rattle.dac_tokens.specs.declared.token.Symbol.TheVariants.{OpenList, CloseList, OpenTuple, CloseTuple, Comma}
 use Rattle.dac_tokens.specs.Words.{Word, Mark, Name, Located}
 use Rattle.dac_shapes.specs.Limits.{Seen, AllMay, steps}
-use Rattle.dac_shapes.specs.Shape.{State, is_mark, symbol_at, more_at, comma_list, list_of, pair_at, room}
+use Rattle.dac_shapes.specs.Shape.{State, is_mark, symbol_at, more_at, comma_list, list_of, pair_at, closed, room}
 use Rattle.dac_shapes.specs.Grammar.{Parted, IsListOf, IsPair}
 
 abbrev pub words_of : List Located → List Word
@@ -205,21 +205,36 @@ module _ {A : Type 0} (last : Result Located ConfigFault) (Is : List Word → A 
       ∙ filled_again i.open_at f.head (f.tail ++ i.close_at ∷ us) us seen i.opens (ap (is_mark CloseList) f.is ∙ b.no_list)
       ∙ whole_again last Is read CloseList step May refl refl begins again f.head f.tail i.close_at us seen (x ∷ xs) (subst (λ (l : List Word). Parted Is l (x ∷ xs)) inner is.2) may i.closes
 
-module _ {K A : Type 0} (last : Result Located ConfigFault) (key : A → K) (spelled : K → List ℕ) (IsValue : A → List Word → Type 0) (name_of : Located → Result K ConfigFault) (value : K → State → Result (A × State) ConfigFault) (step : Seen → A → Seen) (May : Seen → A → Type 0)
-    (named : (t : Located) (seen : Seen) (x : A) → t.word ≡ Name (spelled (key x)) → May seen x → name_of t ≡ Ok (key x))
-    (valued : (vs us : List Located) (seen : Seen) (x : A) → IsValue x (words_of vs) → May seen x → value (key x) (at last (vs ++ us) seen) ≡ Ok (x, at last us (step seen x))) where
-  pair_steps : (t n c d : Located) (vs us : List Located) (seen : Seen) (x : A) → t.word ≡ Mark OpenTuple → n.word ≡ Name (spelled (key x)) → c.word ≡ Mark Comma → d.word ≡ Mark CloseTuple → IsValue x (words_of vs) → May seen x
-      → pair_at name_of value t (at last (n ∷ c ∷ (vs ++ d ∷ us)) seen) ≡ Ok (x, at last us (step seen x))
-  unfolding pair_at
-  pair_steps t n c d vs us seen x e0 e1 e2 e3 is may =
-      rw (e0, named n seen x e1 may, symbol_again last Comma c (vs ++ d ∷ us) seen refl e2, valued vs (d ∷ us) seen x is may, symbol_again last CloseTuple d us (step seen x) refl e3) refl
+module _ {A : Type 0} (last : Result Located ConfigFault) (value : State → Result (A × State) ConfigFault) (inner : List Word) (x : A) (seen after : Seen)
+    (valued : (vs us : List Located) → words_of vs ≡ inner → value (at last (vs ++ us) seen) ≡ Ok (x, at last us after)) where
+  closed_by : (vs us : List Located) (c : Located) → words_of vs ≡ inner → c.word ≡ Mark CloseTuple → closed value (at last (vs ++ c ∷ us) seen) ≡ Ok (x, at last us after)
+  closed_by vs us c is e = rw (valued vs (c ∷ us) is, symbol_again last CloseTuple c us after refl e) refl
 
-  pub pair_again : (t : Located) (ts us : List Located) (seen : Seen) (x : A) → IsPair (spelled (key x)) (IsValue x) (words_of (t ∷ ts)) → May seen x → pair_at name_of value t (at last (ts ++ us) seen) ≡ Ok (x, at last us (step seen x))
-  pair_again t ts us seen x is may =
-      let e = cons_is t.word (Mark OpenTuple) (words_of ts) (Name (spelled (key x)) ∷ Mark Comma ∷ is.0 ++ Mark CloseTuple ∷ []) is.1 in
-      let n = cut ts (Name (spelled (key x))) (Mark Comma ∷ is.0 ++ Mark CloseTuple ∷ []) e.1 in
-      let i = inside n.tail (Mark Comma) is.0 (Mark CloseTuple) n.rest in
-      let apart : ts ++ us ≡ n.head ∷ i.open_at ∷ (i.mid ++ i.close_at ∷ us) =
-      ap (λ (l : List Located). l ++ us) (n.whole ∙ ap (λ (l : List Located). n.head ∷ l) i.whole) ∙ ap (λ (l : List Located). n.head ∷ i.open_at ∷ l) (append_assoc i.mid (i.close_at ∷ []) us) in
-      ap (λ (l : List Located). pair_at name_of value t (at last l seen)) apart
-      ∙ pair_steps t n.head i.open_at i.close_at i.mid us seen x e.0 n.is i.opens i.closes (subst (IsValue x) (sym i.is) is.2) may
+  -- a value, and the brace that closes its pair
+  pub closed_again : (vs us : List Located) → words_of vs ≡ inner ++ Mark CloseTuple ∷ [] → closed value (at last (vs ++ us) seen) ≡ Ok (x, at last us after)
+  closed_again vs us e =
+      let c = ended vs inner (Mark CloseTuple) e in
+      ap (λ (l : List Located). closed value (at last l seen)) (ap (λ (l : List Located). l ++ us) c.whole ∙ append_assoc c.front (c.end ∷ []) us) ∙ closed_by c.front us c.end c.first c.is
+
+module _ {K A : Type 0} (last : Result Located ConfigFault) (name_of : Located → Result K ConfigFault) (rest : K → State → Result (A × State) ConfigFault) (name : List ℕ) (k : K) (x : A) (seen after : Seen)
+    (named : (t : Located) → t.word ≡ Name name → name_of t ≡ Ok k) where
+  pair_steps : (t n c : Located) (vs us : List Located) → t.word ≡ Mark OpenTuple → n.word ≡ Name name → c.word ≡ Mark Comma → rest k (at last (vs ++ us) seen) ≡ Ok (x, at last us after)
+      → pair_at name_of rest t (at last (n ∷ c ∷ (vs ++ us)) seen) ≡ Ok (x, at last us after)
+  unfolding pair_at
+  pair_steps t n c vs us e0 e1 e2 is = rw (e0, named n e1, symbol_again last Comma c (vs ++ us) seen refl e2, is) refl
+
+  -- a name, and what stands behind its comma
+  pub rest_again : (words : List Word) (t : Located) (ts us : List Located) → words_of (t ∷ ts) ≡ Mark OpenTuple ∷ Name name ∷ Mark Comma ∷ words → ((vs : List Located) → words_of vs ≡ words → rest k (at last (vs ++ us) seen) ≡ Ok (x, at last us after))
+      → pair_at name_of rest t (at last (ts ++ us) seen) ≡ Ok (x, at last us after)
+  rest_again words t ts us e rested =
+      let b = cons_is t.word (Mark OpenTuple) (words_of ts) (Name name ∷ Mark Comma ∷ words) e in
+      let n = cut ts (Name name) (Mark Comma ∷ words) b.1 in
+      let c = cut n.tail (Mark Comma) words n.rest in
+      let apart : ts ≡ n.head ∷ c.head ∷ c.tail = n.whole ∙ ap (λ (l : List Located). n.head ∷ l) c.whole in
+      ap (λ (l : List Located). pair_at name_of rest t (at last (l ++ us) seen)) apart ∙ pair_steps t n.head c.head c.tail us b.0 n.is c.is (rested c.tail c.rest)
+
+  -- a name and a value
+  pub pair_again : (value : State → Result (A × State) ConfigFault) (IsValue : List Word → Type 0) → ((s : State) → rest k s ≡ closed value s) → ((vs us : List Located) → IsValue (words_of vs) → value (at last (vs ++ us) seen) ≡ Ok (x, at last us after))
+      → (t : Located) (ts us : List Located) → IsPair name IsValue (words_of (t ∷ ts)) → pair_at name_of rest t (at last (ts ++ us) seen) ≡ Ok (x, at last us after)
+  pair_again value IsValue closes valued t ts us is =
+      rest_again (is.0 ++ Mark CloseTuple ∷ []) t ts us is.1 (λ vs e. closes (at last (vs ++ us) seen) ∙ closed_again last value is.0 x seen after (λ ws vs' w. valued ws vs' (subst IsValue (sym w) is.2)) vs us e)

@@ -1,23 +1,24 @@
 -- What is read of a file is in the grammar, and its names may stand where they stand.
-use Rattle.std.proofs.Common.{◌≡◌, ℕ, ◌<◌, ◌≤◌, Bool, true, false, not, ◌&&◌, cond, eqb, ltb, leb, List, [], ◌∷◌, ◌++◌, length, map, Option, Some, None, Result, Ok, refl, sym, ap, subst, ◌∙◌, arith, inl, inr, codes}
+use Rattle.std.proofs.Common.{◌≡◌, ℕ, ◌<◌, ◌≤◌, Bool, true, false, not, ◌&&◌, ◌≢◌, cond, eqb, ltb, leb, List, [], ◌∷◌, ◌++◌, length, map, Option, Some, None, Result, Ok, refl, sym, ap, subst, ◌∙◌, arith, inl, inr, codes}
 use Rattle.std.specs.Str.{bytes_eq}
 use Rattle.std.specs.Cmp.Lexicographic.{same_text}
 use Rattle.std.proofs.lemmas.Bool.{ltb-true, ltb-false, leb-false, eqb-true}
 use Rattle.dac_tokens.specs.declared.fault.ConfigFault.{ConfigFault}
 use Rattle.dac_tokens.specs.declared.token.Symbol.TheVariants.{OpenList, CloseList, OpenTuple, CloseTuple, Comma}
-use Rattle.dac_tokens.specs.declared.fault.FaultKind.TheVariants.{Unsupported, BadShape, EmptyList, EmptyTuple, TwiceInList, TwiceApp, TooManyApps, TooManyNodes, NumberTooLarge, NameTooLong}
+use Rattle.dac_tokens.specs.declared.fault.FaultKind.TheVariants.{BadShape, EmptyList, EmptyTuple, TwiceInList, TwiceApp, TooManyApps, TooManyNodes, NumberTooLarge, NameTooLong}
 use Rattle.dac_tokens.specs.Gives.{◌>>=◌}
 use Rattle.dac_tokens.specs.Words.{Word, Mark, Name, Number, Text, End, Located, is_end}
 use Rattle.dac_shapes.specs.declared.draft.SyncWait.{SyncWait}
 use Rattle.dac_shapes.specs.declared.draft.SyncWait.TheVariants.{Forever, Ms}
 use Rattle.dac_shapes.specs.declared.param.ParamName.{ParamName}
 use Rattle.dac_shapes.specs.declared.param.ParamName.TheVariants as named
-use Rattle.dac_shapes.specs.Written.{App, Param, Distributed, Mandatory, Optional, Timeout, name_of, spelled}
-use Rattle.dac_shapes.specs.Limits.{Seen, is_among, has_param, with_node, MayNode, with_nodes, MayNodes, with_groups, MayGroups, listing, with_app, MayApp, with_param, MayValue, MayParam, with_section, MaySection}
-use Rattle.dac_shapes.specs.Shape.{State, fails, is_mark, token, symbol_at, atom_of, short_name_of, node_of, names_at, item_at, items_at, groups_at, timeout_of, timeout_at, wait_of, value_from, app_name_of, app_value_at, app_at, param_named, first_param, param_name_of, param_value_at, param_at, section_name_of, section_at, list_of, room}
-use Rattle.dac_shapes.specs.Grammar.{between, IsListOf, IsNode, IsItem, IsNodeList, IsMs, IsTimeout, IsApp, IsWait, IsParamValue, IsParam, IsSection}
+use Rattle.dac_shapes.specs.Written.{App, Permission, Param, Distributed, Permissions, Mandatory, Optional, Timeout, Section, Kernel, name_of, spelled}
+use Rattle.dac_shapes.specs.Limits.{Seen, steps, is_among, has_param, with_node, MayNode, with_nodes, MayNodes, with_groups, MayGroups, listing, with_app, MayApp, with_permission, MayPermission, with_param, MayValue, MayParam, has_kernel, with_section, MaySection}
+use Rattle.dac_shapes.specs.Shape.{State, fails, is_mark, token, symbol_at, atom_of, short_name_of, node_of, names_at, item_at, items_at, groups_at, timeout_of, timeout_at, wait_of, value_from, app_name_of, app_value_at, app_at, flag_of, permission_value_at, permission_at, param_named, first_param, param_name_of, param_value_at, param_rest_at, param_at, names_kernel, kernel_at, section_rest_at, section_at, passed_at, closed, pair_at, is_text, list_of, room}
+use Rattle.dac_shapes.specs.Grammar.{between, IsListOf, IsNode, IsItem, IsNodeList, IsMs, IsTimeout, IsApp, IsFlag, IsPermission, IsWait, IsParam, IsSection}
 use Rattle.dac_shapes.proofs.Moves.{bind_ok, held, required, passed, chosen, ok_same, words_in, EndsWell, Moves, Moves-then, same_last, token_is, token_moves, word_passes, mark_is, symbol_passes, back}
-use Rattle.dac_shapes.proofs.FoundLists.{Reads, Gets, token_then, list_found, bracketed_found, pair_words, pair_found}
+use Rattle.dac_shapes.proofs.FoundLists.{Reads, Gets, token_then, list_found, bracketed_found, pair_begun, pair_words, closed_found, pair_found}
+use Rattle.dac_shapes.proofs.FoundTerms.{passed_found}
 
 -- ---- nodes
 
@@ -212,25 +213,74 @@ app_valued before name s app u well fine e =
     })
 
 pub app_found : (before : List App) (t : Located) (s : State) (app : App) (u : State) → EndsWell s → app_at before t s ≡ Ok (app, u) → Reads IsApp with_app (MayApp before) t s app u
-app_found before = pair_found IsApp (app_name_of before) (λ name. name) (FineApp before) app_value_at with_app (MayApp before) (app_named before) (app_valued before)
+app_found before = pair_found IsApp (app_name_of before) (λ k name. (k ≡ name) × FineApp before name) (λ name. closed (app_value_at name)) with_app (MayApp before)
+    (λ t k e. let n = app_named before t k e in (k, n.0, (refl, n.1)))
+    (λ k name s x u well fine e. closed_found (λ ws app. IsApp (pair_begun name ws) app) (app_value_at name) with_app (MayApp before)
+    (λ s x u well e. app_valued before name s x u well fine.1 e) s x u well (subst (λ (n : List ℕ). closed (app_value_at n) s ≡ Ok (x, u)) fine.0 e))
+
+pub is_named : (name wanted : List ℕ) → bytes_eq name wanted ≡ true → name ≡ wanted
+is_named name wanted e = same_text name wanted (sym e)
+
+-- ---- permissions
+
+flag_is : (t : Located) (b : Bool) → flag_of t ≡ Ok b → IsFlag (t.word ∷ []) b × (is_end t.word ≡ false)
+unfolding flag_of
+flag_is t b e =
+    let f2 : List ℕ → Result Bool ConfigFault = λ name. cond (bytes_eq name (codes "false")) (Ok false) (fails BadShape t.at) in
+    let a = bind_ok (atom_of t) (λ name. cond (bytes_eq name (codes "true")) (Ok true) (f2 name)) b e in
+    let w = atom_is t.word t.at a.0 a.1 in
+    elim (chosen (bytes_eq a.0 (codes "true")) (Ok true) (f2 a.0) (Ok b) a.2) [
+      | inl h ↦ (subst (IsFlag (t.word ∷ [])) (ok_same true b _ refl h.1) (ap (λ (v : Word). v ∷ []) (w ∙ ap Name (is_named a.0 _ h.0))), ap is_end w)
+      | inr h ↦
+          let g = held (bytes_eq a.0 (codes "false")) false _ b h.1 in
+          (subst (IsFlag (t.word ∷ [])) g.1 (ap (λ (v : Word). v ∷ []) (w ∙ ap Name (is_named a.0 _ g.0))), ap is_end w)
+    ]
+
+permission_valued : (name : List ℕ) (s : State) (x : Permission) (u : State) → EndsWell s → length name ≤ 255 → permission_value_at name s ≡ Ok (x, u) → Gets (λ ws x. IsPermission (pair_words name ws) x) with_permission (MayPermission []) s x u
+unfolding permission_value_at
+permission_valued name s x u well short e =
+    let made : Bool → Permission = λ value. record { name = name; value = value } in
+    let f1 : Located × State → Result (Permission × State) ConfigFault = λ t. flag_of t.0 >>= λ value. Ok (made value, t.1) in
+    let a = bind_ok (token s) f1 (x, u) e in
+    let b = bind_ok (flag_of a.0.0) (λ value. Ok (made value, a.0.1)) (x, u) a.2 in
+    let w = flag_is a.0.0 b.0 b.1 in
+    let m = word_passes s a.0.0 a.0.1 a.0.0.word well a.1 refl w.1 in
+    subst (λ (y : Permission × State). Gets (λ ws x. IsPermission (pair_words name ws) x) with_permission (MayPermission []) s y.0 y.1) (ok_same (made b.0, a.0.1) (x, u) _ refl b.2) (record {
+      ws = a.0.0.word ∷ [];
+      is = (a.0.0.word ∷ [], refl, w.0);
+      moves = m.moves;
+      may = short;
+      seen = m.seen;
+    })
+
+pub permission_found : (before : List Permission) (t : Located) (s : State) (x : Permission) (u : State) → EndsWell s → permission_at t s ≡ Ok (x, u) → Reads IsPermission with_permission (MayPermission before) t s x u
+permission_found before = pair_found IsPermission short_name_of (λ k name. (k ≡ name) × (length name ≤ 255)) (λ name. closed (permission_value_at name)) with_permission (MayPermission before)
+    (λ t k e. let n = short_name_is t k e in (k, n.0, (refl, n.1)))
+    (λ k name s x u well fine e. closed_found (λ ws x. IsPermission (pair_begun name ws) x) (permission_value_at name) with_permission (MayPermission before)
+    (λ s x u well e. permission_valued name s x u well fine.1 e) s x u well (subst (λ (n : List ℕ). closed (permission_value_at n) s ≡ Ok (x, u)) fine.0 e))
+
+-- permissions leave the nodes as they are
+pub same_seen : (seen : Seen) (permissions : List Permission) → steps with_permission seen permissions ≡ seen
+same_seen seen [] = refl
+same_seen seen (x ∷ xs) = same_seen seen xs
 
 -- ---- parameters and sections
 
-is_named : (name wanted : List ℕ) → bytes_eq name wanted ≡ true → name ≡ wanted
-is_named name wanted e = same_text name wanted (sym e)
-
 -- a known parameter has the name that stands there
-param_is : (name : List ℕ) (p : ParamName) → param_named name ≡ Some p → name ≡ spelled p
+pub param_is : (name : List ℕ) (p : ParamName) → param_named name ≡ Some p → name ≡ spelled p
 param_is name p e =
     elim (chosen (bytes_eq name (codes "distributed")) (Some named.Distributed) _ (Some p) e) [
       | inl h ↦ is_named name _ h.0 ∙ same named.Distributed h.1
-      | inr h ↦ elim (chosen (bytes_eq name (codes "sync_nodes_mandatory")) (Some named.Mandatory) _ (Some p) h.1) [
-        | inl g ↦ is_named name _ g.0 ∙ same named.Mandatory g.1
-        | inr g ↦ elim (chosen (bytes_eq name (codes "sync_nodes_optional")) (Some named.Optional) _ (Some p) g.1) [
-          | inl k ↦ is_named name _ k.0 ∙ same named.Optional k.1
-          | inr k ↦ elim (chosen (bytes_eq name (codes "sync_nodes_timeout")) (Some named.Timeout) None (Some p) k.1) [
-            | inl m ↦ is_named name _ m.0 ∙ same named.Timeout m.1
-            | inr m ↦ absurd cc
+      | inr h ↦ elim (chosen (bytes_eq name (codes "permissions")) (Some named.Permissions) _ (Some p) h.1) [
+        | inl f ↦ is_named name _ f.0 ∙ same named.Permissions f.1
+        | inr f ↦ elim (chosen (bytes_eq name (codes "sync_nodes_mandatory")) (Some named.Mandatory) _ (Some p) f.1) [
+          | inl g ↦ is_named name _ g.0 ∙ same named.Mandatory g.1
+          | inr g ↦ elim (chosen (bytes_eq name (codes "sync_nodes_optional")) (Some named.Optional) _ (Some p) g.1) [
+            | inl k ↦ is_named name _ k.0 ∙ same named.Optional k.1
+            | inr k ↦ elim (chosen (bytes_eq name (codes "sync_nodes_timeout")) (Some named.Timeout) None (Some p) k.1) [
+              | inl m ↦ is_named name _ m.0 ∙ same named.Timeout m.1
+              | inr m ↦ absurd cc
+            ]
           ]
         ]
       ]
@@ -239,19 +289,22 @@ param_is name p e =
     same : (q : ParamName) → ◌≡◌ {A = Option ParamName} (Some q) (Some p) → spelled q ≡ spelled p
     same q h = let r : q ≡ p = cc in ap spelled r
 
-first_is : (before : List Param) (at : ℕ) (o : Option ParamName) (p : ParamName) → first_param before at o ≡ Ok p → (o ≡ Some p) × (has_param p before ≡ false)
-first_is before at None p e = absurd cc
-first_is before at (Some q) p e =
-    let h = passed (has_param q before) _ (Ok q) p e in
-    let r = ok_same q p (Ok q) refl h.1 in
-    (ap Some r, subst (λ (x : ParamName). has_param x before ≡ false) r h.0)
+-- what a parameter's name says of it: it is one that is read and new, or another
+data FineParam (before : List Param) (name : List ℕ) : Option ParamName → Type 0 where
+  Known : (p : ParamName) → name ≡ spelled p → has_param p before ≡ false → FineParam before name (Some p)
+  Unknown : param_named name ≡ None → FineParam before name None
 
-params_named : (before : List Param) (t : Located) (p : ParamName) → param_name_of before t ≡ Ok p → (t.word ≡ Name (spelled p)) × (has_param p before ≡ false)
+first_is : (before : List Param) (at : ℕ) (name : List ℕ) (o : Option ParamName) (k : Option ParamName) → param_named name ≡ o → first_param before at o ≡ Ok k → FineParam before name k
+first_is before at name None k is e = subst (FineParam before name) (ok_same None k _ refl e) (Unknown is)
+first_is before at name (Some p) k is e =
+    let h = passed (has_param p before) _ (Ok (Some p)) k e in
+    subst (FineParam before name) (ok_same (Some p) k _ refl h.1) (Known p (param_is name p is) h.0)
+
+params_named : (before : List Param) (t : Located) (k : Option ParamName) → param_name_of before t ≡ Ok k → (name : List ℕ) × (t.word ≡ Name name) × FineParam before name k
 unfolding param_name_of
-params_named before t p e =
-    let b = bind_ok (atom_of t) (λ name. first_param before t.at (param_named name)) p e in
-    let h = first_is before t.at (param_named b.0) p b.2 in
-    (atom_is t.word t.at b.0 b.1 ∙ ap Name (param_is b.0 p h.0), h.1)
+params_named before t k e =
+    let b = bind_ok (atom_of t) (λ name. first_param before t.at (param_named name)) k e in
+    (b.0, atom_is t.word t.at b.0 b.1, first_is before t.at b.0 (param_named b.0) k refl b.2)
 
 wait_is : (w : Word) (at : ℕ) (wait : SyncWait) → wait_of (record { word = w; at = at }) ≡ Ok wait → IsWait (w ∷ []) wait × (is_end w ≡ false)
 unfolding wait_of
@@ -270,7 +323,11 @@ wait_is End at wait e = absurd cc
 abbrev GetsParam : List Param → ParamName → State → Param → State → Type 0
 GetsParam before name s p u = Gets (λ ws x. IsParam (pair_words (spelled name) ws) x) with_param (MayParam before) s p u
 
-names_valued : (before : List Param) (name : ParamName) (made : List (List ℕ) → Param) → ((ns : List (List ℕ)) → name_of (made ns) ≡ name) → ((ws : List Word) (ns : List (List ℕ)) → IsListOf IsNode ws ns → IsParamValue ws (made ns))
+-- the parameter of this name stands once
+once_as : (before : List Param) (name : ParamName) → has_param name before ≡ false → (other : ParamName) → ◌≡◌ {A = Option ParamName} (Some name) (Some other) → has_param other before ≡ false
+once_as before name once other e = let same : name ≡ other = cc in subst (λ (n : ParamName). has_param n before ≡ false) same once
+
+names_valued : (before : List Param) (name : ParamName) (made : List (List ℕ) → Param) → ((ns : List (List ℕ)) → name_of (made ns) ≡ Some name) → ((ws : List Word) (ns : List (List ℕ)) → IsListOf IsNode ws ns → IsParam (pair_words (spelled name) ws) (made ns))
     → ((seen : Seen) (ns : List (List ℕ)) → MayNodes true seen ns → MayValue seen (made ns)) → ((seen : Seen) (ns : List (List ℕ)) → with_nodes seen ns ≡ with_param seen (made ns))
     → (s : State) (p : Param) (u : State) → EndsWell s → has_param name before ≡ false → ◌>>=◌ {B = Param × State} (list_of (λ _. node_of true) s) (λ names. Ok (made names.0, names.1)) ≡ Ok (p, u) → GetsParam before name s p u
 names_valued before name made named_so valued may seen s p u well once e =
@@ -278,9 +335,9 @@ names_valued before name made named_so valued may seen s p u well once e =
     let g = bracketed_found IsNode (λ _. node_of true) with_node (λ _. MayNode true) (nodes_found true) s b.0.0 b.0.1 well b.1 in
     subst (λ (y : Param × State). GetsParam before name s y.0 y.1) (ok_same (made b.0.0, b.0.1) (p, u) _ refl b.2) (record {
       ws = g.ws;
-      is = (g.ws, ap (λ (n : ParamName). pair_words (spelled n) g.ws) (sym (named_so b.0.0)), valued g.ws b.0.0 g.is);
+      is = valued g.ws b.0.0 g.is;
       moves = g.moves;
-      may = record { once = subst (λ (n : ParamName). has_param n before ≡ false) (sym (named_so b.0.0)) once; value = may s.seen b.0.0 g.may };
+      may = record { once = λ other is. once_as before name once other (sym (named_so b.0.0) ∙ is); value = may s.seen b.0.0 g.may };
       seen = g.seen ∙ seen s.seen b.0.0;
     })
 
@@ -293,11 +350,21 @@ param_valued before named.Distributed s p u well once e =
       ws = g.ws;
       is = (g.ws, refl, g.is);
       moves = g.moves;
-      may = record { once = once; value = g.may };
+      may = record { once = once_as before named.Distributed once; value = g.may };
       seen = g.seen;
     })
-param_valued before named.Mandatory s p u well once e = names_valued before named.Mandatory Mandatory (λ _. refl) (λ _ _ h. h) (λ _ _ h. h) (λ _ _. refl) s p u well once e
-param_valued before named.Optional s p u well once e = names_valued before named.Optional Optional (λ _. refl) (λ _ _ h. h) (λ _ _ h. h) (λ _ _. refl) s p u well once e
+param_valued before named.Permissions s p u well once e =
+    let b = bind_ok (list_of (λ _. permission_at) s) (λ permissions. Ok (Permissions permissions.0, permissions.1)) (p, u) e in
+    let g = bracketed_found IsPermission (λ _. permission_at) with_permission MayPermission permission_found s b.0.0 b.0.1 well b.1 in
+    subst (λ (y : Param × State). GetsParam before named.Permissions s y.0 y.1) (ok_same (Permissions b.0.0, b.0.1) (p, u) _ refl b.2) (record {
+      ws = g.ws;
+      is = (g.ws, refl, g.is);
+      moves = g.moves;
+      may = record { once = once_as before named.Permissions once; value = g.may };
+      seen = g.seen ∙ same_seen s.seen b.0.0;
+    })
+param_valued before named.Mandatory s p u well once e = names_valued before named.Mandatory Mandatory (λ _. refl) (λ ws _ h. (ws, refl, h)) (λ _ _ h. h) (λ _ _. refl) s p u well once e
+param_valued before named.Optional s p u well once e = names_valued before named.Optional Optional (λ _. refl) (λ ws _ h. (ws, refl, h)) (λ _ _ h. h) (λ _ _. refl) s p u well once e
 param_valued before named.Timeout s p u well once e =
     let f1 : Located × State → Result (Param × State) ConfigFault = λ t. wait_of t.0 >>= λ wait. Ok (Timeout wait, t.1) in
     let a = bind_ok (token s) f1 (p, u) e in
@@ -308,26 +375,85 @@ param_valued before named.Timeout s p u well once e =
       ws = a.0.0.word ∷ [];
       is = (a.0.0.word ∷ [], refl, w.0);
       moves = m.moves;
-      may = record { once = once; value = tt };
+      may = record { once = once_as before named.Timeout once; value = tt };
       seen = m.seen;
     })
 
+-- another name than those of the parameters that are read
+unknown_is : (name : List ℕ) → param_named name ≡ None → (known : ParamName) → name ≢ spelled known
+unknown_is name e known same = absurd (no_name known (sym (ap param_named same) ∙ e))
+  where
+    no_name : (p : ParamName) → param_named (spelled p) ≡ None → ⊥
+    no_name named.Distributed h = absurd cc
+    no_name named.Permissions h = absurd cc
+    no_name named.Mandatory h = absurd cc
+    no_name named.Optional h = absurd cc
+    no_name named.Timeout h = absurd cc
+
+param_rested : (before : List Param) (k : Option ParamName) (name : List ℕ) (s : State) (p : Param) (u : State) → EndsWell s → FineParam before name k → param_rest_at k s ≡ Ok (p, u) → Gets (λ ws x. IsParam (pair_begun name ws) x) with_param (MayParam before) s p u
+unfolding param_rest_at
+param_rested before (Some _) name s p u well (Known known is once) e =
+    let g = closed_found (λ ws x. IsParam (pair_begun (spelled known) ws) x) (param_value_at known) with_param (MayParam before) (λ s x u well e. param_valued before known s x u well once e) s p u well e in
+    subst (λ (n : List ℕ). Gets (λ ws x. IsParam (pair_begun n ws) x) with_param (MayParam before) s p u) (sym is) g
+param_rested before None name s p u well (Unknown other) e =
+    let a = bind_ok (passed_at s) (λ behind. Ok (Param.Other, behind)) (p, u) e in
+    let m = passed_found s a.0 well a.1 in
+    subst (λ (y : Param × State). Gets (λ ws x. IsParam (pair_begun name ws) x) with_param (MayParam before) s y.0 y.1) (ok_same (Param.Other, a.0) (p, u) _ refl a.2) (record {
+      ws = m.ws ++ Mark CloseTuple ∷ [];
+      is = (name, unknown_is name other, (m.ws, refl, m.term));
+      moves = m.moves;
+      may = record { once = λ known is. absurd (nothing known is); value = tt };
+      seen = m.seen;
+    })
+  where
+    nothing : (known : ParamName) → ◌≡◌ {A = Option ParamName} None (Some known) → ⊥
+    nothing known h = absurd cc
+
 pub param_found : (before : List Param) (t : Located) (s : State) (p : Param) (u : State) → EndsWell s → param_at before t s ≡ Ok (p, u) → Reads IsParam with_param (MayParam before) t s p u
-param_found before = pair_found IsParam (param_name_of before) spelled (λ name. has_param name before ≡ false) param_value_at with_param (MayParam before) (params_named before) (param_valued before)
+param_found before = pair_found IsParam (param_name_of before) (λ k name. FineParam before name k) param_rest_at with_param (MayParam before) (params_named before) (param_rested before)
 
-section_named : (before : List (List Param)) (t : Located) (k : Unit {0}) → section_name_of before t ≡ Ok k → (t.word ≡ Name (codes "kernel")) × (length before ≡ 0)
-unfolding section_name_of
+-- what a section's name says of it: it is `kernel`, which stands once, or another
+data FineSection (before : List Section) (name : List ℕ) : Bool → Type 0 where
+  IsKernel : name ≡ codes "kernel" → has_kernel before ≡ false → FineSection before name true
+  IsOther : bytes_eq name (codes "kernel") ≡ false → FineSection before name false
+
+section_named : (before : List Section) (t : Located) (k : Bool) → names_kernel before t ≡ Ok k → (name : List ℕ) × (t.word ≡ Name name) × FineSection before name k
+unfolding names_kernel
 section_named before t k e =
-    let first : Result (Unit {0}) ConfigFault = cond (eqb (length before) 0) (Ok tt) (fails BadShape t.at) in
-    let b = bind_ok (atom_of t) (λ name. cond (bytes_eq name (codes "kernel")) first (fails Unsupported t.at)) k e in
-    let h = required (bytes_eq b.0 (codes "kernel")) first _ k b.2 in
-    let g = held (eqb (length before) 0) tt _ k h.1 in
-    (atom_is t.word t.at b.0 b.1 ∙ ap Name (is_named b.0 _ h.0), eqb-true (length before) 0 g.0)
+    let first : Result Bool ConfigFault = cond (has_kernel before) (fails BadShape t.at) (Ok true) in
+    let b = bind_ok (atom_of t) (λ name. cond (bytes_eq name (codes "kernel")) first (Ok false)) k e in
+    let fine : FineSection before b.0 k = elim (chosen (bytes_eq b.0 (codes "kernel")) first (Ok false) (Ok k) b.2) [
+      | inl h ↦
+          let g = passed (has_kernel before) _ (Ok true) k h.1 in
+          subst (FineSection before b.0) (ok_same true k _ refl g.1) (IsKernel (is_named b.0 _ h.0) g.0)
+      | inr h ↦ subst (FineSection before b.0) (ok_same false k _ refl h.1) (IsOther h.0)
+    ] in
+    (b.0, atom_is t.word t.at b.0 b.1, fine)
 
-section_valued : (before : List (List Param)) (k : Unit {0}) (s : State) (params : List Param) (u : State) → EndsWell s → length before ≡ 0 → list_of param_at s ≡ Ok (params, u) → Gets (λ ws x. IsSection (pair_words (codes "kernel") ws) x) with_section (MaySection before) s params u
-section_valued before k s params u well once e =
-    let g = bracketed_found IsParam param_at with_param MayParam param_found s params u well e in
-    record { ws = g.ws; is = (g.ws, refl, g.is); moves = g.moves; may = record { once = once; params = g.may }; seen = g.seen }
+kernel_valued : (before : List Section) (s : State) (x : Section) (u : State) → EndsWell s → has_kernel before ≡ false → kernel_at s ≡ Ok (x, u) → Gets (λ ws x. IsSection (pair_words (codes "kernel") ws) x) with_section (MaySection before) s x u
+unfolding kernel_at
+kernel_valued before s x u well once e =
+    let a = bind_ok (list_of param_at s) (λ params. Ok (Kernel params.0, params.1)) (x, u) e in
+    let g = bracketed_found IsParam param_at with_param MayParam param_found s a.0.0 a.0.1 well a.1 in
+    subst (λ (y : Section × State). Gets (λ ws x. IsSection (pair_words (codes "kernel") ws) x) with_section (MaySection before) s y.0 y.1) (ok_same (Kernel a.0.0, a.0.1) (x, u) _ refl a.2)
+    (record { ws = g.ws; is = (g.ws, refl, g.is); moves = g.moves; may = record { once = once; params = g.may }; seen = g.seen })
 
-pub section_found : (before : List (List Param)) (t : Located) (s : State) (params : List Param) (u : State) → EndsWell s → section_at before t s ≡ Ok (params, u) → Reads IsSection with_section (MaySection before) t s params u
-section_found before = pair_found IsSection (section_name_of before) (λ _. codes "kernel") (λ _. length before ≡ 0) (λ _. list_of param_at) with_section (MaySection before) (section_named before) (section_valued before)
+section_rested : (before : List Section) (k : Bool) (name : List ℕ) (s : State) (x : Section) (u : State) → EndsWell s → FineSection before name k → section_rest_at k s ≡ Ok (x, u) → Gets (λ ws x. IsSection (pair_begun name ws) x) with_section (MaySection before) s x u
+unfolding section_rest_at
+section_rested before true name s x u well (IsKernel is once) e =
+    let g = closed_found (λ ws x. IsSection (pair_begun (codes "kernel") ws) x) kernel_at with_section (MaySection before) (λ s x u well e. kernel_valued before s x u well once e) s x u well e in
+    subst (λ (n : List ℕ). Gets (λ ws x. IsSection (pair_begun n ws) x) with_section (MaySection before) s x u) (sym is) g
+section_rested before false name s x u well (IsOther other) e =
+    let a = bind_ok (passed_at s) (λ behind. Ok (Section.Other, behind)) (x, u) e in
+    let m = passed_found s a.0 well a.1 in
+    subst (λ (y : Section × State). Gets (λ ws x. IsSection (pair_begun name ws) x) with_section (MaySection before) s y.0 y.1) (ok_same (Section.Other, a.0) (x, u) _ refl a.2)
+    (record { ws = m.ws ++ Mark CloseTuple ∷ []; is = (name, no_kernel, (m.ws, refl, m.term)); moves = m.moves; may = tt; seen = m.seen })
+  where
+    no_kernel : name ≢ codes "kernel"
+    no_kernel same = let wrong : true ≡ false = ap (λ (n : List ℕ). bytes_eq n (codes "kernel")) (sym same) ∙ other in cc
+
+pub section_found : (before : List Section) (t : Located) (s : State) (x : Section) (u : State) → EndsWell s → section_at before t s ≡ Ok (x, u) → Reads IsSection with_section (MaySection before) t s x u
+unfolding section_at
+section_found before t s x u well e =
+    let p = passed (is_text t.word) _ (pair_at (names_kernel before) section_rest_at t s) (x, u) e in
+    pair_found IsSection (names_kernel before) (λ k name. FineSection before name k) section_rest_at with_section (MaySection before) (section_named before) (section_rested before) t s x u well p.1

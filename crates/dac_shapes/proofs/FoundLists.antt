@@ -6,7 +6,7 @@ use Rattle.dac_tokens.specs.declared.token.Symbol.TheVariants.{OpenList, CloseLi
 use Rattle.dac_tokens.specs.Gives.{◌>>=◌}
 use Rattle.dac_tokens.specs.Words.{Word, Mark, Name, Located, is_end}
 use Rattle.dac_shapes.specs.Limits.{Seen, AllMay, steps}
-use Rattle.dac_shapes.specs.Shape.{State, is_mark, token, symbol_at, more_at, comma_list, list_of, pair_at, room}
+use Rattle.dac_shapes.specs.Shape.{State, is_mark, token, symbol_at, more_at, comma_list, list_of, pair_at, closed, room}
 use Rattle.dac_shapes.specs.Grammar.{Parted, PartedOrNone, IsListOf, between}
 use Rattle.dac_shapes.proofs.Moves.{bind_ok, required, chosen, ok_same, words_in, EndsWell, Moves, Passes, Moves-then, still_well, same_last, token_is, token_moves, word_passes, mark_is, symbol_passes, more_passes, part, back}
 
@@ -140,23 +140,42 @@ module _ {A : Type 0} (Is : List Word → A → Type 0) (read : List A → Locat
             })
       ]
 
+-- the words of a pair up to its comma, and then these
+abbrev pub pair_begun : List ℕ → List Word → List Word
+pair_begun name rest = Mark OpenTuple ∷ Name name ∷ Mark Comma ∷ rest
+
 -- the words of a pair of a name and a value
 abbrev pub pair_words : List ℕ → List Word → List Word
 pair_words name value = Mark OpenTuple ∷ Name name ∷ Mark Comma ∷ value ++ Mark CloseTuple ∷ []
 
-joined_words : (w0 n : Word) (ws ws0 ws1 ws2 ws3 v : List Word) → w0 ≡ Mark OpenTuple → ws ≡ n ∷ ws0 → ws0 ≡ Mark Comma ∷ ws1 → ws1 ≡ v ++ ws2 → ws2 ≡ Mark CloseTuple ∷ ws3
-    → w0 ∷ ws ≡ (Mark OpenTuple ∷ n ∷ Mark Comma ∷ v ++ Mark CloseTuple ∷ []) ++ ws3
-joined_words w0 n ws ws0 ws1 ws2 ws3 v e0 e1 e2 e3 e4 =
-    let e : w0 ∷ ws ≡ Mark OpenTuple ∷ n ∷ Mark Comma ∷ (v ++ Mark CloseTuple ∷ ws3) = cc in e ∙ simp append_assoc
+module _ {A : Type 0} (Is : List Word → A → Type 0) (value : State → Result (A × State) ConfigFault) (step : Seen → A → Seen) (May : Seen → A → Type 0)
+    (valued : (s : State) (x : A) (u : State) → EndsWell s → value s ≡ Ok (x, u) → Gets (λ ws x. Is (ws ++ Mark CloseTuple ∷ []) x) step May s x u) where
+  -- a value, and the brace that closes its pair
+  pub closed_found : (s : State) (x : A) (u : State) → EndsWell s → closed value s ≡ Ok (x, u) → Gets Is step May s x u
+  closed_found s x u well e =
+      let f1 : A × State → Result (A × State) ConfigFault = λ one. symbol_at CloseTuple one.1 >>= λ close. Ok (one.0, close) in
+      let a = bind_ok (value s) f1 (x, u) e in
+      let v = valued s a.0.0 a.0.1 well a.1 in
+      let b = bind_ok (symbol_at CloseTuple a.0.1) (λ close. Ok (a.0.0, close)) (x, u) a.2 in
+      let r = symbol_passes CloseTuple a.0.1 b.0 (still_well s a.0.1 v.ws well v.moves) b.1 in
+      subst (λ (y : A × State). Gets Is step May s y.0 y.1) (ok_same (a.0.0, b.0) (x, u) _ refl b.2) (record {
+        ws = v.ws ++ Mark CloseTuple ∷ [];
+        is = v.is;
+        moves = Moves-then s a.0.1 b.0 v.ws (Mark CloseTuple ∷ []) v.moves r.moves;
+        may = v.may;
+        seen = r.seen ∙ v.seen;
+      })
 
-module _ {K A : Type 0} (Is : List Word → A → Type 0) (name_of : Located → Result K ConfigFault) (spelled : K → List ℕ) (Fine : K → Type 0) (value : K → State → Result (A × State) ConfigFault) (step : Seen → A → Seen) (May : Seen → A → Type 0)
-    (named : (t : Located) (k : K) → name_of t ≡ Ok k → (t.word ≡ Name (spelled k)) × Fine k)
-    (valued : (k : K) (s : State) (x : A) (u : State) → EndsWell s → Fine k → value k s ≡ Ok (x, u) → Gets (λ ws x. Is (pair_words (spelled k) ws) x) step May s x u) where
-  pub pair_found : (t : Located) (s : State) (x : A) (u : State) → EndsWell s → pair_at name_of value t s ≡ Ok (x, u) → Reads Is step May t s x u
+joined_words : (w0 n : Word) (ws ws0 ws1 ws2 v : List Word) → w0 ≡ Mark OpenTuple → ws ≡ n ∷ ws0 → ws0 ≡ Mark Comma ∷ ws1 → ws1 ≡ v ++ ws2 → w0 ∷ ws ≡ Mark OpenTuple ∷ n ∷ Mark Comma ∷ (v ++ ws2)
+joined_words w0 n ws ws0 ws1 ws2 v e0 e1 e2 e3 = cc
+
+module _ {K A : Type 0} (Is : List Word → A → Type 0) (name_of : Located → Result K ConfigFault) (Fine : K → List ℕ → Type 0) (rest : K → State → Result (A × State) ConfigFault) (step : Seen → A → Seen) (May : Seen → A → Type 0)
+    (named : (t : Located) (k : K) → name_of t ≡ Ok k → (name : List ℕ) × (t.word ≡ Name name) × Fine k name)
+    (rested : (k : K) (name : List ℕ) (s : State) (x : A) (u : State) → EndsWell s → Fine k name → rest k s ≡ Ok (x, u) → Gets (λ ws x. Is (pair_begun name ws) x) step May s x u) where
+  pub pair_found : (t : Located) (s : State) (x : A) (u : State) → EndsWell s → pair_at name_of rest t s ≡ Ok (x, u) → Reads Is step May t s x u
   unfolding pair_at
   pair_found t s x u well e =
-      let f4 : A × State → Result (A × State) ConfigFault = λ one. symbol_at CloseTuple one.1 >>= λ close. Ok (one.0, close) in
-      let f3 : K → State → Result (A × State) ConfigFault = λ name comma. value name comma >>= f4 in
+      let f3 : K → State → Result (A × State) ConfigFault = λ name comma. rest name comma in
       let f2 : State → K → Result (A × State) ConfigFault = λ v name. symbol_at Comma v >>= f3 name in
       let f1 : Located × State → Result (A × State) ConfigFault = λ first. name_of first.0 >>= f2 first.1 in
       let h = required (is_mark OpenTuple t.word) (token s >>= f1) _ (x, u) e in
@@ -164,23 +183,19 @@ module _ {K A : Type 0} (Is : List Word → A → Type 0) (name_of : Located →
       let a = bind_ok (token s) f1 (x, u) h.1 in
       let b = bind_ok (name_of a.0.0) (f2 a.0.1) (x, u) a.2 in
       let n = named a.0.0 b.0 b.1 in
-      let p = word_passes s a.0.0 a.0.1 (Name (spelled b.0)) well a.1 n.0 refl in
+      let p = word_passes s a.0.0 a.0.1 (Name n.0) well a.1 n.1 refl in
       let c = bind_ok (symbol_at Comma a.0.1) (f3 b.0) (x, u) b.2 in
       let q = symbol_passes Comma a.0.1 c.0 p.well c.1 in
-      let d = bind_ok (value b.0 c.0) f4 (x, u) c.2 in
-      let v = valued b.0 c.0 d.0.0 d.0.1 q.well n.1 d.1 in
-      let well4 : EndsWell d.0.1 = still_well c.0 d.0.1 v.ws q.well v.moves in
-      let g = bind_ok (symbol_at CloseTuple d.0.1) (λ close. Ok (d.0.0, close)) (x, u) d.2 in
-      let r = symbol_passes CloseTuple d.0.1 g.0 well4 g.1 in
+      let v = rested b.0 n.0 c.0 x u q.well n.2 c.2 in
       let before : c.0.seen ≡ s.seen = q.seen ∙ p.seen in
-      subst (λ (y : A × State). Reads Is step May t s y.0 y.1) (ok_same (d.0.0, g.0) (x, u) _ refl g.2) (record {
-        ws = pair_words (spelled b.0) v.ws;
+      record {
+        ws = pair_begun n.0 v.ws;
         is = v.is;
         moves = record {
-          words = joined_words t.word (Name (spelled b.0)) (words_in s) (words_in a.0.1) (words_in c.0) (words_in d.0.1) (words_in g.0) v.ws begins p.moves.words q.moves.words v.moves.words r.moves.words;
-          last = r.moves.last ∙ v.moves.last ∙ q.moves.last ∙ p.moves.last;
+          words = joined_words t.word (Name n.0) (words_in s) (words_in a.0.1) (words_in c.0) (words_in u) v.ws begins p.moves.words q.moves.words v.moves.words;
+          last = v.moves.last ∙ q.moves.last ∙ p.moves.last;
         };
         begun = ap is_end begins;
-        may = subst (λ (y : Seen). May y d.0.0) before v.may;
-        seen = r.seen ∙ v.seen ∙ ap (λ (y : Seen). step y d.0.0) before;
-      })
+        may = subst (λ (y : Seen). May y x) before v.may;
+        seen = v.seen ∙ ap (λ (y : Seen). step y x) before;
+      }

@@ -1,10 +1,14 @@
 pub mod Faults
 pub mod Lists
+pub mod TermCases
+pub mod TermLoops
 pub mod Among
 pub mod Digits
 pub mod Moves
 pub mod FoundLists
+pub mod FoundTerms
 pub mod Found
 pub mod AgainLists
+pub mod AgainTerms
 pub mod Again
 pub mod Texts

@@ -5,7 +5,6 @@ use Rattle.dac_tokens.specs.declared.token.Symbol.{Symbol}
 use Rattle.dac_tokens.specs.Gives.{◌>>=◌}
 use Rattle.dac_shapes.specs.Outcome.{Fails}
 use Rattle.dac_tokens.specs.Words.{Located}
-use Rattle.dac_tokens.specs.Stream.{Stream, taken}
 use Rattle.dac_shapes.specs.Shape.{State, token, more_at, room, comma_list}
 use Rattle.dac_shapes.proofs.Faults.{fails_too}
 

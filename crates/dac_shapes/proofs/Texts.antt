@@ -14,7 +14,7 @@ use Rattle.dac_tokens.specs.TokenGrammar.{AreTokensOf}
 use Rattle.dac_tokens.specs.Words.{Word, Mark, End, Located, is_end}
 use Rattle.dac_tokens.specs.Stream.{Stream, token_from, and_then, tokens_within, tokens_of, taken_of, end_at as end_of, ended as ended_by}
 use Rattle.dac_shapes.specs.declared.draft.Draft.{Draft}
-use Rattle.dac_shapes.specs.Written.{Param, Written, written}
+use Rattle.dac_shapes.specs.Written.{Section, Written, written}
 use Rattle.dac_shapes.specs.Limits.{Seen, nothing, AllMay, steps, with_section, MaySection, MaySections, nodes_in}
 use Rattle.dac_shapes.specs.Shape.{State, fails, token, symbol_at, list_of, section_at, end_at, file_at}
 use Rattle.dac_shapes.specs.Grammar.{IsSection, IsListOf, IsFile, IsTextOf}
@@ -90,7 +90,7 @@ end_found s place v well no_end e =
 
 -- what is known of a file that was read from s
 record Files (s : State) (draft : Written) : Type 0 where
-  pub sections : List (List Param)
+  pub sections : List Section
   pub file : IsFile (words_in s) sections
   pub may : MaySections sections
   pub says : draft ≡ written sections (nodes_in sections)
@@ -101,8 +101,8 @@ record Files (s : State) (draft : Written) : Type 0 where
 file_found : (s : State) (draft : Written) → EndsWell s → NoEnd (words_in s) → s.seen ≡ nothing → file_at s ≡ Ok draft → Files s draft
 unfolding file_at
 file_found s draft well no_end fresh e =
-    let f2 : List (List Param) → ℕ × State → Result Written ConfigFault = λ ss end. cond (eqb (length (written ss end.1.seen.met).apps) 0) (fails NoDistributed end.0) (Ok (written ss end.1.seen.met)) in
-    let f1 : List (List Param) × State → Result Written ConfigFault = λ ss. end_at ss.1 >>= f2 ss.0 in
+    let f2 : List Section → ℕ × State → Result Written ConfigFault = λ ss end. cond (eqb (length (written ss end.1.seen.met).apps) 0) (fails NoDistributed end.0) (Ok (written ss end.1.seen.met)) in
+    let f1 : List Section × State → Result Written ConfigFault = λ ss. end_at ss.1 >>= f2 ss.0 in
     let a = bind_ok (list_of section_at s) f1 draft e in
     let g = bracketed_found IsSection section_at with_section MaySection section_found s a.0.0 a.0.1 well a.1 in
     let b = bind_ok (end_at a.0.1) (f2 a.0.0) draft a.2 in
@@ -126,11 +126,11 @@ end_again : (stop end : Located) (seen : Seen) → stop.word ≡ Mark FullStop �
 unfolding end_at
 end_again stop end seen w e = rw (symbol_again (Ok end) FullStop stop [] seen refl w, e) refl
 
-file_by : (s t u : State) (place : ℕ) (sections : List (List Param)) → list_of section_at s ≡ Ok (sections, t) → end_at t ≡ Ok (place, u) → eqb (length (written sections u.seen.met).apps) 0 ≡ false → file_at s ≡ Ok (written sections u.seen.met)
+file_by : (s t u : State) (place : ℕ) (sections : List Section) → list_of section_at s ≡ Ok (sections, t) → end_at t ≡ Ok (place, u) → eqb (length (written sections u.seen.met).apps) 0 ≡ false → file_at s ≡ Ok (written sections u.seen.met)
 unfolding file_at
 file_by s t u place sections a b c = rw (a, b, c) refl
 
-file_again : (end : Located) (ts : List Located) (sections : List (List Param)) → is_end end.word ≡ true → IsFile (map (λ t. t.word) ts) sections → MaySections sections → length (written sections (nodes_in sections)).apps ≢ 0
+file_again : (end : Located) (ts : List Located) (sections : List Section) → is_end end.word ≡ true → IsFile (map (λ t. t.word) ts) sections → MaySections sections → length (written sections (nodes_in sections)).apps ≢ 0
     → file_at (at (Ok end) ts nothing) ≡ Ok (written sections (nodes_in sections))
 file_again end ts sections is file may some =
     let c = ended ts file.0 (Mark FullStop) file.1 in

@@ -1,12 +1,14 @@
 -- The shapes of a configuration, as a grammar on tokens, whatever a reader does.
-use Rattle.std.specs.Prelude.{◌≡◌, ◌≢◌, ◌⊎◌, ℕ, ◌<◌, ◌≤◌, Bool, true, List, [], ◌∷◌, ◌++◌, length, map, codes}
+use Rattle.std.specs.Prelude.{◌≡◌, ◌≢◌, ◌⊎◌, ℕ, ◌<◌, ◌≤◌, Bool, true, false, List, [], ◌∷◌, ◌++◌, length, map, All, codes}
 use Rattle.dac_tokens.specs.declared.token.Symbol.{Symbol}
 use Rattle.dac_tokens.specs.declared.token.Symbol.TheVariants.{OpenList, CloseList, OpenTuple, CloseTuple, Comma, FullStop}
 use Rattle.dac_tokens.specs.TokenGrammar.{AreTokensOf}
-use Rattle.dac_tokens.specs.Words.{Word, Mark, Name, Number, Located}
+use Rattle.dac_tokens.specs.Words.{Word, Mark, Name, Number, Text, Located}
+use Rattle.dac_shapes.specs.declared.param.ParamName.{ParamName}
+use Rattle.dac_shapes.specs.declared.param.ParamName.TheVariants as named
 use Rattle.dac_shapes.specs.declared.draft.SyncWait.{SyncWait}
 use Rattle.dac_shapes.specs.declared.draft.SyncWait.TheVariants.{NoSync, Forever, Ms}
-use Rattle.dac_shapes.specs.Written.{App, Param, Distributed, Mandatory, Optional, Timeout, Written, name_of, spelled, written}
+use Rattle.dac_shapes.specs.Written.{App, Permission, Param, Distributed, Permissions, Mandatory, Optional, Timeout, Section, Kernel, Written, spelled, written}
 use Rattle.dac_shapes.specs.Shape.{value_from}
 use Rattle.dac_shapes.specs.Limits.{MaySections, nodes_in}
 
@@ -31,6 +33,26 @@ IsListOf Is words xs = (inner : List Word) × (words ≡ between OpenList inner 
 -- a pair of this name and a value
 abbrev pub IsPair : List ℕ → (List Word → Type 0) → List Word → Type 0
 IsPair name IsValue words = (value : List Word) × (words ≡ Mark OpenTuple ∷ Name name ∷ Mark Comma ∷ value ++ Mark CloseTuple ∷ []) × IsValue value
+
+-- these two marks are brackets
+pub data AreBrackets : Symbol → Symbol → Type 0 where
+  OfList : AreBrackets OpenList CloseList
+  OfTuple : AreBrackets OpenTuple CloseTuple
+
+mutual
+  -- A term, whatever it says: an atom, a number, one or more strings, which are one, or nothing or terms between
+  -- brackets.
+  pub data IsTerm : List Word → Type 0 where
+    Atom : (name : List ℕ) → IsTerm (Name name ∷ [])
+    Integer : (negative : Bool) (digits : List ℕ) → IsTerm (Number negative digits ∷ [])
+    Strings : (more : List Word) → All (λ word. word ≡ Text) more → IsTerm (Text ∷ more)
+    Empty : (left right : Symbol) → AreBrackets left right → IsTerm (between left [] right)
+    Between : (left right : Symbol) (inner : List Word) → AreBrackets left right → AreTerms inner → IsTerm (between left inner right)
+
+  -- one or more terms, parted by commas
+  pub data AreTerms : List Word → Type 0 where
+    One : (words : List Word) → IsTerm words → AreTerms words
+    More : (first rest : List Word) → IsTerm first → AreTerms rest → AreTerms (first ++ Mark Comma ∷ rest)
 
 abbrev pub IsNode : List Word → List ℕ → Type 0
 IsNode words name = words ≡ Name name ∷ []
@@ -61,26 +83,35 @@ IsAppValue words app = (timeout list : List Word) × (words ≡ timeout ++ list)
 abbrev pub IsApp : List Word → App → Type 0
 IsApp words app = IsPair app.name (λ value. IsAppValue value app) words
 
+-- `true` or `false`
+abbrev pub IsFlag : List Word → Bool → Type 0
+IsFlag words true = words ≡ Name (codes "true") ∷ []
+IsFlag words false = words ≡ Name (codes "false") ∷ []
+
+abbrev pub IsPermission : List Word → Permission → Type 0
+IsPermission words permission = IsPair permission.name (λ value. IsFlag value permission.value) words
+
 -- a number, or `infinity`
 abbrev pub IsWait : List Word → SyncWait → Type 0
 IsWait words NoSync = ⊥
 IsWait words Forever = words ≡ Name (codes "infinity") ∷ []
 IsWait words (Ms n) = (word : Word) × (words ≡ word ∷ []) × IsMs word n
 
-abbrev pub IsParamValue : List Word → Param → Type 0
-IsParamValue words (Distributed apps) = IsListOf IsApp words apps
-IsParamValue words (Mandatory names) = IsListOf IsNode words names
-IsParamValue words (Optional names) = IsListOf IsNode words names
-IsParamValue words (Timeout wait) = IsWait words wait
-
+-- A parameter, bare or quoted. Another than those that are read is a pair of any other name and any term.
 abbrev pub IsParam : List Word → Param → Type 0
-IsParam words param = IsPair (spelled (name_of param)) (λ value. IsParamValue value param) words
+IsParam words (Distributed apps) = IsPair (spelled named.Distributed) (λ value. IsListOf IsApp value apps) words
+IsParam words (Permissions permissions) = IsPair (spelled named.Permissions) (λ value. IsListOf IsPermission value permissions) words
+IsParam words (Mandatory names) = IsPair (spelled named.Mandatory) (λ value. IsListOf IsNode value names) words
+IsParam words (Optional names) = IsPair (spelled named.Optional) (λ value. IsListOf IsNode value names) words
+IsParam words (Timeout wait) = IsPair (spelled named.Timeout) (λ value. IsWait value wait) words
+IsParam words Param.Other = (name : List ℕ) × ((known : ParamName) → name ≢ spelled known) × IsPair name IsTerm words
 
--- the section `kernel`, with these parameters
-abbrev pub IsSection : List Word → List Param → Type 0
-IsSection words params = IsPair (codes "kernel") (λ value. IsListOf IsParam value params) words
+-- the section `kernel` with these parameters, or a pair of any other name and any term
+abbrev pub IsSection : List Word → Section → Type 0
+IsSection words (Kernel params) = IsPair (codes "kernel") (λ value. IsListOf IsParam value params) words
+IsSection words Section.Other = (name : List ℕ) × (name ≢ codes "kernel") × IsPair name IsTerm words
 
-abbrev pub IsFile : List Word → List (List Param) → Type 0
+abbrev pub IsFile : List Word → List Section → Type 0
 IsFile words sections = (list : List Word) × (words ≡ list ++ Mark FullStop ∷ []) × IsListOf IsSection list sections
 
 -- A text of at most 65,536 bytes says this: its tokens are a file, whose names may stand where they stand, and which
@@ -88,7 +119,7 @@ IsFile words sections = (list : List Word) × (words ≡ list ++ Mark FullStop �
 pub record IsTextOf (text : List ℕ) (draft : Written) : Type 0 where
   pub short : length text ≤ 65536
   pub tokens : List Located
-  pub sections : List (List Param)
+  pub sections : List Section
   pub spelled : AreTokensOf text tokens
   pub file : IsFile (map (λ t. t.word) tokens) sections
   pub may : MaySections sections

@@ -1,10 +1,10 @@
 -- Which names may stand where: each thing may come after those before it.
-use Rattle.std.specs.Prelude.{◌≡◌, ℕ, ◌<◌, ◌≤◌, ◌==◌, Bool, true, false, List, [], ◌∷◌, ◌++◌, length, map, if◌then◌else◌}
+use Rattle.std.specs.Prelude.{◌≡◌, ℕ, ◌<◌, ◌≤◌, ◌==◌, Bool, true, false, List, [], ◌∷◌, ◌++◌, length, map, Option, None, Some, if◌then◌else◌}
 use Rattle.std.specs.Str.{bytes_eq}
 use Rattle.std.specs.List.{list_any}
 use Rattle.dac_shapes.specs.declared.param.ParamName.{ParamName}
 use Rattle.dac_shapes.specs.declared.param.ParamName.TheVariants as named
-use Rattle.dac_shapes.specs.Written.{App, Param, Distributed, Mandatory, Optional, Timeout, name_of}
+use Rattle.dac_shapes.specs.Written.{App, Permission, Param, Distributed, Permissions, Mandatory, Optional, Timeout, Section, Kernel, name_of}
 
 -- the different names of nodes met so far, and the names of the node list that is being read
 pub record Seen : Type 0 where
@@ -22,10 +22,24 @@ number_of named.Distributed = 0
 number_of named.Mandatory = 1
 number_of named.Optional = 2
 number_of named.Timeout = 3
+number_of named.Permissions = 4
+
+-- whether a parameter that is read, if it is one, is this one
+abbrev pub is_named : ParamName → Option ParamName → Bool
+is_named name None = false
+is_named name (Some other) = number_of other == number_of name
 
 -- whether one of the parameters has this name
 abbrev pub has_param : ParamName → List Param → Bool
-has_param name params = list_any (λ param. number_of (name_of param) == number_of name) params
+has_param name params = list_any (λ param. is_named name (name_of param)) params
+
+abbrev pub is_kernel : Section → Bool
+is_kernel (Kernel params) = true
+is_kernel Section.Other = false
+
+-- whether one of the sections is `kernel`
+abbrev pub has_kernel : List Section → Bool
+has_kernel sections = list_any is_kernel sections
 
 module _ {A : Type 0} (step : Seen → A → Seen) (May : List A → Seen → A → Type 0) where
   -- each thing may come after those before it
@@ -85,36 +99,55 @@ pub record MayApp (before : List App) (seen : Seen) (app : App) : Type 0 where
 abbrev pub with_apps : Seen → List App → Seen
 with_apps seen apps = steps with_app seen apps
 
+-- ---- permissions
+
+-- a permission names no node
+abbrev pub with_permission : Seen → Permission → Seen
+with_permission seen permission = seen
+
+-- a permission may come: its name has at most 255 bytes, whether an application has it or not
+abbrev pub MayPermission : List Permission → Seen → Permission → Type 0
+MayPermission before seen permission = length permission.name ≤ 255
+
 -- ---- parameters and sections
 
 abbrev pub with_param : Seen → Param → Seen
 with_param seen (Distributed apps) = with_apps seen apps
+with_param seen (Permissions permissions) = seen
 with_param seen (Mandatory names) = with_nodes seen names
 with_param seen (Optional names) = with_nodes seen names
 with_param seen (Timeout wait) = seen
+with_param seen Param.Other = seen
 
 abbrev pub MayValue : Seen → Param → Type 0
 MayValue seen (Distributed apps) = AllMay with_app MayApp [] seen apps
+MayValue seen (Permissions permissions) = AllMay with_permission MayPermission [] seen permissions
 MayValue seen (Mandatory names) = MayNodes true seen names
 MayValue seen (Optional names) = MayNodes true seen names
 MayValue seen (Timeout wait) = Unit {0}
+MayValue seen Param.Other = Unit {0}
 
--- a parameter may come after these: there is none of its name, and its value may come
+-- a parameter may come after these: if it is read there is none of its name, and its value may come
 pub record MayParam (before : List Param) (seen : Seen) (param : Param) : Type 0 where
-  pub once : has_param (name_of param) before ≡ false
+  pub once : (name : ParamName) → name_of param ≡ Some name → has_param name before ≡ false
   pub value : MayValue seen param
 
-abbrev pub with_section : Seen → List Param → Seen
-with_section seen params = steps with_param seen params
+abbrev pub with_section : Seen → Section → Seen
+with_section seen (Kernel params) = steps with_param seen params
+with_section seen Section.Other = seen
 
--- a section `kernel` may come: it is the first, and its parameters may come
-pub record MaySection (before : List (List Param)) (seen : Seen) (section : List Param) : Type 0 where
-  pub once : length before ≡ 0
-  pub params : AllMay with_param MayParam [] seen section
+-- a section `kernel` may come after these: it is the first of them, and its parameters may come
+pub record MayKernel (before : List Section) (seen : Seen) (kernel : List Param) : Type 0 where
+  pub once : has_kernel before ≡ false
+  pub params : AllMay with_param MayParam [] seen kernel
 
-abbrev pub MaySections : List (List Param) → Type 0
+abbrev pub MaySection : List Section → Seen → Section → Type 0
+MaySection before seen (Kernel params) = MayKernel before seen params
+MaySection before seen Section.Other = Unit {0}
+
+abbrev pub MaySections : List Section → Type 0
 MaySections sections = AllMay with_section MaySection [] nothing sections
 
 -- the different names of nodes of the sections, in the order in which they first stand
-abbrev pub nodes_in : List (List Param) → List (List ℕ)
+abbrev pub nodes_in : List Section → List (List ℕ)
 nodes_in sections = (steps with_section nothing sections).met

@@ -1,5 +1,5 @@
 -- The shapes of a configuration, read from left to right with the first fault that is met.
-use Rattle.std.specs.Prelude.{ℕ, zero, suc, ◌+◌, ◌-◌, ◌*◌, Bool, true, false, not, ◌&&◌, List, [], ◌∷◌, ◌++◌, length, map, fold, Option, None, Some, Result, Ok, Err, nat_lt, nat_le, ◌==◌, if◌then◌else◌, codes}
+use Rattle.std.specs.Prelude.{◌≡◌, ◌<◌, ℕ, zero, suc, ◌+◌, ◌-◌, ◌*◌, Bool, true, false, not, ◌&&◌, List, [], ◌∷◌, ◌++◌, length, map, fold, Option, None, Some, Result, Ok, Err, nat_lt, nat_le, ◌==◌, if◌then◌else◌, codes}
 use Rattle.std.specs.Str.{bytes_eq}
 use Rattle.dac_tokens.specs.declared.fault.FaultKind.{FaultKind}
 use Rattle.dac_tokens.specs.declared.fault.FaultKind.TheVariants.{TooLong, Unsupported, BadShape, NoDistributed, TwiceApp, TwiceInList, EmptyList, EmptyTuple, TooManyNodes, TooManyApps, NumberTooLarge, NameTooLong}
@@ -13,8 +13,8 @@ use Rattle.dac_shapes.specs.declared.draft.SyncWait.{SyncWait}
 use Rattle.dac_shapes.specs.declared.draft.SyncWait.TheVariants.{Forever, Ms}
 use Rattle.dac_shapes.specs.declared.param.ParamName.{ParamName}
 use Rattle.dac_shapes.specs.declared.param.ParamName.TheVariants as named
-use Rattle.dac_shapes.specs.Written.{App, Param, Distributed, Mandatory, Optional, Timeout, Written, written}
-use Rattle.dac_shapes.specs.Limits.{Seen, nothing, is_among, has_param, with_node, listing}
+use Rattle.dac_shapes.specs.Written.{App, Permission, Param, Distributed, Permissions, Mandatory, Optional, Timeout, Section, Kernel, Written, written}
+use Rattle.dac_shapes.specs.Limits.{Seen, nothing, is_among, has_param, has_kernel, with_node, listing}
 
 -- what is left to read, and the names seen so far
 pub record State : Type 0 where
@@ -38,6 +38,13 @@ is_mark symbol (Name name) = false
 is_mark symbol (Number negative digits) = false
 is_mark symbol Text = false
 is_mark symbol End = false
+
+abbrev pub is_text : Word → Bool
+is_text Text = true
+is_text (Mark symbol) = false
+is_text (Name name) = false
+is_text (Number negative digits) = false
+is_text End = false
 
 -- ---- one token
 
@@ -101,32 +108,41 @@ wait_of t = waits t.word
     waits Text = fails BadShape t.at
     waits End = fails BadShape t.at
 
--- the parameter that has this name
+-- `true` or `false`
+unfoldable pub flag_of : Located → Result Bool ConfigFault
+flag_of t = do
+  name ← atom_of t
+  if bytes_eq name (codes "true") then Ok true
+      else (if bytes_eq name (codes "false") then Ok false
+      else fails BadShape t.at)
+
+-- the parameter that is read and has this name
 abbrev pub param_named : List ℕ → Option ParamName
 param_named name =
     if bytes_eq name (codes "distributed") then Some named.Distributed
+    else (if bytes_eq name (codes "permissions") then Some named.Permissions
     else (if bytes_eq name (codes "sync_nodes_mandatory") then Some named.Mandatory
     else (if bytes_eq name (codes "sync_nodes_optional") then Some named.Optional
     else (if bytes_eq name (codes "sync_nodes_timeout") then Some named.Timeout
-    else None)))
+    else None))))
 
--- a parameter that is known, and is not among those before it
-abbrev pub first_param : List Param → ℕ → Option ParamName → Result ParamName ConfigFault
-first_param before at None = fails Unsupported at
-first_param before at (Some name) = if has_param name before then fails BadShape at else Ok name
+-- a parameter that is read is not among those before it
+abbrev pub first_param : List Param → ℕ → Option ParamName → Result (Option ParamName) ConfigFault
+first_param before at None = Ok None
+first_param before at (Some name) = if has_param name before then fails BadShape at else Ok (Some name)
 
--- the name of a parameter, after these
-unfoldable pub param_name_of : List Param → Located → Result ParamName ConfigFault
+-- which parameter it is by its name, after these
+unfoldable pub param_name_of : List Param → Located → Result (Option ParamName) ConfigFault
 param_name_of before t = do
   name ← atom_of t
   first_param before t.at (param_named name)
 
--- the name of the one section, after these
-unfoldable pub section_name_of : List (List Param) → Located → Result (Unit {0}) ConfigFault
-section_name_of before t = do
+-- whether a section is `kernel` by its name, after these
+unfoldable pub names_kernel : List Section → Located → Result Bool ConfigFault
+names_kernel before t = do
   name ← atom_of t
-  if bytes_eq name (codes "kernel") then (if length before == 0 then Ok tt else fails BadShape t.at)
-      else fails Unsupported t.at
+  if bytes_eq name (codes "kernel") then (if has_kernel before then fails BadShape t.at else Ok true)
+      else Ok false
 
 -- the name of an application that is not among those before it
 unfoldable pub app_name_of : List App → Located → Result (List ℕ) ConfigFault
@@ -171,18 +187,92 @@ list_of read s = do
   if is_mark CloseList first.0.word then Ok ([], first.1)
       else comma_list read CloseList (room first.1) [] first.0 first.1
 
--- a pair of a name and a value, whose opening brace is the token t
+-- a pair of a name and what `rest` reads behind its comma, whose opening brace is the token t
 unfoldable pub pair_at : {K A : Type 0} → (Located → Result K ConfigFault) → (K → State → Result (A × State) ConfigFault) → Located → State → Result (A × State) ConfigFault
-pair_at name_of value t s =
+pair_at name_of rest t s =
     if is_mark OpenTuple t.word
     then (do
       first ← token s
       name ← name_of first.0
       comma ← symbol_at Comma first.1
-      one ← value name comma
-      close ← symbol_at CloseTuple one.1
-      Ok (one.0, close))
+      rest name comma)
     else fails BadShape t.at
+
+-- a value, and the brace that closes its pair
+abbrev pub closed : {A : Type 0} → (State → Result (A × State) ConfigFault) → State → Result (A × State) ConfigFault
+closed value s = do
+  one ← value s
+  close ← symbol_at CloseTuple one.1
+  Ok (one.0, close)
+
+-- ---- terms, which are passed over
+
+-- Terms parted by commas, each passed over by `pass`, from the token t on up to the closing symbol: the token behind
+-- it. At most n terms.
+unfoldable pub terms_at : (Located → State → Result (Located × State) ConfigFault) → Symbol → ℕ → Located → State → Result (Located × State) ConfigFault
+terms_at pass close zero t s = fails BadShape t.at
+terms_at pass close (suc n) t s = do
+  behind ← pass t s
+  if is_mark close behind.0.word then token behind.1
+      else (if is_mark Comma behind.0.word
+      then (do
+        next ← token behind.1
+        terms_at pass close n next.0 next.1)
+      else fails BadShape behind.0.at)
+
+-- what stands between brackets behind the opening one: the token behind the closing one
+unfoldable pub terms_in : (Located → State → Result (Located × State) ConfigFault) → Symbol → ℕ → State → Result (Located × State) ConfigFault
+terms_in pass close n s = do
+  first ← token s
+  if is_mark close first.0.word then token first.1 else terms_at pass close n first.0 first.1
+
+-- the token behind strings in a row, of which there are at most n
+unfoldable pub texts_at : ℕ → State → Result (Located × State) ConfigFault
+texts_at zero s = token s
+texts_at (suc n) s = do
+  t ← token s
+  if is_text t.0.word then texts_at n t.1 else Ok t
+
+-- the mark that closes what this one opens, if it opens a list or a tuple
+abbrev pub closing_of : Symbol → Option Symbol
+closing_of OpenList = Some CloseList
+closing_of OpenTuple = Some CloseTuple
+closing_of CloseList = None
+closing_of CloseTuple = None
+closing_of Comma = None
+closing_of FullStop = None
+
+-- the token behind a term that begins with the token t and whose parts are passed over by `pass`
+unfoldable pub term_by : (Located → State → Result (Located × State) ConfigFault) → ℕ → Located → State → Result (Located × State) ConfigFault
+term_by pass n t s = begun t.word
+  where
+    closed_by : Option Symbol → Result (Located × State) ConfigFault
+    closed_by (Some close) = terms_in pass close n s
+    closed_by None = fails BadShape t.at
+
+    begun : Word → Result (Located × State) ConfigFault
+    begun (Name name) = token s
+    begun (Number negative digits) = token s
+    begun Text = texts_at n s
+    begun (Mark symbol) = closed_by (closing_of symbol)
+    begun End = fails BadShape t.at
+
+-- the token behind a term that begins with the token t, in at most n steps
+unfoldable pub term_at : ℕ → Located → State → Result (Located × State) ConfigFault
+term_at zero t s = fails BadShape t.at
+term_at (suc n) t s = term_by (term_at n) n t s
+
+-- so many steps are enough for a term that begins with the token t
+pub record IsEnough (t : Located) (s : State) (n : ℕ) : Type 0 where
+  pub end : length s.left.tokens < n
+  pub token : is_end t.word ≡ false → length s.left.tokens + 1 < n
+
+-- a term, which is passed over, and the brace that closes its pair
+unfoldable pub passed_at : State → Result State ConfigFault
+passed_at s = do
+  first ← token s
+  behind ← term_at (suc (room s)) first.0 first.1
+  if is_mark CloseTuple behind.0.word then Ok behind.1 else fails BadShape behind.0.at
 
 -- ---- node lists
 
@@ -242,7 +332,20 @@ app_value_at name s = do
 
 -- an application after these, whose opening brace is the token t
 abbrev pub app_at : List App → Located → State → Result (App × State) ConfigFault
-app_at before t s = pair_at (app_name_of before) app_value_at t s
+app_at before t s = pair_at (app_name_of before) (λ name. closed (app_value_at name)) t s
+
+-- ---- permissions
+
+-- the permission of the application of this name
+unfoldable pub permission_value_at : List ℕ → State → Result (Permission × State) ConfigFault
+permission_value_at name s = do
+  t ← token s
+  value ← flag_of t.0
+  Ok (record { name = name; value = value }, t.1)
+
+-- a permission, whose opening brace is the token t
+abbrev pub permission_at : Located → State → Result (Permission × State) ConfigFault
+permission_at t s = pair_at short_name_of (λ name. closed (permission_value_at name)) t s
 
 -- ---- parameters and sections
 
@@ -251,6 +354,9 @@ unfoldable pub param_value_at : ParamName → State → Result (Param × State) 
 param_value_at named.Distributed s = do
   apps ← list_of app_at s
   Ok (Distributed apps.0, apps.1)
+param_value_at named.Permissions s = do
+  permissions ← list_of (λ _. permission_at) s
+  Ok (Permissions permissions.0, permissions.1)
 param_value_at named.Mandatory s = do
   names ← list_of (λ _. node_of true) s
   Ok (Mandatory names.0, names.1)
@@ -262,13 +368,35 @@ param_value_at named.Timeout s = do
   wait ← wait_of t.0
   Ok (Timeout wait, t.1)
 
+-- what stands behind the name of a parameter, and the brace that closes it
+unfoldable pub param_rest_at : Option ParamName → State → Result (Param × State) ConfigFault
+param_rest_at (Some name) s = closed (param_value_at name) s
+param_rest_at None s = do
+  behind ← passed_at s
+  Ok (Param.Other, behind)
+
 -- a parameter after these, whose opening brace is the token t
 abbrev pub param_at : List Param → Located → State → Result (Param × State) ConfigFault
-param_at before t s = pair_at (param_name_of before) param_value_at t s
+param_at before t s = pair_at (param_name_of before) param_rest_at t s
 
--- a section after these, whose opening brace is the token t
-abbrev pub section_at : List (List Param) → Located → State → Result (List Param × State) ConfigFault
-section_at before t s = pair_at (section_name_of before) (λ _. list_of param_at) t s
+-- the parameters of the section `kernel`
+unfoldable pub kernel_at : State → Result (Section × State) ConfigFault
+kernel_at s = do
+  params ← list_of param_at s
+  Ok (Kernel params.0, params.1)
+
+-- what stands behind the name of a section, which is `kernel` or not, and the brace that closes it
+unfoldable pub section_rest_at : Bool → State → Result (Section × State) ConfigFault
+section_rest_at true s = closed kernel_at s
+section_rest_at false s = do
+  behind ← passed_at s
+  Ok (Section.Other, behind)
+
+-- A section after these, whose opening brace is the token t. In place of a section a string would be the name of a
+-- file to include, which isn't taken.
+unfoldable pub section_at : List Section → Located → State → Result (Section × State) ConfigFault
+section_at before t s =
+    if is_text t.word then fails Unsupported t.at else pair_at (names_kernel before) section_rest_at t s
 
 -- ---- the file
 

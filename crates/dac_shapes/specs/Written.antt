@@ -1,5 +1,5 @@
 -- What a configuration text says, by names and numbers as they are written.
-use Rattle.std.specs.Prelude.{ℕ, List, [], fold, codes}
+use Rattle.std.specs.Prelude.{ℕ, Bool, List, [], Option, None, Some, fold, codes}
 use Rattle.dac_shapes.specs.declared.draft.SyncWait.{SyncWait}
 use Rattle.dac_shapes.specs.declared.draft.SyncWait.TheVariants.{NoSync}
 use Rattle.dac_shapes.specs.declared.param.ParamName.{ParamName}
@@ -11,30 +11,47 @@ pub record App : Type 0 where
   pub timeout : ℕ
   pub groups : List (List (List ℕ))
 
--- a parameter of the section `kernel`, with its value
+-- a permission: an application's name, and whether it may run before anyone says otherwise
+pub record Permission : Type 0 where
+  pub name : List ℕ
+  pub value : Bool
+
+-- a parameter of the section `kernel`, with its value, or one that isn't read
 pub data Param : Type 0 where
   Distributed : List App → Param
+  Permissions : List Permission → Param
   Mandatory : List (List ℕ) → Param
   Optional : List (List ℕ) → Param
   Timeout : SyncWait → Param
+  Other : Param
 
-abbrev pub name_of : Param → ParamName
-name_of (Distributed apps) = named.Distributed
-name_of (Mandatory names) = named.Mandatory
-name_of (Optional names) = named.Optional
-name_of (Timeout wait) = named.Timeout
+-- a section: `kernel` with its parameters, or one that isn't read
+pub data Section : Type 0 where
+  Kernel : List Param → Section
+  Other : Section
+
+-- which of the parameters that are read it is
+abbrev pub name_of : Param → Option ParamName
+name_of (Distributed apps) = Some named.Distributed
+name_of (Permissions permissions) = Some named.Permissions
+name_of (Mandatory names) = Some named.Mandatory
+name_of (Optional names) = Some named.Optional
+name_of (Timeout wait) = Some named.Timeout
+name_of Param.Other = None
 
 -- a parameter's name in the text
 abbrev pub spelled : ParamName → List ℕ
 spelled named.Distributed = codes "distributed"
+spelled named.Permissions = codes "permissions"
 spelled named.Mandatory = codes "sync_nodes_mandatory"
 spelled named.Optional = codes "sync_nodes_optional"
 spelled named.Timeout = codes "sync_nodes_timeout"
 
--- a whole text: its applications in order, the nodes to wait for at the start, how long, and the different names of
--- nodes in the order in which they first stand
+-- a whole text: its applications in order, its permissions in order, the nodes to wait for at the start, how long, and
+-- the different names of nodes in the order in which they first stand
 pub record Written : Type 0 where
   pub apps : List App
+  pub permissions : List Permission
   pub mandatory : List (List ℕ)
   pub optional : List (List ℕ)
   pub sync_wait : SyncWait
@@ -42,18 +59,24 @@ pub record Written : Type 0 where
 
 -- nothing is said but the names of nodes
 abbrev pub unsaid : List (List ℕ) → Written
-unsaid nodes = record { apps = []; mandatory = []; optional = []; sync_wait = NoSync; nodes = nodes }
+unsaid nodes = record { apps = []; permissions = []; mandatory = []; optional = []; sync_wait = NoSync; nodes = nodes }
 
--- a parameter says its part
+-- a parameter that is read says its part
 abbrev pub put : Written → Param → Written
 put w (Distributed apps) = record w { apps = apps }
+put w (Permissions permissions) = record w { permissions = permissions }
 put w (Mandatory names) = record w { mandatory = names }
 put w (Optional names) = record w { optional = names }
 put w (Timeout wait) = record w { sync_wait = wait }
+put w Param.Other = w
 
 abbrev pub put_all : Written → List Param → Written
 put_all w params = fold put w params
 
--- what sections, each with its parameters, say of these nodes
-abbrev pub written : List (List Param) → List (List ℕ) → Written
-written sections nodes = fold put_all (unsaid nodes) sections
+abbrev pub put_section : Written → Section → Written
+put_section w (Kernel params) = put_all w params
+put_section w Section.Other = w
+
+-- what sections say of these nodes
+abbrev pub written : List Section → List (List ℕ) → Written
+written sections nodes = fold put_section (unsaid nodes) sections

@@ -1,10 +1,10 @@
 //! What a configuration text says, as it is written.
 
 ghost use Rattle.std.specs.Prelude.{◌≡◌, fold};
-ghost use Rattle.dac_shapes.specs.Written.{put, put_all, unsaid, written};
-ghost use Rattle.dac_shapes.specs.Views.{draft_of, names_of, param_of, params_of, sections_of};
+ghost use Rattle.dac_shapes.specs.Written.{put, put_all, put_section, unsaid, written};
+ghost use Rattle.dac_shapes.specs.Views.{draft_of, names_of, param_of, params_of, section_of, sections_of};
 
-use crate::param::Param;
+use crate::param::{Param, Section};
 use std::alloc::Global;
 
 /// How long a node waits for others at its start (OTP's kernel parameter `sync_nodes_timeout`).
@@ -28,11 +28,21 @@ pub struct DraftApp<'a> {
     pub groups: Vec<Vec<&'a [u8]>>,
 }
 
+/// Whether an application may run at a start (OTP's kernel parameter `permissions`).
+#[derive(Clone, Copy, Debug, PartialEq, Eq)]
+pub struct Permission<'a> {
+    /// The application's name; it may be one that the text doesn't distribute.
+    pub name: &'a [u8],
+    pub value: bool,
+}
+
 /// What a text says, with the names that lie in the text.
 #[derive(Drop)]
 pub struct Draft<'a> {
     /// The applications in the order of the text.
     pub apps: Vec<DraftApp<'a>>,
+    /// The permissions in the order of the text, as written: one application may have several.
+    pub permissions: Vec<Permission<'a>>,
     /// The nodes that have to be there at a start, as written.
     pub mandatory: Vec<&'a [u8]>,
     /// The nodes that may be there at a start, as written.
@@ -48,9 +58,11 @@ impl<'a> Draft<'a> {
     {
         match param {
             Param::Distributed(apps) => self.apps = apps,
+            Param::Permissions(permissions) => self.permissions = permissions,
             Param::Mandatory(names) => self.mandatory = names,
             Param::Optional(names) => self.optional = names,
             Param::Timeout(wait) => self.sync_wait = wait,
+            Param::Other => {}
         }
     }
 
@@ -62,19 +74,29 @@ impl<'a> Draft<'a> {
         }
     }
 
-    /// What sections, each with its parameters, say of these nodes.
-    pub fn of_sections(alloc: Global, sections: Vec<Vec<Param<'a>>>, nodes: Vec<&'a [u8]>) -> Self
+    fn put_section(&mut self, section: Section<'a>)
+        ensures { draft_of self.new ≡ put_section (draft_of self.old) (section_of section.entry) }
+    {
+        match section {
+            Section::Kernel(params) => self.put_all(params),
+            Section::Other => {}
+        }
+    }
+
+    /// What sections say of these nodes.
+    pub fn of_sections(alloc: Global, sections: Vec<Section<'a>>, nodes: Vec<&'a [u8]>) -> Self
         ensures { draft_of result ≡ written (sections_of sections.entry.items) (names_of nodes.entry.items) }
     {
         let mut draft = Draft {
             apps: Vec::new(alloc),
+            permissions: Vec::new(alloc),
             mandatory: Vec::new(alloc),
             optional: Vec::new(alloc),
             sync_wait: SyncWait::NoSync,
             nodes,
         };
-        for params in sections {
-            draft.put_all(params);
+        for section in sections {
+            draft.put_section(section);
         }
         draft
     }

@@ -1,12 +1,13 @@
 //! The shape of a configuration text: from tokens to the names and numbers that are written.
 //!
 //! [`read_draft`] answers what a text says as a [`Draft`], or its first fault in text order. The promise: a text is
-//! read exactly if its tokens are a file by the grammar of OTP's `sys.config` (as far as it is taken here) and its
+//! read exactly if its tokens are a file by the grammar of OTP's `sys.config` and its
 //! names may stand where they stand, and then what it says is given; any other text has its first fault answered, at
 //! its place.
 //!
-//! What is taken for now: a section `kernel` with the parameters `distributed`, `sync_nodes_mandatory`,
-//! `sync_nodes_optional` and `sync_nodes_timeout`. Another section or parameter is `Unsupported` at its name.
+//! Of the section `kernel` the parameters `distributed`, `permissions`, `sync_nodes_mandatory`, `sync_nodes_optional`
+//! and `sync_nodes_timeout` are read. Any other section or parameter is a pair of a name and a term, which is passed
+//! over; a string in place of a section, in Erlang the name of a file to include, is `Unsupported`.
 #![tactic(auto)]
 
 mod apps;
@@ -16,11 +17,13 @@ mod names;
 mod numbers;
 mod param;
 mod parser;
+mod permissions;
 mod reading;
 mod sections;
+mod terms;
 #[cfg(test)]
 mod tests;
 
-pub use draft::{Draft, DraftApp, SyncWait};
+pub use draft::{Draft, DraftApp, Permission, SyncWait};
 pub use limits::{MAX_APPS, MAX_NAME, MAX_NODES, MAX_TEXT};
 pub use reading::read_draft;

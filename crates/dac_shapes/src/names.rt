@@ -6,12 +6,12 @@ ghost use Rattle.std.specs.Str.{bytes_eq};
 ghost use Rattle.dac_shapes.specs.Outcome.{Gives};
 ghost use Rattle.dac_tokens.specs.Words.{word_of, located_of};
 ghost use Rattle.dac_shapes.specs.Limits.{is_among};
-ghost use Rattle.dac_shapes.specs.Shape.{is_mark, atom_of, short_name_of, app_name_of, param_name_of, section_name_of};
+ghost use Rattle.dac_shapes.specs.Shape.{is_mark, is_text, atom_of, short_name_of, app_name_of, param_name_of, names_kernel};
 ghost use Rattle.dac_shapes.specs.Views.{names_of, apps_of, params_of, sections_of};
 
 use crate::draft::DraftApp;
 use crate::limits::{MAX_APPS, MAX_NAME};
-use crate::param::{Param, ParamName, has_param};
+use crate::param::{Param, ParamName, Section, has_kernel, has_param};
 use dac_tokens::{ConfigFault, FaultKind, Located, Symbol, Token};
 
 pub fn fault(kind: FaultKind, at: usize) -> ConfigFault
@@ -29,6 +29,15 @@ pub fn is_mark(symbol: Symbol, token: Token<'_>) -> bool
     }
 }
 
+pub fn is_text(token: Token<'_>) -> bool
+    ensures { result ≡ is_text (word_of token.entry) }
+{
+    match token {
+        Token::Text => true,
+        _ => false,
+    }
+}
+
 #[tactic(auto, using(crate::proofs::Among::among_names))]
 pub fn is_among(name: &[u8], names: &[&[u8]]) -> bool
     ensures { result ≡ is_among name.now (names_of names.now) }
@@ -38,7 +47,7 @@ pub fn is_among(name: &[u8], names: &[&[u8]]) -> bool
 
 /// The name that a token is.
 #[tactic(auto, unfolding(crate::specs::Shape::atom_of))]
-fn atom_of<'a>(token: Located<'a>) -> Result<&'a [u8], ConfigFault>
+pub fn atom_of<'a>(token: Located<'a>) -> Result<&'a [u8], ConfigFault>
     ensures { Gives (λ x. x.now) result (atom_of (located_of token.entry)) }
 {
     match token.token {
@@ -81,32 +90,35 @@ pub fn app_name_of<'a>(before: &[DraftApp<'a>], token: Located<'a>) -> Result<&'
     Ok(name)
 }
 
-/// The name of a parameter that is read, and is not among those before it.
+/// Which parameter it is by its name, if it is read; it is then not among those before it.
 #[tactic(auto, using(crate::proofs::Among::has_params), unfolding(crate::specs::Shape::param_name_of))]
-pub fn param_name_of(before: &[Param<'_>], token: Located<'_>) -> Result<ParamName, ConfigFault>
+pub fn param_name_of(
+    before: &[Param<'_>],
+    token: Located<'_>,
+) -> Result<Option<ParamName>, ConfigFault>
     ensures { Gives (λ name. name) result (param_name_of (params_of before.now) (located_of token.entry)) }
 {
     let name = atom_of(token)?;
     let Some(param) = ParamName::named(name) else {
-        return Err(fault(FaultKind::Unsupported, token.at));
+        return Ok(None);
     };
     if has_param(param, before) {
         return Err(fault(FaultKind::BadShape, token.at));
     }
-    Ok(param)
+    Ok(Some(param))
 }
 
-/// The name of the section `kernel`, which stands once.
-#[tactic(auto, using(crate::proofs::Among::length_sections), unfolding(crate::specs::Shape::section_name_of))]
-pub fn section_name_of(before: &[Vec<Param<'_>>], token: Located<'_>) -> Result<(), ConfigFault>
-    ensures { Gives (λ _. tt) result (section_name_of (sections_of before.now) (located_of token.entry)) }
+/// Whether a section is `kernel` by its name; it is then not among those before it.
+#[tactic(auto, using(crate::proofs::Among::has_kernels), unfolding(crate::specs::Shape::names_kernel))]
+pub fn names_kernel(before: &[Section<'_>], token: Located<'_>) -> Result<bool, ConfigFault>
+    ensures { Gives (λ kernel. kernel) result (names_kernel (sections_of before.now) (located_of token.entry)) }
 {
     let name = atom_of(token)?;
     if name != b"kernel".as_slice() {
-        return Err(fault(FaultKind::Unsupported, token.at));
+        return Ok(false);
     }
-    if !before.is_empty() {
+    if has_kernel(before) {
         return Err(fault(FaultKind::BadShape, token.at));
     }
-    Ok(())
+    Ok(true)
 }

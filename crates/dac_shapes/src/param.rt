@@ -1,39 +1,52 @@
-//! The parameters of the section `kernel`.
+//! The sections, and the parameters of the section `kernel`.
 
-ghost use Rattle.std.specs.Prelude.{◌≡◌, ◌==◌};
+ghost use Rattle.std.specs.Prelude.{◌≡◌};
 ghost use Rattle.std.specs.List.{list_any};
 ghost use Rattle.dac_shapes.specs.Written.{name_of};
-ghost use Rattle.dac_shapes.specs.Limits.{number_of};
+ghost use Rattle.dac_shapes.specs.Limits.{is_named, is_kernel};
 ghost use Rattle.dac_shapes.specs.Shape.{param_named};
-ghost use Rattle.dac_shapes.specs.Views.{param_of};
+ghost use Rattle.dac_shapes.specs.Views.{param_of, section_of};
 
-use crate::draft::{DraftApp, SyncWait};
+use crate::draft::{DraftApp, Permission, SyncWait};
 
 /// The parameters that are read.
 #[derive(Clone, Copy, Debug, PartialEq, Eq)]
 pub enum ParamName {
     Distributed,
+    Permissions,
     Mandatory,
     Optional,
     Timeout,
 }
 
-/// A parameter with its value.
+/// A parameter with its value, or one that isn't read.
 #[derive(Drop)]
 pub enum Param<'a> {
     Distributed(Vec<DraftApp<'a>>),
+    Permissions(Vec<Permission<'a>>),
     Mandatory(Vec<&'a [u8]>),
     Optional(Vec<&'a [u8]>),
     Timeout(SyncWait),
+    Other,
+}
+
+/// The section `kernel` with its parameters, or one that isn't read.
+#[derive(Drop)]
+pub enum Section<'a> {
+    Kernel(Vec<Param<'a>>),
+    Other,
 }
 
 impl ParamName {
-    /// The parameter that has this name in the text.
+    /// The parameter that has this name in the text, if it is read.
     pub fn named(name: &[u8]) -> Option<Self>
         ensures { result ≡ param_named name.now }
     {
         if name == b"distributed".as_slice() {
             return Some(ParamName::Distributed);
+        }
+        if name == b"permissions".as_slice() {
+            return Some(ParamName::Permissions);
         }
         if name == b"sync_nodes_mandatory".as_slice() {
             return Some(ParamName::Mandatory);
@@ -49,21 +62,51 @@ impl ParamName {
 }
 
 impl Param<'_> {
-    pub fn name(&self) -> ParamName
+    /// Which of the parameters that are read it is.
+    fn name(&self) -> Option<ParamName>
         ensures { result ≡ name_of (param_of self.now) }
     {
         match self {
-            Param::Distributed(_) => ParamName::Distributed,
-            Param::Mandatory(_) => ParamName::Mandatory,
-            Param::Optional(_) => ParamName::Optional,
-            Param::Timeout(_) => ParamName::Timeout,
+            Param::Distributed(_) => Some(ParamName::Distributed),
+            Param::Permissions(_) => Some(ParamName::Permissions),
+            Param::Mandatory(_) => Some(ParamName::Mandatory),
+            Param::Optional(_) => Some(ParamName::Optional),
+            Param::Timeout(_) => Some(ParamName::Timeout),
+            Param::Other => None,
+        }
+    }
+
+    fn is(&self, name: ParamName) -> bool
+        ensures { result ≡ is_named name (name_of (param_of self.now)) }
+    {
+        match self.name() {
+            Some(other) => other == name,
+            None => false,
+        }
+    }
+}
+
+impl Section<'_> {
+    fn is_kernel(&self) -> bool
+        ensures { result ≡ is_kernel (section_of self.now) }
+    {
+        match self {
+            Section::Kernel(_) => true,
+            Section::Other => false,
         }
     }
 }
 
 /// Whether one of the parameters has this name.
 pub fn has_param(name: ParamName, params: &[Param<'_>]) -> bool
-    ensures { result ≡ list_any (λ param. number_of (name_of (param_of param)) == number_of name) params.now }
+    ensures { result ≡ list_any (λ param. is_named name (name_of (param_of param))) params.now }
 {
-    params.iter().any(|param| param.name() == name)
+    params.iter().any(|param| param.is(name))
+}
+
+/// Whether one of the sections is `kernel`.
+pub fn has_kernel(sections: &[Section<'_>]) -> bool
+    ensures { result ≡ list_any (λ section. is_kernel (section_of section)) sections.now }
+{
+    sections.iter().any(|section| section.is_kernel())
 }

@@ -4,13 +4,13 @@ ghost use Rattle.std.specs.Prelude.{◌≡◌, ◌≤◌, [], true};
 ghost use Rattle.dac_tokens.specs.declared.token.Symbol.TheVariants.{CloseList};
 ghost use Rattle.dac_shapes.specs.Outcome.{Gives};
 ghost use Rattle.dac_tokens.specs.Words.{located_of};
-ghost use Rattle.dac_shapes.specs.Shape.{node_of, comma_list, list_of, room, param_value_at, param_at, section_at, end_at, file_at};
-ghost use Rattle.dac_shapes.specs.Views.{names_of, param_of, params_of, sections_of, draft_of, state_of, tokens_left};
+ghost use Rattle.dac_shapes.specs.Shape.{node_of, comma_list, list_of, room, param_value_at, param_rest_at, param_at, kernel_at, section_rest_at, section_at, end_at, file_at};
+ghost use Rattle.dac_shapes.specs.Views.{names_of, param_of, params_of, section_of, sections_of, draft_of, state_of, tokens_left};
 
 use crate::draft::Draft;
-use crate::names::{fault, is_mark, param_name_of, section_name_of};
+use crate::names::{fault, is_mark, is_text, names_kernel, param_name_of};
 use crate::numbers::wait_of;
-use crate::param::{Param, ParamName};
+use crate::param::{Param, ParamName, Section};
 use crate::parser::Parser;
 use dac_tokens::{ConfigFault, FaultKind, Located, Symbol, Token};
 use std::alloc::Global;
@@ -41,6 +41,10 @@ impl<'a> Parser<'a> {
                 let apps = self.distributed(alloc)?;
                 Ok(Param::Distributed(apps))
             }
+            ParamName::Permissions => {
+                let permissions = self.permissions(alloc)?;
+                Ok(Param::Permissions(permissions))
+            }
             ParamName::Mandatory => {
                 let names = self.sync_nodes(alloc)?;
                 Ok(Param::Mandatory(names))
@@ -55,6 +59,25 @@ impl<'a> Parser<'a> {
                 Ok(Param::Timeout(wait))
             }
         }
+    }
+
+    /// What stands behind the name of a parameter, with the brace that closes it.
+    #[tactic(auto, unfolding(crate::specs::Shape::param_rest_at))]
+    fn param_rest(
+        &mut self,
+        alloc: Global,
+        name: Option<ParamName>,
+    ) -> Result<Param<'a>, ConfigFault>
+        ensures read { Gives (λ param. (param_of param, state_of self.new)) result (param_rest_at name (state_of self.old)) }
+        ensures left { tokens_left self.new ≤ tokens_left self.old }
+    {
+        let Some(name) = name else {
+            self.pass()?;
+            return Ok(Param::Other);
+        };
+        let param = self.param_value(alloc, name)?;
+        self.symbol(Symbol::CloseTuple)?;
+        Ok(param)
     }
 
     /// A parameter after these, from its first token on.
@@ -74,9 +97,7 @@ impl<'a> Parser<'a> {
         let first = self.next()?;
         let name = param_name_of(before, first)?;
         self.symbol(Symbol::Comma)?;
-        let param = self.param_value(alloc, name)?;
-        self.symbol(Symbol::CloseTuple)?;
-        Ok(param)
+        self.param_rest(alloc, name)
     }
 
     /// The parameters from the first one's first token on.
@@ -96,9 +117,9 @@ impl<'a> Parser<'a> {
         }
     }
 
-    /// The list of the parameters of a section.
+    /// The list of the parameters of the section `kernel`.
     #[tactic(auto, unfolding(crate::specs::Shape::list_of))]
-    fn kernel(&mut self, alloc: Global) -> Result<Vec<Param<'a>>, ConfigFault>
+    fn param_list(&mut self, alloc: Global) -> Result<Vec<Param<'a>>, ConfigFault>
         ensures read { Gives (λ params. (params_of params.items, state_of self.new)) result (list_of param_at (state_of self.old)) }
         ensures left { tokens_left self.new ≤ tokens_left self.old }
     {
@@ -110,26 +131,42 @@ impl<'a> Parser<'a> {
         self.params(alloc, first)
     }
 
+    /// What stands behind the name of a section, with the brace that closes it.
+    #[tactic(auto, unfolding(crate::specs::Shape::kernel_at, crate::specs::Shape::section_rest_at))]
+    fn section_rest(&mut self, alloc: Global, kernel: bool) -> Result<Section<'a>, ConfigFault>
+        ensures read { Gives (λ section. (section_of section, state_of self.new)) result (section_rest_at kernel (state_of self.old)) }
+        ensures left { tokens_left self.new ≤ tokens_left self.old }
+    {
+        if !kernel {
+            self.pass()?;
+            return Ok(Section::Other);
+        }
+        let params = self.param_list(alloc)?;
+        self.symbol(Symbol::CloseTuple)?;
+        Ok(Section::Kernel(params))
+    }
+
     /// A section after these, from its first token on.
-    #[tactic(auto, unfolding(crate::specs::Shape::pair_at))]
+    #[tactic(auto, unfolding(crate::specs::Shape::pair_at, crate::specs::Shape::section_at))]
     fn section(
         &mut self,
         alloc: Global,
-        before: &[Vec<Param<'a>>],
+        before: &[Section<'a>],
         token: Located<'a>,
-    ) -> Result<Vec<Param<'a>>, ConfigFault>
-        ensures read { Gives (λ params. (params_of params.items, state_of self.new)) result (section_at (sections_of before.now) (located_of token.entry) (state_of self.old)) }
+    ) -> Result<Section<'a>, ConfigFault>
+        ensures read { Gives (λ section. (section_of section, state_of self.new)) result (section_at (sections_of before.now) (located_of token.entry) (state_of self.old)) }
         ensures left { tokens_left self.new ≤ tokens_left self.old }
     {
+        if is_text(token.token) {
+            return Err(fault(FaultKind::Unsupported, token.at));
+        }
         if !is_mark(Symbol::OpenTuple, token.token) {
             return Err(fault(FaultKind::BadShape, token.at));
         }
         let first = self.next()?;
-        section_name_of(before, first)?;
+        let kernel = names_kernel(before, first)?;
         self.symbol(Symbol::Comma)?;
-        let params = self.kernel(alloc)?;
-        self.symbol(Symbol::CloseTuple)?;
-        Ok(params)
+        self.section_rest(alloc, kernel)
     }
 
     /// The sections from the first one's first token on.
@@ -137,7 +174,7 @@ impl<'a> Parser<'a> {
         &mut self,
         alloc: Global,
         first: Located<'a>,
-    ) -> Result<Vec<Vec<Param<'a>>>, ConfigFault>
+    ) -> Result<Vec<Section<'a>>, ConfigFault>
         ensures read { Gives (λ sections. (sections_of sections.items, state_of self.new)) result (comma_list section_at CloseList (room (state_of self.old)) [] (located_of first.entry) (state_of self.old)) }
         ensures left { tokens_left self.new ≤ tokens_left self.old }
     {
@@ -155,7 +192,7 @@ impl<'a> Parser<'a> {
 
     /// The list of the sections.
     #[tactic(auto, unfolding(crate::specs::Shape::list_of))]
-    fn section_list(&mut self, alloc: Global) -> Result<Vec<Vec<Param<'a>>>, ConfigFault>
+    fn section_list(&mut self, alloc: Global) -> Result<Vec<Section<'a>>, ConfigFault>
         ensures { Gives (λ sections. (sections_of sections.items, state_of self.new)) result (list_of section_at (state_of self.old)) }
     {
         self.symbol(Symbol::OpenList)?;

@@ -121,6 +121,56 @@ fn sync_lists(rt: HostRuntime) -> Result<(), Fail> {
     Ok(())
 }
 
+/// The fault of a text with one application and these permissions.
+fn fault_of_permissions(
+    alloc: Global,
+    permissions: &[u8],
+) -> Result<Option<ConfigFault>, AllocError> {
+    let mut text = Vec::new(alloc);
+    text.extend_from_slice(b"[{kernel,[{distributed,[{a,[b]}]},{permissions,[")?;
+    text.extend_from_slice(permissions)?;
+    text.extend_from_slice(b"]}]}].")?;
+    Ok(fault_of(alloc, &text))
+}
+
+#[test]
+fn permissions(rt: HostRuntime) -> Result<(), Fail> {
+    let alloc = rt.alloc();
+    let text = b"[{kernel,[{permissions,[{x,false},{y,true},{x,true}]},{distributed,[{x,[a]}]}]}].";
+    let Ok(draft) = read_draft(alloc, text) else {
+        assert!(rt; false, "not read");
+        return Ok(());
+    };
+    assert_eq!(rt; draft.permissions.len(), 3);
+    let wanted = [
+        (b"x".as_slice(), false),
+        (b"y".as_slice(), true),
+        (b"x".as_slice(), true),
+    ];
+    for (permission, (name, value)) in draft.permissions.iter().zip(wanted) {
+        assert!(rt; permission.name == name);
+        assert_eq!(rt; permission.value, value);
+    }
+    // the permissions begin at 48
+    assert_eq!(rt;
+        fault_of_permissions(alloc, b"{a,no}")?,
+        at(FaultKind::BadShape, 51)
+    );
+    assert_eq!(rt;
+        fault_of_permissions(alloc, b"{1,true}")?,
+        at(FaultKind::BadShape, 49)
+    );
+    let mut entry = Vec::new(alloc);
+    entry.push(b'{')?;
+    entry.extend_from_slice(&repeated(alloc, b'a', 256)?)?;
+    entry.extend_from_slice(b",true}")?;
+    assert_eq!(rt;
+        fault_of_permissions(alloc, &entry)?,
+        at(FaultKind::NameTooLong, 49)
+    );
+    Ok(())
+}
+
 #[test]
 fn faults_at_their_places(rt: HostRuntime) -> Result<(), Fail> {
     let cases = [
@@ -168,12 +218,12 @@ fn faults_at_their_places(rt: HostRuntime) -> Result<(), Fail> {
         ),
         (
             b"[{kernel,[{permissions,[]}]}].".as_slice(),
-            at(FaultKind::Unsupported, 11),
+            at(FaultKind::NoDistributed, 30),
         ),
-        (b"[{sasl,[]}].".as_slice(), at(FaultKind::Unsupported, 2)),
+        (b"[{sasl,[]}].".as_slice(), at(FaultKind::NoDistributed, 12)),
         (
             b"[{'kernel',[]}].".as_slice(),
-            at(FaultKind::Unsupported, 2),
+            at(FaultKind::NoDistributed, 16),
         ),
         (
             b"[{kernel,[]},{kernel,[]}].".as_slice(),
@@ -190,6 +240,62 @@ fn faults_at_their_places(rt: HostRuntime) -> Result<(), Fail> {
         (
             b"[{kernel,[{distributed,[{a,[b,{b}]},{a,[]}]}]}].".as_slice(),
             at(FaultKind::TwiceInList, 31),
+        ),
+    ];
+    for (text, want) in cases {
+        assert_eq!(rt; fault_of(rt.alloc(), text), want);
+    }
+    Ok(())
+}
+
+#[test]
+fn passed_over(rt: HostRuntime) -> Result<(), Fail> {
+    let text =
+        b"[{sasl,[{f,\"x.log\"}]},{kernel,[{distributed,[{myapp,['n-1@h.example',{a@h}]}]}]}].";
+    let Ok(draft) = read_draft(rt.alloc(), text) else {
+        assert!(rt; false, "not read");
+        return Ok(());
+    };
+    assert_eq!(rt; draft.apps.len(), 1);
+    assert_eq!(rt; draft.permissions.len(), 0);
+    assert_eq!(rt; draft.nodes.len(), 2);
+    assert!(rt; is_node(&draft, 0, b"n-1@h.example"));
+    assert!(rt; is_node(&draft, 1, b"a@h"));
+    // terms in terms, strings in a row, a large number; parameters and sections that aren't read may repeat
+    let text =
+        b"[{k,{-99999999999,[],{}}},{'kernel',[{f,\"a\" \"b\"},{f,[{b,[1,\"\"]},c]},{distributed,[{x,[n]}]}]},{k,x}].";
+    assert_eq!(rt; fault_of(rt.alloc(), text), None);
+    Ok(())
+}
+
+#[test]
+fn faults_of_what_is_passed_over(rt: HostRuntime) -> Result<(), Fail> {
+    let cases = [
+        (
+            b"[{kernel,[{f,fun a:b/1}]}].".as_slice(),
+            at(FaultKind::Unsupported, 13),
+        ),
+        (
+            b"[{kernel,[{f,~\"a\"}]}].".as_slice(),
+            at(FaultKind::Unsupported, 13),
+        ),
+        (b"[\"a\" \"b".as_slice(), at(FaultKind::Unsupported, 1)),
+        (b"[\"a".as_slice(), at(FaultKind::BadToken, 1)),
+        (b"[{f,[a,]}].".as_slice(), at(FaultKind::BadShape, 7)),
+        (b"[{f,[a b]}].".as_slice(), at(FaultKind::BadShape, 7)),
+        (b"[{f,{a]}].".as_slice(), at(FaultKind::BadShape, 6)),
+        (b"[{f,}].".as_slice(), at(FaultKind::BadShape, 4)),
+        (b"[{f,a,b}].".as_slice(), at(FaultKind::BadShape, 5)),
+        (b"[{f,[a".as_slice(), at(FaultKind::BadShape, 6)),
+        (b"[{f,\"a\" b}].".as_slice(), at(FaultKind::BadShape, 8)),
+        (b"[{1,a}].".as_slice(), at(FaultKind::BadShape, 2)),
+        (
+            b"[{kernel,[]},{f,a},{'kernel',[]}].".as_slice(),
+            at(FaultKind::BadShape, 20),
+        ),
+        (
+            b"[{kernel,[{permissions,[]},{f,a},{permissions,[]}]}].".as_slice(),
+            at(FaultKind::BadShape, 34),
         ),
     ];
     for (text, want) in cases {

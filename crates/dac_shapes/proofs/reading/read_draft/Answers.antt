@@ -1,6 +1,5 @@
 use Rattle.std.proofs.Common.{◌≡◌, ◌≤◌, length, arith, ltb, false}
 use Rattle.std.proofs.lemmas.Bool.{le-ltb}
-use Rattle.dac_tokens.specs.Gives.{Gives as GivesOrNone}
 use Rattle.dac_shapes.specs.Outcome.{Gives}
 use Rattle.dac_shapes.specs.Shape.{file_at, draft_at}
 use Rattle.dac_shapes.specs.Views.{draft_of}

@@ -1,4 +1,4 @@
-use Rattle.std.proofs.Common.{◌≡◌, ◌++◌, ◌∷◌, [], ◌<◌, ap, refl, ◌∙◌, arith, subst, Ok, Result, List, ℕ, length, true, false}
+use Rattle.std.proofs.Common.{◌≡◌, ◌++◌, ◌∷◌, [], arith, Ok, true, false}
 use Rattle.std.proofs.lemmas.Result.{err_from_is_err_and}
 use Rattle.std.proofs.lemmas.List.{map_push}
 use Rattle.dac_tokens.specs.declared.token.Symbol.TheVariants.{CloseList}

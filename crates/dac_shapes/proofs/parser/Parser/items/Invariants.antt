@@ -1,4 +1,4 @@
-use Rattle.std.proofs.Common.{◌≤◌, length, []}
+use Rattle.std.proofs.Common.{◌≤◌, []}
 use Rattle.dac_tokens.specs.declared.token.Symbol.TheVariants.{CloseList}
 use Rattle.dac_tokens.specs.Words.{located_of}
 use Rattle.dac_shapes.specs.Shape.{item_at, comma_list, room}

@@ -1,4 +1,4 @@
-use Rattle.std.proofs.Common.{◌≤◌, length, []}
+use Rattle.std.proofs.Common.{◌≤◌, []}
 use Rattle.dac_tokens.specs.Words.{located_of}
 use Rattle.dac_shapes.specs.Shape.{node_of, comma_list, room}
 use Rattle.dac_shapes.specs.Views.{names_of, state_of, tokens_left}

@@ -1,10 +1,10 @@
-use Rattle.std.proofs.Common.{◌≡◌, ◌++◌, ◌∷◌, [], ◌<◌, ap, refl, ◌∙◌, arith, subst, Ok, Result, List, ℕ, length, true, false}
+use Rattle.std.proofs.Common.{◌≡◌, ◌++◌, ◌∷◌, [], arith, Ok, true, false}
 use Rattle.std.proofs.lemmas.Result.{err_from_is_err_and}
 use Rattle.std.proofs.lemmas.List.{map_push}
 use Rattle.dac_tokens.specs.declared.token.Symbol.TheVariants.{CloseList}
 use Rattle.dac_tokens.specs.Words.{located_of}
 use Rattle.dac_shapes.specs.Shape.{param_at, comma_list, room, more_at}
-use Rattle.dac_shapes.specs.Views.{names_of, param_of, params_of, state_of}
+use Rattle.dac_shapes.specs.Views.{param_of, params_of, state_of}
 use Rattle.dac_shapes.proofs.Lists.{fails_reading, fails_after, ends, fails_at_token, goes_on}
 use Rattle.dac_shapes.proofs.parser.Parser.params.Goals as goal
 
