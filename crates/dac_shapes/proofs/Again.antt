@@ -8,10 +8,11 @@ use Rattle.dac_shapes.specs.declared.draft.SyncWait.{SyncWait}
 use Rattle.dac_shapes.specs.declared.draft.SyncWait.TheVariants.{NoSync, Forever, Ms}
 use Rattle.dac_shapes.specs.declared.param.ParamName.{ParamName}
 use Rattle.dac_shapes.specs.declared.param.ParamName.TheVariants as named
-use Rattle.dac_shapes.specs.Written.{App, Param, Distributed, Mandatory, Optional, Timeout, name_of, spelled}
-use Rattle.dac_shapes.specs.Limits.{Seen, AllMay, steps, is_among, has_param, with_node, MayNode, with_nodes, MayNodes, with_groups, MayGroups, listing, with_app, MayApp, with_param, MayValue, MayParam, with_section, MaySection}
-use Rattle.dac_shapes.specs.Shape.{State, is_mark, token, atom_of, short_name_of, node_of, names_at, item_at, items_at, groups_at, timeout_of, timeout_at, wait_of, value_from, app_name_of, app_value_at, app_at, param_named, param_name_of, param_value_at, param_at, section_name_of, section_at, list_of}
-use Rattle.dac_shapes.specs.Grammar.{Parted, IsListOf, IsNode, IsItem, IsNodeList, IsAppValue, IsApp, IsWait, IsParamValue, IsParam, IsSection}
+use Rattle.dac_shapes.specs.Written.{App, Permission, Param, Distributed, Permissions, Mandatory, Optional, Timeout, name_of, spelled}
+use Rattle.dac_shapes.specs.Limits.{Seen, AllMay, steps, is_among, has_param, with_node, MayNode, with_nodes, MayNodes, with_groups, MayGroups, listing, with_app, MayApp, with_permission, MayPermission, with_param, MayValue, MayParam, with_section, MaySection}
+use Rattle.dac_shapes.specs.Shape.{State, is_mark, token, atom_of, short_name_of, node_of, names_at, item_at, items_at, groups_at, timeout_of, timeout_at, wait_of, value_from, app_name_of, app_value_at, app_at, flag_of, permission_value_at, permission_at, param_named, param_name_of, param_value_at, param_at, section_name_of, section_at, list_of}
+use Rattle.dac_shapes.specs.Grammar.{Parted, IsListOf, IsNode, IsItem, IsNodeList, IsAppValue, IsApp, IsFlag, IsPermission, IsWait, IsParamValue, IsParam, IsSection}
+use Rattle.dac_shapes.proofs.Found.{same_seen}
 use Rattle.dac_shapes.proofs.AgainLists.{words_of, cons_is, split, cut, none, Begins, at, symbol_again, whole_again, bracketed_again, pair_again}
 
 -- ---- single tokens
@@ -185,6 +186,37 @@ module _ (last : Result Located ConfigFault) where
   app_again before = pair_again last (λ (app : App). app.name) (λ name. name) (λ app value. IsAppValue value app) (app_name_of before) app_value_at with_app (MayApp before)
       (λ t seen app w may. app_named_again before t app.name w may.short may.once may.few) (λ vs us seen app is may. app_value_again vs us seen app is may.nodes)
 
+  -- ---- permissions
+
+  permission_begins : (ws : List Word) (x : Permission) → IsPermission ws x → Begins ws
+  permission_begins ws x is = record { head = Mark OpenTuple; tail = Name x.name ∷ Mark Comma ∷ is.0 ++ Mark CloseTuple ∷ []; whole = is.1; no_list = refl; no_tuple = refl }
+
+  flag_again : (t : Located) (b : Bool) → IsFlag (t.word ∷ []) b → flag_of t ≡ Ok b
+  unfolding flag_of
+  flag_again t true is = rw (atom_again t.word t.at (codes "true") (cons_is t.word (Name (codes "true")) [] [] is).0) refl
+  flag_again t false is = rw (atom_again t.word t.at (codes "false") (cons_is t.word (Name (codes "false")) [] [] is).0) refl
+
+  -- `true` or `false` is one word
+  flag_word : (ws : List Word) (b : Bool) → IsFlag ws b → (w : Word) × (ws ≡ w ∷ [])
+  flag_word ws true is = (Name (codes "true"), is)
+  flag_word ws false is = (Name (codes "false"), is)
+
+  permission_value_by : (t : Located) (us : List Located) (seen : Seen) (x : Permission) → flag_of t ≡ Ok x.value → permission_value_at x.name (at last (t ∷ us) seen) ≡ Ok (x, at last us seen)
+  unfolding permission_value_at
+  permission_value_by t us seen x e = rw e refl
+
+  permission_value_again : (vs us : List Located) (seen : Seen) (x : Permission) → IsFlag (words_of vs) x.value → permission_value_at x.name (at last (vs ++ us) seen) ≡ Ok (x, at last us seen)
+  permission_value_again vs us seen x is =
+      let w = flag_word (words_of vs) x.value is in
+      let c = cut vs w.0 [] w.1 in
+      let only : vs ≡ c.head ∷ [] = c.whole ∙ ap (λ (l : List Located). c.head ∷ l) (none c.tail c.rest) in
+      let said : IsFlag (c.head.word ∷ []) x.value = subst (λ (l : List Located). IsFlag (words_of l) x.value) only is in
+      ap (λ (l : List Located). permission_value_at x.name (at last (l ++ us) seen)) only ∙ permission_value_by c.head us seen x (flag_again c.head x.value said)
+
+  permission_again : (before : List Permission) (t : Located) (ts us : List Located) (seen : Seen) (x : Permission) → IsPermission (words_of (t ∷ ts)) x → MayPermission before seen x → permission_at t (at last (ts ++ us) seen) ≡ Ok (x, at last us (with_permission seen x))
+  permission_again before = pair_again last (λ (x : Permission). x.name) (λ name. name) (λ x value. IsFlag value x.value) short_name_of permission_value_at with_permission (MayPermission before)
+      (λ t seen x w may. short_name_again t x.name w may) (λ vs us seen x is may. permission_value_again vs us seen x is)
+
   -- ---- parameters and sections
 
   param_begins : (ws : List Word) (p : Param) → IsParam ws p → Begins ws
@@ -192,6 +224,7 @@ module _ (last : Result Located ConfigFault) where
 
   spelled_so : (name : ParamName) → param_named (spelled name) ≡ Some name
   spelled_so named.Distributed = refl
+  spelled_so named.Permissions = refl
   spelled_so named.Mandatory = refl
   spelled_so named.Optional = refl
   spelled_so named.Timeout = refl
@@ -223,6 +256,8 @@ module _ (last : Result Located ConfigFault) where
   param_value_again : (vs us : List Located) (seen : Seen) (p : Param) → IsParamValue (words_of vs) p → MayValue seen p → param_value_at (name_of p) (at last (vs ++ us) seen) ≡ Ok (p, at last us (with_param seen p))
   unfolding param_value_at
   param_value_again vs us seen (Distributed apps) is may = rw (bracketed_again last IsApp app_at with_app MayApp app_begins app_again vs us seen apps is may) refl
+  param_value_again vs us seen (Permissions permissions) is may =
+      rw (bracketed_again last IsPermission (λ _. permission_at) with_permission MayPermission permission_begins permission_again vs us seen permissions is may, same_seen seen permissions) refl
   param_value_again vs us seen (Mandatory names) is may = rw (bracketed_again last IsNode (λ _. node_of true) with_node (λ _. MayNode true) node_begins (nodes_again true) vs us seen names is may) refl
   param_value_again vs us seen (Optional names) is may = rw (bracketed_again last IsNode (λ _. node_of true) with_node (λ _. MayNode true) node_begins (nodes_again true) vs us seen names is may) refl
   param_value_again vs us seen (Timeout wait) is may =

@@ -7,15 +7,15 @@ use Rattle.dac_tokens.specs.declared.fault.ConfigFault.{ConfigFault}
 use Rattle.dac_tokens.specs.declared.token.Symbol.TheVariants.{OpenList, CloseList, OpenTuple, CloseTuple, Comma}
 use Rattle.dac_tokens.specs.declared.fault.FaultKind.TheVariants.{Unsupported, BadShape, EmptyList, EmptyTuple, TwiceInList, TwiceApp, TooManyApps, TooManyNodes, NumberTooLarge, NameTooLong}
 use Rattle.dac_tokens.specs.Gives.{◌>>=◌}
-use Rattle.dac_tokens.specs.Words.{Word, Mark, Name, Number, End, Located, is_end}
+use Rattle.dac_tokens.specs.Words.{Word, Mark, Name, Number, Text, End, Located, is_end}
 use Rattle.dac_shapes.specs.declared.draft.SyncWait.{SyncWait}
 use Rattle.dac_shapes.specs.declared.draft.SyncWait.TheVariants.{Forever, Ms}
 use Rattle.dac_shapes.specs.declared.param.ParamName.{ParamName}
 use Rattle.dac_shapes.specs.declared.param.ParamName.TheVariants as named
-use Rattle.dac_shapes.specs.Written.{App, Param, Distributed, Mandatory, Optional, Timeout, name_of, spelled}
-use Rattle.dac_shapes.specs.Limits.{Seen, is_among, has_param, with_node, MayNode, with_nodes, MayNodes, with_groups, MayGroups, listing, with_app, MayApp, with_param, MayValue, MayParam, with_section, MaySection}
-use Rattle.dac_shapes.specs.Shape.{State, fails, is_mark, token, symbol_at, atom_of, short_name_of, node_of, names_at, item_at, items_at, groups_at, timeout_of, timeout_at, wait_of, value_from, app_name_of, app_value_at, app_at, param_named, first_param, param_name_of, param_value_at, param_at, section_name_of, section_at, list_of, room}
-use Rattle.dac_shapes.specs.Grammar.{between, IsListOf, IsNode, IsItem, IsNodeList, IsMs, IsTimeout, IsApp, IsWait, IsParamValue, IsParam, IsSection}
+use Rattle.dac_shapes.specs.Written.{App, Permission, Param, Distributed, Permissions, Mandatory, Optional, Timeout, name_of, spelled}
+use Rattle.dac_shapes.specs.Limits.{Seen, steps, is_among, has_param, with_node, MayNode, with_nodes, MayNodes, with_groups, MayGroups, listing, with_app, MayApp, with_permission, MayPermission, with_param, MayValue, MayParam, with_section, MaySection}
+use Rattle.dac_shapes.specs.Shape.{State, fails, is_mark, token, symbol_at, atom_of, short_name_of, node_of, names_at, item_at, items_at, groups_at, timeout_of, timeout_at, wait_of, value_from, app_name_of, app_value_at, app_at, flag_of, permission_value_at, permission_at, param_named, first_param, param_name_of, param_value_at, param_at, section_name_of, section_at, list_of, room}
+use Rattle.dac_shapes.specs.Grammar.{between, IsListOf, IsNode, IsItem, IsNodeList, IsMs, IsTimeout, IsApp, IsFlag, IsPermission, IsWait, IsParamValue, IsParam, IsSection}
 use Rattle.dac_shapes.proofs.Moves.{bind_ok, held, required, passed, chosen, ok_same, words_in, EndsWell, Moves, Moves-then, same_last, token_is, token_moves, word_passes, mark_is, symbol_passes, back}
 use Rattle.dac_shapes.proofs.FoundLists.{Reads, Gets, token_then, list_found, bracketed_found, pair_words, pair_found}
 
@@ -26,6 +26,7 @@ unfolding atom_of
 atom_is (Name n) at name e = ap Name (ok_same n name (Ok n) refl e)
 atom_is (Mark x) at name e = absurd cc
 atom_is (Number b ds) at name e = absurd cc
+atom_is Text at name e = absurd cc
 atom_is End at name e = absurd cc
 
 short_name_is : (t : Located) (name : List ℕ) → short_name_of t ≡ Ok name → (t.word ≡ Name name) × (length name ≤ 255)
@@ -156,6 +157,7 @@ timed : (w : Word) (at : ℕ) (s : State) (n : ℕ) (t1 : Located) (u : State) �
 unfolding timeout_at
 timed (Name name) at s n t1 u well e = untimed (record { word = Name name; at = at }) s n t1 u well e
 timed (Mark x) at s n t1 u well e = untimed (record { word = Mark x; at = at }) s n t1 u well e
+timed Text at s n t1 u well e = untimed (record { word = Text; at = at }) s n t1 u well e
 timed End at s n t1 u well e = untimed (record { word = End; at = at }) s n t1 u well e
 timed (Number negative digits) at s n t1 u well e =
     let a = bind_ok (timeout_of at negative (value_from 0 digits)) (λ m. symbol_at Comma s >>= λ comma. token comma >>= λ next. Ok (m, next.0, next.1)) (n, t1, u) e in
@@ -212,23 +214,66 @@ app_valued before name s app u well fine e =
 pub app_found : (before : List App) (t : Located) (s : State) (app : App) (u : State) → EndsWell s → app_at before t s ≡ Ok (app, u) → Reads IsApp with_app (MayApp before) t s app u
 app_found before = pair_found IsApp (app_name_of before) (λ name. name) (FineApp before) app_value_at with_app (MayApp before) (app_named before) (app_valued before)
 
--- ---- parameters and sections
-
 is_named : (name wanted : List ℕ) → bytes_eq name wanted ≡ true → name ≡ wanted
 is_named name wanted e = same_text name wanted (sym e)
+
+-- ---- permissions
+
+flag_is : (t : Located) (b : Bool) → flag_of t ≡ Ok b → IsFlag (t.word ∷ []) b × (is_end t.word ≡ false)
+unfolding flag_of
+flag_is t b e =
+    let f2 : List ℕ → Result Bool ConfigFault = λ name. cond (bytes_eq name (codes "false")) (Ok false) (fails BadShape t.at) in
+    let a = bind_ok (atom_of t) (λ name. cond (bytes_eq name (codes "true")) (Ok true) (f2 name)) b e in
+    let w = atom_is t.word t.at a.0 a.1 in
+    elim (chosen (bytes_eq a.0 (codes "true")) (Ok true) (f2 a.0) (Ok b) a.2) [
+      | inl h ↦ (subst (IsFlag (t.word ∷ [])) (ok_same true b _ refl h.1) (ap (λ (v : Word). v ∷ []) (w ∙ ap Name (is_named a.0 _ h.0))), ap is_end w)
+      | inr h ↦
+          let g = held (bytes_eq a.0 (codes "false")) false _ b h.1 in
+          (subst (IsFlag (t.word ∷ [])) g.1 (ap (λ (v : Word). v ∷ []) (w ∙ ap Name (is_named a.0 _ g.0))), ap is_end w)
+    ]
+
+permission_valued : (name : List ℕ) (s : State) (x : Permission) (u : State) → EndsWell s → length name ≤ 255 → permission_value_at name s ≡ Ok (x, u) → Gets (λ ws x. IsPermission (pair_words name ws) x) with_permission (MayPermission []) s x u
+unfolding permission_value_at
+permission_valued name s x u well short e =
+    let made : Bool → Permission = λ value. record { name = name; value = value } in
+    let f1 : Located × State → Result (Permission × State) ConfigFault = λ t. flag_of t.0 >>= λ value. Ok (made value, t.1) in
+    let a = bind_ok (token s) f1 (x, u) e in
+    let b = bind_ok (flag_of a.0.0) (λ value. Ok (made value, a.0.1)) (x, u) a.2 in
+    let w = flag_is a.0.0 b.0 b.1 in
+    let m = word_passes s a.0.0 a.0.1 a.0.0.word well a.1 refl w.1 in
+    subst (λ (y : Permission × State). Gets (λ ws x. IsPermission (pair_words name ws) x) with_permission (MayPermission []) s y.0 y.1) (ok_same (made b.0, a.0.1) (x, u) _ refl b.2) (record {
+      ws = a.0.0.word ∷ [];
+      is = (a.0.0.word ∷ [], refl, w.0);
+      moves = m.moves;
+      may = short;
+      seen = m.seen;
+    })
+
+pub permission_found : (before : List Permission) (t : Located) (s : State) (x : Permission) (u : State) → EndsWell s → permission_at t s ≡ Ok (x, u) → Reads IsPermission with_permission (MayPermission before) t s x u
+permission_found before = pair_found IsPermission short_name_of (λ name. name) (λ name. length name ≤ 255) permission_value_at with_permission (MayPermission []) short_name_is permission_valued
+
+-- permissions leave the nodes as they are
+pub same_seen : (seen : Seen) (permissions : List Permission) → steps with_permission seen permissions ≡ seen
+same_seen seen [] = refl
+same_seen seen (x ∷ xs) = same_seen seen xs
+
+-- ---- parameters and sections
 
 -- a known parameter has the name that stands there
 param_is : (name : List ℕ) (p : ParamName) → param_named name ≡ Some p → name ≡ spelled p
 param_is name p e =
     elim (chosen (bytes_eq name (codes "distributed")) (Some named.Distributed) _ (Some p) e) [
       | inl h ↦ is_named name _ h.0 ∙ same named.Distributed h.1
-      | inr h ↦ elim (chosen (bytes_eq name (codes "sync_nodes_mandatory")) (Some named.Mandatory) _ (Some p) h.1) [
-        | inl g ↦ is_named name _ g.0 ∙ same named.Mandatory g.1
-        | inr g ↦ elim (chosen (bytes_eq name (codes "sync_nodes_optional")) (Some named.Optional) _ (Some p) g.1) [
-          | inl k ↦ is_named name _ k.0 ∙ same named.Optional k.1
-          | inr k ↦ elim (chosen (bytes_eq name (codes "sync_nodes_timeout")) (Some named.Timeout) None (Some p) k.1) [
-            | inl m ↦ is_named name _ m.0 ∙ same named.Timeout m.1
-            | inr m ↦ absurd cc
+      | inr h ↦ elim (chosen (bytes_eq name (codes "permissions")) (Some named.Permissions) _ (Some p) h.1) [
+        | inl f ↦ is_named name _ f.0 ∙ same named.Permissions f.1
+        | inr f ↦ elim (chosen (bytes_eq name (codes "sync_nodes_mandatory")) (Some named.Mandatory) _ (Some p) f.1) [
+          | inl g ↦ is_named name _ g.0 ∙ same named.Mandatory g.1
+          | inr g ↦ elim (chosen (bytes_eq name (codes "sync_nodes_optional")) (Some named.Optional) _ (Some p) g.1) [
+            | inl k ↦ is_named name _ k.0 ∙ same named.Optional k.1
+            | inr k ↦ elim (chosen (bytes_eq name (codes "sync_nodes_timeout")) (Some named.Timeout) None (Some p) k.1) [
+              | inl m ↦ is_named name _ m.0 ∙ same named.Timeout m.1
+              | inr m ↦ absurd cc
+            ]
           ]
         ]
       ]
@@ -261,6 +306,7 @@ wait_is (Name name) at wait e =
     let h = held (bytes_eq name (codes "infinity")) Forever _ wait e in
     (subst (IsWait (Name name ∷ [])) h.1 (ap (λ (n : List ℕ). Name n ∷ []) (is_named name _ h.0)), refl)
 wait_is (Mark x) at wait e = absurd cc
+wait_is Text at wait e = absurd cc
 wait_is End at wait e = absurd cc
 
 -- a value of the parameter of this name
@@ -292,6 +338,16 @@ param_valued before named.Distributed s p u well once e =
       moves = g.moves;
       may = record { once = once; value = g.may };
       seen = g.seen;
+    })
+param_valued before named.Permissions s p u well once e =
+    let b = bind_ok (list_of (λ _. permission_at) s) (λ permissions. Ok (Permissions permissions.0, permissions.1)) (p, u) e in
+    let g = bracketed_found IsPermission (λ _. permission_at) with_permission MayPermission permission_found s b.0.0 b.0.1 well b.1 in
+    subst (λ (y : Param × State). GetsParam before named.Permissions s y.0 y.1) (ok_same (Permissions b.0.0, b.0.1) (p, u) _ refl b.2) (record {
+      ws = g.ws;
+      is = (g.ws, refl, g.is);
+      moves = g.moves;
+      may = record { once = once; value = g.may };
+      seen = g.seen ∙ same_seen s.seen b.0.0;
     })
 param_valued before named.Mandatory s p u well once e = names_valued before named.Mandatory Mandatory (λ _. refl) (λ _ _ h. h) (λ _ _ h. h) (λ _ _. refl) s p u well once e
 param_valued before named.Optional s p u well once e = names_valued before named.Optional Optional (λ _. refl) (λ _ _ h. h) (λ _ _ h. h) (λ _ _. refl) s p u well once e

@@ -6,7 +6,7 @@ use Rattle.dac_tokens.specs.declared.token.Symbol.{Symbol}
 use Rattle.dac_tokens.specs.declared.token.Symbol.TheVariants.{OpenList, CloseList, OpenTuple, CloseTuple, Comma, FullStop}
 use Rattle.dac_tokens.specs.declared.fault.FaultKind.TheVariants.{BadShape}
 use Rattle.dac_tokens.specs.Gives.{◌>>=◌}
-use Rattle.dac_tokens.specs.Words.{Word, Mark, Name, Number, End, Located, is_end}
+use Rattle.dac_tokens.specs.Words.{Word, Mark, Name, Number, Text, End, Located, is_end}
 use Rattle.dac_tokens.specs.Stream.{Stream, taken, taken_of}
 use Rattle.dac_shapes.specs.Shape.{State, fails, byte_of, is_mark, token, symbol_at, more_at}
 
@@ -109,6 +109,7 @@ pub mark_is : (x : Symbol) (w : Word) → is_mark x w ≡ true → w ≡ Mark x
 mark_is x (Mark y) e = ap Mark (same_byte x y e)
 mark_is x (Name name) e = absurd cc
 mark_is x (Number negative digits) e = absurd cc
+mark_is x Text e = absurd cc
 mark_is x End e = absurd cc
 
 pub symbol_passes : (x : Symbol) (s u : State) → EndsWell s → symbol_at x s ≡ Ok u → Passes s (Mark x ∷ []) u

@@ -1,12 +1,12 @@
 -- The shapes of a configuration, as a grammar on tokens, whatever a reader does.
-use Rattle.std.specs.Prelude.{◌≡◌, ◌≢◌, ◌⊎◌, ℕ, ◌<◌, ◌≤◌, Bool, true, List, [], ◌∷◌, ◌++◌, length, map, codes}
+use Rattle.std.specs.Prelude.{◌≡◌, ◌≢◌, ◌⊎◌, ℕ, ◌<◌, ◌≤◌, Bool, true, false, List, [], ◌∷◌, ◌++◌, length, map, codes}
 use Rattle.dac_tokens.specs.declared.token.Symbol.{Symbol}
 use Rattle.dac_tokens.specs.declared.token.Symbol.TheVariants.{OpenList, CloseList, OpenTuple, CloseTuple, Comma, FullStop}
 use Rattle.dac_tokens.specs.TokenGrammar.{AreTokensOf}
 use Rattle.dac_tokens.specs.Words.{Word, Mark, Name, Number, Located}
 use Rattle.dac_shapes.specs.declared.draft.SyncWait.{SyncWait}
 use Rattle.dac_shapes.specs.declared.draft.SyncWait.TheVariants.{NoSync, Forever, Ms}
-use Rattle.dac_shapes.specs.Written.{App, Param, Distributed, Mandatory, Optional, Timeout, Written, name_of, spelled, written}
+use Rattle.dac_shapes.specs.Written.{App, Permission, Param, Distributed, Permissions, Mandatory, Optional, Timeout, Written, name_of, spelled, written}
 use Rattle.dac_shapes.specs.Shape.{value_from}
 use Rattle.dac_shapes.specs.Limits.{MaySections, nodes_in}
 
@@ -61,6 +61,14 @@ IsAppValue words app = (timeout list : List Word) × (words ≡ timeout ++ list)
 abbrev pub IsApp : List Word → App → Type 0
 IsApp words app = IsPair app.name (λ value. IsAppValue value app) words
 
+-- `true` or `false`
+abbrev pub IsFlag : List Word → Bool → Type 0
+IsFlag words true = words ≡ Name (codes "true") ∷ []
+IsFlag words false = words ≡ Name (codes "false") ∷ []
+
+abbrev pub IsPermission : List Word → Permission → Type 0
+IsPermission words permission = IsPair permission.name (λ value. IsFlag value permission.value) words
+
 -- a number, or `infinity`
 abbrev pub IsWait : List Word → SyncWait → Type 0
 IsWait words NoSync = ⊥
@@ -69,6 +77,7 @@ IsWait words (Ms n) = (word : Word) × (words ≡ word ∷ []) × IsMs word n
 
 abbrev pub IsParamValue : List Word → Param → Type 0
 IsParamValue words (Distributed apps) = IsListOf IsApp words apps
+IsParamValue words (Permissions permissions) = IsListOf IsPermission words permissions
 IsParamValue words (Mandatory names) = IsListOf IsNode words names
 IsParamValue words (Optional names) = IsListOf IsNode words names
 IsParamValue words (Timeout wait) = IsWait words wait

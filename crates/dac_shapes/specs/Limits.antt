@@ -4,7 +4,7 @@ use Rattle.std.specs.Str.{bytes_eq}
 use Rattle.std.specs.List.{list_any}
 use Rattle.dac_shapes.specs.declared.param.ParamName.{ParamName}
 use Rattle.dac_shapes.specs.declared.param.ParamName.TheVariants as named
-use Rattle.dac_shapes.specs.Written.{App, Param, Distributed, Mandatory, Optional, Timeout, name_of}
+use Rattle.dac_shapes.specs.Written.{App, Permission, Param, Distributed, Permissions, Mandatory, Optional, Timeout, name_of}
 
 -- the different names of nodes met so far, and the names of the node list that is being read
 pub record Seen : Type 0 where
@@ -22,6 +22,7 @@ number_of named.Distributed = 0
 number_of named.Mandatory = 1
 number_of named.Optional = 2
 number_of named.Timeout = 3
+number_of named.Permissions = 4
 
 -- whether one of the parameters has this name
 abbrev pub has_param : ParamName → List Param → Bool
@@ -85,16 +86,28 @@ pub record MayApp (before : List App) (seen : Seen) (app : App) : Type 0 where
 abbrev pub with_apps : Seen → List App → Seen
 with_apps seen apps = steps with_app seen apps
 
+-- ---- permissions
+
+-- a permission names no node
+abbrev pub with_permission : Seen → Permission → Seen
+with_permission seen permission = seen
+
+-- a permission may come: its name has at most 255 bytes, whether an application has it or not
+abbrev pub MayPermission : List Permission → Seen → Permission → Type 0
+MayPermission before seen permission = length permission.name ≤ 255
+
 -- ---- parameters and sections
 
 abbrev pub with_param : Seen → Param → Seen
 with_param seen (Distributed apps) = with_apps seen apps
+with_param seen (Permissions permissions) = seen
 with_param seen (Mandatory names) = with_nodes seen names
 with_param seen (Optional names) = with_nodes seen names
 with_param seen (Timeout wait) = seen
 
 abbrev pub MayValue : Seen → Param → Type 0
 MayValue seen (Distributed apps) = AllMay with_app MayApp [] seen apps
+MayValue seen (Permissions permissions) = AllMay with_permission MayPermission [] seen permissions
 MayValue seen (Mandatory names) = MayNodes true seen names
 MayValue seen (Optional names) = MayNodes true seen names
 MayValue seen (Timeout wait) = Unit {0}

@@ -7,13 +7,13 @@ use Rattle.dac_tokens.specs.declared.fault.ConfigFault.{ConfigFault}
 use Rattle.dac_tokens.specs.declared.token.Symbol.{Symbol}
 use Rattle.dac_tokens.specs.declared.token.Symbol.TheVariants.{OpenList, CloseList, OpenTuple, CloseTuple, Comma, FullStop}
 use Rattle.dac_tokens.specs.Gives.{◌>>=◌}
-use Rattle.dac_tokens.specs.Words.{Word, Mark, Name, Number, End, Located, is_end}
+use Rattle.dac_tokens.specs.Words.{Word, Mark, Name, Number, Text, End, Located, is_end}
 use Rattle.dac_tokens.specs.Stream.{Stream, tokens_of, taken}
 use Rattle.dac_shapes.specs.declared.draft.SyncWait.{SyncWait}
 use Rattle.dac_shapes.specs.declared.draft.SyncWait.TheVariants.{Forever, Ms}
 use Rattle.dac_shapes.specs.declared.param.ParamName.{ParamName}
 use Rattle.dac_shapes.specs.declared.param.ParamName.TheVariants as named
-use Rattle.dac_shapes.specs.Written.{App, Param, Distributed, Mandatory, Optional, Timeout, Written, written}
+use Rattle.dac_shapes.specs.Written.{App, Permission, Param, Distributed, Permissions, Mandatory, Optional, Timeout, Written, written}
 use Rattle.dac_shapes.specs.Limits.{Seen, nothing, is_among, has_param, with_node, listing}
 
 -- what is left to read, and the names seen so far
@@ -36,6 +36,7 @@ abbrev pub is_mark : Symbol → Word → Bool
 is_mark symbol (Mark other) = byte_of symbol == byte_of other
 is_mark symbol (Name name) = false
 is_mark symbol (Number negative digits) = false
+is_mark symbol Text = false
 is_mark symbol End = false
 
 -- ---- one token
@@ -68,6 +69,7 @@ atom_of t = named t.word
     named (Name name) = Ok name
     named (Mark symbol) = fails BadShape t.at
     named (Number negative digits) = fails BadShape t.at
+    named Text = fails BadShape t.at
     named End = fails BadShape t.at
 
 -- the name, of at most 255 bytes, that a token is
@@ -96,16 +98,26 @@ wait_of t = waits t.word
       Ok (Ms n)
     waits (Name name) = if bytes_eq name (codes "infinity") then Ok Forever else fails BadShape t.at
     waits (Mark symbol) = fails BadShape t.at
+    waits Text = fails BadShape t.at
     waits End = fails BadShape t.at
+
+-- `true` or `false`
+unfoldable pub flag_of : Located → Result Bool ConfigFault
+flag_of t = do
+  name ← atom_of t
+  if bytes_eq name (codes "true") then Ok true
+      else (if bytes_eq name (codes "false") then Ok false
+      else fails BadShape t.at)
 
 -- the parameter that has this name
 abbrev pub param_named : List ℕ → Option ParamName
 param_named name =
     if bytes_eq name (codes "distributed") then Some named.Distributed
+    else (if bytes_eq name (codes "permissions") then Some named.Permissions
     else (if bytes_eq name (codes "sync_nodes_mandatory") then Some named.Mandatory
     else (if bytes_eq name (codes "sync_nodes_optional") then Some named.Optional
     else (if bytes_eq name (codes "sync_nodes_timeout") then Some named.Timeout
-    else None)))
+    else None))))
 
 -- a parameter that is known, and is not among those before it
 abbrev pub first_param : List Param → ℕ → Option ParamName → Result ParamName ConfigFault
@@ -226,6 +238,7 @@ timeout_at t s = timed t.word
       Ok (n, next.0, next.1)
     timed (Mark symbol) = Ok (0, t, s)
     timed (Name name) = Ok (0, t, s)
+    timed Text = Ok (0, t, s)
     timed End = Ok (0, t, s)
 
 -- the timeout, if any, and the node list of the application of this name
@@ -240,6 +253,19 @@ app_value_at name s = do
 abbrev pub app_at : List App → Located → State → Result (App × State) ConfigFault
 app_at before t s = pair_at (app_name_of before) app_value_at t s
 
+-- ---- permissions
+
+-- the permission of the application of this name
+unfoldable pub permission_value_at : List ℕ → State → Result (Permission × State) ConfigFault
+permission_value_at name s = do
+  t ← token s
+  value ← flag_of t.0
+  Ok (record { name = name; value = value }, t.1)
+
+-- a permission, whose opening brace is the token t
+abbrev pub permission_at : Located → State → Result (Permission × State) ConfigFault
+permission_at t s = pair_at short_name_of permission_value_at t s
+
 -- ---- parameters and sections
 
 -- the value of the parameter of this name
@@ -247,6 +273,9 @@ unfoldable pub param_value_at : ParamName → State → Result (Param × State) 
 param_value_at named.Distributed s = do
   apps ← list_of app_at s
   Ok (Distributed apps.0, apps.1)
+param_value_at named.Permissions s = do
+  permissions ← list_of (λ _. permission_at) s
+  Ok (Permissions permissions.0, permissions.1)
 param_value_at named.Mandatory s = do
   names ← list_of (λ _. node_of true) s
   Ok (Mandatory names.0, names.1)

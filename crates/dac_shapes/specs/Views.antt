@@ -5,9 +5,10 @@ use Rattle.std.specs.Global.{Vec}
 use Rattle.dac_shapes.specs.declared.parser.Parser.{Parser}
 use Rattle.dac_shapes.specs.declared.draft.DraftApp.{DraftApp}
 use Rattle.dac_shapes.specs.declared.draft.Draft.{Draft}
+use Rattle.dac_shapes.specs.declared.draft.Permission.{Permission as ReadPermission}
 use Rattle.dac_shapes.specs.declared.param.Param.{Param as ReadParam}
 use Rattle.dac_shapes.specs.declared.param.Param.TheVariants as read
-use Rattle.dac_shapes.specs.Written.{App, Param, Distributed, Mandatory, Optional, Timeout, Written}
+use Rattle.dac_shapes.specs.Written.{App, Permission, Param, Distributed, Permissions, Mandatory, Optional, Timeout, Written}
 use Rattle.dac_shapes.specs.Shape.{State}
 
 -- names without where they lie in memory
@@ -23,8 +24,15 @@ app_of app = record { name = app.name.now; timeout = app.timeout; groups = group
 abbrev pub apps_of : List DraftApp → List App
 apps_of apps = map app_of apps
 
+abbrev pub permission_of : ReadPermission → Permission
+permission_of permission = record { name = permission.name.now; value = permission.value }
+
+abbrev pub permissions_of : List ReadPermission → List Permission
+permissions_of permissions = map permission_of permissions
+
 abbrev pub param_of : ReadParam → Param
 param_of (read.Distributed apps) = Distributed (apps_of apps.items)
+param_of (read.Permissions permissions) = Permissions (permissions_of permissions.items)
 param_of (read.Mandatory names) = Mandatory (names_of names.items)
 param_of (read.Optional names) = Optional (names_of names.items)
 param_of (read.Timeout wait) = Timeout wait
@@ -37,7 +45,7 @@ sections_of sections = map (λ params. params_of params.items) sections
 
 -- a draft without where its names lie in memory
 abbrev pub draft_of : Draft → Written
-draft_of d = record { apps = apps_of d.apps.items; mandatory = names_of d.mandatory.items; optional = names_of d.optional.items; sync_wait = d.sync_wait; nodes = names_of d.nodes.items }
+draft_of d = record { apps = apps_of d.apps.items; permissions = permissions_of d.permissions.items; mandatory = names_of d.mandatory.items; optional = names_of d.optional.items; sync_wait = d.sync_wait; nodes = names_of d.nodes.items }
 
 abbrev pub state_of : Parser → State
 state_of p = record { left = p.tokens; seen = record { met = names_of p.met.items; listed = names_of p.listed.items } }

@@ -1,5 +1,5 @@
 -- What a configuration text says, by names and numbers as they are written.
-use Rattle.std.specs.Prelude.{ℕ, List, [], fold, codes}
+use Rattle.std.specs.Prelude.{ℕ, Bool, List, [], fold, codes}
 use Rattle.dac_shapes.specs.declared.draft.SyncWait.{SyncWait}
 use Rattle.dac_shapes.specs.declared.draft.SyncWait.TheVariants.{NoSync}
 use Rattle.dac_shapes.specs.declared.param.ParamName.{ParamName}
@@ -11,15 +11,22 @@ pub record App : Type 0 where
   pub timeout : ℕ
   pub groups : List (List (List ℕ))
 
+-- a permission: an application's name, and whether it may run before anyone says otherwise
+pub record Permission : Type 0 where
+  pub name : List ℕ
+  pub value : Bool
+
 -- a parameter of the section `kernel`, with its value
 pub data Param : Type 0 where
   Distributed : List App → Param
+  Permissions : List Permission → Param
   Mandatory : List (List ℕ) → Param
   Optional : List (List ℕ) → Param
   Timeout : SyncWait → Param
 
 abbrev pub name_of : Param → ParamName
 name_of (Distributed apps) = named.Distributed
+name_of (Permissions permissions) = named.Permissions
 name_of (Mandatory names) = named.Mandatory
 name_of (Optional names) = named.Optional
 name_of (Timeout wait) = named.Timeout
@@ -27,14 +34,16 @@ name_of (Timeout wait) = named.Timeout
 -- a parameter's name in the text
 abbrev pub spelled : ParamName → List ℕ
 spelled named.Distributed = codes "distributed"
+spelled named.Permissions = codes "permissions"
 spelled named.Mandatory = codes "sync_nodes_mandatory"
 spelled named.Optional = codes "sync_nodes_optional"
 spelled named.Timeout = codes "sync_nodes_timeout"
 
--- a whole text: its applications in order, the nodes to wait for at the start, how long, and the different names of
--- nodes in the order in which they first stand
+-- a whole text: its applications in order, its permissions in order, the nodes to wait for at the start, how long, and
+-- the different names of nodes in the order in which they first stand
 pub record Written : Type 0 where
   pub apps : List App
+  pub permissions : List Permission
   pub mandatory : List (List ℕ)
   pub optional : List (List ℕ)
   pub sync_wait : SyncWait
@@ -42,11 +51,12 @@ pub record Written : Type 0 where
 
 -- nothing is said but the names of nodes
 abbrev pub unsaid : List (List ℕ) → Written
-unsaid nodes = record { apps = []; mandatory = []; optional = []; sync_wait = NoSync; nodes = nodes }
+unsaid nodes = record { apps = []; permissions = []; mandatory = []; optional = []; sync_wait = NoSync; nodes = nodes }
 
 -- a parameter says its part
 abbrev pub put : Written → Param → Written
 put w (Distributed apps) = record w { apps = apps }
+put w (Permissions permissions) = record w { permissions = permissions }
 put w (Mandatory names) = record w { mandatory = names }
 put w (Optional names) = record w { optional = names }
 put w (Timeout wait) = record w { sync_wait = wait }

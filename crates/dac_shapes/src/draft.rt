@@ -28,11 +28,21 @@ pub struct DraftApp<'a> {
     pub groups: Vec<Vec<&'a [u8]>>,
 }
 
+/// Whether an application may run at a start (OTP's kernel parameter `permissions`).
+#[derive(Clone, Copy, Debug, PartialEq, Eq)]
+pub struct Permission<'a> {
+    /// The application's name; it may be one that the text doesn't distribute.
+    pub name: &'a [u8],
+    pub value: bool,
+}
+
 /// What a text says, with the names that lie in the text.
 #[derive(Drop)]
 pub struct Draft<'a> {
     /// The applications in the order of the text.
     pub apps: Vec<DraftApp<'a>>,
+    /// The permissions in the order of the text, as written: one application may have several.
+    pub permissions: Vec<Permission<'a>>,
     /// The nodes that have to be there at a start, as written.
     pub mandatory: Vec<&'a [u8]>,
     /// The nodes that may be there at a start, as written.
@@ -48,6 +58,7 @@ impl<'a> Draft<'a> {
     {
         match param {
             Param::Distributed(apps) => self.apps = apps,
+            Param::Permissions(permissions) => self.permissions = permissions,
             Param::Mandatory(names) => self.mandatory = names,
             Param::Optional(names) => self.optional = names,
             Param::Timeout(wait) => self.sync_wait = wait,
@@ -68,6 +79,7 @@ impl<'a> Draft<'a> {
     {
         let mut draft = Draft {
             apps: Vec::new(alloc),
+            permissions: Vec::new(alloc),
             mandatory: Vec::new(alloc),
             optional: Vec::new(alloc),
             sync_wait: SyncWait::NoSync,

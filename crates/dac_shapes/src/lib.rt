@@ -16,11 +16,12 @@ mod names;
 mod numbers;
 mod param;
 mod parser;
+mod permissions;
 mod reading;
 mod sections;
 #[cfg(test)]
 mod tests;
 
-pub use draft::{Draft, DraftApp, SyncWait};
+pub use draft::{Draft, DraftApp, Permission, SyncWait};
 pub use limits::{MAX_APPS, MAX_NAME, MAX_NODES, MAX_TEXT};
 pub use reading::read_draft;

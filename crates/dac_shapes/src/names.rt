@@ -38,7 +38,7 @@ pub fn is_among(name: &[u8], names: &[&[u8]]) -> bool
 
 /// The name that a token is.
 #[tactic(auto, unfolding(crate::specs::Shape::atom_of))]
-fn atom_of<'a>(token: Located<'a>) -> Result<&'a [u8], ConfigFault>
+pub fn atom_of<'a>(token: Located<'a>) -> Result<&'a [u8], ConfigFault>
     ensures { Gives (λ x. x.now) result (atom_of (located_of token.entry)) }
 {
     match token.token {

@@ -7,12 +7,13 @@ ghost use Rattle.dac_shapes.specs.Limits.{number_of};
 ghost use Rattle.dac_shapes.specs.Shape.{param_named};
 ghost use Rattle.dac_shapes.specs.Views.{param_of};
 
-use crate::draft::{DraftApp, SyncWait};
+use crate::draft::{DraftApp, Permission, SyncWait};
 
 /// The parameters that are read.
 #[derive(Clone, Copy, Debug, PartialEq, Eq)]
 pub enum ParamName {
     Distributed,
+    Permissions,
     Mandatory,
     Optional,
     Timeout,
@@ -22,6 +23,7 @@ pub enum ParamName {
 #[derive(Drop)]
 pub enum Param<'a> {
     Distributed(Vec<DraftApp<'a>>),
+    Permissions(Vec<Permission<'a>>),
     Mandatory(Vec<&'a [u8]>),
     Optional(Vec<&'a [u8]>),
     Timeout(SyncWait),
@@ -34,6 +36,9 @@ impl ParamName {
     {
         if name == b"distributed".as_slice() {
             return Some(ParamName::Distributed);
+        }
+        if name == b"permissions".as_slice() {
+            return Some(ParamName::Permissions);
         }
         if name == b"sync_nodes_mandatory".as_slice() {
             return Some(ParamName::Mandatory);
@@ -54,6 +59,7 @@ impl Param<'_> {
     {
         match self {
             Param::Distributed(_) => ParamName::Distributed,
+            Param::Permissions(_) => ParamName::Permissions,
             Param::Mandatory(_) => ParamName::Mandatory,
             Param::Optional(_) => ParamName::Optional,
             Param::Timeout(_) => ParamName::Timeout,

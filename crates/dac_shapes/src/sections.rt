@@ -41,6 +41,10 @@ impl<'a> Parser<'a> {
                 let apps = self.distributed(alloc)?;
                 Ok(Param::Distributed(apps))
             }
+            ParamName::Permissions => {
+                let permissions = self.permissions(alloc)?;
+                Ok(Param::Permissions(permissions))
+            }
             ParamName::Mandatory => {
                 let names = self.sync_nodes(alloc)?;
                 Ok(Param::Mandatory(names))

@@ -121,6 +121,56 @@ fn sync_lists(rt: HostRuntime) -> Result<(), Fail> {
     Ok(())
 }
 
+/// The fault of a text with one application and these permissions.
+fn fault_of_permissions(
+    alloc: Global,
+    permissions: &[u8],
+) -> Result<Option<ConfigFault>, AllocError> {
+    let mut text = Vec::new(alloc);
+    text.extend_from_slice(b"[{kernel,[{distributed,[{a,[b]}]},{permissions,[")?;
+    text.extend_from_slice(permissions)?;
+    text.extend_from_slice(b"]}]}].")?;
+    Ok(fault_of(alloc, &text))
+}
+
+#[test]
+fn permissions(rt: HostRuntime) -> Result<(), Fail> {
+    let alloc = rt.alloc();
+    let text = b"[{kernel,[{permissions,[{x,false},{y,true},{x,true}]},{distributed,[{x,[a]}]}]}].";
+    let Ok(draft) = read_draft(alloc, text) else {
+        assert!(rt; false, "not read");
+        return Ok(());
+    };
+    assert_eq!(rt; draft.permissions.len(), 3);
+    let wanted = [
+        (b"x".as_slice(), false),
+        (b"y".as_slice(), true),
+        (b"x".as_slice(), true),
+    ];
+    for (permission, (name, value)) in draft.permissions.iter().zip(wanted) {
+        assert!(rt; permission.name == name);
+        assert_eq!(rt; permission.value, value);
+    }
+    // the permissions begin at 48
+    assert_eq!(rt;
+        fault_of_permissions(alloc, b"{a,no}")?,
+        at(FaultKind::BadShape, 51)
+    );
+    assert_eq!(rt;
+        fault_of_permissions(alloc, b"{1,true}")?,
+        at(FaultKind::BadShape, 49)
+    );
+    let mut entry = Vec::new(alloc);
+    entry.push(b'{')?;
+    entry.extend_from_slice(&repeated(alloc, b'a', 256)?)?;
+    entry.extend_from_slice(b",true}")?;
+    assert_eq!(rt;
+        fault_of_permissions(alloc, &entry)?,
+        at(FaultKind::NameTooLong, 49)
+    );
+    Ok(())
+}
+
 #[test]
 fn faults_at_their_places(rt: HostRuntime) -> Result<(), Fail> {
     let cases = [
@@ -168,7 +218,7 @@ fn faults_at_their_places(rt: HostRuntime) -> Result<(), Fail> {
         ),
         (
             b"[{kernel,[{permissions,[]}]}].".as_slice(),
-            at(FaultKind::Unsupported, 11),
+            at(FaultKind::NoDistributed, 30),
         ),
         (b"[{sasl,[]}].".as_slice(), at(FaultKind::Unsupported, 2)),
         (

@@ -9,7 +9,7 @@ use Rattle.dac_tokens.specs.declared.token.Class.TheVariants as class
 use Rattle.dac_tokens.specs.declared.token.Symbol.TheVariants.{OpenList, CloseList, OpenTuple, CloseTuple, Comma, FullStop}
 use Rattle.dac_tokens.specs.Faults.{IsTokenFault}
 use Rattle.dac_tokens.specs.Gives.{◌>>=◌, UnlessMemory}
-use Rattle.dac_tokens.specs.Words.{Word, Mark, Name, Number, End, Located}
+use Rattle.dac_tokens.specs.Words.{Word, Mark, Name, Number, Text, End, Located}
 use Rattle.dac_tokens.specs.Scan.{after_blanks, class_of, ends_stop, number_at, token_of, word_at, bad_token, unsupported}
 use Rattle.dac_tokens.specs.Stream.{depth_after, token_from}
 
@@ -62,6 +62,7 @@ depth_faults at depth (Mark Comma) = tt
 depth_faults at depth (Mark FullStop) = tt
 depth_faults at depth (Name name) = tt
 depth_faults at depth (Number negative digits) = tt
+depth_faults at depth Text = tt
 depth_faults at depth End = tt
 
 pub reading_faults : (end depth : ℕ) (bytes : List ℕ) → FailsAsToken (token_from end depth bytes)

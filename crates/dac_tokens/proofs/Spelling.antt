@@ -10,7 +10,7 @@ use Rattle.dac_tokens.specs.declared.token.Class.{Class}
 use Rattle.dac_tokens.specs.declared.token.Class.TheVariants as class
 use Rattle.dac_tokens.specs.declared.token.Symbol.{Symbol}
 use Rattle.dac_tokens.specs.declared.token.Symbol.TheVariants.{OpenList, CloseList, OpenTuple, CloseTuple, Comma, FullStop}
-use Rattle.dac_tokens.specs.Words.{Word, Mark, Name, Number, End, is_end}
+use Rattle.dac_tokens.specs.Words.{Word, Mark, Name, Number, Text, End, is_end}
 use Rattle.dac_tokens.specs.Scan.{class_of, is_name_byte, is_fun, run, ends_stop, breaks_number, bad_token, unsupported, atom_at, number_at, token_of, word_at}
 use Rattle.dac_tokens.specs.TokenGrammar.{IsBlank, IsNameByte, Begins, IsBareAtom, IsDigits, IsSpelledBy, GoesOnAsNumber, MayFollow}
 use Rattle.dac_tokens.proofs.Bytes.{tells_digit, tells_name_byte, tells_letter, letter_class, digit_class, tells_minus, tells_dot, tells_comma, tells_bracket, no_stop_bracket, tells_stop, tells_break, no_break}
@@ -168,6 +168,7 @@ token_read (Name (b ∷ more)) at own rest spelled follows = rw spelled.0 (ap (�
 token_read (Number false []) at own rest spelled follows = absurd spelled.1.begins
 token_read (Number false (d ∷ ds)) at own rest spelled follows = rw spelled.0 (ap (λ (c : Class). token_of c at d (ds ++ rest)) (digit_class d spelled.1.begins) ∙ number_read at false (d ∷ ds) rest spelled.1 follows)
 token_read (Number true digits) at own rest spelled follows = rw spelled.0 (negative_read at digits rest spelled.1 follows)
+token_read Text at own rest spelled follows = absurd spelled
 token_read End at own rest spelled follows = absurd spelled
 
 -- a token has a byte of its own, and its first is no blank
@@ -183,6 +184,7 @@ own_some (Name (b ∷ more)) own spelled = rw spelled.0 (omega arith)
 own_some (Number false []) own spelled = absurd spelled.1.begins
 own_some (Number false (d ∷ ds)) own spelled = rw spelled.0 (omega arith)
 own_some (Number true digits) own spelled = rw spelled.0 (omega arith)
+own_some Text own spelled = absurd spelled
 own_some End own spelled = absurd spelled
 
 small : {A : Type 0} (n : ℕ) → 33 ≤ n → n ≤ 32 → A
@@ -200,10 +202,12 @@ no_blank (Name (b ∷ more)) own rest spelled h = let low : 97 ≤ b = spelled.1
 no_blank (Number false []) own rest spelled h = spelled.1.begins
 no_blank (Number false (d ∷ ds)) own rest spelled h = let low : 48 ≤ d = spelled.1.begins.0 in small d (omega arith) (rw spelled.0 at h)
 no_blank (Number true digits) own rest spelled h = small 45 (omega arith) (rw spelled.0 at h)
+no_blank Text own rest spelled h = spelled
 no_blank End own rest spelled h = spelled
 
 pub no_end : (w : Word) (own : List ℕ) → IsSpelledBy w own → is_end w ≡ false
 no_end (Mark symbol) own spelled = refl
 no_end (Name name) own spelled = refl
 no_end (Number negative digits) own spelled = refl
+no_end Text own spelled = refl
 no_end End own spelled = absurd spelled

@@ -15,7 +15,7 @@ use Rattle.dac_tokens.specs.declared.token.Class.TheVariants as class
 use Rattle.dac_tokens.specs.declared.token.Symbol.{Symbol}
 use Rattle.dac_tokens.specs.declared.token.Symbol.TheVariants.{OpenList, CloseList, OpenTuple, CloseTuple, Comma, FullStop}
 use Rattle.dac_tokens.specs.Gives.{◌>>=◌}
-use Rattle.dac_tokens.specs.Words.{Word, Mark, Name, Number, End, Located}
+use Rattle.dac_tokens.specs.Words.{Word, Mark, Name, Number, Text, End, Located}
 use Rattle.dac_tokens.specs.Scan.{class_of, is_name_byte, is_fun, run, ends_stop, breaks_number, bad_token, unsupported, atom_at, number_at, token_of, word_at}
 use Rattle.dac_tokens.specs.Stream.{depth_after}
 use Rattle.dac_tokens.specs.TokenGrammar.{IsBlank, IsNameByte, Begins, IsDigits, bytes_of, IsSpelledBy, GoesOnAsNumber, MayFollow}
@@ -166,6 +166,7 @@ depth_stops at depth bytes (Mark Comma) rest t = tt
 depth_stops at depth bytes (Mark FullStop) rest t = tt
 depth_stops at depth bytes (Name name) rest t = tt
 depth_stops at depth bytes (Number negative digits) rest t = tt
+depth_stops at depth bytes Text rest t = tt
 depth_stops at depth bytes End rest t = tt
 
 ends_false : (rest : List ℕ) → (MayFollow (Mark FullStop) rest → ⊥) → (c : Bool) → ends_stop rest ≡ c → c ≡ false

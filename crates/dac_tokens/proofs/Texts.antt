@@ -6,7 +6,7 @@ use Rattle.std.proofs.lemmas.List.{take-append-drop, append-nil}
 use Rattle.dac_tokens.specs.declared.fault.ConfigFault.{ConfigFault}
 use Rattle.dac_tokens.specs.declared.token.Symbol.TheVariants.{OpenList, CloseList, OpenTuple, CloseTuple, Comma, FullStop}
 use Rattle.dac_tokens.specs.Gives.{◌>>=◌}
-use Rattle.dac_tokens.specs.Words.{Word, Mark, Name, Number, End, is_end, Located}
+use Rattle.dac_tokens.specs.Words.{Word, Mark, Name, Number, Text, End, is_end, Located}
 use Rattle.dac_tokens.specs.Scan.{is_blank, after_blanks, class_of, run, unsupported, token_of, word_at}
 use Rattle.dac_tokens.specs.Stream.{Stream, depth_after, opened, token_from, and_then, tokens_within, tokens_of, end_at, ended}
 use Rattle.dac_tokens.specs.TokenGrammar.{IsBlank, IsSpelledBy, MayFollow, IsNextToken, AreSpelled, depth_behind, NestWell, AreTokensOf}
@@ -32,6 +32,7 @@ depth_found at depth (Mark Comma) le = (refl, le)
 depth_found at depth (Mark FullStop) le = (refl, le)
 depth_found at depth (Name name) le = (refl, le)
 depth_found at depth (Number negative digits) le = (refl, le)
+depth_found at depth Text le = (refl, le)
 depth_found at depth End le = (refl, le)
 
 opened_read : (at depth : ℕ) → depth + 1 ≤ 64 → opened at depth ≡ Ok (depth + 1)
@@ -46,6 +47,7 @@ depth_read at depth (Mark Comma) le = refl
 depth_read at depth (Mark FullStop) le = refl
 depth_read at depth (Name name) le = refl
 depth_read at depth (Number negative digits) le = refl
+depth_read at depth Text le = refl
 depth_read at depth End le = refl
 
 -- the next token as it was read, for the grammar

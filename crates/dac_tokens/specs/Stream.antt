@@ -2,7 +2,7 @@
 use Rattle.std.specs.Prelude.{ℕ, zero, suc, ◌+◌, ◌-◌, List, [], ◌∷◌, length, Result, Ok, Err, nat_le, if◌then◌else◌}
 use Rattle.dac_tokens.specs.declared.fault.ConfigFault.{ConfigFault}
 use Rattle.dac_tokens.specs.declared.token.Symbol.TheVariants.{OpenList, CloseList, OpenTuple, CloseTuple, Comma, FullStop}
-use Rattle.dac_tokens.specs.Words.{Word, Mark, Name, Number, End, is_end, Located}
+use Rattle.dac_tokens.specs.Words.{Word, Mark, Name, Number, Text, End, is_end, Located}
 use Rattle.dac_tokens.specs.Gives.{◌>>=◌}
 use Rattle.dac_tokens.specs.Scan.{after_blanks, word_at, unsupported}
 
@@ -19,6 +19,7 @@ depth_after at depth (Mark Comma) = Ok depth
 depth_after at depth (Mark FullStop) = Ok depth
 depth_after at depth (Name name) = Ok depth
 depth_after at depth (Number negative digits) = Ok depth
+depth_after at depth Text = Ok depth
 depth_after at depth End = Ok depth
 
 -- The first token of the bytes, which stand before the offset `end`, with `depth` brackets open: the token,

@@ -3,7 +3,7 @@ use Rattle.std.specs.Prelude.{◌≡◌, ◌≢◌, ◌⊎◌, ℕ, ◌+◌, ◌
 use Rattle.std.specs.Char.{IsAsciiDigit, IsAsciiLowercase, IsAsciiAlphanumeric}
 use Rattle.dac_tokens.specs.declared.token.Symbol.{Symbol}
 use Rattle.dac_tokens.specs.declared.token.Symbol.TheVariants.{OpenList, CloseList, OpenTuple, CloseTuple, Comma, FullStop}
-use Rattle.dac_tokens.specs.Words.{Word, Mark, Name, Number, End, Located}
+use Rattle.dac_tokens.specs.Words.{Word, Mark, Name, Number, Text, End, Located}
 
 -- a space, or a control character below it
 abbrev pub IsBlank : ℕ → Type 0
@@ -43,6 +43,7 @@ IsSpelledBy (Mark symbol) own = own ≡ bytes_of symbol
 IsSpelledBy (Name name) own = (own ≡ name) × IsBareAtom name
 IsSpelledBy (Number false digits) own = (own ≡ digits) × IsDigits digits
 IsSpelledBy (Number true digits) own = (own ≡ codes "-" ++ digits) × IsDigits digits
+IsSpelledBy Text own = ⊥
 IsSpelledBy End own = ⊥
 
 -- a number before these bytes goes on, or is one of another form: with a base, underscores or a fraction
@@ -57,6 +58,7 @@ MayFollow (Mark FullStop) rest = (rest ≡ []) ⊎ Begins (λ b. IsBlank b ⊎ (
 MayFollow (Mark _) rest = Unit {0}
 MayFollow (Name name) rest = ¬ Begins IsNameByte rest
 MayFollow (Number negative digits) rest = ¬ GoesOnAsNumber rest
+MayFollow Text rest = Unit {0}
 MayFollow End rest = Unit {0}
 
 -- Of bytes that begin at the offset `at`, the first token, its own bytes and the rest behind it: blanks may

@@ -34,6 +34,9 @@ pub enum Token<'a> {
         /// The decimal digits as ASCII, the most significant first, at least one; leading zeros stay.
         digits: &'a [u8],
     },
+    /// A string. What it holds isn't looked at, and several in a row are for the reader of shapes to take
+    /// as one.
+    Text,
     /// The end of the text.
     End,
 }
