@@ -7,7 +7,7 @@ use Rattle.dac_tokens.specs.declared.token.Class.TheVariants as class
 use Rattle.dac_tokens.specs.declared.token.Symbol.{Symbol}
 use Rattle.dac_tokens.specs.declared.token.Symbol.TheVariants.{OpenList, CloseList, OpenTuple, CloseTuple, Comma, FullStop}
 use Rattle.dac_tokens.specs.Scan.{is_blank, class_of, is_name_byte, ends_stop, breaks_number}
-use Rattle.dac_tokens.specs.TokenGrammar.{IsBlank, IsNameByte, Begins, GoesOnAsNumber, bytes_of}
+use Rattle.dac_tokens.specs.TokenGrammar.{IsBlank, IsNameByte, Begins, GoesOnAsNumber, EndsTerm, bytes_of}
 
 pub tells_blank : (b : ℕ) → Decides (is_blank b) (IsBlank b)
 tells_blank b = (λ e. grind (arith, nat_tests), λ h. grind (arith, nat_tests))
@@ -32,6 +32,9 @@ digit_class b h = grind (arith, nat_tests)
 
 pub tells_minus : (b : ℕ) → class_of b ≡ class.Minus → b ≡ 45
 tells_minus b e = grind (arith, nat_tests)
+
+pub tells_quote : (b : ℕ) → class_of b ≡ class.Quote → b ≡ 39
+tells_quote b e = grind (arith, nat_tests)
 
 pub tells_dot : (b : ℕ) → class_of b ≡ class.Dot → b ≡ 46
 tells_dot b e = grind (arith, nat_tests)
@@ -68,7 +71,7 @@ tells_bracket CloseTuple b e = alone b 125 (close_tuple b e)
 tells_bracket Comma b e = absurd (no_comma_bracket b e)
 tells_bracket FullStop b e = absurd (no_stop_bracket b e)
 
-pub tells_stop : (rest : List ℕ) → Decides (ends_stop rest) ((rest ≡ []) ⊎ Begins (λ b. IsBlank b ⊎ (b ≡ 37)) rest)
+pub tells_stop : (rest : List ℕ) → Decides (ends_stop rest) (EndsTerm rest)
 tells_stop [] = (λ e. inl refl, λ h. refl)
 tells_stop (b ∷ bs) = (λ e. inr (grind (arith, nat_tests)), λ h. grind (arith, nat_tests))
 

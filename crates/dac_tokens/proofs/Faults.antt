@@ -1,5 +1,5 @@
 -- Which faults reading a token can have.
-use Rattle.std.proofs.Common.{◌≡◌, ℕ, Bool, true, false, cond, List, [], ◌∷◌, length, ◌-◌, Result, Ok, Err, subst}
+use Rattle.std.proofs.Common.{◌≡◌, inl, inr, ℕ, Bool, true, false, cond, List, [], ◌∷◌, length, ◌-◌, Result, Ok, Err, sym, subst}
 use Rattle.std.specs.Prelude.{IfErr}
 use Rattle.dac_tokens.specs.declared.fault.FaultKind.{FaultKind}
 use Rattle.dac_tokens.specs.declared.fault.FaultKind.TheVariants.{NoMemory}
@@ -10,8 +10,9 @@ use Rattle.dac_tokens.specs.declared.token.Symbol.TheVariants.{OpenList, CloseLi
 use Rattle.dac_tokens.specs.Faults.{IsTokenFault}
 use Rattle.dac_tokens.specs.Gives.{◌>>=◌, UnlessMemory}
 use Rattle.dac_tokens.specs.Words.{Word, Mark, Name, Number, Text, End, Located}
-use Rattle.dac_tokens.specs.Scan.{after_blanks, class_of, ends_stop, number_at, token_of, word_at, bad_token, unsupported}
+use Rattle.dac_tokens.specs.Scan.{after_gap, class_of, ends_stop, number_at, quoted_at, token_of, word_at, bad_token, unsupported}
 use Rattle.dac_tokens.specs.Stream.{depth_after, token_from}
+use Rattle.dac_tokens.proofs.Quotes.{FoundQuoted, quoted_found}
 
 -- what holds at all holds unless memory ran out
 pub unless_memory : (k : FaultKind) {P : Type 0} → P → UnlessMemory k P
@@ -38,6 +39,14 @@ bad_unless : {A : Type 0} (b : Bool) (at : ℕ) (x : A) → FailsAsToken (cond b
 bad_unless true at x = tt
 bad_unless false at x = tt
 
+quoted_faults : (at : ℕ) (bs : List ℕ) → FailsAsToken (quoted_at at bs)
+quoted_faults at bs = by (quoted_at at bs) (quoted_found at bs)
+  where
+    by : (r : Result (Word × List ℕ) ConfigFault) → FoundQuoted at bs r → FailsAsToken r
+    by (Ok x) found = tt
+    by (Err e) (inl (name, rest, parts, all, begins, is)) = subst (λ (f : ConfigFault). IsTokenFault f.kind) (sym is) tt
+    by (Err e) (inr (all, is)) = subst (λ (f : ConfigFault). IsTokenFault f.kind) (sym is) tt
+
 token_faults : (c : Class) (at b : ℕ) (bs : List ℕ) → FailsAsToken (token_of c at b bs)
 token_faults (class.Bracket symbol) at b bs = tt
 token_faults class.Comma at b bs = tt
@@ -45,6 +54,7 @@ token_faults class.Dot at b bs = bad_unless (ends_stop bs) at _
 token_faults class.Letter at b bs = refused_if _ at _
 token_faults class.Digit at b bs = refused_if _ at _
 token_faults class.Minus at b bs = bad_if _ at (number_at at true bs) (refused_if _ at _)
+token_faults class.Quote at b bs = quoted_faults at bs
 token_faults class.Refused at b bs = tt
 token_faults class.Unknown at b bs = tt
 
@@ -68,7 +78,7 @@ depth_faults at depth End = tt
 pub reading_faults : (end depth : ℕ) (bytes : List ℕ) → FailsAsToken (token_from end depth bytes)
 unfolding token_from
 reading_faults end depth bytes =
-    let rest = after_blanks bytes in
+    let rest = after_gap false bytes in
     let at = end - length rest in
     then_faults (word_at at rest) _ (word_faults at rest) (λ word. then_faults (depth_after at depth word.0) _ (depth_faults at depth word.0) (λ after. tt))
 

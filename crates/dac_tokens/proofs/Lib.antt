@@ -1,5 +1,7 @@
 pub mod Bytes
 pub mod Faults
+pub mod Gaps
+pub mod Quotes
 pub mod Runs
 pub mod Shorter
 pub mod Spelling

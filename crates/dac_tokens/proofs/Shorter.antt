@@ -1,5 +1,5 @@
 -- What a token leaves is shorter than what it was read from.
-use Rattle.std.proofs.Common.{◌≡◌, ℕ, zero, suc, ◌-◌, ◌<◌, ◌≤◌, Bool, true, false, cond, List, [], ◌∷◌, length, take, drop, Result, Ok, Err, refl, sym, ap, ◌∙◌, arith, length-drop}
+use Rattle.std.proofs.Common.{◌≡◌, ℕ, zero, suc, ◌-◌, ◌<◌, ◌≤◌, Bool, true, false, cond, List, [], ◌∷◌, length, take, drop, Result, Ok, Err, refl, sym, ap, ◌∙◌, arith, length-append, length-drop}
 use Rattle.std.specs.Prelude.{IfOk}
 use Rattle.std.specs.Char.{is_ascii_digit}
 use Rattle.std.proofs.lemmas.Bool.Decides.{nat_tests}
@@ -9,15 +9,14 @@ use Rattle.dac_tokens.specs.declared.token.Class.{Class}
 use Rattle.dac_tokens.specs.declared.token.Class.TheVariants as class
 use Rattle.dac_tokens.specs.Words.{Word, Mark, Name, Number, End, is_end, Located}
 use Rattle.dac_tokens.proofs.Runs.{true_false}
-use Rattle.dac_tokens.specs.Scan.{is_blank, after_blanks, class_of, is_name_byte, run, ends_stop, bad_token, atom_at, number_at, token_of, word_at}
+use Rattle.dac_tokens.specs.Scan.{after_gap, class_of, is_name_byte, run, ends_stop, bad_token, atom_at, number_at, quoted_at, token_of, word_at}
 use Rattle.std.proofs.lemmas.Result.{IfOk-weaker, IfOk-at_ok}
 use Rattle.dac_tokens.specs.Gives.{◌>>=◌, Fails}
 use Rattle.dac_tokens.proofs.Faults.{unless_memory}
+use Rattle.dac_tokens.proofs.Gaps.{length_after_gap}
+use Rattle.dac_tokens.proofs.Quotes.{FoundQuoted, quoted_found}
 use Rattle.dac_tokens.specs.Stream.{Stream, depth_after, token_from, and_then, tokens_within, tokens_of, taken}
 use Rattle.dac_tokens.specs.declared.token.Symbol.TheVariants.{FullStop}
-
-pub after_blanks-short : (bs : List ℕ) → length (after_blanks bs) ≤ length bs
-after_blanks-short bs = omega (arith, length-drop (run is_blank bs) bs)
 
 pub letter_is_name : (b : ℕ) → class_of b ≡ class.Letter → is_name_byte b ≡ true
 letter_is_name b e = grind (arith, nat_tests)
@@ -48,6 +47,15 @@ number_leaves at negative bs limit lt = refused_or (λ x. (length x.1 < limit) �
 atom_leaves : (at : ℕ) (bs : List ℕ) (limit : ℕ) → length (drop (run is_name_byte bs) bs) < limit → Leaves limit (atom_at at bs)
 atom_leaves at bs limit lt = refused_or (λ x. (length x.1 < limit) × (is_end x.0 ≡ false)) _ _ (Ok (Name (take (run is_name_byte bs) bs), drop (run is_name_byte bs) bs)) (lt, refl)
 
+quoted_leaves : (at : ℕ) (bs : List ℕ) → Leaves (suc (length bs)) (quoted_at at bs)
+quoted_leaves at bs = by (quoted_at at bs) (quoted_found at bs)
+  where
+    by : (r : Result (Word × List ℕ) ConfigFault) → FoundQuoted at bs r → Leaves (suc (length bs)) r
+    by (Ok x) (name, parts, all, is) =
+        let size = ap length parts ∙ length-append name (39 ∷ x.1) in
+        (omega (arith, size), ap is_end is)
+    by (Err e) found = tt
+
 token_leaves : (c : Class) (at b : ℕ) (bs : List ℕ) → class_of b ≡ c → Leaves (suc (length bs)) (token_of c at b bs)
 token_leaves (class.Bracket symbol) at b bs e = (omega arith, refl)
 token_leaves class.Comma at b bs e = (omega arith, refl)
@@ -59,6 +67,7 @@ token_leaves class.Dot at b bs e = stop (ends_stop bs)
 token_leaves class.Letter at b bs e = atom_leaves at (b ∷ bs) (suc (length bs)) (drop_less _ b bs (run-first is_name_byte b bs (letter_is_name b e)))
 token_leaves class.Digit at b bs e = number_leaves at false (b ∷ bs) (suc (length bs)) (drop_less _ b bs (run-first is_ascii_digit b bs (digit_is_digit b e)))
 token_leaves class.Minus at b bs e = refused_or (λ x. (length x.1 < suc (length bs)) × (is_end x.0 ≡ false)) _ _ (number_at at true bs) (number_leaves at true bs (suc (length bs)) (drop_le _ bs))
+token_leaves class.Quote at b bs e = quoted_leaves at bs
 token_leaves class.Refused at b bs e = tt
 token_leaves class.Unknown at b bs e = tt
 
@@ -88,7 +97,7 @@ first_of end depth n (b ∷ bs) le =
 
 pub token_is_first : (end depth : ℕ) (bytes : List ℕ) → IfOk (token_from end depth bytes) (IsFirst end (length bytes))
 unfolding token_from
-token_is_first end depth bytes = first_of end depth (length bytes) (after_blanks bytes) (after_blanks-short bytes)
+token_is_first end depth bytes = first_of end depth (length bytes) (after_gap false bytes) (length_after_gap false bytes)
 
 -- the tokens after the first matter only where there are any
 same_after : (end n : ℕ) (r : Result (Located × ℕ × List ℕ) ConfigFault) (f g : ℕ → List ℕ → Stream) → IfOk r (IsFirst end n) → ((depth : ℕ) (bytes : List ℕ) → length bytes < n → f depth bytes ≡ g depth bytes) → and_then r f ≡ and_then r g

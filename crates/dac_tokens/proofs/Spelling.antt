@@ -1,5 +1,5 @@
 -- One token: what is read is spelled so, and what is spelled so is read.
-use Rattle.std.proofs.Common.{◌≡◌, ◌≢◌, inl, ℕ, zero, suc, ◌<◌, ◌≤◌, Bool, true, false, cond, eqb, List, [], ◌∷◌, ◌++◌, length, take, drop, Result, Ok, Err, refl, sym, ap, subst, ◌∙◌, arith}
+use Rattle.std.proofs.Common.{◌≡◌, ◌≢◌, inl, inr, ℕ, zero, suc, ◌<◌, ◌≤◌, Bool, true, false, cond, eqb, List, [], ◌∷◌, ◌++◌, length, take, drop, Result, Ok, Err, refl, sym, ap, subst, ◌∙◌, arith, append_assoc}
 use Rattle.std.specs.Prelude.{IfOk, All, codes}
 use Rattle.std.specs.Char.{is_ascii_digit, IsAsciiDigit, IsAsciiLowercase}
 use Rattle.std.proofs.lemmas.Bool.Decides.{nat_tests}
@@ -11,18 +11,18 @@ use Rattle.dac_tokens.specs.declared.token.Class.TheVariants as class
 use Rattle.dac_tokens.specs.declared.token.Symbol.{Symbol}
 use Rattle.dac_tokens.specs.declared.token.Symbol.TheVariants.{OpenList, CloseList, OpenTuple, CloseTuple, Comma, FullStop}
 use Rattle.dac_tokens.specs.Words.{Word, Mark, Name, Number, Text, End, is_end}
-use Rattle.dac_tokens.specs.Scan.{class_of, is_name_byte, is_fun, run, ends_stop, breaks_number, bad_token, unsupported, atom_at, number_at, token_of, word_at}
-use Rattle.dac_tokens.specs.TokenGrammar.{IsBlank, IsNameByte, Begins, IsBareAtom, IsDigits, IsSpelledBy, GoesOnAsNumber, MayFollow}
-use Rattle.dac_tokens.proofs.Bytes.{tells_digit, tells_name_byte, tells_letter, letter_class, digit_class, tells_minus, tells_dot, tells_comma, tells_bracket, no_stop_bracket, tells_stop, tells_break, no_break}
+use Rattle.dac_tokens.specs.Scan.{class_of, is_name_byte, is_fun, run, ends_stop, breaks_number, bad_token, unsupported, atom_at, number_at, quoted_at, token_of, word_at}
+use Rattle.dac_tokens.specs.TokenGrammar.{StartsGap, IsNameByte, Begins, IsBareAtom, IsQuotable, IsDigits, IsNumber, GoesOnAsNumber, IsBare, IsQuoted, Spells}
+use Rattle.dac_tokens.proofs.Bytes.{tells_digit, tells_name_byte, tells_letter, letter_class, digit_class, tells_minus, tells_quote, tells_dot, tells_comma, tells_bracket, no_stop_bracket, tells_stop, tells_break, no_break}
+use Rattle.dac_tokens.proofs.Quotes.{FoundQuoted, quoted_found, quoted_read}
 use Rattle.dac_tokens.proofs.Runs.{true_false, all_first, run_passes, run_stops, run_of, taken_run, dropped_run, taken_length}
 use Rattle.dac_tokens.proofs.Shorter.{run-first, letter_is_name, digit_is_digit}
 
--- bytes without blanks before them: those of a token, and what may stand behind it
+-- bytes without a gap before them: those of a token, and the rest behind it
 pub record IsToken (bytes : List ℕ) (w : Word) (rest : List ℕ) : Type 0 where
   pub own : List ℕ
   pub parts : bytes ≡ own ++ rest
-  pub spelled : IsSpelledBy w own
-  pub follows : MayFollow w rest
+  pub spelled : Spells w own rest
 
 pub suc_not_zero : (n : ℕ) → eqb (suc n) 0 ≡ false
 suc_not_zero n = grind (arith, nat_tests)
@@ -66,13 +66,13 @@ number_found : (at : ℕ) (bs : List ℕ) → 0 < run is_ascii_digit bs → IfOk
 number_found at bs lt =
     let n = run is_ascii_digit bs in
     accepted (λ x. IsToken bs x.0 x.1) (breaks_number (drop n bs)) _ (Number false (take n bs), drop n bs)
-    (λ e. record { own = take n bs; parts = sym (take-append-drop n bs); spelled = (refl, digits_of_run bs lt); follows = number_follows bs e })
+    (λ e. record { own = take n bs; parts = sym (take-append-drop n bs); spelled = ((refl, digits_of_run bs lt), number_follows bs e) })
 
 negative_found : (at : ℕ) (bs : List ℕ) → 0 < run is_ascii_digit bs → IfOk (number_at at true bs) (λ x. IsToken (45 ∷ bs) x.0 x.1)
 negative_found at bs lt =
     let n = run is_ascii_digit bs in
     accepted (λ x. IsToken (45 ∷ bs) x.0 x.1) (breaks_number (drop n bs)) _ (Number true (take n bs), drop n bs)
-    (λ e. record { own = 45 ∷ take n bs; parts = ap (λ (xs : List ℕ). 45 ∷ xs) (sym (take-append-drop n bs)); spelled = (refl, digits_of_run bs lt); follows = number_follows bs e })
+    (λ e. record { own = 45 ∷ take n bs; parts = ap (λ (xs : List ℕ). 45 ∷ xs) (sym (take-append-drop n bs)); spelled = ((refl, digits_of_run bs lt), number_follows bs e) })
 
 minus_found : (at b : ℕ) (bs : List ℕ) → b ≡ 45 → IfOk (token_of class.Minus at b bs) (λ x. IsToken (b ∷ bs) x.0 x.1)
 minus_found at b bs e = rw e (by (run is_ascii_digit bs) refl)
@@ -89,39 +89,53 @@ atom_found at b bs e =
     (λ no_fun. record {
       own = name;
       parts = sym (take-append-drop n (b ∷ bs));
-      spelled = (
+      spelled = inl (
         refl,
         record {
           begins = begins_taken IsAsciiLowercase n b bs (run-first is_name_byte b bs (letter_is_name b e)) (tells_letter b e);
           goes_on = run_passes is_name_byte IsNameByte tells_name_byte (b ∷ bs);
           no_fun = λ same. true_false (sym ((bytes_eq-Decides name (codes "fun")).1 same) ∙ no_fun);
         },
+        run_stops is_name_byte IsNameByte tells_name_byte (b ∷ bs),
       );
-      follows = run_stops is_name_byte IsNameByte tells_name_byte (b ∷ bs);
     })
 
-bracket_follows : (symbol : Symbol) (b : ℕ) (bs : List ℕ) → class_of b ≡ class.Bracket symbol → MayFollow (Mark symbol) bs
-bracket_follows OpenList b bs e = tt
-bracket_follows CloseList b bs e = tt
-bracket_follows OpenTuple b bs e = tt
-bracket_follows CloseTuple b bs e = tt
-bracket_follows Comma b bs e = tt
-bracket_follows FullStop b bs e = absurd (no_stop_bracket b e)
+bracket_spelled : (symbol : Symbol) (b : ℕ) (bs : List ℕ) → class_of b ≡ class.Bracket symbol → Spells (Mark symbol) (b ∷ []) bs
+bracket_spelled OpenList b bs e = tells_bracket OpenList b e
+bracket_spelled CloseList b bs e = tells_bracket CloseList b e
+bracket_spelled OpenTuple b bs e = tells_bracket OpenTuple b e
+bracket_spelled CloseTuple b bs e = tells_bracket CloseTuple b e
+bracket_spelled Comma b bs e = tells_bracket Comma b e
+bracket_spelled FullStop b bs e = absurd (no_stop_bracket b e)
 
 stop_found : (at b : ℕ) (bs : List ℕ) → b ≡ 46 → IfOk (token_of class.Dot at b bs) (λ x. IsToken (b ∷ bs) x.0 x.1)
 stop_found at b bs e = by (ends_stop bs) refl
   where
     by : (c : Bool) → ends_stop bs ≡ c → GivesToken (b ∷ bs) (stop_if at bs c)
-    by true s = record { own = b ∷ []; parts = refl; spelled = ap (λ (k : ℕ). k ∷ []) e; follows = (tells_stop bs).0 s }
+    by true s = record { own = b ∷ []; parts = refl; spelled = (ap (λ (k : ℕ). k ∷ []) e, (tells_stop bs).0 s) }
     by false s = tt
 
+quote_found : (at b : ℕ) (bs : List ℕ) → b ≡ 39 → GivesToken (b ∷ bs) (quoted_at at bs)
+quote_found at b bs e = by (quoted_at at bs) (quoted_found at bs)
+  where
+    by : (r : Result (Word × List ℕ) ConfigFault) → FoundQuoted at bs r → GivesToken (b ∷ bs) r
+    by (Ok x) (name, parts, all, is) =
+        let quoted : Spells (Name name) (39 ∷ (name ++ 39 ∷ [])) x.1 = inr (refl, all) in
+        record {
+          own = 39 ∷ (name ++ 39 ∷ []);
+          parts = ap (λ (k : ℕ). k ∷ bs) e ∙ ap (λ (xs : List ℕ). 39 ∷ xs) (parts ∙ sym (append_assoc name (39 ∷ []) x.1));
+          spelled = subst (λ (w : Word). Spells w (39 ∷ (name ++ 39 ∷ [])) x.1) (sym is) quoted;
+        }
+    by (Err e) found = tt
+
 pub token_found : (c : Class) (at b : ℕ) (bs : List ℕ) → class_of b ≡ c → IfOk (token_of c at b bs) (λ x. IsToken (b ∷ bs) x.0 x.1)
-token_found (class.Bracket symbol) at b bs e = record { own = b ∷ []; parts = refl; spelled = tells_bracket symbol b e; follows = bracket_follows symbol b bs e }
-token_found class.Comma at b bs e = record { own = b ∷ []; parts = refl; spelled = ap (λ (k : ℕ). k ∷ []) (tells_comma b e); follows = tt }
+token_found (class.Bracket symbol) at b bs e = record { own = b ∷ []; parts = refl; spelled = bracket_spelled symbol b bs e }
+token_found class.Comma at b bs e = record { own = b ∷ []; parts = refl; spelled = ap (λ (k : ℕ). k ∷ []) (tells_comma b e) }
 token_found class.Dot at b bs e = stop_found at b bs (tells_dot b e)
 token_found class.Letter at b bs e = atom_found at b bs e
 token_found class.Digit at b bs e = number_found at (b ∷ bs) (run-first is_ascii_digit b bs (digit_is_digit b e))
 token_found class.Minus at b bs e = minus_found at b bs (tells_minus b e)
+token_found class.Quote at b bs e = quote_found at b bs (tells_quote b e)
 token_found class.Refused at b bs e = tt
 token_found class.Unknown at b bs e = tt
 
@@ -154,60 +168,83 @@ negative_read at (d ∷ ds) rest are stops =
     ∙ ap (negative_if at ((d ∷ ds) ++ rest)) (suc_not_zero (length ds))
     ∙ number_read at true (d ∷ ds) rest are stops
 
--- what is spelled so is read
-pub token_read : (w : Word) (at : ℕ) (own rest : List ℕ) → IsSpelledBy w own → MayFollow w rest → word_at at (own ++ rest) ≡ Ok (w, rest)
+bare_read : (at : ℕ) (name own rest : List ℕ) → IsBare name own rest → word_at at (own ++ rest) ≡ Ok (Name name, rest)
 unfolding word_at
-token_read (Mark OpenList) at own rest spelled follows = rw spelled refl
-token_read (Mark CloseList) at own rest spelled follows = rw spelled refl
-token_read (Mark OpenTuple) at own rest spelled follows = rw spelled refl
-token_read (Mark CloseTuple) at own rest spelled follows = rw spelled refl
-token_read (Mark Comma) at own rest spelled follows = rw spelled refl
-token_read (Mark FullStop) at own rest spelled follows = rw spelled (ap (stop_if at rest) ((tells_stop rest).1 follows))
-token_read (Name []) at own rest spelled follows = absurd spelled.1.begins
-token_read (Name (b ∷ more)) at own rest spelled follows = rw spelled.0 (ap (λ (c : Class). token_of c at b (more ++ rest)) (letter_class b spelled.1.begins) ∙ atom_read at (b ∷ more) rest spelled.1 follows)
-token_read (Number false []) at own rest spelled follows = absurd spelled.1.begins
-token_read (Number false (d ∷ ds)) at own rest spelled follows = rw spelled.0 (ap (λ (c : Class). token_of c at d (ds ++ rest)) (digit_class d spelled.1.begins) ∙ number_read at false (d ∷ ds) rest spelled.1 follows)
-token_read (Number true digits) at own rest spelled follows = rw spelled.0 (negative_read at digits rest spelled.1 follows)
-token_read Text at own rest spelled follows = absurd spelled
-token_read End at own rest spelled follows = absurd spelled
+bare_read at [] own rest bare = absurd bare.1.begins
+bare_read at (b ∷ more) own rest bare = rw bare.0 (ap (λ (c : Class). token_of c at b (more ++ rest)) (letter_class b bare.1.begins) ∙ atom_read at (b ∷ more) rest bare.1 bare.2)
 
--- a token has a byte of its own, and its first is no blank
-pub own_some : (w : Word) (own : List ℕ) → IsSpelledBy w own → 0 < length own
-own_some (Mark OpenList) own spelled = rw spelled (omega arith)
-own_some (Mark CloseList) own spelled = rw spelled (omega arith)
-own_some (Mark OpenTuple) own spelled = rw spelled (omega arith)
-own_some (Mark CloseTuple) own spelled = rw spelled (omega arith)
-own_some (Mark Comma) own spelled = rw spelled (omega arith)
-own_some (Mark FullStop) own spelled = rw spelled (omega arith)
-own_some (Name []) own spelled = absurd spelled.1.begins
-own_some (Name (b ∷ more)) own spelled = rw spelled.0 (omega arith)
-own_some (Number false []) own spelled = absurd spelled.1.begins
-own_some (Number false (d ∷ ds)) own spelled = rw spelled.0 (omega arith)
-own_some (Number true digits) own spelled = rw spelled.0 (omega arith)
-own_some Text own spelled = absurd spelled
-own_some End own spelled = absurd spelled
+quotes_read : (at : ℕ) (name own rest : List ℕ) → IsQuoted name own → word_at at (own ++ rest) ≡ Ok (Name name, rest)
+unfolding word_at
+quotes_read at name own rest quoted = rw quoted.0 (ap (quoted_at at) (append_assoc name (39 ∷ []) rest) ∙ quoted_read at name rest quoted.1)
 
-small : {A : Type 0} (n : ℕ) → 33 ≤ n → n ≤ 32 → A
-small n le lu = absurd (omega arith)
+digits_read : (negative : Bool) (at : ℕ) (digits own rest : List ℕ) → IsNumber negative digits own → (GoesOnAsNumber rest → ⊥) → word_at at (own ++ rest) ≡ Ok (Number negative digits, rest)
+unfolding word_at
+digits_read false at [] own rest spelled stops = absurd spelled.1.begins
+digits_read false at (d ∷ ds) own rest spelled stops = rw spelled.0 (ap (λ (c : Class). token_of c at d (ds ++ rest)) (digit_class d spelled.1.begins) ∙ number_read at false (d ∷ ds) rest spelled.1 stops)
+digits_read true at digits own rest spelled stops = rw spelled.0 (negative_read at digits rest spelled.1 stops)
 
-pub no_blank : (w : Word) (own rest : List ℕ) → IsSpelledBy w own → Begins IsBlank (own ++ rest) → ⊥
-no_blank (Mark OpenList) own rest spelled h = small 91 (omega arith) (rw spelled at h)
-no_blank (Mark CloseList) own rest spelled h = small 93 (omega arith) (rw spelled at h)
-no_blank (Mark OpenTuple) own rest spelled h = small 123 (omega arith) (rw spelled at h)
-no_blank (Mark CloseTuple) own rest spelled h = small 125 (omega arith) (rw spelled at h)
-no_blank (Mark Comma) own rest spelled h = small 44 (omega arith) (rw spelled at h)
-no_blank (Mark FullStop) own rest spelled h = small 46 (omega arith) (rw spelled at h)
-no_blank (Name []) own rest spelled h = spelled.1.begins
-no_blank (Name (b ∷ more)) own rest spelled h = let low : 97 ≤ b = spelled.1.begins.0 in small b (omega arith) (rw spelled.0 at h)
-no_blank (Number false []) own rest spelled h = spelled.1.begins
-no_blank (Number false (d ∷ ds)) own rest spelled h = let low : 48 ≤ d = spelled.1.begins.0 in small d (omega arith) (rw spelled.0 at h)
-no_blank (Number true digits) own rest spelled h = small 45 (omega arith) (rw spelled.0 at h)
-no_blank Text own rest spelled h = spelled
-no_blank End own rest spelled h = spelled
+-- what is spelled so is read
+pub token_read : (w : Word) (at : ℕ) (own rest : List ℕ) → Spells w own rest → word_at at (own ++ rest) ≡ Ok (w, rest)
+unfolding word_at
+token_read (Mark OpenList) at own rest spelled = rw spelled refl
+token_read (Mark CloseList) at own rest spelled = rw spelled refl
+token_read (Mark OpenTuple) at own rest spelled = rw spelled refl
+token_read (Mark CloseTuple) at own rest spelled = rw spelled refl
+token_read (Mark Comma) at own rest spelled = rw spelled refl
+token_read (Mark FullStop) at own rest spelled = rw spelled.0 (ap (stop_if at rest) ((tells_stop rest).1 spelled.1))
+token_read (Name name) at own rest (inl bare) = bare_read at name own rest bare
+token_read (Name name) at own rest (inr quoted) = quotes_read at name own rest quoted
+token_read (Number negative digits) at own rest spelled = digits_read negative at digits own rest spelled.0 spelled.1
+token_read Text at own rest spelled = absurd spelled
+token_read End at own rest spelled = absurd spelled
 
-pub no_end : (w : Word) (own : List ℕ) → IsSpelledBy w own → is_end w ≡ false
-no_end (Mark symbol) own spelled = refl
-no_end (Name name) own spelled = refl
-no_end (Number negative digits) own spelled = refl
-no_end Text own spelled = refl
-no_end End own spelled = absurd spelled
+-- bytes of which the first is no gap's
+abbrev NoGap : List ℕ → Type 0
+NoGap own = (0 < length own) × ((rest : List ℕ) → Begins StartsGap (own ++ rest) → ⊥)
+
+-- above a percent sign no gap begins
+pub high : {A : Type 0} (n : ℕ) → 38 ≤ n → StartsGap n → A
+high n le (inl blank) = absurd (omega arith)
+high n le (inr is) = absurd (omega arith)
+
+begins_high : (own : List ℕ) (n : ℕ) (more : List ℕ) → 38 ≤ n → own ≡ n ∷ more → NoGap own
+begins_high own n more le is = rw is (omega arith, λ rest g. high n le g)
+
+number_no_gap : (negative : Bool) (digits own : List ℕ) → IsNumber negative digits own → NoGap own
+number_no_gap false [] own spelled = absurd spelled.1.begins
+number_no_gap false (d ∷ ds) own spelled = let low : 48 ≤ d = spelled.1.begins.0 in begins_high own d ds (omega arith) spelled.0
+number_no_gap true digits own spelled = begins_high own 45 digits (omega arith) spelled.0
+
+bare_no_gap : (name own rest : List ℕ) → IsBare name own rest → NoGap own
+bare_no_gap [] own rest bare = absurd bare.1.begins
+bare_no_gap (b ∷ more) own rest bare = let low : 97 ≤ b = bare.1.begins.0 in begins_high own b more (omega arith) bare.0
+
+-- a token has a byte of its own, and its first begins no gap
+spelled_no_gap : (w : Word) (own rest : List ℕ) → Spells w own rest → NoGap own
+spelled_no_gap (Mark OpenList) own rest spelled = begins_high own 91 [] (omega arith) spelled
+spelled_no_gap (Mark CloseList) own rest spelled = begins_high own 93 [] (omega arith) spelled
+spelled_no_gap (Mark OpenTuple) own rest spelled = begins_high own 123 [] (omega arith) spelled
+spelled_no_gap (Mark CloseTuple) own rest spelled = begins_high own 125 [] (omega arith) spelled
+spelled_no_gap (Mark Comma) own rest spelled = begins_high own 44 [] (omega arith) spelled
+spelled_no_gap (Mark FullStop) own rest spelled = begins_high own 46 [] (omega arith) spelled.0
+spelled_no_gap (Name name) own rest (inl bare) = bare_no_gap name own rest bare
+spelled_no_gap (Name name) own rest (inr quoted) = begins_high own 39 (name ++ 39 ∷ []) (omega arith) quoted.0
+spelled_no_gap (Number negative digits) own rest spelled = number_no_gap negative digits own spelled.0
+spelled_no_gap Text own rest spelled = absurd spelled
+spelled_no_gap End own rest spelled = absurd spelled
+
+pub own_some : (w : Word) (own rest : List ℕ) → Spells w own rest → 0 < length own
+own_some w own rest spelled = (spelled_no_gap w own rest spelled).0
+
+pub no_gap : (w : Word) (own rest : List ℕ) → Spells w own rest → Begins StartsGap (own ++ rest) → ⊥
+no_gap w own rest spelled = (spelled_no_gap w own rest spelled).1 rest
+
+pub digits_no_gap : (negative : Bool) (digits own rest : List ℕ) → IsNumber negative digits own → Begins StartsGap (own ++ rest) → ⊥
+digits_no_gap negative digits own rest spelled = (number_no_gap negative digits own spelled).1 rest
+
+pub no_end : (w : Word) (own rest : List ℕ) → Spells w own rest → is_end w ≡ false
+no_end (Mark symbol) own rest spelled = refl
+no_end (Name name) own rest spelled = refl
+no_end (Number negative digits) own rest spelled = refl
+no_end Text own rest spelled = refl
+no_end End own rest spelled = absurd spelled

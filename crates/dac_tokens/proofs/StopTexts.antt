@@ -5,15 +5,14 @@ use Rattle.std.proofs.lemmas.List.{take-append-drop}
 use Rattle.dac_tokens.specs.declared.fault.ConfigFault.{ConfigFault}
 use Rattle.dac_tokens.specs.Gives.{◌>>=◌}
 use Rattle.dac_tokens.specs.Words.{is_end, Located}
-use Rattle.dac_tokens.specs.Scan.{is_blank, after_blanks, class_of, run, token_of, word_at}
+use Rattle.dac_tokens.specs.Scan.{after_gap, class_of, token_of, word_at}
 use Rattle.dac_tokens.specs.Stream.{Stream, depth_after, token_from, and_then, tokens_within, tokens_of, stopped}
-use Rattle.dac_tokens.specs.TokenGrammar.{IsBlank, Begins, IsNextToken, depth_behind}
+use Rattle.dac_tokens.specs.TokenGrammar.{StartsGap, Begins, IsNextToken, depth_behind}
 use Rattle.dac_tokens.specs.TokenFaults.{IsFaultAt, StopAt}
-use Rattle.dac_tokens.proofs.Bytes.{tells_blank}
-use Rattle.dac_tokens.proofs.Runs.{run_passes, run_stops, dropped_run}
+use Rattle.dac_tokens.proofs.Gaps.{IsPassed, gap_before, gap_read}
 use Rattle.dac_tokens.proofs.Shorter.{IsFirst, token_is_first, any}
 use Rattle.dac_tokens.proofs.Spelling.{IsToken, token_found, own_some, no_end}
-use Rattle.dac_tokens.proofs.Stops.{StopsThere, fault_found, depth_stops, stop_read, no_blank_stop}
+use Rattle.dac_tokens.proofs.Stops.{StopsThere, fault_found, depth_stops, stop_read, no_gap_stop}
 use Rattle.dac_tokens.proofs.Texts.{IsRead, IsStep, step, first_found, first_read}
 
 then_if_err : {A B : Type 0} (P : A → Type 0) (Q : ConfigFault → Type 0) (r : Result A ConfigFault) (f : A → Result B ConfigFault) → IfOk r P → IfErr r Q → ((x : A) → P x → IfErr (f x) Q) → IfErr (r >>= f) Q
@@ -24,35 +23,35 @@ if_err_weaker : {A : Type 0} (P Q : ConfigFault → Type 0) (r : Result A Config
 if_err_weaker P Q (Ok x) f h = tt
 if_err_weaker P Q (Err e) f h = f e h
 
-step_stops : (at end depth : ℕ) (bytes blanks rest : List ℕ) → bytes ≡ blanks ++ rest → All IsBlank blanks → (Begins IsBlank rest → ⊥) → at + length bytes ≡ end → IfErr (step end depth (end - length rest) rest) (IsFaultAt at depth bytes)
+step_stops : (at end depth : ℕ) (bytes rest : List ℕ) → after_gap false bytes ≡ rest → at + length bytes ≡ end → IfErr (step end depth (end - length rest) rest) (IsFaultAt at depth bytes)
 unfolding word_at
-step_stops at end depth bytes blanks [] parts all stops whole = tt
-step_stops at end depth bytes blanks (b ∷ bs) parts all stops whole =
+step_stops at end depth bytes [] left whole = tt
+step_stops at end depth bytes (b ∷ bs) left whole =
     let place = end - length (b ∷ bs) in
+    let passed : IsPassed bytes (b ∷ bs) = gap_before bytes b bs left in
     let there : (e : ConfigFault) → StopsThere place depth (b ∷ bs) e → IsFaultAt at depth bytes e = λ e h.
-    (let size = ap length parts ∙ length-append blanks (b ∷ bs) in
-    record { blanks = blanks; rest = b ∷ bs; parts = parts; blank = all; place = omega (arith, size, whole, h.0); fault = h.1 }) in
+    (let size = ap length passed.parts ∙ length-append passed.gap (b ∷ bs) in
+    record { gap = passed.gap; rest = b ∷ bs; parts = passed.parts; is_gap = passed.is_gap; behind = h.0; place = omega (arith, size, whole, h.1); fault = h.2 }) in
     then_if_err (λ x. IsToken (b ∷ bs) x.0 x.1) (IsFaultAt at depth bytes) (token_of (class_of b) place b bs) _ (token_found (class_of b) place b bs refl)
-    (if_err_weaker (StopsThere place depth (b ∷ bs)) (IsFaultAt at depth bytes) (token_of (class_of b) place b bs) there (fault_found (class_of b) place depth b bs stops refl))
+    (if_err_weaker (StopsThere place depth (b ∷ bs)) (IsFaultAt at depth bytes) (token_of (class_of b) place b bs) there (fault_found (class_of b) place depth b bs passed.stops refl))
     (λ word h. then_if_err (λ _. Unit {0}) (IsFaultAt at depth bytes) (depth_after place depth word.0) _ (any (depth_after place depth word.0))
     (if_err_weaker (StopsThere place depth (b ∷ bs)) (IsFaultAt at depth bytes) (depth_after place depth word.0) there (depth_stops place depth (b ∷ bs) word.0 word.1 h))
     (λ after _. tt))
 
 first_stops : (at end depth : ℕ) (bytes : List ℕ) → at + length bytes ≡ end → IfErr (token_from end depth bytes) (IsFaultAt at depth bytes)
 unfolding token_from
-first_stops at end depth bytes whole =
-    let n = run is_blank bytes in
-    step_stops at end depth bytes (take n bytes) (drop n bytes) (sym (take-append-drop n bytes)) (run_passes is_blank IsBlank tells_blank bytes) (run_stops is_blank IsBlank tells_blank bytes) whole
+first_stops at end depth bytes whole = step_stops at end depth bytes (after_gap false bytes) refl whole
 
 first_fault : (at end depth : ℕ) (bytes : List ℕ) (e : ConfigFault) → IsFaultAt at depth bytes e → at + length bytes ≡ end → token_from end depth bytes ≡ Err e
 unfolding token_from
 first_fault at end depth bytes e h whole =
-    let left : after_blanks bytes ≡ h.rest = rw h.parts (dropped_run is_blank IsBlank tells_blank h.blanks h.rest h.blank (no_blank_stop depth h.rest e.kind h.fault)) in
-    let size = ap length h.parts ∙ length-append h.blanks h.rest in
-    let place : end - length h.rest ≡ e.at = omega (arith, size, whole, h.place) in
+    let left : after_gap false bytes ≡ h.rest = rw h.parts (gap_read h.gap h.rest h.is_gap (no_gap_stop depth h.rest h.behind e.kind h.fault)) in
+    let size = ap length h.parts ∙ length-append h.gap h.rest in
+    let at' = end - length h.rest in
+    let place : at' + h.behind ≡ e.at = omega (arith, size, whole, h.place) in
     ap (λ (r : List ℕ). step end depth (end - length r) r) left
-    ∙ ap (λ (k : ℕ). step end depth k h.rest) place
-    ∙ stop_read e.at depth (λ word after. Ok (record { word = word.0; at = e.at }, after, word.1)) h.rest e.kind h.fault
+    ∙ stop_read at' depth (λ word after. Ok (record { word = word.0; at = at' }, after, word.1)) h.rest h.behind e.kind h.fault
+    ∙ ap (λ (k : ℕ). Err (record { kind = e.kind; at = k })) place
 
 abbrev IfStops : ℕ → ℕ → List ℕ → Stream → Type 0
 IfStops at depth bytes s = IfErr s.last (λ e. StopAt at depth bytes s.tokens e)
@@ -87,13 +86,13 @@ within_fault (t ∷ ts) (suc n) at end depth bytes e lt whole stop =
     let own = stop.0 in
     let rest = stop.1 in
     let next : IsNextToken at bytes t own rest = stop.2 in
-    let size = ap length next.parts ∙ length-append next.blanks (own ++ rest) in
+    let size = ap length next.parts ∙ length-append next.gap (own ++ rest) in
     let inner = length-append own rest in
-    let some = own_some t.word own next.spelled in
+    let some = own_some t.word own rest next.spelled in
     let more : tokens_within n end (depth_behind depth t.word) rest ≡ stopped ts e = within_fault ts n (t.at + length own) end (depth_behind depth t.word) rest e (omega (arith, size, inner, some)) (omega (arith, size, inner, next.place, whole)) stop.4 in
     let joined : Stream → Bool → Stream = λ s c. cond c (record { tokens = []; last = Ok t }) (record { tokens = t ∷ s.tokens; last = s.last }) in
     ap (λ (r : Result (Located × ℕ × List ℕ) ConfigFault). and_then r (tokens_within n end)) (first_read at end depth bytes t own rest next whole stop.3)
-    ∙ ap (joined (tokens_within n end (depth_behind depth t.word) rest)) (no_end t.word own next.spelled)
+    ∙ ap (joined (tokens_within n end (depth_behind depth t.word) rest)) (no_end t.word own rest next.spelled)
     ∙ ap (λ (s : Stream). joined s false) more
 
 stop_found : (text : List ℕ) (ts : List Located) (e : ConfigFault) → tokens_of (length text) 0 text ≡ stopped ts e → StopAt 0 0 text ts e

@@ -1,5 +1,5 @@
 -- One fault: where reading stops no token begins, and where no token begins reading stops.
-use Rattle.std.proofs.Common.{◌≡◌, inl, inr, ℕ, zero, suc, ◌+◌, ◌<◌, ◌≤◌, Bool, true, false, cond, eqb, leb, List, [], ◌∷◌, ◌++◌, length, take, drop, Result, Ok, Err, refl, sym, ap, ◌∙◌, arith}
+use Rattle.std.proofs.Common.{◌≡◌, inl, inr, ℕ, zero, suc, ◌+◌, ◌<◌, ◌≤◌, Bool, true, false, cond, eqb, leb, List, [], ◌∷◌, ◌++◌, length, take, drop, Result, Ok, Err, refl, sym, ap, subst, ◌∙◌, arith}
 use Rattle.std.specs.Prelude.{IfErr, All, codes}
 use Rattle.std.specs.Char.{is_ascii_digit, IsAsciiDigit}
 use Rattle.std.proofs.lemmas.Bool.{leb-true, le-leb}
@@ -16,14 +16,15 @@ use Rattle.dac_tokens.specs.declared.token.Symbol.{Symbol}
 use Rattle.dac_tokens.specs.declared.token.Symbol.TheVariants.{OpenList, CloseList, OpenTuple, CloseTuple, Comma, FullStop}
 use Rattle.dac_tokens.specs.Gives.{◌>>=◌}
 use Rattle.dac_tokens.specs.Words.{Word, Mark, Name, Number, Text, End, Located}
-use Rattle.dac_tokens.specs.Scan.{class_of, is_name_byte, is_fun, run, ends_stop, breaks_number, bad_token, unsupported, atom_at, number_at, token_of, word_at}
+use Rattle.dac_tokens.specs.Scan.{class_of, is_name_byte, is_fun, run, ends_stop, breaks_number, bad_token, unsupported, atom_at, number_at, quoted_at, token_of, word_at}
 use Rattle.dac_tokens.specs.Stream.{depth_after}
-use Rattle.dac_tokens.specs.TokenGrammar.{IsBlank, IsNameByte, Begins, IsDigits, bytes_of, IsSpelledBy, GoesOnAsNumber, MayFollow}
-use Rattle.dac_tokens.specs.TokenFaults.{IsOpening, IsRefused, IsUnknown, NoToken, LoneDot, LoneMinus, Unknown, Function, OtherNumber, Refused, TooDeep}
-use Rattle.dac_tokens.proofs.Bytes.{tells_digit, tells_name_byte, tells_letter, tells_digit_class, digit_class, tells_minus, tells_dot, tells_comma, tells_bracket, tells_stop}
+use Rattle.dac_tokens.specs.TokenGrammar.{StartsGap, IsNameByte, Begins, IsQuotable, IsUnquotable, IsDigits, IsNumber, bytes_of, GoesOnAsNumber, EndsTerm}
+use Rattle.dac_tokens.specs.TokenFaults.{IsOpening, IsRefused, IsUnknown, NoToken, LoneDot, LoneMinus, Unknown, Function, OtherNumber, InQuotes, NoQuote, Refused, TooDeep}
+use Rattle.dac_tokens.proofs.Bytes.{tells_digit, tells_name_byte, tells_letter, tells_digit_class, digit_class, tells_minus, tells_quote, tells_dot, tells_comma, tells_bracket, tells_stop}
+use Rattle.dac_tokens.proofs.Quotes.{FoundQuoted, quoted_found, quoted_refused, quoted_open}
 use Rattle.dac_tokens.proofs.Runs.{true_false, run_stops, run_of, run_none, taken_run, dropped_run}
 use Rattle.dac_tokens.proofs.Shorter.{run-first, digit_is_digit}
-use Rattle.dac_tokens.proofs.Spelling.{IsToken, suc_not_zero, stop_if, atom_if, number_if, negative_if, digits_of_run, no_blank}
+use Rattle.dac_tokens.proofs.Spelling.{IsToken, suc_not_zero, stop_if, atom_if, number_if, negative_if, digits_of_run, high, digits_no_gap}
 
 goes_break : (rest : List ℕ) → (Begins IsAsciiDigit rest → ⊥) → GoesOnAsNumber rest → breaks_number rest ≡ true
 goes_break [] no_digit h = absurd h
@@ -49,9 +50,7 @@ refused_class b (inr (inr (inr (inl e)))) = rw e refl
 refused_class b (inr (inr (inr (inr (inl e))))) = rw e refl
 refused_class b (inr (inr (inr (inr (inr (inl e)))))) = rw e refl
 refused_class b (inr (inr (inr (inr (inr (inr (inl e))))))) = rw e refl
-refused_class b (inr (inr (inr (inr (inr (inr (inr (inl e)))))))) = rw e refl
-refused_class b (inr (inr (inr (inr (inr (inr (inr (inr (inl e))))))))) = rw e refl
-refused_class b (inr (inr (inr (inr (inr (inr (inr (inr (inr h))))))))) = past_ascii b h
+refused_class b (inr (inr (inr (inr (inr (inr (inr h))))))) = past_ascii b h
 
 -- a byte of no other class
 unknown_class : (b : ℕ) → IsUnknown b → class_of b ≡ class.Unknown
@@ -64,6 +63,7 @@ unknown_class b un = by (class_of b) refl
     by class.Letter e = absurd (un.no_letter (tells_letter b e))
     by class.Digit e = absurd (un.no_digit (tells_digit_class b e))
     by class.Minus e = absurd (un.no_minus (tells_minus b e))
+    by class.Quote e = absurd (un.no_quote (tells_quote b e))
     by class.Refused e = absurd (un.no_refused (tells_refused b e))
     by class.Unknown e = refl
 
@@ -75,13 +75,14 @@ is_unknown _ = false
 other_class : (b : ℕ) (c : Class) → class_of b ≡ class.Unknown → class_of b ≡ c → is_unknown c ≡ false → ⊥
 other_class b c e d other = true_false (ap is_unknown (sym e ∙ d) ∙ other)
 
-tells_unknown : (b : ℕ) → (IsBlank b → ⊥) → class_of b ≡ class.Unknown → IsUnknown b
-tells_unknown b no_blank e = record {
-  no_blank = no_blank;
+tells_unknown : (b : ℕ) → (StartsGap b → ⊥) → class_of b ≡ class.Unknown → IsUnknown b
+tells_unknown b no_start e = record {
+  no_gap = no_start;
   no_mark = λ symbol same. mark symbol same;
   no_letter = λ h. grind (arith, nat_tests);
   no_digit = λ h. grind (arith, nat_tests);
   no_minus = λ h. other_class b class.Minus e (rw h refl) refl;
+  no_quote = λ h. other_class b class.Quote e (rw h refl) refl;
   no_refused = λ h. other_class b class.Refused e (refused_class b h) refl;
 }
   where
@@ -96,15 +97,18 @@ tells_unknown b no_blank e = record {
     mark Comma same = other_class b class.Comma e (rw (head 44 same) refl) refl
     mark FullStop same = other_class b class.Dot e (rw (head 46 same) refl) refl
 
--- reading stops at `at`, and no token begins there
+-- no token begins at `at`, and reading stops at the fault
 abbrev pub StopsThere : ℕ → ℕ → List ℕ → ConfigFault → Type 0
-StopsThere at depth bytes e = (e.at ≡ at) × NoToken depth bytes e.kind
+StopsThere at depth bytes e = (behind : ℕ) × (e.at ≡ at + behind) × NoToken depth bytes behind e.kind
+
+here : (at depth : ℕ) (bytes : List ℕ) (kind : FaultKind) → NoToken depth bytes 0 kind → StopsThere at depth bytes (record { kind = kind; at = at })
+here at depth bytes kind h = (0, omega arith, h)
 
 abbrev IfStopped : {A : Type 0} → ℕ → ℕ → List ℕ → Result A ConfigFault → Type 0
 IfStopped at depth bytes r = IfErr r (λ e. StopsThere at depth bytes e)
 
-number_stops : (at depth : ℕ) (negative : Bool) (bytes bs : List ℕ) → (breaks_number (drop (run is_ascii_digit bs) bs) ≡ true → NoToken depth bytes Unsupported) → (c : Bool) → breaks_number (drop (run is_ascii_digit bs) bs) ≡ c → IfStopped at depth bytes (number_if at negative (take (run is_ascii_digit bs) bs) (drop (run is_ascii_digit bs) bs) c)
-number_stops at depth negative bytes bs stops true e = (refl, stops e)
+number_stops : (at depth : ℕ) (negative : Bool) (bytes bs : List ℕ) → (breaks_number (drop (run is_ascii_digit bs) bs) ≡ true → NoToken depth bytes 0 Unsupported) → (c : Bool) → breaks_number (drop (run is_ascii_digit bs) bs) ≡ c → IfStopped at depth bytes (number_if at negative (take (run is_ascii_digit bs) bs) (drop (run is_ascii_digit bs) bs) c)
+number_stops at depth negative bytes bs stops true e = here at depth bytes Unsupported (stops e)
 number_stops at depth negative bytes bs stops false e = tt
 
 plain_stops : (at depth b : ℕ) (bs : List ℕ) → class_of b ≡ class.Digit → IfStopped at depth (b ∷ bs) (number_at at false (b ∷ bs))
@@ -118,7 +122,7 @@ digit_runs [] h = absurd h
 digit_runs (b ∷ bs) h = run-first is_ascii_digit b bs ((tells_digit b).1 h)
 
 minus_stops : (at depth b : ℕ) (bs : List ℕ) → b ≡ 45 → (n : ℕ) → run is_ascii_digit bs ≡ n → (c : Bool) → eqb n 0 ≡ c → IfStopped at depth (b ∷ bs) (negative_if at bs c)
-minus_stops at depth b bs is zero e true z = (refl, LoneMinus bs (ap (λ (k : ℕ). k ∷ bs) is) (λ h. no_run (digit_runs bs h)))
+minus_stops at depth b bs is zero e true z = here at depth (b ∷ bs) BadToken (LoneMinus bs (ap (λ (k : ℕ). k ∷ bs) is) (λ h. no_run (digit_runs bs h)))
   where
     no_run : 0 < run is_ascii_digit bs → ⊥
     no_run lt = omega (arith, e)
@@ -131,27 +135,39 @@ minus_stops at depth b bs is (suc n) e false z =
 
 dot_stops : (at depth b : ℕ) (bs : List ℕ) → b ≡ 46 → (c : Bool) → ends_stop bs ≡ c → IfStopped at depth (b ∷ bs) (stop_if at bs c)
 dot_stops at depth b bs is true e = tt
-dot_stops at depth b bs is false e = (refl, LoneDot bs (ap (λ (k : ℕ). k ∷ bs) is) (λ m. true_false (sym ((tells_stop bs).1 m) ∙ e)))
+dot_stops at depth b bs is false e = here at depth (b ∷ bs) BadToken (LoneDot bs (ap (λ (k : ℕ). k ∷ bs) is) (λ m. true_false (sym ((tells_stop bs).1 m) ∙ e)))
 
 atom_stops : (at depth b : ℕ) (bs : List ℕ) (c : Bool) → is_fun (take (run is_name_byte (b ∷ bs)) (b ∷ bs)) ≡ c → IfStopped at depth (b ∷ bs) (atom_if at (take (run is_name_byte (b ∷ bs)) (b ∷ bs)) (drop (run is_name_byte (b ∷ bs)) (b ∷ bs)) c)
 atom_stops at depth b bs true e =
     let n = run is_name_byte (b ∷ bs) in
     let same : take n (b ∷ bs) ≡ codes "fun" = (bytes_eq-Decides (take n (b ∷ bs)) (codes "fun")).0 e in
-    (refl, Function (drop n (b ∷ bs)) (sym (take-append-drop n (b ∷ bs)) ∙ ap (λ (xs : List ℕ). xs ++ drop n (b ∷ bs)) same) (run_stops is_name_byte IsNameByte tells_name_byte (b ∷ bs)))
+    here at depth (b ∷ bs) Unsupported (Function (drop n (b ∷ bs)) (sym (take-append-drop n (b ∷ bs)) ∙ ap (λ (xs : List ℕ). xs ++ drop n (b ∷ bs)) same) (run_stops is_name_byte IsNameByte tells_name_byte (b ∷ bs)))
 atom_stops at depth b bs false e = tt
 
-pub fault_found : (c : Class) (at depth b : ℕ) (bs : List ℕ) → (IsBlank b → ⊥) → class_of b ≡ c → IfStopped at depth (b ∷ bs) (token_of c at b bs)
-fault_found (class.Bracket symbol) at depth b bs no_blank e = tt
-fault_found class.Comma at depth b bs no_blank e = tt
-fault_found class.Dot at depth b bs no_blank e = dot_stops at depth b bs (tells_dot b e) (ends_stop bs) refl
-fault_found class.Letter at depth b bs no_blank e = atom_stops at depth b bs (is_fun (take (run is_name_byte (b ∷ bs)) (b ∷ bs))) refl
-fault_found class.Digit at depth b bs no_blank e = plain_stops at depth b bs e
-fault_found class.Minus at depth b bs no_blank e = minus_stops at depth b bs (tells_minus b e) (run is_ascii_digit bs) refl (eqb (run is_ascii_digit bs) 0) refl
-fault_found class.Refused at depth b bs no_blank e = (refl, Refused (tells_refused b e))
-fault_found class.Unknown at depth b bs no_blank e = (refl, Unknown (tells_unknown b no_blank e))
+quote_stops : (at depth b : ℕ) (bs : List ℕ) → b ≡ 39 → IfStopped at depth (b ∷ bs) (quoted_at at bs)
+quote_stops at depth b bs is = by (quoted_at at bs) (quoted_found at bs)
+  where
+    begins : (rest : List ℕ) → bs ≡ rest → b ∷ bs ≡ 39 ∷ rest
+    begins rest e = ap (λ (k : ℕ). k ∷ bs) is ∙ ap (λ (xs : List ℕ). 39 ∷ xs) e
+
+    by : (r : Result (Word × List ℕ) ConfigFault) → FoundQuoted at bs r → IfStopped at depth (b ∷ bs) r
+    by (Ok x) found = tt
+    by (Err e) (inl (name, rest, parts, all, refused, e_is)) = subst (StopsThere at depth (b ∷ bs)) (sym e_is) (1 + length name, omega arith, InQuotes name rest (begins (name ++ rest) parts) all refused)
+    by (Err e) (inr (all, e_is)) = subst (StopsThere at depth (b ∷ bs)) (sym e_is) (here at depth (b ∷ bs) BadToken (NoQuote bs (begins bs refl) all))
+
+pub fault_found : (c : Class) (at depth b : ℕ) (bs : List ℕ) → (StartsGap b → ⊥) → class_of b ≡ c → IfStopped at depth (b ∷ bs) (token_of c at b bs)
+fault_found (class.Bracket symbol) at depth b bs no_start e = tt
+fault_found class.Comma at depth b bs no_start e = tt
+fault_found class.Dot at depth b bs no_start e = dot_stops at depth b bs (tells_dot b e) (ends_stop bs) refl
+fault_found class.Letter at depth b bs no_start e = atom_stops at depth b bs (is_fun (take (run is_name_byte (b ∷ bs)) (b ∷ bs))) refl
+fault_found class.Digit at depth b bs no_start e = plain_stops at depth b bs e
+fault_found class.Minus at depth b bs no_start e = minus_stops at depth b bs (tells_minus b e) (run is_ascii_digit bs) refl (eqb (run is_ascii_digit bs) 0) refl
+fault_found class.Quote at depth b bs no_start e = quote_stops at depth b bs (tells_quote b e)
+fault_found class.Refused at depth b bs no_start e = here at depth (b ∷ bs) Unsupported (Refused (tells_refused b e))
+fault_found class.Unknown at depth b bs no_start e = here at depth (b ∷ bs) BadToken (Unknown (tells_unknown b no_start e))
 
 too_deep : (at depth : ℕ) (bytes : List ℕ) → Begins IsOpening bytes → (c : Bool) → leb 64 depth ≡ c → IfStopped at depth bytes (cond c (unsupported {A = ℕ} at) (Ok (depth + 1)))
-too_deep at depth bytes begins true e = (refl, TooDeep (leb-true 64 depth e) begins)
+too_deep at depth bytes begins true e = here at depth bytes Unsupported (TooDeep (leb-true 64 depth e) begins)
 too_deep at depth bytes begins false e = tt
 
 opening_begins : (bytes own rest : List ℕ) (b : ℕ) → bytes ≡ own ++ rest → own ≡ b ∷ [] → IsOpening b → Begins IsOpening bytes
@@ -169,7 +185,7 @@ depth_stops at depth bytes (Number negative digits) rest t = tt
 depth_stops at depth bytes Text rest t = tt
 depth_stops at depth bytes End rest t = tt
 
-ends_false : (rest : List ℕ) → (MayFollow (Mark FullStop) rest → ⊥) → (c : Bool) → ends_stop rest ≡ c → c ≡ false
+ends_false : (rest : List ℕ) → (EndsTerm rest → ⊥) → (c : Bool) → ends_stop rest ≡ c → c ≡ false
 ends_false rest h true e = absurd (h ((tells_stop rest).0 e))
 ends_false rest h false e = refl
 
@@ -196,7 +212,7 @@ broken_minus at (d ∷ ds) rest are stops goes =
     ∙ ap (negative_if at ((d ∷ ds) ++ rest)) (suc_not_zero (length ds))
     ∙ broken_read at true (d ∷ ds) rest are stops goes
 
-number_refused : (negative : Bool) (at : ℕ) (digits own rest : List ℕ) → IsSpelledBy (Number negative digits) own → (Begins IsAsciiDigit rest → ⊥) → GoesOnAsNumber rest → word_at at (own ++ rest) ≡ unsupported at
+number_refused : (negative : Bool) (at : ℕ) (digits own rest : List ℕ) → IsNumber negative digits own → (Begins IsAsciiDigit rest → ⊥) → GoesOnAsNumber rest → word_at at (own ++ rest) ≡ unsupported at
 unfolding word_at
 number_refused false at [] own rest spelled stops goes = absurd spelled.1.begins
 number_refused false at (d ∷ ds) own rest spelled stops goes = rw spelled.0 (ap (λ (c : Class). token_of c at d (ds ++ rest)) (digit_class d spelled.1.begins) ∙ broken_read at false (d ∷ ds) rest spelled.1 stops goes)
@@ -211,7 +227,7 @@ begins_with : (P Q : ℕ → Type 0) (bytes : List ℕ) → ((b : ℕ) → P b �
 begins_with P Q [] f h = h
 begins_with P Q (b ∷ bs) f h = f b h
 
-dot_read : (at : ℕ) (rest : List ℕ) → (MayFollow (Mark FullStop) rest → ⊥) → word_at at (46 ∷ rest) ≡ bad_token at
+dot_read : (at : ℕ) (rest : List ℕ) → (EndsTerm rest → ⊥) → word_at at (46 ∷ rest) ≡ bad_token at
 unfolding word_at
 dot_read at rest h = ap (stop_if at rest) (ends_false rest h (ends_stop rest) refl)
 
@@ -230,8 +246,20 @@ one_with at depth f bytes = word_at at bytes >>= λ word. depth_after at depth w
 abbrev fault_at : ℕ → FaultKind → Result (Located × ℕ × List ℕ) ConfigFault
 fault_at at kind = Err (record { kind = kind; at = at })
 
-no_word : (at depth : ℕ) (f : Word × List ℕ → ℕ → Result (Located × ℕ × List ℕ) ConfigFault) (bytes : List ℕ) (kind : FaultKind) → word_at at bytes ≡ Err (record { kind = kind; at = at }) → one_with at depth f bytes ≡ fault_at at kind
-no_word at depth f bytes kind e = ap (λ (r : Result (Word × List ℕ) ConfigFault). r >>= λ word. depth_after at depth word.0 >>= λ after. f word after) e
+no_word : (at depth : ℕ) (f : Word × List ℕ → ℕ → Result (Located × ℕ × List ℕ) ConfigFault) (bytes : List ℕ) (place : ℕ) (kind : FaultKind) → word_at at bytes ≡ Err (record { kind = kind; at = place }) → one_with at depth f bytes ≡ fault_at place kind
+no_word at depth f bytes place kind e = ap (λ (r : Result (Word × List ℕ) ConfigFault). r >>= λ word. depth_after at depth word.0 >>= λ after. f word after) e
+
+-- a fault at the token's first byte
+at_first : (at depth : ℕ) (f : Word × List ℕ → ℕ → Result (Located × ℕ × List ℕ) ConfigFault) (bytes : List ℕ) (kind : FaultKind) → word_at at bytes ≡ Err (record { kind = kind; at = at }) → one_with at depth f bytes ≡ fault_at (at + 0) kind
+at_first at depth f bytes kind e = no_word at depth f bytes at kind e ∙ ap (λ (k : ℕ). fault_at k kind) (omega arith)
+
+name_refused : (at : ℕ) (name rest : List ℕ) → All IsQuotable name → Begins IsUnquotable rest → word_at at (39 ∷ (name ++ rest)) ≡ unsupported (at + (1 + length name))
+unfolding word_at
+name_refused at name rest all begins = quoted_refused at name rest all begins ∙ ap (λ (k : ℕ). unsupported k) (omega arith)
+
+name_open : (at : ℕ) (name : List ℕ) → All IsQuotable name → word_at at (39 ∷ name) ≡ bad_token at
+unfolding word_at
+name_open at name all = quoted_open at name all
 
 deep_read : (at depth : ℕ) (f : Word × List ℕ → ℕ → Result (Located × ℕ × List ℕ) ConfigFault) (bytes : List ℕ) → 64 ≤ depth → Begins IsOpening bytes → one_with at depth f bytes ≡ fault_at at Unsupported
 unfolding word_at
@@ -240,40 +268,42 @@ deep_read at depth f (b ∷ bs) le (inl e) = rw e (ap (λ (c : Bool). cond c (un
 deep_read at depth f (b ∷ bs) le (inr e) = rw e (ap (λ (c : Bool). cond c (unsupported {A = ℕ} at) (Ok (depth + 1)) >>= λ after. f (Mark OpenTuple, bs) after) (le-leb 64 depth le))
 
 -- where no token begins reading stops
-pub stop_read : (at depth : ℕ) (f : Word × List ℕ → ℕ → Result (Located × ℕ × List ℕ) ConfigFault) (bytes : List ℕ) (kind : FaultKind) → NoToken depth bytes kind → one_with at depth f bytes ≡ fault_at at kind
-stop_read at depth f bytes kind (LoneDot rest parts h) = no_word at depth f bytes BadToken (ap (word_at at) parts ∙ dot_read at rest h)
-stop_read at depth f bytes kind (LoneMinus rest parts h) = no_word at depth f bytes BadToken (ap (word_at at) parts ∙ minus_read at rest h)
-stop_read at depth f bytes kind (Unknown h) = no_word at depth f bytes BadToken (class_read class.Unknown at bytes (record { kind = BadToken; at = at }) (begins_with IsUnknown (λ b. class_of b ≡ class.Unknown) bytes unknown_class h) (λ b bs. refl))
-stop_read at depth f bytes kind (Function rest parts h) = no_word at depth f bytes Unsupported (ap (word_at at) parts ∙ function_read at rest h)
-stop_read at depth f bytes kind (OtherNumber negative digits own rest parts spelled h goes) = no_word at depth f bytes Unsupported (ap (word_at at) parts ∙ number_refused negative at digits own rest spelled h goes)
-stop_read at depth f bytes kind (Refused h) = no_word at depth f bytes Unsupported (class_read class.Refused at bytes (record { kind = Unsupported; at = at }) (begins_with IsRefused (λ b. class_of b ≡ class.Refused) bytes refused_class h) (λ b bs. refl))
-stop_read at depth f bytes kind (TooDeep le h) = deep_read at depth f bytes le h
+pub stop_read : (at depth : ℕ) (f : Word × List ℕ → ℕ → Result (Located × ℕ × List ℕ) ConfigFault) (bytes : List ℕ) (behind : ℕ) (kind : FaultKind) → NoToken depth bytes behind kind → one_with at depth f bytes ≡ fault_at (at + behind) kind
+stop_read at depth f bytes _ kind (LoneDot rest parts h) = at_first at depth f bytes BadToken (ap (word_at at) parts ∙ dot_read at rest h)
+stop_read at depth f bytes _ kind (LoneMinus rest parts h) = at_first at depth f bytes BadToken (ap (word_at at) parts ∙ minus_read at rest h)
+stop_read at depth f bytes _ kind (Unknown h) = at_first at depth f bytes BadToken (class_read class.Unknown at bytes (record { kind = BadToken; at = at }) (begins_with IsUnknown (λ b. class_of b ≡ class.Unknown) bytes unknown_class h) (λ b bs. refl))
+stop_read at depth f bytes _ kind (Function rest parts h) = at_first at depth f bytes Unsupported (ap (word_at at) parts ∙ function_read at rest h)
+stop_read at depth f bytes _ kind (OtherNumber negative digits own rest parts spelled h goes) = at_first at depth f bytes Unsupported (ap (word_at at) parts ∙ number_refused negative at digits own rest spelled h goes)
+stop_read at depth f bytes _ kind (InQuotes name rest parts all refused) = no_word at depth f bytes (at + (1 + length name)) Unsupported (ap (word_at at) parts ∙ name_refused at name rest all refused)
+stop_read at depth f bytes _ kind (NoQuote name parts all) = at_first at depth f bytes BadToken (ap (word_at at) parts ∙ name_open at name all)
+stop_read at depth f bytes _ kind (Refused h) = at_first at depth f bytes Unsupported (class_read class.Refused at bytes (record { kind = Unsupported; at = at }) (begins_with IsRefused (λ b. class_of b ≡ class.Refused) bytes refused_class h) (λ b bs. refl))
+stop_read at depth f bytes _ kind (TooDeep le h) = deep_read at depth f bytes le h ∙ ap (λ (k : ℕ). fault_at k Unsupported) (omega arith)
 
-below : {A : Type 0} (n : ℕ) → 33 ≤ n → n ≤ 32 → A
-below n le lu = absurd (omega arith)
+refused_starts : (b : ℕ) → IsRefused b → StartsGap b → ⊥
+refused_starts b r (inl blank) = grind arith
+refused_starts b r (inr is) = grind arith
 
-no_refused_blank : (b : ℕ) → IsRefused b → b ≤ 32 → ⊥
-no_refused_blank b h le = grind arith
-
--- no token begins with a blank, nor where nothing is left
-pub no_blank_stop : (depth : ℕ) (bytes : List ℕ) (kind : FaultKind) → NoToken depth bytes kind → Begins IsBlank bytes → ⊥
-no_blank_stop depth bytes kind (LoneDot rest parts h) b = below 46 (omega arith) (rw parts at b)
-no_blank_stop depth bytes kind (LoneMinus rest parts h) b = below 45 (omega arith) (rw parts at b)
-no_blank_stop depth bytes kind (Unknown h) b = both bytes h b
+-- behind a gap that ends no token begins with one, nor where nothing is left
+pub no_gap_stop : (depth : ℕ) (bytes : List ℕ) (behind : ℕ) (kind : FaultKind) → NoToken depth bytes behind kind → Begins StartsGap bytes → ⊥
+no_gap_stop depth bytes _ kind (LoneDot rest parts h) g = high 46 (omega arith) (rw parts at g)
+no_gap_stop depth bytes _ kind (LoneMinus rest parts h) g = high 45 (omega arith) (rw parts at g)
+no_gap_stop depth bytes _ kind (Unknown h) g = both bytes h g
   where
-    both : (bs : List ℕ) → Begins IsUnknown bs → Begins IsBlank bs → ⊥
-    both [] u b = u
-    both (x ∷ xs) u b = u.no_blank b
-no_blank_stop depth bytes kind (Function rest parts h) b = below 102 (omega arith) (rw parts at b)
-no_blank_stop depth bytes kind (OtherNumber negative digits own rest parts spelled h goes) b = no_blank (Number negative digits) own rest spelled (rw parts at b)
-no_blank_stop depth bytes kind (Refused h) b = both bytes h b
+    both : (bs : List ℕ) → Begins IsUnknown bs → Begins StartsGap bs → ⊥
+    both [] u g = u
+    both (x ∷ xs) u g = u.no_gap g
+no_gap_stop depth bytes _ kind (Function rest parts h) g = high 102 (omega arith) (rw parts at g)
+no_gap_stop depth bytes _ kind (OtherNumber negative digits own rest parts spelled h goes) g = digits_no_gap negative digits own rest spelled (rw parts at g)
+no_gap_stop depth bytes _ kind (InQuotes name rest parts all refused) g = high 39 (omega arith) (rw parts at g)
+no_gap_stop depth bytes _ kind (NoQuote name parts all) g = high 39 (omega arith) (rw parts at g)
+no_gap_stop depth bytes _ kind (Refused h) g = both bytes h g
   where
-    both : (bs : List ℕ) → Begins IsRefused bs → Begins IsBlank bs → ⊥
-    both [] r b = r
-    both (x ∷ xs) r b = no_refused_blank x r b
-no_blank_stop depth bytes kind (TooDeep le h) b = both bytes h b
+    both : (bs : List ℕ) → Begins IsRefused bs → Begins StartsGap bs → ⊥
+    both [] r g = r
+    both (x ∷ xs) r g = refused_starts x r g
+no_gap_stop depth bytes _ kind (TooDeep le h) g = both bytes h g
   where
-    both : (bs : List ℕ) → Begins IsOpening bs → Begins IsBlank bs → ⊥
-    both [] o b = o
-    both (x ∷ xs) (inl e) b = below 91 (omega arith) (rw e at b)
-    both (x ∷ xs) (inr e) b = below 123 (omega arith) (rw e at b)
+    both : (bs : List ℕ) → Begins IsOpening bs → Begins StartsGap bs → ⊥
+    both [] o g = o
+    both (x ∷ xs) (inl e) g = high 91 (omega arith) (rw e at g)
+    both (x ∷ xs) (inr e) g = high 123 (omega arith) (rw e at g)

@@ -7,13 +7,13 @@ use Rattle.dac_tokens.specs.declared.fault.ConfigFault.{ConfigFault}
 use Rattle.dac_tokens.specs.declared.token.Symbol.TheVariants.{OpenList, CloseList, OpenTuple, CloseTuple, Comma, FullStop}
 use Rattle.dac_tokens.specs.Gives.{◌>>=◌}
 use Rattle.dac_tokens.specs.Words.{Word, Mark, Name, Number, Text, End, is_end, Located}
-use Rattle.dac_tokens.specs.Scan.{is_blank, after_blanks, class_of, run, unsupported, token_of, word_at}
+use Rattle.dac_tokens.specs.Scan.{after_gap, class_of, unsupported, token_of, word_at}
 use Rattle.dac_tokens.specs.Stream.{Stream, depth_after, opened, token_from, and_then, tokens_within, tokens_of, end_at, ended}
-use Rattle.dac_tokens.specs.TokenGrammar.{IsBlank, IsSpelledBy, MayFollow, IsNextToken, AreSpelled, depth_behind, NestWell, AreTokensOf}
-use Rattle.dac_tokens.proofs.Bytes.{tells_blank}
-use Rattle.dac_tokens.proofs.Runs.{true_false, run_passes, dropped_run}
+use Rattle.dac_tokens.specs.TokenGrammar.{IsLastGap, Spells, IsNextToken, AreSpelled, depth_behind, NestWell, AreTokensOf}
+use Rattle.dac_tokens.proofs.Gaps.{IsPassed, last_gap, gap_before, gap_read, last_read}
+use Rattle.dac_tokens.proofs.Runs.{true_false}
 use Rattle.dac_tokens.proofs.Shorter.{IsFirst, token_is_first, bind_if_ok}
-use Rattle.dac_tokens.proofs.Spelling.{IsToken, token_found, token_read, own_some, no_blank, no_end}
+use Rattle.dac_tokens.proofs.Spelling.{IsToken, token_found, token_read, own_some, no_gap, no_end}
 
 -- the depth as it is read, and as the grammar has it
 abbrev DeeperBy : ℕ → Word → ℕ → Type 0
@@ -58,38 +58,36 @@ pub record IsRead (at end depth : ℕ) (bytes : List ℕ) (x : Located × ℕ ×
   pub within : depth_behind depth x.0.word ≤ 64
   pub place : x.0.at + length own + length x.2 ≡ end
 
--- the next token, or that there are blanks alone
+-- the next token, or that there is a gap alone
 pub record IsStep (at end depth : ℕ) (bytes : List ℕ) (x : Located × ℕ × List ℕ) : Type 0 where
-  pub ends : is_end x.0.word ≡ true → All IsBlank bytes
+  pub ends : is_end x.0.word ≡ true → IsLastGap bytes
   pub goes_on : is_end x.0.word ≡ false → IsRead at end depth bytes x
 
--- reads one token from bytes without blanks before them
+-- reads one token from bytes without a gap before them
 abbrev pub step : ℕ → ℕ → ℕ → List ℕ → Result (Located × ℕ × List ℕ) ConfigFault
 step end depth at rest = word_at at rest >>= λ word. depth_after at depth word.0 >>= λ after. Ok (record { word = word.0; at = at }, after, word.1)
 
-step_found : (at end depth : ℕ) (bytes blanks rest : List ℕ) → bytes ≡ blanks ++ rest → All IsBlank blanks → at + length bytes ≡ end → depth ≤ 64 → IfOk (step end depth (end - length rest) rest) (IsStep at end depth bytes)
+step_found : (at end depth : ℕ) (bytes rest : List ℕ) → after_gap false bytes ≡ rest → at + length bytes ≡ end → depth ≤ 64 → IfOk (step end depth (end - length rest) rest) (IsStep at end depth bytes)
 unfolding word_at
-step_found at end depth bytes blanks [] parts all whole le =
-    let P : List ℕ → Type 0 = All IsBlank in
-    record { ends = λ _. subst P (sym (append-nil blanks) ∙ sym parts) all; goes_on = λ e. true_false e }
-step_found at end depth bytes blanks (b ∷ bs) parts all whole le =
+step_found at end depth bytes [] left whole le = record { ends = λ _. last_gap bytes left; goes_on = λ e. true_false e }
+step_found at end depth bytes (b ∷ bs) left whole le =
     let place = end - length (b ∷ bs) in
+    let passed : IsPassed bytes (b ∷ bs) = gap_before bytes b bs left in
     bind_if_ok (λ x. IsToken (b ∷ bs) x.0 x.1) (IsStep at end depth bytes) (token_of (class_of b) place b bs) _ (token_found (class_of b) place b bs refl)
     (λ word h. bind_if_ok (DeeperBy depth word.0) (IsStep at end depth bytes) (depth_after place depth word.0) _ (depth_found place depth word.0 le)
     (λ after d.
-    let size = ap length parts ∙ length-append blanks (b ∷ bs) in
+    let size = ap length passed.parts ∙ length-append passed.gap (b ∷ bs) in
     let own_size = ap length h.parts ∙ length-append h.own word.1 in
     record {
-      ends = λ e. true_false (sym e ∙ no_end word.0 h.own h.spelled);
+      ends = λ e. true_false (sym e ∙ no_end word.0 h.own word.1 h.spelled);
       goes_on = λ e. record {
         own = h.own;
         token = record {
-          blanks = blanks;
-          parts = parts ∙ ap (λ (r : List ℕ). blanks ++ r) h.parts;
-          blank = all;
+          gap = passed.gap;
+          parts = passed.parts ∙ ap (λ (r : List ℕ). passed.gap ++ r) h.parts;
+          is_gap = passed.is_gap;
           place = omega (arith, size, whole);
           spelled = h.spelled;
-          follows = h.follows;
         };
         deeper = d.0;
         within = d.1;
@@ -99,29 +97,27 @@ step_found at end depth bytes blanks (b ∷ bs) parts all whole le =
 
 pub first_found : (at end depth : ℕ) (bytes : List ℕ) → at + length bytes ≡ end → depth ≤ 64 → IfOk (token_from end depth bytes) (IsStep at end depth bytes)
 unfolding token_from
-first_found at end depth bytes whole le =
-    let n = run is_blank bytes in
-    step_found at end depth bytes (take n bytes) (drop n bytes) (sym (take-append-drop n bytes)) (run_passes is_blank IsBlank tells_blank bytes) whole le
+first_found at end depth bytes whole le = step_found at end depth bytes (after_gap false bytes) refl whole le
 
-step_read : (end depth : ℕ) (t : Located) (own rest : List ℕ) → IsSpelledBy t.word own → MayFollow t.word rest → depth_behind depth t.word ≤ 64 → step end depth t.at (own ++ rest) ≡ Ok (t, depth_behind depth t.word, rest)
-step_read end depth t own rest spelled follows le =
-    ap (λ (r : Result (Word × List ℕ) ConfigFault). r >>= λ word. depth_after t.at depth word.0 >>= λ after. Ok (record { word = word.0; at = t.at }, after, word.1)) (token_read t.word t.at own rest spelled follows)
+step_read : (end depth : ℕ) (t : Located) (own rest : List ℕ) → Spells t.word own rest → depth_behind depth t.word ≤ 64 → step end depth t.at (own ++ rest) ≡ Ok (t, depth_behind depth t.word, rest)
+step_read end depth t own rest spelled le =
+    ap (λ (r : Result (Word × List ℕ) ConfigFault). r >>= λ word. depth_after t.at depth word.0 >>= λ after. Ok (record { word = word.0; at = t.at }, after, word.1)) (token_read t.word t.at own rest spelled)
     ∙ ap (λ (r : Result ℕ ConfigFault). r >>= λ after. Ok (record { word = t.word; at = t.at }, after, rest)) (depth_read t.at depth t.word le)
 
 pub first_read : (at end depth : ℕ) (bytes : List ℕ) (t : Located) (own rest : List ℕ) → IsNextToken at bytes t own rest → at + length bytes ≡ end → depth_behind depth t.word ≤ 64 → token_from end depth bytes ≡ Ok (t, depth_behind depth t.word, rest)
 unfolding token_from
 first_read at end depth bytes t own rest next whole le =
-    let left : after_blanks bytes ≡ own ++ rest = rw next.parts (dropped_run is_blank IsBlank tells_blank next.blanks (own ++ rest) next.blank (no_blank t.word own rest next.spelled)) in
-    let size = ap length next.parts ∙ length-append next.blanks (own ++ rest) in
+    let left : after_gap false bytes ≡ own ++ rest = rw next.parts (gap_read next.gap (own ++ rest) next.is_gap (no_gap t.word own rest next.spelled)) in
+    let size = ap length next.parts ∙ length-append next.gap (own ++ rest) in
     let place : end - length (own ++ rest) ≡ t.at = omega (arith, size, whole, next.place) in
     ap (λ (r : List ℕ). step end depth (end - length r) r) left
     ∙ ap (λ (k : ℕ). step end depth k (own ++ rest)) place
-    ∙ step_read end depth t own rest next.spelled next.follows le
+    ∙ step_read end depth t own rest next.spelled le
 
-blanks_read : (end depth : ℕ) (bytes : List ℕ) → All IsBlank bytes → token_from end depth bytes ≡ Ok (end_at end, depth, [])
+last_gap_read : (end depth : ℕ) (bytes : List ℕ) → IsLastGap bytes → token_from end depth bytes ≡ Ok (end_at end, depth, [])
 unfolding token_from word_at
-blanks_read end depth bytes all =
-    let left : after_blanks bytes ≡ [] = ap after_blanks (sym (append-nil bytes)) ∙ dropped_run is_blank IsBlank tells_blank bytes [] all (λ h. h) in
+last_gap_read end depth bytes gap =
+    let left : after_gap false bytes ≡ [] = last_read bytes gap in
     let place : end - 0 ≡ end = omega arith in
     ap (λ (r : List ℕ). step end depth (end - length r) r) left ∙ ap (λ (k : ℕ). step end depth k []) place
 
@@ -166,18 +162,18 @@ within_whole (suc n) at end depth bytes lt whole le =
 within_read : (ts : List Located) (n at end depth : ℕ) (bytes : List ℕ) → length bytes < n → at + length bytes ≡ end → AreSpelled at bytes ts → NestWell depth ts → tokens_within n end depth bytes ≡ ended end ts
 unfolding tokens_within
 within_read ts zero at end depth bytes lt whole spelled nested = absurd (omega arith)
-within_read [] (suc n) at end depth bytes lt whole spelled nested = ap (λ (r : Result (Located × ℕ × List ℕ) ConfigFault). and_then r (tokens_within n end)) (blanks_read end depth bytes spelled)
+within_read [] (suc n) at end depth bytes lt whole spelled nested = ap (λ (r : Result (Located × ℕ × List ℕ) ConfigFault). and_then r (tokens_within n end)) (last_gap_read end depth bytes spelled)
 within_read (t ∷ ts) (suc n) at end depth bytes lt whole spelled nested =
     let own = spelled.0 in
     let rest = spelled.1 in
     let next : IsNextToken at bytes t own rest = spelled.2 in
-    let size = ap length next.parts ∙ length-append next.blanks (own ++ rest) in
+    let size = ap length next.parts ∙ length-append next.gap (own ++ rest) in
     let inner = length-append own rest in
-    let some = own_some t.word own next.spelled in
+    let some = own_some t.word own rest next.spelled in
     let more : tokens_within n end (depth_behind depth t.word) rest ≡ ended end ts = within_read ts n (t.at + length own) end (depth_behind depth t.word) rest (omega (arith, size, inner, some)) (omega (arith, size, inner, next.place, whole)) spelled.3 nested.1 in
     let joined : Stream → Bool → Stream = λ s c. cond c (record { tokens = []; last = Ok t }) (record { tokens = t ∷ s.tokens; last = s.last }) in
     ap (λ (r : Result (Located × ℕ × List ℕ) ConfigFault). and_then r (tokens_within n end)) (first_read at end depth bytes t own rest next whole nested.0)
-    ∙ ap (joined (tokens_within n end (depth_behind depth t.word) rest)) (no_end t.word own next.spelled)
+    ∙ ap (joined (tokens_within n end (depth_behind depth t.word) rest)) (no_end t.word own rest next.spelled)
     ∙ ap (λ (s : Stream). joined s false) more
 
 -- what the tokens of a text are, where they go up to the end

@@ -1,5 +1,5 @@
 -- The tokens of a text, one at a time, as they are read.
-use Rattle.std.specs.Prelude.{ℕ, Bool, true, false, ◌&&◌, ◌||◌, List, [], ◌∷◌, length, take, drop, Result, Ok, Err, nat_le, ◌==◌, if◌then◌else◌, codes}
+use Rattle.std.specs.Prelude.{ℕ, ◌+◌, Bool, true, false, not, ◌&&◌, ◌||◌, List, [], ◌∷◌, length, take, drop, Result, Ok, Err, nat_le, ◌==◌, if◌then◌else◌, codes}
 use Rattle.std.specs.Str.{bytes_eq}
 use Rattle.std.specs.List.{take_while}
 use Rattle.std.specs.Char.{is_ascii_digit, is_ascii_alphanumeric}
@@ -18,9 +18,14 @@ run passes bs = length (take_while passes bs)
 abbrev pub is_blank : ℕ → Bool
 is_blank b = nat_le b 32
 
--- the bytes from the first that is no blank
-abbrev pub after_blanks : List ℕ → List ℕ
-after_blanks bs = drop (run is_blank bs) bs
+-- the bytes from the first that is neither blank nor in a comment, which goes on up to a line feed
+abbrev pub after_gap : Bool → List ℕ → List ℕ
+after_gap comment [] = []
+after_gap true (b ∷ bs) = after_gap (not (b == 10)) bs
+after_gap false (b ∷ bs) =
+    if b == 37 then after_gap true bs
+    else (if is_blank b then after_gap false bs
+    else b ∷ bs)
 
 -- what may begin with a byte
 abbrev pub class_of : ℕ → Class
@@ -32,14 +37,19 @@ class_of b =
     else (if b == 44 then class.Comma
     else (if b == 46 then class.Dot
     else (if b == 45 then class.Minus
+    else (if b == 39 then class.Quote
     else (if nat_le 97 b && nat_le b 122 then class.Letter
     else (if nat_le 48 b && nat_le b 57 then class.Digit
-    else (if b == 39 || b == 34 || b == 37 || b == 60 || b == 35 || b == 36 || b == 43 || b == 126 || b == 124 || nat_le 128 b then class.Refused
-    else class.Unknown)))))))))
+    else (if b == 34 || b == 60 || b == 35 || b == 36 || b == 43 || b == 126 || b == 124 || nat_le 128 b then class.Refused
+    else class.Unknown))))))))))
 
 -- what a bare atom may go on with
 abbrev pub is_name_byte : ℕ → Bool
 is_name_byte b = is_ascii_alphanumeric b || b == 95 || b == 64
+
+-- what a quoted atom may hold
+abbrev pub is_quotable : ℕ → Bool
+is_quotable b = nat_le 32 b && not (b == 127) && not (b == 39) && not (b == 92)
 
 -- a full stop's dot has a blank, a comment or the end behind it
 abbrev pub ends_stop : List ℕ → Bool
@@ -68,6 +78,17 @@ atom_at at bs =
     let n = run is_name_byte bs in
     if is_fun (take n bs) then unsupported at else Ok (Name (take n bs), drop n bs)
 
+-- the quoted atom of this name, whose opening quote is at `at`, with these bytes behind the name
+abbrev pub closed_at : ℕ → List ℕ → List ℕ → Result (Word × List ℕ) ConfigFault
+closed_at at name [] = bad_token at
+closed_at at name (b ∷ rest) = if b == 39 then Ok (Name name, rest) else unsupported (at + 1 + length name)
+
+-- the quoted atom whose opening quote, at `at`, stands before the bytes
+abbrev pub quoted_at : ℕ → List ℕ → Result (Word × List ℕ) ConfigFault
+quoted_at at bs =
+    let n = run is_quotable bs in
+    closed_at at (take n bs) (drop n bs)
+
 -- the digits at the front, of a number that begins at `at`
 abbrev pub number_at : ℕ → Bool → List ℕ → Result (Word × List ℕ) ConfigFault
 number_at at negative bs =
@@ -86,6 +107,7 @@ token_of class.Dot at b bs = if ends_stop bs then Ok (Mark FullStop, bs) else ba
 token_of class.Letter at b bs = atom_at at (b ∷ bs)
 token_of class.Digit at b bs = number_at at false (b ∷ bs)
 token_of class.Minus at b bs = negative_at at bs
+token_of class.Quote at b bs = quoted_at at bs
 token_of class.Refused at b bs = unsupported at
 token_of class.Unknown at b bs = bad_token at
 

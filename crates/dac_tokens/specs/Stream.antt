@@ -1,10 +1,10 @@
 -- A text as the list of its tokens.
-use Rattle.std.specs.Prelude.{ℕ, zero, suc, ◌+◌, ◌-◌, List, [], ◌∷◌, length, Result, Ok, Err, nat_le, if◌then◌else◌}
+use Rattle.std.specs.Prelude.{ℕ, zero, suc, ◌+◌, ◌-◌, false, List, [], ◌∷◌, length, Result, Ok, Err, nat_le, if◌then◌else◌}
 use Rattle.dac_tokens.specs.declared.fault.ConfigFault.{ConfigFault}
 use Rattle.dac_tokens.specs.declared.token.Symbol.TheVariants.{OpenList, CloseList, OpenTuple, CloseTuple, Comma, FullStop}
 use Rattle.dac_tokens.specs.Words.{Word, Mark, Name, Number, Text, End, is_end, Located}
 use Rattle.dac_tokens.specs.Gives.{◌>>=◌}
-use Rattle.dac_tokens.specs.Scan.{after_blanks, word_at, unsupported}
+use Rattle.dac_tokens.specs.Scan.{after_gap, word_at, unsupported}
 
 -- how many brackets are open after a token at `at`, where `depth` were before it: at most 64
 abbrev pub opened : ℕ → ℕ → Result ℕ ConfigFault
@@ -26,7 +26,7 @@ depth_after at depth End = Ok depth
 -- the depth after it and the bytes after it.
 unfoldable pub token_from : ℕ → ℕ → List ℕ → Result (Located × ℕ × List ℕ) ConfigFault
 token_from end depth bytes = do
-  let rest = after_blanks bytes
+  let rest = after_gap false bytes
   let at = end - length rest
   word ← word_at at rest
   after ← depth_after at depth word.0

@@ -1,5 +1,5 @@
 -- How the bytes of a text spell its tokens: a relation, whatever a reader does.
-use Rattle.std.specs.Prelude.{◌≡◌, ◌≢◌, ◌⊎◌, ℕ, ◌+◌, ◌-◌, ◌≤◌, true, false, List, [], ◌∷◌, ◌++◌, length, All, codes}
+use Rattle.std.specs.Prelude.{◌≡◌, ◌≢◌, ◌⊎◌, ℕ, ◌+◌, ◌-◌, ◌<◌, ◌≤◌, Bool, true, false, List, [], ◌∷◌, ◌++◌, length, All, codes}
 use Rattle.std.specs.Char.{IsAsciiDigit, IsAsciiLowercase, IsAsciiAlphanumeric}
 use Rattle.dac_tokens.specs.declared.token.Symbol.{Symbol}
 use Rattle.dac_tokens.specs.declared.token.Symbol.TheVariants.{OpenList, CloseList, OpenTuple, CloseTuple, Comma, FullStop}
@@ -8,6 +8,25 @@ use Rattle.dac_tokens.specs.Words.{Word, Mark, Name, Number, Text, End, Located}
 -- a space, or a control character below it
 abbrev pub IsBlank : ℕ → Type 0
 IsBlank b = b ≤ 32
+
+-- a byte with which a gap begins: a blank, or the percent sign of a comment
+abbrev pub StartsGap : ℕ → Type 0
+StartsGap b = IsBlank b ⊎ (b ≡ 37)
+
+-- bytes within one line
+abbrev pub IsLine : List ℕ → Type 0
+IsLine bytes = All (λ b. b ≢ 10) bytes
+
+-- what may stand before a token: blanks, and comments from a percent sign to the line feed
+pub data IsGap : List ℕ → Type 0 where
+  Nothing : IsGap []
+  Blank : (b : ℕ) (more : List ℕ) → IsBlank b → IsGap more → IsGap (b ∷ more)
+  Comment : (line more : List ℕ) → IsLine line → IsGap more → IsGap (37 ∷ (line ++ 10 ∷ more))
+
+-- what may stand behind the last token: a gap, and then possibly a comment up to the end of the text
+pub data IsLastGap (bytes : List ℕ) : Type 0 where
+  Closed : IsGap bytes → IsLastGap bytes
+  Open : (gap line : List ℕ) → bytes ≡ gap ++ 37 ∷ line → IsGap gap → IsLine line → IsLastGap bytes
 
 -- an ASCII letter or digit, `_` or `@`
 abbrev pub IsNameByte : ℕ → Type 0
@@ -24,6 +43,14 @@ pub record IsBareAtom (bytes : List ℕ) : Type 0 where
   pub goes_on : All IsNameByte bytes
   pub no_fun : bytes ≢ codes "fun"
 
+-- a byte that no quoted atom may hold: a control character or a backslash
+abbrev pub IsUnquotable : ℕ → Type 0
+IsUnquotable b = (b < 32) ⊎ (b ≡ 127) ⊎ (b ≡ 92)
+
+-- a byte that one may hold: any other but the quote
+abbrev pub IsQuotable : ℕ → Type 0
+IsQuotable b = (b ≢ 39) × (¬ IsUnquotable b)
+
 -- one or more decimal digits
 pub record IsDigits (bytes : List ℕ) : Type 0 where
   pub begins : Begins IsAsciiDigit bytes
@@ -37,43 +64,49 @@ bytes_of CloseTuple = codes "}"
 bytes_of Comma = codes ","
 bytes_of FullStop = codes "."
 
--- the bytes of a token itself
-abbrev pub IsSpelledBy : Word → List ℕ → Type 0
-IsSpelledBy (Mark symbol) own = own ≡ bytes_of symbol
-IsSpelledBy (Name name) own = (own ≡ name) × IsBareAtom name
-IsSpelledBy (Number false digits) own = (own ≡ digits) × IsDigits digits
-IsSpelledBy (Number true digits) own = (own ≡ codes "-" ++ digits) × IsDigits digits
-IsSpelledBy Text own = ⊥
-IsSpelledBy End own = ⊥
+-- a number's own bytes: its digits, with a minus before them if it is negative
+abbrev pub IsNumber : Bool → List ℕ → List ℕ → Type 0
+IsNumber false digits own = (own ≡ digits) × IsDigits digits
+IsNumber true digits own = (own ≡ codes "-" ++ digits) × IsDigits digits
 
 -- a number before these bytes goes on, or is one of another form: with a base, underscores or a fraction
 abbrev pub GoesOnAsNumber : List ℕ → Type 0
 GoesOnAsNumber [] = ⊥
 GoesOnAsNumber (b ∷ bs) = IsAsciiDigit b ⊎ (b ≡ 35) ⊎ (b ≡ 95) ⊎ ((b ≡ 46) × Begins IsAsciiDigit bs)
 
--- What may stand behind a token. An atom and a number are as long as they can be; a dot is the full stop
--- only before a blank, a comment's percent sign or the end of the text.
-abbrev pub MayFollow : Word → List ℕ → Type 0
-MayFollow (Mark FullStop) rest = (rest ≡ []) ⊎ Begins (λ b. IsBlank b ⊎ (b ≡ 37)) rest
-MayFollow (Mark _) rest = Unit {0}
-MayFollow (Name name) rest = ¬ Begins IsNameByte rest
-MayFollow (Number negative digits) rest = ¬ GoesOnAsNumber rest
-MayFollow Text rest = Unit {0}
-MayFollow End rest = Unit {0}
+-- behind a dot: a gap begins, or the text ends
+abbrev pub EndsTerm : List ℕ → Type 0
+EndsTerm rest = (rest ≡ []) ⊎ Begins StartsGap rest
 
--- Of bytes that begin at the offset `at`, the first token, its own bytes and the rest behind it: blanks may
+-- an atom without quotes, which is as long as it can be
+abbrev pub IsBare : List ℕ → List ℕ → List ℕ → Type 0
+IsBare name own rest = (own ≡ name) × IsBareAtom name × (¬ Begins IsNameByte rest)
+
+-- an atom between quotes
+abbrev pub IsQuoted : List ℕ → List ℕ → Type 0
+IsQuoted name own = (own ≡ codes "'" ++ (name ++ codes "'")) × All IsQuotable name
+
+-- a token is spelled by its own bytes where these bytes stand behind them: a number, too, is as long as it can be
+abbrev pub Spells : Word → List ℕ → List ℕ → Type 0
+Spells (Mark FullStop) own rest = (own ≡ codes ".") × EndsTerm rest
+Spells (Mark symbol) own rest = own ≡ bytes_of symbol
+Spells (Name name) own rest = IsBare name own rest ⊎ IsQuoted name own
+Spells (Number negative digits) own rest = IsNumber negative digits own × (¬ GoesOnAsNumber rest)
+Spells Text own rest = ⊥
+Spells End own rest = ⊥
+
+-- Of bytes that begin at the offset `at`, the first token, its own bytes and the rest behind it: a gap may
 -- stand before it, and its place is the number of bytes before its own.
 pub record IsNextToken (at : ℕ) (bytes : List ℕ) (t : Located) (own rest : List ℕ) : Type 0 where
-  pub blanks : List ℕ
-  pub parts : bytes ≡ blanks ++ (own ++ rest)
-  pub blank : All IsBlank blanks
-  pub place : t.at ≡ at + length blanks
-  pub spelled : IsSpelledBy t.word own
-  pub follows : MayFollow t.word rest
+  pub gap : List ℕ
+  pub parts : bytes ≡ gap ++ (own ++ rest)
+  pub is_gap : IsGap gap
+  pub place : t.at ≡ at + length gap
+  pub spelled : Spells t.word own rest
 
--- bytes that begin at the offset `at` are these tokens one after another, and behind them blanks alone
+-- bytes that begin at the offset `at` are these tokens one after another, and behind them at most a gap
 abbrev pub AreSpelled : ℕ → List ℕ → List Located → Type 0
-AreSpelled at bytes [] = All IsBlank bytes
+AreSpelled at bytes [] = IsLastGap bytes
 AreSpelled at bytes (t ∷ ts) = (own rest : List ℕ) × IsNextToken at bytes t own rest × AreSpelled (t.at + length own) rest ts
 
 -- how many brackets are open behind a token, where so many were before it

@@ -6,7 +6,7 @@
 //! grammar of tokens spells it, and with a fault exactly where the table of their faults has one. Both are
 //! clauses of [`Tokens::new`]. Which tokens make a configuration is for the crate above.
 //!
-//! Quoted atoms, strings and comments aren't read yet: each is [`FaultKind::Unsupported`] where it begins.
+//! Strings aren't read yet: each is [`FaultKind::Unsupported`] where it begins.
 #![tactic(auto)]
 
 mod fault;

@@ -55,14 +55,19 @@ fn full_stops(rt: HostRuntime) {
     assert_eq!(rt; fault_of(b"[].a"), bad_token(2));
     assert_eq!(rt; fault_of(b"[].."), bad_token(2));
     assert_eq!(rt; fault_of(b".5"), bad_token(0));
-    assert_eq!(rt; fault_of(b"[].% end"), unsupported(3));
+    assert_eq!(rt; fault_of(b"[].% end"), None);
+}
+
+#[test]
+fn comments(rt: HostRuntime) {
+    assert_eq!(rt; fault_of(b"% kernel"), None);
+    assert_eq!(rt; fault_of(b"a%;%\n%\n;"), bad_token(7));
+    assert_eq!(rt; fault_of(b"% \r;"), None);
 }
 
 #[test]
 fn refused_bytes(rt: HostRuntime) {
-    assert_eq!(rt; fault_of(b"['a']"), unsupported(1));
     assert_eq!(rt; fault_of(b"[\"a\"]"), unsupported(1));
-    assert_eq!(rt; fault_of(b"% kernel"), unsupported(0));
     assert_eq!(rt; fault_of(b"[{kernel,[{f,~\"a\"}]}]."), unsupported(13));
     assert_eq!(rt; fault_of(b"<<>>"), unsupported(0));
     assert_eq!(rt; fault_of(b"#{}"), unsupported(0));
@@ -81,6 +86,18 @@ fn bare_atoms(rt: HostRuntime) {
     assert_eq!(rt; fault_of(b"funs"), None);
     assert_eq!(rt; fault_of(b"fun1"), None);
     assert_eq!(rt; fault_of(b"afun"), None);
+}
+
+#[test]
+fn quoted_atoms(rt: HostRuntime) {
+    assert_eq!(rt; fault_of(b"['fun','','a\"% \x80\xff'a]"), None);
+    assert_eq!(rt; fault_of(b"['a\\']"), unsupported(3));
+    assert_eq!(rt; fault_of(b"'\x7f'"), unsupported(1));
+    assert_eq!(rt; fault_of(b"'ab\ncd"), unsupported(3));
+    assert_eq!(rt; fault_of(b"['a]"), bad_token(1));
+    let mut tokens = Tokens::new(b"'fun'");
+    let token = Token::Atom(b"fun".as_slice());
+    assert_eq!(rt; tokens.next(), Ok(Located { token, at: 0 }));
 }
 
 #[test]

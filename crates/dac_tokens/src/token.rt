@@ -25,7 +25,7 @@ pub enum Symbol {
 pub enum Token<'a> {
     /// A bracket, a comma or the full stop.
     Symbol(Symbol),
-    /// An atom, by its name.
+    /// An atom, by its name: its bytes, or those between its quotes, of which there may be none.
     Atom(&'a [u8]),
     /// A whole number, as it is written: its value is for whoever needs it, with a bound of their own.
     Number {
@@ -50,7 +50,7 @@ pub struct Located<'a> {
     pub at: usize,
 }
 
-/// What may begin with a byte that is no blank.
+/// What may begin with a byte behind a gap.
 #[derive(Clone, Copy, Debug, PartialEq, Eq)]
 pub enum Class {
     Bracket(Symbol),
@@ -59,6 +59,7 @@ pub enum Class {
     Letter,
     Digit,
     Minus,
+    Quote,
     Refused,
     Unknown,
 }

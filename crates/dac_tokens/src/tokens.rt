@@ -9,7 +9,7 @@ ghost use Rattle.dac_tokens.specs.TokenGrammar.{AreTokensOf};
 ghost use Rattle.dac_tokens.specs.Words.{Located as LocatedWord, is_end, located_of, word_of};
 
 use crate::fault::{ConfigFault, FaultKind};
-use crate::scan::{after_blanks, fault, token_at};
+use crate::scan::{after_gap, fault, token_at};
 use crate::token::{Located, MAX_DEPTH, Symbol, Token};
 use std::marker::Model;
 
@@ -44,7 +44,7 @@ fn token_from(
     ensures depth { IfOk result (λ x. x.1 ≤ 64) }
     ensures within { IfOk result (λ x. length x.2.now ≤ end) }
 {
-    let bytes = after_blanks(bytes);
+    let bytes = after_gap(bytes);
     let at = end - bytes.len();
     let (token, rest) = token_at(at, bytes)?;
     let depth = depth_after(at, depth, &token)?;
@@ -96,9 +96,11 @@ impl<'a> Tokens<'a> {
     /// # Errors
     ///
     /// Where no token begins, at the first byte of what stands there. `Unsupported` for what Erlang has and
-    /// this doesn't read: a quote, `%`, `<`, `#`, `$`, `+`, `~`, `|`, a byte from 80 hexadecimal on, the word
-    /// `fun`, a number with a fraction, a base or underscores, and a 65th open bracket. `BadToken` for
-    /// anything else, as a dot that ends no term. Then nothing is taken: the next call answers the same.
+    /// this doesn't read: a double quote, `<`, `#`, `$`, `+`, `~`, `|`, a byte from 80 hexadecimal on, the
+    /// word `fun`, a number with a fraction, a base or underscores, and a 65th open bracket; and, at its own
+    /// place, the first backslash or control character between quotes. `BadToken` for anything else, as a
+    /// dot that ends no term or a quote that is never closed. Then nothing is taken: the next call answers
+    /// the same.
     pub fn next(&mut self) -> Result<Located<'a>, ConfigFault>
         ensures taken { Gives (λ x. (located_of x, self.new)) result (taken self.old) }
         ensures fault { IfErr result (λ e. IsTokenFault e.kind) }

@@ -5,5 +5,5 @@ use Rattle.dac_tokens.proofs.tokens.token_from.Goals as goal
 
 pub returns-clause-within : goal.returns-clause-within
 returns-clause-within c =
-    let h = IfOk-at_ok (λ x. length x.1 ≤ length c.after_blanks-bytes.result.now) c.in_ok-token.ensures (word_no_more _ _) in
+    let h = IfOk-at_ok (λ x. length x.1 ≤ length c.after_gap-bytes.result.now) c.in_ok-token.ensures (word_no_more _ _) in
     omega arith
