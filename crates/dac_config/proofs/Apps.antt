@@ -8,6 +8,7 @@ use Rattle.indexmap.specs.IndexMap.{IndexMap, insert_entry}
 use Rattle.indexmap.proofs.CallerLemmas.{insert_entry-new}
 use Rattle.dac_config.specs.declared.config.App.{App}
 use Rattle.dac_shapes.specs.declared.draft.DraftApp.{DraftApp}
+use Rattle.dac_shapes.specs.Written.{Permission}
 use Rattle.dac_shapes.specs.Limits.{is_among}
 use Rattle.dac_shapes.specs.Views.{app_of, apps_of}
 use Rattle.dac_config.specs.Table.{NodeRow, AppRow}
@@ -29,8 +30,8 @@ absent name (e ∷ es) h =
       | false ↦ λ k. absent name es k
     ] h)
 
-module _ {S : Type 0} (nodes : List NodeRow) (m : IndexMap (Vec ℕ) App S) (name : Vec ℕ) (app : App) (apps : List DraftApp) (i : ℕ) (item : DraftApp) (here : item ≡ get_or apps i item) (within : i < length apps)
-    (row : app_row (name, app) ≡ numbered_app nodes (app_of item))
+module _ {S : Type 0} (permissions : List Permission) (nodes : List NodeRow) (m : IndexMap (Vec ℕ) App S) (name : Vec ℕ) (app : App) (apps : List DraftApp) (i : ℕ) (item : DraftApp) (here : item ≡ get_or apps i item) (within : i < length apps)
+    (row : app_row (name, app) ≡ numbered_app permissions nodes (app_of item))
     (once : AllNew (names_in m.entries) (map (λ a. a.name) (apps_of (drop i apps)))) where
   left : drop i apps ≡ item ∷ drop (i + 1) apps
   left = drop_more apps i item within ∙ ap (λ (x : DraftApp). x ∷ drop (i + 1) apps) (sym here)
@@ -45,13 +46,13 @@ module _ {S : Type 0} (nodes : List NodeRow) (m : IndexMap (Vec ℕ) App S) (nam
   goes_last : insert_entry same_name m.entries name app ≡ m.entries ++ (name, app) ∷ []
   goes_last = insert_entry-new same_name m name app (absent name m.entries (ap (λ n. is_among n (names_in m.entries)) same_names ∙ next.0))
 
-  pub more_rows : (new : List (Vec ℕ × App)) (total : List AppRow) → new ≡ insert_entry same_name m.entries name app → map app_row m.entries ++ map (numbered_app nodes) (apps_of (drop i apps)) ≡ total
-      → map app_row new ++ map (numbered_app nodes) (apps_of (drop (i + 1) apps)) ≡ total
+  pub more_rows : (new : List (Vec ℕ × App)) (total : List AppRow) → new ≡ insert_entry same_name m.entries name app → map app_row m.entries ++ map (numbered_app permissions nodes) (apps_of (drop i apps)) ≡ total
+      → map app_row new ++ map (numbered_app permissions nodes) (apps_of (drop (i + 1) apps)) ≡ total
   more_rows new total is rows =
-      ap (λ l. map app_row l ++ map (numbered_app nodes) (apps_of (drop (i + 1) apps))) (is ∙ goes_last)
-      ∙ ap (λ l. l ++ map (numbered_app nodes) (apps_of (drop (i + 1) apps))) (map_push app_row m.entries (name, app) ∙ ap (λ r. map app_row m.entries ++ r ∷ []) row)
-      ∙ append_assoc (map app_row m.entries) (numbered_app nodes (app_of item) ∷ []) (map (numbered_app nodes) (apps_of (drop (i + 1) apps)))
-      ∙ sym (ap (λ (rest : List DraftApp). map app_row m.entries ++ map (numbered_app nodes) (apps_of rest)) left) ∙ rows
+      ap (λ l. map app_row l ++ map (numbered_app permissions nodes) (apps_of (drop (i + 1) apps))) (is ∙ goes_last)
+      ∙ ap (λ l. l ++ map (numbered_app permissions nodes) (apps_of (drop (i + 1) apps))) (map_push app_row m.entries (name, app) ∙ ap (λ r. map app_row m.entries ++ r ∷ []) row)
+      ∙ append_assoc (map app_row m.entries) (numbered_app permissions nodes (app_of item) ∷ []) (map (numbered_app permissions nodes) (apps_of (drop (i + 1) apps)))
+      ∙ sym (ap (λ (rest : List DraftApp). map app_row m.entries ++ map (numbered_app permissions nodes) (apps_of rest)) left) ∙ rows
 
   pub still_once : (new : List (Vec ℕ × App)) → new ≡ insert_entry same_name m.entries name app → AllNew (names_in new) (map (λ a. a.name) (apps_of (drop (i + 1) apps)))
   still_once new is =

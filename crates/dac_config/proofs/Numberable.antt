@@ -4,7 +4,7 @@ use Rattle.std.specs.Prelude.{All, fold}
 use Rattle.std.proofs.lemmas.List.{length-append, map_push}
 use Rattle.std.proofs.lemmas.List.Elements.{All-nil, All-cons}
 use Rattle.dac_tokens.specs.Words.{Word}
-use Rattle.dac_shapes.specs.Written.{App, Param, Distributed, Mandatory, Optional, Timeout, Written, put, put_all, unsaid}
+use Rattle.dac_shapes.specs.Written.{App, Param, Distributed, Permissions, Mandatory, Optional, Timeout, Written, put, put_all, unsaid}
 use Rattle.dac_shapes.specs.Limits.{Seen, nothing, AllMay, listing, with_app, MayApp, with_apps, with_param, MayParam, MayValue, with_section, MaySection, MaySections, nodes_in}
 use Rattle.dac_shapes.specs.Grammar.{Parted, IsListOf, IsNode, IsItem, IsApp, IsParam, IsSection, IsFile, IsTextOf}
 use Rattle.dac_config.specs.Numbering.{AllNew, IsNumberable}
@@ -43,6 +43,7 @@ some_app words app h = let list = h.2.4 in some_groups app.groups (each_parted I
 
 HasSome : Param → Type 0
 HasSome (Distributed apps) = Each (λ app. AllSome app.groups) apps
+HasSome (Permissions permissions) = Unit {0}
 HasSome (Mandatory names) = Unit {0}
 HasSome (Optional names) = Unit {0}
 HasSome (Timeout wait) = Unit {0}
@@ -50,6 +51,7 @@ HasSome (Timeout wait) = Unit {0}
 some_param : (words : List Word) (param : Param) → IsParam words param → HasSome param
 unfolding HasSome
 some_param words (Distributed apps) h = each_listed IsApp (λ app. AllSome app.groups) some_app h.0 apps h.2
+some_param words (Permissions permissions) h = tt
 some_param words (Mandatory names) h = tt
 some_param words (Optional names) h = tt
 some_param words (Timeout wait) h = tt
@@ -67,6 +69,7 @@ few_apps_met = kept with_app MayApp IsFew (λ _ seen app may few. few_groups_met
 
 few_param : (before : List Param) (seen : Seen) (param : Param) → MayParam before seen param → IsFew seen → IsFew (with_param seen param)
 few_param before seen (Distributed apps) may few = few_apps_met seen apps may.value few
+few_param before seen (Permissions permissions) may few = few
 few_param before seen (Mandatory names) may few = few_nodes true seen names may.value few
 few_param before seen (Optional names) may few = few_nodes true seen names may.value few
 few_param before seen (Timeout wait) may few = few
@@ -106,6 +109,7 @@ limited_apps seen apps may few some = record { few = (let sum = few_apps [] seen
 limited_put : (w : Written) (seen : Seen) (param : Param) → MayValue seen param → IsFew seen → HasSome param → Limited w.apps → Limited (put w param).apps
 unfolding HasSome
 limited_put w seen (Distributed apps) may few some h = limited_apps seen apps may few some
+limited_put w seen (Permissions permissions) may few some h = h
 limited_put w seen (Mandatory names) may few some h = h
 limited_put w seen (Optional names) may few some h = h
 limited_put w seen (Timeout wait) may few some h = h
@@ -124,6 +128,7 @@ limited_sections w before seen (params ∷ sections) may few some h =
 
 nodes_put : (w : Written) (param : Param) → (put w param).nodes ≡ w.nodes
 nodes_put w (Distributed apps) = refl
+nodes_put w (Permissions permissions) = refl
 nodes_put w (Mandatory names) = refl
 nodes_put w (Optional names) = refl
 nodes_put w (Timeout wait) = refl

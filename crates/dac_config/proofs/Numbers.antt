@@ -74,16 +74,16 @@ numbers_below n limit (node ∷ nodes) group h =
 pub small_numbered : (w : Written) → IsNumberable w → IsTable (numbered w)
 small_numbered w can = record {
   nodes = omega (arith, can.nodes, length-inserted [] w.nodes, length-map (in_byte_order w.nodes) (numbered_node w));
-  apps = omega (arith, can.apps, length-map w.apps (numbered_app (numbered_nodes w)));
-  groups = All-map (λ row. length row.groups ≤ 16) (numbered_app (numbered_nodes w)) w.apps (λ i d within. subst (λ n. n ≤ 16) (sym (length-map (get_or w.apps i d).groups (numbers_from 0 (numbered_nodes w)))) (can.groups i d within));
+  apps = omega (arith, can.apps, length-map w.apps (numbered_app w.permissions (numbered_nodes w)));
+  groups = All-map (λ row. length row.groups ≤ 16) (numbered_app w.permissions (numbered_nodes w)) w.apps (λ i d within. subst (λ n. n ≤ 16) (sym (length-map (get_or w.apps i d).groups (numbers_from 0 (numbered_nodes w)))) (can.groups i d within));
   members = (let below : ℕ → Type 0 = λ number. number < length (numbered_nodes w) in
-      All-map (λ row. All (λ group. All below group) row.groups) (numbered_app (numbered_nodes w)) w.apps (λ i d _.
+      All-map (λ row. All (λ group. All below group) row.groups) (numbered_app w.permissions (numbered_nodes w)) w.apps (λ i d _.
       All-map (All below) (numbers_from 0 (numbered_nodes w)) (get_or w.apps i d).groups (λ j e _. numbers_below 0 (length (numbered_nodes w)) (numbered_nodes w) (get_or (get_or w.apps i d).groups j e) (omega arith))));
 }
 
 -- tables whose nodes and applications are numbered are the configuration that the text says
 pub table_numbered : (w : Written) (c : Inside) (nodes : List Node) → map node_row c.nodes.items ≡ numbered_nodes w → nodes ≡ c.nodes.items
-    → map app_row c.apps.entries ≡ map (numbered_app (map node_row nodes)) w.apps → c.sync_wait ≡ w.sync_wait → table_of c ≡ numbered w
+    → map app_row c.apps.entries ≡ map (numbered_app w.permissions (map node_row nodes)) w.apps → c.sync_wait ≡ w.sync_wait → table_of c ≡ numbered w
 table_numbered w c nodes rows same apps wait =
-    let through : map app_row c.apps.entries ≡ map (numbered_app (numbered_nodes w)) w.apps = apps ∙ ap (λ rs. map (numbered_app rs) w.apps) (ap (map node_row) same ∙ rows) in
+    let through : map app_row c.apps.entries ≡ map (numbered_app w.permissions (numbered_nodes w)) w.apps = apps ∙ ap (λ rs. map (numbered_app w.permissions rs) w.apps) (ap (map node_row) same ∙ rows) in
     λ i. record { nodes = rows i; apps = through i; sync_wait = wait i }

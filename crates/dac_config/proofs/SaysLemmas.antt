@@ -1,5 +1,5 @@
 -- What is numbered is what is written, and nothing else is.
-use Rattle.std.proofs.Common.{◌≡◌, ℕ, zero, suc, ◌+◌, ◌<◌, true, false, cond, eqb, List, [], ◌∷◌, map, slice_get, refl, sym, ap, subst, ◌∙◌, arith}
+use Rattle.std.proofs.Common.{◌≡◌, ℕ, zero, suc, ◌+◌, ◌<◌, Bool, true, false, ◌||◌, cond, eqb, List, [], ◌∷◌, ◌++◌, map, slice_get, refl, sym, ap, subst, ◌∙◌, inl, inr, arith}
 use Rattle.std.specs.Prelude.{All}
 use Rattle.std.specs.declared.cmp.Ordering.TheVariants.{Less}
 use Rattle.std.specs.Ordering.{nat_cmp}
@@ -12,11 +12,11 @@ use Rattle.std.proofs.lemmas.Cmp.{nat_cmp_total, nat_list_cmp_total}
 use Rattle.std.proofs.lemmas.Bool.{lt-ltb, eqb-true}
 use Rattle.std.proofs.lemmas.Bool.Decides.{nat_tests}
 use Rattle.std.proofs.lemmas.List.Elements.{All-map}
-use Rattle.dac_shapes.specs.Written.{App, Written}
+use Rattle.dac_shapes.specs.Written.{App, Permission, Written}
 use Rattle.dac_shapes.specs.Limits.{is_among}
 use Rattle.dac_config.specs.Table.{NodeRow, AppRow, Table}
-use Rattle.dac_config.specs.Numbering.{name_cmp, in_byte_order, numbers_from, numbered_node, numbered_nodes, numbered_app, numbered}
-use Rattle.dac_config.specs.Says.{is_named, IsGroup, IsApp, IsTableOf}
+use Rattle.dac_config.specs.Numbering.{name_cmp, in_byte_order, numbers_from, numbered_node, numbered_nodes, permitted, numbered_app, numbered}
+use Rattle.dac_config.specs.Says.{is_named, IsGroup, IsUnmentioned, IsPermitted, IsApp, IsTableOf}
 use Rattle.dac_config.proofs.Rising.{rising_all, any_all, same_rising}
 use Rattle.dac_config.proofs.Listed.{itself}
 
@@ -81,8 +81,23 @@ zip_map : {A B : Type 0} (P : A → B → Type 0) (f : A → B) → ((x : A) →
 zip_map P f each [] = tt
 zip_map P f each (x ∷ xs) = (each x, zip_map P f each xs)
 
-app_numbered : (nodes : List NodeRow) (app : App) → IsApp nodes app (numbered_app nodes app)
-app_numbered nodes app = record { name = refl; timeout = refl; groups = zip_map (IsGroup nodes) (numbers_from 0 nodes) (group_numbered nodes) app.groups; permission = refl }
+bytes_exact : (x y : List ℕ) → bytes_eq x y ≡ true → x ≡ y
+bytes_exact x y h = same_text x y (sym h)
+
+-- the first permission of a name, if there is one
+permission_found : (permissions : List Permission) (name : List ℕ) → IsPermitted permissions name (permitted permissions name)
+permission_found [] name = inr (refl, refl)
+permission_found (p ∷ ps) name = elim (bytes_eq p.name name) as (λ b. bytes_eq p.name name ≡ b → IsPermitted (p ∷ ps) name (cond b p.value (permitted ps name))) [
+  | true ↦ λ h. inl ([], ps, (λ i. record { name = bytes_exact p.name name h i; value = p.value } ∷ ps), refl)
+  | false ↦ λ h. behind h (permission_found ps name)
+] refl
+  where
+    behind : bytes_eq p.name name ≡ false → IsPermitted ps name (permitted ps name) → IsPermitted (p ∷ ps) name (permitted ps name)
+    behind h (inl found) = inl (p ∷ found.0, found.1, ap (λ l. p ∷ l) found.2, rw h found.3)
+    behind h (inr none) = inr (rw h none.0, none.1)
+
+app_numbered : (permissions : List Permission) (nodes : List NodeRow) (app : App) → IsApp permissions nodes app (numbered_app permissions nodes app)
+app_numbered permissions nodes app = record { name = refl; timeout = refl; groups = zip_map (IsGroup nodes) (numbers_from 0 nodes) (group_numbered nodes) app.groups; permission = permission_found permissions app.name }
 
 same_map : {A : Type 0} (f : List ℕ → A) (name : A → List ℕ) → ((x : List ℕ) → name (f x) ≡ x) → (names : List (List ℕ)) → map name (map f names) ≡ names
 same_map f name is [] = refl
@@ -101,7 +116,7 @@ numbered_says w = record {
   nodes = λ name. ap (is_among name) (names_numbered w) ∙ any_all nat_list_cmp_total (slice_cmp-IsAntisymmetric nat_cmp-IsAntisymmetric) (λ other. bytes_eq other name) [] w.nodes;
   mandatory = All-map (λ node. node.mandatory ≡ is_among node.name w.mandatory) (numbered_node w) (in_byte_order w.nodes) (λ _ _ _. refl);
   optional = All-map (λ node. node.optional ≡ is_among node.name w.optional) (numbered_node w) (in_byte_order w.nodes) (λ _ _ _. refl);
-  apps = zip_map (IsApp (numbered_nodes w)) (numbered_app (numbered_nodes w)) (app_numbered (numbered_nodes w)) w.apps;
+  apps = zip_map (IsApp w.permissions (numbered_nodes w)) (numbered_app w.permissions (numbered_nodes w)) (app_numbered w.permissions (numbered_nodes w)) w.apps;
   sync_wait = refl;
 }
 
@@ -121,10 +136,30 @@ group_same nodes group numbers is =
     let one = group_numbered nodes group in
     same_rising nat_cmp_total nat_cmp-IsAntisymmetric eqb number_itself eqb-true numbers (numbers_from 0 nodes group) is.rising one.rising (λ q. is.members q ∙ sym (one.members q))
 
-app_same : (nodes : List NodeRow) (app : App) (row : AppRow) → IsApp nodes app row → row ≡ numbered_app nodes app
-app_same nodes app row is =
+-- the first permission of a name decides
+permission_first : (before after : List Permission) (name : List ℕ) (value : Bool) → IsUnmentioned before name → permitted (before ++ record { name = name; value = value } ∷ after) name ≡ value
+permission_first [] after name value none = rw (itself name) refl
+permission_first (p ∷ ps) after name value none = elim (bytes_eq p.name name) as (λ b. (b || is_among name (map (λ q. q.name) ps)) ≡ false → cond b p.value (permitted (ps ++ record { name = name; value = value } ∷ after) name) ≡ value) [
+  | true ↦ λ h. absurd cc
+  | false ↦ λ h. permission_first ps after name value h
+] none
+
+permission_default : (permissions : List Permission) (name : List ℕ) → IsUnmentioned permissions name → permitted permissions name ≡ true
+permission_default [] name none = refl
+permission_default (p ∷ ps) name none = elim (bytes_eq p.name name) as (λ b. (b || is_among name (map (λ q. q.name) ps)) ≡ false → cond b p.value (permitted ps name) ≡ true) [
+  | true ↦ λ h. absurd cc
+  | false ↦ λ h. permission_default ps name h
+] none
+
+permission_same : (permissions : List Permission) (name : List ℕ) (value : Bool) → IsPermitted permissions name value → value ≡ permitted permissions name
+permission_same permissions name value (inl found) = sym (ap (λ ps. permitted ps name) found.2 ∙ permission_first found.0 found.1 name value found.3)
+permission_same permissions name value (inr none) = none.1 ∙ sym (permission_default permissions name none.0)
+
+app_same : (permissions : List Permission) (nodes : List NodeRow) (app : App) (row : AppRow) → IsApp permissions nodes app row → row ≡ numbered_app permissions nodes app
+app_same permissions nodes app row is =
+    let permission = permission_same permissions app.name row.permission is.permission in
     let groups = zip_same (IsGroup nodes) (numbers_from 0 nodes) (group_same nodes) app.groups row.groups is.groups in
-    λ i. record { name = is.name i; timeout = is.timeout i; groups = groups i; permission = is.permission i }
+    λ i. record { name = is.name i; timeout = is.timeout i; groups = groups i; permission = permission i }
 
 all_head : {A : Type 0} (P : A → Type 0) (x : A) (xs : List A) → All P (x ∷ xs) → P x
 all_head P x xs all = all 0 x (omega arith)
@@ -141,9 +176,6 @@ rows_same w (row ∷ rows) mandatory optional =
     let rest = rows_same w rows (all_tail (λ node. node.mandatory ≡ is_among node.name w.mandatory) row rows mandatory) (all_tail (λ node. node.optional ≡ is_among node.name w.optional) row rows optional) in
     λ i. record { name = row.name; mandatory = m i; optional = o i } ∷ rest i
 
-bytes_exact : (x y : List ℕ) → bytes_eq x y ≡ true → x ≡ y
-bytes_exact x y h = same_text x y (sym h)
-
 -- the tables that say what is written are those that are numbered
 pub table_same : (w : Written) (table : Table) → IsTableOf w table → table ≡ numbered w
 table_same w table is =
@@ -152,5 +184,5 @@ table_same w table is =
     same_rising nat_list_cmp_total (slice_cmp-IsAntisymmetric nat_cmp-IsAntisymmetric) bytes_eq itself bytes_exact (map (λ node. node.name) table.nodes) (map (λ node. node.name) (numbered_nodes w)) is.rising one.rising (λ q. is.nodes q ∙ sym (one.nodes q))
     ∙ names_numbered w in
     let nodes : table.nodes ≡ numbered_nodes w = rows_same w table.nodes is.mandatory is.optional ∙ ap (map (numbered_node w)) names in
-    let apps : table.apps ≡ map (numbered_app (numbered_nodes w)) w.apps = zip_same (IsApp table.nodes) (numbered_app table.nodes) (app_same table.nodes) w.apps table.apps is.apps ∙ ap (λ rows. map (numbered_app rows) w.apps) nodes in
+    let apps : table.apps ≡ map (numbered_app w.permissions (numbered_nodes w)) w.apps = zip_same (IsApp w.permissions table.nodes) (numbered_app w.permissions table.nodes) (app_same w.permissions table.nodes) w.apps table.apps is.apps ∙ ap (λ rows. map (numbered_app w.permissions rows) w.apps) nodes in
     λ i. record { nodes = nodes i; apps = apps i; sync_wait = is.sync_wait i }

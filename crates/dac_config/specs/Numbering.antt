@@ -1,10 +1,11 @@
 -- From what a text says, by names, to the tables of a configuration, by numbers.
-use Rattle.std.specs.Prelude.{◌≡◌, ℕ, ◌+◌, ◌≤◌, true, false, List, [], ◌∷◌, ◌++◌, map, fold, length, if◌then◌else◌, All}
+use Rattle.std.specs.Prelude.{◌≡◌, ℕ, ◌+◌, ◌≤◌, Bool, true, false, List, [], ◌∷◌, ◌++◌, map, fold, length, if◌then◌else◌, All}
 use Rattle.std.specs.declared.cmp.Ordering.{Ordering}
 use Rattle.std.specs.Ordering.{nat_cmp}
 use Rattle.std.specs.Cmp.Lexicographic.{slice_cmp}
+use Rattle.std.specs.Str.{bytes_eq}
 use Rattle.std.specs.BTreeSet.{insert_key}
-use Rattle.dac_shapes.specs.Written.{App, Written}
+use Rattle.dac_shapes.specs.Written.{App, Permission, Written}
 use Rattle.dac_shapes.specs.Limits.{is_among}
 use Rattle.dac_config.specs.Table.{NodeRow, AppRow, Table}
 
@@ -27,16 +28,21 @@ numbers_from number (node ∷ nodes) group =
 abbrev pub numbered_node : Written → List ℕ → NodeRow
 numbered_node w name = record { name = name; mandatory = is_among name w.mandatory; optional = is_among name w.optional }
 
--- an application, with numbers for the names of these nodes
-abbrev pub numbered_app : List NodeRow → App → AppRow
-numbered_app nodes app = record { name = app.name; timeout = app.timeout; groups = map (numbers_from 0 nodes) app.groups; permission = true }
+-- whether an application of this name is permitted: as the first of these permissions of its name says, or else so
+abbrev pub permitted : List Permission → List ℕ → Bool
+permitted [] name = true
+permitted (permission ∷ permissions) name = if bytes_eq permission.name name then permission.value else permitted permissions name
+
+-- an application, with these permissions, and with numbers for the names of these nodes
+abbrev pub numbered_app : List Permission → List NodeRow → App → AppRow
+numbered_app permissions nodes app = record { name = app.name; timeout = app.timeout; groups = map (numbers_from 0 nodes) app.groups; permission = permitted permissions app.name }
 
 abbrev pub numbered_nodes : Written → List NodeRow
 numbered_nodes w = map (numbered_node w) (in_byte_order w.nodes)
 
 -- the configuration that a text says
 abbrev pub numbered : Written → Table
-numbered w = record { nodes = numbered_nodes w; apps = map (numbered_app (numbered_nodes w)) w.apps; sync_wait = w.sync_wait }
+numbered w = record { nodes = numbered_nodes w; apps = map (numbered_app w.permissions (numbered_nodes w)) w.apps; sync_wait = w.sync_wait }
 
 -- each name is none of those before it
 abbrev pub AllNew : List (List ℕ) → List (List ℕ) → Type 0

@@ -1,9 +1,9 @@
 -- What it means that a text says a configuration, whatever a reader does.
-use Rattle.std.specs.Prelude.{◌≡◌, ℕ, Bool, true, false, List, map, Option, None, Some, slice_get, ◌==◌, All}
+use Rattle.std.specs.Prelude.{◌≡◌, ◌⊎◌, ℕ, Bool, true, false, List, ◌∷◌, ◌++◌, map, Option, None, Some, slice_get, ◌==◌, All}
 use Rattle.std.specs.Ordering.{nat_cmp}
 use Rattle.std.specs.List.{list_any, AllZip}
 use Rattle.std.specs.List.Sorted.{IsStrictlySortedBy}
-use Rattle.dac_shapes.specs.Written.{App, Written}
+use Rattle.dac_shapes.specs.Written.{App, Permission, Written}
 use Rattle.dac_shapes.specs.Limits.{is_among}
 use Rattle.dac_shapes.specs.Grammar.{IsTextOf}
 use Rattle.dac_config.specs.Table.{NodeRow, AppRow, Table}
@@ -19,12 +19,22 @@ pub record IsGroup (nodes : List NodeRow) (group : List (List ℕ)) (numbers : L
   pub rising : IsStrictlySortedBy nat_cmp numbers
   pub members : (number : ℕ) → list_any (λ other. other == number) numbers ≡ is_named group (slice_get nodes number)
 
+-- none of the permissions is of this name
+abbrev pub IsUnmentioned : List Permission → List ℕ → Type 0
+IsUnmentioned permissions name = is_among name (map (λ p. p.name) permissions) ≡ false
+
+-- this is what the first permission of the name says; with none, that the application is permitted
+abbrev pub IsPermitted : List Permission → List ℕ → Bool → Type 0
+IsPermitted permissions name value =
+    ((before after : List Permission) × (permissions ≡ before ++ record { name = name; value = value } ∷ after) × IsUnmentioned before name)
+    ⊎ (IsUnmentioned permissions name × (value ≡ true))
+
 -- an application keeps its name and its timeout, and its groups in their order
-pub record IsApp (nodes : List NodeRow) (app : App) (row : AppRow) : Type 0 where
+pub record IsApp (permissions : List Permission) (nodes : List NodeRow) (app : App) (row : AppRow) : Type 0 where
   pub name : row.name ≡ app.name
   pub timeout : row.timeout ≡ app.timeout
   pub groups : AllZip (IsGroup nodes) app.groups row.groups
-  pub permission : row.permission ≡ true
+  pub permission : IsPermitted permissions app.name row.permission
 
 -- The tables say by numbers what is written by names: the nodes are those that are named, in the byte order of
 -- their names, and the applications stand in the order of the text.
@@ -33,7 +43,7 @@ pub record IsTableOf (w : Written) (table : Table) : Type 0 where
   pub nodes : (name : List ℕ) → is_among name (map (λ node. node.name) table.nodes) ≡ is_among name w.nodes
   pub mandatory : All (λ node. node.mandatory ≡ is_among node.name w.mandatory) table.nodes
   pub optional : All (λ node. node.optional ≡ is_among node.name w.optional) table.nodes
-  pub apps : AllZip (IsApp table.nodes) w.apps table.apps
+  pub apps : AllZip (IsApp w.permissions table.nodes) w.apps table.apps
   pub sync_wait : table.sync_wait ≡ w.sync_wait
 
 -- the text is spelled by the grammar, and the tables say what is written in it

@@ -14,9 +14,10 @@ use std::alloc::Global;
 /// The configuration that a text says, or the first fault of the text, in the order of the text.
 ///
 /// The text is a file of Erlang terms as OTP's command line flag `-config` takes it, with a section `kernel`
-/// whose parameters `distributed`, `sync_nodes_mandatory`, `sync_nodes_optional` and `sync_nodes_timeout` are
-/// those of OTP's kernel manual. Nodes are all names in its node lists and in both sync lists. Quoted atoms,
-/// strings, comments, other sections and other parameters are `Unsupported` where they begin.
+/// whose parameters `distributed`, `permissions`, `sync_nodes_mandatory`, `sync_nodes_optional` and
+/// `sync_nodes_timeout` are those of OTP's kernel manual. Nodes are all names in its node lists and in both
+/// sync lists. Of two permissions for one application the first stands, and a permission of any other
+/// application is ignored. Strings, other sections and other parameters are `Unsupported` where they begin.
 ///
 /// A fault's place counts bytes from 0. Where memory is refused, the answer is `NoMemory` at 0.
 pub fn read_config(alloc: Global, text: &[u8]) -> Result<Config, ConfigFault>

@@ -15,6 +15,12 @@ const EXAMPLE_IN_ONE_LINE: &[u8] =
 const TWO_APPLICATIONS_IN_ONE_LINE: &[u8] =
     b"[{kernel,[{distributed,[{b,5000,[c1@h,{c2@h,c3@h}]},{a,0,[c2@h]}]},{permissions,[]},{sync_nodes_mandatory,[]},{sync_nodes_optional,[b@h,c1@h]}]}].\n";
 
+const PERMISSIONS: &[u8] =
+    b"[{kernel,[{distributed,[{a,4294967295,[b@h]},{'b-1',[{d@h,c@h}]},{c,[b@h]}]},{permissions,[{c,true},{'b-1',false},{c,false},{x,false},{a,false}]},{sync_nodes_timeout,infinity}]}].";
+
+const PERMISSIONS_IN_ONE_LINE: &[u8] =
+    b"[{kernel,[{distributed,[{a,4294967295,[b@h]},{'b-1',0,[{c@h,d@h}]},{c,0,[b@h]}]},{permissions,[{a,false},{'b-1',false}]},{sync_nodes_mandatory,[]},{sync_nodes_optional,[]},{sync_nodes_timeout,infinity}]}].\n";
+
 const NODE_TWICE: &[u8] = b"[{kernel,[{distributed,[{a,[b@h,{c@h,b@h}]}]}]}].";
 
 #[test]
@@ -77,6 +83,18 @@ fn every_timeout_and_tuples_in_order(rt: HostRuntime) -> Result<(), Fail> {
     let config = read_config(rt.alloc(), TWO_APPLICATIONS)?;
     let text = config.canonical_text()?;
     assert_eq!(rt; text.as_slice(), TWO_APPLICATIONS_IN_ONE_LINE);
+    Ok(())
+}
+
+#[test]
+fn first_permission_of_an_application_stands(rt: HostRuntime) -> Result<(), Fail> {
+    let config = read_config(rt.alloc(), PERMISSIONS)?;
+    assert_eq!(rt; config.apps(), 3);
+    assert!(rt; !config.default_permission(AppId(0)));
+    assert!(rt; !config.default_permission(AppId(1)));
+    assert!(rt; config.default_permission(AppId(2)));
+    let text = config.canonical_text()?;
+    assert_eq!(rt; text.as_slice(), PERMISSIONS_IN_ONE_LINE);
     Ok(())
 }
 

@@ -1,13 +1,13 @@
 //! Numbers in place of names.
 ghost use Rattle.std.specs.Prelude.{◌≡◌, ◌≤◌, [], map, length, IfOk};
-ghost use Rattle.dac_shapes.specs.Views.{names_of, groups_of, app_of, apps_of, draft_of};
+ghost use Rattle.dac_shapes.specs.Views.{names_of, groups_of, app_of, apps_of, permissions_of, draft_of};
 ghost use Rattle.dac_shapes.specs.Limits.{is_among};
-ghost use Rattle.dac_config.specs.Numbering.{in_byte_order, numbers_from, numbered_node, numbered_nodes, numbered_app, numbered, AllNew, IsNumberable};
+ghost use Rattle.dac_config.specs.Numbering.{in_byte_order, numbers_from, numbered_node, numbered_nodes, permitted, numbered_app, numbered, AllNew, IsNumberable};
 ghost use Rattle.dac_config.specs.ConfigView.{node_row, app_row};
 
 use super::{App, Config, Node};
 use dac_base::NoMemory;
-use dac_shapes::{Draft, DraftApp};
+use dac_shapes::{Draft, DraftApp, Permission};
 use indexmap::IndexMap;
 use std::alloc::Global;
 use std::collections::BTreeSet;
@@ -84,11 +84,30 @@ fn groups_of(alloc: Global, nodes: &[Node], groups: &[Vec<&[u8]>]) -> Result<Vec
     Ok(numbered)
 }
 
-/// The application with its name.
-fn app_of(alloc: Global, nodes: &[Node], app: &DraftApp<'_>) -> Result<(Vec<u8>, App), NoMemory>
-    requires { length nodes.now ≤ 16 }
-    ensures { IfOk result (λ entry. app_row entry ≡ numbered_app (map node_row nodes.now) (app_of app.now)) }
+/// Whether an application of this name is permitted: as the first permission of its name says, or where there is
+/// none.
+fn is_permitted(permissions: &[Permission<'_>], name: &[u8]) -> bool
+    ensures { result ≡ permitted (permissions_of permissions.now) name.now }
 {
+    for permission in permissions {
+        if permission.name == name {
+            return permission.value;
+        }
+    }
+    true
+}
+
+/// The application with its name.
+fn app_of(
+    alloc: Global,
+    permissions: &[Permission<'_>],
+    nodes: &[Node],
+    app: &DraftApp<'_>,
+) -> Result<(Vec<u8>, App), NoMemory>
+    requires { length nodes.now ≤ 16 }
+    ensures { IfOk result (λ entry. app_row entry ≡ numbered_app (permissions_of permissions.now) (map node_row nodes.now) (app_of app.now)) }
+{
+    let permission = is_permitted(permissions, app.name);
     let name = app.name.to_vec(alloc)?;
     let groups = groups_of(alloc, nodes, &app.groups)?;
     let timeout = app.timeout;
@@ -97,7 +116,7 @@ fn app_of(alloc: Global, nodes: &[Node], app: &DraftApp<'_>) -> Result<(Vec<u8>,
         App {
             timeout,
             groups,
-            permission: true,
+            permission,
         },
     ))
 }
@@ -105,16 +124,17 @@ fn app_of(alloc: Global, nodes: &[Node], app: &DraftApp<'_>) -> Result<(Vec<u8>,
 /// The applications by their numbers.
 fn apps_of(
     alloc: Global,
+    permissions: &[Permission<'_>],
     nodes: &[Node],
     apps: &[DraftApp<'_>],
 ) -> Result<IndexMap<Vec<u8>, App>, NoMemory>
     requires few { length nodes.now ≤ 16 }
     requires once { AllNew [] (map (λ app. app.name) (apps_of apps.now)) }
-    ensures { IfOk result (λ numbered. map app_row numbered.entries ≡ map (numbered_app (map node_row nodes.now)) (apps_of apps.now)) }
+    ensures { IfOk result (λ numbered. map app_row numbered.entries ≡ map (numbered_app (permissions_of permissions.now) (map node_row nodes.now)) (apps_of apps.now)) }
 {
     let mut numbered = IndexMap::new(alloc);
     for app in apps {
-        let (name, app) = app_of(alloc, nodes, app)?;
+        let (name, app) = app_of(alloc, permissions, nodes, app)?;
         numbered.insert(name, app)?;
     }
     Ok(numbered)
@@ -127,7 +147,7 @@ impl Config {
         ensures { IfOk result (λ config. config ≡ numbered (draft_of draft.now)) }
     {
         let nodes = nodes_of(alloc, draft)?;
-        let apps = apps_of(alloc, &nodes, &draft.apps)?;
+        let apps = apps_of(alloc, &draft.permissions, &nodes, &draft.apps)?;
         Ok(Config {
             nodes,
             apps,

@@ -1,7 +1,5 @@
-use Rattle.std.proofs.Common.{◌≡◌, ℕ, map, Some, option_map, slice_get, sym, ap, ◌∙◌}
-use Rattle.std.specs.Global.{Vec}
+use Rattle.std.proofs.Common.{◌≡◌, map, Some, option_map, slice_get, sym, ap, ◌∙◌}
 use Rattle.std.specs.Map.Iter.{deref_pair}
-use Rattle.dac_config.specs.declared.config.App.{App}
 use Rattle.dac_config.specs.Canonical.{app_text}
 use Rattle.dac_config.specs.ConfigView.{node_row, app_row}
 use Rattle.dac_config.proofs.Tables.{left_from}
