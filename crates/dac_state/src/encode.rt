@@ -123,10 +123,14 @@ mod tests {
         }
     }
 
+    fn delta_of(alloc: Global, dot: Dot, act: Act) -> Result<State, Fail> {
+        let op = Op::new(dot, act)?;
+        Ok(State::delta_of(alloc, &op)?)
+    }
+
     /// The state that heard one operation more.
     fn with(alloc: Global, state: &State, dot: Dot, act: Act) -> Result<State, Fail> {
-        let op = Op::new(dot, act)?;
-        let delta = State::delta_of(alloc, &op)?;
+        let delta = delta_of(alloc, dot, act)?;
         Ok(state.join(&delta)?)
     }
 

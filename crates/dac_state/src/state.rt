@@ -265,7 +265,8 @@ mod tests {
     }
 
     fn up(alloc: Global) -> Result<State, Fail> {
-        Ok(State::delta_of(alloc, &Op::new(dot(1), Act::Up)?)?)
+        let op = Op::new(dot(1), Act::Up)?;
+        Ok(State::delta_of(alloc, &op)?)
     }
 
     fn list(alloc: Global, dots: &[Dot]) -> Result<DotList, Fail> {
@@ -286,22 +287,29 @@ mod tests {
 
     /// Two starts of one key, neither of which replaces the other.
     fn both(alloc: Global) -> Result<State, Fail> {
-        Ok(start(alloc, 2, &[])?.join(&start(alloc, 3, &[])?)?)
+        let first = start(alloc, 2, &[])?;
+        let second = start(alloc, 3, &[])?;
+        Ok(first.join(&second)?)
     }
 
     /// Both, and a stop of the first.
     fn stopped(alloc: Global) -> Result<State, Fail> {
-        Ok(both(alloc)?.join(&stop(alloc, 4, &[dot(2)])?)?)
+        let both = both(alloc)?;
+        let stop = stop(alloc, 4, &[dot(2)])?;
+        Ok(both.join(&stop)?)
     }
 
     /// The first start comes once more.
     fn started_again(alloc: Global, state: &State) -> Result<State, Fail> {
-        Ok(start(alloc, 2, &[])?.join(state)?)
+        let start = start(alloc, 2, &[])?;
+        Ok(start.join(state)?)
     }
 
     /// A stop, and then the start that it names.
     fn stopped_first(alloc: Global) -> Result<State, Fail> {
-        Ok(stop(alloc, 3, &[dot(2)])?.join(&start(alloc, 2, &[])?)?)
+        let stop = stop(alloc, 3, &[dot(2)])?;
+        let start = start(alloc, 2, &[])?;
+        Ok(stop.join(&start)?)
     }
 
     fn known_dots(state: &State) -> Result<Vec<Dot>, NoMemory> {

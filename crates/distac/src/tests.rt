@@ -49,6 +49,20 @@ impl Write for Full {
     }
 }
 
+/// A writer that takes all and can flush nothing.
+#[derive(Drop)]
+struct Held;
+
+impl Write for Held {
+    fn write(&mut self, buf: &[u8]) -> io::Result<usize> {
+        Ok(buf.len())
+    }
+
+    fn flush(&mut self) -> io::Result<()> {
+        Err(io::Error::from(ErrorKind::StorageFull))
+    }
+}
+
 /// The status and the output of `distac sim` for what a reader gives.
 fn simulated<R: Read>(rt: &HostRuntime, input: &mut R) -> (u8, Vec<u8>) {
     let alloc = rt.alloc();
@@ -267,13 +281,23 @@ fn gives_up_inputs_that_cannot_be_read(rt: HostRuntime) {
     assert_eq!(rt; status, 1);
 }
 
-#[test]
-fn fails_where_nothing_can_be_written(rt: HostRuntime) -> Result<(), Fail> {
+/// The status of `distac sim` for a script of one line, with this output.
+fn status_with<W: Write>(rt: &HostRuntime, output: &mut W) -> Result<u8, Fail> {
     let mut text = String::from_str(rt.alloc(), EXAMPLE)?;
     text.push_str("--\nboot cp1@cave 0")?;
     let words = ["distac", "sim"];
-    let status = run(&rt, rt.alloc(), &words, &mut text.as_bytes(), &mut Full);
-    assert_eq!(rt; status, 1);
+    Ok(run(rt, rt.alloc(), &words, &mut text.as_bytes(), output))
+}
+
+#[test]
+fn fails_where_nothing_can_be_written(rt: HostRuntime) -> Result<(), Fail> {
+    assert_eq!(rt; status_with(&rt, &mut Full)?, 1);
+    Ok(())
+}
+
+#[test]
+fn fails_where_nothing_can_be_flushed(rt: HostRuntime) -> Result<(), Fail> {
+    assert_eq!(rt; status_with(&rt, &mut Held)?, 1);
     Ok(())
 }
 
