@@ -4,7 +4,7 @@ use Rattle.std.specs.Prelude.{All, fold}
 use Rattle.std.proofs.lemmas.List.{length-append, map_push}
 use Rattle.std.proofs.lemmas.List.Elements.{All-nil, All-cons}
 use Rattle.dac_tokens.specs.Words.{Word}
-use Rattle.dac_shapes.specs.Written.{App, Param, Distributed, Permissions, Mandatory, Optional, Timeout, Written, put, put_all, unsaid}
+use Rattle.dac_shapes.specs.Written.{App, Param, Distributed, Permissions, Mandatory, Optional, Timeout, Section, Kernel, Written, put, put_all, put_section, unsaid}
 use Rattle.dac_shapes.specs.Limits.{Seen, nothing, AllMay, listing, with_app, MayApp, with_apps, with_param, MayParam, MayValue, with_section, MaySection, MaySections, nodes_in}
 use Rattle.dac_shapes.specs.Grammar.{Parted, IsListOf, IsNode, IsItem, IsApp, IsParam, IsSection, IsFile, IsTextOf}
 use Rattle.dac_config.specs.Numbering.{AllNew, IsNumberable}
@@ -47,6 +47,7 @@ HasSome (Permissions permissions) = Unit {0}
 HasSome (Mandatory names) = Unit {0}
 HasSome (Optional names) = Unit {0}
 HasSome (Timeout wait) = Unit {0}
+HasSome Param.Other = Unit {0}
 
 some_param : (words : List Word) (param : Param) → IsParam words param → HasSome param
 unfolding HasSome
@@ -55,12 +56,19 @@ some_param words (Permissions permissions) h = tt
 some_param words (Mandatory names) h = tt
 some_param words (Optional names) h = tt
 some_param words (Timeout wait) h = tt
+some_param words Param.Other h = tt
 
-some_section : (words : List Word) (params : List Param) → IsSection words params → Each HasSome params
-some_section words params h = each_listed IsParam HasSome some_param h.0 params h.2
+HaveSome : Section → Type 0
+HaveSome (Kernel params) = Each HasSome params
+HaveSome Section.Other = Unit {0}
 
-some_file : (words : List Word) (sections : List (List Param)) → IsFile words sections → Each (Each HasSome) sections
-some_file words sections h = each_listed IsSection (Each HasSome) some_section h.0 sections h.2
+some_section : (words : List Word) (section : Section) → IsSection words section → HaveSome section
+unfolding HaveSome
+some_section words (Kernel params) h = each_listed IsParam HasSome some_param h.0 params h.2
+some_section words Section.Other h = tt
+
+some_file : (words : List Word) (sections : List Section) → IsFile words sections → Each HaveSome sections
+some_file words sections h = each_listed IsSection HaveSome some_section h.0 sections h.2
 
 -- ---- what the limits say
 
@@ -73,11 +81,13 @@ few_param before seen (Permissions permissions) may few = few
 few_param before seen (Mandatory names) may few = few_nodes true seen names may.value few
 few_param before seen (Optional names) may few = few_nodes true seen names may.value few
 few_param before seen (Timeout wait) may few = few
+few_param before seen Param.Other may few = few
 
-few_section : (before : List (List Param)) (seen : Seen) (params : List Param) → MaySection before seen params → IsFew seen → IsFew (with_section seen params)
-few_section before seen params may = kept with_param MayParam IsFew few_param [] seen params may.params
+few_section : (before : List Section) (seen : Seen) (section : Section) → MaySection before seen section → IsFew seen → IsFew (with_section seen section)
+few_section before seen (Kernel params) may few = kept with_param MayParam IsFew few_param [] seen params may.params few
+few_section before seen Section.Other may few = few
 
-few_sections : (sections : List (List Param)) → MaySections sections → length (nodes_in sections) ≤ 16
+few_sections : (sections : List Section) → MaySections sections → length (nodes_in sections) ≤ 16
 few_sections sections may = kept with_section MaySection IsFew few_section [] nothing sections may (omega arith)
 
 -- what numbering asks of the applications
@@ -113,16 +123,22 @@ limited_put w seen (Permissions permissions) may few some h = h
 limited_put w seen (Mandatory names) may few some h = h
 limited_put w seen (Optional names) may few some h = h
 limited_put w seen (Timeout wait) may few some h = h
+limited_put w seen Param.Other may few some h = h
 
 limited_params : (w : Written) (before : List Param) (seen : Seen) (params : List Param) → AllMay with_param MayParam before seen params → IsFew seen → Each HasSome params → Limited w.apps → Limited (put_all w params).apps
 limited_params w before seen [] may few some h = h
 limited_params w before seen (param ∷ params) may few some h =
     limited_params (put w param) (before ++ param ∷ []) (with_param seen param) params may.1 (few_param before seen param may.0 few) some.1 (limited_put w seen param may.0.value few some.0 h)
 
-limited_sections : (w : Written) (before : List (List Param)) (seen : Seen) (sections : List (List Param)) → AllMay with_section MaySection before seen sections → IsFew seen → Each (Each HasSome) sections → Limited w.apps → Limited (fold put_all w sections).apps
+limited_section : (w : Written) (before : List Section) (seen : Seen) (section : Section) → MaySection before seen section → IsFew seen → HaveSome section → Limited w.apps → Limited (put_section w section).apps
+unfolding HaveSome
+limited_section w before seen (Kernel params) may few some h = limited_params w [] seen params may.params few some h
+limited_section w before seen Section.Other may few some h = h
+
+limited_sections : (w : Written) (before : List Section) (seen : Seen) (sections : List Section) → AllMay with_section MaySection before seen sections → IsFew seen → Each HaveSome sections → Limited w.apps → Limited (fold put_section w sections).apps
 limited_sections w before seen [] may few some h = h
-limited_sections w before seen (params ∷ sections) may few some h =
-    limited_sections (put_all w params) (before ++ params ∷ []) (with_section seen params) sections may.1 (few_section before seen params may.0 few) some.1 (limited_params w [] seen params may.0.params few some.0 h)
+limited_sections w before seen (section ∷ sections) may few some h =
+    limited_sections (put_section w section) (before ++ section ∷ []) (with_section seen section) sections may.1 (few_section before seen section may.0 few) some.1 (limited_section w before seen section may.0 few some.0 h)
 
 -- ---- the nodes stay
 
@@ -132,14 +148,19 @@ nodes_put w (Permissions permissions) = refl
 nodes_put w (Mandatory names) = refl
 nodes_put w (Optional names) = refl
 nodes_put w (Timeout wait) = refl
+nodes_put w Param.Other = refl
 
 nodes_put_all : (w : Written) (params : List Param) → (put_all w params).nodes ≡ w.nodes
 nodes_put_all w [] = refl
 nodes_put_all w (param ∷ params) = nodes_put_all (put w param) params ∙ nodes_put w param
 
-nodes_sections : (w : Written) (sections : List (List Param)) → (fold put_all w sections).nodes ≡ w.nodes
+nodes_section : (w : Written) (section : Section) → (put_section w section).nodes ≡ w.nodes
+nodes_section w (Kernel params) = nodes_put_all w params
+nodes_section w Section.Other = refl
+
+nodes_sections : (w : Written) (sections : List Section) → (fold put_section w sections).nodes ≡ w.nodes
 nodes_sections w [] = refl
-nodes_sections w (params ∷ sections) = nodes_sections (put_all w params) sections ∙ nodes_put_all w params
+nodes_sections w (section ∷ sections) = nodes_sections (put_section w section) sections ∙ nodes_section w section
 
 -- what a text says can be numbered
 pub numberable : (text : List ℕ) (w : Written) → IsTextOf text w → IsNumberable w
