@@ -17,11 +17,11 @@ use Rattle.dac_core.specs.declared.world_event.What.{What}
 use Rattle.dac_core.specs.declared.world_event.WorldFault.{WorldFault}
 use Rattle.dac_core.specs.declared.world_event.WorldFault.TheVariants.{NoSuchNode, Refused}
 use Rattle.dac_core.specs.declared.change.Change.{Change}
-use Rattle.dac_core.specs.NodeValue.{NodeValue, RunValue}
-use Rattle.dac_core.specs.ModelNode.{ModelNode, ModelRun, shown, run_shown, refusal_of, model_step, step_by, accepted, Stepped}
+use Rattle.dac_core.specs.NodeValue.{NodeValue}
+use Rattle.dac_core.specs.ModelNode.{ModelNode, ModelRun, shown, refusal_of, model_step, step_by, accepted, Stepped}
 use Rattle.dac_core.specs.Changes.{Prepared, changed, left_by, reply_by}
 use Rattle.dac_core.specs.WorldValue.{WorldValue}
-use Rattle.dac_core.specs.ModelWorld.{ModelWorld, Shows, WorldStepped, happens, happens_by, answered_by, event_of, message_at, numbered, with_node, issued_by, shipped_by, out_of_memory, Done, Lacked, Step, Follows}
+use Rattle.dac_core.specs.ModelWorld.{ModelWorld, Shows, WorldStepped, happens, happens_by, answered_by, event_of, message_at, numbered, with_node, issued_by, shipped_by, out_of_memory, Step, Follows}
 use Rattle.dac_core.specs.WorldChanges.{Goes}
 use Rattle.dac_core.proofs.Lists.{some_same, not_true}
 use Rattle.dac_core.proofs.Nodes.{shown_accepted, answer_accepted, step_accepted}

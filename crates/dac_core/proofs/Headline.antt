@@ -1,19 +1,18 @@
 -- What every run leaves, from the induction over runs.
-use Rattle.std.proofs.Common.{◌≡◌, ℕ, Bool, true, false, cond, List, Option, Some, None, length, refl, sym, ap, subst, ◌∙◌}
+use Rattle.std.proofs.Common.{◌≡◌, ℕ, Bool, true, false, cond, List, Option, Some, None, refl, sym, ap, subst, ◌∙◌}
 use Rattle.std.specs.Prelude.{nat_lt}
 use Rattle.std.specs.Option.{option_map}
 use Rattle.std.specs.List.{slice_get}
 use Rattle.dac_config.specs.Table.{Table}
-use Rattle.dac_state.specs.Operations.{Operation}
 use Rattle.dac_state.specs.StateValue.{StateValue}
 use Rattle.dac_state.specs.Meaning.{meaning_of}
 use Rattle.dac_core.specs.declared.world_event.WorldEvent.{WorldEvent}
 use Rattle.dac_core.specs.NodeValue.{NodeValue, RunValue, state_of}
 use Rattle.dac_core.specs.WorldValue.{WorldValue}
 use Rattle.dac_core.specs.ModelNode.{ModelRun, shown, run_shown}
-use Rattle.dac_core.specs.ModelWorld.{ModelWorld, Shows, RanAs, Run, start, numbered}
+use Rattle.dac_core.specs.ModelWorld.{ModelWorld, Shows, RanAs, start, numbered}
 use Rattle.dac_core.specs.SetWorld.{SetWorld, set_run, no_sets}
-use Rattle.dac_core.specs.Convergence.{RunsWith, EachIsMeaning, Agrees, DistinctDots, HoldsSets, heard_among}
+use Rattle.dac_core.specs.Convergence.{EachIsMeaning, Agrees, DistinctDots, HoldsSets, heard_among}
 use Rattle.dac_core.proofs.Lists.{some_same}
 use Rattle.dac_core.proofs.Operations.{DistinctDots-agree}
 use Rattle.dac_core.proofs.Meanings.{meaning-heard_among}

@@ -1,5 +1,5 @@
 -- Why what a running node issues is an operation: its dot is new, and what it replaces is a short rising list.
-use Rattle.std.proofs.Common.{◌≡◌, ℕ, ◌<◌, ◌≤◌, ◌+◌, Bool, true, false, not, cond, ◌||◌, List, [], ◌∷◌, ◌++◌, length, Option, Some, None, refl, sym, ap, subst, ◌∙◌, arith, true≢false}
+use Rattle.std.proofs.Common.{◌≡◌, ℕ, ◌<◌, ◌≤◌, ◌+◌, Bool, true, false, not, ◌||◌, List, [], ◌∷◌, ◌++◌, length, Option, Some, None, refl, sym, ap, subst, ◌∙◌, arith, true≢false}
 use Rattle.std.specs.Prelude.{◌==◌, if◌then◌else◌, MatchOption, is_some}
 use Rattle.std.specs.Option.{is_none}
 use Rattle.std.proofs.lemmas.Bool.{ltb-true}
@@ -9,17 +9,16 @@ use Rattle.dac_dots.specs.declared.dot.Origin.{Origin}
 use Rattle.dac_dots.specs.declared.dot.Dot.{Dot}
 use Rattle.dac_dots.specs.Dots.{Dots, dot, dot_cmp, dots_total, exact_dots, IsNext, IsUsedUp}
 use Rattle.dac_dots.specs.Keys.{has_key}
-use Rattle.dac_dots.specs.InOrder.{in_order, in_order-rising, has_key-in_order}
+use Rattle.dac_dots.specs.InOrder.{in_order-rising, has_key-in_order}
 use Rattle.dac_state.specs.declared.operations.Act.{Act}
-use Rattle.dac_state.specs.declared.operations.Act.TheVariants.{Up, Start as Starts, Stop as Stops}
-use Rattle.dac_state.specs.declared.operations.OpFault.{OpFault}
+use Rattle.dac_state.specs.declared.operations.Act.TheVariants.{Start as Starts, Stop as Stops}
 use Rattle.dac_state.specs.declared.operations.OpFault.TheVariants.{OwnDot, BadOver, BadCounter}
 use Rattle.dac_state.specs.declared.starts.Key.{Key}
-use Rattle.dac_state.specs.Operations.{Operation, fault_of, replaces_itself, has_bad_over, has_bad_counter, over_list, is_up}
+use Rattle.dac_state.specs.Operations.{fault_of, replaces_itself, has_bad_over, has_bad_counter, over_list}
 use Rattle.dac_state.specs.Starts.{dots_at, start, contains-dots_at}
 use Rattle.dac_state.specs.StateValue.{StateValue, IsState, bottom, join}
 use Rattle.dac_state.specs.StateLaws.{known-join}
-use Rattle.dac_state.specs.Meaning.{meaning_of, same_dot}
+use Rattle.dac_state.specs.Meaning.{meaning_of}
 use Rattle.dac_state.specs.Readers.{known-meaning}
 use Rattle.dac_state.specs.Joins.{same_dot_itself}
 use Rattle.dac_base.specs.declared.AppId.{AppId}
@@ -30,7 +29,7 @@ use Rattle.dac_core.specs.declared.event.Command.TheVariants.{Start, Stop}
 use Rattle.dac_core.specs.declared.refusal.Refusal.{Refusal}
 use Rattle.dac_core.specs.declared.refusal.Refusal.TheVariants.{NotStarted, TooManyDots, DotsUsedUp}
 use Rattle.dac_core.specs.NodeValue.{KnowsItself, RunValue}
-use Rattle.dac_core.specs.ModelNode.{first, causes_to_name, causes_to_issue, refusal_of_command, too_many, used_up, standing, greatest_counter, next_operation, act_of, key_at, up, not_wished}
+use Rattle.dac_core.specs.ModelNode.{first, causes_to_name, causes_to_issue, refusal_of_command, too_many, used_up, standing, greatest_counter, next_operation, key_at, up, not_wished}
 use Rattle.dac_core.proofs.Lists.{not_true}
 use Rattle.dac_core.proofs.Counters.{counter-greatest, next_none, next-is}
 

@@ -1,5 +1,5 @@
 -- Laws of meanings that runs need.
-use Rattle.std.proofs.Common.{◌≡◌, Bool, true, false, ◌⊎◌, inl, inr, List, [], ◌∷◌, ◌++◌, cond, refl, sym, ap, subst, ◌∙◌}
+use Rattle.std.proofs.Common.{◌≡◌, Bool, true, false, inl, inr, List, [], ◌∷◌, ◌++◌, cond, refl, sym, ap, subst, ◌∙◌}
 use Rattle.std.specs.List.{filter}
 use Rattle.std.specs.FinSet as set
 use Rattle.std.specs.FinMap as map
@@ -7,7 +7,7 @@ use Rattle.dac_base.specs.Ids.{node_cmp}
 use Rattle.dac_dots.specs.Dots.{dot_cmp}
 use Rattle.dac_state.specs.Operations.{Operation}
 use Rattle.dac_state.specs.Starts.{start_cmp}
-use Rattle.dac_state.specs.StateValue.{StateValue, bottom, join}
+use Rattle.dac_state.specs.StateValue.{bottom, join}
 use Rattle.dac_state.specs.StateLaws.{same_state}
 use Rattle.dac_state.specs.Order.{IsBelow}
 use Rattle.dac_state.specs.Meaning.{meaning_of, In, Within, Agree, has_dot}

@@ -1,5 +1,5 @@
 -- The definition's node and what it shows.
-use Rattle.std.proofs.Common.{◌≡◌, ℕ, ◌+◌, Bool, true, false, cond, not, List, [], ◌∷◌, ◌++◌, Option, Some, None, Result, Ok, Err, refl, sym, ap, ◌∙◌}
+use Rattle.std.proofs.Common.{◌≡◌, ℕ, List, ◌++◌, Option, Some, None, Ok, refl, sym, ap, ◌∙◌}
 use Rattle.std.specs.Prelude.{fold}
 use Rattle.std.specs.Option.{option_map}
 use Rattle.std.proofs.lemmas.List.Sums.{fold-append}
@@ -7,11 +7,10 @@ use Rattle.dac_base.specs.declared.NodeId.{NodeId}
 use Rattle.dac_config.specs.Table.{Table}
 use Rattle.dac_state.specs.StateValue.{StateValue, join, bottom}
 use Rattle.dac_core.specs.declared.event.Event.{Event}
-use Rattle.dac_core.specs.declared.event.Reply.{Reply}
 use Rattle.dac_core.specs.declared.change.Change.{Change}
-use Rattle.dac_core.specs.NodeValue.{NodeValue, RunValue}
+use Rattle.dac_core.specs.NodeValue.{NodeValue}
 use Rattle.dac_core.specs.ModelNode.{ModelNode, ModelRun, shown, run_shown, joined, refusal_of, model_step, step_by, accepted, added, reply_on, Stepped, Steps}
-use Rattle.dac_core.specs.Changes.{Prepared, changed, left_by, reply_by, booted, grown}
+use Rattle.dac_core.specs.Changes.{Prepared, changed, left_by, reply_by}
 
 -- more states joined
 pub joined-append : (log states : List StateValue) → joined (log ++ states) ≡ fold join (joined log) states

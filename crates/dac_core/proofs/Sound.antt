@@ -2,7 +2,7 @@
 -- running node's state is the meaning of its set, each message carries the meaning of its copy, and what
 -- makes dots new is kept: a node holds all that its present incarnation issued, and no operation is of a
 -- later incarnation of its node than the last.
-use Rattle.std.proofs.Common.{◌≡◌, ℕ, zero, suc, ◌≤◌, ◌+◌, ◌-◌, Bool, true, false, not, cond, ◌&&◌, ◌||◌, ◌⊎◌, inl, inr, List, [], ◌∷◌, ◌++◌, Option, Some, None, Result, Ok, Err, nat_eq, refl, sym, ap, subst, ◌∙◌, append-nil, arith, true≢false, eq-eqb}
+use Rattle.std.proofs.Common.{◌≡◌, ℕ, zero, suc, ◌≤◌, ◌+◌, ◌-◌, Bool, true, false, not, cond, ◌&&◌, ◌||◌, inl, inr, List, [], ◌∷◌, ◌++◌, Option, Some, None, Result, Ok, Err, nat_eq, refl, sym, ap, subst, ◌∙◌, append-nil, arith, true≢false, eq-eqb}
 use Rattle.std.specs.Prelude.{nat_lt}
 use Rattle.std.specs.Option.{option_map}
 use Rattle.std.specs.List.{slice_get, list_any}
@@ -13,8 +13,8 @@ use Rattle.dac_config.specs.Table.{Table}
 use Rattle.dac_dots.specs.declared.dot.Origin.{Origin}
 use Rattle.dac_dots.specs.declared.dot.Dot.{Dot}
 use Rattle.dac_state.specs.declared.operations.Act.{Act}
-use Rattle.dac_state.specs.Operations.{Operation, over_list}
-use Rattle.dac_state.specs.StateValue.{StateValue, join, bottom}
+use Rattle.dac_state.specs.Operations.{Operation}
+use Rattle.dac_state.specs.StateValue.{StateValue, join}
 use Rattle.dac_state.specs.Meaning.{meaning_of, In, Within, Agree, has_dot, replaces}
 use Rattle.dac_state.specs.Readers.{names, known-meaning}
 use Rattle.dac_state.specs.Members.{Within-append, In-append_left, In-append_right, In-append_cases, found, finds}
@@ -23,7 +23,7 @@ use Rattle.dac_core.specs.declared.event.Message.{Message}
 use Rattle.dac_core.specs.declared.event.Event.{Event}
 use Rattle.dac_core.specs.declared.event.Event.TheVariants.{Boot, Command as Told, Ship, Hear}
 use Rattle.dac_core.specs.declared.event.Reply.{Reply}
-use Rattle.dac_core.specs.declared.event.Reply.TheVariants.{Booted, Issued, Shipped, Heard}
+use Rattle.dac_core.specs.declared.event.Reply.TheVariants.{Issued}
 use Rattle.dac_core.specs.declared.refusal.Refusal.TheVariants.{OnSelf, NotForMe, AlreadyOn}
 use Rattle.dac_core.specs.declared.world_event.WorldEvent.{WorldEvent}
 use Rattle.dac_core.specs.declared.world_event.What.{What}
@@ -31,8 +31,8 @@ use Rattle.dac_core.specs.declared.world_event.What.TheVariants.{Boot as Boots, 
 use Rattle.dac_core.specs.declared.world_event.WorldFault.{WorldFault}
 use Rattle.dac_core.specs.declared.world_event.WorldFault.TheVariants.{NoSuchNode}
 use Rattle.dac_core.specs.Below.{is_below, is_below-is}
-use Rattle.dac_core.specs.ModelNode.{ModelNode, ModelRun, joined, shown, run_shown, refusal_of, refusal_by, refusal_to_hear, first, model_step, step_by, up, next_operation, act_of, accepted, greatest_counter}
-use Rattle.dac_core.specs.ModelWorld.{ModelWorld, WorldStepped, happens, happens_by, answered_by, event_of, heard_by, message_at, with_node, Step, Run, start}
+use Rattle.dac_core.specs.ModelNode.{ModelNode, ModelRun, joined, shown, run_shown, refusal_of, refusal_by, refusal_to_hear, first, step_by, up, next_operation, act_of, accepted, greatest_counter}
+use Rattle.dac_core.specs.ModelWorld.{ModelWorld, happens, happens_by, answered_by, event_of, heard_by, message_at, with_node, Step, Run, start}
 use Rattle.dac_core.specs.SetWorld.{SetWorld, Copy, with_set, united, copy_at, ship_from, receive, set_step, set_run, no_sets, to_of, number_of}
 use Rattle.dac_core.specs.Convergence.{DistinctDots}
 use Rattle.dac_core.proofs.Lists.{some_same, not_true}

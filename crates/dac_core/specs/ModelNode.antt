@@ -1,6 +1,6 @@
 -- The definition's node: which events it refuses and why, and what an accepted one does. It keeps each
 -- state that it issued or heard since it booted; the program keeps their join alone.
-use Rattle.std.specs.Prelude.{◌≡◌, ℕ, ◌+◌, ◌-◌, ◌^◌, Bool, true, false, not, cond, nat_eq, nat_le, nat_lt, List, [], ◌∷◌, ◌++◌, length, max, Option, Some, None, is_some, unwrap_or, Result, Ok, Err, fold}
+use Rattle.std.specs.Prelude.{◌≡◌, ℕ, ◌+◌, ◌-◌, ◌^◌, Bool, false, not, cond, nat_eq, nat_le, nat_lt, List, [], ◌∷◌, ◌++◌, length, max, Option, Some, None, is_some, unwrap_or, Result, Ok, Err, fold}
 use Rattle.std.specs.Option.{option_map}
 use Rattle.std.specs.FinSet as set
 use Rattle.std.specs.FinMap as map
@@ -28,7 +28,7 @@ use Rattle.dac_core.specs.declared.event.Event.TheVariants.{Boot, Command as Tol
 use Rattle.dac_core.specs.declared.event.Reply.{Reply}
 use Rattle.dac_core.specs.declared.event.Reply.TheVariants.{Booted, Issued, Shipped, Heard}
 use Rattle.dac_core.specs.declared.refusal.Refusal.{Refusal}
-use Rattle.dac_core.specs.declared.refusal.Refusal.TheVariants.{Off, AlreadyOn, UnknownApp, UnknownNode, OnSelf, NotInList, NotLive, NotStarted, NotForMe, TooManyDots, DotsUsedUp, IncarnationsUsedUp, NoMemory}
+use Rattle.dac_core.specs.declared.refusal.Refusal.TheVariants.{Off, AlreadyOn, UnknownApp, UnknownNode, OnSelf, NotInList, NotLive, NotStarted, NotForMe, TooManyDots, DotsUsedUp, IncarnationsUsedUp}
 use Rattle.dac_core.specs.NodeValue.{NodeValue, RunValue}
 use Rattle.dac_core.specs.Below.{is_below}
 

@@ -1,5 +1,5 @@
 -- The definition's world: each node, what was issued and what was shipped, and its runs.
-use Rattle.std.specs.Prelude.{◌≡◌, ℕ, ◌-◌, Bool, true, false, cond, nat_eq, nat_lt, List, [], ◌∷◌, ◌++◌, length, Option, Some, None, Result, Ok, Err, IsOk, ◌⊎◌}
+use Rattle.std.specs.Prelude.{◌≡◌, ℕ, ◌-◌, cond, nat_eq, nat_lt, List, [], ◌∷◌, ◌++◌, length, Option, Some, None, Result, Ok, Err, IsOk, ◌⊎◌}
 use Rattle.std.specs.List.{slice_get}
 use Rattle.dac_base.specs.declared.NodeId.{NodeId}
 use Rattle.dac_config.specs.Table.{Table, node_count}
@@ -16,8 +16,7 @@ use Rattle.dac_core.specs.declared.world_event.What.{What}
 use Rattle.dac_core.specs.declared.world_event.What.TheVariants.{Boot as Boots, Command as Tells, Ship as Ships, Deliver}
 use Rattle.dac_core.specs.declared.world_event.WorldFault.{WorldFault}
 use Rattle.dac_core.specs.declared.world_event.WorldFault.TheVariants.{NoSuchNode, NoSuchMessage, Refused}
-use Rattle.dac_core.specs.NodeValue.{NodeValue}
-use Rattle.dac_core.specs.ModelNode.{ModelNode, shown, model_step, Stepped}
+use Rattle.dac_core.specs.ModelNode.{ModelNode, shown, model_step}
 use Rattle.dac_core.specs.WorldValue.{WorldValue}
 
 -- How many nodes there are, each node, and, the oldest first, what was issued and what was shipped. (Nodes

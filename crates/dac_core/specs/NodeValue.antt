@@ -1,5 +1,5 @@
 -- What a node holds.
-use Rattle.std.specs.Prelude.{◌≡◌, ℕ, true, Option, Some, None, refl}
+use Rattle.std.specs.Prelude.{◌≡◌, ℕ, true, Option, None, refl}
 use Rattle.std.specs.Option.{option_map}
 use Rattle.std.specs.Coded.{Coded, code_by, coded×, coded_ℕ, coded_option}
 use Rattle.std.specs.FinSet as set

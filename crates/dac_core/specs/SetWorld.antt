@@ -1,10 +1,9 @@
 -- The world of sets: each node is off or holds a set of operations, and a message carries a copy of the
 -- sender's whole set. A set is given as a list; order and repeats don't matter.
-use Rattle.std.specs.Prelude.{◌≡◌, ℕ, ◌-◌, Bool, cond, not, ◌&&◌, nat_eq, List, [], ◌∷◌, ◌++◌, Option, Some, None, Result, Ok, Err}
+use Rattle.std.specs.Prelude.{ℕ, ◌-◌, cond, not, ◌&&◌, nat_eq, List, [], ◌∷◌, ◌++◌, Option, Some, None, Result, Ok, Err}
 use Rattle.std.specs.List.{slice_get}
 use Rattle.dac_base.specs.declared.NodeId.{NodeId}
 use Rattle.dac_state.specs.Operations.{Operation}
-use Rattle.dac_core.specs.declared.event.Message.{Message}
 use Rattle.dac_core.specs.declared.event.Reply.{Reply}
 use Rattle.dac_core.specs.declared.event.Reply.TheVariants.{Booted, Issued, Shipped, Heard}
 use Rattle.dac_core.specs.declared.world_event.WorldEvent.{WorldEvent}

@@ -1,5 +1,5 @@
 -- What an accepted event does to what the program's world holds.
-use Rattle.std.specs.Prelude.{◌≡◌, ℕ, cond, nat_eq, List, ◌++◌, length, Option}
+use Rattle.std.specs.Prelude.{◌≡◌, ℕ, cond, nat_eq, ◌++◌, length}
 use Rattle.std.specs.List.{slice_get}
 use Rattle.std.specs.Option.{option_map}
 use Rattle.dac_base.specs.declared.NodeId.{NodeId}

@@ -1,5 +1,5 @@
 -- What the program's world holds.
-use Rattle.std.specs.Prelude.{ℕ, List, refl}
+use Rattle.std.specs.Prelude.{List, refl}
 use Rattle.std.specs.Coded.{Coded, code_by, coded×, coded_list}
 use Rattle.dac_state.specs.Operations.{Operation}
 use Rattle.dac_core.specs.declared.event.Message.{Message}

@@ -1,8 +1,8 @@
 -- Playing a script line by line.
-use Rattle.std.proofs.Common.{◌≡◌, ℕ, ◌+◌, ◌<◌, ◌≤◌, true, cond, ltb, List, [], ◌∷◌, ◌++◌, length, get_or, drop, suc, Option, Some, None, Result, Ok, Err, false, true≢false, refl, sym, ap, ap₂, subst, ◌∙◌, arith, ⊎_elim, append_assoc, append-nil, add-one, drop-cons}
-use Rattle.std.specs.Prelude.{◌≢◌, slice_get, IfOk, OnOk, is_err}
+use Rattle.std.proofs.Common.{◌≡◌, ℕ, ◌+◌, ◌<◌, ◌≤◌, cond, List, [], ◌∷◌, ◌++◌, length, get_or, drop, suc, Option, Some, None, Result, Ok, Err, false, true≢false, refl, sym, ap, ap₂, subst, ◌∙◌, arith, ⊎_elim, append_assoc, append-nil, add-one, drop-cons}
+use Rattle.std.specs.Prelude.{◌≢◌, IfOk, OnOk, is_err}
 use Rattle.std.specs.Option.{option_and_then}
-use Rattle.std.specs.Io.KnownBytes.{Appends, Keeps}
+use Rattle.std.specs.Io.KnownBytes.{Appends}
 use Rattle.std.proofs.KnownBytes.{Appends-nil, Appends-trans}
 use Rattle.std.proofs.lemmas.Bool.{lt-ltb}
 use Rattle.std.proofs.lemmas.List.{drop_all}
@@ -11,15 +11,15 @@ use Rattle.dac_config.specs.Table.{Table, node_name}
 use Rattle.dac_core.specs.declared.event.Reply.{Reply}
 use Rattle.dac_core.specs.declared.world_event.WorldEvent.{WorldEvent}
 use Rattle.dac_core.specs.declared.world_event.WorldFault.{WorldFault}
-use Rattle.dac_core.specs.NodeValue.{NodeValue, state_of}
+use Rattle.dac_core.specs.NodeValue.{state_of}
 use Rattle.dac_core.specs.WorldValue.{WorldValue}
 use Rattle.dac_core.specs.ModelNode.{shown}
-use Rattle.dac_core.specs.ModelWorld.{ModelWorld, Shows, Follows, Step, Done, Lacked, start, happens, out_of_memory, numbered}
+use Rattle.dac_core.specs.ModelWorld.{ModelWorld, Shows, Follows, Done, Lacked, start, happens, out_of_memory, numbered}
 use Rattle.dac_script.specs.declared.answers.Counts.{Counts}
 use Rattle.dac_script.specs.declared.line.ScriptLine.{ScriptLine}
 use Rattle.dac_script.specs.declared.line.ScriptLine.TheVariants as says
 use Rattle.dac_script.specs.Answers.{answer_text}
-use Rattle.dac_script.specs.Play.{state_at, state_in, compare_text, counts_in, world_after, line_text, script_text, PlaysLine}
+use Rattle.dac_script.specs.Play.{state_at, state_in, compare_text, counts_in, world_after, script_text, PlaysLine}
 
 -- ---- one line
 same_counts : (w : ModelWorld) (v : WorldValue) (counts : Counts) → Shows w v → counts.operations ≡ length v.operations → counts.messages ≡ length v.messages → counts ≡ counts_in w

@@ -1,11 +1,10 @@
 -- One line of a script.
-use Rattle.std.specs.Prelude.{◌≡◌, ℕ, ◌<◌, List, [], ◌∷◌, Option, Some, None, Result, Ok, Err, unwrap_or, codes, if◌then◌else◌}
+use Rattle.std.specs.Prelude.{ℕ, ◌<◌, List, [], ◌∷◌, Option, Some, None, Result, Ok, Err, unwrap_or, codes, if◌then◌else◌}
 use Rattle.std.specs.Option.{ok_or}
 use Rattle.std.specs.Str.{bytes_eq}
 use Rattle.dac_base.specs.declared.NodeId.{NodeId}
 use Rattle.dac_base.specs.declared.AppId.{AppId}
 use Rattle.dac_config.specs.Table.{Table, node_count, app_count, node_named, app_named}
-use Rattle.dac_core.specs.declared.event.Command.{Command}
 use Rattle.dac_core.specs.declared.event.Command.TheVariants as command
 use Rattle.dac_core.specs.declared.world_event.What.{What}
 use Rattle.dac_core.specs.declared.world_event.What.TheVariants as what
@@ -15,7 +14,7 @@ use Rattle.dac_script.specs.declared.line.ScriptLine.{ScriptLine}
 use Rattle.dac_script.specs.declared.line.ScriptLine.TheVariants as says
 use Rattle.dac_script.specs.declared.line.Verb.{Verb}
 use Rattle.dac_script.specs.declared.line.Verb.TheVariants as verb
-use Rattle.dac_script.specs.Words.{words_of, name_in, number_in}
+use Rattle.dac_script.specs.Words.{name_in, number_in}
 
 infixl 10 ◌>>=◌
 abbrev pub ◌>>=◌ : {A B : Type 0} → Result A ScriptFaultKind → (A → Result B ScriptFaultKind) → Result B ScriptFaultKind

@@ -1,5 +1,5 @@
 -- A whole script.
-use Rattle.std.specs.Prelude.{◌≡◌, ℕ, ◌+◌, ◌-◌, ◌<◌, Bool, true, false, not, List, [], ◌∷◌, map, filter, take, Some, Ok, Err, Result, slice_get, ◌==◌}
+use Rattle.std.specs.Prelude.{◌≡◌, ℕ, ◌-◌, ◌<◌, Bool, true, false, not, List, [], ◌∷◌, map, filter, take, Some, Ok, Err, Result, slice_get, ◌==◌}
 use Rattle.std.specs.List.{slice_split}
 use Rattle.dac_config.specs.Table.{Table}
 use Rattle.dac_script.specs.declared.failure.Failure.{Failure}

@@ -1,4 +1,4 @@
-use Rattle.std.proofs.Common.{◌≡◌, ◌∙◌, ◌<◌, ◌≤◌, length, ap, arith, sym}
+use Rattle.std.proofs.Common.{◌<◌, ◌≤◌, length, arith}
 use Rattle.dac_script.proofs.Parting.{first_more, first_whole, first_last, behind_of}
 use Rattle.dac_script.proofs.input.first_line.Goals as goal
 

@@ -1,7 +1,4 @@
-use Rattle.std.proofs.Common.{◌≡◌, List, ◌++◌, ℕ, length}
-use Rattle.std.specs.Prelude.{All, ◌≢◌}
-use Rattle.dac_script.specs.Script.{lines_of}
-use Rattle.dac_script.specs.Input.{mark, with_feeds}
+use Rattle.std.proofs.Common.{length}
 use Rattle.dac_script.proofs.Parting.{IsFront}
 use Rattle.dac_script.proofs.input.parted.Given as goal
 

@@ -1,6 +1,6 @@
-use Rattle.std.proofs.Common.{◌≡◌, arith}
+use Rattle.std.proofs.Common.{arith}
 use Rattle.std.proofs.lemmas.Result.{err_from_is_err_and}
-use Rattle.dac_script.proofs.ReadOn.{takes_more, takes_few, failed_after, read_whole, had_more, length_taken}
+use Rattle.dac_script.proofs.ReadOn.{takes_few, failed_after}
 use Rattle.dac_script.proofs.input.read_input.Goals as goal
 
 pub returns-in_err-goes_on-clause-stops : goal.returns-in_err-goes_on-clause-stops

@@ -1,5 +1,4 @@
-use Rattle.std.proofs.Common.{◌≡◌, ℕ, ◌+◌, eqb, List, length, sym, ap, ◌∙◌, subst, arith, rules, tests}
-use Rattle.std.specs.Prelude.{All, IfErr}
+use Rattle.std.proofs.Common.{eqb, length, sym, arith, rules, tests}
 use Rattle.std.proofs.lemmas.List.{length_push}
 use Rattle.std.proofs.lemmas.Result.{err_from_is_err_and}
 use Rattle.std.proofs.lemmas.List.Elements.{All-push}
@@ -8,7 +7,7 @@ use Rattle.std.proofs.lemmas.Iterator.Splits.{YieldsList-from_slice_split}
 use Rattle.std.proofs.lemmas.List.FromFn.{length-enumerate_from}
 use Rattle.dac_config.specs.Table.{node_count}
 use Rattle.dac_script.specs.Line.{HasActors}
-use Rattle.dac_script.specs.Script.{lines_of, is_said, line_in, ReadsAs, IsScriptFailure, IsLineFailure}
+use Rattle.dac_script.specs.Script.{lines_of}
 use Rattle.dac_script.proofs.LineByLine.{reads_silent, reads_more, reads_all, turn_at, script_fails}
 use Rattle.dac_script.proofs.script.read_script.Goals as goal
 

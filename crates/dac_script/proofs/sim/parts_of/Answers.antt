@@ -1,4 +1,3 @@
-use Rattle.std.proofs.Common.{◌≡◌}
 use Rattle.std.proofs.lemmas.Result.{err_from_is_err_and}
 use Rattle.dac_script.proofs.Preparing.{config_fails, script_has}
 use Rattle.dac_script.proofs.sim.parts_of.Goals as goal

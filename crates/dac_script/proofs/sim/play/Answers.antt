@@ -1,4 +1,4 @@
-use Rattle.std.proofs.Common.{◌≡◌, refl, sym, ◌∙◌}
+use Rattle.std.proofs.Common.{refl, sym, ◌∙◌}
 use Rattle.dac_script.proofs.Playing.{played_more, written}
 use Rattle.dac_script.proofs.sim.play.Goals as goal
 

@@ -1,4 +1,3 @@
-use Rattle.std.proofs.Common.{◌≡◌}
 use Rattle.std.proofs.lemmas.Result.{err_from_is_err_and}
 use Rattle.dac_script.specs.Inputs.{Says, IsFailureOf}
 use Rattle.dac_script.proofs.Preparing.{of_bytes, read_fails}

@@ -1,4 +1,4 @@
-use Rattle.std.proofs.Common.{◌≡◌, length, ap}
+use Rattle.std.proofs.Common.{length, ap}
 use Rattle.dac_script.proofs.Playing.{event_plays_if}
 use Rattle.dac_script.proofs.sim.step.Goals as goal
 

@@ -1,6 +1,6 @@
 use Rattle.std.proofs.Common.{◌≡◌, [], ◌∷◌, sym, ap, subst, ◌∙◌}
 use Rattle.dac_state.specs.Operations.{Operation}
-use Rattle.dac_state.specs.StateValue.{StateValue, join, bottom}
+use Rattle.dac_state.specs.StateValue.{join, bottom}
 use Rattle.dac_state.specs.Meaning.{meaning_of}
 use Rattle.dac_core.specs.NodeValue.{KnowsItself}
 use Rattle.dac_core.specs.ModelNode.{up}

@@ -1,7 +1,5 @@
-use Rattle.std.proofs.Common.{◌≡◌, None, sym, ap, subst, ◌∙◌}
-use Rattle.dac_state.specs.Starts.{dots_at}
+use Rattle.std.proofs.Common.{ap, subst, ◌∙◌}
 use Rattle.dac_state.specs.StateValue.{IsState}
-use Rattle.dac_dots.specs.InOrder.{in_order}
 use Rattle.dac_core.specs.NodeValue.{RunValue, KnowsItself}
 use Rattle.dac_core.specs.ModelNode.{key_at, standing}
 use Rattle.dac_core.proofs.Issues.{start_issues, stop_issues}

@@ -1,5 +1,4 @@
 use Rattle.std.proofs.Common.{◌≡◌, true, false, cond, [], ◌∷◌, Some, None, sym, ap, subst, ◌∙◌, true≢false}
-use Rattle.dac_state.specs.StateValue.{StateValue}
 use Rattle.dac_core.specs.NodeValue.{RunValue}
 use Rattle.dac_core.specs.Below.{is_below, is_below-is}
 use Rattle.dac_core.specs.Changes.{grown}

@@ -1,4 +1,4 @@
-use Rattle.std.proofs.Common.{◌≡◌, ℕ, ◌+◌, ◌<◌, ◌≤◌, ◌++◌, ◌∷◌, [], List, cond, true, ap, sym, ◌∙◌, rules, take, take_all, get_or, length, vec_len}
+use Rattle.std.proofs.Common.{◌≡◌, ℕ, ◌+◌, ◌≤◌, List, cond, true, ap, ◌∙◌, rules, take, take_all, get_or, length, vec_len}
 use Rattle.std.specs.Prelude.{is_ok}
 use Rattle.std.proofs.lemmas.List.{get_or_default}
 use Rattle.dac_config.specs.Table.{Table}
