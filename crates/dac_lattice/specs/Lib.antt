@@ -3,4 +3,5 @@ pub mod Joins
 pub mod Chains
 pub mod Entries
 pub mod Search
+pub mod EntryLaws
 pub mod Maps
