@@ -1,7 +1,10 @@
 pub mod Laws
 pub mod Joins
 pub mod Chains
+pub mod Flags
 pub mod Entries
 pub mod Search
 pub mod EntryLaws
 pub mod Maps
+pub mod Pieces
+pub mod PieceLaws

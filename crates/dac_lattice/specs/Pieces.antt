@@ -1,0 +1,46 @@
+-- Pieces of a state: lattices to which each operation adds its delta. A set of operations is given as a list; order and repeats don't matter.
+use Rattle.std.specs.Prelude.{◌≡◌, ◌⊎◌, List, [], ◌∷◌, ◌++◌}
+use Rattle.dac_dots.specs.declared.dot.Dot.{Dot}
+
+-- an operation, by its dot and its act, is one of these
+abbrev pub In : {A : Type 0} → Dot × A → List (Dot × A) → Type 0
+In o [] = ⊥
+In o (p ∷ ps) = (o ≡ p) ⊎ In o ps
+
+-- each operation of os is one of ps
+abbrev pub Within : {A : Type 0} → List (Dot × A) → List (Dot × A) → Type 0
+Within {A} os ps = (o : Dot × A) → In o os → In o ps
+
+-- no two of the operations have one dot, unless they are one
+abbrev pub Agree : {A : Type 0} → List (Dot × A) → Type 0
+Agree {A} os = (o p : Dot × A) → In o os → In p os → o.0 ≡ p.0 → o ≡ p
+
+-- each act may have its dot, and no two operations have one dot
+pub record AreOperations {A : Type 0} (fits : Dot → A → Type 0) (os : List (Dot × A)) : Type 0 where
+  pub fit : (o : Dot × A) → In o os → fits o.0 o.1
+  pub agree : Agree os
+
+-- What operations mean is a statement about them all, which holds of one value at most. To add an operation is to join its delta. (Deltas are after delta-state replicated data types.)
+pub record IsPiece {V A : Type 0} (is_value : V → Type 0) (join : V → V → V) (bottom : V) (fits : Dot → A → Type 0) (delta : Dot → A → V) (means : List (Dot × A) → V → Type 0) : Type 0 where
+  pub delta_value : (d : Dot) (a : A) → is_value (delta d a)
+  pub start : means [] bottom
+  pub step : (os : List (Dot × A)) (o : Dot × A) (v : V) → is_value v → AreOperations fits (o ∷ os) → means os v → means (o ∷ os) (join v (delta o.0 o.1))
+  pub one : (os : List (Dot × A)) (v w : V) → is_value v → is_value w → means os v → means os w → v ≡ w
+
+-- the joined deltas of operations
+abbrev pub joined : {V A : Type 0} → (V → V → V) → V → (Dot → A → V) → List (Dot × A) → V
+joined join bottom delta [] = bottom
+joined join bottom delta (o ∷ os) = join (joined join bottom delta os) (delta o.0 o.1)
+
+module _ {V A : Type 0} (is_value : V → Type 0) (join : V → V → V) (fits : Dot → A → Type 0) (means : List (Dot × A) → V → Type 0) where
+  -- two meanings joined are the meaning of both together
+  abbrev pub JoinsAreTogether : Type 0
+  JoinsAreTogether = (os ps : List (Dot × A)) (v w : V) → is_value v → is_value w → AreOperations fits (os ++ ps) → means os v → means ps w → means (os ++ ps) (join v w)
+
+  -- lists of the same operations mean the same, whatever their order and repeats
+  abbrev pub OrderAndRepeatsAreNothing : Type 0
+  OrderAndRepeatsAreNothing = (os ps : List (Dot × A)) (v : V) → is_value v → AreOperations fits os → Within os ps → Within ps os → means os v → means ps v
+
+-- the joined deltas of operations are what they mean
+abbrev pub DeltasAreMeanings : {V A : Type 0} → (V → V → V) → V → (Dot → A → Type 0) → (Dot → A → V) → (List (Dot × A) → V → Type 0) → Type 0
+DeltasAreMeanings {A = A} join bottom fits delta means = (os : List (Dot × A)) → AreOperations fits os → means os (joined join bottom delta os)

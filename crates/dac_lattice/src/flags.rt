@@ -1,0 +1,100 @@
+//! Whether something is up.
+ghost use Rattle.std.specs.Prelude.{◌≡◌, ◌↔◌, IsTrue, IfOk};
+
+use crate::{Bottom, Lattice};
+use dac_base::NoMemory;
+use dac_dots::MapKey;
+use std::alloc::Global;
+
+/// Whether something is up. Up is below down, so what is said to be down by one is down for all who hear
+/// it: a node that went down, or a permission that was taken (up is permitted, down is not).
+#[derive(Clone, Copy, Debug, PartialEq, Eq, PartialOrd, Ord, Hash)]
+pub enum Flag {
+    /// Up, or permitted.
+    Up,
+    /// Down, or not permitted.
+    Down,
+}
+
+impl MapKey for Flag {
+    ghost use Rattle.std.specs.Prelude.{refl};
+    ghost use Rattle.dac_lattice.specs.Flags.{exact_flags};
+
+    ghost exact = { exact_flags ⟦<Flag as Ord>⟧.cmp refl refl };
+}
+
+impl Lattice for Flag {
+    ghost use Rattle.dac_lattice.specs.Chains.{IsAny};
+    ghost use Rattle.dac_lattice.specs.Flags.{IsFlagBelow, join_flags, flag_laws};
+
+    ghost is_value = { IsAny };
+
+    ghost below = { IsFlagBelow };
+
+    ghost join = { join_flags };
+
+    ghost laws = { flag_laws };
+
+    fn known(&self) {}
+
+    fn join(&self, other: &Self) -> Result<Self, NoMemory> {
+        Ok(match self {
+            Flag::Up => *other,
+            Flag::Down => Flag::Down,
+        })
+    }
+
+    fn leq(&self, other: &Self) -> bool {
+        match (self, other) {
+            (Flag::Down, Flag::Up) => false,
+            _ => true,
+        }
+    }
+
+    fn equal(&self, other: &Self) -> bool {
+        self == other
+    }
+
+    fn copy(&self) -> Result<Self, NoMemory> {
+        Ok(*self)
+    }
+}
+
+impl Bottom for Flag {
+    ghost use Rattle.dac_lattice.specs.declared.flags.Flag.TheVariants.{Up};
+
+    ghost bottom = { Up };
+
+    ghost least = { λ x v. tt };
+
+    ghost bottom_value = { tt };
+
+    fn bottom(_alloc: Global) -> Self {
+        Flag::Up
+    }
+}
+
+#[cfg(test)]
+mod tests {
+    use super::*;
+    use std::test::Fail;
+
+    /// Whether the least value is below this one, and a join with it changes nothing, through the bound.
+    fn is_above_bottom<L: Bottom>(alloc: Global, value: &L) -> Result<bool, NoMemory> {
+        let bottom = L::bottom(alloc);
+        Ok(bottom.leq(value) && bottom.join(value)?.equal(value) && value.copy()?.equal(value))
+    }
+
+    #[test]
+    fn down_stays(rt: HostRuntime) -> Result<(), Fail> {
+        assert_eq!(rt; Flag::Up.join(&Flag::Down)?, Flag::Down);
+        assert_eq!(rt; Flag::Down.join(&Flag::Up)?, Flag::Down);
+        assert_eq!(rt; Flag::Up.join(&Flag::Up)?, Flag::Up);
+        assert!(rt; !Flag::Down.leq(&Flag::Up));
+        assert!(rt; !Flag::Up.equal(&Flag::Down));
+        assert!(rt; is_above_bottom(rt.alloc(), &Flag::Up)?);
+        assert!(rt; is_above_bottom(rt.alloc(), &Flag::Down)?);
+        assert!(rt; Flag::Up < Flag::Down);
+        Ok(())
+    }
+}
