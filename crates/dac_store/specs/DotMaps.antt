@@ -1,5 +1,5 @@
 -- Stores at keys as a store: the list of the keys with their stores, in the order of the keys. A key whose store holds no dots isn't kept.
-use Rattle.std.specs.Prelude.{◌≡◌, Bool, true, false, ◌&&◌, ◌||◌, T, List, [], ◌∷◌, Option, None, Some, unwrap_or, if◌then◌else◌, cond, refl}
+use Rattle.std.specs.Prelude.{◌≡◌, Bool, true, false, ◌||◌, T, List, [], ◌∷◌, Option, None, Some, unwrap_or, if◌then◌else◌, cond, refl}
 use Rattle.std.proofs.Common.{sym, ap, subst, ◌∙◌, inl, inr}
 use Rattle.std.specs.declared.cmp.Ordering.{Ordering}
 use Rattle.std.specs.Ordering.{eq_by_cmp, is_eq}

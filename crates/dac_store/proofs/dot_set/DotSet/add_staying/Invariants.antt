@@ -1,5 +1,4 @@
 use Rattle.std.proofs.Common.{take}
-use Rattle.dac_dots.specs.Dots.{dots_total, exact_dots}
 use Rattle.dac_store.specs.DotSets.{may_stay}
 use Rattle.dac_store.proofs.Passing.{AddsPassing}
 use Rattle.dac_store.proofs.dot_set.DotSet.add_staying.Given as goal

@@ -1,0 +1,4 @@
+pub mod Keys
+pub mod Writes
+pub mod WishesValue
+pub mod StoredWishes
