@@ -187,3 +187,8 @@ pub is_wished_stored : (v : StoredDots) → AreStoredDots v → (key : Key) → 
 is_wished_stored v u key = both_ways _ _
     (λ h. (is_wished-some key (wishes_of v)).1 (some_if_stored v u key h))
     (λ h. stored_if_some v u key ((is_wished-some key (wishes_of v)).0 h))
+
+-- nothing stored
+pub wishes_of-none : wishes_of (record { store = []; context = set.empty }) ≡ record { known = set.empty; standing = set.empty }
+unfolding writes_of
+wishes_of-none = refl
