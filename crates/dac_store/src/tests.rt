@@ -16,7 +16,7 @@ fn dot(n: u64) -> Dot {
     Dot { origin, n }
 }
 
-/// The first two dots, or the first one.
+/// The first dot, and the second one or not.
 fn heard(alloc: Global, both: bool) -> Result<Context, NoMemory> {
     let mut context = Context::empty(alloc);
     context.insert(dot(1))?;
@@ -24,6 +24,12 @@ fn heard(alloc: Global, both: bool) -> Result<Context, NoMemory> {
         context.insert(dot(2))?;
     }
     Ok(context)
+}
+
+/// A set of one dot beside the dots that were heard.
+fn one(alloc: Global, n: u64, both: bool) -> Result<Causal<DotSet>, Fail> {
+    let causal = Causal::new(DotSet::one(alloc, dot(n))?, heard(alloc, both)?);
+    Ok(causal.ok().ok_or("held")?)
 }
 
 /// Whether the least value, the copy and the order agree with the join, through the bound.
@@ -35,59 +41,72 @@ fn is_joined_above<L: Bottom>(alloc: Global, low: &L, high: &L) -> Result<bool, 
 /// Whether nothing is left of a store where the other side has heard of its dots and dropped them, through
 /// the bound.
 fn is_cleared<S: DotStore>(alloc: Global, store: &S, context: &Context) -> Result<bool, NoMemory> {
-    let none = S::empty(alloc);
-    let left = store.join_in(context, &none, context)?;
+    let left = store.join_in(context, &S::empty(alloc), context)?;
     Ok(left.is_empty() && store.leq_in(context, &left, context) && left.within(context))
 }
 
 #[test]
 fn a_dot_heard_and_dropped_goes(rt: HostRuntime) -> Result<(), Fail> {
-    let alloc = rt.alloc();
-    let first = Causal::new(DotSet::one(alloc, dot(1))?, heard(alloc, false)?);
-    let second = Causal::new(DotSet::one(alloc, dot(2))?, heard(alloc, true)?);
-    let (first, second) = (first.ok().ok_or("held")?, second.ok().ok_or("held")?);
+    let first = one(rt.alloc(), 1, false)?;
+    let second = one(rt.alloc(), 2, true)?;
     let joined = first.join(&second)?;
     assert_eq!(rt; joined.store().dots(), [dot(2)].as_slice());
     assert_eq!(rt; joined.context().len(), 2);
-    assert!(rt; joined.equal(&second));
     assert!(rt; joined.join(&first)?.equal(&second));
+    Ok(())
+}
+
+#[test]
+fn causal_stores_are_ordered(rt: HostRuntime) -> Result<(), Fail> {
+    let first = one(rt.alloc(), 1, false)?;
+    let second = one(rt.alloc(), 2, true)?;
     assert!(rt; !second.leq(&first));
-    assert!(rt; is_joined_above(alloc, &first, &second)?);
+    assert!(rt; is_joined_above(rt.alloc(), &first, &second)?);
     Ok(())
 }
 
 #[test]
 fn a_dot_outside_the_context_is_handed_back(rt: HostRuntime) -> Result<(), Fail> {
-    let alloc = rt.alloc();
-    let refused = Causal::new(DotSet::one(alloc, dot(2))?, heard(alloc, false)?);
+    let context = heard(rt.alloc(), false)?;
+    let refused = Causal::new(DotSet::one(rt.alloc(), dot(2))?, context);
     let (store, context) = refused.err().ok_or("refused")?;
     assert_eq!(rt; store.dots(), [dot(2)].as_slice());
     assert!(rt; !store.within(&context));
-    assert!(rt; is_cleared(alloc, &store, &heard(alloc, true)?)?);
+    assert!(rt; is_cleared(rt.alloc(), &store, &heard(rt.alloc(), true)?)?);
+    Ok(())
+}
+
+#[test]
+fn values_at_dots(rt: HostRuntime) -> Result<(), Fail> {
+    let denied = DotFun::one(rt.alloc(), dot(1), Flag::Down)?;
+    assert_eq!(rt; denied.entries(), [(dot(1), Flag::Down)].as_slice());
+    assert_eq!(rt; denied.get(dot(1)), Some(&Flag::Down));
+    assert!(rt; is_cleared(rt.alloc(), &denied, &heard(rt.alloc(), false)?)?);
     Ok(())
 }
 
 #[test]
 fn a_key_without_dots_goes(rt: HostRuntime) -> Result<(), Fail> {
-    let alloc = rt.alloc();
-    let context = heard(alloc, false)?;
-    let denied = DotFun::one(alloc, dot(1), Flag::Down)?;
-    assert!(rt; is_cleared(alloc, &denied, &context)?);
-    assert_eq!(rt; denied.entries(), [(dot(1), Flag::Down)].as_slice());
-    assert_eq!(rt; denied.get(dot(1)), Some(&Flag::Down));
+    let denied = DotFun::one(rt.alloc(), dot(1), Flag::Down)?;
+    let map = DotMap::one(rt.alloc(), 7u64, denied)?;
+    assert!(rt; is_cleared(rt.alloc(), &map, &heard(rt.alloc(), false)?)?);
+    let bare: DotMap<u64, DotSet> = DotMap::one(rt.alloc(), 7, DotSet::empty(rt.alloc()))?;
+    assert!(rt; bare.is_empty());
+    Ok(())
+}
 
-    let map = DotMap::one(alloc, 7u64, denied)?;
-    let none = DotMap::empty(alloc);
-    let joined = map.join_in(&context, &none, &context)?;
-    assert!(rt; joined.is_empty());
-    assert_eq!(rt; joined.entries().len(), 0);
-    assert!(rt; is_cleared(alloc, &map, &context)?);
-
-    let kept = map.join_in(&context, &none, &Context::empty(alloc))?;
+#[test]
+fn a_key_with_dots_stays(rt: HostRuntime) -> Result<(), Fail> {
+    let map = DotMap::one(rt.alloc(), 7u64, DotSet::one(rt.alloc(), dot(1))?)?;
+    let unheard = Context::empty(rt.alloc());
+    let kept = map.join_in(
+        &heard(rt.alloc(), false)?,
+        &DotMap::empty(rt.alloc()),
+        &unheard,
+    )?;
     assert!(rt; kept.has(dot(1)));
     assert!(rt; kept.get(7).is_some());
-    assert!(rt; !kept.within(&Context::empty(alloc)));
-    let bare: DotMap<u64, DotSet> = DotMap::one(alloc, 7, DotSet::empty(alloc))?;
-    assert!(rt; bare.is_empty());
+    assert_eq!(rt; kept.entries().len(), 1);
+    assert!(rt; !kept.within(&unheard));
     Ok(())
 }

@@ -4,3 +4,7 @@ pub mod WishesValue
 pub mod StoredWishes
 pub mod Replacing
 pub mod WishMeaning
+pub mod PermissionsValue
+pub mod StoredPermits
+pub mod PermitMeaning
+pub mod StoredDeltas

@@ -92,10 +92,10 @@ start_has_dot w os h = let p = found (is_start w) os h in finds (has_dot w.dot) 
 start_again : (os : List (Dot × WishAct)) (o : Dot × WishAct) → AreOperations (SparesItself over_of) (o ∷ os) → (w : Write) → has_dot w.dot o ≡ true → list_any (has_dot w.dot) os ≡ true → list_any (is_start w) os ≡ wishes w.key o.1
 start_again os o h w e there = both_ways _ _
     (λ t.
-        let p = found (is_start w) os t in
-        let parts = and_parts (wishes w.key p.0.1) (has_dot w.dot p.0) p.1.1 in
-        let same : p.0 ≡ o = h.agree p.0 o (inr p.1.0) (inl refl) (sym (same_dot_is w.dot p.0.0 parts.1) ∙ same_dot_is w.dot o.0 e) in
-        ap (λ (q : Dot × WishAct). wishes w.key q.1) (sym same) ∙ parts.0)
+    let p = found (is_start w) os t in
+    let parts = and_parts (wishes w.key p.0.1) (has_dot w.dot p.0) p.1.1 in
+    let same : p.0 ≡ o = h.agree p.0 o (inr p.1.0) (inl refl) (sym (same_dot_is w.dot p.0.0 parts.1) ∙ same_dot_is w.dot o.0 e) in
+    ap (λ (q : Dot × WishAct). wishes w.key q.1) (sym same) ∙ parts.0)
     (λ t. finds (is_start w) os o (again (SparesItself over_of) os o h w.dot e there) (λ i. t i && e i))
 
 step : (os : List (Dot × WishAct)) (o : Dot × WishAct) (v : WishesValue) → AreWishes v → AreOperations (SparesItself over_of) (o ∷ os) → IsMeaning os v → IsMeaning (o ∷ os) (join_wishes v (wish_delta o.0 o.1))

@@ -62,6 +62,10 @@ dots_among key ws = list_map (λ (w : Write). w.dot) (filter (λ (w : Write). sa
 abbrev pub dots_at : Key → Writes → Dots
 dots_at key writes = set.from_list (dots_among key (set.items writes))
 
+-- a write is that of a key and a dot exactly if its own are they
+pub at_write : (key : Key) (d : Dot) (w : Write) → eq_by_cmp write_cmp (write key d) w ≡ (same_key w.key key && same_dot d w.dot)
+at_write key d w = sym (tied_then (key_cmp key w.key) (dot_cmp d w.dot)) ∙ ap (λ b. b && same_dot d w.dot) ((eq_by_cmp_equiv keys_total).symm key w.key)
+
 -- ---- the dots at a key
 
 -- tests that agree find alike
@@ -86,5 +90,5 @@ pub contains-dots_at : (key : Key) (writes : Writes) (d : Dot) → set.contains 
 contains-dots_at key writes d =
     set.contains-from_list dots_total (dots_among key (set.items writes)) d
     ∙ dots_among-has key d (set.items writes)
-    ∙ list_any-alike (is_at key d) (eq_by_cmp write_cmp (write key d)) (λ w. ap (λ b. b && same_dot d w.dot) ((eq_by_cmp_equiv keys_total).symm w.key key) ∙ tied_then (key_cmp key w.key) (dot_cmp d w.dot)) (set.items writes)
+    ∙ list_any-alike (is_at key d) (eq_by_cmp write_cmp (write key d)) (λ w. sym (at_write key d w)) (set.items writes)
     ∙ sym (set.contains-items writes (write key d))

@@ -3,12 +3,15 @@ ghost use Rattle.std.specs.Prelude.{◌≡◌, ◌↔◌, IsTrue, IfOk};
 ghost use Rattle.dac_dots.specs.InOrder.{in_order};
 ghost use Rattle.dac_wishes.specs.Writes.{dots_at};
 ghost use Rattle.dac_wishes.specs.WishesValue.{is_wished, SomeStands};
+ghost use Rattle.dac_wishes.specs.StoredDeltas.{stored_start};
 
+use crate::delta::{beside, named_by};
 use crate::key::Key;
+use crate::wish_act::WishAct;
 use dac_base::NoMemory;
 use dac_dots::{Context, Dot};
-use dac_lattice::{Bottom, Lattice};
-use dac_store::{Causal, DotMap, DotSet};
+use dac_lattice::{Bottom, Lattice, Piece};
+use dac_store::{Causal, DotMap, DotSet, DotStore};
 use std::alloc::Global;
 use std::marker::Model;
 
@@ -56,6 +59,20 @@ impl Wishes {
         ensures { result.now ≡ self.now.known }
     {
         self.causal.context()
+    }
+}
+
+/// The start in an operation.
+fn start_in(alloc: Global, dot: Dot, act: &WishAct) -> Result<DotMap<Key, DotSet>, NoMemory>
+    ensures { IfOk result (λ store. store ≡ stored_start dot act.now) }
+{
+    match act {
+        WishAct::Start { key, over: _ } => {
+            let one = DotSet::one(alloc, dot)?;
+            let store = DotMap::one(alloc, *key, one)?;
+            Ok(store)
+        }
+        WishAct::Other { over: _ } => Ok(DotMap::empty(alloc)),
     }
 }
 
@@ -108,5 +125,27 @@ impl Bottom for Wishes {
         Wishes {
             causal: Causal::bottom(alloc),
         }
+    }
+}
+
+impl Piece for Wishes {
+    ghost use Rattle.dac_wishes.specs.Replacing.{SparesItself};
+    ghost use Rattle.dac_wishes.specs.WishMeaning.{over_of, wish_delta, IsMeaning, wish_piece};
+
+    type Act = WishAct;
+
+    ghost fits = { SparesItself over_of };
+
+    ghost delta = { wish_delta };
+
+    ghost means = { IsMeaning };
+
+    ghost piece_laws = { wish_piece };
+
+    fn delta(alloc: Global, dot: Dot, act: &WishAct) -> Result<Self, NoMemory> {
+        let store = start_in(alloc, dot, act)?;
+        let named = named_by(alloc, dot, act.over())?;
+        let causal = beside(store, named);
+        Ok(Wishes { causal })
     }
 }
