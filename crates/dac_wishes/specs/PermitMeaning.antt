@@ -1,11 +1,11 @@
 -- What a set of operations means for permissions: which permits stand, with their values, and which dots are known.
-use Rattle.std.specs.Prelude.{◌≡◌, Bool, true, false, not, ◌&&◌, ◌||◌, List, [], ◌∷◌, Option, None, Some, is_some, unwrap_or, if◌then◌else◌, cond, refl}
+use Rattle.std.specs.Prelude.{◌≡◌, Bool, true, false, ◌&&◌, ◌||◌, List, [], ◌∷◌, Option, None, Some, is_some, unwrap_or, if◌then◌else◌, cond, refl}
 use Rattle.std.proofs.Common.{sym, ap, ◌∙◌, inl, inr}
 use Rattle.std.specs.List.{list_any}
 use Rattle.std.specs.FinSet as set
 use Rattle.std.specs.FinMap as map
 use Rattle.std.specs.FinMap.{find}
-use Rattle.std.proofs.lemmas.Bool.{false≢true, true≢false, or_left, or_right}
+use Rattle.std.proofs.lemmas.Bool.{false≢true, true≢false, or_left}
 use Rattle.dac_dots.specs.declared.dot.Dot.{Dot}
 use Rattle.dac_dots.specs.Dots.{Dots, dot_cmp}
 use Rattle.dac_lattice.specs.declared.flags.Flag.{Flag}
@@ -21,7 +21,7 @@ use Rattle.dac_wishes.specs.Keys.{same_key}
 use Rattle.dac_wishes.specs.Writes.{Write, write, write_cmp, writes_total, same_dot, same_dot_is, same_write}
 use Rattle.dac_wishes.specs.PermissionsValue.{PermissionsValue, ArePermissions, join_permissions, no_permissions, flag_of, known-join, standing-join, same_permissions}
 use Rattle.dac_wishes.specs.StoredPermits.{or_else}
-use Rattle.dac_wishes.specs.Replacing.{has_dot, replaces, is_replaced, names, SparesItself, named_by, KnownAreNamed, contains-named_by, known_more, names-or, spares, again}
+use Rattle.dac_wishes.specs.Replacing.{has_dot, replaces, is_replaced, SparesItself, named_by, KnownAreNamed, contains-named_by, known_more, names-or, spares}
 
 -- the dots that an act replaces
 abbrev pub over_of : PermitAct → List Dot

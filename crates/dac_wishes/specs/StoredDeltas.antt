@@ -1,10 +1,8 @@
 -- How the deltas of operations are stored.
 use Rattle.std.specs.Prelude.{◌≡◌, Bool, true, false, cond, ◌&&◌, ◌||◌, List, [], ◌∷◌, Option, Some, None, is_some, nat_eq, ◌+◌, refl}
 use Rattle.std.proofs.Common.{sym, ap, ◌∙◌}
-use Rattle.std.specs.List.{list_any}
-use Rattle.std.specs.Ordering.{eq_by_cmp, is_eq}
+use Rattle.std.specs.Ordering.{eq_by_cmp}
 use Rattle.std.specs.FinSet as set
-use Rattle.std.specs.FinMap as map
 use Rattle.std.specs.FinMap.{find}
 use Rattle.std.proofs.lemmas.Bool.{false≢true, or_left}
 use Rattle.dac_dots.specs.declared.dot.Dot.{Dot}
@@ -13,7 +11,7 @@ use Rattle.dac_lattice.specs.declared.flags.Flag.{Flag}
 use Rattle.dac_lattice.specs.Chains.{IsAny}
 use Rattle.dac_lattice.specs.Laws.{IsIn}
 use Rattle.dac_lattice.specs.Maps.{IsMap}
-use Rattle.dac_store.specs.Stores.{Stored, IsHeld}
+use Rattle.dac_store.specs.Stores.{IsHeld}
 use Rattle.dac_store.specs.DotSets.{is_empty_set}
 use Rattle.dac_store.specs.DotFuns.{has_dot, is_empty_list}
 use Rattle.dac_store.specs.DotMaps.{has_in, store_at, IsKept, IsKeyed}
@@ -24,8 +22,8 @@ use Rattle.dac_wishes.specs.declared.wish_act.WishAct.TheVariants.{Start, Other 
 use Rattle.dac_wishes.specs.declared.permit_act.PermitAct.TheVariants.{Permit, Other as OtherPermit}
 use Rattle.dac_wishes.specs.Keys.{key_cmp, same_key}
 use Rattle.dac_wishes.specs.Writes.{Write, same_dot}
-use Rattle.dac_wishes.specs.WishesValue.{WishesValue, same_wishes}
-use Rattle.dac_wishes.specs.PermissionsValue.{PermissionsValue, flag_of, same_permissions}
+use Rattle.dac_wishes.specs.WishesValue.{same_wishes}
+use Rattle.dac_wishes.specs.PermissionsValue.{flag_of, same_permissions}
 use Rattle.dac_wishes.specs.Replacing.{named_by, contains-named_by, replaces}
 use Rattle.dac_wishes.specs.StoredWishes.{StoredDots, AreStoredDots, wishes_of, contains-writes_of}
 use Rattle.dac_wishes.specs.StoredPermits.{DotFlags, StoredFlags, AreStoredFlags, permissions_of, get-permits_of}

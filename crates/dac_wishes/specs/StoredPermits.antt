@@ -3,18 +3,17 @@ use Rattle.std.specs.Prelude.{◌≡◌, ◌↔◌, ◌⊎◌, Bool, true, false
 use Rattle.std.proofs.Common.{sym, ap, subst, ◌∙◌, inl, inr}
 use Rattle.std.specs.declared.cmp.Ordering.{Ordering}
 use Rattle.std.specs.declared.cmp.Ordering.TheVariants.{Equal}
-use Rattle.std.specs.List.{list_all, list_any, flat_map, All}
+use Rattle.std.specs.List.{list_all, flat_map, All}
 use Rattle.std.specs.Ordering.{eq_by_cmp, is_eq, is_lt, ordering_then}
-use Rattle.std.specs.Cmp.{tied_then, tied_itself}
+use Rattle.std.specs.Cmp.{tied_itself}
 use Rattle.std.specs.FinSet as set
 use Rattle.std.specs.FinMap as map
 use Rattle.std.specs.FinMap.{find, is_sorted}
 use Rattle.std.specs.FinMap.Entries.{below_all, same_entries}
 use Rattle.std.proofs.lemmas.Bool.{false≢true, and_parts, and_from, or_left, or_right}
-use Rattle.std.proofs.lemmas.Cmp.{eq_by_cmp_equiv}
 use Rattle.std.proofs.lemmas.List.Elements.{All-head, All-tail}
 use Rattle.dac_dots.specs.declared.dot.Dot.{Dot}
-use Rattle.dac_dots.specs.Dots.{Dots, dot_cmp, dots_total, exact_dots}
+use Rattle.dac_dots.specs.Dots.{dot_cmp, dots_total, exact_dots}
 use Rattle.dac_lattice.specs.declared.flags.Flag.{Flag}
 use Rattle.dac_lattice.specs.declared.flags.Flag.TheVariants.{Up, Down}
 use Rattle.dac_lattice.specs.Chains.{IsAny}
@@ -22,14 +21,14 @@ use Rattle.dac_lattice.specs.Flags.{IsFlagBelow, join_flags, flag_laws}
 use Rattle.dac_lattice.specs.Maps.{IsMap}
 use Rattle.dac_lattice.specs.Entries.{find_below}
 use Rattle.dac_lattice.specs.EntryLaws.{first, second, each_entry}
-use Rattle.dac_store.specs.Stores.{Stored, IsStored, IsStoredBelow, join_stored, causal_laws, both_ways}
+use Rattle.dac_store.specs.Stores.{Stored, IsStored, IsStoredBelow, join_stored, causal_laws}
 use Rattle.dac_store.specs.AtDot.{StandsBelow}
 use Rattle.dac_store.specs.DotFuns.{has_dot, IsFunBelow, join_funs, is_empty_list, fun_laws, find_join}
-use Rattle.dac_store.specs.DotMaps.{has_in, store_at, IsKept, IsKeyed, IsKeyedBelow, join_keyed, keyed_laws, at_join, at_store}
+use Rattle.dac_store.specs.DotMaps.{has_in, store_at, IsKeyed, IsKeyedBelow, join_keyed, keyed_laws, at_join, at_store}
 use Rattle.dac_wishes.specs.declared.key.Key.{Key}
 use Rattle.dac_wishes.specs.Keys.{key_cmp, same_key, keys_total, exact_keys, same_key_is}
 use Rattle.dac_wishes.specs.Writes.{Write, write, write_cmp, writes_total, same_dot, same_write, at_write}
-use Rattle.dac_wishes.specs.PermissionsValue.{PermissionsValue, Permits, ArePermissions, IsPermissionsBelow, join_permissions, joined_permit, known-join, standing-join, same_permissions, permits_among, permits_at, is_permitted_by, is_permitted, is_up, NoneStands, SomePermitStands, AllSayTrue, IsPermitted}
+use Rattle.dac_wishes.specs.PermissionsValue.{PermissionsValue, Permits, ArePermissions, IsPermissionsBelow, join_permissions, joined_permit, known-join, standing-join, same_permissions, permits_among, permits_at, is_permitted_by, is_permitted, is_up, IsPermitted}
 
 -- a key's permits
 abbrev pub DotFlags : Type 0

@@ -15,7 +15,7 @@ use Rattle.dac_wishes.specs.declared.wish_act.WishAct.TheVariants.{Start, Other}
 use Rattle.dac_wishes.specs.Keys.{same_key}
 use Rattle.dac_wishes.specs.Writes.{Write, write, write_cmp, writes_total, same_dot, same_dot_is, same_write}
 use Rattle.dac_wishes.specs.WishesValue.{WishesValue, AreWishes, join_wishes, no_wishes, known-join, standing-join, same_wishes}
-use Rattle.dac_wishes.specs.Replacing.{has_dot, replaces, is_replaced, names, SparesItself, named_by, KnownAreNamed, contains-named_by, known_more, names-or, spares, found, finds, again}
+use Rattle.dac_wishes.specs.Replacing.{has_dot, replaces, is_replaced, SparesItself, named_by, KnownAreNamed, contains-named_by, known_more, names-or, spares, found, finds, again}
 
 -- the dots that an act replaces
 abbrev pub over_of : WishAct → List Dot

@@ -23,5 +23,7 @@ mod dot_list;
 mod key;
 mod permissions;
 mod permit_act;
+#[cfg(test)]
+mod tests;
 mod wish_act;
 mod wishes;
