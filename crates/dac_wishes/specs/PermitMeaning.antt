@@ -20,7 +20,6 @@ use Rattle.dac_wishes.specs.declared.permit_act.PermitAct.TheVariants.{Permit, O
 use Rattle.dac_wishes.specs.Keys.{same_key}
 use Rattle.dac_wishes.specs.Writes.{Write, write, write_cmp, writes_total, same_dot, same_dot_is, same_write}
 use Rattle.dac_wishes.specs.PermissionsValue.{PermissionsValue, ArePermissions, join_permissions, no_permissions, flag_of, known-join, standing-join, same_permissions}
-use Rattle.dac_wishes.specs.StoredPermits.{or_else}
 use Rattle.dac_wishes.specs.Replacing.{has_dot, replaces, is_replaced, SparesItself, named_by, KnownAreNamed, contains-named_by, known_more, names-or, spares}
 
 -- the dots that an act replaces
@@ -36,6 +35,11 @@ says key (Other over) = None
 -- what the operation says, if it is this permit
 abbrev pub permit_in : Write → Dot × PermitAct → Option Flag
 permit_in w o = if has_dot w.dot o then says w.key o.1 else None
+
+-- the first of two that is there
+abbrev pub or_else : {X : Type 0} → Option X → Option X → Option X
+or_else None y = y
+or_else (Some x) y = Some x
 
 -- what the first of the operations says that is this permit; all that are one operation say the same
 abbrev pub said : Write → List (Dot × PermitAct) → Option Flag
@@ -109,11 +113,11 @@ said_has_dot w (o ∷ os) h = elim (has_dot w.dot o) as (λ b. is_some (or_else 
   | false ↦ λ h. said_has_dot w os h
 ] h
 
-else_same : (x : Option Flag) → or_else x x ≡ x
+else_same : {X : Type 0} (x : Option X) → or_else x x ≡ x
 else_same None = refl
 else_same (Some x) = refl
 
-else_none : (x : Option Flag) → or_else x None ≡ x
+pub else_none : {X : Type 0} (x : Option X) → or_else x None ≡ x
 else_none None = refl
 else_none (Some x) = refl
 

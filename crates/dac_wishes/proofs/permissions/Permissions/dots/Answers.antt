@@ -3,7 +3,7 @@ use Rattle.std.specs.FinMap.{find}
 use Rattle.std.specs.Option.{option_copied}
 use Rattle.dac_store.specs.DotMaps.{store_at}
 use Rattle.dac_wishes.specs.Keys.{key_cmp}
-use Rattle.dac_wishes.specs.StoredPermits.{permits_stored}
+use Rattle.dac_wishes.proofs.PermitStoring.{permits_stored}
 use Rattle.dac_wishes.proofs.permissions.Permissions.dots.Goals as goal
 
 pub returns-in-Some : goal.returns-in-Some

@@ -1,5 +1,6 @@
 use Rattle.std.proofs.Common.{◌∙◌, ap}
-use Rattle.dac_wishes.specs.StoredPermits.{permissions_of, permissions_of-join}
+use Rattle.dac_wishes.specs.StoredPermits.{permissions_of}
+use Rattle.dac_wishes.proofs.PermitStoring.{permissions_of-join}
 use Rattle.dac_wishes.proofs.permissions.PermissionsLattice.join.Goals as goal
 
 pub returns : goal.returns

@@ -1,4 +1,4 @@
-use Rattle.dac_wishes.specs.StoredPermits.{stored_permissions}
+use Rattle.dac_wishes.proofs.PermitStoring.{stored_permissions}
 use Rattle.dac_wishes.proofs.permissions.PermissionsLattice.known.Goals as goal
 
 pub returns : goal.returns

@@ -1,4 +1,4 @@
-use Rattle.dac_wishes.specs.StoredPermits.{below_if_stored, stored_if_below}
+use Rattle.dac_wishes.proofs.PermitStoring.{below_if_stored, stored_if_below}
 use Rattle.dac_wishes.proofs.permissions.PermissionsLattice.leq.Goals as goal
 
 pub returns : goal.returns

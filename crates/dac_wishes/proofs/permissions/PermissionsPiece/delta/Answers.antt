@@ -1,7 +1,7 @@
 use Rattle.std.proofs.Common.{◌∷◌, ◌∙◌, ap}
 use Rattle.std.specs.FinSet as set
 use Rattle.dac_wishes.specs.StoredPermits.{permissions_of}
-use Rattle.dac_wishes.specs.StoredDeltas.{permit_known, permissions_of-delta}
+use Rattle.dac_wishes.proofs.DeltaStoring.{permit_known, permissions_of-delta}
 use Rattle.dac_wishes.proofs.permissions.PermissionsPiece.delta.Goals as goal
 
 pub beside-causal-requires : goal.beside-causal-requires

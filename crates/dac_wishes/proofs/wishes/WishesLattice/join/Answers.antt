@@ -1,5 +1,6 @@
 use Rattle.std.proofs.Common.{◌∙◌, ap}
-use Rattle.dac_wishes.specs.StoredWishes.{wishes_of, wishes_of-join}
+use Rattle.dac_wishes.specs.StoredWishes.{wishes_of}
+use Rattle.dac_wishes.proofs.WishStoring.{wishes_of-join}
 use Rattle.dac_wishes.proofs.wishes.WishesLattice.join.Goals as goal
 
 pub returns : goal.returns

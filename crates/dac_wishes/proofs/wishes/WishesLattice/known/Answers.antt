@@ -1,4 +1,4 @@
-use Rattle.dac_wishes.specs.StoredWishes.{stored_wishes}
+use Rattle.dac_wishes.proofs.WishStoring.{stored_wishes}
 use Rattle.dac_wishes.proofs.wishes.WishesLattice.known.Goals as goal
 
 pub returns : goal.returns

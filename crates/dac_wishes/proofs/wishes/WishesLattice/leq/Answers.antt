@@ -1,4 +1,4 @@
-use Rattle.dac_wishes.specs.StoredWishes.{below_if_stored, stored_if_below}
+use Rattle.dac_wishes.proofs.WishStoring.{below_if_stored, stored_if_below}
 use Rattle.dac_wishes.proofs.wishes.WishesLattice.leq.Goals as goal
 
 pub returns : goal.returns

@@ -1,7 +1,7 @@
 use Rattle.std.proofs.Common.{◌∷◌, ◌∙◌, ap}
 use Rattle.std.specs.FinSet as set
 use Rattle.dac_wishes.specs.StoredWishes.{wishes_of}
-use Rattle.dac_wishes.specs.StoredDeltas.{start_known, wishes_of-delta}
+use Rattle.dac_wishes.proofs.DeltaStoring.{start_known, wishes_of-delta}
 use Rattle.dac_wishes.proofs.wishes.WishesPiece.delta.Goals as goal
 
 pub beside-causal-requires : goal.beside-causal-requires
