@@ -1,5 +1,5 @@
 -- What a binary search by key finds in a list of entries in order.
-use Rattle.std.specs.Prelude.{◌≡◌, ℕ, ◌<◌, true, false, cond, T, List, [], ◌∷◌, length, None, Some, Result, Ok, Err, refl}
+use Rattle.std.specs.Prelude.{◌≡◌, ℕ, ◌<◌, false, cond, T, List, [], ◌∷◌, length, None, Some, Result, Ok, Err, refl}
 use Rattle.std.proofs.Common.{inl, inr, zero, suc, sym, ap, ◌∙◌, arith, get_or, add-one}
 use Rattle.std.specs.declared.cmp.Ordering.{Ordering}
 use Rattle.std.specs.declared.cmp.Ordering.TheVariants.{Less, Greater}
