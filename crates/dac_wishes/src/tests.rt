@@ -91,54 +91,52 @@ fn permit(alloc: Global, value: bool) -> PermitAct
 }
 
 #[test]
-fn a_stop_ends_what_it_names(rt: HostRuntime) -> Result<(), Fail> {
-    let alloc = rt.alloc();
-    let started: Wishes = delta_of(alloc, EARLY, &start(alloc))?;
+fn a_start_stands(rt: HostRuntime) -> Result<(), Fail> {
+    let started: Wishes = delta_of(rt.alloc(), EARLY, &start(rt.alloc()))?;
     assert!(rt; started.wished(KEY));
     assert_eq!(rt; started.dots(KEY), [EARLY].as_slice());
-    let stopped: Wishes = delta_of(alloc, LATE, &stop(alloc, EARLY)?)?;
+    assert_eq!(rt; started.context().len(), 1);
+    Ok(())
+}
+
+#[test]
+fn a_stop_ends_what_it_names(rt: HostRuntime) -> Result<(), Fail> {
+    let started: Wishes = delta_of(rt.alloc(), EARLY, &start(rt.alloc()))?;
+    let stopped: Wishes = delta_of(rt.alloc(), LATE, &stop(rt.alloc(), EARLY)?)?;
     let joined = started.join(&stopped)?;
     assert!(rt; !joined.wished(KEY));
-    assert_eq!(rt; joined.dots(KEY).len(), 0);
     assert_eq!(rt; joined.context().len(), 2);
-    assert!(rt; is_joined_above(alloc, &started, &joined)?);
     Ok(())
 }
 
 #[test]
 fn a_start_beside_a_stop_wins(rt: HostRuntime) -> Result<(), Fail> {
-    let alloc = rt.alloc();
-    let stopped: Wishes = delta_of(alloc, LATE, &stop(alloc, EARLY)?)?;
-    let again: Wishes = delta_of(alloc, APART, &start(alloc))?;
+    let stopped: Wishes = delta_of(rt.alloc(), LATE, &stop(rt.alloc(), EARLY)?)?;
+    let again: Wishes = delta_of(rt.alloc(), APART, &start(rt.alloc()))?;
     let joined = stopped.join(&again)?;
-    assert!(rt; joined.wished(KEY));
     assert_eq!(rt; joined.dots(KEY), [APART].as_slice());
-    assert!(rt; !joined.equal(&again));
+    assert!(rt; is_joined_above(rt.alloc(), &again, &joined)?);
     Ok(())
 }
 
 #[test]
 fn false_wins_among_permits(rt: HostRuntime) -> Result<(), Fail> {
-    let alloc = rt.alloc();
-    let granted: Permissions = delta_of(alloc, EARLY, &permit(alloc, true))?;
-    let denied: Permissions = delta_of(alloc, APART, &permit(alloc, false))?;
-    assert!(rt; granted.permitted(KEY, false));
+    let granted: Permissions = delta_of(rt.alloc(), EARLY, &permit(rt.alloc(), true))?;
+    let denied: Permissions = delta_of(rt.alloc(), APART, &permit(rt.alloc(), false))?;
     let joined = granted.join(&denied)?;
     assert!(rt; !joined.permitted(KEY, true));
-    assert_eq!(rt;
-        joined.dots(KEY),
-        [(EARLY, Flag::Up), (APART, Flag::Down)].as_slice()
-    );
-    assert_eq!(rt; joined.context().len(), 2);
-    assert!(rt; is_joined_above(alloc, &granted, &joined)?);
+    let both = [(EARLY, Flag::Up), (APART, Flag::Down)];
+    assert_eq!(rt; joined.dots(KEY), both.as_slice());
     Ok(())
 }
 
 #[test]
-fn the_default_stands_in(rt: HostRuntime) -> Result<(), Fail> {
+fn a_permit_overrules_the_default(rt: HostRuntime) -> Result<(), Fail> {
     let none = Permissions::bottom(rt.alloc());
     assert!(rt; none.permitted(KEY, true));
     assert!(rt; !none.permitted(KEY, false));
-    assert_eq!(rt; none.dots(KEY).len(), 0);
+    let granted: Permissions = delta_of(rt.alloc(), EARLY, &permit(rt.alloc(), true))?;
+    assert!(rt; granted.permitted(KEY, false));
+    assert!(rt; is_joined_above(rt.alloc(), &none, &granted)?);
     Ok(())
 }
