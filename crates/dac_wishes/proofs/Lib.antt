@@ -1,0 +1,5 @@
+pub mod Found
+pub mod Naming
+pub mod WishStoring
+pub mod PermitStoring
+pub mod DeltaStoring
