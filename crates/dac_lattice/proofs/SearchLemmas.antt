@@ -1,61 +1,30 @@
--- What is at a place of a list of entries in order, what a binary search by key finds there, and how a loop over the entries shows what holds at each key.
-use Rattle.std.specs.Prelude.{◌≡◌, ℕ, ◌+◌, ◌<◌, ◌≤◌, Bool, true, false, cond, ◌&&◌, T, List, [], ◌∷◌, length, Option, None, Some, Result, Ok, Err, refl}
-use Rattle.std.proofs.lemmas.List.{take_all}
-use Rattle.std.proofs.lemmas.List.Elements.{All-more}
-use Rattle.std.proofs.Common.{inl, inr, take, zero, suc, sym, ap, subst, ◌∙◌, arith, get_or, add-one}
+-- What a binary search by key finds in a list of entries in order.
+use Rattle.std.specs.Prelude.{◌≡◌, ℕ, ◌<◌, true, false, cond, T, List, [], ◌∷◌, length, None, Some, Result, Ok, Err, refl}
+use Rattle.std.proofs.Common.{inl, inr, zero, suc, sym, ap, ◌∙◌, arith, get_or, add-one}
 use Rattle.std.specs.declared.cmp.Ordering.{Ordering}
-use Rattle.std.specs.declared.cmp.Ordering.TheVariants.{Less, Equal, Greater}
+use Rattle.std.specs.declared.cmp.Ordering.TheVariants.{Less, Greater}
 use Rattle.std.specs.Ordering.{is_lt, is_eq, eq_by_cmp, ordering_reverse, ordering_index}
 use Rattle.std.specs.Cmp.{IsTotalOrder}
 use Rattle.std.specs.List.{AllWithin, All}
 use Rattle.std.specs.List.Sorted.{IsSearchInRange, IsBinarySearchResult, IsNonDecreasingBy}
-use Rattle.std.proofs.lemmas.Cmp.{tied_itself}
+use Rattle.std.proofs.lemmas.Bool.{cases_lt}
 use Rattle.std.proofs.lemmas.Map.Lookups.{CmpEqualImpliesEq}
 use Rattle.std.proofs.lemmas.List.Sorted.{searchable_from_sorted}
 use Rattle.std.specs.FinMap.{find, is_sorted}
-use Rattle.std.specs.FinMap.Entries.{below_all}
-use Rattle.dac_lattice.specs.Search.{IsInOrder, IsPlaceOf, AtEachKey, AtEachEntry}
-
-first : (a b : Bool) → T (a && b) → T a
-first true b p = tt
-first false b p = p
-
-second : (a b : Bool) → T (a && b) → T b
-second true b p = p
-second false b p = absurd p
-
-less : (o : Ordering) → T (is_lt o) → o ≡ Less
-less Less p = refl
-less Equal p = absurd p
-less Greater p = absurd p
+use Rattle.dac_lattice.specs.Search.{IsInOrder, IsPlaceOf}
+use Rattle.dac_lattice.specs.EntryLaws.{first, second, greater, above_at, find_at}
 
 module _ {K : Type 0} {R : K → K → Ordering} (o : IsTotalOrder R) where
-  greater : (x y : K) → R x y ≡ Less → R y x ≡ Greater
-  greater x y p = o.antisymm y x ∙ ap ordering_reverse p
-
   apart_less : (x k : K) → R x k ≡ Less → eq_by_cmp R k x ≡ false
-  apart_less x k p = ap is_eq (greater x k p)
+  apart_less x k p = ap is_eq (greater o x k p)
 
   apart_greater : (x k : K) → R x k ≡ Greater → eq_by_cmp R k x ≡ false
   apart_greater x k p = ap is_eq (o.antisymm k x ∙ ap ordering_reverse p)
 
 module _ {K X : Type 0} {R : K → K → Ordering} (o : IsTotalOrder R) (exact : CmpEqualImpliesEq R) where
-  above_at : (x : K) (es : List (K × X)) (i : ℕ) (d : K × X) → T (below_all R x es) → i < length es → R x (get_or es i d).0 ≡ Less
-  above_at x [] i d h p = absurd (omega arith)
-  above_at x (e ∷ es) zero d h p = less _ (first _ _ h)
-  above_at x (e ∷ es) (suc i) d h p = above_at x es i d (second _ _ h) (omega arith)
-
-  -- the entry at a place is what its key finds
-  pub find_at : (xs : List (K × X)) (i : ℕ) (d : K × X) → T (is_sorted R xs) → i < length xs → find R (get_or xs i d).0 xs ≡ Some (get_or xs i d).1
-  find_at [] i d h p = absurd (omega arith)
-  find_at (x ∷ xs) zero d h p = ap (λ r. cond (is_eq r) (Some x.1) (find R x.0 xs)) (tied_itself o x.0)
-  find_at (x ∷ xs) (suc i) d h p =
-      ap (λ r. cond (is_eq r) (Some x.1) (find R (get_or xs i d).0 xs)) (greater o x.0 (get_or xs i d).0 (above_at x.0 xs i d (first _ _ h) (omega arith)))
-      ∙ find_at xs i d (second _ _ h) (omega arith)
-
   neighbours : (xs : List (K × X)) → T (is_sorted R xs) → (i : ℕ) (d : K × X) → suc i < length xs → is_lt (R (get_or xs (suc i) d).0 (get_or xs i d).0) ≡ false
   neighbours [] h i d p = absurd (omega arith)
-  neighbours (x ∷ xs) h zero d p = ap is_lt (greater o x.0 (get_or xs 0 d).0 (above_at x.0 xs 0 d (first _ _ h) (omega arith)))
+  neighbours (x ∷ xs) h zero d p = ap is_lt (greater o x.0 (get_or xs 0 d).0 (above_at o exact x.0 xs 0 d (first _ _ h) (omega arith)))
   neighbours (x ∷ xs) h (suc i) d p = neighbours xs (second _ _ h) i d (omega arith)
 
   rises : (xs : List (K × X)) → T (is_sorted R xs) → (k : K) → IsNonDecreasingBy (λ e. ordering_index (R e.0 k)) xs
@@ -66,40 +35,12 @@ module _ {K X : Type 0} {R : K → K → Ordering} (o : IsTotalOrder R) (exact :
   absent (x ∷ xs) k h = ap (λ t. cond t (Some x.1) (find R k xs)) (h 0 x (omega arith)) ∙ absent xs k (λ i d p. h (suc i) d (omega arith))
 
   absent_at : (xs : List (K × X)) (k : K) (i : ℕ) → AllWithin (λ e. R e.0 k ≡ Less) xs 0 i → AllWithin (λ e. R e.0 k ≡ Greater) xs i (length xs) → All (λ e. eq_by_cmp R k e.0 ≡ false) xs
-  absent_at xs k i low high j d p = elim (Rattle.std.proofs.lemmas.Bool.cases_lt j i) [
+  absent_at xs k i low high j d p = elim (cases_lt j i) [
     | inl q ↦ apart_less o _ k (low j d (omega arith) q)
     | inr q ↦ apart_greater o _ k (high j d q p)
   ]
 
   -- what a binary search by key answers, in the words of `find`
   pub searched : (xs : List (K × X)) (k : K) (r : Result ℕ ℕ) → IsInOrder R xs → IsSearchInRange r (length xs) → IsBinarySearchResult (λ e. R e.0 k) xs r → IsPlaceOf R xs k r
-  searched xs k (Ok i) h in_range at = (in_range, λ d. ap (λ q. find R q xs) (sym (exact _ k (at d))) ∙ find_at xs i d h in_range)
+  searched xs k (Ok i) h in_range at = (in_range, λ d. ap (λ q. find R q xs) (sym (exact _ k (at d))) ∙ find_at o exact xs i d h in_range)
   searched xs k (Err i) h in_range parted = let parts = parted (rises xs h k) in absent xs k (absent_at xs k i parts.0 parts.1)
-
-tied_from : (r : Ordering) → is_eq r ≡ true → r ≡ Equal
-tied_from Less p = cc
-tied_from Equal p = refl
-tied_from Greater p = cc
-
-module _ {K X : Type 0} {R : K → K → Ordering} (o : IsTotalOrder R) (exact : CmpEqualImpliesEq R) (P : K → Option X → Type 0) where
-  pub each_key : ((k : K) → P k None) → (xs : List (K × X)) → AtEachEntry P xs → AtEachKey R P xs
-  each_key none [] all k = none k
-  each_key none (x ∷ xs) all k = elim (eq_by_cmp R k x.0) as (λ t. eq_by_cmp R k x.0 ≡ t → P k (cond t (Some x.1) (find R k xs))) [
-    | true ↦ λ t. subst (λ q. P q (Some x.1)) (sym (exact k x.0 (tied_from (R k x.0) t))) (all 0 x (omega arith))
-    | false ↦ λ t. each_key none xs (λ i d p. all (suc i) d (omega arith)) k
-  ] refl
-
-  pub each_entry : (xs : List (K × X)) → IsInOrder R xs → AtEachKey R P xs → AtEachEntry P xs
-  each_entry xs h each i d p = subst (P _) (find_at o exact xs i d h p) (each _)
-
-  -- one entry more
-  pub one_more : (xs : List (K × X)) (i : ℕ) (x : K × X) → i < length xs → x ≡ get_or xs i x → AtEachEntry P (take i xs) → P x.0 (Some x.1) → AtEachEntry P (take (i + 1) xs)
-  one_more xs i x p is all here = All-more (λ e. P e.0 (Some e.1)) xs i x p all (subst (λ e. P e.0 (Some e.1)) is here)
-
-  -- all entries
-  pub no_more : ((k : K) → P k None) → (xs : List (K × X)) (i : ℕ) → length xs ≤ i → AtEachEntry P (take i xs) → AtEachKey R P xs
-  no_more none xs i p all = each_key none xs (subst (AtEachEntry P) (take_all i xs p) all)
-
-  -- at one place
-  pub at_place : (xs : List (K × X)) (i : ℕ) (x : K × X) → IsInOrder R xs → i < length xs → x ≡ get_or xs i x → AtEachKey R P xs → P x.0 (Some x.1)
-  at_place xs i x h p is each = subst (λ e. P e.0 (Some e.1)) (sym is) (each_entry xs h each i x p)

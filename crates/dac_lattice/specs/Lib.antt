@@ -4,6 +4,7 @@ pub mod Chains
 pub mod Flags
 pub mod Entries
 pub mod Search
+pub mod EntryLaws
 pub mod Maps
 pub mod Pieces
 pub mod PieceLaws

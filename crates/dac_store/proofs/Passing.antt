@@ -1,0 +1,77 @@
+-- Sets that grow by those dots of a list that pass a test, and the dots of stores in a list.
+use Rattle.std.proofs.Common.{◌≡◌, ℕ, ◌+◌, ◌<◌, ◌≤◌, zero, suc, Bool, true, false, ◌&&◌, ◌||◌, inl, inr, List, [], ◌∷◌, length, get_or, take, refl, sym, ap, subst, ◌∙◌, arith}
+use Rattle.std.specs.Ordering.{eq_by_cmp}
+use Rattle.std.specs.List.{All}
+use Rattle.std.specs.Cmp.{Equal-is}
+use Rattle.std.specs.FinSet as set
+use Rattle.std.proofs.lemmas.Bool.{false≢true, or_cases, or_left, or_right}
+use Rattle.std.proofs.lemmas.List.{take_all}
+use Rattle.std.proofs.lemmas.List.Folds.{list_any_more}
+use Rattle.dac_dots.specs.Keys.{has_key}
+use Rattle.dac_dots.specs.KeyLaws.{has_is}
+use Rattle.dac_dots.specs.Dots.{Dots, dot_cmp, dots_total, exact_dots}
+use Rattle.dac_dots.specs.declared.dot.Dot.{Dot}
+use Rattle.dac_store.specs.Stores.{IsHeld}
+use Rattle.dac_store.specs.DotMaps.{has_in}
+
+-- e: the dot; h: there before; r: among those so far; b: passes
+kept_test : (e h r b : Bool) → (e ≡ true → b ≡ true) → (e || (h || (r && b))) ≡ (h || ((r || e) && b))
+kept_test true true r b f = refl
+kept_test true false true b f = sym (f refl)
+kept_test true false false b f = sym (f refl)
+kept_test false h true b f = refl
+kept_test false h false b f = refl
+
+dropped_test : (e h r b : Bool) → (e ≡ true → b ≡ false) → (h || (r && b)) ≡ (h || ((r || e) && b))
+dropped_test true h true b f = refl
+dropped_test true h false b f = ap (λ x. h || x) (sym (f refl))
+dropped_test false h true b f = refl
+dropped_test false h false b f = refl
+
+-- a set to which those dots of a list are added that pass a test
+abbrev pub AddsPassing : (Dot → Bool) → List Dot → Dots → Dots → Type 0
+AddsPassing p ks had now = (q : Dot) → set.contains now q ≡ (set.contains had q || (has_key dot_cmp ks q && p q))
+
+tied_test : (p : Dot → Bool) (k q : Dot) (b : Bool) → p k ≡ b → eq_by_cmp dot_cmp q k ≡ true → p q ≡ b
+tied_test p k q b t e = ap p (exact_dots q k ((Equal-is (dot_cmp q k)).0 e)) ∙ t
+
+module _ (p : Dot → Bool) (ks : List Dot) (had now : Dots) where
+  -- one dot more, which passes
+  pub adds_kept : (i : ℕ) (e : Dot) → i < length ks → AddsPassing p (take i ks) had now → p (get_or ks i e) ≡ true → AddsPassing p (take (i + 1) ks) had (set.insert now (get_or ks i e))
+  adds_kept i e h so_far t q =
+      let k = get_or ks i e in
+      set.contains-insert dots_total now k q
+      ∙ ap (λ b. eq_by_cmp dot_cmp q k || b) (so_far q)
+      ∙ kept_test (eq_by_cmp dot_cmp q k) (set.contains had q) (has_key dot_cmp (take i ks) q) (p q) (tied_test p k q true t)
+      ∙ ap (λ b. set.contains had q || (b && p q)) (sym (list_any_more (eq_by_cmp dot_cmp q) ks i e h))
+
+  -- one dot more, which doesn't
+  pub adds_dropped : (i : ℕ) (e : Dot) → i < length ks → AddsPassing p (take i ks) had now → p (get_or ks i e) ≡ false → AddsPassing p (take (i + 1) ks) had now
+  adds_dropped i e h so_far t q =
+      let k = get_or ks i e in
+      so_far q
+      ∙ dropped_test (eq_by_cmp dot_cmp q k) (set.contains had q) (has_key dot_cmp (take i ks) q) (p q) (tied_test p k q false t)
+      ∙ ap (λ b. set.contains had q || (b && p q)) (sym (list_any_more (eq_by_cmp dot_cmp q) ks i e h))
+
+  -- all dots
+  pub adds_all : (s : Dots) → set.from_list ks ≡ s → (i : ℕ) → length ks ≤ i → AddsPassing p (take i ks) had now → (q : Dot) → set.contains now q ≡ (set.contains had q || (set.contains s q && p q))
+  adds_all s is i h so_far q = so_far q ∙ ap (λ l. set.contains had q || (has_key dot_cmp l q && p q)) (take_all i ks h) ∙ ap (λ b. set.contains had q || (b && p q)) (has_is dots_total ks s is q)
+
+-- ---- stores in a list
+
+-- the map holds the dots of each of its stores
+pub has_at : {K S : Type 0} (has : S → Dot → Bool) (m : List (K × S)) (i : ℕ) (d : K × S) (x : Dot) → i < length m → has (get_or m i d).1 x ≡ true → has_in has m x ≡ true
+has_at has [] i d x p e = absurd (omega arith)
+has_at has (f ∷ m) zero d x p e = or_left (has f.1 x) (has_in has m x) e
+has_at has (f ∷ m) (suc i) d x p e = or_right (has f.1 x) (has_in has m x) (has_at has m i d x (omega arith) e)
+
+-- where the dots of each store are in a set, the map's are
+held_each : {K S : Type 0} (has : S → Dot → Bool) (c : Dots) (m : List (K × S)) → All (λ e. IsHeld (has e.1) c) m → IsHeld (has_in has m) c
+held_each has c [] all x e = absurd (false≢true e)
+held_each has c (f ∷ m) all x e = elim (or_cases (has f.1 x) (has_in has m x) e) [
+  | inl here ↦ all 0 f (omega arith) x here
+  | inr later ↦ held_each has c m (λ i d p. all (suc i) d (omega arith)) x later
+]
+
+pub held_done : {K S : Type 0} (has : S → Dot → Bool) (c : Dots) (m : List (K × S)) (i : ℕ) → length m ≤ i → All (λ e. IsHeld (has e.1) c) (take i m) → IsHeld (has_in has m) c
+held_done has c m i p all = held_each has c m (subst (All (λ e. IsHeld (has e.1) c)) (take_all i m p) all)

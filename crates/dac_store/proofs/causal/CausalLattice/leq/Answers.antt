@@ -1,0 +1,13 @@
+use Rattle.std.proofs.Common.{◌∙◌, sym}
+use Rattle.std.proofs.lemmas.Bool.{false≢true}
+use Rattle.dac_store.proofs.causal.CausalLattice.leq.Goals as goal
+
+pub returns-then-is_subset : goal.returns-then-is_subset
+returns-then-is_subset g c =
+    rw (← c.self.view_is, ← c.other.view_is)
+    (λ e. (c.is_subset.ensures.0 c.if-is_subset.true, c.leq_in.ensures.0 e), λ below. c.leq_in.ensures.1 below.1)
+
+pub returns-else-is_subset : goal.returns-else-is_subset
+returns-else-is_subset g c =
+    rw (← c.self.view_is, ← c.other.view_is)
+    (λ e. absurd (false≢true (sym c.if-is_subset.false ∙ e)), λ below. absurd (false≢true (sym c.if-is_subset.false ∙ c.is_subset.ensures.1 below.0)))

@@ -1,0 +1,96 @@
+-- Sets of dots as a store.
+use Rattle.std.specs.Prelude.{◌≡◌, Bool, true, false, not, ◌&&◌, ◌||◌, nat_eq, refl}
+use Rattle.std.proofs.Common.{sym, ap, ◌∙◌}
+use Rattle.std.proofs.lemmas.Bool.{false≢true, eqb-true, and_parts}
+use Rattle.std.specs.FinSet as set
+use Rattle.dac_dots.specs.Dots.{Dots, dot_cmp, dots_total, exact_dots}
+use Rattle.dac_dots.specs.declared.dot.Dot.{Dot}
+use Rattle.dac_lattice.specs.Chains.{IsAny}
+use Rattle.dac_store.specs.Stores.{IsDotStore, both_ways}
+
+-- each dot of t that c has heard of is in s
+abbrev pub IsSetBelow : Dots → Dots → Dots → Dots → Type 0
+IsSetBelow s c t d = (x : Dot) → set.contains t x ≡ true → set.contains c x ≡ true → set.contains s x ≡ true
+
+-- a dot may stay beside a set: it is one of its dots, or hasn't been heard of there
+abbrev pub may_stay : Dots → Dots → Dot → Bool
+may_stay t d x = set.contains t x || not (set.contains d x)
+
+-- the dots of either set that may stay beside the other
+unfoldable pub join_sets : Dots → Dots → Dots → Dots → Dots
+join_sets s c t d = set.union (set.retain s (may_stay t d)) (set.retain t (may_stay s c))
+
+-- no dots
+abbrev pub is_empty_set : Dots → Bool
+is_empty_set s = nat_eq (set.len s) 0
+
+-- what the join has
+pub contains_join : (s c t d : Dots) (x : Dot) → set.contains (join_sets s c t d) x ≡ ((set.contains s x && may_stay t d x) || (set.contains t x && may_stay s c x))
+unfolding join_sets
+contains_join s c t d x =
+    set.contains-union dots_total (set.retain s (may_stay t d)) (set.retain t (may_stay s c)) x
+    ∙ (λ i. set.contains-retain s (may_stay t d) x (λ y e. ap (may_stay t d) (sym (exact_dots x y e))) i || set.contains-retain t (may_stay s c) x (λ y e. ap (may_stay s c) (sym (exact_dots x y e))) i)
+
+-- ---- tests of one dot: s, t that a side holds it, c, d that the side has heard of it
+
+-- a dot that may stay, and was heard of, is held
+pub held_if_stays : (s c : Bool) → (s || not c) ≡ true → c ≡ true → s ≡ true
+held_if_stays true c h e = refl
+held_if_stays false true h e = h
+held_if_stays false false h e = absurd (false≢true e)
+
+pub stays_if_held : (s c : Bool) → (c ≡ true → s ≡ true) → (s || not c) ≡ true
+stays_if_held true c h = refl
+stays_if_held false true h = h refl
+stays_if_held false false h = refl
+
+-- a dot of a join is held on a side
+pub from_either : (s t a b : Bool) → ((s && a) || (t && b)) ≡ true → (s || t) ≡ true
+from_either true t a b h = refl
+from_either false t a b h = (and_parts t b h).0
+
+-- a dot of a join that the left has heard of is held on the left
+pub held_left : (s c t d : Bool) → ((s && (t || not d)) || (t && (s || not c))) ≡ true → c ≡ true → s ≡ true
+held_left true c t d h e = refl
+held_left false c false d h e = absurd (false≢true h)
+held_left false true true d h e = absurd (false≢true h)
+held_left false false true d h e = absurd (false≢true e)
+
+pub held_right : (s c t d : Bool) → ((s && (t || not d)) || (t && (s || not c))) ≡ true → d ≡ true → t ≡ true
+held_right s c true d h e = refl
+held_right false c false d h e = absurd (false≢true h)
+held_right true c false true h e = absurd (false≢true h)
+held_right true c false false h e = absurd (false≢true e)
+
+-- a dot that each side holds if it has heard of it, and that one has heard of, stays
+pub held_joined : (s c t d : Bool) → (c ≡ true → s ≡ true) → (d ≡ true → t ≡ true) → (c || d) ≡ true → ((s && (t || not d)) || (t && (s || not c))) ≡ true
+held_joined true c true d f g h = refl
+held_joined true c false true f g h = absurd (false≢true (g refl))
+held_joined true c false false f g h = refl
+held_joined false true t d f g h = absurd (false≢true (f refl))
+held_joined false false true d f g h = refl
+held_joined false false false true f g h = absurd (false≢true (g refl))
+held_joined false false false false f g h = absurd (false≢true h)
+
+-- ---- the laws
+
+none_in : (s : Dots) → ((x : Dot) → set.contains s x ≡ false) → s ≡ set.empty
+none_in s h = set.same_set dots_total exact_dots s set.empty (λ x. h x ∙ sym (set.contains-empty dot_cmp x))
+
+pub set_laws : IsDotStore IsAny set.contains IsSetBelow join_sets set.empty is_empty_set
+set_laws = record {
+  refl = λ s c u x h k. h;
+  trans = λ s c t d u e us ut uu cd de p q x h k. p x (q x h (cd x k)) k;
+  antisymm = λ s t c us ut p q. set.same_set dots_total exact_dots s t (λ x. both_ways (set.contains s x) (set.contains t x) (λ h. q x h (us.held x h)) (λ h. p x h (ut.held x h)));
+  stored = λ s c t d us ut. tt;
+  comes = λ s c t d x us ut h. from_either (set.contains s x) (set.contains t x) (may_stay t d x) (may_stay s c x) (sym (contains_join s c t d x) ∙ h);
+  left = λ s c t d us ut x h k. held_left (set.contains s x) (set.contains c x) (set.contains t x) (set.contains d x) (sym (contains_join s c t d x) ∙ h) k;
+  right = λ s c t d us ut x h k. held_right (set.contains s x) (set.contains c x) (set.contains t x) (set.contains d x) (sym (contains_join s c t d x) ∙ h) k;
+  least = λ s c t d u e us ut uu ce de p q x h k. contains_join s c t d x ∙ held_joined (set.contains s x) (set.contains c x) (set.contains t x) (set.contains d x) (p x h) (q x h) (sym (set.contains-union dots_total c d x) ∙ k);
+  empty_store = tt;
+  empty_has = set.contains-empty dot_cmp;
+  bare = λ s u h. ap is_empty_set (none_in s h) ∙ ap (λ n. nat_eq n 0) (set.len-empty dot_cmp);
+  one_empty = λ s u e. set.empty_of_len s (eqb-true _ _ e);
+  cleared = λ s c d u x h k. absurd (false≢true (sym (set.contains-empty dot_cmp x) ∙ h));
+  first = λ s c u x h k. absurd (false≢true (sym (set.contains-empty dot_cmp x) ∙ k));
+}

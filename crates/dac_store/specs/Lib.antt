@@ -1,0 +1,5 @@
+pub mod Stores
+pub mod DotSets
+pub mod AtDot
+pub mod DotFuns
+pub mod DotMaps

@@ -1,0 +1,193 @@
+//! Values at dots.
+ghost use Rattle.std.specs.Prelude.{◌≡◌, ◌↔◌, [], ◌∷◌, IsTrue, IfOk, Some, true};
+ghost use Rattle.std.specs.FinSet as set;
+ghost use Rattle.std.specs.Option.{option_copied};
+ghost use Rattle.std.specs.FinMap.{find};
+ghost use Rattle.dac_dots.specs.Dots.{dot_cmp};
+ghost use Rattle.dac_store.specs.AtDot.{StandsBelow};
+
+use crate::DotStore;
+use dac_base::NoMemory;
+use dac_dots::{Context, Dot};
+use dac_lattice::Lattice;
+use dac_lattice::merging::{Combine, merge, value_at};
+use std::alloc::Global;
+use std::marker::Model;
+
+/// A value of a lattice at each of some dots. Contracts see it as the list of the dots with their values,
+/// in the order of the dots.
+#[derive(Drop)]
+pub struct DotFun<V: Lattice> {
+    entries: Vec<(Dot, V)>,
+}
+
+impl<V: Lattice> Model for DotFun<V> {
+    ghost use Rattle.std.specs.Prelude.{List};
+    ghost use Rattle.dac_dots.specs.Dots.{dot_cmp};
+    ghost use Rattle.dac_dots.specs.declared.Dot.{Dot};
+    ghost use Rattle.dac_lattice.specs.Maps.{IsMap};
+
+    ghost Value = { List (Dot × V) };
+
+    ghost view = { λ a. a.entries.items };
+
+    ghost invariant = { λ a. IsMap dot_cmp V.is_value a.entries.items };
+}
+
+impl<V: Lattice> DotFun<V> {
+    /// The store that holds one dot, with this value. [`NoMemory`] is the only error.
+    pub fn one(alloc: Global, dot: Dot, value: V) -> Result<Self, NoMemory>
+        ensures { IfOk result (λ store. store ≡ (dot, value) ∷ []) }
+    {
+        value.known();
+        let mut entries = Vec::new(alloc);
+        entries.push((dot, value))?;
+        Ok(DotFun { entries })
+    }
+
+    /// The value at a dot, if the store holds it. It takes no memory.
+    pub fn get(&self, dot: Dot) -> Option<&V>
+        ensures { option_copied result ≡ find dot_cmp dot self.now }
+    {
+        value_at(&self.entries, dot)
+    }
+
+    /// The dots with their values, in the order of the dots. It takes no memory.
+    pub fn entries(&self) -> &[(Dot, V)]
+        ensures { result.now ≡ self.now }
+    {
+        self.entries.as_slice()
+    }
+
+    /// Whether the other side may hold this value at a dot: this side hasn't heard of the dot, or holds it
+    /// with a value that isn't above.
+    fn lets_stand(&self, heard: &Context, dot: Dot, theirs: &V) -> bool
+        ensures { IsTrue result
+            ↔ (set.contains heard.now dot ≡ true → StandsBelow V.below (find dot_cmp dot self.now) (Some theirs.now)) }
+    {
+        if !heard.contains(dot) {
+            return true;
+        }
+        match self.get(dot) {
+            Some(mine) => mine.leq(theirs),
+            None => false,
+        }
+    }
+}
+
+/// Keeps the value of a dot that one side alone holds where the other hasn't heard of it, and joins two
+/// values at one dot.
+#[derive(Clone, Copy)]
+struct JoinHeard<'a> {
+    mine: &'a Context,
+    theirs: &'a Context,
+}
+
+impl<V: Lattice> Combine<Dot, V> for JoinHeard<'_> {
+    ghost use Rattle.std.specs.FinSet as set;
+    ghost use Rattle.dac_store.specs.AtDot.{join_at};
+
+    ghost combined = { λ h x. join_at V.join (set.contains h.mine.now x) (set.contains h.theirs.now x) };
+
+    fn left(&self, dot: Dot, mine: &V) -> Result<Option<V>, NoMemory> {
+        if self.theirs.contains(dot) {
+            return Ok(None);
+        }
+        Ok(Some(mine.copy()?))
+    }
+
+    fn right(&self, dot: Dot, theirs: &V) -> Result<Option<V>, NoMemory> {
+        if self.mine.contains(dot) {
+            return Ok(None);
+        }
+        Ok(Some(theirs.copy()?))
+    }
+
+    fn both(&self, _dot: Dot, mine: &V, theirs: &V) -> Result<Option<V>, NoMemory> {
+        Ok(Some(mine.join(theirs)?))
+    }
+}
+
+impl<V: Lattice> DotStore for DotFun<V> {
+    ghost use Rattle.std.specs.Prelude.{[]};
+    ghost use Rattle.dac_dots.specs.Dots.{dot_cmp};
+    ghost use Rattle.dac_lattice.specs.Maps.{IsMap};
+    ghost use Rattle.dac_store.specs.DotFuns.{has_dot, IsFunBelow, join_funs, is_empty_list, fun_laws};
+
+    ghost is_store = { IsMap dot_cmp V.is_value };
+
+    ghost has = { has_dot };
+
+    ghost below = { IsFunBelow V.below };
+
+    ghost join = { join_funs V.join };
+
+    ghost nothing = { [] };
+
+    ghost is_empty = { is_empty_list };
+
+    ghost laws = { fun_laws V.laws };
+
+    fn known(&self) {
+        let _entries = &self.entries;
+    }
+
+    fn empty(alloc: Global) -> Self {
+        DotFun {
+            entries: Vec::new(alloc),
+        }
+    }
+
+    fn copy(&self) -> Result<Self, NoMemory> {
+        let mut entries = Vec::new(*self.entries.allocator());
+        for (dot, value) in &self.entries {
+            entries.push((*dot, value.copy()?))?;
+        }
+        Ok(DotFun { entries })
+    }
+
+    fn join_in(
+        &self,
+        heard: &Context,
+        other: &Self,
+        other_heard: &Context,
+    ) -> Result<Self, NoMemory> {
+        let how = JoinHeard {
+            mine: heard,
+            theirs: other_heard,
+        };
+        let entries = merge(
+            *self.entries.allocator(),
+            &how,
+            &self.entries,
+            &other.entries,
+        )?;
+        Ok(DotFun { entries })
+    }
+
+    fn leq_in(&self, heard: &Context, other: &Self, _other_heard: &Context) -> bool {
+        for (dot, theirs) in &other.entries {
+            if !self.lets_stand(heard, *dot, theirs) {
+                return false;
+            }
+        }
+        true
+    }
+
+    fn has(&self, dot: Dot) -> bool {
+        self.get(dot).is_some()
+    }
+
+    fn within(&self, context: &Context) -> bool {
+        for (dot, _) in &self.entries {
+            if !context.contains(*dot) {
+                return false;
+            }
+        }
+        true
+    }
+
+    fn is_empty(&self) -> bool {
+        self.entries.is_empty()
+    }
+}

@@ -1,0 +1,148 @@
+//! Sets of dots.
+ghost use Rattle.std.specs.Prelude.{◌≡◌, ◌↔◌, ◌||◌, ◌&&◌, IsTrue, IfOk, OnOk, true};
+ghost use Rattle.std.specs.FinSet as set;
+ghost use Rattle.dac_dots.specs.InOrder.{in_order};
+ghost use Rattle.dac_store.specs.DotSets.{may_stay};
+
+use crate::DotStore;
+use dac_base::NoMemory;
+use dac_dots::keys::{holds_key, insert_key};
+use dac_dots::{Context, Dot};
+use std::alloc::Global;
+use std::marker::Model;
+
+/// A set of dots, kept as one sorted list. Contracts see it as a finite set.
+#[derive(Drop)]
+pub struct DotSet {
+    dots: Vec<Dot>,
+}
+
+impl Model for DotSet {
+    ghost use Rattle.std.specs.FinSet as set;
+    ghost use Rattle.dac_dots.specs.Keys.{IsRising};
+    ghost use Rattle.dac_dots.specs.Dots.{dot_cmp, coded_dot};
+
+    ghost Value = { set.FinSet dot_cmp };
+
+    ghost coded = { set.code coded_dot };
+
+    ghost view = { λ a. set.from_list a.dots.items };
+
+    ghost invariant = { λ a. IsRising dot_cmp a.dots.items };
+}
+
+impl DotSet {
+    /// The set of one dot. [`NoMemory`] is the only error.
+    pub fn one(alloc: Global, dot: Dot) -> Result<Self, NoMemory>
+        ensures { IfOk result (λ one. one ≡ set.insert set.empty dot) }
+    {
+        let mut dots = Vec::new(alloc);
+        dots.push(dot)?;
+        Ok(DotSet { dots })
+    }
+
+    /// The dots in rising order, each once. It takes no memory.
+    pub fn dots(&self) -> &[Dot]
+        ensures { result.now ≡ in_order self.now }
+    {
+        self.dots.as_slice()
+    }
+
+    /// Puts a dot into the set.
+    fn insert(&mut self, dot: Dot) -> Result<(), NoMemory>
+        ensures { OnOk result (self.new ≡ set.insert self.old dot) }
+    {
+        insert_key(&mut self.dots, dot)?;
+        Ok(())
+    }
+
+    /// Whether a dot may stay beside these: it is one of them, or this side hasn't heard of it.
+    fn lets_stay(&self, heard: &Context, dot: Dot) -> bool
+        ensures { result ≡ may_stay self.now heard.now dot }
+    {
+        self.has(dot) || !heard.contains(dot)
+    }
+
+    /// Adds the dots of `from` that may stay beside those of another side.
+    fn add_staying(&mut self, from: &Self, beside: &Self, heard: &Context) -> Result<(), NoMemory>
+        ensures { OnOk result ((q : _) → set.contains self.new q ≡ (set.contains self.old q || (set.contains from.now q && may_stay beside.now heard.now q))) }
+    {
+        for dot in &from.dots {
+            if beside.lets_stay(heard, *dot) {
+                self.insert(*dot)?;
+            }
+        }
+        Ok(())
+    }
+}
+
+impl DotStore for DotSet {
+    ghost use Rattle.std.specs.FinSet as set;
+    ghost use Rattle.dac_lattice.specs.Chains.{IsAny};
+    ghost use Rattle.dac_store.specs.DotSets.{IsSetBelow, join_sets, is_empty_set, set_laws};
+
+    ghost is_store = { IsAny };
+
+    ghost has = { set.contains };
+
+    ghost below = { IsSetBelow };
+
+    ghost join = { join_sets };
+
+    ghost nothing = { set.empty };
+
+    ghost is_empty = { is_empty_set };
+
+    ghost laws = { set_laws };
+
+    fn known(&self) {}
+
+    fn empty(alloc: Global) -> Self {
+        DotSet {
+            dots: Vec::new(alloc),
+        }
+    }
+
+    fn copy(&self) -> Result<Self, NoMemory> {
+        let dots = Vec::from_slice(*self.dots.allocator(), &self.dots)?;
+        Ok(DotSet { dots })
+    }
+
+    fn join_in(
+        &self,
+        heard: &Context,
+        other: &Self,
+        other_heard: &Context,
+    ) -> Result<Self, NoMemory> {
+        let mut joined = DotSet::empty(*self.dots.allocator());
+        joined.add_staying(self, other, other_heard)?;
+        joined.add_staying(other, self, heard)?;
+        Ok(joined)
+    }
+
+    fn leq_in(&self, heard: &Context, other: &Self, _other_heard: &Context) -> bool {
+        for dot in &other.dots {
+            if !self.lets_stay(heard, *dot) {
+                return false;
+            }
+        }
+        true
+    }
+
+    fn has(&self, dot: Dot) -> bool {
+        holds_key(&self.dots, dot)
+    }
+
+    fn within(&self, context: &Context) -> bool {
+        for dot in &self.dots {
+            if !context.contains(*dot) {
+                return false;
+            }
+        }
+        true
+    }
+
+    fn is_empty(&self) -> bool {
+        self.dots.is_empty()
+    }
+}

@@ -1,0 +1,77 @@
+//! What a store of dots is.
+ghost use Rattle.std.specs.Prelude.{◌≡◌, ◌↔◌, Bool, IsTrue, IfOk};
+ghost use Rattle.dac_dots.specs.Dots.{Dots};
+ghost use Rattle.dac_dots.specs.declared.Dot.{Dot};
+ghost use Rattle.dac_store.specs.Stores.{IsDotStore, IsHeld};
+
+use dac_base::NoMemory;
+use dac_dots::{Context, Dot};
+use std::alloc::Global;
+
+/// Values that hold dots. Two of them are ordered and joined beside their contexts, the dots that each
+/// side has heard of.
+///
+/// The laws are one ghost member. For stores whose dots are in their contexts the order is a partial
+/// order, and the join is the least upper bound under the union of the contexts. Each law asks that its
+/// values are values of the type, which `known` tells.
+pub trait DotStore: Drop {
+    /// Holds of the values of the type.
+    ghost is_store: { Self → Type 0 };
+
+    /// Whether a store holds a dot.
+    ghost has: { Self → Dot → Bool };
+
+    /// The order of two stores, each beside its context.
+    ghost below: { Self → Dots → Self → Dots → Type 0 };
+
+    /// The join of two stores, each beside its context.
+    ghost join: { Self → Dots → Self → Dots → Self };
+
+    /// The store without dots.
+    ghost nothing: { Self };
+
+    /// Whether a store holds no dot.
+    ghost is_empty: { Self → Bool };
+
+    /// A value of the type is one. This only tells proofs so, and does nothing when it runs.
+    fn known(&self)
+        ensures { is_store self.now };
+
+    /// The store without dots. It takes no memory.
+    fn empty(alloc: Global) -> Self
+        ensures { result ≡ nothing };
+
+    /// An equal store, with memory of its own. [`NoMemory`] is the only error.
+    fn copy(&self) -> Result<Self, NoMemory>
+        ensures { IfOk result (λ copied. copied ≡ self.now) };
+
+    /// What is left of both stores, where this side has heard of the dots of `heard` and the other of
+    /// those of `other_heard`. [`NoMemory`] is the only error.
+    fn join_in(
+        &self,
+        heard: &Context,
+        other: &Self,
+        other_heard: &Context,
+    ) -> Result<Self, NoMemory>
+        ensures { IfOk result (λ joined. joined ≡ join self.now heard.now other.now other_heard.now) };
+
+    /// Whether this store is below the other one: the other holds no dot that this side has heard of and
+    /// doesn't hold, and no lower value at one that both hold.
+    fn leq_in(&self, heard: &Context, other: &Self, other_heard: &Context) -> bool
+        ensures { IsTrue result ↔ below self.now heard.now other.now other_heard.now };
+
+    /// Whether the store holds this dot.
+    fn has(&self, dot: Dot) -> bool
+        ensures { result ≡ has self.now dot };
+
+    /// Whether the context has each dot of the store.
+    fn within(&self, context: &Context) -> bool
+        ensures { IsTrue result ↔ IsHeld (has self.now) context.now };
+
+    /// Whether the store holds no dot.
+    fn is_empty(&self) -> bool
+        ensures { result ≡ is_empty self.now };
+
+    /// The order is a partial order under contexts, and the join the least upper bound.
+    ghost laws: { IsDotStore is_store has below join nothing is_empty };
+}

@@ -1,0 +1,25 @@
+//! Stores of dots: values that hold dots, ordered and joined under what each side has heard of.
+//!
+//! A replica that has heard of a dot and doesn't hold it has dropped it; one that hasn't heard of it may
+//! still get it. So two stores are joined beside their contexts: what one side alone holds stays where the
+//! other hasn't heard of it. These are the dot stores of delta-state replicated data types. This crate says
+//! once what a store owes, as the laws of the trait [`DotStore`], and proves them for sets of dots
+//! ([`DotSet`]), values at dots ([`DotFun`]) and stores at keys ([`DotMap`]). A store beside a context that
+//! has all its dots ([`Causal`]) is then a lattice, for every value of the type.
+//!
+//! No call lists the dots of a context: stores ask only whether a context contains a dot.
+#![tactic(auto)]
+
+pub use causal::Causal;
+pub use dot_fun::DotFun;
+pub use dot_map::DotMap;
+pub use dot_set::DotSet;
+pub use dot_store::DotStore;
+
+mod causal;
+mod dot_fun;
+mod dot_map;
+mod dot_set;
+mod dot_store;
+#[cfg(test)]
+mod tests;

@@ -1,0 +1,7 @@
+use Rattle.dac_wishes.specs.StoredWishes.{below_if_stored, stored_if_below}
+use Rattle.dac_wishes.proofs.wishes.WishesLattice.leq.Goals as goal
+
+pub returns : goal.returns
+returns c =
+    rw (← c.self.view_is, ← c.other.view_is)
+    (λ e. below_if_stored _ _ c.self.invariant c.other.invariant (c.leq.ensures.0 e), λ below. c.leq.ensures.1 (stored_if_below _ _ c.self.invariant c.other.invariant below))

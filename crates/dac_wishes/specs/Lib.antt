@@ -1,0 +1,10 @@
+pub mod Keys
+pub mod Writes
+pub mod WishesValue
+pub mod StoredWishes
+pub mod Replacing
+pub mod WishMeaning
+pub mod PermissionsValue
+pub mod StoredPermits
+pub mod PermitMeaning
+pub mod StoredDeltas

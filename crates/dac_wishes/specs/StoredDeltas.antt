@@ -1,0 +1,144 @@
+-- How the deltas of operations are stored.
+use Rattle.std.specs.Prelude.{◌≡◌, Bool, true, false, cond, ◌&&◌, ◌||◌, List, [], ◌∷◌, Option, Some, None, is_some, nat_eq, ◌+◌, refl}
+use Rattle.std.proofs.Common.{sym, ap, ◌∙◌}
+use Rattle.std.specs.List.{list_any}
+use Rattle.std.specs.Ordering.{eq_by_cmp, is_eq}
+use Rattle.std.specs.FinSet as set
+use Rattle.std.specs.FinMap as map
+use Rattle.std.specs.FinMap.{find}
+use Rattle.std.proofs.lemmas.Bool.{false≢true, or_left}
+use Rattle.dac_dots.specs.declared.dot.Dot.{Dot}
+use Rattle.dac_dots.specs.Dots.{Dots, dot_cmp, dots_total}
+use Rattle.dac_lattice.specs.declared.flags.Flag.{Flag}
+use Rattle.dac_lattice.specs.Chains.{IsAny}
+use Rattle.dac_lattice.specs.Laws.{IsIn}
+use Rattle.dac_lattice.specs.Maps.{IsMap}
+use Rattle.dac_store.specs.Stores.{Stored, IsHeld}
+use Rattle.dac_store.specs.DotSets.{is_empty_set}
+use Rattle.dac_store.specs.DotFuns.{has_dot, is_empty_list}
+use Rattle.dac_store.specs.DotMaps.{has_in, store_at, IsKept, IsKeyed}
+use Rattle.dac_wishes.specs.declared.key.Key.{Key}
+use Rattle.dac_wishes.specs.declared.wish_act.WishAct.{WishAct}
+use Rattle.dac_wishes.specs.declared.permit_act.PermitAct.{PermitAct}
+use Rattle.dac_wishes.specs.declared.wish_act.WishAct.TheVariants.{Start, Other as OtherWish}
+use Rattle.dac_wishes.specs.declared.permit_act.PermitAct.TheVariants.{Permit, Other as OtherPermit}
+use Rattle.dac_wishes.specs.Keys.{key_cmp, same_key}
+use Rattle.dac_wishes.specs.Writes.{Write, same_dot}
+use Rattle.dac_wishes.specs.WishesValue.{WishesValue, same_wishes}
+use Rattle.dac_wishes.specs.PermissionsValue.{PermissionsValue, flag_of, same_permissions}
+use Rattle.dac_wishes.specs.Replacing.{named_by, contains-named_by, replaces}
+use Rattle.dac_wishes.specs.StoredWishes.{StoredDots, AreStoredDots, wishes_of, contains-writes_of}
+use Rattle.dac_wishes.specs.StoredPermits.{DotFlags, StoredFlags, AreStoredFlags, permissions_of, get-permits_of}
+use Rattle.dac_wishes.specs.WishMeaning.{wish_delta, contains-delta, wishes}
+use Rattle.dac_wishes.specs.PermitMeaning.{permit_delta, get-delta, says}
+use Rattle.dac_wishes.specs.WishMeaning as wish
+use Rattle.dac_wishes.specs.PermitMeaning as permit
+
+-- a start as it is stored
+abbrev pub stored_start : Dot → WishAct → List (Key × Dots)
+stored_start d (Start key over) = (key, set.insert set.empty d) ∷ []
+stored_start d (OtherWish over) = []
+
+-- a permit as it is stored
+abbrev pub stored_permit : Dot → PermitAct → List (Key × DotFlags)
+stored_permit d (Permit key value over) = (key, (d, flag_of value) ∷ []) ∷ []
+stored_permit d (OtherPermit over) = []
+
+or_false : (b : Bool) → (b || false) ≡ b
+or_false true = refl
+or_false false = refl
+
+-- ---- starts
+
+-- the set of one dot
+one_dot : (d x : Dot) → set.contains (set.insert (set.empty {R = dot_cmp}) d) x ≡ same_dot x d
+one_dot d x = set.contains-insert dots_total set.empty d x ∙ ap (λ b. same_dot x d || b) (set.contains-empty dot_cmp x) ∙ or_false (same_dot x d)
+
+pub one_not_empty : (d : Dot) → is_empty_set (set.insert (set.empty {R = dot_cmp}) d) ≡ false
+one_not_empty d =
+    ap (λ n. nat_eq n 0) (set.len-insert dots_total (set.empty {R = dot_cmp}) d
+    ∙ ap (λ b. cond b (set.len (set.empty {R = dot_cmp})) (set.len (set.empty {R = dot_cmp}) + 1)) (set.contains-empty dot_cmp d)
+    ∙ ap (λ n. n + 1) (set.len-empty dot_cmp))
+
+start_kept : (d : Dot) (b : Bool) → IsKept IsAny is_empty_set (cond b (Some (set.insert (set.empty {R = dot_cmp}) d)) None)
+start_kept d true = (tt, one_not_empty d)
+start_kept d false = tt
+
+start_keyed : (d : Dot) (a : WishAct) → IsKeyed key_cmp IsAny is_empty_set (stored_start d a)
+start_keyed d (Start key over) = record { in_order = tt; stores = λ k. start_kept d (eq_by_cmp key_cmp k key) }
+start_keyed d (OtherWish over) = record { in_order = tt; stores = λ k. tt }
+
+start_held : (d : Dot) (a : WishAct) (x : Dot) → has_in set.contains (stored_start d a) x ≡ true → same_dot x d ≡ true
+start_held d (Start key over) x e = sym (one_dot d x) ∙ sym (or_false _) ∙ e
+start_held d (OtherWish over) x e = absurd (false≢true e)
+
+-- a delta's dot is known
+pub start_known : (d : Dot) (a : WishAct) → IsHeld (has_in set.contains (stored_start d a)) (named_by wish.over_of d a)
+start_known d a x e = contains-named_by wish.over_of d a x ∙ or_left (same_dot x d) (replaces wish.over_of x (d, a)) (start_held d a x e)
+
+-- a wish's delta as it is stored
+abbrev pub stored_wish : Dot → WishAct → StoredDots
+stored_wish d a = record { store = stored_start d a; context = named_by wish.over_of d a }
+
+pub wish_stored : (d : Dot) (a : WishAct) → AreStoredDots (stored_wish d a)
+wish_stored d a = record { store = start_keyed d a; held = start_known d a }
+
+start_at : (d : Dot) (k e : Bool) (x : Dot) → same_dot x d ≡ e → set.contains (store_at set.empty (cond k (Some (set.insert (set.empty {R = dot_cmp}) d)) None)) x ≡ (k && e)
+start_at d true e x is = one_dot d x ∙ is
+start_at d false e x is = set.contains-empty dot_cmp x
+
+start_there : (d : Dot) (a : WishAct) (w : Write) → set.contains (store_at set.empty (find key_cmp w.key (stored_start d a))) w.dot ≡ wish.is_start w (d, a)
+start_there d (Start key over) w = start_at d (same_key w.key key) (same_dot w.dot d) w.dot refl
+start_there d (OtherWish over) w = set.contains-empty dot_cmp w.dot
+
+pub wishes_of-delta : (d : Dot) (a : WishAct) → wishes_of (stored_wish d a) ≡ wish_delta d a
+wishes_of-delta d a = same_wishes (wishes_of (stored_wish d a)) (wish_delta d a) refl (λ w.
+    contains-writes_of (stored_start d a) (start_keyed d a).in_order w ∙ start_there d a w ∙ sym (contains-delta d a w))
+
+-- ---- permits
+
+one_in : (b : Bool) (f : Flag) → IsIn IsAny (cond b (Some f) None)
+one_in true f = tt
+one_in false f = tt
+
+permit_kept : (d : Dot) (f : Flag) (b : Bool) → IsKept (IsMap dot_cmp IsAny) is_empty_list (cond b (Some ((d, f) ∷ [])) None)
+permit_kept d f true = (record { in_order = tt; values = λ x. one_in (same_dot x d) f }, refl)
+permit_kept d f false = tt
+
+permit_keyed : (d : Dot) (a : PermitAct) → IsKeyed key_cmp (IsMap dot_cmp IsAny) is_empty_list (stored_permit d a)
+permit_keyed d (Permit key value over) = record { in_order = tt; stores = λ k. permit_kept d (flag_of value) (eq_by_cmp key_cmp k key) }
+permit_keyed d (OtherPermit over) = record { in_order = tt; stores = λ k. tt }
+
+some_test : (b : Bool) (f : Flag) → (is_some (cond b (Some f) None) || false) ≡ true → b ≡ true
+some_test true f e = refl
+some_test false f e = e
+
+permit_held : (d : Dot) (a : PermitAct) (x : Dot) → has_in has_dot (stored_permit d a) x ≡ true → same_dot x d ≡ true
+permit_held d (Permit key value over) x e = some_test (same_dot x d) (flag_of value) e
+permit_held d (OtherPermit over) x e = absurd (false≢true e)
+
+pub permit_known : (d : Dot) (a : PermitAct) → IsHeld (has_in has_dot (stored_permit d a)) (named_by permit.over_of d a)
+permit_known d a x e = contains-named_by permit.over_of d a x ∙ or_left (same_dot x d) (replaces permit.over_of x (d, a)) (permit_held d a x e)
+
+-- a permit's delta as it is stored
+abbrev pub stored_permission : Dot → PermitAct → StoredFlags
+stored_permission d a = record { store = stored_permit d a; context = named_by permit.over_of d a }
+
+pub permission_stored : (d : Dot) (a : PermitAct) → AreStoredFlags (stored_permission d a)
+permission_stored d a = record { store = permit_keyed d a; held = permit_known d a }
+
+permit_at : (d : Dot) (f : Flag) (k : Bool) (x : Dot) → find dot_cmp x (store_at [] (cond k (Some ((d, f) ∷ [])) None)) ≡ cond (same_dot x d) (cond k (Some f) None) None
+permit_at d f true x = refl
+permit_at d f false x = none_at (same_dot x d)
+  where
+    none_at : (b : Bool) → ◌≡◌ {A = Option Flag} None (cond b None None)
+    none_at true = refl
+    none_at false = refl
+
+permit_there : (d : Dot) (a : PermitAct) (w : Write) → find dot_cmp w.dot (store_at [] (find key_cmp w.key (stored_permit d a))) ≡ permit.permit_in w (d, a)
+permit_there d (Permit key value over) w = permit_at d (flag_of value) (same_key w.key key) w.dot
+permit_there d (OtherPermit over) w = permit_at d (flag_of true) false w.dot
+
+pub permissions_of-delta : (d : Dot) (a : PermitAct) → permissions_of (stored_permission d a) ≡ permit_delta d a
+permissions_of-delta d a = same_permissions (permissions_of (stored_permission d a)) (permit_delta d a) refl (λ w.
+    get-permits_of (stored_permit d a) (permit_keyed d a).in_order w ∙ permit_there d a w ∙ sym (get-delta d a w))

@@ -1,0 +1,74 @@
+//! Lists of dots.
+ghost use Rattle.std.specs.Prelude.{◌≡◌, IfOk};
+
+use dac_base::NoMemory;
+use dac_dots::Dot;
+use std::marker::Model;
+
+/// A list of dots in some order. Contracts see it as the list.
+#[derive(Debug, Drop)]
+pub struct DotList {
+    dots: Vec<Dot>,
+}
+
+impl Model for DotList {
+    ghost use Rattle.std.specs.Prelude.{List};
+    ghost use Rattle.dac_dots.specs.declared.Dot.{Dot};
+
+    ghost Value = { List Dot };
+
+    ghost view = { λ a. a.dots.items };
+}
+
+impl DotList {
+    /// The dots of a vector, in its order. It takes no memory.
+    pub fn new(dots: Vec<Dot>) -> Self
+        ensures { result ≡ dots.items }
+    {
+        Self { dots }
+    }
+
+    /// The vector of the dots. It takes no memory.
+    pub fn into_vec(self) -> Vec<Dot>
+        ensures { result.items ≡ self }
+    {
+        let DotList { dots } = self;
+        dots
+    }
+
+    /// The dots in their order.
+    pub fn as_slice(&self) -> &[Dot]
+        ensures { result.now ≡ self.now }
+    {
+        self.dots.as_slice()
+    }
+
+    /// An equal list.
+    pub fn copy(&self) -> Result<Self, NoMemory>
+        ensures { IfOk result (λ copied. copied ≡ self.now) }
+    {
+        let dots = Vec::from_slice(*self.dots.allocator(), &self.dots)?;
+        Ok(DotList { dots })
+    }
+}
+
+#[cfg(test)]
+mod tests {
+    use super::*;
+    use dac_base::NodeId;
+    use dac_dots::Origin;
+    use std::test::Fail;
+
+    #[test]
+    fn gives_its_vector_back(rt: HostRuntime) -> Result<(), Fail> {
+        let origin = Origin {
+            node: NodeId(0),
+            inc: 1,
+        };
+        let dots = [Dot { origin, n: 2 }, Dot { origin, n: 1 }];
+        let list = DotList::new(Vec::from_slice(rt.alloc(), &dots)?);
+        assert_eq!(rt; list.as_slice(), dots.as_slice());
+        assert_eq!(rt; list.copy()?.into_vec().as_slice(), dots.as_slice());
+        Ok(())
+    }
+}

@@ -1,0 +1,199 @@
+//! Permissions.
+ghost use Rattle.std.specs.Prelude.{◌≡◌, ◌↔◌, IsTrue, IfOk};
+ghost use Rattle.std.specs.List.{list_all};
+ghost use Rattle.dac_lattice.specs.declared.flags.Flag.{Flag as FlagValue};
+ghost use Rattle.dac_dots.specs.declared.dot.Dot.{Dot as DotValue};
+ghost use Rattle.dac_wishes.specs.PermissionsValue.{flag_of, is_up, is_permitted, is_permitted_by, IsPermitted, permits_at};
+ghost use Rattle.dac_wishes.specs.StoredDeltas.{stored_permit};
+
+use crate::delta::{beside, named_by};
+use crate::key::Key;
+use crate::permit_act::PermitAct;
+use dac_base::NoMemory;
+use dac_dots::{Context, Dot};
+use dac_lattice::{Bottom, Flag, Lattice, Piece};
+use dac_store::{Causal, DotFun, DotMap, DotStore};
+use std::alloc::Global;
+use std::marker::Model;
+
+/// The permits that stand, with their values, beside the dots that are known. A permission's true is
+/// [`Flag::Up`] and its false [`Flag::Down`]. Contracts see a finite map from keys and dots to flags, and
+/// a finite set of dots.
+#[derive(Drop)]
+pub struct Permissions {
+    causal: Causal<DotMap<Key, DotFun<Flag>>>,
+}
+
+impl Model for Permissions {
+    ghost use Rattle.dac_wishes.specs.PermissionsValue.{PermissionsValue, coded_permissions};
+
+    ghost Value = { PermissionsValue };
+
+    ghost coded = { coded_permissions };
+
+    ghost use Rattle.dac_wishes.specs.StoredPermits.{permissions_of, AreStoredFlags};
+
+    ghost view = { λ a. permissions_of a.causal };
+
+    ghost invariant = { λ a. AreStoredFlags a.causal };
+}
+
+impl Permissions {
+    /// Whether the key is permitted: no permit of it stands and the default is true, or some stand and all
+    /// say true. It takes no memory.
+    pub fn permitted(&self, key: Key, default: bool) -> bool
+        ensures value { result ≡ is_permitted key default self.now }
+        ensures cases { IsTrue result ↔ IsPermitted key default self.now }
+    {
+        permitted_by(default, self.dots(key))
+    }
+
+    /// The dots of the permits of the key that stand, with their values, in ascending order. It takes no
+    /// memory.
+    pub fn dots(&self, key: Key) -> &[(Dot, Flag)]
+        ensures { result.now ≡ permits_at key self.now.standing }
+    {
+        match self.causal.store().get(key) {
+            Some(permits) => permits.entries(),
+            None => &[],
+        }
+    }
+
+    /// The dots of the operations, and those that they replace. It takes no memory.
+    pub fn context(&self) -> &Context
+        ensures { result.now ≡ self.now.known }
+    {
+        self.causal.context()
+    }
+}
+
+/// Whether a permit says true.
+fn says_true(flag: Flag) -> bool
+    ensures { result ≡ is_up flag }
+{
+    match flag {
+        Flag::Up => true,
+        Flag::Down => false,
+    }
+}
+
+/// Whether each permit says true, or the default where there is none.
+fn permitted_by(default: bool, permits: &[(Dot, Flag)]) -> bool
+    ensures { result ≡ is_permitted_by default permits.now }
+{
+    if permits.is_empty() {
+        default
+    } else {
+        all_say_true(permits)
+    }
+}
+
+/// Whether each permit says true.
+fn all_say_true(permits: &[(Dot, Flag)]) -> bool
+    ensures { result ≡ list_all (λ (p : DotValue × FlagValue). is_up p.1) permits.now }
+{
+    permits.iter().all(|permit| says_true(permit.1))
+}
+
+/// A permission as a flag.
+fn flag_of(value: bool) -> Flag
+    ensures { result ≡ flag_of value }
+{
+    if value { Flag::Up } else { Flag::Down }
+}
+
+/// The permit in an operation.
+fn permit_in(
+    alloc: Global,
+    dot: Dot,
+    act: &PermitAct,
+) -> Result<DotMap<Key, DotFun<Flag>>, NoMemory>
+    ensures { IfOk result (λ store. store ≡ stored_permit dot act.now) }
+{
+    match act {
+        PermitAct::Permit {
+            key,
+            value,
+            over: _,
+        } => {
+            let one = DotFun::one(alloc, dot, flag_of(*value))?;
+            let store = DotMap::one(alloc, *key, one)?;
+            Ok(store)
+        }
+        PermitAct::Other { over: _ } => Ok(DotMap::empty(alloc)),
+    }
+}
+
+impl Lattice for Permissions {
+    ghost use Rattle.dac_wishes.specs.PermissionsValue.{ArePermissions, IsPermissionsBelow, join_permissions, permissions_laws};
+
+    ghost is_value = { ArePermissions };
+
+    ghost below = { IsPermissionsBelow };
+
+    ghost join = { join_permissions };
+
+    ghost laws = { permissions_laws };
+
+    fn known(&self) {
+        let _causal = &self.causal;
+    }
+
+    fn join(&self, other: &Self) -> Result<Self, NoMemory> {
+        let causal = self.causal.join(&other.causal)?;
+        Ok(Permissions { causal })
+    }
+
+    fn leq(&self, other: &Self) -> bool {
+        self.causal.leq(&other.causal)
+    }
+
+    fn equal(&self, other: &Self) -> bool {
+        self.known();
+        other.known();
+        self.leq(other) && other.leq(self)
+    }
+
+    fn copy(&self) -> Result<Self, NoMemory> {
+        let causal = self.causal.copy()?;
+        Ok(Permissions { causal })
+    }
+}
+
+impl Bottom for Permissions {
+    ghost use Rattle.dac_wishes.specs.PermissionsValue.{no_permissions, no_permissions_value, no_permissions_least};
+
+    ghost bottom = { no_permissions };
+
+    ghost least = { λ x _. no_permissions_least x };
+
+    ghost bottom_value = { no_permissions_value };
+
+    fn bottom(alloc: Global) -> Self {
+        Permissions {
+            causal: Causal::bottom(alloc),
+        }
+    }
+}
+
+impl Piece for Permissions {
+    ghost use Rattle.dac_wishes.specs.Replacing.{SparesItself};
+    ghost use Rattle.dac_wishes.specs.PermitMeaning.{over_of, permit_delta, IsMeaning, permit_piece};
+
+    type Act = PermitAct;
+
+    ghost fits = { SparesItself over_of };
+
+    ghost delta = { permit_delta };
+
+    ghost means = { IsMeaning };
+
+    ghost piece_laws = { permit_piece };
+
+    fn delta(alloc: Global, dot: Dot, act: &PermitAct) -> Result<Self, NoMemory> {
+        let store = permit_in(alloc, dot, act)?;
+        let named = named_by(alloc, dot, act.over())?;
+        let causal = beside(store, named);
+        Ok(Permissions { causal })
+    }
+}

@@ -1,0 +1,42 @@
+//! What operations do to permissions.
+ghost use Rattle.std.specs.Prelude.{◌≡◌};
+ghost use Rattle.dac_wishes.specs.PermitMeaning.{over_of};
+
+use crate::dot_list::DotList;
+use crate::key::Key;
+use dac_dots::Dot;
+
+/// What an operation does, as far as permissions go: it may write one, and replaces dots.
+#[derive(Debug, Drop)]
+pub enum PermitAct {
+    /// The key is permitted or not, and the dots are replaced.
+    Permit {
+        /// What is permitted or not.
+        key: Key,
+        /// Whether it is.
+        value: bool,
+        /// The dots that it replaces.
+        over: DotList,
+    },
+    /// Nothing is permitted or forbidden, and the dots are replaced.
+    Other {
+        /// The dots that it replaces.
+        over: DotList,
+    },
+}
+
+impl PermitAct {
+    /// The dots that the operation replaces.
+    pub fn over(&self) -> &[Dot]
+        ensures { result.now ≡ over_of self.now }
+    {
+        match self {
+            PermitAct::Permit {
+                key: _,
+                value: _,
+                over,
+            }
+            | PermitAct::Other { over } => over.as_slice(),
+        }
+    }
+}

@@ -1,0 +1,151 @@
+//! Start wishes.
+ghost use Rattle.std.specs.Prelude.{◌≡◌, ◌↔◌, IsTrue, IfOk};
+ghost use Rattle.dac_dots.specs.InOrder.{in_order};
+ghost use Rattle.dac_wishes.specs.Writes.{dots_at};
+ghost use Rattle.dac_wishes.specs.WishesValue.{is_wished, SomeStands};
+ghost use Rattle.dac_wishes.specs.StoredDeltas.{stored_start};
+
+use crate::delta::{beside, named_by};
+use crate::key::Key;
+use crate::wish_act::WishAct;
+use dac_base::NoMemory;
+use dac_dots::{Context, Dot};
+use dac_lattice::{Bottom, Lattice, Piece};
+use dac_store::{Causal, DotMap, DotSet, DotStore};
+use std::alloc::Global;
+use std::marker::Model;
+
+/// The start wishes that stand, beside the dots that are known. Contracts see both as finite sets.
+#[derive(Drop)]
+pub struct Wishes {
+    causal: Causal<DotMap<Key, DotSet>>,
+}
+
+impl Model for Wishes {
+    ghost use Rattle.dac_wishes.specs.WishesValue.{WishesValue, coded_wishes};
+
+    ghost Value = { WishesValue };
+
+    ghost coded = { coded_wishes };
+
+    ghost use Rattle.dac_wishes.specs.StoredWishes.{wishes_of, AreStoredDots};
+
+    ghost view = { λ a. wishes_of a.causal };
+
+    ghost invariant = { λ a. AreStoredDots a.causal };
+}
+
+impl Wishes {
+    /// Whether some start of the key stands. It takes no memory.
+    pub fn wished(&self, key: Key) -> bool
+        ensures value { result ≡ is_wished key self.now }
+        ensures some { IsTrue result ↔ SomeStands key self.now }
+    {
+        self.causal.store().get(key).is_some()
+    }
+
+    /// The dots of the starts of the key that stand, in ascending order. It takes no memory.
+    pub fn dots(&self, key: Key) -> &[Dot]
+        ensures { result.now ≡ in_order (dots_at key self.now.standing) }
+    {
+        match self.causal.store().get(key) {
+            Some(dots) => dots.dots(),
+            None => &[],
+        }
+    }
+
+    /// The dots of the operations, and those that they replace. It takes no memory.
+    pub fn context(&self) -> &Context
+        ensures { result.now ≡ self.now.known }
+    {
+        self.causal.context()
+    }
+}
+
+/// The start in an operation.
+fn start_in(alloc: Global, dot: Dot, act: &WishAct) -> Result<DotMap<Key, DotSet>, NoMemory>
+    ensures { IfOk result (λ store. store ≡ stored_start dot act.now) }
+{
+    match act {
+        WishAct::Start { key, over: _ } => {
+            let one = DotSet::one(alloc, dot)?;
+            let store = DotMap::one(alloc, *key, one)?;
+            Ok(store)
+        }
+        WishAct::Other { over: _ } => Ok(DotMap::empty(alloc)),
+    }
+}
+
+impl Lattice for Wishes {
+    ghost use Rattle.dac_wishes.specs.WishesValue.{AreWishes, IsBelow, join_wishes, wishes_laws};
+
+    ghost is_value = { AreWishes };
+
+    ghost below = { IsBelow };
+
+    ghost join = { join_wishes };
+
+    ghost laws = { wishes_laws };
+
+    fn known(&self) {
+        let _causal = &self.causal;
+    }
+
+    fn join(&self, other: &Self) -> Result<Self, NoMemory> {
+        let causal = self.causal.join(&other.causal)?;
+        Ok(Wishes { causal })
+    }
+
+    fn leq(&self, other: &Self) -> bool {
+        self.causal.leq(&other.causal)
+    }
+
+    fn equal(&self, other: &Self) -> bool {
+        self.known();
+        other.known();
+        self.leq(other) && other.leq(self)
+    }
+
+    fn copy(&self) -> Result<Self, NoMemory> {
+        let causal = self.causal.copy()?;
+        Ok(Wishes { causal })
+    }
+}
+
+impl Bottom for Wishes {
+    ghost use Rattle.dac_wishes.specs.WishesValue.{no_wishes, no_wishes_value, no_wishes_least};
+
+    ghost bottom = { no_wishes };
+
+    ghost least = { λ x _. no_wishes_least x };
+
+    ghost bottom_value = { no_wishes_value };
+
+    fn bottom(alloc: Global) -> Self {
+        Wishes {
+            causal: Causal::bottom(alloc),
+        }
+    }
+}
+
+impl Piece for Wishes {
+    ghost use Rattle.dac_wishes.specs.Replacing.{SparesItself};
+    ghost use Rattle.dac_wishes.specs.WishMeaning.{over_of, wish_delta, IsMeaning, wish_piece};
+
+    type Act = WishAct;
+
+    ghost fits = { SparesItself over_of };
+
+    ghost delta = { wish_delta };
+
+    ghost means = { IsMeaning };
+
+    ghost piece_laws = { wish_piece };
+
+    fn delta(alloc: Global, dot: Dot, act: &WishAct) -> Result<Self, NoMemory> {
+        let store = start_in(alloc, dot, act)?;
+        let named = named_by(alloc, dot, act.over())?;
+        let causal = beside(store, named);
+        Ok(Wishes { causal })
+    }
+}
