@@ -1,0 +1,2 @@
+pub mod StateValue
+pub mod StateLaws
