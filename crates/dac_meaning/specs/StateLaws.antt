@@ -1,10 +1,9 @@
 -- The laws of states, from those of their parts: the order is a partial order, and the join the least upper bound.
-use Rattle.std.specs.Prelude.{◌≡◌, true, refl}
-use Rattle.std.proofs.Common.{sym, ap, subst, ◌∙◌, inl, inr}
+use Rattle.std.specs.Prelude.{◌≡◌, refl}
+use Rattle.std.proofs.Common.{sym, subst}
 use Rattle.std.specs.FinSet as set
-use Rattle.std.specs.FinMap as map
 use Rattle.dac_base.specs.Ids.{nodes_total, exact_nodes, apps_total, exact_apps}
-use Rattle.dac_dots.specs.Dots.{Dots, IsSubset, dot_cmp}
+use Rattle.dac_dots.specs.Dots.{IsSubset}
 use Rattle.dac_lattice.specs.Laws.{IsLattice}
 use Rattle.dac_lattice.specs.Chains.{IsAny}
 use Rattle.dac_lattice.specs.Flags.{flag_cmp, flags_exact}
@@ -12,8 +11,8 @@ use Rattle.dac_store.specs.Stores.{subset_left, subset_right, subset_union, subs
 use Rattle.dac_chains.specs.Greatest.{AreNotAbove, greater, greatest_laws, empty_is_least}
 use Rattle.dac_chains.specs.Lives.{Lives, life_cmp, lives_total, exact_lives}
 use Rattle.dac_chains.specs.Claims.{Claims, claim_cmp, how_cmp, claims_total, exact_hows, exact_claims}
-use Rattle.dac_wishes.specs.WishesValue.{WishesValue, AreWishes, IsBelow as AreWishesBelow, join_wishes, known-join as known-wishes, wishes_laws, no_wishes_value, no_wishes_least}
-use Rattle.dac_wishes.specs.PermissionsValue.{PermissionsValue, ArePermissions, IsPermissionsBelow, join_permissions, known-join as known-permissions, permissions_laws, no_permissions_value, no_permissions_least}
+use Rattle.dac_wishes.specs.WishesValue.{AreWishes, IsBelow as AreWishesBelow, join_wishes, known-join as known-wishes, wishes_laws, no_wishes_value, no_wishes_least}
+use Rattle.dac_wishes.specs.PermissionsValue.{ArePermissions, IsPermissionsBelow, join_permissions, known-join as known-permissions, permissions_laws, no_permissions_value, no_permissions_least}
 use Rattle.dac_meaning.specs.StateValue.{StateValue, IsState, IsBelow, permissions_of, wishes_of, bottom, join}
 
 pub life_laws : IsLattice {T = Lives} IsAny (AreNotAbove life_cmp) (greater life_cmp)

@@ -1,5 +1,5 @@
 -- What a state holds, as sets and maps: equal parts are equal values.
-use Rattle.std.specs.Prelude.{◌≡◌, refl}
+use Rattle.std.specs.Prelude.{refl}
 use Rattle.std.specs.Coded.{Coded, code_by, coded×}
 use Rattle.std.specs.FinSet as set
 use Rattle.std.specs.FinMap as map

@@ -1,0 +1,3 @@
+pub mod Membership
+pub mod Alone
+pub mod Nothing
