@@ -1,5 +1,5 @@
 -- The laws of meanings, in terms of the operations.
-use Rattle.std.specs.Prelude.{◌≡◌, ◌↔◌, ℕ, true, Some, List, [], ◌++◌, ◌⊎◌}
+use Rattle.std.specs.Prelude.{Bool, false, ◌≡◌, ◌↔◌, ℕ, true, Some, List, [], ◌++◌, ◌⊎◌}
 use Rattle.std.specs.FinSet as set
 use Rattle.std.specs.FinMap as map
 use Rattle.dac_base.specs.declared.NodeId.{NodeId}
@@ -12,11 +12,13 @@ use Rattle.dac_chains.specs.declared.claims.Claim.{Claim as ClaimValue}
 use Rattle.dac_chains.specs.Greatest.{IsGreatest}
 use Rattle.dac_chains.specs.Lives.{life_cmp}
 use Rattle.dac_chains.specs.Claims.{claim_cmp}
+use Rattle.dac_wishes.specs.declared.key.Key.{Key}
 use Rattle.dac_wishes.specs.Writes.{Write}
-use Rattle.dac_wishes.specs.PermissionsValue.{is_up}
+use Rattle.dac_wishes.specs.WishesValue.{SomeStands}
+use Rattle.dac_wishes.specs.PermissionsValue.{is_up, IsPermitted}
 use Rattle.dac_operations.specs.declared.act.Act.TheVariants.{Up, Down, Permit, Start, Claim}
 use Rattle.dac_operations.specs.Operations.{Operation}
-use Rattle.dac_meaning.specs.StateValue.{IsState, bottom, join}
+use Rattle.dac_meaning.specs.StateValue.{IsState, permissions_of, wishes_of, bottom, join}
 use Rattle.dac_meaning.specs.Meaning.{meaning_of, replaces, In, Within, Agree, Stands}
 
 -- a dot is heard exactly if it is an operation's
@@ -82,3 +84,23 @@ OrderAndRepeatsAreNothing = (os ps : List Operation) → Within os ps → Within
 -- two meanings joined are the meaning of both together
 abbrev pub JoinsAreTogether : Type 0
 JoinsAreTogether = (os ps : List Operation) → Agree (os ++ ps) → join (meaning_of os) (meaning_of ps) ≡ meaning_of (os ++ ps)
+
+-- the operation starts the key
+abbrev pub Starts : Key → Operation → Type 0
+Starts key o = (over : List Dot) × (o.act ≡ Start key over)
+
+-- some start of a key stands exactly if an operation starts it that none replaces
+abbrev pub WishedHaveStarts : Type 0
+WishedHaveStarts = (os : List Operation) (key : Key) → SomeStands key (wishes_of (meaning_of os)) ↔ ((o : Operation) × (In o os × (Starts key o × Stands o.dot os)))
+
+-- an operation permits the key, or forbids it, and none replaces that operation
+abbrev pub StandsSaying : Key → Bool → List Operation → Type 0
+StandsSaying key value os = (o : Operation) × (In o os × (((over : List Dot) × (o.act ≡ Permit key value over)) × Stands o.dot os))
+
+-- no permit of the key stands and the default is true, or one stands that says true and none that says false
+abbrev pub IsPermittedBy : Key → Bool → List Operation → Type 0
+IsPermittedBy key default os = (((value : Bool) → ¬ (StandsSaying key value os)) × (default ≡ true)) ⊎ (StandsSaying key true os × ¬ (StandsSaying key false os))
+
+-- a key is permitted in a meaning exactly if the operations permit it, where no two different ones have one dot
+abbrev pub PermittedAreSaid : Type 0
+PermittedAreSaid = (os : List Operation) → Agree os → (key : Key) (default : Bool) → IsPermitted key default (permissions_of (meaning_of os)) ↔ IsPermittedBy key default os

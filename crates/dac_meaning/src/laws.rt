@@ -3,7 +3,7 @@
 //! A proof that needs a law calls its function. The functions take nothing and answer nothing.
 ghost use Rattle.dac_lattice.specs.Laws.{IsLattice};
 ghost use Rattle.dac_meaning.specs.StateValue.{StateValue, IsState, IsBelow, bottom, join};
-ghost use Rattle.dac_meaning.specs.MeaningLaws.{HeardAreDots, KnownAreNamed, PermitsAreUnreplaced, StartsAreUnreplaced, LivesAreGreatest, ClaimsAreGreatest, MeaningsAreStates, NothingMeansBottom, OrderAndRepeatsAreNothing, JoinsAreTogether};
+ghost use Rattle.dac_meaning.specs.MeaningLaws.{HeardAreDots, KnownAreNamed, PermitsAreUnreplaced, StartsAreUnreplaced, LivesAreGreatest, ClaimsAreGreatest, WishedHaveStarts, PermittedAreSaid, MeaningsAreStates, NothingMeansBottom, OrderAndRepeatsAreNothing, JoinsAreTogether};
 ghost use Rattle.dac_meaning.specs.DeltaLaws.{OneIsHeard, PermitDeltaIsMeaning, WishDeltaIsMeaning, LifeDeltaIsMeaning, ClaimDeltaIsMeaning};
 
 /// What the parts of a meaning are, in terms of its operations: heard are their dots, known these and the
@@ -19,6 +19,14 @@ pub fn parts_of_meaning()
     ensures claims { ClaimsAreGreatest }
     ensures state { MeaningsAreStates }
     ensures nothing { NothingMeansBottom }
+{}
+
+/// What is wished and permitted in a meaning: a key is wished exactly if an operation starts it that none
+/// replaces, and permitted exactly if no permit of it stands and the default is true, or one stands that
+/// says true and none that says false.
+pub fn keys_of_meaning()
+    ensures wished { WishedHaveStarts }
+    ensures permitted { PermittedAreSaid }
 {}
 
 /// A meaning is that of a set: the order of the operations and their repeats make no difference.
@@ -48,3 +56,20 @@ pub fn order_of_states()
     ensures lattice { IsLattice IsState IsBelow join }
     ensures least { (s : StateValue) → IsState s → IsBelow bottom s }
 {}
+
+#[cfg(test)]
+mod tests {
+    use super::*;
+    use std::test::Fail;
+
+    #[test]
+    fn laws_hold(_rt: HostRuntime) -> Result<(), Fail> {
+        parts_of_meaning();
+        keys_of_meaning();
+        order_and_repeats();
+        join_of_meanings();
+        delta_is_meaning();
+        order_of_states();
+        Ok(())
+    }
+}
