@@ -50,7 +50,7 @@ module _ {T : Type 0} {cmp : T → T → Ordering} (o : IsTotalOrder cmp) (exact
   greatest_one P (Some v) None g h = absurd (h v g.0)
   greatest_one P (Some v) (Some w) g h = ap (λ z. Some z) ((chain_laws o exact).antisymm v w tt tt (h.1 v g.0) (g.1 w h.0))
 
-  greatest_either : (P Q : T → Type 0) (x y : Option T) → IsGreatest cmp P x → IsGreatest cmp Q y → IsGreatest cmp (λ v. P v ⊎ Q v) (join_options (ord_max cmp) x y)
+  pub greatest_either : (P Q : T → Type 0) (x y : Option T) → IsGreatest cmp P x → IsGreatest cmp Q y → IsGreatest cmp (λ v. P v ⊎ Q v) (join_options (ord_max cmp) x y)
   greatest_either P Q None None g h = λ v. λ s. elim s [ inl p ↦ g v p | inr q ↦ h v q ]
   greatest_either P Q None (Some w) g h = (inr h.0, λ v s. elim s [ inl p ↦ absurd (g v p) | inr q ↦ h.1 v q ])
   greatest_either P Q (Some v) None g h = (inl g.0, λ w s. elim s [ inl p ↦ g.1 w p | inr q ↦ absurd (h w q) ])
@@ -66,7 +66,7 @@ module _ {T : Type 0} {cmp : T → T → Ordering} (o : IsTotalOrder cmp) (exact
       greater_is : P (ord_max cmp v w) ⊎ Q (ord_max cmp v w)
       greater_is = elim (is_lt (cmp w v)) as (λ b. P (cond b v w) ⊎ Q (cond b v w)) [ true ↦ inl g.0 | false ↦ inr h.0 ]
 
-  greatest_same : (P Q : T → Type 0) (x : Option T) → ((v : T) → P v → Q v) → ((v : T) → Q v → P v) → IsGreatest cmp P x → IsGreatest cmp Q x
+  pub greatest_same : (P Q : T → Type 0) (x : Option T) → ((v : T) → P v → Q v) → ((v : T) → Q v → P v) → IsGreatest cmp P x → IsGreatest cmp Q x
   greatest_same P Q None to back g = λ v q. g v (back v q)
   greatest_same P Q (Some v) to back g = (to v g.0, λ w q. g.1 w (back w q))
 
@@ -130,7 +130,7 @@ module _ {K T : Type 0} {R : K → K → Ordering} {cmp : T → T → Ordering} 
       (entry_says e k)
 
   module _ {A : Type 0} (said : Dot → A → Option (K × T)) where
-    one_more : (os : List (Dot × A)) (p : Dot × A) (m : map.FinMap R T) → AreGreatest cmp said os m → AreGreatest cmp said (p ∷ os) (greater cmp m (alone (said p.0 p.1)))
+    pub one_more : (os : List (Dot × A)) (p : Dot × A) (m : map.FinMap R T) → AreGreatest cmp said os m → AreGreatest cmp said (p ∷ os) (greater cmp m (alone (said p.0 p.1)))
     one_more os p m h k =
         greatest_same o exact (λ v. IsSaid said os k v ⊎ (said p.0 p.1 ≡ Some (k, v))) (IsSaid said (p ∷ os) k) _
         (λ v s. elim s [

@@ -1,0 +1,4 @@
+pub mod Membership
+pub mod Alone
+pub mod Nothing
+pub mod KeysOfMeaning

@@ -1,0 +1,209 @@
+-- Meanings in terms of the operations.
+use Rattle.std.proofs.Common.{◌≡◌, Bool, true, false, not, cond, List, Option, Some, None, is_some, unwrap_or, refl, sym, ap, subst, ◌∙◌, inl, inr}
+use Rattle.std.specs.List.{list_any}
+use Rattle.std.specs.FinMap as map
+use Rattle.std.proofs.lemmas.Bool.{false≢true, or_cases, or_left, or_right, and_parts, and_from, not-true, not_from_false, false_from_ne_true}
+use Rattle.dac_base.specs.declared.NodeId.{NodeId}
+use Rattle.dac_base.specs.declared.AppId.{AppId}
+use Rattle.dac_dots.specs.declared.dot.Dot.{Dot}
+use Rattle.dac_lattice.specs.declared.flags.Flag.{Flag}
+use Rattle.dac_lattice.specs.declared.flags.Flag.TheVariants.{Up as IsUp, Down as IsDown}
+use Rattle.dac_chains.specs.declared.lives.Life.{Life}
+use Rattle.dac_chains.specs.declared.claims.Claim.{Claim as ClaimValue}
+use Rattle.dac_lattice.specs.Flags.{flag_cmp, flags_exact}
+use Rattle.dac_chains.specs.Greatest.{IsGreatest, greatest_same, IsSaid}
+use Rattle.dac_chains.specs.Lives.{life_cmp, lives_total, exact_lives}
+use Rattle.dac_chains.specs.Claims.{claim_cmp, claims_total, exact_claims, exact_hows, how_cmp}
+use Rattle.dac_wishes.specs.declared.key.Key.{Key}
+use Rattle.dac_wishes.specs.Keys.{same_key, same_key_is, same_key_itself}
+use Rattle.dac_wishes.specs.Writes.{Write, same_dot, same_dot_is, same_dot_itself}
+use Rattle.dac_wishes.specs.PermissionsValue.{is_up}
+use Rattle.dac_operations.specs.declared.act.Act.{Act}
+use Rattle.dac_operations.specs.declared.act.Act.TheVariants.{Up, Down, Permit, Start, Stop, Claim}
+use Rattle.dac_operations.specs.Operations.{Operation}
+use Rattle.dac_meaning.specs.Meaning.{meaning_of, has_dot, replaces, is_replaced, names, wishes, is_start, says, is_same, is_permit, flag_said, said, pairs, life_said, claim_said, In, Agree, Stands}
+use Rattle.dac_meaning.specs.MeaningLaws.{HeardAreDots, KnownAreNamed, Names, IsStart, StartsAreUnreplaced, IsPermit, PermitsAreUnreplaced, SaysLife, LivesAreGreatest, IsClaim, ClaimsAreGreatest}
+use Rattle.dac_meaning.specs.Members.{found, finds}
+use Rattle.dac_meaning.specs.Chained.{of_said, is_said}
+use Rattle.dac_meaning.specs.Readers.{heard-meaning, known-meaning, starts-meaning, permits-meaning, lives-meaning, claims-meaning, lives_are, claims_are}
+
+-- ---- dots
+
+has_dot_of : (d : Dot) (o : Operation) → o.dot ≡ d → has_dot d o ≡ true
+has_dot_of d o e = ap (same_dot d) e ∙ same_dot_itself d
+
+dot_of : (d : Dot) (o : Operation) → has_dot d o ≡ true → o.dot ≡ d
+dot_of d o t = sym (same_dot_is d o.dot t)
+
+pub heard_are_dots : HeardAreDots
+heard_are_dots os d = (
+  λ h. let f = found (has_dot d) os (sym (heard-meaning os d) ∙ h) in (f.0, (f.1.0, dot_of d f.0 f.1.1)),
+  λ f. heard-meaning os d ∙ finds (has_dot d) os f.0 f.1.0 (has_dot_of d f.0 f.1.1),
+)
+
+names_of : (d : Dot) (o : Operation) → Names d o → names d o ≡ true
+names_of d o (inl e) = or_left (has_dot d o) (replaces d o) (has_dot_of d o e)
+names_of d o (inr r) = or_right (has_dot d o) (replaces d o) r
+
+of_names : (d : Dot) (o : Operation) → names d o ≡ true → Names d o
+of_names d o t = elim (or_cases (has_dot d o) (replaces d o) t) [ inl e ↦ inl (dot_of d o e) | inr r ↦ inr r ]
+
+pub known_are_named : KnownAreNamed
+known_are_named os d = (
+  λ h. let f = found (names d) os (sym (known-meaning os d) ∙ h) in (f.0, (f.1.0, of_names d f.0 f.1.1)),
+  λ f. known-meaning os d ∙ finds (names d) os f.0 f.1.0 (names_of d f.0 f.1.1),
+)
+
+-- ---- what stands
+
+-- what isn't replaced stands
+stands_of : (d : Dot) (os : List Operation) → is_replaced d os ≡ false → Stands d os
+stands_of d os n o h = false_from_ne_true (replaces d o) (λ t. false≢true (sym n ∙ finds (replaces d) os o h t))
+
+of_stands : (d : Dot) (os : List Operation) → Stands d os → is_replaced d os ≡ false
+of_stands d os s = false_from_ne_true (is_replaced d os) (λ t. let f = found (replaces d) os t in false≢true (sym (s f.0 f.1.0) ∙ f.1.1))
+
+start_act : (key : Key) (a : Act) → wishes key a ≡ true → (over : List Dot) × (a ≡ Start key over)
+start_act key (Start k over) t = (over, ap (λ j. Start j over) (sym (same_key_is key k t)))
+start_act key Up t = absurd (false≢true t)
+start_act key (Down n i) t = absurd (false≢true t)
+start_act key (Permit k v over) t = absurd (false≢true t)
+start_act key (Stop k over) t = absurd (false≢true t)
+start_act key (Claim app term how from) t = absurd (false≢true t)
+
+start_of : (w : Write) (o : Operation) → IsStart w o → is_start w o ≡ true
+start_of w o s = and_from (wishes w.key o.act) (has_dot w.dot o) (ap (wishes w.key) s.1.1 ∙ same_key_itself w.key) (has_dot_of w.dot o s.0)
+
+of_start : (w : Write) (o : Operation) → is_start w o ≡ true → IsStart w o
+of_start w o t = let parts = and_parts (wishes w.key o.act) (has_dot w.dot o) t in (dot_of w.dot o parts.1, start_act w.key o.act parts.0)
+
+pub starts_are_unreplaced : StartsAreUnreplaced
+starts_are_unreplaced os w = (
+  λ h.
+      let parts = and_parts (list_any (is_start w) os) (not (is_replaced w.dot os)) (sym (starts-meaning os w) ∙ h) in
+      let f = found (is_start w) os parts.0 in
+      ((f.0, (f.1.0, of_start w f.0 f.1.1)), stands_of w.dot os (not-true (is_replaced w.dot os) parts.1)),
+  λ p.
+      let f = p.0 in
+      starts-meaning os w ∙ and_from (list_any (is_start w) os) (not (is_replaced w.dot os)) (finds (is_start w) os f.0 f.1.0 (start_of w f.0 f.1.1)) (not_from_false (is_replaced w.dot os) (of_stands w.dot os p.1)),
+)
+
+-- ---- permits
+
+same_itself : (v : Bool) → is_same v v ≡ true
+same_itself true = refl
+same_itself false = refl
+
+same_is : (v u : Bool) → is_same v u ≡ true → v ≡ u
+same_is true u t = sym t
+same_is false true t = absurd (false≢true t)
+same_is false false t = refl
+
+permit_act : (key : Key) (v : Bool) (a : Act) → says key v a ≡ true → (over : List Dot) × (a ≡ Permit key v over)
+permit_act key v (Permit k u over) t =
+    let parts = and_parts (same_key key k) (is_same u v) t in
+    (over, λ i. Permit (sym (same_key_is key k parts.0) i) (same_is u v parts.1 i) over)
+permit_act key v Up t = absurd (false≢true t)
+permit_act key v (Down n i) t = absurd (false≢true t)
+permit_act key v (Start k over) t = absurd (false≢true t)
+permit_act key v (Stop k over) t = absurd (false≢true t)
+permit_act key v (Claim app term how from) t = absurd (false≢true t)
+
+permit_of : (w : Write) (f : Flag) (o : Operation) → IsPermit w f o → is_permit w (is_up f) o ≡ true
+permit_of w f o s =
+    and_from (says w.key (is_up f) o.act) (has_dot w.dot o)
+    (ap (says w.key (is_up f)) s.1.1 ∙ and_from (same_key w.key w.key) (is_same (is_up f) (is_up f)) (same_key_itself w.key) (same_itself (is_up f)))
+    (has_dot_of w.dot o s.0)
+
+of_permit : (w : Write) (f : Flag) (o : Operation) → is_permit w (is_up f) o ≡ true → IsPermit w f o
+of_permit w f o t = let parts = and_parts (says w.key (is_up f) o.act) (has_dot w.dot o) t in (dot_of w.dot o parts.1, permit_act w.key (is_up f) o.act parts.0)
+
+-- what is said is said by an operation
+said_there : (w : Write) (os : List Operation) (f : Flag) → said w os ≡ Some f → list_any (is_permit w (is_up f)) os ≡ true
+said_there w os f h = there (list_any (is_permit w false) os) (list_any (is_permit w true) os) refl refl f h
+  where
+    there : (a b : Bool) → list_any (is_permit w false) os ≡ a → list_any (is_permit w true) os ≡ b → (f : Flag) → flag_said a b ≡ Some f → list_any (is_permit w (is_up f)) os ≡ true
+    there true b p q f h = ap (λ (o : Option Flag). list_any (is_permit w (is_up (unwrap_or o IsUp))) os) (sym h) ∙ p
+    there false true p q f h = ap (λ (o : Option Flag). list_any (is_permit w (is_up (unwrap_or o IsUp))) os) (sym h) ∙ q
+    there false false p q f h = absurd (false≢true (ap is_some h))
+
+-- operations that have their dots alone don't say both
+not_both : (w : Write) (os : List Operation) → Agree os → list_any (is_permit w true) os ≡ true → list_any (is_permit w false) os ≡ false
+not_both w os agree t = false_from_ne_true (list_any (is_permit w false) os) (λ n.
+    let p = found (is_permit w true) os t in
+    let q = found (is_permit w false) os n in
+    let yes = of_permit w IsUp p.0 p.1.1 in
+    let no = of_permit w IsDown q.0 q.1.1 in
+    let same : p.0 ≡ q.0 = agree p.0 q.0 p.1.0 q.1.0 (yes.0 ∙ sym no.0) in
+    let says_true : says w.key true q.0.act ≡ true = ap (λ (o : Operation). says w.key true o.act) (sym same) ∙ (and_parts (says w.key true p.0.act) (has_dot w.dot p.0) p.1.1).0 in
+    false≢true (and_parts (same_key w.key w.key) false (sym (ap (says w.key true) no.1.1) ∙ says_true)).1)
+
+-- what an operation says is said
+there_said : (w : Write) (os : List Operation) → Agree os → (f : Flag) → list_any (is_permit w (is_up f)) os ≡ true → said w os ≡ Some f
+there_said w os agree IsDown t = ap (λ b. flag_said b (list_any (is_permit w true) os)) t
+there_said w os agree IsUp t = λ i. flag_said (not_both w os agree t i) (t i)
+
+stands_some : (b : Bool) (v : Option Flag) (f : Flag) → cond b None v ≡ Some f → (b ≡ false) × (v ≡ Some f)
+stands_some true v f h = absurd (false≢true (ap is_some h))
+stands_some false v f h = (refl, h)
+
+pub permits_are_unreplaced : PermitsAreUnreplaced
+permits_are_unreplaced os agree w f = (
+  λ h.
+      let parts = stands_some (is_replaced w.dot os) (said w os) f (sym (permits-meaning os w) ∙ h) in
+      let o = found (is_permit w (is_up f)) os (said_there w os f parts.1) in
+      ((o.0, (o.1.0, of_permit w f o.0 o.1.1)), stands_of w.dot os parts.0),
+  λ p.
+      let o = p.0 in
+      permits-meaning os w ∙ ap (λ b. cond b None (said w os)) (of_stands w.dot os p.1) ∙ there_said w os agree f (finds (is_permit w (is_up f)) os o.0 o.1.0 (permit_of w f o.0 o.1.1)),
+)
+
+-- ---- lives
+
+some_pair : {K T : Type 0} (a b : K × T) → Some a ≡ Some b → a ≡ b
+some_pair a b e = ap (λ o. unwrap_or o a) e
+
+life_of : (n : NodeId) (l : Life) (o : Operation) → life_said o.dot o.act ≡ Some (n, l) → SaysLife n l o
+life_of n l o h = by_act o.act refl h
+  where
+    by_act : (a : Act) → o.act ≡ a → life_said o.dot a ≡ Some (n, l) → SaysLife n l o
+    by_act Up e h = let p = some_pair _ _ h in inl (sym (ap (λ (x : NodeId × Life). x.1.flag) p), (e, λ i. record { node = (p i).0; inc = (p i).1.inc }))
+    by_act (Down m j) e h = let p = some_pair _ _ h in inr (sym (ap (λ (x : NodeId × Life). x.1.flag) p), e ∙ (λ i. Down (p i).0 (p i).1.inc))
+    by_act (Permit k v over) e h = absurd (false≢true (ap is_some h))
+    by_act (Start k over) e h = absurd (false≢true (ap is_some h))
+    by_act (Stop k over) e h = absurd (false≢true (ap is_some h))
+    by_act (Claim app term how from) e h = absurd (false≢true (ap is_some h))
+
+of_life : (n : NodeId) (l : Life) (o : Operation) → SaysLife n l o → life_said o.dot o.act ≡ Some (n, l)
+of_life n l o (inl s) = ap (life_said o.dot) s.1.0 ∙ (λ i. Some ((s.1.1 i).node, record { inc = (s.1.1 i).inc; flag = sym s.0 i }))
+of_life n l o (inr s) = ap (life_said o.dot) s.1 ∙ (λ i. Some (n, record { inc = l.inc; flag = sym s.0 i }))
+
+pub lives_are_greatest : LivesAreGreatest
+lives_are_greatest os n =
+    greatest_same lives_total (exact_lives flag_cmp flags_exact) (IsSaid life_said (pairs os) n) (λ l. (o : Operation) × (In o os × SaysLife n l o)) (map.get (meaning_of os).lives n)
+    (λ l s. let o = of_said life_said os n l s in (o.0, (o.1.0, life_of n l o.0 o.1.1)))
+    (λ l s. is_said life_said os n l (s.0, (s.1.0, of_life n l s.0 s.1.1)))
+    (subst (λ m. IsGreatest life_cmp (IsSaid life_said (pairs os) n) (map.get m n)) (sym (lives-meaning os)) (lives_are os n))
+
+-- ---- claims
+
+claim_of : (app : AppId) (c : ClaimValue) (o : Operation) → claim_said o.dot o.act ≡ Some (app, c) → IsClaim app c o
+claim_of app c o h = by_act o.act refl h
+  where
+    by_act : (a : Act) → o.act ≡ a → claim_said o.dot a ≡ Some (app, c) → IsClaim app c o
+    by_act (Claim b term how from) e h = let p = some_pair _ _ h in (ap (λ (x : AppId × ClaimValue). x.1.origin) p, e ∙ (λ i. Claim (p i).0 (p i).1.term (p i).1.how (p i).1.from))
+    by_act Up e h = absurd (false≢true (ap is_some h))
+    by_act (Down m j) e h = absurd (false≢true (ap is_some h))
+    by_act (Permit k v over) e h = absurd (false≢true (ap is_some h))
+    by_act (Start k over) e h = absurd (false≢true (ap is_some h))
+    by_act (Stop k over) e h = absurd (false≢true (ap is_some h))
+
+of_claim : (app : AppId) (c : ClaimValue) (o : Operation) → IsClaim app c o → claim_said o.dot o.act ≡ Some (app, c)
+of_claim app c o s = ap (claim_said o.dot) s.1 ∙ (λ i. Some (app, record { term = c.term; origin = s.0 i; how = c.how; from = c.from }))
+
+pub claims_are_greatest : ClaimsAreGreatest
+claims_are_greatest os app =
+    greatest_same claims_total (exact_claims how_cmp exact_hows) (IsSaid claim_said (pairs os) app) (λ c. (o : Operation) × (In o os × IsClaim app c o)) (map.get (meaning_of os).claims app)
+    (λ c s. let o = of_said claim_said os app c s in (o.0, (o.1.0, claim_of app c o.0 o.1.1)))
+    (λ c s. is_said claim_said os app c (s.0, (s.1.0, of_claim app c s.0 s.1.1)))
+    (subst (λ m. IsGreatest claim_cmp (IsSaid claim_said (pairs os) app) (map.get m app)) (sym (claims-meaning os)) (claims_are os app))

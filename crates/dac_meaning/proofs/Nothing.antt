@@ -1,0 +1,23 @@
+-- No operations mean the least state.
+use Rattle.std.proofs.Common.{[], sym, ◌∙◌}
+use Rattle.std.specs.FinSet as set
+use Rattle.std.specs.FinMap as map
+use Rattle.dac_dots.specs.Dots.{dot_cmp, dots_total, exact_dots}
+use Rattle.dac_wishes.specs.Writes.{write_cmp}
+use Rattle.dac_wishes.specs.WishesValue.{same_wishes}
+use Rattle.dac_wishes.specs.PermissionsValue.{same_permissions}
+use Rattle.dac_meaning.specs.StateLaws.{same_state}
+use Rattle.dac_meaning.specs.StateValue.{bottom, permissions_of, wishes_of}
+use Rattle.dac_meaning.specs.Meaning.{meaning_of}
+use Rattle.dac_meaning.specs.MeaningLaws.{NothingMeansBottom}
+use Rattle.dac_meaning.specs.Readers.{heard-meaning, known-meaning, starts-meaning, permits-meaning, lives-meaning, claims-meaning}
+
+pub nothing_means_bottom : NothingMeansBottom
+nothing_means_bottom =
+    let known = set.same_set dots_total exact_dots _ _ (λ d. known-meaning [] d ∙ sym (set.contains-empty dot_cmp d)) in
+    same_state (meaning_of []) bottom
+    (set.same_set dots_total exact_dots _ _ (λ d. heard-meaning [] d ∙ sym (set.contains-empty dot_cmp d)))
+    (same_permissions (permissions_of (meaning_of [])) (permissions_of bottom) known (λ w. permits-meaning [] w ∙ sym (map.get-empty write_cmp w)))
+    (same_wishes (wishes_of (meaning_of [])) (wishes_of bottom) known (λ w. starts-meaning [] w ∙ sym (set.contains-empty write_cmp w)))
+    (lives-meaning [])
+    (claims-meaning [])

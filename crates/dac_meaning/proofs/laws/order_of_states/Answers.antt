@@ -1,0 +1,8 @@
+use Rattle.dac_meaning.specs.StateLaws.{state_laws, bottom_least}
+use Rattle.dac_meaning.proofs.laws.order_of_states.Goals as goal
+
+pub returns-clause-lattice : goal.returns-clause-lattice
+returns-clause-lattice c = state_laws
+
+pub returns-clause-least : goal.returns-clause-least
+returns-clause-least c = bottom_least

@@ -1,0 +1,177 @@
+-- What a set of operations means. The set is given as a list; order and repeats don't matter.
+use Rattle.std.specs.Prelude.{◌≡◌, Bool, true, false, not, ◌&&◌, ◌||◌, List, [], ◌∷◌, map as list_map, Option, None, Some, if◌then◌else◌, ◌⊎◌}
+use Rattle.std.specs.declared.cmp.Ordering.{Ordering}
+use Rattle.std.specs.List.{list_any, flat_map}
+use Rattle.std.specs.FinSet as set
+use Rattle.std.specs.FinMap as map
+use Rattle.dac_base.specs.declared.NodeId.{NodeId}
+use Rattle.dac_base.specs.declared.AppId.{AppId}
+use Rattle.dac_dots.specs.declared.dot.Dot.{Dot}
+use Rattle.dac_dots.specs.Dots.{Dots, dot_cmp}
+use Rattle.dac_dots.specs.Keys.{has_key}
+use Rattle.dac_lattice.specs.declared.flags.Flag.{Flag}
+use Rattle.dac_lattice.specs.declared.flags.Flag.TheVariants.{Up as SaysTrue, Down as SaysFalse}
+use Rattle.dac_lattice.specs.Pieces.{joined}
+use Rattle.dac_chains.specs.declared.lives.Life.{Life}
+use Rattle.dac_chains.specs.declared.claims.Claim.{Claim as ClaimValue}
+use Rattle.dac_chains.specs.Greatest.{alone, greater}
+use Rattle.dac_chains.specs.Lives.{Lives, life_cmp, said_life}
+use Rattle.dac_chains.specs.Claims.{Claims, claim_cmp, said_claim}
+use Rattle.dac_wishes.specs.declared.key.Key.{Key}
+use Rattle.dac_wishes.specs.Keys.{same_key}
+use Rattle.dac_wishes.specs.Writes.{Write, Writes, write, write_cmp, same_dot}
+use Rattle.dac_wishes.specs.PermissionsValue.{Permits}
+use Rattle.dac_operations.specs.declared.act.Act.{Act}
+use Rattle.dac_operations.specs.declared.act.Act.TheVariants.{Up, Down, Permit, Start, Stop, Claim}
+use Rattle.dac_operations.specs.Operations.{Operation, over_list}
+use Rattle.dac_operations.specs.Seen.{seen_life, seen_claim}
+use Rattle.dac_meaning.specs.StateValue.{StateValue}
+use Rattle.dac_meaning.specs.Tables.{table}
+
+-- o is one of the operations
+abbrev pub In : Operation → List Operation → Type 0
+In o [] = ⊥
+In o (p ∷ ps) = (o ≡ p) ⊎ In o ps
+
+-- each operation of os is one of ps
+abbrev pub Within : List Operation → List Operation → Type 0
+Within os ps = (o : Operation) → In o os → In o ps
+
+-- no two of the operations have one dot, unless they are one
+abbrev pub Agree : List Operation → Type 0
+Agree os = (o p : Operation) → In o os → In p os → o.dot ≡ p.dot → o ≡ p
+
+-- the operation has this dot
+abbrev pub has_dot : Dot → Operation → Bool
+has_dot d o = same_dot d o.dot
+
+-- the operation replaces this dot
+abbrev pub replaces : Dot → Operation → Bool
+replaces d o = has_key dot_cmp (over_list o.act) d
+
+-- some operation replaces this dot
+abbrev pub is_replaced : Dot → List Operation → Bool
+is_replaced d os = list_any (replaces d) os
+
+-- what has this dot stands: no operation replaces it
+abbrev pub Stands : Dot → List Operation → Type 0
+Stands d os = (o : Operation) → In o os → replaces d o ≡ false
+
+-- the dots of the operations
+abbrev pub heard_of : List Operation → Dots
+heard_of os = set.from_list (list_map (λ (o : Operation). o.dot) os)
+
+-- these, and each dot that an operation replaces
+abbrev pub known_of : List Operation → Dots
+known_of os = set.from_list (flat_map (λ (o : Operation). o.dot ∷ over_list o.act) os)
+
+-- ---- start wishes
+
+-- the start wish in an operation
+abbrev pub starts_in : Dot → Act → List Write
+starts_in d (Start key over) = write key d ∷ []
+starts_in d Up = []
+starts_in d (Down node inc) = []
+starts_in d (Permit key value over) = []
+starts_in d (Stop key over) = []
+starts_in d (Claim app term how from) = []
+
+-- the start wishes that stand
+abbrev pub starts_of : List Operation → Writes
+starts_of os = set.retain (set.from_list (flat_map (λ (o : Operation). starts_in o.dot o.act) os)) (λ (w : Write). not (is_replaced w.dot os))
+
+-- ---- permits
+
+-- one and the same value
+abbrev pub is_same : Bool → Bool → Bool
+is_same true v = v
+is_same false v = not v
+
+-- the act says this of the key
+abbrev pub says : Key → Bool → Act → Bool
+says key v (Permit k value over) = same_key key k && is_same value v
+says key v Up = false
+says key v (Down node inc) = false
+says key v (Start k over) = false
+says key v (Stop k over) = false
+says key v (Claim app term how from) = false
+
+-- the operation is this permit, with this value
+abbrev pub is_permit : Write → Bool → Operation → Bool
+is_permit w v o = says w.key v o.act && has_dot w.dot o
+
+-- what is said, from whether false and whether true is; operations that have their dots alone don't say both of one permit
+abbrev pub flag_said : Bool → Bool → Option Flag
+flag_said true b = Some SaysFalse
+flag_said false true = Some SaysTrue
+flag_said false false = None
+
+-- what the operations say that are this permit
+abbrev pub said : Write → List Operation → Option Flag
+said w os = flag_said (list_any (is_permit w false) os) (list_any (is_permit w true) os)
+
+-- the permit that stands, if it does
+abbrev pub permit_at : List Operation → Write → Option Flag
+permit_at os w = if is_replaced w.dot os then None else said w os
+
+-- the permit in an operation
+abbrev pub permits_in : Dot → Act → List Write
+permits_in d (Permit key value over) = write key d ∷ []
+permits_in d Up = []
+permits_in d (Down node inc) = []
+permits_in d (Start key over) = []
+permits_in d (Stop key over) = []
+permits_in d (Claim app term how from) = []
+
+-- the permits that stand
+abbrev pub permits_of : List Operation → Permits
+permits_of os = table write_cmp (flat_map (λ (o : Operation). permits_in o.dot o.act) os) (permit_at os)
+
+-- ---- lives and claims
+
+-- operations as pairs
+abbrev pub pairs : List Operation → List (Dot × Act)
+pairs os = list_map (λ (o : Operation). (o.dot, o.act)) os
+
+-- at each key the greatest of what the operations say of it
+abbrev pub greatest_of : {K T : Type 0} {R : K → K → Ordering} → (T → T → Ordering) → (Dot → Act → Option (K × T)) → List Operation → map.FinMap R T
+greatest_of cmp says os = joined (greater cmp) map.empty (λ d a. alone (says d a)) (pairs os)
+
+-- what an act says of which node's life
+abbrev pub life_said : Dot → Act → Option (NodeId × Life)
+life_said d a = said_life d (seen_life a)
+
+-- what an act claims of which application
+abbrev pub claim_said : Dot → Act → Option (AppId × ClaimValue)
+claim_said d a = said_claim d (seen_claim a)
+
+-- the life of each node
+abbrev pub lives_of : List Operation → Lives
+lives_of os = greatest_of life_cmp life_said os
+
+-- the greatest claim of each application
+abbrev pub claims_of : List Operation → Claims
+claims_of os = greatest_of claim_cmp claim_said os
+
+-- ---- all parts
+
+-- a set of operations as a state
+unfoldable pub meaning_of : List Operation → StateValue
+meaning_of os = record { heard = heard_of os; known = known_of os; permits = permits_of os; starts = starts_of os; lives = lives_of os; claims = claims_of os }
+
+-- the operation has this dot, or replaces it
+abbrev pub names : Dot → Operation → Bool
+names d o = has_dot d o || replaces d o
+
+-- the act wishes a start of the key
+abbrev pub wishes : Key → Act → Bool
+wishes key (Start k over) = same_key key k
+wishes key Up = false
+wishes key (Down node inc) = false
+wishes key (Permit k value over) = false
+wishes key (Stop k over) = false
+wishes key (Claim app term how from) = false
+
+-- the operation is this start wish
+abbrev pub is_start : Write → Operation → Bool
+is_start w o = wishes w.key o.act && has_dot w.dot o

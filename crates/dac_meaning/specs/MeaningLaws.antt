@@ -1,0 +1,106 @@
+-- The laws of meanings, in terms of the operations.
+use Rattle.std.specs.Prelude.{Bool, false, ◌≡◌, ◌↔◌, ℕ, true, Some, List, [], ◌++◌, ◌⊎◌}
+use Rattle.std.specs.FinSet as set
+use Rattle.std.specs.FinMap as map
+use Rattle.dac_base.specs.declared.NodeId.{NodeId}
+use Rattle.dac_base.specs.declared.AppId.{AppId}
+use Rattle.dac_dots.specs.declared.dot.Dot.{Dot}
+use Rattle.dac_lattice.specs.declared.flags.Flag.{Flag}
+use Rattle.dac_lattice.specs.declared.flags.Flag.TheVariants.{Up as IsUp, Down as IsDown}
+use Rattle.dac_chains.specs.declared.lives.Life.{Life}
+use Rattle.dac_chains.specs.declared.claims.Claim.{Claim as ClaimValue}
+use Rattle.dac_chains.specs.Greatest.{IsGreatest}
+use Rattle.dac_chains.specs.Lives.{life_cmp}
+use Rattle.dac_chains.specs.Claims.{claim_cmp}
+use Rattle.dac_wishes.specs.declared.key.Key.{Key}
+use Rattle.dac_wishes.specs.Writes.{Write}
+use Rattle.dac_wishes.specs.WishesValue.{SomeStands}
+use Rattle.dac_wishes.specs.PermissionsValue.{is_up, IsPermitted}
+use Rattle.dac_operations.specs.declared.act.Act.TheVariants.{Up, Down, Permit, Start, Claim}
+use Rattle.dac_operations.specs.Operations.{Operation}
+use Rattle.dac_meaning.specs.StateValue.{IsState, permissions_of, wishes_of, bottom, join}
+use Rattle.dac_meaning.specs.Meaning.{meaning_of, replaces, In, Within, Agree, Stands}
+
+-- a dot is heard exactly if it is an operation's
+abbrev pub HeardAreDots : Type 0
+HeardAreDots = (os : List Operation) (d : Dot) → (set.contains (meaning_of os).heard d ≡ true) ↔ ((o : Operation) × (In o os × (o.dot ≡ d)))
+
+-- the operation has the dot or replaces it
+abbrev pub Names : Dot → Operation → Type 0
+Names d o = (o.dot ≡ d) ⊎ (replaces d o ≡ true)
+
+-- a dot is known exactly if an operation has it or replaces it
+abbrev pub KnownAreNamed : Type 0
+KnownAreNamed = (os : List Operation) (d : Dot) → (set.contains (meaning_of os).known d ≡ true) ↔ ((o : Operation) × (In o os × Names d o))
+
+-- the operation is the start wish
+abbrev pub IsStart : Write → Operation → Type 0
+IsStart w o = (o.dot ≡ w.dot) × ((over : List Dot) × (o.act ≡ Start w.key over))
+
+-- a start wish stands exactly if an operation is it and none replaces it
+abbrev pub StartsAreUnreplaced : Type 0
+StartsAreUnreplaced = (os : List Operation) (w : Write) → (set.contains (meaning_of os).starts w ≡ true) ↔ (((o : Operation) × (In o os × IsStart w o)) × Stands w.dot os)
+
+-- the operation is the permit, with this value
+abbrev pub IsPermit : Write → Flag → Operation → Type 0
+IsPermit w f o = (o.dot ≡ w.dot) × ((over : List Dot) × (o.act ≡ Permit w.key (is_up f) over))
+
+-- a permit stands with a value exactly if an operation is it with this value and none replaces it, where no two different operations have one dot
+abbrev pub PermitsAreUnreplaced : Type 0
+PermitsAreUnreplaced = (os : List Operation) → Agree os → (w : Write) (f : Flag) → (map.get (meaning_of os).permits w ≡ Some f) ↔ (((o : Operation) × (In o os × IsPermit w f o)) × Stands w.dot os)
+
+-- an incarnation of the node came up by the operation
+abbrev pub IsUpOf : NodeId → ℕ → Operation → Type 0
+IsUpOf n i o = (o.act ≡ Up) × (o.dot.origin ≡ record { node = n; inc = i })
+
+-- the operation says this of the node's life: an Up of the node that it is up, a Down about it that it is down
+abbrev pub SaysLife : NodeId → Life → Operation → Type 0
+SaysLife n l o = ((l.flag ≡ IsUp) × IsUpOf n l.inc o) ⊎ ((l.flag ≡ IsDown) × (o.act ≡ Down n l.inc))
+
+-- the life of a node is the greatest that the operations say of it
+abbrev pub LivesAreGreatest : Type 0
+LivesAreGreatest = (os : List Operation) (n : NodeId) → IsGreatest life_cmp (λ l. (o : Operation) × (In o os × SaysLife n l o)) (map.get (meaning_of os).lives n)
+
+-- the operation is this claim of the application
+abbrev pub IsClaim : AppId → ClaimValue → Operation → Type 0
+IsClaim app c o = (o.dot.origin ≡ c.origin) × (o.act ≡ Claim app c.term c.how c.from)
+
+-- the claim of an application is the greatest of its claims
+abbrev pub ClaimsAreGreatest : Type 0
+ClaimsAreGreatest = (os : List Operation) (app : AppId) → IsGreatest claim_cmp (λ c. (o : Operation) × (In o os × IsClaim app c o)) (map.get (meaning_of os).claims app)
+
+-- what is heard and what stands in a meaning is known in it
+abbrev pub MeaningsAreStates : Type 0
+MeaningsAreStates = (os : List Operation) → IsState (meaning_of os)
+
+-- no operations mean the least state
+abbrev pub NothingMeansBottom : Type 0
+NothingMeansBottom = meaning_of [] ≡ bottom
+
+-- lists of the same operations mean the same, whatever their order and repeats
+abbrev pub OrderAndRepeatsAreNothing : Type 0
+OrderAndRepeatsAreNothing = (os ps : List Operation) → Within os ps → Within ps os → meaning_of os ≡ meaning_of ps
+
+-- two meanings joined are the meaning of both together
+abbrev pub JoinsAreTogether : Type 0
+JoinsAreTogether = (os ps : List Operation) → Agree (os ++ ps) → join (meaning_of os) (meaning_of ps) ≡ meaning_of (os ++ ps)
+
+-- the operation starts the key
+abbrev pub Starts : Key → Operation → Type 0
+Starts key o = (over : List Dot) × (o.act ≡ Start key over)
+
+-- some start of a key stands exactly if an operation starts it that none replaces
+abbrev pub WishedHaveStarts : Type 0
+WishedHaveStarts = (os : List Operation) (key : Key) → SomeStands key (wishes_of (meaning_of os)) ↔ ((o : Operation) × (In o os × (Starts key o × Stands o.dot os)))
+
+-- an operation permits the key, or forbids it, and none replaces that operation
+abbrev pub StandsSaying : Key → Bool → List Operation → Type 0
+StandsSaying key value os = (o : Operation) × (In o os × (((over : List Dot) × (o.act ≡ Permit key value over)) × Stands o.dot os))
+
+-- no permit of the key stands and the default is true, or one stands that says true and none that says false
+abbrev pub IsPermittedBy : Key → Bool → List Operation → Type 0
+IsPermittedBy key default os = (((value : Bool) → ¬ (StandsSaying key value os)) × (default ≡ true)) ⊎ (StandsSaying key true os × ¬ (StandsSaying key false os))
+
+-- a key is permitted in a meaning exactly if the operations permit it, where no two different ones have one dot
+abbrev pub PermittedAreSaid : Type 0
+PermittedAreSaid = (os : List Operation) → Agree os → (key : Key) (default : Bool) → IsPermitted key default (permissions_of (meaning_of os)) ↔ IsPermittedBy key default os

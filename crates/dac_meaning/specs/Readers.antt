@@ -1,0 +1,116 @@
+-- What a meaning shows, part by part.
+use Rattle.std.proofs.Common.{◌≡◌, Bool, true, false, not, cond, ◌&&◌, ◌||◌, List, [], ◌∷◌, Option, None, map as list_map, refl, sym, ap, ◌∙◌}
+use Rattle.std.specs.List.{list_any, flat_map}
+use Rattle.std.specs.Ordering.{eq_by_cmp}
+use Rattle.std.specs.FinSet as set
+use Rattle.std.specs.FinMap as map
+use Rattle.std.proofs.lemmas.Bool.{false≢true, and_parts, and_from, or_left}
+use Rattle.std.proofs.lemmas.List.Folds.{list_any-append}
+use Rattle.dac_dots.specs.declared.dot.Dot.{Dot}
+use Rattle.dac_dots.specs.Dots.{dots_total}
+use Rattle.dac_lattice.specs.declared.flags.Flag.{Flag}
+use Rattle.dac_base.specs.Ids.{nodes_total, exact_nodes, apps_total, exact_apps}
+use Rattle.dac_lattice.specs.Flags.{flag_cmp, flags_exact}
+use Rattle.dac_chains.specs.Greatest.{AreGreatest}
+use Rattle.dac_chains.specs.Lives.{life_cmp, lives_total, exact_lives}
+use Rattle.dac_chains.specs.Claims.{claim_cmp, how_cmp, claims_total, exact_hows, exact_claims}
+use Rattle.dac_wishes.specs.Keys.{same_key}
+use Rattle.dac_wishes.specs.Writes.{Write, write_cmp, writes_total, exact_writes, same_dot, same_write, list_any-alike}
+use Rattle.dac_operations.specs.declared.act.Act.{Act}
+use Rattle.dac_operations.specs.declared.act.Act.TheVariants.{Up, Down, Permit, Start, Stop, Claim}
+use Rattle.dac_operations.specs.Operations.{Operation, over_list}
+use Rattle.dac_meaning.specs.Tables.{get-table, given_or_none}
+use Rattle.dac_meaning.specs.Meaning.{meaning_of, has_dot, is_replaced, names, starts_in, permits_in, wishes, is_start, is_same, says, is_permit, flag_said, permit_at, pairs, life_said, claim_said, lives_of, claims_of}
+use Rattle.dac_meaning.specs.Members.{list_any-narrower}
+use Rattle.dac_meaning.specs.Chained.{are_greatest}
+
+list_any-list_map : {X Y : Type 0} (p : Y → Bool) (f : X → Y) (xs : List X) → list_any p (list_map f xs) ≡ list_any (λ x. p (f x)) xs
+list_any-list_map p f [] = refl
+list_any-list_map p f (x ∷ xs) = ap (λ b. p (f x) || b) (list_any-list_map p f xs)
+
+list_any-flat_map : {X Y : Type 0} (p : Y → Bool) (f : X → List Y) (xs : List X) → list_any p (flat_map f xs) ≡ list_any (λ x. list_any p (f x)) xs
+list_any-flat_map p f [] = refl
+list_any-flat_map p f (x ∷ xs) = list_any-append p (f x) (flat_map f xs) ∙ ap (λ b. list_any p (f x) || b) (list_any-flat_map p f xs)
+
+pub or-false : (b : Bool) → (b || false) ≡ b
+or-false true = refl
+or-false false = refl
+
+-- heard: some operation has the dot
+pub heard-meaning : (os : List Operation) (d : Dot) → set.contains (meaning_of os).heard d ≡ list_any (has_dot d) os
+unfolding meaning_of
+heard-meaning os d = set.contains-from_list dots_total (list_map (λ (o : Operation). o.dot) os) d ∙ list_any-list_map (same_dot d) (λ (o : Operation). o.dot) os
+
+-- known: some operation names the dot
+pub known-meaning : (os : List Operation) (d : Dot) → set.contains (meaning_of os).known d ≡ list_any (names d) os
+unfolding meaning_of
+known-meaning os d =
+    set.contains-from_list dots_total (flat_map (λ (o : Operation). o.dot ∷ over_list o.act) os) d
+    ∙ list_any-flat_map (same_dot d) (λ (o : Operation). o.dot ∷ over_list o.act) os
+
+starts_in-is : (w : Write) (d : Dot) (a : Act) → list_any (eq_by_cmp write_cmp w) (starts_in d a) ≡ (wishes w.key a && same_dot w.dot d)
+starts_in-is w d (Start key over) = or-false _ ∙ same_write w key d
+starts_in-is w d Up = refl
+starts_in-is w d (Down node inc) = refl
+starts_in-is w d (Permit key value over) = refl
+starts_in-is w d (Stop key over) = refl
+starts_in-is w d (Claim app term how from) = refl
+
+-- start wishes: some operation is the wish, and none replaces it
+pub starts-meaning : (os : List Operation) (w : Write) → set.contains (meaning_of os).starts w ≡ (list_any (is_start w) os && not (is_replaced w.dot os))
+unfolding meaning_of
+starts-meaning os w =
+    set.contains-retain (set.from_list (flat_map (λ (o : Operation). starts_in o.dot o.act) os)) (λ (r : Write). not (is_replaced r.dot os)) w
+    (λ x e. ap (λ (r : Write). not (is_replaced r.dot os)) (sym (exact_writes w x e)))
+    ∙ ap (λ b. b && not (is_replaced w.dot os))
+    (set.contains-from_list writes_total (flat_map (λ (o : Operation). starts_in o.dot o.act) os) w
+    ∙ list_any-flat_map (eq_by_cmp write_cmp w) (λ (o : Operation). starts_in o.dot o.act) os
+    ∙ list_any-alike (λ (o : Operation). list_any (eq_by_cmp write_cmp w) (starts_in o.dot o.act)) (is_start w) (λ o. starts_in-is w o.dot o.act) os)
+
+-- an operation that is a permit has its write
+permit_here : (w : Write) (v : Bool) (d : Dot) (a : Act) → (says w.key v a && same_dot w.dot d) ≡ true → list_any (eq_by_cmp write_cmp w) (permits_in d a) ≡ true
+permit_here w v d (Permit key value over) h =
+    let parts = and_parts (same_key w.key key && is_same value v) (same_dot w.dot d) h in
+    or_left (eq_by_cmp write_cmp w (record { key = key; dot = d })) false (same_write w key d ∙ and_from _ _ (and_parts (same_key w.key key) (is_same value v) parts.0).0 parts.1)
+permit_here w v d Up h = absurd (false≢true h)
+permit_here w v d (Down node inc) h = absurd (false≢true h)
+permit_here w v d (Start key over) h = absurd (false≢true h)
+permit_here w v d (Stop key over) h = absurd (false≢true h)
+permit_here w v d (Claim app term how from) h = absurd (false≢true h)
+
+-- where no operation has the write, no permit stands
+no_permit : (w : Write) (os : List Operation) → list_any (eq_by_cmp write_cmp w) (flat_map (λ (o : Operation). permits_in o.dot o.act) os) ≡ false → permit_at os w ≡ None
+no_permit w os none =
+    let none_here = sym (list_any-flat_map (eq_by_cmp write_cmp w) (λ (o : Operation). permits_in o.dot o.act) os) ∙ none in
+    (λ i. cond (is_replaced w.dot os) None (flag_said (not_said false none_here i) (not_said true none_here i)))
+    ∙ nothing (is_replaced w.dot os)
+  where
+    not_said : (v : Bool) → list_any (λ (o : Operation). list_any (eq_by_cmp write_cmp w) (permits_in o.dot o.act)) os ≡ false → list_any (is_permit w v) os ≡ false
+    not_said v h = list_any-narrower (is_permit w v) (λ o. list_any (eq_by_cmp write_cmp w) (permits_in o.dot o.act)) (λ o. permit_here w v o.dot o.act) os h
+
+    nothing : (b : Bool) → ◌≡◌ {A = Option Flag} (cond b None None) None
+    nothing true = refl
+    nothing false = refl
+
+-- permits: what is said by the operations that are it, if none replaces it
+pub permits-meaning : (os : List Operation) (w : Write) → map.get (meaning_of os).permits w ≡ permit_at os w
+unfolding meaning_of
+permits-meaning os w =
+    get-table writes_total exact_writes (permit_at os) w (flat_map (λ (o : Operation). permits_in o.dot o.act) os)
+    ∙ given_or_none _ (permit_at os w) (no_permit w os)
+
+-- lives: each node has the greatest that was said of it
+pub lives-meaning : (os : List Operation) → (meaning_of os).lives ≡ lives_of os
+unfolding meaning_of
+lives-meaning os = refl
+
+pub lives_are : (os : List Operation) → AreGreatest life_cmp life_said (pairs os) (lives_of os)
+lives_are os = are_greatest nodes_total exact_nodes lives_total (exact_lives flag_cmp flags_exact) life_said os
+
+-- claims: each application has the greatest that was said of it
+pub claims-meaning : (os : List Operation) → (meaning_of os).claims ≡ claims_of os
+unfolding meaning_of
+claims-meaning os = refl
+
+pub claims_are : (os : List Operation) → AreGreatest claim_cmp claim_said (pairs os) (claims_of os)
+claims_are os = are_greatest apps_total exact_apps claims_total (exact_claims how_cmp exact_hows) claim_said os

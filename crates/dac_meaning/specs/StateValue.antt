@@ -1,0 +1,79 @@
+-- What a state holds, as sets and maps: equal parts are equal values.
+use Rattle.std.specs.Prelude.{refl}
+use Rattle.std.specs.Coded.{Coded, code_by, coded×}
+use Rattle.std.specs.FinSet as set
+use Rattle.std.specs.FinMap as map
+use Rattle.dac_base.specs.Ids.{coded_app, coded_node}
+use Rattle.dac_dots.specs.Dots.{Dots, IsSubset, coded_dot}
+use Rattle.dac_lattice.specs.Flags.{coded_flag}
+use Rattle.dac_chains.specs.Greatest.{AreNotAbove, greater}
+use Rattle.dac_chains.specs.Lives.{Lives, life_cmp, coded_life}
+use Rattle.dac_chains.specs.Claims.{Claims, claim_cmp, coded_claim}
+use Rattle.dac_wishes.specs.Writes.{Writes, coded_write}
+use Rattle.dac_wishes.specs.WishesValue.{WishesValue, AreWishes, IsBelow as AreWishesBelow, join_wishes}
+use Rattle.dac_wishes.specs.PermissionsValue.{Permits, PermissionsValue, ArePermissions, IsPermissionsBelow, join_permissions}
+
+-- What a controller keeps of the operations that it has heard. (`heard` and what stands are after dot stores and causal contexts of delta-state replicated data types; the rest is this project's own.)
+pub record StateValue : Type 0 where
+  -- the dots of the operations
+  pub heard : Dots
+  -- these, and each dot that one of them replaces
+  pub known : Dots
+  -- the permits that none of them replaces, with their values
+  pub permits : Permits
+  -- the start wishes that none of them replaces
+  pub starts : Writes
+  -- the life of each node of which they speak
+  pub lives : Lives
+  -- the greatest claim of each application of which they speak
+  pub claims : Claims
+
+abbrev Parts : Type 0
+Parts = (Dots × Dots) × ((Permits × Writes) × (Lives × Claims))
+
+abbrev pub coded_state : Coded StateValue
+coded_state =
+    code_by Parts
+    (coded× (coded× (set.code coded_dot) (set.code coded_dot)) (coded× (coded× (map.code coded_write coded_flag) (set.code coded_write)) (coded× (map.code coded_node coded_life) (map.code coded_app coded_claim))))
+    (λ s. ((s.heard, s.known), ((s.permits, s.starts), (s.lives, s.claims))))
+    (λ p. record { heard = p.0.0; known = p.0.1; permits = p.1.0.0; starts = p.1.0.1; lives = p.1.1.0; claims = p.1.1.1 })
+    (λ _. refl)
+
+-- the permits of a state, beside the dots that it knows
+abbrev pub permissions_of : StateValue → PermissionsValue
+permissions_of s = record { known = s.known; standing = s.permits }
+
+-- the start wishes of a state, beside the dots that it knows
+abbrev pub wishes_of : StateValue → WishesValue
+wishes_of s = record { known = s.known; standing = s.starts }
+
+-- what each value of the type `State` keeps, forged ones too
+pub record IsState (s : StateValue) : Type 0 where
+  -- what is heard is known
+  pub heard : IsSubset s.heard s.known
+  -- what stands is known
+  pub permits : ArePermissions (permissions_of s)
+  pub starts : AreWishes (wishes_of s)
+
+-- x is below y: y has heard all that x has, what stands in x and is known to it is so ordered in y, and no life and no claim is greater in x. Written without join.
+pub record IsBelow (x y : StateValue) : Type 0 where
+  pub heard : IsSubset x.heard y.heard
+  pub permits : IsPermissionsBelow (permissions_of x) (permissions_of y)
+  pub starts : AreWishesBelow (wishes_of x) (wishes_of y)
+  pub lives : AreNotAbove life_cmp x.lives y.lives
+  pub claims : AreNotAbove claim_cmp x.claims y.claims
+
+-- nothing heard
+abbrev pub bottom : StateValue
+bottom = record { heard = set.empty; known = set.empty; permits = map.empty; starts = set.empty; lives = map.empty; claims = map.empty }
+
+-- two states together, part by part
+unfoldable pub join : StateValue → StateValue → StateValue
+join s t = record {
+  heard = set.union s.heard t.heard;
+  known = set.union s.known t.known;
+  permits = (join_permissions (permissions_of s) (permissions_of t)).standing;
+  starts = (join_wishes (wishes_of s) (wishes_of t)).standing;
+  lives = greater life_cmp s.lives t.lives;
+  claims = greater claim_cmp s.claims t.claims;
+}

@@ -1,0 +1,75 @@
+//! The laws of meanings, each as the contract of a function that does nothing.
+//!
+//! A proof that needs a law calls its function. The functions take nothing and answer nothing.
+ghost use Rattle.dac_lattice.specs.Laws.{IsLattice};
+ghost use Rattle.dac_meaning.specs.StateValue.{StateValue, IsState, IsBelow, bottom, join};
+ghost use Rattle.dac_meaning.specs.MeaningLaws.{HeardAreDots, KnownAreNamed, PermitsAreUnreplaced, StartsAreUnreplaced, LivesAreGreatest, ClaimsAreGreatest, WishedHaveStarts, PermittedAreSaid, MeaningsAreStates, NothingMeansBottom, OrderAndRepeatsAreNothing, JoinsAreTogether};
+ghost use Rattle.dac_meaning.specs.DeltaLaws.{OneIsHeard, PermitDeltaIsMeaning, WishDeltaIsMeaning, LifeDeltaIsMeaning, ClaimDeltaIsMeaning};
+
+/// What the parts of a meaning are, in terms of its operations: heard are their dots, known these and the
+/// dots that they replace, standing the permits and start wishes that none of them replaces, the life of a
+/// node is the greatest that an Up of the node or a Down about it says, and the claim of an application
+/// the greatest of its claims. So a meaning is always a state, and nothing means the least one.
+pub fn parts_of_meaning()
+    ensures heard { HeardAreDots }
+    ensures known { KnownAreNamed }
+    ensures permits { PermitsAreUnreplaced }
+    ensures starts { StartsAreUnreplaced }
+    ensures lives { LivesAreGreatest }
+    ensures claims { ClaimsAreGreatest }
+    ensures state { MeaningsAreStates }
+    ensures nothing { NothingMeansBottom }
+{}
+
+/// What is wished and permitted in a meaning: a key is wished exactly if an operation starts it that none
+/// replaces, and permitted exactly if no permit of it stands and the default is true, or one stands that
+/// says true and none that says false.
+pub fn keys_of_meaning()
+    ensures wished { WishedHaveStarts }
+    ensures permitted { PermittedAreSaid }
+{}
+
+/// A meaning is that of a set: the order of the operations and their repeats make no difference.
+pub fn order_and_repeats()
+    ensures { OrderAndRepeatsAreNothing }
+{}
+
+/// The join of what two sets of operations mean is what all of them mean together, where no two different
+/// operations have one dot.
+pub fn join_of_meanings()
+    ensures { JoinsAreTogether }
+{}
+
+/// The delta that each part of a state takes of an operation is that part of what the operation means
+/// alone, and its dot alone is heard.
+pub fn delta_is_meaning()
+    ensures heard { OneIsHeard }
+    ensures permits { PermitDeltaIsMeaning }
+    ensures starts { WishDeltaIsMeaning }
+    ensures lives { LifeDeltaIsMeaning }
+    ensures claims { ClaimDeltaIsMeaning }
+{}
+
+/// The order of states is a partial order, and the join is the least upper bound of two states. This
+/// holds for every value of the type, whether or not a set of operations means it.
+pub fn order_of_states()
+    ensures lattice { IsLattice IsState IsBelow join }
+    ensures least { (s : StateValue) → IsState s → IsBelow bottom s }
+{}
+
+#[cfg(test)]
+mod tests {
+    use super::*;
+    use std::test::Fail;
+
+    #[test]
+    fn laws_hold(_rt: HostRuntime) -> Result<(), Fail> {
+        parts_of_meaning();
+        keys_of_meaning();
+        order_and_repeats();
+        join_of_meanings();
+        delta_is_meaning();
+        order_of_states();
+        Ok(())
+    }
+}

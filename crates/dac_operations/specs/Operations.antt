@@ -1,0 +1,79 @@
+-- Operations: a dot, which names the operation, and an act.
+use Rattle.std.specs.Prelude.{◌≡◌, ◌≤◌, Bool, true, false, not, ◌||◌, List, [], length, Option, Some, None, nat_lt, ◌==◌, if◌then◌else◌}
+use Rattle.dac_dots.specs.declared.dot.Dot.{Dot}
+use Rattle.dac_dots.specs.Dots.{dot_cmp}
+use Rattle.dac_dots.specs.Keys.{is_rising, IsRising, has_key}
+use Rattle.dac_operations.specs.declared.act.Act.{Act}
+use Rattle.dac_operations.specs.declared.act.Act.TheVariants.{Up, Down, Permit, Start, Stop, Claim}
+use Rattle.dac_operations.specs.declared.op.OpFault.{OpFault}
+use Rattle.dac_operations.specs.declared.op.OpFault.TheVariants.{OwnDot, BadOver, BadCounter, OnSelf}
+
+-- An act, and the dot that names it. (Dots are after delta-state replicated data types.)
+pub record Operation : Type 0 where
+  pub dot : Dot
+  pub act : Act
+
+-- the operation of a dot and an act
+abbrev pub operation : Dot → Act → Operation
+operation d a = record { dot = d; act = a }
+
+-- the dots that an act replaces, as it lists them
+abbrev pub over_list : Act → List Dot
+over_list Up = []
+over_list (Down node inc) = []
+over_list (Permit key value over) = over
+over_list (Start key over) = over
+over_list (Stop key over) = over
+over_list (Claim app term how from) = []
+
+-- a node came up
+abbrev pub is_up : Act → Bool
+is_up Up = true
+is_up (Down node inc) = false
+is_up (Permit key value over) = false
+is_up (Start key over) = false
+is_up (Stop key over) = false
+is_up (Claim app term how from) = false
+
+-- the act replaces the dot that it would have
+abbrev pub replaces_itself : Dot → Act → Bool
+replaces_itself d a = has_key dot_cmp (over_list a) d
+
+-- the replaced dots don't ascend, one stands twice, or they are more than 1,024
+abbrev pub has_bad_over : List Dot → Bool
+has_bad_over over = not (is_rising dot_cmp over) || nat_lt 1024 (length over)
+
+-- the counter is 1 and it is no Up, or it is an Up under another counter
+abbrev pub has_bad_counter : Dot → Act → Bool
+has_bad_counter d a = if is_up a then not (d.n == 1) else d.n == 1
+
+-- the act declares down the node that would issue it
+abbrev pub is_on_self : Dot → Act → Bool
+is_on_self d Up = false
+is_on_self d (Down node inc) = node.0 == d.origin.node.0
+is_on_self d (Permit key value over) = false
+is_on_self d (Start key over) = false
+is_on_self d (Stop key over) = false
+is_on_self d (Claim app term how from) = false
+
+-- why a dot and an act make no operation: the first cause that holds
+abbrev pub fault_of : Dot → Act → Option OpFault
+fault_of d a =
+    if replaces_itself d a then Some OwnDot
+    else if has_bad_over (over_list a) then Some BadOver
+    else if has_bad_counter d a then Some BadCounter
+    else if is_on_self d a then Some OnSelf
+    else None
+
+-- what each operation keeps
+pub record IsSound (o : Operation) : Type 0 where
+  -- its own dot isn't replaced
+  pub apart : has_key dot_cmp (over_list o.act) o.dot ≡ false
+  -- the replaced dots ascend
+  pub rising : IsRising dot_cmp (over_list o.act)
+  -- and are at most 1,024
+  pub few : length (over_list o.act) ≤ 1024
+  -- 1 is the counter of an Up alone
+  pub counter : is_up o.act ≡ (o.dot.n == 1)
+  -- no node declares itself down
+  pub other : is_on_self o.dot o.act ≡ false

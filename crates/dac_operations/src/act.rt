@@ -1,0 +1,125 @@
+//! Acts.
+ghost use Rattle.std.specs.Prelude.{◌≡◌, IfOk};
+ghost use Rattle.dac_operations.specs.Operations.{is_up, over_list};
+
+use dac_base::{AppId, NoMemory, NodeId};
+use dac_chains::How;
+use dac_dots::Dot;
+use dac_wishes::{DotList, Key};
+
+/// What an operation does.
+#[derive(Debug, Drop)]
+pub enum Act {
+    /// The node of the dot came up, under the dot's incarnation.
+    Up,
+    /// An incarnation of another node is declared down.
+    Down {
+        /// The node.
+        node: NodeId,
+        /// Which of its incarnations.
+        inc: u32,
+    },
+    /// The application of the key is permitted or not at the key's node and incarnation. This permit takes
+    /// the place of the operations that `over` names.
+    Permit {
+        /// The application, and where it is permitted or not.
+        key: Key,
+        /// Whether it is permitted.
+        value: bool,
+        /// The operations that this one replaces, in ascending order.
+        over: DotList,
+    },
+    /// The application of the key is wished to run at the key's node and incarnation. This wish takes
+    /// the place of the operations that `over` names.
+    Start {
+        /// The application, and where it is wished.
+        key: Key,
+        /// The operations that this one replaces, in ascending order.
+        over: DotList,
+    },
+    /// The operations that `over` names are wished no more.
+    Stop {
+        /// The application, and where it was wished.
+        key: Key,
+        /// The operations that this one replaces, in ascending order.
+        over: DotList,
+    },
+    /// The issuer says that it runs the application.
+    Claim {
+        /// The application.
+        app: AppId,
+        /// Which claim of the application it is, from 1.
+        term: u64,
+        /// How the application came there.
+        how: How,
+        /// The node that it was taken from, unless it was started.
+        from: Option<NodeId>,
+    },
+}
+
+impl Act {
+    /// The dots that the act replaces.
+    pub fn over(&self) -> &[Dot]
+        ensures { result.now ≡ over_list self.now }
+    {
+        match self {
+            Act::Permit {
+                key: _,
+                value: _,
+                over,
+            } => over.as_slice(),
+            Act::Start { key: _, over } | Act::Stop { key: _, over } => over.as_slice(),
+            Act::Up | Act::Down { .. } | Act::Claim { .. } => &[],
+        }
+    }
+
+    /// Whether a node came up.
+    pub fn is_up(&self) -> bool
+        ensures { result ≡ is_up self.now }
+    {
+        match self {
+            Act::Up => true,
+            _ => false,
+        }
+    }
+
+    /// An equal act. [`NoMemory`] is the only error.
+    pub fn copy(&self) -> Result<Self, NoMemory>
+        ensures { IfOk result (λ copied. copied ≡ self.now) }
+    {
+        match self {
+            Act::Up => Ok(Act::Up),
+            Act::Down { node, inc } => Ok(Act::Down {
+                node: *node,
+                inc: *inc,
+            }),
+            Act::Permit { key, value, over } => {
+                let over = over.copy()?;
+                Ok(Act::Permit {
+                    key: *key,
+                    value: *value,
+                    over,
+                })
+            }
+            Act::Start { key, over } => {
+                let over = over.copy()?;
+                Ok(Act::Start { key: *key, over })
+            }
+            Act::Stop { key, over } => {
+                let over = over.copy()?;
+                Ok(Act::Stop { key: *key, over })
+            }
+            Act::Claim {
+                app,
+                term,
+                how,
+                from,
+            } => Ok(Act::Claim {
+                app: *app,
+                term: *term,
+                how: *how,
+                from: *from,
+            }),
+        }
+    }
+}

@@ -1,0 +1,105 @@
+//! What each part of a state sees of an operation.
+ghost use Rattle.std.specs.Prelude.{◌≡◌, IfOk};
+ghost use Rattle.dac_operations.specs.Operations.{over_list};
+ghost use Rattle.dac_operations.specs.Seen.{permit_in, seen_claim, seen_life, seen_permit, seen_wish, wish_in};
+
+use crate::act::Act;
+use crate::op::Op;
+use dac_base::NoMemory;
+use dac_chains::{ClaimAct, LifeAct};
+use dac_wishes::{DotList, PermitAct, WishAct};
+use std::alloc::Global;
+
+impl Op {
+    /// What start wishes see of the operation: the start that it wishes, if it is one, and the dots that
+    /// it replaces. [`NoMemory`] is the only error.
+    pub fn wish_act(&self, alloc: Global) -> Result<WishAct, NoMemory>
+        ensures { IfOk result (λ seen. seen ≡ seen_wish self.now.dot self.now.act) }
+    {
+        self.known();
+        let seen = wish_in(alloc, self.act())?;
+        Ok(seen)
+    }
+
+    /// What permissions see of the operation: the permit that it writes, if it is one, and the dots that
+    /// it replaces. [`NoMemory`] is the only error.
+    pub fn permit_act(&self, alloc: Global) -> Result<PermitAct, NoMemory>
+        ensures { IfOk result (λ seen. seen ≡ seen_permit self.now.dot self.now.act) }
+    {
+        self.known();
+        let seen = permit_in(alloc, self.act())?;
+        Ok(seen)
+    }
+
+    /// What lives see of the operation: that its node came up, or that it declares a node down.
+    pub fn life_act(&self) -> LifeAct
+        ensures { result ≡ seen_life self.now.act }
+    {
+        match self.act() {
+            Act::Up => LifeAct::Up,
+            Act::Down { node, inc } => LifeAct::Down {
+                node: *node,
+                inc: *inc,
+            },
+            _ => LifeAct::Other,
+        }
+    }
+
+    /// What claims see of the operation: the claim, if it is one.
+    pub fn claim_act(&self) -> ClaimAct
+        ensures { result ≡ seen_claim self.now.act }
+    {
+        match self.act() {
+            Act::Claim {
+                app,
+                term,
+                how,
+                from,
+            } => ClaimAct::Claim {
+                app: *app,
+                term: *term,
+                how: *how,
+                from: *from,
+            },
+            _ => ClaimAct::Other,
+        }
+    }
+}
+
+/// What start wishes see of an act.
+fn wish_in(alloc: Global, act: &Act) -> Result<WishAct, NoMemory>
+    ensures { IfOk result (λ seen. seen ≡ wish_in act.now) }
+{
+    let over = over_in(alloc, act)?;
+    match act {
+        Act::Start { key, over: _ } => Ok(WishAct::Start { key: *key, over }),
+        _ => Ok(WishAct::Other { over }),
+    }
+}
+
+/// What permissions see of an act.
+fn permit_in(alloc: Global, act: &Act) -> Result<PermitAct, NoMemory>
+    ensures { IfOk result (λ seen. seen ≡ permit_in act.now) }
+{
+    let over = over_in(alloc, act)?;
+    match act {
+        Act::Permit {
+            key,
+            value,
+            over: _,
+        } => Ok(PermitAct::Permit {
+            key: *key,
+            value: *value,
+            over,
+        }),
+        _ => Ok(PermitAct::Other { over }),
+    }
+}
+
+/// The dots that an act replaces, as a list of their own.
+fn over_in(alloc: Global, act: &Act) -> Result<DotList, NoMemory>
+    ensures { IfOk result (λ over. over ≡ over_list act.now) }
+{
+    let dots = Vec::from_slice(alloc, act.over())?;
+    Ok(DotList::new(dots))
+}
