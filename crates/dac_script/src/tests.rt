@@ -1,10 +1,10 @@
 //! The public calls, each with ample memory.
 
 use super::{
-    Ending, Failure, InputFault, ScriptFault, ScriptFaultKind, ScriptLine, booted_line, config_fault_line,
-    heard_line, input_fault_line, issued_line, no_message_line, off_line, parted, prepare,
-    printed_name, read_input, read_script, refused_line, same_line, script_fault_line,
-    shipped_line, simulate,
+    Ending, Failure, InputFault, ScriptFault, ScriptFaultKind, ScriptLine, booted_line, canonical,
+    check, config_fault_line, heard_line, input_fault_line, issued_line, no_message_line, off_line,
+    parted, prepare, printed_name, read_input, read_script, refused_line, same_line,
+    script_fault_line, shipped_line, simulate,
 };
 use dac_base::NoMemory;
 use dac_config::read_config;
@@ -152,6 +152,34 @@ fn prepares_inputs(rt: HostRuntime) -> Result<(), Fail> {
     let both = prepare(rt.alloc(), &mut input).ok().ok_or("refused")?;
     assert_eq!(rt; both.1.len(), 2);
     Ok(())
+}
+
+#[test]
+fn prints_canonical_texts(rt: HostRuntime) -> Result<(), Fail> {
+    let mut input = b"[{kernel,[{distributed,[{a,[c1@h]}]}]}].".as_slice();
+    let text = canonical(rt.alloc(), &mut input).ok().ok_or("refused")?;
+    assert_eq!(rt;
+        text.as_slice(),
+        b"[{kernel,[{distributed,[{a,0,[c1@h]}]},{permissions,[]},{sync_nodes_mandatory,[]},{sync_nodes_optional,[]}]}].\n".as_slice()
+    );
+    Ok(())
+}
+
+#[test]
+fn prints_why_nothing_is_done(rt: HostRuntime) {
+    let mut input = b"[].".as_slice();
+    let mut output = Vec::new(rt.alloc());
+    let ending = check(rt.alloc(), &mut input, &mut output);
+    assert_eq!(rt;
+        output.as_slice(),
+        b"config fault 5 NoDistributed at 3\n".as_slice()
+    );
+    let fault = ConfigFault {
+        kind: FaultKind::NoDistributed,
+        at: 3,
+    };
+    assert_eq!(rt; ending, Ending::Refused(Failure::Config(fault)));
+    assert_eq!(rt; ending.status(), 1);
 }
 
 #[test]
