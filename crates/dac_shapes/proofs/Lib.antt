@@ -11,4 +11,7 @@ pub mod Found
 pub mod AgainLists
 pub mod AgainTerms
 pub mod Again
+pub mod Walk
+pub mod Within
 pub mod Texts
+pub mod DraftLimits

@@ -15,7 +15,9 @@ use Rattle.dac_tokens.specs.Words.{Word, Mark, End, Located, is_end}
 use Rattle.dac_tokens.specs.Stream.{Stream, token_from, and_then, tokens_within, tokens_of, taken_of, end_at as end_of, ended as ended_by}
 use Rattle.dac_shapes.specs.declared.draft.Draft.{Draft}
 use Rattle.dac_shapes.specs.Written.{Section, Written, written}
-use Rattle.dac_shapes.specs.Limits.{Seen, nothing, AllMay, steps, with_section, MaySection, MaySections, nodes_in}
+use Rattle.dac_shapes.specs.Limits.{Seen, nothing, AllMay, steps, with_section, MaySection}
+use Rattle.dac_shapes.specs.Within.{nodes_in, AreWithinLimits}
+use Rattle.dac_shapes.proofs.Within.{within_from, may_from, seen_is}
 use Rattle.dac_shapes.specs.Shape.{State, fails, token, symbol_at, list_of, section_at, end_at, file_at}
 use Rattle.dac_shapes.specs.Grammar.{IsSection, IsListOf, IsFile, IsTextOf}
 use Rattle.dac_shapes.specs.Views.{draft_of}
@@ -92,7 +94,7 @@ end_found s place v well no_end e =
 record Files (s : State) (draft : Written) : Type 0 where
   pub sections : List Section
   pub file : IsFile (words_in s) sections
-  pub may : MaySections sections
+  pub within : AreWithinLimits sections
   pub says : draft ≡ written sections (nodes_in sections)
   pub some : length draft.apps ≢ 0
   pub end : Located
@@ -107,13 +109,13 @@ file_found s draft well no_end fresh e =
     let g = bracketed_found IsSection section_at with_section MaySection section_found s a.0.0 a.0.1 well a.1 in
     let b = bind_ok (end_at a.0.1) (f2 a.0.0) draft a.2 in
     let ends = end_found a.0.1 b.0.0 b.0.1 (still_well s a.0.1 g.ws well g.moves) (no_end_behind g.ws (words_in a.0.1) (subst NoEnd g.moves.words no_end)) b.1 in
-    let met : b.0.1.seen.met ≡ nodes_in a.0.0 = ap (λ (q : Seen). q.met) (ends.seen ∙ g.seen ∙ ap (λ (q : Seen). steps with_section q a.0.0) fresh) in
+    let met : b.0.1.seen.met ≡ nodes_in a.0.0 = ap (λ (q : Seen). q.met) (ends.seen ∙ g.seen ∙ ap (λ (q : Seen). steps with_section q a.0.0) fresh) ∙ seen_is a.0.0 in
     let p = passed (eqb (length (written a.0.0 b.0.1.seen.met).apps) 0) _ (Ok (written a.0.0 b.0.1.seen.met)) draft b.2 in
     let is : written a.0.0 b.0.1.seen.met ≡ draft = ok_same (written a.0.0 b.0.1.seen.met) draft _ refl p.1 in
     record {
       sections = a.0.0;
       file = (g.ws, g.moves.words ∙ ap (λ (l : List Word). g.ws ++ l) ends.words, g.is);
-      may = subst (λ (q : Seen). AllMay with_section MaySection [] q a.0.0) fresh g.may;
+      within = within_from a.0.0 (subst (λ (q : Seen). AllMay with_section MaySection [] q a.0.0) fresh g.may);
       says = sym is ∙ ap (written a.0.0) met;
       some = subst (λ (d : Written). length d.apps ≢ 0) is (eqb-false (length (written a.0.0 b.0.1.seen.met).apps) 0 p.0);
       end = ends.end;
@@ -130,16 +132,18 @@ file_by : (s t u : State) (place : ℕ) (sections : List Section) → list_of se
 unfolding file_at
 file_by s t u place sections a b c = rw (a, b, c) refl
 
-file_again : (end : Located) (ts : List Located) (sections : List Section) → is_end end.word ≡ true → IsFile (map (λ t. t.word) ts) sections → MaySections sections → length (written sections (nodes_in sections)).apps ≢ 0
+file_again : (end : Located) (ts : List Located) (sections : List Section) → is_end end.word ≡ true → IsFile (map (λ t. t.word) ts) sections → AreWithinLimits sections → length (written sections (nodes_in sections)).apps ≢ 0
     → file_at (at (Ok end) ts nothing) ≡ Ok (written sections (nodes_in sections))
-file_again end ts sections is file may some =
+file_again end ts sections is file within some =
     let c = ended ts file.0 (Mark FullStop) file.1 in
     let list : IsListOf IsSection (map (λ t. t.word) c.front) sections = subst (λ (l : List Word). IsListOf IsSection l sections) (sym c.first) file.2 in
     let seen = steps with_section nothing sections in
+    let some_app : length (written sections seen.met).apps ≢ 0 = subst (λ (nodes : List (List ℕ)). length (written sections nodes).apps ≢ 0) (sym (seen_is sections)) some in
     ap (λ (l : List Located). file_at (at (Ok end) l nothing)) c.whole
     ∙ file_by (at (Ok end) (c.front ++ c.end ∷ []) nothing) (at (Ok end) (c.end ∷ []) seen) (at (Ok end) [] seen) end.at sections
-    (sections_again (Ok end) c.front (c.end ∷ []) sections nothing list may) (end_again c.end end seen c.is is)
-    (ne_eqb (length (written sections (nodes_in sections)).apps) 0 some)
+    (sections_again (Ok end) c.front (c.end ∷ []) sections nothing list (may_from sections within)) (end_again c.end end seen c.is is)
+    (ne_eqb (length (written sections seen.met).apps) 0 some_app)
+    ∙ ap (λ (nodes : List (List ℕ)). Ok (written sections nodes)) (seen_is sections)
 
 -- ---- whole texts
 
@@ -162,13 +166,13 @@ text_found text s draft known short e =
     let f = file_found (whole s) draft (ends_well s.last (length text) known.end) no_end refl e in
     let end : f.end ≡ end_of (length text) = subst (λ (r : Result Located ConfigFault). IfOk r (λ t. t ≡ end_of (length text))) f.last known.end in
     let is : s ≡ ended_by (length text) s.tokens = ap (λ (r : Result Located ConfigFault). record { tokens = s.tokens; last = r }) (f.last ∙ ap (λ (t : Located). Ok t) end) in
-    record { short = short; tokens = s.tokens; sections = f.sections; spelled = (known.spelled s.tokens).1 is; file = f.file; may = f.may; says = f.says; some = f.some }
+    record { short = short; tokens = s.tokens; sections = f.sections; spelled = (known.spelled s.tokens).1 is; file = f.file; within = f.within; says = f.says; some = f.some }
 
 text_again : (text : List ℕ) (s : Stream) (draft : Written) → Tokenizes text s → IsTextOf text draft → file_at (whole s) ≡ Ok draft
 text_again text s draft known is =
     let stream : s ≡ ended_by (length text) is.tokens = (known.spelled is.tokens).0 is.spelled in
     let some = subst (λ (d : Written). length d.apps ≢ 0) is.says is.some in
-    ap (λ (q : Stream). file_at (whole q)) stream ∙ file_again (end_of (length text)) is.tokens is.sections refl is.file is.may some ∙ ap (λ (d : Written). Ok d) (sym is.says)
+    ap (λ (q : Stream). file_at (whole q)) stream ∙ file_again (end_of (length text)) is.tokens is.sections refl is.file is.within some ∙ ap (λ (d : Written). Ok d) (sym is.says)
 
 pub found_in : (text : List ℕ) (s : Stream) (r : Result Draft ConfigFault) → Tokenizes text s → length text ≤ 65536 → Gives draft_of r (file_at (whole s)) → IfOk r (λ draft. IsTextOf text (draft_of draft))
 found_in text s (Ok draft) known short e = text_found text s (draft_of draft) known short e

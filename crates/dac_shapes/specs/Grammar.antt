@@ -10,7 +10,7 @@ use Rattle.dac_shapes.specs.declared.draft.SyncWait.{SyncWait}
 use Rattle.dac_shapes.specs.declared.draft.SyncWait.TheVariants.{NoSync, Forever, Ms}
 use Rattle.dac_shapes.specs.Written.{App, Permission, Param, Distributed, Permissions, Mandatory, Optional, Timeout, Section, Kernel, Written, spelled, written}
 use Rattle.dac_shapes.specs.Shape.{value_from}
-use Rattle.dac_shapes.specs.Limits.{MaySections, nodes_in}
+use Rattle.dac_shapes.specs.Within.{AreWithinLimits, nodes_in}
 
 -- one or more things, each by `Is`, parted by commas
 abbrev pub Parted : {A : Type 0} → (List Word → A → Type 0) → List Word → List A → Type 0
@@ -114,14 +114,14 @@ IsSection words Section.Other = (name : List ℕ) × (name ≢ codes "kernel") �
 abbrev pub IsFile : List Word → List Section → Type 0
 IsFile words sections = (list : List Word) × (words ≡ list ++ Mark FullStop ∷ []) × IsListOf IsSection list sections
 
--- A text of at most 65,536 bytes says this: its tokens are a file, whose names may stand where they stand, and which
--- lists one application at least.
+-- A text of at most 65,536 bytes says this: its tokens are a file, which keeps the limits, and which lists one
+-- application at least.
 pub record IsTextOf (text : List ℕ) (draft : Written) : Type 0 where
   pub short : length text ≤ 65536
   pub tokens : List Located
   pub sections : List Section
   pub spelled : AreTokensOf text tokens
   pub file : IsFile (map (λ t. t.word) tokens) sections
-  pub may : MaySections sections
+  pub within : AreWithinLimits sections
   pub says : draft ≡ written sections (nodes_in sections)
   pub some : length draft.apps ≢ 0

@@ -1,6 +1,7 @@
 pub mod Written
 pub mod Shape
 pub mod Limits
+pub mod Within
 pub mod Grammar
 pub mod Views
 pub mod Outcome

@@ -147,7 +147,3 @@ MaySection before seen Section.Other = Unit {0}
 
 abbrev pub MaySections : List Section → Type 0
 MaySections sections = AllMay with_section MaySection [] nothing sections
-
--- the different names of nodes of the sections, in the order in which they first stand
-abbrev pub nodes_in : List Section → List (List ℕ)
-nodes_in sections = (steps with_section nothing sections).met

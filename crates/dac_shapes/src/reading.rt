@@ -7,6 +7,7 @@ ghost use Rattle.dac_shapes.specs.Shape.{draft_at};
 ghost use Rattle.dac_shapes.specs.Written.{Written};
 ghost use Rattle.dac_shapes.specs.Grammar.{IsTextOf};
 ghost use Rattle.dac_shapes.specs.Views.{draft_of};
+ghost use Rattle.dac_shapes.specs.Within.{IsWithinLimits};
 
 use crate::draft::Draft;
 use crate::limits::MAX_TEXT;
@@ -29,6 +30,8 @@ pub fn read_draft(alloc: Global, text: &[u8]) -> Result<Draft<'_>, ConfigFault>
     ensures found { IfOk result (λ draft. IsTextOf text.now (draft_of draft)) }
     // What is in the grammar is read.
     ensures only { (draft : Written) → IsTextOf text.now draft → MatchResult result (λ d. draft_of d ≡ draft) (λ e. e.kind ≡ NoMemory) }
+    // What is read keeps the limits.
+    ensures limits { IfOk result (λ draft. IsWithinLimits (draft_of draft)) }
     // Which fault it is, unless memory ran out.
     ensures exact { Gives draft_of result (draft_at text.now) }
     ensures memory { IfErr result (λ e. e.kind ≡ NoMemory → e.at ≡ 0) }

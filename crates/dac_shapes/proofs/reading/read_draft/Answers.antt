@@ -4,6 +4,7 @@ use Rattle.dac_shapes.specs.Outcome.{Gives}
 use Rattle.dac_shapes.specs.Shape.{file_at, draft_at}
 use Rattle.dac_shapes.specs.Views.{draft_of}
 use Rattle.dac_shapes.proofs.Texts.{Tokenizes, whole, found_in, only_in, exact_in, memory_in}
+use Rattle.dac_shapes.proofs.DraftLimits.{limits_in}
 use Rattle.dac_shapes.proofs.reading.read_draft.Goals as goal
 
 pub returns-clause-found : goal.returns-clause-found
@@ -11,6 +12,12 @@ returns-clause-found c =
     let known : Tokenizes c.args.text.now c.new.result = record { read = c.new.ensures.read; end = c.new.ensures.end; spelled = c.new.ensures.spelled } in
     let read : Gives draft_of c.file.result (file_at (whole c.new.result)) = rw (c.new-2.ensures.items, c.new-3.ensures.items) at c.file.ensures in
     found_in c.args.text.now c.new.result c.file.result known (omega arith) read
+
+pub returns-clause-limits : goal.returns-clause-limits
+returns-clause-limits c =
+    let known : Tokenizes c.args.text.now c.new.result = record { read = c.new.ensures.read; end = c.new.ensures.end; spelled = c.new.ensures.spelled } in
+    let read : Gives draft_of c.file.result (file_at (whole c.new.result)) = rw (c.new-2.ensures.items, c.new-3.ensures.items) at c.file.ensures in
+    limits_in c.args.text.now c.file.result (found_in c.args.text.now c.new.result c.file.result known (omega arith) read)
 
 pub returns-clause-only : goal.returns-clause-only
 returns-clause-only c =
