@@ -3,7 +3,6 @@ pub mod Copies
 pub mod Names
 pub mod Numbers
 pub mod Apps
-pub mod Listed
 pub mod Numberable
 pub mod Rising
 pub mod SaysLemmas

@@ -18,7 +18,10 @@ use Rattle.dac_config.specs.Table.{NodeRow, AppRow, Table}
 use Rattle.dac_config.specs.Numbering.{name_cmp, in_byte_order, numbers_from, numbered_node, numbered_nodes, permitted, numbered_app, numbered}
 use Rattle.dac_config.specs.Says.{is_named, IsGroup, IsUnmentioned, IsPermitted, IsApp, IsTableOf}
 use Rattle.dac_config.proofs.Rising.{rising_all, any_all, same_rising}
-use Rattle.dac_config.proofs.Listed.{itself}
+
+itself : (name : List ℕ) → bytes_eq name name ≡ true
+itself [] = refl
+itself (x ∷ xs) = let head : eqb x x ≡ true = grind (arith, nat_tests) in let tail = itself xs in rw (head, tail) refl
 
 -- ---- the numbers of a group
 

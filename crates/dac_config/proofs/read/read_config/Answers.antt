@@ -21,7 +21,7 @@ returns-in_err-draft-clause-exact c =
     rw (p.1, p.2) (fails_then _ (draft_at c.args.text.now) (λ draft. Ok (numbered draft)) c.in_err-draft.ensures.exact)
 
 pub of_draft-requires : goal.of_draft-requires
-of_draft-requires c = numberable c.args.text.now (draft_of c.in_ok-draft.draft) c.in_ok-draft.ensures.found
+of_draft-requires c = numberable (draft_of c.in_ok-draft.draft) c.in_ok-draft.ensures.limits
 
 pub returns-clause-found : goal.returns-clause-found
 returns-clause-found c = record {
