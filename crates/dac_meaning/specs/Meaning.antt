@@ -135,7 +135,7 @@ pairs os = list_map (λ (o : Operation). (o.dot, o.act)) os
 
 -- at each key the greatest of what the operations say of it
 abbrev pub greatest_of : {K T : Type 0} {R : K → K → Ordering} → (T → T → Ordering) → (Dot → Act → Option (K × T)) → List Operation → map.FinMap R T
-greatest_of cmp says os = joined (greater cmp) map.empty (λ d a. alone (says d a)) (pairs os)
+greatest_of cmp tells os = joined (greater cmp) map.empty (λ d a. alone (tells d a)) (pairs os)
 
 -- what an act says of which node's life
 abbrev pub life_said : Dot → Act → Option (NodeId × Life)

@@ -33,17 +33,25 @@ Names d o = (o.dot ≡ d) ⊎ (replaces d o ≡ true)
 abbrev pub KnownAreNamed : Type 0
 KnownAreNamed = (os : List Operation) (d : Dot) → (set.contains (meaning_of os).known d ≡ true) ↔ ((o : Operation) × (In o os × Names d o))
 
+-- the operation starts the key
+abbrev pub Starts : Key → Operation → Type 0
+Starts key o = (over : List Dot) × (o.act ≡ Start key over)
+
 -- the operation is the start wish
 abbrev pub IsStart : Write → Operation → Type 0
-IsStart w o = (o.dot ≡ w.dot) × ((over : List Dot) × (o.act ≡ Start w.key over))
+IsStart w o = (o.dot ≡ w.dot) × Starts w.key o
 
 -- a start wish stands exactly if an operation is it and none replaces it
 abbrev pub StartsAreUnreplaced : Type 0
 StartsAreUnreplaced = (os : List Operation) (w : Write) → (set.contains (meaning_of os).starts w ≡ true) ↔ (((o : Operation) × (In o os × IsStart w o)) × Stands w.dot os)
 
+-- the operation permits the key, or forbids it
+abbrev pub Permits : Key → Bool → Operation → Type 0
+Permits key value o = (over : List Dot) × (o.act ≡ Permit key value over)
+
 -- the operation is the permit, with this value
 abbrev pub IsPermit : Write → Flag → Operation → Type 0
-IsPermit w f o = (o.dot ≡ w.dot) × ((over : List Dot) × (o.act ≡ Permit w.key (is_up f) over))
+IsPermit w f o = (o.dot ≡ w.dot) × Permits w.key (is_up f) o
 
 -- a permit stands with a value exactly if an operation is it with this value and none replaces it, where no two different operations have one dot
 abbrev pub PermitsAreUnreplaced : Type 0
@@ -85,17 +93,13 @@ OrderAndRepeatsAreNothing = (os ps : List Operation) → Within os ps → Within
 abbrev pub JoinsAreTogether : Type 0
 JoinsAreTogether = (os ps : List Operation) → Agree (os ++ ps) → join (meaning_of os) (meaning_of ps) ≡ meaning_of (os ++ ps)
 
--- the operation starts the key
-abbrev pub Starts : Key → Operation → Type 0
-Starts key o = (over : List Dot) × (o.act ≡ Start key over)
-
 -- some start of a key stands exactly if an operation starts it that none replaces
 abbrev pub WishedHaveStarts : Type 0
 WishedHaveStarts = (os : List Operation) (key : Key) → SomeStands key (wishes_of (meaning_of os)) ↔ ((o : Operation) × (In o os × (Starts key o × Stands o.dot os)))
 
 -- an operation permits the key, or forbids it, and none replaces that operation
 abbrev pub StandsSaying : Key → Bool → List Operation → Type 0
-StandsSaying key value os = (o : Operation) × (In o os × (((over : List Dot) × (o.act ≡ Permit key value over)) × Stands o.dot os))
+StandsSaying key value os = (o : Operation) × (In o os × (Permits key value o × Stands o.dot os))
 
 -- no permit of the key stands and the default is true, or one stands that says true and none that says false
 abbrev pub IsPermittedBy : Key → Bool → List Operation → Type 0
