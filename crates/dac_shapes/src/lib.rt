@@ -12,6 +12,7 @@
 
 mod apps;
 mod draft;
+pub mod laws;
 mod limits;
 mod names;
 mod numbers;

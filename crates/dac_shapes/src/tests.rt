@@ -337,3 +337,8 @@ fn largest_and_too_large(rt: HostRuntime) -> Result<(), Fail> {
     assert_eq!(rt; fault_of(alloc, &spaces), at(FaultKind::TooLong, 65536));
     Ok(())
 }
+
+#[test]
+fn laws_are_told() {
+    crate::laws::limits_in_text_order();
+}
