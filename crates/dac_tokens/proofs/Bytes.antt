@@ -1,5 +1,5 @@
 -- The reader's tests of bytes decide what the grammar says of them.
-use Rattle.std.proofs.Common.{◌≡◌, ◌⊎◌, inl, inr, ℕ, false, List, [], ◌∷◌, refl, ap, arith}
+use Rattle.std.proofs.Common.{◌≡◌, inl, inr, ℕ, false, List, [], ◌∷◌, refl, ap, arith}
 use Rattle.std.specs.Bool.{Decides}
 use Rattle.std.specs.Char.{is_ascii_digit, IsAsciiDigit, IsAsciiLowercase}
 use Rattle.std.proofs.lemmas.Bool.Decides.{nat_tests}
@@ -35,6 +35,9 @@ tells_minus b e = grind (arith, nat_tests)
 
 pub tells_quote : (b : ℕ) → class_of b ≡ class.Quote → b ≡ 39
 tells_quote b e = grind (arith, nat_tests)
+
+pub tells_double_quote : (b : ℕ) → class_of b ≡ class.DoubleQuote → b ≡ 34
+tells_double_quote b e = grind (arith, nat_tests)
 
 pub tells_dot : (b : ℕ) → class_of b ≡ class.Dot → b ≡ 46
 tells_dot b e = grind (arith, nat_tests)

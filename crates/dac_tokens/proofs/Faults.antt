@@ -1,5 +1,5 @@
 -- Which faults reading a token can have.
-use Rattle.std.proofs.Common.{◌≡◌, inl, inr, ℕ, Bool, true, false, cond, List, [], ◌∷◌, length, ◌-◌, Result, Ok, Err, sym, subst}
+use Rattle.std.proofs.Common.{◌≡◌, inl, inr, ℕ, ◌+◌, Bool, true, false, cond, List, [], ◌∷◌, length, ◌-◌, Result, Ok, Err, sym, subst}
 use Rattle.std.specs.Prelude.{IfErr}
 use Rattle.dac_tokens.specs.declared.fault.FaultKind.{FaultKind}
 use Rattle.dac_tokens.specs.declared.fault.FaultKind.TheVariants.{NoMemory}
@@ -10,9 +10,10 @@ use Rattle.dac_tokens.specs.declared.token.Symbol.TheVariants.{OpenList, CloseLi
 use Rattle.dac_tokens.specs.Faults.{IsTokenFault}
 use Rattle.dac_tokens.specs.Gives.{◌>>=◌, UnlessMemory}
 use Rattle.dac_tokens.specs.Words.{Word, Mark, Name, Number, Text, End, Located}
-use Rattle.dac_tokens.specs.Scan.{after_gap, class_of, ends_stop, number_at, quoted_at, token_of, word_at, bad_token, unsupported}
+use Rattle.dac_tokens.specs.Scan.{after_gap, class_of, ends_stop, number_at, quoted_at, two_quotes, inside_string, token_of, word_at, bad_token, unsupported}
 use Rattle.dac_tokens.specs.Stream.{depth_after, token_from}
 use Rattle.dac_tokens.proofs.Quotes.{FoundQuoted, quoted_found}
+use Rattle.dac_tokens.proofs.Strings.{FoundInside, string_found}
 
 -- what holds at all holds unless memory ran out
 pub unless_memory : (k : FaultKind) {P : Type 0} → P → UnlessMemory k P
@@ -31,6 +32,10 @@ refused_if : {A : Type 0} (b : Bool) (at : ℕ) (x : A) → FailsAsToken (cond b
 refused_if true at x = tt
 refused_if false at x = tt
 
+refused_or_so : {A : Type 0} (b : Bool) (at : ℕ) (r : Result A ConfigFault) → FailsAsToken r → FailsAsToken (cond b (unsupported at) r)
+refused_or_so true at r h = tt
+refused_or_so false at r h = h
+
 bad_if : {A : Type 0} (b : Bool) (at : ℕ) (r : Result A ConfigFault) → FailsAsToken r → FailsAsToken (cond b (bad_token at) r)
 bad_if true at r h = tt
 bad_if false at r h = h
@@ -47,6 +52,14 @@ quoted_faults at bs = by (quoted_at at bs) (quoted_found at bs)
     by (Err e) (inl (name, rest, parts, all, begins, is)) = subst (λ (f : ConfigFault). IsTokenFault f.kind) (sym is) tt
     by (Err e) (inr (all, is)) = subst (λ (f : ConfigFault). IsTokenFault f.kind) (sym is) tt
 
+string_faults : (at : ℕ) (bs : List ℕ) → FailsAsToken (inside_string at (at + 1) false bs)
+string_faults at bs = by (inside_string at (at + 1) false bs) (string_found at bs)
+  where
+    by : (r : Result (Word × List ℕ) ConfigFault) → FoundInside at (at + 1) bs r → FailsAsToken r
+    by (Ok x) found = tt
+    by (Err e) (inl (inner, rest, parts, text, is)) = subst (λ (f : ConfigFault). IsTokenFault f.kind) (sym is) tt
+    by (Err e) (inr (inner, last, parts, text, ends, is)) = subst (λ (f : ConfigFault). IsTokenFault f.kind) (sym is) tt
+
 token_faults : (c : Class) (at b : ℕ) (bs : List ℕ) → FailsAsToken (token_of c at b bs)
 token_faults (class.Bracket symbol) at b bs = tt
 token_faults class.Comma at b bs = tt
@@ -55,6 +68,7 @@ token_faults class.Letter at b bs = refused_if _ at _
 token_faults class.Digit at b bs = refused_if _ at _
 token_faults class.Minus at b bs = bad_if _ at (number_at at true bs) (refused_if _ at _)
 token_faults class.Quote at b bs = quoted_faults at bs
+token_faults class.DoubleQuote at b bs = refused_or_so (two_quotes bs) at (inside_string at (at + 1) false bs) (string_faults at bs)
 token_faults class.Refused at b bs = tt
 token_faults class.Unknown at b bs = tt
 

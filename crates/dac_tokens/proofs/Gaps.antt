@@ -1,6 +1,5 @@
 -- Gaps between tokens: what is passed over is a gap, and a gap is passed over.
 use Rattle.std.proofs.Common.{◌≡◌, ◌⊎◌, inl, inr, ℕ, ◌≤◌, Bool, true, false, not, cond, eqb, List, [], ◌∷◌, ◌++◌, length, refl, sym, ap, subst, ◌∙◌, arith, append_assoc}
-use Rattle.std.specs.Prelude.{All}
 use Rattle.std.proofs.lemmas.Bool.{eqb-true}
 use Rattle.std.proofs.lemmas.Bool.Decides.{nat_tests}
 use Rattle.std.proofs.lemmas.List.{append-nil}
@@ -8,7 +7,7 @@ use Rattle.std.proofs.lemmas.List.Elements.{All-nil, All-cons}
 use Rattle.dac_tokens.specs.Scan.{is_blank, after_gap}
 use Rattle.dac_tokens.specs.TokenGrammar.{IsBlank, StartsGap, IsLine, IsGap, Nothing, Blank, Comment, IsLastGap, Closed, Open, Begins}
 use Rattle.dac_tokens.proofs.Bytes.{tells_blank}
-use Rattle.dac_tokens.proofs.Runs.{true_false, all_first, all_more}
+use Rattle.dac_tokens.proofs.Runs.{all_first, all_more}
 
 pub length_after_gap : (comment : Bool) (bs : List ℕ) → length (after_gap comment bs) ≤ length bs
 length_after_gap comment [] = omega arith

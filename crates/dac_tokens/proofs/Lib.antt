@@ -7,4 +7,5 @@ pub mod Shorter
 pub mod Spelling
 pub mod StopTexts
 pub mod Stops
+pub mod Strings
 pub mod Texts

@@ -1,5 +1,5 @@
 -- What a token leaves is shorter than what it was read from.
-use Rattle.std.proofs.Common.{◌≡◌, ℕ, zero, suc, ◌-◌, ◌<◌, ◌≤◌, Bool, true, false, cond, List, [], ◌∷◌, length, take, drop, Result, Ok, Err, refl, sym, ap, ◌∙◌, arith, length-append, length-drop}
+use Rattle.std.proofs.Common.{◌≡◌, ℕ, zero, suc, ◌+◌, ◌-◌, ◌<◌, ◌≤◌, Bool, true, false, cond, List, [], ◌∷◌, length, take, drop, Result, Ok, Err, refl, sym, ap, ◌∙◌, arith, length-append, length-drop}
 use Rattle.std.specs.Prelude.{IfOk}
 use Rattle.std.specs.Char.{is_ascii_digit}
 use Rattle.std.proofs.lemmas.Bool.Decides.{nat_tests}
@@ -9,12 +9,13 @@ use Rattle.dac_tokens.specs.declared.token.Class.{Class}
 use Rattle.dac_tokens.specs.declared.token.Class.TheVariants as class
 use Rattle.dac_tokens.specs.Words.{Word, Mark, Name, Number, End, is_end, Located}
 use Rattle.dac_tokens.proofs.Runs.{true_false}
-use Rattle.dac_tokens.specs.Scan.{after_gap, class_of, is_name_byte, run, ends_stop, bad_token, atom_at, number_at, quoted_at, token_of, word_at}
+use Rattle.dac_tokens.specs.Scan.{after_gap, class_of, is_name_byte, run, ends_stop, bad_token, atom_at, number_at, quoted_at, two_quotes, inside_string, token_of, word_at}
 use Rattle.std.proofs.lemmas.Result.{IfOk-weaker, IfOk-at_ok}
 use Rattle.dac_tokens.specs.Gives.{◌>>=◌, Fails}
 use Rattle.dac_tokens.proofs.Faults.{unless_memory}
 use Rattle.dac_tokens.proofs.Gaps.{length_after_gap}
 use Rattle.dac_tokens.proofs.Quotes.{FoundQuoted, quoted_found}
+use Rattle.dac_tokens.proofs.Strings.{FoundInside, string_found}
 use Rattle.dac_tokens.specs.Stream.{Stream, depth_after, token_from, and_then, tokens_within, tokens_of, taken}
 use Rattle.dac_tokens.specs.declared.token.Symbol.TheVariants.{FullStop}
 
@@ -56,6 +57,15 @@ quoted_leaves at bs = by (quoted_at at bs) (quoted_found at bs)
         (omega (arith, size), ap is_end is)
     by (Err e) found = tt
 
+string_leaves : (at : ℕ) (bs : List ℕ) → Leaves (suc (length bs)) (inside_string at (at + 1) false bs)
+string_leaves at bs = by (inside_string at (at + 1) false bs) (string_found at bs)
+  where
+    by : (r : Result (Word × List ℕ) ConfigFault) → FoundInside at (at + 1) bs r → Leaves (suc (length bs)) r
+    by (Ok x) (inner, parts, text, is) =
+        let size = ap length parts ∙ length-append inner (34 ∷ x.1) in
+        (omega (arith, size), ap is_end is)
+    by (Err e) found = tt
+
 token_leaves : (c : Class) (at b : ℕ) (bs : List ℕ) → class_of b ≡ c → Leaves (suc (length bs)) (token_of c at b bs)
 token_leaves (class.Bracket symbol) at b bs e = (omega arith, refl)
 token_leaves class.Comma at b bs e = (omega arith, refl)
@@ -68,6 +78,7 @@ token_leaves class.Letter at b bs e = atom_leaves at (b ∷ bs) (suc (length bs)
 token_leaves class.Digit at b bs e = number_leaves at false (b ∷ bs) (suc (length bs)) (drop_less _ b bs (run-first is_ascii_digit b bs (digit_is_digit b e)))
 token_leaves class.Minus at b bs e = refused_or (λ x. (length x.1 < suc (length bs)) × (is_end x.0 ≡ false)) _ _ (number_at at true bs) (number_leaves at true bs (suc (length bs)) (drop_le _ bs))
 token_leaves class.Quote at b bs e = quoted_leaves at bs
+token_leaves class.DoubleQuote at b bs e = refused_or (λ x. (length x.1 < suc (length bs)) × (is_end x.0 ≡ false)) (two_quotes bs) _ (inside_string at (at + 1) false bs) (string_leaves at bs)
 token_leaves class.Refused at b bs e = tt
 token_leaves class.Unknown at b bs e = tt
 

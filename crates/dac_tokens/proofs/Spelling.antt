@@ -1,5 +1,5 @@
 -- One token: what is read is spelled so, and what is spelled so is read.
-use Rattle.std.proofs.Common.{◌≡◌, ◌≢◌, inl, inr, ℕ, zero, suc, ◌<◌, ◌≤◌, Bool, true, false, cond, eqb, List, [], ◌∷◌, ◌++◌, length, take, drop, Result, Ok, Err, refl, sym, ap, subst, ◌∙◌, arith, append_assoc}
+use Rattle.std.proofs.Common.{◌≡◌, ◌≢◌, inl, inr, ℕ, zero, suc, ◌+◌, ◌<◌, ◌≤◌, Bool, true, false, cond, eqb, List, [], ◌∷◌, ◌++◌, length, take, drop, Result, Ok, Err, refl, sym, ap, subst, ◌∙◌, arith, append_assoc}
 use Rattle.std.specs.Prelude.{IfOk, All, codes}
 use Rattle.std.specs.Char.{is_ascii_digit, IsAsciiDigit, IsAsciiLowercase}
 use Rattle.std.proofs.lemmas.Bool.Decides.{nat_tests}
@@ -11,10 +11,11 @@ use Rattle.dac_tokens.specs.declared.token.Class.TheVariants as class
 use Rattle.dac_tokens.specs.declared.token.Symbol.{Symbol}
 use Rattle.dac_tokens.specs.declared.token.Symbol.TheVariants.{OpenList, CloseList, OpenTuple, CloseTuple, Comma, FullStop}
 use Rattle.dac_tokens.specs.Words.{Word, Mark, Name, Number, Text, End, is_end}
-use Rattle.dac_tokens.specs.Scan.{class_of, is_name_byte, is_fun, run, ends_stop, breaks_number, bad_token, unsupported, atom_at, number_at, quoted_at, token_of, word_at}
-use Rattle.dac_tokens.specs.TokenGrammar.{StartsGap, IsNameByte, Begins, IsBareAtom, IsQuotable, IsDigits, IsNumber, GoesOnAsNumber, IsBare, IsQuoted, Spells}
-use Rattle.dac_tokens.proofs.Bytes.{tells_digit, tells_name_byte, tells_letter, letter_class, digit_class, tells_minus, tells_quote, tells_dot, tells_comma, tells_bracket, no_stop_bracket, tells_stop, tells_break, no_break}
+use Rattle.dac_tokens.specs.Scan.{class_of, is_name_byte, is_fun, run, ends_stop, breaks_number, bad_token, unsupported, atom_at, number_at, quoted_at, two_quotes, inside_string, string_at, token_of, word_at}
+use Rattle.dac_tokens.specs.TokenGrammar.{StartsGap, IsNameByte, Begins, IsBareAtom, IsDigits, IsNumber, GoesOnAsNumber, IsBare, IsQuoted, Spells}
+use Rattle.dac_tokens.proofs.Bytes.{tells_digit, tells_name_byte, tells_letter, letter_class, digit_class, tells_minus, tells_quote, tells_double_quote, tells_dot, tells_comma, tells_bracket, no_stop_bracket, tells_stop, tells_break, no_break}
 use Rattle.dac_tokens.proofs.Quotes.{FoundQuoted, quoted_found, quoted_read}
+use Rattle.dac_tokens.proofs.Strings.{FoundInside, string_found, string_read}
 use Rattle.dac_tokens.proofs.Runs.{true_false, all_first, run_passes, run_stops, run_of, taken_run, dropped_run, taken_length}
 use Rattle.dac_tokens.proofs.Shorter.{run-first, letter_is_name, digit_is_digit}
 
@@ -128,6 +129,26 @@ quote_found at b bs e = by (quoted_at at bs) (quoted_found at bs)
         }
     by (Err e) found = tt
 
+-- two quotes in a row, as the reader tests it
+third_quote : (bs rest : List ℕ) → bs ≡ 34 ∷ rest → Begins (λ b. b ≡ 34) rest → two_quotes bs ≡ true
+third_quote bs [] parts begins = absurd begins
+third_quote bs (c ∷ rest) parts begins = rw (parts, begins) refl
+
+double_quote_found : (at b : ℕ) (bs : List ℕ) → b ≡ 34 → (c : Bool) → two_quotes bs ≡ c → GivesToken (b ∷ bs) (cond c (unsupported at) (inside_string at (at + 1) false bs))
+double_quote_found at b bs e true two = tt
+double_quote_found at b bs e false two = by (inside_string at (at + 1) false bs) (string_found at bs)
+  where
+    by : (r : Result (Word × List ℕ) ConfigFault) → FoundInside at (at + 1) bs r → GivesToken (b ∷ bs) r
+    by (Ok x) (inner, parts, text, is) =
+        let own : List ℕ = 34 ∷ (inner ++ 34 ∷ []) in
+        let string : Spells Text own x.1 = record { inner = inner; parts = refl; is_text = text; no_third = λ none third. true_false (sym (third_quote bs x.1 (parts ∙ ap (λ (xs : List ℕ). xs ++ 34 ∷ x.1) none) third) ∙ two) } in
+        record {
+          own = own;
+          parts = ap (λ (k : ℕ). k ∷ bs) e ∙ ap (λ (xs : List ℕ). 34 ∷ xs) (parts ∙ sym (append_assoc inner (34 ∷ []) x.1));
+          spelled = subst (λ (w : Word). Spells w own x.1) (sym is) string;
+        }
+    by (Err e) found = tt
+
 pub token_found : (c : Class) (at b : ℕ) (bs : List ℕ) → class_of b ≡ c → IfOk (token_of c at b bs) (λ x. IsToken (b ∷ bs) x.0 x.1)
 token_found (class.Bracket symbol) at b bs e = record { own = b ∷ []; parts = refl; spelled = bracket_spelled symbol b bs e }
 token_found class.Comma at b bs e = record { own = b ∷ []; parts = refl; spelled = ap (λ (k : ℕ). k ∷ []) (tells_comma b e) }
@@ -136,6 +157,7 @@ token_found class.Letter at b bs e = atom_found at b bs e
 token_found class.Digit at b bs e = number_found at (b ∷ bs) (run-first is_ascii_digit b bs (digit_is_digit b e))
 token_found class.Minus at b bs e = minus_found at b bs (tells_minus b e)
 token_found class.Quote at b bs e = quote_found at b bs (tells_quote b e)
+token_found class.DoubleQuote at b bs e = double_quote_found at b bs (tells_double_quote b e) (two_quotes bs) refl
 token_found class.Refused at b bs e = tt
 token_found class.Unknown at b bs e = tt
 
@@ -195,7 +217,7 @@ token_read (Mark FullStop) at own rest spelled = rw spelled.0 (ap (stop_if at re
 token_read (Name name) at own rest (inl bare) = bare_read at name own rest bare
 token_read (Name name) at own rest (inr quoted) = quotes_read at name own rest quoted
 token_read (Number negative digits) at own rest spelled = digits_read negative at digits own rest spelled.0 spelled.1
-token_read Text at own rest spelled = absurd spelled
+token_read Text at own rest spelled = rw spelled.parts (ap (string_at at) (append_assoc spelled.inner (34 ∷ []) rest) ∙ string_read at spelled.inner rest spelled.is_text spelled.no_third)
 token_read End at own rest spelled = absurd spelled
 
 -- bytes of which the first is no gap's
@@ -207,17 +229,25 @@ pub high : {A : Type 0} (n : ℕ) → 38 ≤ n → StartsGap n → A
 high n le (inl blank) = absurd (omega arith)
 high n le (inr is) = absurd (omega arith)
 
+-- nor does one between a space and a percent sign
+pub low : {A : Type 0} (n : ℕ) → 33 ≤ n → n ≤ 36 → StartsGap n → A
+low n le lu (inl blank) = absurd (omega arith)
+low n le lu (inr is) = absurd (omega arith)
+
 begins_high : (own : List ℕ) (n : ℕ) (more : List ℕ) → 38 ≤ n → own ≡ n ∷ more → NoGap own
 begins_high own n more le is = rw is (omega arith, λ rest g. high n le g)
 
+begins_low : (own : List ℕ) (n : ℕ) (more : List ℕ) → 33 ≤ n → n ≤ 36 → own ≡ n ∷ more → NoGap own
+begins_low own n more le lu is = rw is (omega arith, λ rest g. low n le lu g)
+
 number_no_gap : (negative : Bool) (digits own : List ℕ) → IsNumber negative digits own → NoGap own
 number_no_gap false [] own spelled = absurd spelled.1.begins
-number_no_gap false (d ∷ ds) own spelled = let low : 48 ≤ d = spelled.1.begins.0 in begins_high own d ds (omega arith) spelled.0
+number_no_gap false (d ∷ ds) own spelled = let least : 48 ≤ d = spelled.1.begins.0 in begins_high own d ds (omega arith) spelled.0
 number_no_gap true digits own spelled = begins_high own 45 digits (omega arith) spelled.0
 
 bare_no_gap : (name own rest : List ℕ) → IsBare name own rest → NoGap own
 bare_no_gap [] own rest bare = absurd bare.1.begins
-bare_no_gap (b ∷ more) own rest bare = let low : 97 ≤ b = bare.1.begins.0 in begins_high own b more (omega arith) bare.0
+bare_no_gap (b ∷ more) own rest bare = let least : 97 ≤ b = bare.1.begins.0 in begins_high own b more (omega arith) bare.0
 
 -- a token has a byte of its own, and its first begins no gap
 spelled_no_gap : (w : Word) (own rest : List ℕ) → Spells w own rest → NoGap own
@@ -230,7 +260,7 @@ spelled_no_gap (Mark FullStop) own rest spelled = begins_high own 46 [] (omega a
 spelled_no_gap (Name name) own rest (inl bare) = bare_no_gap name own rest bare
 spelled_no_gap (Name name) own rest (inr quoted) = begins_high own 39 (name ++ 39 ∷ []) (omega arith) quoted.0
 spelled_no_gap (Number negative digits) own rest spelled = number_no_gap negative digits own spelled.0
-spelled_no_gap Text own rest spelled = absurd spelled
+spelled_no_gap Text own rest spelled = begins_low own 34 (spelled.inner ++ 34 ∷ []) (omega arith) (omega arith) spelled.parts
 spelled_no_gap End own rest spelled = absurd spelled
 
 pub own_some : (w : Word) (own rest : List ℕ) → Spells w own rest → 0 < length own

@@ -1,13 +1,12 @@
 -- Whole texts with a fault: where reading stops is where the grammar does.
-use Rattle.std.proofs.Common.{◌≡◌, ℕ, zero, suc, ◌+◌, ◌-◌, ◌<◌, ◌≤◌, Bool, true, false, cond, List, [], ◌∷◌, ◌++◌, length, take, drop, Result, Ok, Err, refl, sym, ap, subst, ◌∙◌, arith, length-append}
-use Rattle.std.specs.Prelude.{IfOk, IfErr, All, ◌↔◌}
-use Rattle.std.proofs.lemmas.List.{take-append-drop}
+use Rattle.std.proofs.Common.{◌≡◌, ℕ, zero, suc, ◌+◌, ◌-◌, ◌<◌, ◌≤◌, Bool, true, false, cond, List, [], ◌∷◌, ◌++◌, length, Result, Ok, Err, refl, ap, subst, ◌∙◌, arith, length-append}
+use Rattle.std.specs.Prelude.{IfOk, IfErr, ◌↔◌}
 use Rattle.dac_tokens.specs.declared.fault.ConfigFault.{ConfigFault}
 use Rattle.dac_tokens.specs.Gives.{◌>>=◌}
 use Rattle.dac_tokens.specs.Words.{is_end, Located}
 use Rattle.dac_tokens.specs.Scan.{after_gap, class_of, token_of, word_at}
 use Rattle.dac_tokens.specs.Stream.{Stream, depth_after, token_from, and_then, tokens_within, tokens_of, stopped}
-use Rattle.dac_tokens.specs.TokenGrammar.{StartsGap, Begins, IsNextToken, depth_behind}
+use Rattle.dac_tokens.specs.TokenGrammar.{IsNextToken, depth_behind}
 use Rattle.dac_tokens.specs.TokenFaults.{IsFaultAt, StopAt}
 use Rattle.dac_tokens.proofs.Gaps.{IsPassed, gap_before, gap_read}
 use Rattle.dac_tokens.proofs.Shorter.{IsFirst, token_is_first, any}

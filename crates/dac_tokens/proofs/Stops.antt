@@ -1,8 +1,8 @@
 -- One fault: where reading stops no token begins, and where no token begins reading stops.
-use Rattle.std.proofs.Common.{◌≡◌, inl, inr, ℕ, zero, suc, ◌+◌, ◌<◌, ◌≤◌, Bool, true, false, cond, eqb, leb, List, [], ◌∷◌, ◌++◌, length, take, drop, Result, Ok, Err, refl, sym, ap, subst, ◌∙◌, arith}
+use Rattle.std.proofs.Common.{◌≡◌, ◌⊎◌, inl, inr, ℕ, zero, suc, ◌+◌, ◌<◌, ◌≤◌, Bool, true, false, ◌&&◌, cond, eqb, leb, List, [], ◌∷◌, ◌++◌, length, take, drop, Result, Ok, Err, refl, sym, ap, subst, ◌∙◌, arith}
 use Rattle.std.specs.Prelude.{IfErr, All, codes}
 use Rattle.std.specs.Char.{is_ascii_digit, IsAsciiDigit}
-use Rattle.std.proofs.lemmas.Bool.{leb-true, le-leb}
+use Rattle.std.proofs.lemmas.Bool.{eqb-true, leb-true, le-leb}
 use Rattle.std.proofs.lemmas.Bool.Decides.{nat_tests}
 use Rattle.std.proofs.lemmas.List.{take-append-drop}
 use Rattle.std.proofs.lemmas.List.Elements.{All-nil, All-cons}
@@ -16,15 +16,16 @@ use Rattle.dac_tokens.specs.declared.token.Symbol.{Symbol}
 use Rattle.dac_tokens.specs.declared.token.Symbol.TheVariants.{OpenList, CloseList, OpenTuple, CloseTuple, Comma, FullStop}
 use Rattle.dac_tokens.specs.Gives.{◌>>=◌}
 use Rattle.dac_tokens.specs.Words.{Word, Mark, Name, Number, Text, End, Located}
-use Rattle.dac_tokens.specs.Scan.{class_of, is_name_byte, is_fun, run, ends_stop, breaks_number, bad_token, unsupported, atom_at, number_at, quoted_at, token_of, word_at}
+use Rattle.dac_tokens.specs.Scan.{class_of, is_name_byte, is_fun, run, ends_stop, breaks_number, bad_token, unsupported, atom_at, number_at, quoted_at, two_quotes, inside_string, token_of, word_at}
 use Rattle.dac_tokens.specs.Stream.{depth_after}
-use Rattle.dac_tokens.specs.TokenGrammar.{StartsGap, IsNameByte, Begins, IsQuotable, IsUnquotable, IsDigits, IsNumber, bytes_of, GoesOnAsNumber, EndsTerm}
-use Rattle.dac_tokens.specs.TokenFaults.{IsOpening, IsRefused, IsUnknown, NoToken, LoneDot, LoneMinus, Unknown, Function, OtherNumber, InQuotes, NoQuote, Refused, TooDeep}
-use Rattle.dac_tokens.proofs.Bytes.{tells_digit, tells_name_byte, tells_letter, tells_digit_class, digit_class, tells_minus, tells_quote, tells_dot, tells_comma, tells_bracket, tells_stop}
+use Rattle.dac_tokens.specs.TokenGrammar.{StartsGap, IsNameByte, Begins, IsQuotable, IsUnquotable, IsDigits, IsNumber, bytes_of, GoesOnAsNumber, EndsTerm, IsStringText}
+use Rattle.dac_tokens.specs.TokenFaults.{IsOpening, IsRefused, IsUnknown, NoToken, LoneDot, LoneMinus, Unknown, Function, OtherNumber, InQuotes, NoQuote, ThreeQuotes, ControlEscape, NoDoubleQuote, Refused, TooDeep}
+use Rattle.dac_tokens.proofs.Bytes.{tells_digit, tells_name_byte, tells_letter, tells_digit_class, digit_class, tells_minus, tells_quote, tells_double_quote, tells_dot, tells_comma, tells_bracket, tells_stop}
 use Rattle.dac_tokens.proofs.Quotes.{FoundQuoted, quoted_found, quoted_refused, quoted_open}
+use Rattle.dac_tokens.proofs.Strings.{FoundInside, string_found, string_refused, string_open}
 use Rattle.dac_tokens.proofs.Runs.{true_false, run_stops, run_of, run_none, taken_run, dropped_run}
 use Rattle.dac_tokens.proofs.Shorter.{run-first, digit_is_digit}
-use Rattle.dac_tokens.proofs.Spelling.{IsToken, suc_not_zero, stop_if, atom_if, number_if, negative_if, digits_of_run, high, digits_no_gap}
+use Rattle.dac_tokens.proofs.Spelling.{IsToken, suc_not_zero, stop_if, atom_if, number_if, negative_if, digits_of_run, high, low, digits_no_gap}
 
 goes_break : (rest : List ℕ) → (Begins IsAsciiDigit rest → ⊥) → GoesOnAsNumber rest → breaks_number rest ≡ true
 goes_break [] no_digit h = absurd h
@@ -49,8 +50,7 @@ refused_class b (inr (inr (inl e))) = rw e refl
 refused_class b (inr (inr (inr (inl e)))) = rw e refl
 refused_class b (inr (inr (inr (inr (inl e))))) = rw e refl
 refused_class b (inr (inr (inr (inr (inr (inl e)))))) = rw e refl
-refused_class b (inr (inr (inr (inr (inr (inr (inl e))))))) = rw e refl
-refused_class b (inr (inr (inr (inr (inr (inr (inr h))))))) = past_ascii b h
+refused_class b (inr (inr (inr (inr (inr (inr h)))))) = past_ascii b h
 
 -- a byte of no other class
 unknown_class : (b : ℕ) → IsUnknown b → class_of b ≡ class.Unknown
@@ -64,6 +64,7 @@ unknown_class b un = by (class_of b) refl
     by class.Digit e = absurd (un.no_digit (tells_digit_class b e))
     by class.Minus e = absurd (un.no_minus (tells_minus b e))
     by class.Quote e = absurd (un.no_quote (tells_quote b e))
+    by class.DoubleQuote e = absurd (un.no_double_quote (tells_double_quote b e))
     by class.Refused e = absurd (un.no_refused (tells_refused b e))
     by class.Unknown e = refl
 
@@ -83,6 +84,7 @@ tells_unknown b no_start e = record {
   no_digit = λ h. grind (arith, nat_tests);
   no_minus = λ h. other_class b class.Minus e (rw h refl) refl;
   no_quote = λ h. other_class b class.Quote e (rw h refl) refl;
+  no_double_quote = λ h. other_class b class.DoubleQuote e (rw h refl) refl;
   no_refused = λ h. other_class b class.Refused e (refused_class b h) refl;
 }
   where
@@ -155,6 +157,30 @@ quote_stops at depth b bs is = by (quoted_at at bs) (quoted_found at bs)
     by (Err e) (inl (name, rest, parts, all, refused, e_is)) = subst (StopsThere at depth (b ∷ bs)) (sym e_is) (1 + length name, omega arith, InQuotes name rest (begins (name ++ rest) parts) all refused)
     by (Err e) (inr (all, e_is)) = subst (StopsThere at depth (b ∷ bs)) (sym e_is) (here at depth (b ∷ bs) BadToken (NoQuote bs (begins bs refl) all))
 
+-- the reader's test finds two quotes in a row
+second_third : (bs : List ℕ) → two_quotes bs ≡ true → (rest : List ℕ) × (bs ≡ 34 ∷ 34 ∷ rest)
+second_third [] e = true_false (sym e)
+second_third (b ∷ []) e = true_false (sym e)
+second_third (b ∷ c ∷ bs) e = by (eqb b 34) refl
+  where
+    by : (t : Bool) → eqb b 34 ≡ t → (rest : List ℕ) × (b ∷ c ∷ bs ≡ 34 ∷ 34 ∷ rest)
+    by true is = (bs, ap (λ (k : ℕ). k ∷ c ∷ bs) (eqb-true b 34 is) ∙ ap (λ (k : ℕ). 34 ∷ k ∷ bs) (eqb-true c 34 (ap (λ (t : Bool). t && eqb c 34) (sym is) ∙ e)))
+    by false is = true_false (sym e ∙ ap (λ (t : Bool). t && eqb c 34) is)
+
+double_quote_stops : (at depth b : ℕ) (bs : List ℕ) → b ≡ 34 → (c : Bool) → two_quotes bs ≡ c → IfStopped at depth (b ∷ bs) (cond c (unsupported at) (inside_string at (at + 1) false bs))
+double_quote_stops at depth b bs is true two =
+    let more = second_third bs two in
+    here at depth (b ∷ bs) Unsupported (ThreeQuotes more.0 (ap (λ (k : ℕ). k ∷ bs) is ∙ ap (λ (xs : List ℕ). 34 ∷ xs) more.1))
+double_quote_stops at depth b bs is false two = by (inside_string at (at + 1) false bs) (string_found at bs)
+  where
+    begins : (rest : List ℕ) → bs ≡ rest → b ∷ bs ≡ 34 ∷ rest
+    begins rest e = ap (λ (k : ℕ). k ∷ bs) is ∙ ap (λ (xs : List ℕ). 34 ∷ xs) e
+
+    by : (r : Result (Word × List ℕ) ConfigFault) → FoundInside at (at + 1) bs r → IfStopped at depth (b ∷ bs) r
+    by (Ok x) found = tt
+    by (Err e) (inl (inner, rest, parts, text, e_is)) = subst (StopsThere at depth (b ∷ bs)) (sym e_is) (1 + length inner, omega arith, ControlEscape inner rest (begins (inner ++ 92 ∷ 94 ∷ rest) parts) text)
+    by (Err e) (inr (inner, last, parts, text, ends, e_is)) = subst (StopsThere at depth (b ∷ bs)) (sym e_is) (here at depth (b ∷ bs) BadToken (NoDoubleQuote inner last (begins (inner ++ last) parts) text ends))
+
 pub fault_found : (c : Class) (at depth b : ℕ) (bs : List ℕ) → (StartsGap b → ⊥) → class_of b ≡ c → IfStopped at depth (b ∷ bs) (token_of c at b bs)
 fault_found (class.Bracket symbol) at depth b bs no_start e = tt
 fault_found class.Comma at depth b bs no_start e = tt
@@ -163,6 +189,7 @@ fault_found class.Letter at depth b bs no_start e = atom_stops at depth b bs (is
 fault_found class.Digit at depth b bs no_start e = plain_stops at depth b bs e
 fault_found class.Minus at depth b bs no_start e = minus_stops at depth b bs (tells_minus b e) (run is_ascii_digit bs) refl (eqb (run is_ascii_digit bs) 0) refl
 fault_found class.Quote at depth b bs no_start e = quote_stops at depth b bs (tells_quote b e)
+fault_found class.DoubleQuote at depth b bs no_start e = double_quote_stops at depth b bs (tells_double_quote b e) (two_quotes bs) refl
 fault_found class.Refused at depth b bs no_start e = here at depth (b ∷ bs) Unsupported (Refused (tells_refused b e))
 fault_found class.Unknown at depth b bs no_start e = here at depth (b ∷ bs) BadToken (Unknown (tells_unknown b no_start e))
 
@@ -267,6 +294,18 @@ deep_read at depth f [] le h = absurd h
 deep_read at depth f (b ∷ bs) le (inl e) = rw e (ap (λ (c : Bool). cond c (unsupported {A = ℕ} at) (Ok (depth + 1)) >>= λ after. f (Mark OpenList, bs) after) (le-leb 64 depth le))
 deep_read at depth f (b ∷ bs) le (inr e) = rw e (ap (λ (c : Bool). cond c (unsupported {A = ℕ} at) (Ok (depth + 1)) >>= λ after. f (Mark OpenTuple, bs) after) (le-leb 64 depth le))
 
+three_read : (at : ℕ) (rest : List ℕ) → word_at at (34 ∷ 34 ∷ 34 ∷ rest) ≡ unsupported at
+unfolding word_at
+three_read at rest = refl
+
+escape_refused : (at : ℕ) (inner rest : List ℕ) → IsStringText inner → word_at at (34 ∷ (inner ++ 92 ∷ 94 ∷ rest)) ≡ unsupported (at + (1 + length inner))
+unfolding word_at
+escape_refused at inner rest text = string_refused at inner rest text
+
+text_open : (at : ℕ) (inner last : List ℕ) → IsStringText inner → (last ≡ []) ⊎ (last ≡ 92 ∷ []) → word_at at (34 ∷ (inner ++ last)) ≡ bad_token at
+unfolding word_at
+text_open at inner last text ends = string_open at inner last text ends
+
 -- where no token begins reading stops
 pub stop_read : (at depth : ℕ) (f : Word × List ℕ → ℕ → Result (Located × ℕ × List ℕ) ConfigFault) (bytes : List ℕ) (behind : ℕ) (kind : FaultKind) → NoToken depth bytes behind kind → one_with at depth f bytes ≡ fault_at (at + behind) kind
 stop_read at depth f bytes _ kind (LoneDot rest parts h) = at_first at depth f bytes BadToken (ap (word_at at) parts ∙ dot_read at rest h)
@@ -276,6 +315,9 @@ stop_read at depth f bytes _ kind (Function rest parts h) = at_first at depth f 
 stop_read at depth f bytes _ kind (OtherNumber negative digits own rest parts spelled h goes) = at_first at depth f bytes Unsupported (ap (word_at at) parts ∙ number_refused negative at digits own rest spelled h goes)
 stop_read at depth f bytes _ kind (InQuotes name rest parts all refused) = no_word at depth f bytes (at + (1 + length name)) Unsupported (ap (word_at at) parts ∙ name_refused at name rest all refused)
 stop_read at depth f bytes _ kind (NoQuote name parts all) = at_first at depth f bytes BadToken (ap (word_at at) parts ∙ name_open at name all)
+stop_read at depth f bytes _ kind (ThreeQuotes rest parts) = at_first at depth f bytes Unsupported (ap (word_at at) parts ∙ three_read at rest)
+stop_read at depth f bytes _ kind (ControlEscape inner rest parts text) = no_word at depth f bytes (at + (1 + length inner)) Unsupported (ap (word_at at) parts ∙ escape_refused at inner rest text)
+stop_read at depth f bytes _ kind (NoDoubleQuote inner last parts text ends) = at_first at depth f bytes BadToken (ap (word_at at) parts ∙ text_open at inner last text ends)
 stop_read at depth f bytes _ kind (Refused h) = at_first at depth f bytes Unsupported (class_read class.Refused at bytes (record { kind = Unsupported; at = at }) (begins_with IsRefused (λ b. class_of b ≡ class.Refused) bytes refused_class h) (λ b bs. refl))
 stop_read at depth f bytes _ kind (TooDeep le h) = deep_read at depth f bytes le h ∙ ap (λ (k : ℕ). fault_at k Unsupported) (omega arith)
 
@@ -296,6 +338,9 @@ no_gap_stop depth bytes _ kind (Function rest parts h) g = high 102 (omega arith
 no_gap_stop depth bytes _ kind (OtherNumber negative digits own rest parts spelled h goes) g = digits_no_gap negative digits own rest spelled (rw parts at g)
 no_gap_stop depth bytes _ kind (InQuotes name rest parts all refused) g = high 39 (omega arith) (rw parts at g)
 no_gap_stop depth bytes _ kind (NoQuote name parts all) g = high 39 (omega arith) (rw parts at g)
+no_gap_stop depth bytes _ kind (ThreeQuotes rest parts) g = low 34 (omega arith) (omega arith) (rw parts at g)
+no_gap_stop depth bytes _ kind (ControlEscape inner rest parts text) g = low 34 (omega arith) (omega arith) (rw parts at g)
+no_gap_stop depth bytes _ kind (NoDoubleQuote inner last parts text ends) g = low 34 (omega arith) (omega arith) (rw parts at g)
 no_gap_stop depth bytes _ kind (Refused h) g = both bytes h g
   where
     both : (bs : List ℕ) → Begins IsRefused bs → Begins StartsGap bs → ⊥

@@ -1,5 +1,5 @@
 -- The tokens of a text, one at a time, as they are read.
-use Rattle.std.specs.Prelude.{ℕ, ◌+◌, Bool, true, false, not, ◌&&◌, ◌||◌, List, [], ◌∷◌, length, take, drop, Result, Ok, Err, nat_le, ◌==◌, if◌then◌else◌, codes}
+use Rattle.std.specs.Prelude.{ℕ, ◌+◌, ◌-◌, Bool, true, false, not, ◌&&◌, ◌||◌, List, [], ◌∷◌, length, take, drop, Result, Ok, Err, nat_le, ◌==◌, if◌then◌else◌, codes}
 use Rattle.std.specs.Str.{bytes_eq}
 use Rattle.std.specs.List.{take_while}
 use Rattle.std.specs.Char.{is_ascii_digit, is_ascii_alphanumeric}
@@ -8,7 +8,7 @@ use Rattle.dac_tokens.specs.declared.fault.ConfigFault.{ConfigFault}
 use Rattle.dac_tokens.specs.declared.token.Symbol.TheVariants.{OpenList, CloseList, OpenTuple, CloseTuple, Comma, FullStop}
 use Rattle.dac_tokens.specs.declared.token.Class.{Class}
 use Rattle.dac_tokens.specs.declared.token.Class.TheVariants as class
-use Rattle.dac_tokens.specs.Words.{Word, Mark, Name, Number, End}
+use Rattle.dac_tokens.specs.Words.{Word, Mark, Name, Number, Text, End}
 
 -- how many bytes at the front pass
 abbrev pub run : (ℕ → Bool) → List ℕ → ℕ
@@ -38,10 +38,11 @@ class_of b =
     else (if b == 46 then class.Dot
     else (if b == 45 then class.Minus
     else (if b == 39 then class.Quote
+    else (if b == 34 then class.DoubleQuote
     else (if nat_le 97 b && nat_le b 122 then class.Letter
     else (if nat_le 48 b && nat_le b 57 then class.Digit
-    else (if b == 34 || b == 60 || b == 35 || b == 36 || b == 43 || b == 126 || b == 124 || nat_le 128 b then class.Refused
-    else class.Unknown))))))))))
+    else (if b == 60 || b == 35 || b == 36 || b == 43 || b == 126 || b == 124 || nat_le 128 b then class.Refused
+    else class.Unknown)))))))))))
 
 -- what a bare atom may go on with
 abbrev pub is_name_byte : ℕ → Bool
@@ -89,6 +90,25 @@ quoted_at at bs =
     let n = run is_quotable bs in
     closed_at at (take n bs) (drop n bs)
 
+-- whether two more double quotes stand behind a first
+abbrev pub two_quotes : List ℕ → Bool
+two_quotes [] = false
+two_quotes (b ∷ []) = false
+two_quotes (b ∷ c ∷ bs) = b == 34 && c == 34
+
+-- reads on in the string whose opening quote is at `at`, from the byte at `place` on, which a backslash may
+-- have taken along
+abbrev pub inside_string : ℕ → ℕ → Bool → List ℕ → Result (Word × List ℕ) ConfigFault
+inside_string at place escaped [] = bad_token at
+inside_string at place escaped (b ∷ bs) =
+    if escaped && b == 94 then unsupported (place - 1)
+    else (if not escaped && b == 34 then Ok (Text, bs)
+    else inside_string at (place + 1) (not escaped && b == 92) bs)
+
+-- the string whose opening quote, at `at`, stands before the bytes
+abbrev pub string_at : ℕ → List ℕ → Result (Word × List ℕ) ConfigFault
+string_at at bs = if two_quotes bs then unsupported at else inside_string at (at + 1) false bs
+
 -- the digits at the front, of a number that begins at `at`
 abbrev pub number_at : ℕ → Bool → List ℕ → Result (Word × List ℕ) ConfigFault
 number_at at negative bs =
@@ -108,6 +128,7 @@ token_of class.Letter at b bs = atom_at at (b ∷ bs)
 token_of class.Digit at b bs = number_at at false (b ∷ bs)
 token_of class.Minus at b bs = negative_at at bs
 token_of class.Quote at b bs = quoted_at at bs
+token_of class.DoubleQuote at b bs = string_at at bs
 token_of class.Refused at b bs = unsupported at
 token_of class.Unknown at b bs = bad_token at
 

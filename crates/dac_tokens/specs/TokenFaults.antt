@@ -6,16 +6,16 @@ use Rattle.dac_tokens.specs.declared.fault.FaultKind.TheVariants.{BadToken, Unsu
 use Rattle.dac_tokens.specs.declared.fault.ConfigFault.{ConfigFault}
 use Rattle.dac_tokens.specs.declared.token.Symbol.{Symbol}
 use Rattle.dac_tokens.specs.Words.{Located}
-use Rattle.dac_tokens.specs.TokenGrammar.{StartsGap, IsGap, IsNameByte, IsQuotable, IsUnquotable, Begins, bytes_of, IsNumber, GoesOnAsNumber, EndsTerm, IsNextToken, depth_behind}
+use Rattle.dac_tokens.specs.TokenGrammar.{StartsGap, IsGap, IsNameByte, IsQuotable, IsUnquotable, Begins, bytes_of, IsNumber, GoesOnAsNumber, EndsTerm, IsStringText, IsNextToken, depth_behind}
 
 -- an opening bracket
 abbrev pub IsOpening : ℕ → Type 0
 IsOpening b = (b ≡ 91) ⊎ (b ≡ 123)
 
--- a byte with which something of Erlang begins that isn't read: a double quote, `<`, `#`, `$`, `+`, `~`, `|`, or one past ASCII
+-- a byte with which something of Erlang begins that isn't read: `<`, `#`, `$`, `+`, `~`, `|`, or one past ASCII
 abbrev pub IsRefused : ℕ → Type 0
 IsRefused b =
-    (b ≡ 34) ⊎ (b ≡ 60) ⊎ (b ≡ 35) ⊎ (b ≡ 36) ⊎ (b ≡ 43) ⊎ (b ≡ 126) ⊎ (b ≡ 124) ⊎ (128 ≤ b)
+    (b ≡ 60) ⊎ (b ≡ 35) ⊎ (b ≡ 36) ⊎ (b ≡ 43) ⊎ (b ≡ 126) ⊎ (b ≡ 124) ⊎ (128 ≤ b)
 
 -- a byte with which nothing begins
 pub record IsUnknown (b : ℕ) : Type 0 where
@@ -25,10 +25,11 @@ pub record IsUnknown (b : ℕ) : Type 0 where
   pub no_digit : ¬ IsAsciiDigit b
   pub no_minus : b ≢ 45
   pub no_quote : b ≢ 39
+  pub no_double_quote : b ≢ 34
   pub no_refused : ¬ IsRefused b
 
--- No token begins with these bytes, where so many brackets are open: how far behind the first of them the
--- fault is, and its kind.
+-- No token begins with these bytes, where so many brackets are open: the number of bytes from the first of
+-- them to the fault, and the kind of fault.
 pub data NoToken (depth : ℕ) (bytes : List ℕ) : ℕ → FaultKind → Type 0 where
   LoneDot : (rest : List ℕ) → bytes ≡ codes "." ++ rest → ¬ EndsTerm rest → NoToken depth bytes 0 BadToken
   LoneMinus : (rest : List ℕ) → bytes ≡ codes "-" ++ rest → ¬ Begins IsAsciiDigit rest → NoToken depth bytes 0 BadToken
@@ -37,6 +38,9 @@ pub data NoToken (depth : ℕ) (bytes : List ℕ) : ℕ → FaultKind → Type 0
   OtherNumber : (negative : Bool) (digits own rest : List ℕ) → bytes ≡ own ++ rest → IsNumber negative digits own → ¬ Begins IsAsciiDigit rest → GoesOnAsNumber rest → NoToken depth bytes 0 Unsupported
   InQuotes : (name rest : List ℕ) → bytes ≡ codes "'" ++ (name ++ rest) → All IsQuotable name → Begins IsUnquotable rest → NoToken depth bytes (1 + length name) Unsupported
   NoQuote : (name : List ℕ) → bytes ≡ codes "'" ++ name → All IsQuotable name → NoToken depth bytes 0 BadToken
+  ThreeQuotes : (rest : List ℕ) → bytes ≡ 34 ∷ 34 ∷ 34 ∷ rest → NoToken depth bytes 0 Unsupported
+  ControlEscape : (inner rest : List ℕ) → bytes ≡ 34 ∷ (inner ++ 92 ∷ 94 ∷ rest) → IsStringText inner → NoToken depth bytes (1 + length inner) Unsupported
+  NoDoubleQuote : (inner last : List ℕ) → bytes ≡ 34 ∷ (inner ++ last) → IsStringText inner → (last ≡ []) ⊎ (last ≡ 92 ∷ []) → NoToken depth bytes 0 BadToken
   Refused : Begins IsRefused bytes → NoToken depth bytes 0 Unsupported
   TooDeep : 64 ≤ depth → Begins IsOpening bytes → NoToken depth bytes 0 Unsupported
 

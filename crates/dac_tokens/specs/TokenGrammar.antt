@@ -17,7 +17,7 @@ StartsGap b = IsBlank b ⊎ (b ≡ 37)
 abbrev pub IsLine : List ℕ → Type 0
 IsLine bytes = All (λ b. b ≢ 10) bytes
 
--- what may stand before a token: blanks, and comments from a percent sign to the line feed
+-- what may stand before a token: blanks, and comments from a percent sign (37) to the line feed (10)
 pub data IsGap : List ℕ → Type 0 where
   Nothing : IsGap []
   Blank : (b : ℕ) (more : List ℕ) → IsBlank b → IsGap more → IsGap (b ∷ more)
@@ -78,21 +78,35 @@ GoesOnAsNumber (b ∷ bs) = IsAsciiDigit b ⊎ (b ≡ 35) ⊎ (b ≡ 95) ⊎ ((b
 abbrev pub EndsTerm : List ℕ → Type 0
 EndsTerm rest = (rest ≡ []) ⊎ Begins StartsGap rest
 
--- an atom without quotes, which is as long as it can be
+-- the bytes of an atom without quotes, which is as long as it can be
 abbrev pub IsBare : List ℕ → List ℕ → List ℕ → Type 0
 IsBare name own rest = (own ≡ name) × IsBareAtom name × (¬ Begins IsNameByte rest)
 
--- an atom between quotes
+-- the bytes of an atom between quotes
 abbrev pub IsQuoted : List ℕ → List ℕ → Type 0
 IsQuoted name own = (own ≡ codes "'" ++ (name ++ codes "'")) × All IsQuotable name
 
--- a token is spelled by its own bytes where these bytes stand behind them: a number, too, is as long as it can be
+-- What stands between the quotes of a string: a backslash (92) takes the byte behind it along, which is not
+-- `^` (94), and any other byte but a double quote (34) may stand there.
+pub data IsStringText : List ℕ → Type 0 where
+  Empty : IsStringText []
+  Plain : (b : ℕ) (more : List ℕ) → b ≢ 34 → b ≢ 92 → IsStringText more → IsStringText (b ∷ more)
+  Escape : (b : ℕ) (more : List ℕ) → b ≢ 94 → IsStringText more → IsStringText (92 ∷ b ∷ more)
+
+-- the bytes of a string; where it is empty no third double quote stands behind it
+pub record IsString (own rest : List ℕ) : Type 0 where
+  pub inner : List ℕ
+  pub parts : own ≡ 34 ∷ (inner ++ 34 ∷ [])
+  pub is_text : IsStringText inner
+  pub no_third : inner ≡ [] → ¬ Begins (λ b. b ≡ 34) rest
+
+-- The bytes of a token itself, where these bytes stand behind them. A number, too, is as long as it can be.
 abbrev pub Spells : Word → List ℕ → List ℕ → Type 0
 Spells (Mark FullStop) own rest = (own ≡ codes ".") × EndsTerm rest
 Spells (Mark symbol) own rest = own ≡ bytes_of symbol
 Spells (Name name) own rest = IsBare name own rest ⊎ IsQuoted name own
 Spells (Number negative digits) own rest = IsNumber negative digits own × (¬ GoesOnAsNumber rest)
-Spells Text own rest = ⊥
+Spells Text own rest = IsString own rest
 Spells End own rest = ⊥
 
 -- Of bytes that begin at the offset `at`, the first token, its own bytes and the rest behind it: a gap may

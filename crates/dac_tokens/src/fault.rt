@@ -13,10 +13,10 @@ pub enum FaultKind {
     /// The text has more than 65,536 bytes.
     #[error("TooLong")]
     TooLong = 1,
-    /// No token begins with this byte, or not with what follows it.
+    /// No token begins with this byte, or not with what follows it, as a quote that is never closed.
     #[error("BadToken")]
     BadToken,
-    /// A token of Erlang that configurations here can't have.
+    /// A token of Erlang, or a byte in one, that configurations here can't have.
     #[error("Unsupported")]
     Unsupported,
     /// Another token was wanted here.

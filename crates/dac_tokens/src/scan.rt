@@ -3,7 +3,7 @@
 ghost use Rattle.std.specs.Prelude.{◌≡◌, ◌+◌, ◌^◌, ◌<◌, ◌≤◌, false, length, take, drop};
 ghost use Rattle.std.specs.Char.{is_ascii_digit};
 ghost use Rattle.dac_tokens.specs.Gives.{Reads};
-ghost use Rattle.dac_tokens.specs.Scan.{after_gap, class_of, is_name_byte, is_quotable, run, ends_stop, breaks_number, atom_at, number_at, negative_at, quoted_at, word_at};
+ghost use Rattle.dac_tokens.specs.Scan.{after_gap, class_of, is_name_byte, is_quotable, run, ends_stop, breaks_number, atom_at, number_at, negative_at, quoted_at, two_quotes, string_at, word_at};
 ghost use Rattle.dac_tokens.specs.Words.{word_of};
 
 use crate::fault::{ConfigFault, FaultKind};
@@ -36,7 +36,7 @@ pub fn after_gap(bytes: &[u8]) -> &[u8]
     rest
 }
 
-/// What may begin with a byte. A double quote is refused as long as strings aren't read.
+/// What may begin with a byte.
 fn class_of(b: u8) -> Class
     ensures { result ≡ class_of b }
 {
@@ -49,9 +49,10 @@ fn class_of(b: u8) -> Class
         b'.' => Class::Dot,
         b'-' => Class::Minus,
         b'\'' => Class::Quote,
+        b'"' => Class::DoubleQuote,
         b'a'..=b'z' => Class::Letter,
         b'0'..=b'9' => Class::Digit,
-        b'"' | b'<' | b'#' | b'$' | b'+' | b'~' | b'|' | 0x80.. => Class::Refused,
+        b'<' | b'#' | b'$' | b'+' | b'~' | b'|' | 0x80.. => Class::Refused,
         _ => Class::Unknown,
     }
 }
@@ -154,6 +155,41 @@ fn negative_at(at: usize, bytes: &[u8]) -> Result<(Token<'_>, &[u8]), ConfigFaul
     number_at(at, true, bytes)
 }
 
+/// Whether the bytes behind a double quote begin with two more.
+fn two_quotes(bytes: &[u8]) -> bool
+    ensures { result ≡ two_quotes bytes.now }
+{
+    match bytes {
+        [b, c, ..] => *b == b'"' && *c == b'"',
+        _ => false,
+    }
+}
+
+/// The string at `at` whose opening quote stands before the bytes.
+fn string_at(at: usize, bytes: &[u8]) -> Result<(Token<'_>, &[u8]), ConfigFault>
+    requires { at + 1 + length bytes.now < 2 ^ 64 }
+    ensures { Reads (λ x. (word_of x.0, x.1.now)) result (string_at at bytes.now) }
+{
+    if two_quotes(bytes) {
+        return Err(fault(FaultKind::Unsupported, at));
+    }
+    let mut rest = bytes;
+    let mut place = at + 1;
+    let mut escaped = false;
+    while let [b, tail @ ..] = rest {
+        if escaped && *b == b'^' {
+            return Err(fault(FaultKind::Unsupported, place - 1));
+        }
+        if !escaped && *b == b'"' {
+            return Ok((Token::Text, tail));
+        }
+        escaped = !escaped && *b == b'\\';
+        place += 1;
+        rest = tail;
+    }
+    Err(fault(FaultKind::BadToken, at))
+}
+
 /// The token at the front of bytes that begin at `at` with no gap before it, and the bytes behind it.
 #[tactic(auto, unfolding(crate::specs::Scan::word_at))]
 pub fn token_at(at: usize, bytes: &[u8]) -> Result<(Token<'_>, &[u8]), ConfigFault>
@@ -176,6 +212,7 @@ pub fn token_at(at: usize, bytes: &[u8]) -> Result<(Token<'_>, &[u8]), ConfigFau
         Class::Digit => number_at(at, false, bytes),
         Class::Minus => negative_at(at, rest),
         Class::Quote => quoted_at(at, rest),
+        Class::DoubleQuote => string_at(at, rest),
         Class::Refused => Err(fault(FaultKind::Unsupported, at)),
         Class::Unknown => Err(fault(FaultKind::BadToken, at)),
     }

@@ -67,7 +67,6 @@ fn comments(rt: HostRuntime) {
 
 #[test]
 fn refused_bytes(rt: HostRuntime) {
-    assert_eq!(rt; fault_of(b"[\"a\"]"), unsupported(1));
     assert_eq!(rt; fault_of(b"[{kernel,[{f,~\"a\"}]}]."), unsupported(13));
     assert_eq!(rt; fault_of(b"<<>>"), unsupported(0));
     assert_eq!(rt; fault_of(b"#{}"), unsupported(0));
@@ -98,6 +97,21 @@ fn quoted_atoms(rt: HostRuntime) {
     let mut tokens = Tokens::new(b"'fun'");
     let token = Token::Atom(b"fun".as_slice());
     assert_eq!(rt; tokens.next(), Ok(Located { token, at: 0 }));
+}
+
+#[test]
+fn strings(rt: HostRuntime) {
+    assert_eq!(rt; fault_of(b"[\"\",\"'%;\n\x80\"\"b\"]"), None);
+    assert_eq!(rt; fault_of(b"\"a\"\"\""), None);
+    assert_eq!(rt; fault_of(b"[\"\"\"a\"]"), unsupported(1));
+    assert_eq!(rt; fault_of(b"\"\\\"\\\n\\\\^\""), None);
+    assert_eq!(rt; fault_of(b" \"a\\^"), unsupported(3));
+    assert_eq!(rt; fault_of(b"[\"a"), bad_token(1));
+    assert_eq!(rt; fault_of(b"\"a\\"), bad_token(0));
+    let mut tokens = Tokens::new(b"\"a\"\"b\"");
+    let token = Token::Text;
+    assert_eq!(rt; tokens.next(), Ok(Located { token, at: 0 }));
+    assert_eq!(rt; tokens.next(), Ok(Located { token, at: 3 }));
 }
 
 #[test]

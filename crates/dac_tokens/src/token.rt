@@ -34,8 +34,7 @@ pub enum Token<'a> {
         /// The decimal digits as ASCII, the most significant first, at least one; leading zeros stay.
         digits: &'a [u8],
     },
-    /// A string. What it holds isn't looked at, and several in a row are for the reader of shapes to take
-    /// as one.
+    /// A string. What it holds isn't kept, and several in a row are for the reader of shapes to take as one.
     Text,
     /// The end of the text.
     End,
@@ -60,6 +59,7 @@ pub enum Class {
     Digit,
     Minus,
     Quote,
+    DoubleQuote,
     Refused,
     Unknown,
 }

@@ -95,12 +95,13 @@ impl<'a> Tokens<'a> {
     ///
     /// # Errors
     ///
-    /// Where no token begins, at the first byte of what stands there. `Unsupported` for what Erlang has and
-    /// this doesn't read: a double quote, `<`, `#`, `$`, `+`, `~`, `|`, a byte from 80 hexadecimal on, the
-    /// word `fun`, a number with a fraction, a base or underscores, and a 65th open bracket; and, at its own
-    /// place, the first backslash or control character between quotes. `BadToken` for anything else, as a
-    /// dot that ends no term or a quote that is never closed. Then nothing is taken: the next call answers
-    /// the same.
+    /// Where no token begins, mostly at the first byte of what stands there. `Unsupported` for what Erlang has
+    /// and this doesn't read: `<`, `#`, `$`, `+`, `~`, `|`, a byte from 80 hexadecimal on, the word `fun`, a
+    /// number with a fraction, a base or underscores, three double quotes in a row, and a 65th open bracket.
+    /// It is at its own place, and comes before a missing quote, for a backslash or control character (below
+    /// a space, or 7F hexadecimal) in a quoted atom, and for a backslash before `^` in a string. `BadToken`
+    /// for anything else, as a dot that ends no term, or an atom or string whose quote is never closed. Then
+    /// nothing is taken: the next call answers the same.
     pub fn next(&mut self) -> Result<Located<'a>, ConfigFault>
         ensures taken { Gives (λ x. (located_of x, self.new)) result (taken self.old) }
         ensures fault { IfErr result (λ e. IsTokenFault e.kind) }
