@@ -9,3 +9,6 @@ pub mod Rising
 pub mod SaysLemmas
 pub mod Faults
 pub mod Gaining
+pub mod Words
+pub mod Written
+pub mod Spelled

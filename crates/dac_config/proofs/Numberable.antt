@@ -12,7 +12,7 @@ use Rattle.dac_config.proofs.Listed.{kept, IsFew, few_nodes, few_groups_met, few
 
 -- ---- what the grammar says: no group is empty
 
-abbrev Each : {A : Type 0} → (A → Type 0) → List A → Type 0
+abbrev pub Each : {A : Type 0} → (A → Type 0) → List A → Type 0
 Each P [] = Unit {0}
 Each P (x ∷ xs) = P x × Each P xs
 
