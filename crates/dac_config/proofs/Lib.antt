@@ -12,3 +12,8 @@ pub mod Gaining
 pub mod Words
 pub mod Written
 pub mod Spelled
+pub mod MetNames
+pub mod Quotable
+pub mod InOrder
+pub mod MayAgain
+pub mod Parts

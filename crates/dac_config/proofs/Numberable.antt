@@ -137,7 +137,7 @@ nodes_put_all : (w : Written) (params : List Param) → (put_all w params).nodes
 nodes_put_all w [] = refl
 nodes_put_all w (param ∷ params) = nodes_put_all (put w param) params ∙ nodes_put w param
 
-nodes_sections : (w : Written) (sections : List (List Param)) → (fold put_all w sections).nodes ≡ w.nodes
+pub nodes_sections : (w : Written) (sections : List (List Param)) → (fold put_all w sections).nodes ≡ w.nodes
 nodes_sections w [] = refl
 nodes_sections w (params ∷ sections) = nodes_sections (put_all w params) sections ∙ nodes_put_all w params
 

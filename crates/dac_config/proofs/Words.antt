@@ -95,15 +95,15 @@ bare_atom name h =
       no_fun = λ same. not_true (bytes_eq name (codes "fun")) inner.1 ((bytes_eq-Decides name (codes "fun")).1 same);
     }
 
-pub bare_quotable : (name : List ℕ) → is_bare name ≡ true → All IsQuotable name
-bare_quotable name h = all_quotable name (bare_atom name h).goes_on
+pub name_bytes_quotable : (bytes : List ℕ) → All IsNameByte bytes → All IsQuotable bytes
+name_bytes_quotable [] all = All-nil IsQuotable
+name_bytes_quotable (b ∷ bs) all = All-cons IsQuotable b bs (quotable b (All-head IsNameByte b bs all)) (name_bytes_quotable bs (All-tail IsNameByte b bs all))
   where
     quotable : (b : ℕ) → IsNameByte b → IsQuotable b
     quotable b h = grind (arith, nat_tests)
 
-    all_quotable : (bs : List ℕ) → All IsNameByte bs → All IsQuotable bs
-    all_quotable [] all = All-nil IsQuotable
-    all_quotable (b ∷ bs) all = All-cons IsQuotable b bs (quotable b (All-head IsNameByte b bs all)) (all_quotable bs (All-tail IsNameByte b bs all))
+pub bare_quotable : (name : List ℕ) → is_bare name ≡ true → All IsQuotable name
+bare_quotable name h = name_bytes_quotable name (bare_atom name h).goes_on
 
 -- ---- what follows a name or a number
 
