@@ -17,3 +17,4 @@ pub mod Quotable
 pub mod InOrder
 pub mod MayAgain
 pub mod Parts
+pub mod ReadAgain

@@ -40,10 +40,10 @@ Within names others = (name : List ℕ) → is_among name names ≡ true → is_
 abbrev Free : List (List ℕ) → List (List ℕ) → Type 0
 Free names listed = (name : List ℕ) → is_among name names ≡ true → is_among name listed ≡ false
 
-first_among : (name : List ℕ) (names : List (List ℕ)) → is_among name (name ∷ names) ≡ true
+pub first_among : (name : List ℕ) (names : List (List ℕ)) → is_among name (name ∷ names) ≡ true
 first_among name names = ap (λ b. b || is_among name names) (itself name)
 
-later_among : (name other : List ℕ) (names : List (List ℕ)) → is_among name names ≡ true → is_among name (other ∷ names) ≡ true
+pub later_among : (name other : List ℕ) (names : List (List ℕ)) → is_among name names ≡ true → is_among name (other ∷ names) ≡ true
 later_among name other names h = ap (λ b. bytes_eq other name || b) h ∙ or_true (bytes_eq other name)
 
 other_name : (name other : List ℕ) (names : List (List ℕ)) → is_among other names ≡ false → is_among name names ≡ true → bytes_eq other name ≡ false
@@ -99,7 +99,7 @@ module _ (nodes : List (List ℕ)) (few : length nodes ≤ 16) (short : (name : 
   -- ---- groups and applications in byte order
 
   module _ (rows : List NodeRow) (rows_apart : Apart (row_names rows)) (rows_within : Within (row_names rows) nodes) where
-    named_within : (group : List (List ℕ)) → Within (named_in group rows) nodes
+    pub named_within : (group : List (List ℕ)) → Within (named_in group rows) nodes
     named_within group = λ name h. rows_within name (right_holds (is_among name group) (is_among name (row_names rows)) (sym (among_filter (λ n. is_among n group) name rows) ∙ h))
 
     of_group : (group : List (List ℕ)) → Within (named_in group rows) group

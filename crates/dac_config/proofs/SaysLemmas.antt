@@ -69,7 +69,7 @@ members_from n (suc k) (node ∷ nodes) group =
       | false ↦ later
     ]
 
-group_numbered : (nodes : List NodeRow) (group : List (List ℕ)) → IsGroup nodes group (numbers_from 0 nodes group)
+pub group_numbered : (nodes : List NodeRow) (group : List (List ℕ)) → IsGroup nodes group (numbers_from 0 nodes group)
 group_numbered nodes group = record {
   rising = rising_numbers 0 nodes group;
   members = λ number. (let from : 0 + number ≡ number = omega arith in ap (λ k. list_any (λ m. eqb m k) (numbers_from 0 nodes group)) (sym from) ∙ members_from 0 number nodes group);
@@ -85,7 +85,7 @@ bytes_exact : (x y : List ℕ) → bytes_eq x y ≡ true → x ≡ y
 bytes_exact x y h = same_text x y (sym h)
 
 -- the first permission of a name, if there is one
-permission_found : (permissions : List Permission) (name : List ℕ) → IsPermitted permissions name (permitted permissions name)
+pub permission_found : (permissions : List Permission) (name : List ℕ) → IsPermitted permissions name (permitted permissions name)
 permission_found [] name = inr (refl, refl)
 permission_found (p ∷ ps) name = elim (bytes_eq p.name name) as (λ b. bytes_eq p.name name ≡ b → IsPermitted (p ∷ ps) name (cond b p.value (permitted ps name))) [
   | true ↦ λ h. inl ([], ps, (λ i. record { name = bytes_exact p.name name h i; value = p.value } ∷ ps), refl)
