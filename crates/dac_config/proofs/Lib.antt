@@ -18,3 +18,4 @@ pub mod InOrder
 pub mod MayAgain
 pub mod Parts
 pub mod ReadAgain
+pub mod SameAgain

@@ -103,7 +103,7 @@ same_map : {A : Type 0} (f : List ℕ → A) (name : A → List ℕ) → ((x : L
 same_map f name is [] = refl
 same_map f name is (x ∷ xs) = λ i. is x i ∷ same_map f name is xs i
 
-names_numbered : (w : Written) → map (λ node. node.name) (numbered_nodes w) ≡ in_byte_order w.nodes
+pub names_numbered : (w : Written) → map (λ node. node.name) (numbered_nodes w) ≡ in_byte_order w.nodes
 names_numbered w = same_map (numbered_node w) (λ node. node.name) (λ _. refl) (in_byte_order w.nodes)
 
 none : IsStrictlySortedBy name_cmp []
