@@ -1,10 +1,10 @@
 -- Applications and lists whose nodes are in byte order may stand where those of the text stood.
-use Rattle.std.proofs.Common.{◌≡◌, ℕ, suc, ◌+◌, ◌<◌, ◌≤◌, Bool, true, false, cond, ◌||◌, ◌&&◌, List, [], ◌∷◌, ◌++◌, length, map, refl, sym, ap, subst, ◌∙◌, arith}
+use Rattle.std.proofs.Common.{◌≡◌, ℕ, ◌<◌, ◌≤◌, Bool, true, false, cond, ◌||◌, ◌&&◌, List, [], ◌∷◌, ◌++◌, length, map, refl, sym, ap, ◌∙◌, arith}
 use Rattle.std.specs.Str.{bytes_eq}
 use Rattle.std.specs.Cmp.Lexicographic.{same_text}
 use Rattle.std.proofs.lemmas.List.{length-map, map_push}
 use Rattle.dac_shapes.specs.Written.{App}
-use Rattle.dac_shapes.specs.Limits.{Seen, is_among, AllMay, with_name, with_node, MayNode, with_nodes, MayNodes, with_groups, MayGroups, listing, with_app, MayApp, with_apps}
+use Rattle.dac_shapes.specs.Limits.{Seen, is_among, AllMay, with_node, MayNode, with_nodes, MayNodes, with_groups, listing, with_app, MayApp, with_apps}
 use Rattle.dac_config.specs.Table.{NodeRow}
 use Rattle.dac_config.proofs.Listed.{itself}
 use Rattle.dac_config.proofs.MetNames.{or_true, left_none, among_push, among_with, listed_nodes}

@@ -1,5 +1,5 @@
 -- Which names of nodes are met: those that are said.
-use Rattle.std.proofs.Common.{◌≡◌, ℕ, Bool, true, false, cond, eqb, ◌||◌, List, [], ◌∷◌, ◌++◌, length, refl, sym, ap, subst, ◌∙◌, append_assoc, append-nil, arith}
+use Rattle.std.proofs.Common.{◌≡◌, ℕ, Bool, true, false, cond, eqb, ◌||◌, List, [], ◌∷◌, ◌++◌, refl, sym, ap, ◌∙◌, append_assoc, append-nil, arith}
 use Rattle.std.specs.Str.{bytes_eq}
 use Rattle.std.specs.Cmp.Lexicographic.{same_text}
 use Rattle.std.specs.List.{list_any}
@@ -8,7 +8,7 @@ use Rattle.std.proofs.lemmas.List.Folds.{list_any-append}
 use Rattle.dac_shapes.specs.declared.param.ParamName.{ParamName}
 use Rattle.dac_shapes.specs.declared.param.ParamName.TheVariants as named
 use Rattle.dac_shapes.specs.Written.{App, Param, Distributed, Permissions, Mandatory, Optional, Timeout, Written, name_of, put, put_all, unsaid, written}
-use Rattle.dac_shapes.specs.Limits.{Seen, nothing, is_among, number_of, has_param, AllMay, steps, with_name, with_node, with_nodes, with_groups, listing, with_app, with_apps, with_param, MayParam, with_section, MaySection, MaySections, nodes_in}
+use Rattle.dac_shapes.specs.Limits.{Seen, nothing, is_among, number_of, has_param, AllMay, steps, with_name, with_node, with_nodes, with_groups, listing, with_app, with_apps, with_param, MayParam, with_section, MaySections, nodes_in}
 
 pub or_none : (a : Bool) → (a || false) ≡ a
 or_none true = refl

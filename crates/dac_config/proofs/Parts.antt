@@ -1,5 +1,5 @@
 -- What a text says, part by part.
-use Rattle.std.proofs.Common.{◌≡◌, ◌≢◌, ℕ, ◌<◌, ◌≤◌, Bool, true, false, cond, ◌||◌, List, [], ◌∷◌, ◌++◌, length, map, refl, sym, ap, subst, ◌∙◌, arith}
+use Rattle.std.proofs.Common.{◌≡◌, ◌≢◌, ℕ, ◌≤◌, Bool, true, false, cond, ◌||◌, List, [], ◌∷◌, ◌++◌, length, map, sym, ap, subst, ◌∙◌}
 use Rattle.std.specs.Prelude.{All, fold}
 use Rattle.std.specs.List.{list_any}
 use Rattle.std.specs.Str.{bytes_eq}
@@ -7,8 +7,8 @@ use Rattle.std.specs.Cmp.Lexicographic.{same_text}
 use Rattle.dac_tokens.specs.TokenGrammar.{IsQuotable}
 use Rattle.dac_shapes.specs.declared.draft.SyncWait.{SyncWait}
 use Rattle.dac_shapes.specs.declared.draft.SyncWait.TheVariants.{NoSync, Forever, Ms}
-use Rattle.dac_shapes.specs.Written.{App, Param, Distributed, Permissions, Mandatory, Optional, Timeout, Written, put, put_all, unsaid, written}
-use Rattle.dac_shapes.specs.Limits.{Seen, nothing, is_among, AllMay, with_name, with_node, MayNode, with_nodes, MayNodes, with_groups, MayGroups, listing, with_app, MayApp, with_apps, with_param, MayParam, MayValue, with_section, MaySection, MaySections, nodes_in}
+use Rattle.dac_shapes.specs.Written.{App, Param, Distributed, Permissions, Mandatory, Optional, Timeout, Written, put, put_all, unsaid}
+use Rattle.dac_shapes.specs.Limits.{Seen, nothing, is_among, AllMay, with_node, MayNode, with_nodes, MayNodes, with_groups, MayGroups, listing, with_app, MayApp, with_apps, with_param, MayParam, MayValue, with_section, MaySection, MaySections, nodes_in}
 use Rattle.dac_shapes.specs.Grammar.{IsTextOf}
 use Rattle.dac_config.proofs.Listed.{kept}
 use Rattle.dac_config.proofs.Numberable.{Each, nodes_sections, numberable}

@@ -1,30 +1,23 @@
 -- What a configuration says by names, in byte order, is what a text may say, and is the same configuration.
-use Rattle.std.proofs.Common.{◌≡◌, ◌≢◌, ℕ, zero, suc, ◌+◌, ◌<◌, ◌≤◌, Bool, true, false, cond, not, ◌||◌, ◌&&◌, List, [], ◌∷◌, ◌++◌, length, map, Option, Some, None, slice_get, refl, sym, ap, subst, ◌∙◌, arith}
-use Rattle.std.specs.Prelude.{All, filter, codes}
-use Rattle.std.specs.Ordering.{nat_cmp}
-use Rattle.std.specs.FinMap.{nat_cmp-IsAntisymmetric, slice_cmp-IsAntisymmetric}
-use Rattle.std.specs.List.{list_any, AllZip}
-use Rattle.std.specs.Str.{bytes_eq}
-use Rattle.std.specs.Cmp.Lexicographic.{same_text}
+use Rattle.std.proofs.Common.{◌≡◌, ℕ, ◌<◌, ◌≤◌, Bool, true, false, cond, not, ◌||◌, ◌&&◌, List, [], ◌∷◌, ◌++◌, length, map, refl, sym, ap, ◌∙◌, arith}
+use Rattle.std.specs.Prelude.{All, filter}
+use Rattle.std.specs.List.{list_any}
 use Rattle.std.proofs.lemmas.List.{length-map}
-use Rattle.std.proofs.lemmas.List.Elements.{All-nil, All-cons}
 use Rattle.dac_tokens.specs.TokenGrammar.{IsQuotable}
 use Rattle.dac_shapes.specs.declared.draft.SyncWait.{SyncWait}
 use Rattle.dac_shapes.specs.declared.draft.SyncWait.TheVariants.{NoSync, Forever, Ms}
-use Rattle.dac_shapes.specs.Written.{App, Permission, Param, Distributed, Permissions, Mandatory, Optional, Timeout, Written, put_all, unsaid, written}
-use Rattle.dac_shapes.specs.Limits.{Seen, nothing, is_among, AllMay, with_app, MayApp, with_permission, MayPermission, with_param, MayParam, MaySections, nodes_in}
-use Rattle.dac_config.specs.Table.{NodeRow, AppRow, Table}
+use Rattle.dac_shapes.specs.Written.{App, Permission, Param, Distributed, Permissions, Mandatory, Optional, Written}
+use Rattle.dac_shapes.specs.Limits.{Seen, nothing, is_among, AllMay, with_app, MayApp, with_permission, MayPermission, with_param, MayParam, MaySections}
+use Rattle.dac_config.specs.Table.{NodeRow}
 use Rattle.dac_config.specs.Numbering.{numbers_from, numbered_node, numbered_nodes, permitted, numbered_app, numbered, in_byte_order}
-use Rattle.dac_config.specs.Says.{is_named, IsGroup, IsPermitted, IsApp, IsTableOf}
-use Rattle.dac_config.proofs.Listed.{itself}
 use Rattle.dac_config.proofs.Numberable.{Each}
-use Rattle.dac_config.proofs.SaysLemmas.{group_numbered, permission_found, numbered_says}
+use Rattle.dac_config.proofs.SaysLemmas.{numbered_says}
 use Rattle.dac_config.proofs.Written.{CanSpellGroup, CanSpellApp, CanSpell}
 use Rattle.dac_config.proofs.Spelled.{name_at, written_app, ban, written_bans, mandatory_names, optional_names, wait_params, params_of}
-use Rattle.dac_config.proofs.MetNames.{or_none, or_true, in_app, is_said, nodes_said}
+use Rattle.dac_config.proofs.MetNames.{or_true, in_app, is_said}
 use Rattle.dac_config.proofs.InOrder.{row_names, named_in, app_in_order, group_names, among_filter, Apart, apart_rising}
-use Rattle.dac_config.proofs.MayAgain.{either, Within, first_among, later_among, Room, may_names, may_apps, named_within}
-use Rattle.dac_config.proofs.Parts.{any_each, each_push, Parts, Known, said_quotable}
+use Rattle.dac_config.proofs.MayAgain.{Within, first_among, later_among, may_names, may_apps, named_within}
+use Rattle.dac_config.proofs.Parts.{Known, said_quotable}
 
 -- ---- what is written again, from what was written
 

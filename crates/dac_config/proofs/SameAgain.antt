@@ -16,7 +16,7 @@ use Rattle.dac_shapes.specs.Limits.{is_among, nodes_in}
 use Rattle.dac_config.specs.Table.{NodeRow, AppRow, Table}
 use Rattle.dac_config.specs.Canonical.{canonical_text}
 use Rattle.dac_config.specs.Numbering.{numbers_from, numbered_node, numbered_nodes, permitted, numbered_app, numbered, in_byte_order}
-use Rattle.dac_config.specs.Says.{is_named, IsGroup, IsPermitted, IsApp, IsTableOf, IsConfigOf}
+use Rattle.dac_config.specs.Says.{is_named, IsGroup, IsPermitted, IsApp, IsTableOf, IsConfigOf, IsSaid, By}
 use Rattle.dac_config.proofs.SaysLemmas.{group_numbered, permission_found, names_numbered, numbered_says, table_same}
 use Rattle.dac_config.proofs.Words.{spelling_of, spelled_words, located, words_read}
 use Rattle.dac_config.proofs.Numberable.{Each}
@@ -129,8 +129,7 @@ apps_again : (w : Written) (apps : List App) → ((name : List ℕ) → is_among
 apps_again w [] inside = tt
 apps_again w (app ∷ apps) inside =
     let here = inside app.name (first_among app.name (map (λ a. a.name) apps)) in
-    let same : permitted (bans_again w) app.name ≡ permitted w.permissions app.name = bans_say w.permissions (numbered_nodes w) w.apps app.name ∙ or_not (permitted w.permissions app.name) (is_among app.name (map (λ a. a.name) w.apps)) here in
-    (
+    let same : permitted (bans_again w) app.name ≡ permitted w.permissions app.name = bans_say w.permissions (numbered_nodes w) w.apps app.name ∙ or_not (permitted w.permissions app.name) (is_among app.name (map (λ a. a.name) w.apps)) here in (
       record { name = refl; timeout = refl; groups = groups_again (numbered_nodes w) app.groups; permission = subst (IsPermitted (bans_again w) app.name) same (permission_found (bans_again w) app.name) },
       apps_again w apps (λ name h. inside name (later_among name app.name (map (λ a. a.name) apps) h)),
     )
@@ -190,7 +189,7 @@ numbered_again w know short =
     }
 
 -- a configuration that some text says is said by its canonical text
-pub canonical_says : (text : List ℕ) (table : Table) → IsConfigOf text table → length (canonical_text table) ≤ 65536 → IsConfigOf (canonical_text table) table
-canonical_says text table is =
+pub canonical_says : (table : Table) → IsSaid table → length (canonical_text table) ≤ 65536 → IsConfigOf (canonical_text table) table
+canonical_says table (By text is) =
     let Again : Table → Type 0 = λ t. length (canonical_text t) ≤ 65536 → IsConfigOf (canonical_text t) t in
     subst Again (sym (table_same is.written table is.numbers)) (numbered_again is.written (known text is.written is.spelled))

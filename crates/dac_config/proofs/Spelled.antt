@@ -1,5 +1,5 @@
 -- The canonical text is the spelling of what a configuration says by names.
-use Rattle.std.proofs.Common.{◌≡◌, ℕ, Bool, true, false, not, List, [], ◌∷◌, ◌++◌, map, refl, sym, ap, subst, ◌∙◌, append_assoc, append-nil, option_map, slice_get}
+use Rattle.std.proofs.Common.{◌≡◌, ℕ, false, not, List, [], ◌∷◌, ◌++◌, map, refl, sym, ap, ◌∙◌, append_assoc, append-nil, option_map, slice_get}
 use Rattle.std.specs.Prelude.{filter, unwrap_or, codes}
 use Rattle.std.specs.Fmt.{decimal}
 use Rattle.dac_tokens.specs.declared.token.Symbol.TheVariants.{OpenList, CloseList, OpenTuple, CloseTuple, Comma, FullStop}
@@ -9,7 +9,7 @@ use Rattle.dac_shapes.specs.declared.draft.SyncWait.TheVariants.{NoSync, Forever
 use Rattle.dac_shapes.specs.Written.{App, Permission, Param, Distributed, Permissions, Mandatory, Optional, Timeout}
 use Rattle.dac_shapes.specs.Grammar.{between}
 use Rattle.dac_config.specs.Table.{NodeRow, AppRow, Table}
-use Rattle.dac_config.specs.Canonical.{name_text, parted_behind, parted, node_text, group_text, app_text, ban_text, apps_text, bans_text, mandatory_text, optional_text, wait_text, rest_text, canonical_text}
+use Rattle.dac_config.specs.Canonical.{name_text, parted_behind, parted, node_text, group_text, app_text, ban_text, apps_text, bans_text, mandatory_text, optional_text, wait_text, canonical_text}
 use Rattle.dac_config.proofs.Words.{spelling_of, spelled_words}
 use Rattle.dac_config.proofs.Written.{parted_words_behind, parted_words, listed, pair, node_words, group_words, app_words, permission_words, wait_words, value_words, param_words, section_words, file_words}
 

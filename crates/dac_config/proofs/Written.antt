@@ -1,21 +1,18 @@
 -- The words of what is written: they are of the grammar, and can stand one after another.
-use Rattle.std.proofs.Common.{◌≡◌, ◌≢◌, inl, inr, ℕ, ◌+◌, ◌-◌, ◌*◌, ◌/◌, ◌%◌, ◌<◌, ◌≤◌, Bool, true, false, List, [], ◌∷◌, ◌++◌, length, map, refl, sym, ap, subst, ◌∙◌, arith, append_assoc, append-nil}
-use Rattle.std.specs.Prelude.{All, fold, codes}
+use Rattle.std.proofs.Common.{◌≡◌, inl, inr, ℕ, ◌+◌, ◌-◌, ◌*◌, ◌/◌, ◌%◌, ◌<◌, ◌≤◌, Bool, true, false, List, [], ◌∷◌, ◌++◌, length, map, refl, sym, subst, arith, append_assoc, append-nil}
+use Rattle.std.specs.Prelude.{All, codes}
 use Rattle.std.specs.Fmt.{decimal}
 use Rattle.std.specs.Char.{IsAsciiDigit}
-use Rattle.std.proofs.lemmas.Bool.Decides.{nat_tests}
 use Rattle.std.proofs.lemmas.Fmt.{decimal_by_steps}
 use Rattle.std.proofs.lemmas.List.Elements.{All-nil, All-cons, All-head, All-tail}
-use Rattle.dac_tokens.specs.declared.token.Symbol.{Symbol}
 use Rattle.dac_tokens.specs.declared.token.Symbol.TheVariants.{OpenList, CloseList, OpenTuple, CloseTuple, Comma, FullStop}
 use Rattle.dac_tokens.specs.Words.{Word, Mark, Name, Number}
-use Rattle.dac_tokens.specs.TokenGrammar.{Begins, IsQuotable, IsDigits}
+use Rattle.dac_tokens.specs.TokenGrammar.{IsQuotable, IsDigits}
 use Rattle.dac_shapes.specs.declared.draft.SyncWait.{SyncWait}
 use Rattle.dac_shapes.specs.declared.draft.SyncWait.TheVariants.{NoSync, Forever, Ms}
 use Rattle.dac_shapes.specs.Written.{App, Permission, Param, Distributed, Permissions, Mandatory, Optional, Timeout, name_of, spelled}
 use Rattle.dac_shapes.specs.Shape.{value_from}
 use Rattle.dac_shapes.specs.Grammar.{Parted, between, IsListOf, IsNode, IsItem, IsMs, IsApp, IsFlag, IsPermission, IsWait, IsParam, IsSection, IsFile}
-use Rattle.dac_config.specs.Canonical.{is_bare}
 use Rattle.dac_config.proofs.Words.{BeginsApart, Stand, bare_quotable}
 use Rattle.dac_config.proofs.Numberable.{Each}
 
