@@ -8,3 +8,13 @@ pub mod Rising
 pub mod SaysLemmas
 pub mod Faults
 pub mod Gaining
+pub mod Words
+pub mod Written
+pub mod Spelled
+pub mod MetNames
+pub mod Quotable
+pub mod InOrder
+pub mod MayAgain
+pub mod Parts
+pub mod ReadAgain
+pub mod SameAgain

@@ -1,11 +1,16 @@
 -- Names by their bytes, wherever they lie.
-use Rattle.std.proofs.Common.{◌≡◌, ℕ, eqb, ◌||◌, List, [], ◌∷◌, refl, ap, arith}
+use Rattle.std.proofs.Common.{◌≡◌, ℕ, true, eqb, ◌||◌, List, [], ◌∷◌, refl, ap, arith}
 use Rattle.std.proofs.lemmas.Bool.Decides.{nat_tests}
 use Rattle.std.specs.Str.{bytes_eq}
 use Rattle.std.specs.List.{list_any}
 use Rattle.std.specs.Borrow.{Bor}
 use Rattle.dac_shapes.specs.Limits.{is_among}
 use Rattle.dac_shapes.specs.Views.{names_of}
+
+-- a name is itself
+pub itself : (name : List ℕ) → bytes_eq name name ≡ true
+itself [] = refl
+itself (x ∷ xs) = let head : eqb x x ≡ true = grind (arith, nat_tests) in let tail = itself xs in rw (head, tail) refl
 
 pub among_names : (name : List ℕ) (names : List (Bor (List ℕ))) → is_among name (names_of names) ≡ list_any (λ other. bytes_eq other.now name) names
 among_names name [] = refl

@@ -8,6 +8,11 @@ use Rattle.dac_shapes.specs.Limits.{is_among}
 use Rattle.dac_shapes.specs.Within.{IsWithinLimits}
 use Rattle.dac_config.specs.Numbering.{AllNew, IsNumberable}
 
+-- each of a list, one after another
+abbrev pub Each : {A : Type 0} → (A → Type 0) → List A → Type 0
+Each P [] = Unit {0}
+Each P (x ∷ xs) = P x × Each P xs
+
 -- none of the names is among those before
 abbrev AreApart : List (List ℕ) → List (List ℕ) → Type 0
 AreApart before names = AllByRecursion (λ name. is_among name before ≡ false) names

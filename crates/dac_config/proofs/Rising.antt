@@ -83,7 +83,7 @@ module _ {K : Type 0} {R : K → K → Ordering} (o : IsTotalOrder R) (same : Is
         by false h = refl
         by true h = let tied : Less ≡ Equal = sym p ∙ ap (R x) (exact y x h) ∙ tied_itself o x in absurd cc
 
-    absent : (x : K) (ks : List K) → AllByRecursion (λ k. R x k ≡ Less) ks → has ks x ≡ false
+    pub absent : (x : K) (ks : List K) → AllByRecursion (λ k. R x k ≡ Less) ks → has ks x ≡ false
     absent x [] h = refl
     absent x (k ∷ ks) h = ap (λ b. b || has ks x) (not_less x k h.0) ∙ absent x ks h.1
 

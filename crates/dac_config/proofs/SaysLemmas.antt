@@ -17,11 +17,8 @@ use Rattle.dac_shapes.specs.Limits.{is_among}
 use Rattle.dac_config.specs.Table.{NodeRow, AppRow, Table}
 use Rattle.dac_config.specs.Numbering.{name_cmp, in_byte_order, numbers_from, numbered_node, numbered_nodes, permitted, numbered_app, numbered}
 use Rattle.dac_config.specs.Says.{is_named, IsGroup, IsUnmentioned, IsPermitted, IsApp, IsTableOf}
+use Rattle.dac_config.proofs.Names.{itself}
 use Rattle.dac_config.proofs.Rising.{rising_all, any_all, same_rising}
-
-itself : (name : List ℕ) → bytes_eq name name ≡ true
-itself [] = refl
-itself (x ∷ xs) = let head : eqb x x ≡ true = grind (arith, nat_tests) in let tail = itself xs in rw (head, tail) refl
 
 -- ---- the numbers of a group
 
@@ -72,7 +69,7 @@ members_from n (suc k) (node ∷ nodes) group =
       | false ↦ later
     ]
 
-group_numbered : (nodes : List NodeRow) (group : List (List ℕ)) → IsGroup nodes group (numbers_from 0 nodes group)
+pub group_numbered : (nodes : List NodeRow) (group : List (List ℕ)) → IsGroup nodes group (numbers_from 0 nodes group)
 group_numbered nodes group = record {
   rising = rising_numbers 0 nodes group;
   members = λ number. (let from : 0 + number ≡ number = omega arith in ap (λ k. list_any (λ m. eqb m k) (numbers_from 0 nodes group)) (sym from) ∙ members_from 0 number nodes group);
@@ -88,7 +85,7 @@ bytes_exact : (x y : List ℕ) → bytes_eq x y ≡ true → x ≡ y
 bytes_exact x y h = same_text x y (sym h)
 
 -- the first permission of a name, if there is one
-permission_found : (permissions : List Permission) (name : List ℕ) → IsPermitted permissions name (permitted permissions name)
+pub permission_found : (permissions : List Permission) (name : List ℕ) → IsPermitted permissions name (permitted permissions name)
 permission_found [] name = inr (refl, refl)
 permission_found (p ∷ ps) name = elim (bytes_eq p.name name) as (λ b. bytes_eq p.name name ≡ b → IsPermitted (p ∷ ps) name (cond b p.value (permitted ps name))) [
   | true ↦ λ h. inl ([], ps, (λ i. record { name = bytes_exact p.name name h i; value = p.value } ∷ ps), refl)
@@ -106,7 +103,7 @@ same_map : {A : Type 0} (f : List ℕ → A) (name : A → List ℕ) → ((x : L
 same_map f name is [] = refl
 same_map f name is (x ∷ xs) = λ i. is x i ∷ same_map f name is xs i
 
-names_numbered : (w : Written) → map (λ node. node.name) (numbered_nodes w) ≡ in_byte_order w.nodes
+pub names_numbered : (w : Written) → map (λ node. node.name) (numbered_nodes w) ≡ in_byte_order w.nodes
 names_numbered w = same_map (numbered_node w) (λ node. node.name) (λ _. refl) (in_byte_order w.nodes)
 
 none : IsStrictlySortedBy name_cmp []

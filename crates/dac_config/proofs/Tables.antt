@@ -1,6 +1,6 @@
 -- What the tables that are kept say at a number and of a name.
 use Rattle.std.proofs.Common.{◌≡◌, ℕ, suc, ◌+◌, ◌<◌, ◌≤◌, drop, Bool, true, false, cond, eqb, not, List, [], ◌∷◌, length, map, Option, Some, None, option_map, slice_get, refl, sym, ap, subst, ◌∙◌, arith}
-use Rattle.std.specs.Prelude.{position, filter, All}
+use Rattle.std.specs.Prelude.{position, filter, unwrap_or, All}
 use Rattle.std.specs.Global.{Vec}
 use Rattle.std.specs.List.{prefix_len, list_any}
 use Rattle.std.specs.Map.{keys_of, values_of}
@@ -13,7 +13,8 @@ use Rattle.dac_base.specs.declared.AppId.{AppId}
 use Rattle.dac_config.specs.declared.config.App.{App}
 use Rattle.dac_config.specs.declared.config.Node.{Node}
 use Rattle.dac_config.specs.declared.config.Config.TheInside.{Inside}
-use Rattle.dac_config.specs.Table.{AppRow, node_named, app_named, group_of, timeout_of, default_permission, IsTable}
+use Rattle.dac_config.specs.Table.{AppRow, app_name, node_named, app_named, group_of, timeout_of, default_permission}
+use Rattle.dac_config.specs.Says.{IsTable}
 use Rattle.dac_config.specs.ConfigView.{node_row, app_row, table_of, HasMembersBelow}
 
 prefix_len-map : {A B : Type 0} (f : A → B) (p : B → Bool) (xs : List A) → prefix_len p (map f xs) ≡ prefix_len (λ x. p (f x)) xs
@@ -42,6 +43,10 @@ app_named-kept name c =
     ap (option_map (λ place. record { 0 = place }))
     (position-map app_row (λ row. bytes_eq name row.name) c.apps.entries
     ∙ sym (position-map (λ entry. entry.0) (λ key. bytes_eq name key.items) c.apps.entries))
+
+-- the name of the application at a place
+pub app_name-kept : (c : Inside) (id : AppId) (entry : Vec ℕ × App) → slice_get c.apps.entries id.0 ≡ Some entry → app_name (table_of c) id ≡ entry.0.items
+app_name-kept c id entry e = ap (λ (row : Option AppRow). unwrap_or (option_map (λ r. r.name) row) []) (slice_get-map app_row c.apps.entries id.0 ∙ ap (option_map app_row) e)
 
 -- the row of an application, from what the map has at its place
 pub row_at : (es : List (Vec ℕ × App)) (i : ℕ) (app : App) → slice_get (values_of es) i ≡ Some app → (name : Vec ℕ) × (slice_get (map app_row es) i ≡ Some (app_row (name, app)))

@@ -6,7 +6,8 @@ use Rattle.dac_config.specs.declared.config.Node.{Node}
 use Rattle.dac_config.specs.declared.config.Config.TheInside.{Inside}
 use Rattle.dac_config.specs.declared.config.text.SyncList.{SyncList}
 use Rattle.dac_config.specs.declared.config.text.SyncList.TheVariants.{Mandatory, Optional}
-use Rattle.dac_config.specs.Table.{NodeRow, AppRow, Table, IsTable}
+use Rattle.dac_config.specs.Table.{NodeRow, AppRow, Table}
+use Rattle.dac_config.specs.Says.{IsTable}
 
 abbrev pub node_row : Node → NodeRow
 node_row node = record { name = node.name.items; mandatory = node.mandatory; optional = node.optional }

@@ -1,12 +1,12 @@
 -- What it means that a text says a configuration, whatever a reader does.
-use Rattle.std.specs.Prelude.{◌≡◌, ◌⊎◌, ℕ, Bool, true, false, List, ◌∷◌, ◌++◌, map, Option, None, Some, slice_get, ◌==◌, All}
+use Rattle.std.specs.Prelude.{◌≡◌, ◌⊎◌, ℕ, ◌<◌, ◌≤◌, Bool, true, false, List, length, ◌∷◌, ◌++◌, map, Option, None, Some, slice_get, ◌==◌, All}
 use Rattle.std.specs.Ordering.{nat_cmp}
 use Rattle.std.specs.List.{list_any, AllZip}
 use Rattle.std.specs.List.Sorted.{IsStrictlySortedBy}
 use Rattle.dac_shapes.specs.Written.{App, Permission, Written}
 use Rattle.dac_shapes.specs.Limits.{is_among}
 use Rattle.dac_shapes.specs.Grammar.{IsTextOf}
-use Rattle.dac_config.specs.Table.{NodeRow, AppRow, Table}
+use Rattle.dac_config.specs.Table.{NodeRow, AppRow, Table, node_count, app_count}
 use Rattle.dac_config.specs.Numbering.{name_cmp}
 
 -- whether there is a node, and the group names it
@@ -51,3 +51,15 @@ pub record IsConfigOf (text : List ℕ) (table : Table) : Type 0 where
   pub written : Written
   pub spelled : IsTextOf text written
   pub numbers : IsTableOf written table
+
+-- some text says this configuration
+pub data IsSaid (table : Table) : Type 0 where
+  By : (text : List ℕ) → IsConfigOf text table → IsSaid table
+
+-- what holds of each configuration: its limits, that its groups are of nodes that there are, and that some text says it
+pub record IsTable (table : Table) : Type 0 where
+  pub nodes : node_count table ≤ 16
+  pub apps : app_count table ≤ 64
+  pub groups : All (λ app. length app.groups ≤ 16) table.apps
+  pub members : All (λ app. All (λ group. All (λ number. number < node_count table) group) app.groups) table.apps
+  pub said : IsSaid table

@@ -1,5 +1,5 @@
 -- What a configuration says: nodes and applications by their numbers, and the wait of a starting node.
-use Rattle.std.specs.Prelude.{ℕ, ◌<◌, ◌≤◌, Bool, true, false, List, [], length, position, option_map, Option, unwrap_or, slice_get, ◌==◌, All}
+use Rattle.std.specs.Prelude.{ℕ, Bool, true, false, List, [], length, position, option_map, Option, unwrap_or, slice_get, ◌==◌}
 use Rattle.std.specs.Option.{option_and_then}
 use Rattle.std.specs.List.{list_any}
 use Rattle.std.specs.Str.{bytes_eq}
@@ -75,10 +75,3 @@ is_mandatory table node = unwrap_or (option_map (λ row. row.mandatory) (slice_g
 -- whether a starting node waits for this one as optional
 abbrev pub is_optional : Table → NodeId → Bool
 is_optional table node = unwrap_or (option_map (λ row. row.optional) (slice_get table.nodes node.0)) false
-
--- what holds of each configuration: its limits, and that its groups are of nodes that there are
-pub record IsTable (table : Table) : Type 0 where
-  pub nodes : node_count table ≤ 16
-  pub apps : app_count table ≤ 64
-  pub groups : All (λ app. length app.groups ≤ 16) table.apps
-  pub members : All (λ app. All (λ group. All (λ number. number < node_count table) group) app.groups) table.apps

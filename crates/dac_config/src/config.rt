@@ -10,6 +10,7 @@ mod text;
 use crate::SyncWait;
 use crate::mark::Mark;
 use dac_base::{AppId, NoMemory, NodeId};
+use dac_shapes::laws::limits_in_text_order;
 use indexmap::IndexMap;
 use std::marker::Model;
 use text::put_config;
@@ -70,6 +71,7 @@ fn place_of_group(groups: &[Vec<u8>], node: u8) -> Option<usize>
 impl Config {
     ghost use Rattle.dac_config.specs.Table.{node_name, app_name, node_named, app_named, group_of, timeout_of, default_permission, is_mandatory, is_optional};
     ghost use Rattle.dac_config.specs.Canonical.{canonical_text};
+    ghost use Rattle.dac_config.specs.Says.{IsConfigOf};
     ghost use Rattle.dac_config.specs.Mark.{fnv1a};
 
     /// How many nodes there are.
@@ -176,10 +178,14 @@ impl Config {
     }
 
     /// The one text of this configuration: a line without spaces that reads as this configuration, with every
-    /// timeout, and with the nodes of a tuple and those to wait for in the order of their names.
+    /// timeout, and with the nodes of a tuple and those to wait for in the order of their names. It is longer than
+    /// a text that is read may be where a configuration has many long names.
     pub fn canonical_text(&self) -> Result<Vec<u8>, NoMemory>
-        ensures { IfOk result (λ text. text.items ≡ canonical_text self.now) }
+        ensures bytes { IfOk result (λ text. text.items ≡ canonical_text self.now) }
+        // What is written is read again as an equal configuration, where it isn't too long to be read.
+        ensures read_again { IfOk result (λ text. length text.items ≤ 65536 → IsConfigOf text.items self.now) }
     {
+        limits_in_text_order();
         let mut text = Vec::new(*self.nodes.allocator());
         put_config(&mut text, &self.nodes, &self.apps, self.sync_wait)?;
         Ok(text)

@@ -1,7 +1,8 @@
 //! Numbers in place of names.
-ghost use Rattle.std.specs.Prelude.{◌≡◌, ◌≤◌, [], map, length, IfOk};
+ghost use Rattle.std.specs.Prelude.{◌≡◌, ◌≤◌, ℕ, List, [], map, length, IfOk};
 ghost use Rattle.dac_shapes.specs.Views.{names_of, groups_of, app_of, apps_of, permissions_of, draft_of};
 ghost use Rattle.dac_shapes.specs.Limits.{is_among};
+ghost use Rattle.dac_shapes.specs.Grammar.{IsTextOf};
 ghost use Rattle.dac_config.specs.Numbering.{in_byte_order, numbers_from, numbered_node, numbered_nodes, permitted, numbered_app, numbered, AllNew, IsNumberable};
 ghost use Rattle.dac_config.specs.ConfigView.{node_row, app_row};
 
@@ -143,7 +144,8 @@ fn apps_of(
 impl Config {
     /// What a text says, with numbers in place of names.
     pub(crate) fn of_draft(alloc: Global, draft: &Draft<'_>) -> Result<Config, NoMemory>
-        requires { IsNumberable (draft_of draft.now) }
+        requires numberable { IsNumberable (draft_of draft.now) }
+        requires said { (text : List ℕ) × IsTextOf text (draft_of draft.now) }
         ensures { IfOk result (λ config. config ≡ numbered (draft_of draft.now)) }
     {
         let nodes = nodes_of(alloc, draft)?;

@@ -20,8 +20,11 @@ returns-in_err-draft-clause-exact c =
     let p = err_from_is_err_and c.from_residual.result c.from_residual.ensures.1 in
     rw (p.1, p.2) (fails_then _ (draft_at c.args.text.now) (λ draft. Ok (numbered draft)) c.in_err-draft.ensures.exact)
 
-pub of_draft-requires : goal.of_draft-requires
-of_draft-requires c = numberable (draft_of c.in_ok-draft.draft) c.in_ok-draft.ensures.limits
+pub of_draft-requires-clause-said : goal.of_draft-requires-clause-said
+of_draft-requires-clause-said c = (c.args.text.now, c.in_ok-draft.ensures.found)
+
+pub of_draft-requires-clause-numberable : goal.of_draft-requires-clause-numberable
+of_draft-requires-clause-numberable c = numberable (draft_of c.in_ok-draft.draft) c.in_ok-draft.ensures.limits
 
 pub returns-clause-found : goal.returns-clause-found
 returns-clause-found c = record {

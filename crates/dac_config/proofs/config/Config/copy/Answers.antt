@@ -1,5 +1,5 @@
 use Rattle.std.proofs.Common.{refl, sym, ◌∙◌, subst}
-use Rattle.dac_config.specs.Table.{IsTable}
+use Rattle.dac_config.specs.Says.{IsTable}
 use Rattle.dac_config.proofs.Copies.{table_copied}
 use Rattle.dac_config.proofs.config.Config.copy.Goals as goal
 
