@@ -8,7 +8,7 @@ pub struct Case {
 }
 
 /// All of them.
-pub const CASES: [Case; 18] = [
+pub const CASES: [Case; 20] = [
     // The example of the manual, with comments as people write them.
     Case {
         text: r#"%% The example of OTP's design principles, with comments as people write them.
@@ -187,5 +187,25 @@ pub const CASES: [Case; 18] = [
 "#,
         status: 1,
         printed: "config fault 4 BadShape at 43\n",
+    },
+    // The example again, with a comment and its tuple the other way round.
+    Case {
+        text: r#"%% cp1.config
+[{kernel,
+[{distributed, [{myapp, 5000, [cp1@cave, {cp3@cave, cp2@cave}]}]},
+{sync_nodes_mandatory, [cp2@cave, cp3@cave]},
+{sync_nodes_timeout, 5000}
+]
+}
+].
+"#,
+        status: 0,
+        printed: "[{kernel,[{distributed,[{myapp,5000,[cp1@cave,{cp2@cave,cp3@cave}]}]},{permissions,[]},{sync_nodes_mandatory,[cp2@cave,cp3@cave]},{sync_nodes_optional,[]},{sync_nodes_timeout,5000}]}].\n",
+    },
+    // A tuple of one node, a name between quotes, and a section with a string.
+    Case {
+        text: r#"[{sasl,[{f,"x.log"}]},{kernel,[{distributed,[{myapp,['n-1@h.example',{a@h}]}]}]}]."#,
+        status: 0,
+        printed: "[{kernel,[{distributed,[{myapp,0,['n-1@h.example',a@h]}]},{permissions,[]},{sync_nodes_mandatory,[]},{sync_nodes_optional,[]}]}].\n",
     },
 ];
