@@ -150,6 +150,42 @@ fn names_faults_of_configurations(rt: HostRuntime) -> Result<(), Fail> {
     Ok(())
 }
 
+const SMALL: &[u8] = b"{kernel,[{distributed,[{a,[b@h]}]}]}].";
+
+/// A configuration with a list in so many lists in front.
+fn nested(alloc: Global, lists: usize) -> Result<Vec<u8>, Fail> {
+    let mut text = Vec::from_slice(alloc, b"[{x,")?;
+    text.extend_from_slice(&vec![in alloc; b'['; lists]?)?;
+    text.extend_from_slice(&vec![in alloc; b']'; lists]?)?;
+    text.extend_from_slice(b"},")?;
+    text.extend_from_slice(SMALL)?;
+    Ok(text)
+}
+
+#[test]
+fn takes_brackets_that_are_64_deep(rt: HostRuntime) -> Result<(), Fail> {
+    let (status, _) = checked(&rt, &nested(rt.alloc(), 62)?);
+    assert_eq!(rt; status, 0);
+    let (_, output) = checked(&rt, &nested(rt.alloc(), 63)?);
+    assert_eq!(rt;
+        output.as_slice(),
+        b"config fault 3 Unsupported at 66\n".as_slice()
+    );
+    Ok(())
+}
+
+#[test]
+fn takes_the_longest_text(rt: HostRuntime) -> Result<(), Fail> {
+    let alloc = rt.alloc();
+    let mut text = vec![in alloc; b' '; 65_497]?;
+    text.push(b'[')?;
+    text.extend_from_slice(SMALL)?;
+    assert_eq!(rt; text.len(), 65_536);
+    let (status, _) = checked(&rt, &text);
+    assert_eq!(rt; status, 0);
+    Ok(())
+}
+
 #[test]
 fn plays_the_first_path(rt: HostRuntime) -> Result<(), Fail> {
     let script =
@@ -310,6 +346,36 @@ fn refused(alloc: Global, words: &[&str]) -> Result<Option<(String, bool)>, Fail
             Ok(Some((text, error.use_stderr())))
         }
     }
+}
+
+#[test]
+fn says_what_is_wrong_with_words(rt: HostRuntime) -> Result<(), Fail> {
+    let alloc = rt.alloc();
+    let none = refused(alloc, &["distac"])?.ok_or("accepted")?;
+    assert_eq!(rt;
+        none.0.as_str(),
+        "error: 'distac' requires a subcommand but one was not provided\n  [subcommands: check, sim, help]\n\nUsage: distac <COMMAND>\n\nFor more information, try '--help'.\n"
+    );
+    assert!(rt; none.1);
+    let more = refused(alloc, &["distac", "check", "x"])?.ok_or("accepted")?;
+    assert_eq!(rt;
+        more.0.as_str(),
+        "error: unexpected argument 'x' found\n\nUsage: distac check\n\nFor more information, try '--help'.\n"
+    );
+    assert!(rt; more.1);
+    let option = refused(alloc, &["distac", "sim", "--fast"])?.ok_or("accepted")?;
+    assert_eq!(rt;
+        option.0.as_str(),
+        "error: unexpected argument '--fast' found\n\nUsage: distac sim\n\nFor more information, try '--help'.\n"
+    );
+    assert!(rt; option.1);
+    let help = refused(alloc, &["distac", "check", "--help"])?.ok_or("accepted")?;
+    assert_eq!(rt;
+        help.0.as_str(),
+        "Checks a configuration: standard input is its text, and its canonical text is printed\n\nUsage: distac check\n\nOptions:\n  -h, --help  Print help\n"
+    );
+    assert!(rt; !help.1);
+    Ok(())
 }
 
 #[test]
