@@ -178,8 +178,8 @@ impl Config {
     }
 
     /// The one text of this configuration: a line without spaces that reads as this configuration, with every
-    /// timeout, and with the nodes of a tuple and those to wait for in the order of their names. It is longer than
-    /// a text that is read may be where a configuration has many long names.
+    /// timeout, and with the nodes of a tuple and those to wait for in the order of their names. It can
+    /// have more bytes than the text that was read, and then be too long to be read itself.
     pub fn canonical_text(&self) -> Result<Vec<u8>, NoMemory>
         ensures bytes { IfOk result (λ text. text.items ≡ canonical_text self.now) }
         // What is written is read again as an equal configuration, where it isn't too long to be read.

@@ -4,6 +4,9 @@ use std::test::Fail;
 const EXAMPLE: &[u8] =
     b"[{kernel,\n [{distributed, [{myapp, 5000, [cp1@cave, {cp2@cave, cp3@cave}]}]},\n {sync_nodes_mandatory, [cp2@cave, cp3@cave]},\n {sync_nodes_timeout, 5000}\n ]\n }\n].";
 
+const EXAMPLE_WITH_A_COMMENT: &[u8] =
+    b"%% cp1.config\n[{kernel,\n [{distributed, [{myapp, 5000, [cp1@cave, {cp3@cave, cp2@cave}]}]},\n {sync_nodes_mandatory, [cp2@cave, cp3@cave]},\n {sync_nodes_timeout, 5000}\n ]\n }\n].";
+
 const TWO_APPLICATIONS: &[u8] =
     b"[{kernel,[{distributed,[{b,5000,[c1@h,{c3@h,c2@h}]},{a,[c2@h]}]},{sync_nodes_optional,[b@h,c1@h]}]}].";
 
@@ -75,6 +78,16 @@ fn one_text_and_its_mark(rt: HostRuntime) -> Result<(), Fail> {
     assert_eq!(rt; text.as_slice(), EXAMPLE_IN_ONE_LINE);
     assert_eq!(rt; config.mark(), MARK_OF_EXAMPLE);
     assert!(rt; config.default_permission(AppId(0)));
+    Ok(())
+}
+
+#[test]
+fn comment_and_tuple_in_another_order(rt: HostRuntime) -> Result<(), Fail> {
+    let config = read_config(rt.alloc(), EXAMPLE_WITH_A_COMMENT)?;
+    let text = config.canonical_text()?;
+    assert_eq!(rt; text.as_slice(), EXAMPLE_IN_ONE_LINE);
+    let again = read_config(rt.alloc(), &text)?;
+    assert_eq!(rt; again.mark(), MARK_OF_EXAMPLE);
     Ok(())
 }
 
