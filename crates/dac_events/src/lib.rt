@@ -1,0 +1,77 @@
+//! What may happen in a cluster of controllers: the events that a script names and the world plays.
+//!
+//! Nothing here does anything. Which events a controller refuses, and what an accepted one does, are the rules of the
+//! crates above.
+#![tactic(auto)]
+
+use dac_base::{AppId, NodeId};
+
+/// What an operator tells a controller. It may be given at any controller: it names the node that it is
+/// about, and holds for that node's live incarnation, so a reboot returns to the configuration (after
+/// `application:permit/2`, `application:start/1` and `application:stop/1` of Erlang/OTP, which hold for
+/// the node where they run).
+#[derive(Clone, Copy, Debug, PartialEq, Eq)]
+pub enum Command {
+    /// The node is down: its live incarnation has ended. (OTP learns this of its distribution; here a
+    /// failure detector or an operator says it.)
+    Down {
+        /// The node that it is about.
+        node: NodeId,
+    },
+    /// The application may run at the node, or may not.
+    Permit {
+        /// The application.
+        app: AppId,
+        /// The node that it is about.
+        node: NodeId,
+        /// Whether it may run there.
+        value: bool,
+    },
+    /// The application is wished at the node.
+    Start {
+        /// The application.
+        app: AppId,
+        /// The node that it is about.
+        node: NodeId,
+    },
+    /// The application's start wishes at the node end.
+    Stop {
+        /// The application.
+        app: AppId,
+        /// The node that it is about.
+        node: NodeId,
+    },
+}
+
+/// What happens at a node of the world.
+#[derive(Clone, Copy, Debug, PartialEq, Eq)]
+pub enum What {
+    /// The node comes up, under the next incarnation number.
+    Boot {
+        /// The present moment, in milliseconds.
+        now: u64,
+    },
+    /// The node goes down and loses all but the number of its incarnation.
+    Crash,
+    /// An operator's command is given at the node.
+    Command(Command),
+    /// The node's state is shipped.
+    Ship {
+        /// The node that it is shipped to.
+        to: NodeId,
+    },
+    /// The message of this number comes: shipped messages are counted from 1. It may come late, twice or never.
+    Deliver(u64),
+    /// The operation of this number comes by itself: issued operations are counted from 1. It may come late,
+    /// twice or never, and before those that its issuer had heard.
+    Hand(u64),
+}
+
+/// One event of the world.
+#[derive(Clone, Copy, Debug, PartialEq, Eq)]
+pub struct WorldEvent {
+    /// Where it happens.
+    pub node: NodeId,
+    /// What happens.
+    pub what: What,
+}
