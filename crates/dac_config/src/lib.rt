@@ -8,6 +8,7 @@
 
 mod config;
 mod mark;
+mod naming;
 mod read;
 mod sink;
 
@@ -15,6 +16,7 @@ pub use config::Config;
 pub use dac_base::{AppId, NoMemory, NodeId};
 pub use dac_shapes::SyncWait;
 pub use dac_tokens::{ConfigFault, FaultKind};
+pub use naming::{is_bare, printed_name};
 pub use read::read_config;
 
 #[cfg(test)]

@@ -122,3 +122,14 @@ fn refused_at_its_place(rt: HostRuntime) {
         })
     );
 }
+
+#[test]
+fn names_as_atoms(rt: HostRuntime) -> Result<(), Fail> {
+    let quoted = printed_name(rt.alloc(), b"n-1@h.example")?;
+    assert_eq!(rt; quoted.as_slice(), b"'n-1@h.example'".as_slice());
+    let bare = printed_name(rt.alloc(), b"cp1@cave")?;
+    assert_eq!(rt; bare.as_slice(), b"cp1@cave".as_slice());
+    assert!(rt; is_bare(b"a@h"));
+    assert!(rt; !is_bare(b"fun"));
+    Ok(())
+}

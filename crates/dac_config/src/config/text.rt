@@ -2,56 +2,16 @@
 
 ghost use Rattle.std.specs.Prelude.{◌≡◌, ◌<◌, ◌≤◌, not, length, map, filter, All, OnOk};
 ghost use Rattle.std.specs.Fmt.{decimal};
-ghost use Rattle.std.specs.List.{list_all};
 ghost use Rattle.dac_shapes.specs.declared.draft.SyncWait.TheVariants.{Ms};
 ghost use Rattle.dac_config.specs.Sinks.{Gains};
-ghost use Rattle.dac_config.specs.Canonical.{is_name_byte, begins_small, is_bare, name_text, parted, node_text, tuple_text, group_text, app_text, ban_text, wait_text, rest_text, canonical_text};
+ghost use Rattle.dac_config.specs.Canonical.{name_text, parted, node_text, tuple_text, group_text, app_text, ban_text, wait_text, rest_text, canonical_text};
 ghost use Rattle.dac_config.specs.ConfigView.{node_row, named_row, app_row, HasMembersBelow, is_in};
 
 use super::{App, Node};
 use crate::SyncWait;
+use crate::naming::put_name;
 use crate::sink::Sink;
 use indexmap::IndexMap;
-
-fn is_name_byte(byte: u8) -> bool
-    ensures { result ≡ is_name_byte byte }
-{
-    byte.is_ascii_alphanumeric() || byte == b'_' || byte == b'@'
-}
-
-fn begins_small(name: &[u8]) -> bool
-    ensures { result ≡ begins_small name.now }
-{
-    match name {
-        [] => false,
-        [byte, ..] => byte.is_ascii_lowercase(),
-    }
-}
-
-fn all_name_bytes(name: &[u8]) -> bool
-    ensures { result ≡ list_all is_name_byte name.now }
-{
-    name.iter().all(|byte| is_name_byte(*byte))
-}
-
-/// Whether the name is an atom without quotes.
-fn is_bare(name: &[u8]) -> bool
-    ensures { result ≡ is_bare name.now }
-{
-    begins_small(name) && name != b"fun".as_slice() && all_name_bytes(name)
-}
-
-fn put_name<S: Sink>(sink: &mut S, name: &[u8]) -> Result<(), S::Fault>
-    ensures { OnOk result (Gains S.holds sink.old sink.new (name_text name.now)) }
-{
-    if is_bare(name) {
-        return sink.put(name);
-    }
-    sink.put(b"'")?;
-    sink.put(name)?;
-    sink.put(b"'")?;
-    Ok(())
-}
 
 /// One decimal digit.
 fn put_digit<S: Sink>(sink: &mut S, digit: u8) -> Result<(), S::Fault>

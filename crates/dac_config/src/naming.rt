@@ -1,0 +1,61 @@
+//! Names of nodes and applications, as Erlang writes atoms.
+
+ghost use Rattle.std.specs.Prelude.{◌≡◌, IfOk, OnOk};
+ghost use Rattle.std.specs.List.{list_all};
+ghost use Rattle.dac_config.specs.Sinks.{Gains};
+ghost use Rattle.dac_config.specs.Canonical.{is_name_byte, begins_small, is_bare, name_text};
+
+use crate::sink::Sink;
+use dac_base::NoMemory;
+use std::alloc::Global;
+
+fn is_name_byte(byte: u8) -> bool
+    ensures { result ≡ is_name_byte byte }
+{
+    byte.is_ascii_alphanumeric() || byte == b'_' || byte == b'@'
+}
+
+fn begins_small(name: &[u8]) -> bool
+    ensures { result ≡ begins_small name.now }
+{
+    match name {
+        [] => false,
+        [byte, ..] => byte.is_ascii_lowercase(),
+    }
+}
+
+fn all_name_bytes(name: &[u8]) -> bool
+    ensures { result ≡ list_all is_name_byte name.now }
+{
+    name.iter().all(|byte| is_name_byte(*byte))
+}
+
+/// Whether the name is an atom without quotes: a small letter and further letters, digits, `_` and `@`, and
+/// not the word `fun`.
+pub fn is_bare(name: &[u8]) -> bool
+    ensures { result ≡ is_bare name.now }
+{
+    begins_small(name) && name != b"fun".as_slice() && all_name_bytes(name)
+}
+
+/// A name as the program prints it: bare where that is an atom, else between quotes. [`NoMemory`] is the
+/// only error.
+pub fn printed_name(alloc: Global, name: &[u8]) -> Result<Vec<u8>, NoMemory>
+    ensures { IfOk result (λ text. text.items ≡ name_text name.now) }
+{
+    let mut text = Vec::new(alloc);
+    put_name(&mut text, name)?;
+    Ok(text)
+}
+
+pub(crate) fn put_name<S: Sink>(sink: &mut S, name: &[u8]) -> Result<(), S::Fault>
+    ensures { OnOk result (Gains S.holds sink.old sink.new (name_text name.now)) }
+{
+    if is_bare(name) {
+        return sink.put(name);
+    }
+    sink.put(b"'")?;
+    sink.put(name)?;
+    sink.put(b"'")?;
+    Ok(())
+}
