@@ -14,3 +14,5 @@ pub use dac_wishes::{DotList, Key, Permissions, Wishes};
 pub use state::State;
 
 mod state;
+#[cfg(test)]
+mod tests;
