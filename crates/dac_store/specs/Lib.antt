@@ -3,3 +3,4 @@ pub mod DotSets
 pub mod AtDot
 pub mod DotFuns
 pub mod DotMaps
+pub mod Appending

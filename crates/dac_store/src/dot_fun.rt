@@ -1,12 +1,14 @@
 //! Values at dots.
-ghost use Rattle.std.specs.Prelude.{◌≡◌, ◌↔◌, [], ◌∷◌, IsTrue, IfOk, Some, true};
+ghost use Rattle.std.specs.Prelude.{◌≡◌, ◌↔◌, [], ◌∷◌, ◌++◌, IsTrue, IfOk, OnErr, Some, true, if◌then◌else◌};
 ghost use Rattle.std.specs.FinSet as set;
 ghost use Rattle.std.specs.Option.{option_copied};
 ghost use Rattle.std.specs.FinMap.{find};
 ghost use Rattle.dac_dots.specs.Dots.{dot_cmp};
+ghost use Rattle.dac_store.specs.Appending.{is_above_entries};
 ghost use Rattle.dac_store.specs.AtDot.{StandsBelow};
 
 use crate::DotStore;
+use crate::appending::ends_below;
 use dac_base::NoMemory;
 use dac_dots::{Context, Dot};
 use dac_lattice::Lattice;
@@ -43,6 +45,21 @@ impl<V: Lattice> DotFun<V> {
         let mut entries = Vec::new(alloc);
         entries.push((dot, value))?;
         Ok(DotFun { entries })
+    }
+
+    /// Appends a dot with its value, if it is above each dot of the store, and says whether it was. Where
+    /// it wasn't, and where memory is refused ([`NoMemory`], the only error), the store stays as it was.
+    pub fn push(&mut self, dot: Dot, value: V) -> Result<bool, NoMemory>
+        ensures ok { IfOk result (λ pushed. pushed ≡ is_above_entries dot_cmp self.old dot) }
+        ensures new { IfOk result (λ pushed. self.new ≡ (if pushed then self.old ++ (dot, value) ∷ [] else self.old)) }
+        ensures err { OnErr result (self.new ≡ self.old) }
+    {
+        value.known();
+        if !ends_below(&self.entries, dot) {
+            return Ok(false);
+        }
+        self.entries.push((dot, value))?;
+        Ok(true)
     }
 
     /// The value at a dot, if the store holds it. It takes no memory.

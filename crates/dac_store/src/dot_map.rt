@@ -1,10 +1,12 @@
 //! Stores at keys.
-ghost use Rattle.std.specs.Prelude.{◌≡◌, ◌↔◌, [], ◌∷◌, IsTrue, IfOk, if◌then◌else◌};
+ghost use Rattle.std.specs.Prelude.{◌≡◌, ◌↔◌, ◌&&◌, [], ◌∷◌, ◌++◌, not, IsTrue, IfOk, OnErr, if◌then◌else◌};
 ghost use Rattle.std.specs.Option.{option_copied};
 ghost use Rattle.std.specs.FinMap.{find};
+ghost use Rattle.dac_store.specs.Appending.{is_above_entries};
 ghost use Rattle.dac_store.specs.DotMaps.{kept, store_at};
 
 use crate::DotStore;
+use crate::appending::ends_below;
 use dac_base::NoMemory;
 use dac_dots::{Context, Dot, MapKey};
 use dac_lattice::merging::{Combine, merge, value_at};
@@ -48,6 +50,22 @@ impl<K: MapKey, S: DotStore> DotMap<K, S> {
             entries.push((key, store))?;
         }
         Ok(DotMap { entries })
+    }
+
+    /// Appends a key with its store, if the key is above each key of the map and the store holds dots, and
+    /// says whether that was so. Where it wasn't, and where memory is refused ([`NoMemory`], the only
+    /// error), the map stays as it was.
+    pub fn push(&mut self, key: K, store: S) -> Result<bool, NoMemory>
+        ensures ok { IfOk result (λ pushed. pushed ≡ (is_above_entries K.cmp self.old key && not (S.is_empty store))) }
+        ensures new { IfOk result (λ pushed. self.new ≡ (if pushed then self.old ++ (key, store) ∷ [] else self.old)) }
+        ensures err { OnErr result (self.new ≡ self.old) }
+    {
+        store.known();
+        if !ends_below(&self.entries, key) || store.is_empty() {
+            return Ok(false);
+        }
+        self.entries.push((key, store))?;
+        Ok(true)
     }
 
     /// The store at a key, if it holds dots. It takes no memory.

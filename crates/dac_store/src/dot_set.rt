@@ -1,7 +1,8 @@
 //! Sets of dots.
-ghost use Rattle.std.specs.Prelude.{◌≡◌, ◌↔◌, ◌||◌, ◌&&◌, IsTrue, IfOk, OnOk, true};
+ghost use Rattle.std.specs.Prelude.{◌≡◌, ◌↔◌, ◌||◌, ◌&&◌, IsTrue, IfOk, OnErr, OnOk, true, if◌then◌else◌};
 ghost use Rattle.std.specs.FinSet as set;
 ghost use Rattle.dac_dots.specs.InOrder.{in_order};
+ghost use Rattle.dac_store.specs.Appending.{is_above_dots};
 ghost use Rattle.dac_store.specs.DotSets.{may_stay};
 
 use crate::DotStore;
@@ -46,6 +47,30 @@ impl DotSet {
         ensures { result.now ≡ in_order self.now }
     {
         self.dots.as_slice()
+    }
+
+    /// Appends a dot, if it is above each dot of the set, and says whether it was. Where it wasn't, and
+    /// where memory is refused ([`NoMemory`], the only error), the set stays as it was.
+    pub fn push(&mut self, dot: Dot) -> Result<bool, NoMemory>
+        ensures ok { IfOk result (λ pushed. pushed ≡ is_above_dots self.old dot) }
+        ensures new { IfOk result (λ pushed. self.new ≡ (if pushed then set.insert self.old dot else self.old)) }
+        ensures err { OnErr result (self.new ≡ self.old) }
+    {
+        if !self.ends_below(dot) {
+            return Ok(false);
+        }
+        self.dots.push(dot)?;
+        Ok(true)
+    }
+
+    /// Whether each dot of the set is below this one.
+    fn ends_below(&self, dot: Dot) -> bool
+        ensures { result ≡ is_above_dots self.now dot }
+    {
+        match self.dots.last() {
+            Some(last) => last.cmp(&dot).is_lt(),
+            None => true,
+        }
     }
 
     /// Puts a dot into the set.

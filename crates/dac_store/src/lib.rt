@@ -16,6 +16,7 @@ pub use dot_map::DotMap;
 pub use dot_set::DotSet;
 pub use dot_store::DotStore;
 
+mod appending;
 mod causal;
 mod dot_fun;
 mod dot_map;

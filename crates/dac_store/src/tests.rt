@@ -110,3 +110,26 @@ fn a_key_with_dots_stays(rt: HostRuntime) -> Result<(), Fail> {
     assert!(rt; !kept.within(&unheard));
     Ok(())
 }
+
+#[test]
+fn what_is_above_is_appended(rt: HostRuntime) -> Result<(), Fail> {
+    let mut dots = DotSet::one(rt.alloc(), dot(1))?;
+    assert!(rt; dots.push(dot(2))?);
+    assert!(rt; !dots.push(dot(2))?);
+    assert_eq!(rt; dots.dots(), [dot(1), dot(2)].as_slice());
+    let mut map = DotMap::one(rt.alloc(), 7u64, dots)?;
+    assert!(rt; map.push(9, DotSet::one(rt.alloc(), dot(3))?)?);
+    assert!(rt; !map.push(10, DotSet::empty(rt.alloc()))?);
+    assert_eq!(rt; map.entries().len(), 2);
+    Ok(())
+}
+
+#[test]
+fn values_are_appended(rt: HostRuntime) -> Result<(), Fail> {
+    let mut permits = DotFun::one(rt.alloc(), dot(2), Flag::Down)?;
+    assert!(rt; !permits.push(dot(1), Flag::Up)?);
+    assert!(rt; permits.push(dot(3), Flag::Up)?);
+    let both = [(dot(2), Flag::Down), (dot(3), Flag::Up)];
+    assert_eq!(rt; permits.entries(), both.as_slice());
+    Ok(())
+}

@@ -25,9 +25,9 @@ use Rattle.dac_wishes.specs.WishesValue.{same_wishes}
 use Rattle.dac_wishes.specs.PermissionsValue.{flag_of, same_permissions}
 use Rattle.dac_wishes.specs.Replacing.{named_by, contains-named_by, replaces}
 use Rattle.dac_wishes.specs.StoredWishes.{StoredDots, AreStoredDots, wishes_of}
-use Rattle.dac_wishes.proofs.WishStoring.{contains-writes_of}
+use Rattle.dac_wishes.specs.StartsByKey.{contains-writes_of}
 use Rattle.dac_wishes.specs.StoredPermits.{StoredFlags, AreStoredFlags, permissions_of}
-use Rattle.dac_wishes.proofs.PermitStoring.{get-permits_of}
+use Rattle.dac_wishes.specs.PermitsByKey.{get-permits_of}
 use Rattle.dac_wishes.specs.WishMeaning.{wish_delta, contains-delta, wishes}
 use Rattle.dac_wishes.specs.PermitMeaning.{permit_delta, get-delta, says}
 use Rattle.dac_wishes.specs.WishMeaning as wish

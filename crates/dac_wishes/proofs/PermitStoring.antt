@@ -1,15 +1,12 @@
 -- What permissions are, as they are stored, and what is permitted.
-use Rattle.std.specs.Prelude.{◌≡◌, ◌↔◌, ◌⊎◌, Bool, true, false, cond, ◌&&◌, ◌||◌, T, List, [], ◌∷◌, ◌++◌, filter, map as list_map, Option, None, Some, is_some, refl}
+use Rattle.std.specs.Prelude.{◌≡◌, ◌↔◌, ◌⊎◌, Bool, true, false, cond, ◌||◌, T, List, [], ◌∷◌, Option, None, Some, is_some, refl}
 use Rattle.std.proofs.Common.{sym, ap, subst, ◌∙◌, inl, inr}
-use Rattle.std.specs.declared.cmp.Ordering.{Ordering}
-use Rattle.std.specs.declared.cmp.Ordering.TheVariants.{Equal}
-use Rattle.std.specs.List.{list_all, flat_map, All}
-use Rattle.std.specs.Ordering.{eq_by_cmp, is_eq, is_lt, ordering_then}
+use Rattle.std.specs.List.{list_all, All}
+use Rattle.std.specs.Ordering.{is_eq}
 use Rattle.std.specs.Cmp.{tied_itself}
 use Rattle.std.specs.FinSet as set
 use Rattle.std.specs.FinMap as map
 use Rattle.std.specs.FinMap.{find, is_sorted}
-use Rattle.std.specs.FinMap.Entries.{below_all, same_entries}
 use Rattle.std.proofs.lemmas.Bool.{false≢true, and_parts, and_from, or_left, or_right}
 use Rattle.std.proofs.lemmas.List.Elements.{All-head, All-tail}
 use Rattle.dac_dots.specs.declared.dot.Dot.{Dot}
@@ -17,52 +14,17 @@ use Rattle.dac_dots.specs.Dots.{dot_cmp, dots_total, exact_dots}
 use Rattle.dac_lattice.specs.declared.flags.Flag.{Flag}
 use Rattle.dac_lattice.specs.declared.flags.Flag.TheVariants.{Up, Down}
 use Rattle.dac_lattice.specs.Flags.{IsFlagBelow, join_flags, flag_laws}
-use Rattle.dac_lattice.specs.Entries.{find_below}
-use Rattle.dac_lattice.specs.EntryLaws.{first, second, each_entry}
+use Rattle.dac_lattice.specs.EntryLaws.{each_entry}
 use Rattle.dac_store.specs.Stores.{IsStoredBelow, join_stored, causal_laws}
 use Rattle.dac_store.specs.AtDot.{StandsBelow}
 use Rattle.dac_store.specs.DotFuns.{has_dot, IsFunBelow, join_funs, is_empty_list, fun_laws, find_join}
 use Rattle.dac_store.specs.DotMaps.{has_in, store_at, IsKeyedBelow, join_keyed, keyed_laws, at_join, at_store}
 use Rattle.dac_wishes.specs.declared.key.Key.{Key}
-use Rattle.dac_wishes.specs.Keys.{key_cmp, same_key, keys_total, exact_keys, same_key_is}
-use Rattle.dac_wishes.specs.Writes.{Write, write, write_cmp, writes_total, same_dot, same_write, at_write}
-use Rattle.dac_wishes.specs.PermissionsValue.{PermissionsValue, Permits, ArePermissions, IsPermissionsBelow, join_permissions, joined_permit, known-join, standing-join, same_permissions, permits_among, permits_at, is_permitted_by, is_permitted, is_up, IsPermitted}
-use Rattle.dac_wishes.specs.StoredPermits.{DotFlags, StoredFlags, AreStoredFlags, keyed_permits, permits_of, permissions_of}
-use Rattle.dac_wishes.specs.PermitMeaning.{or_else, else_none}
-
--- ---- what stands
-
-find-append : {K X : Type 0} (R : K → K → Ordering) (q : K) (es fs : List (K × X)) → find R q (es ++ fs) ≡ or_else (find R q es) (find R q fs)
-find-append R q [] fs = refl
-find-append R q (e ∷ es) fs = elim (eq_by_cmp R q e.0) as (λ t. cond t (Some e.1) (find R q (es ++ fs)) ≡ or_else (cond t (Some e.1) (find R q es)) (find R q fs)) [
-  | true ↦ refl
-  | false ↦ find-append R q es fs
-]
-
--- a permit among those of a key
-find-keyed : (w : Write) (key : Key) (ps : DotFlags) → find write_cmp w (keyed_permits key ps) ≡ cond (same_key w.key key) (find dot_cmp w.dot ps) None
-find-keyed w key [] = elim (same_key w.key key) as (λ b. ◌≡◌ {A = Option Flag} None (cond b None None)) [ true ↦ refl | false ↦ refl ]
-find-keyed w key (p ∷ ps) =
-    ap (λ t. cond t (Some p.1) (find write_cmp w (keyed_permits key ps))) (same_write w key p.0)
-    ∙ ap (λ r. cond (same_key w.key key && same_dot w.dot p.0) (Some p.1) r) (find-keyed w key ps)
-    ∙ elim (same_key w.key key) as (λ b. cond (b && same_dot w.dot p.0) (Some p.1) (cond b (find dot_cmp w.dot ps) None) ≡ cond b (cond (same_dot w.dot p.0) (Some p.1) (find dot_cmp w.dot ps)) None) [ true ↦ refl | false ↦ refl ]
-
-find-flat : (w : Write) (m : List (Key × DotFlags)) → T (is_sorted key_cmp m) → find write_cmp w (flat_map (λ (e : Key × DotFlags). keyed_permits e.0 e.1) m) ≡ find dot_cmp w.dot (store_at [] (find key_cmp w.key m))
-find-flat w [] h = refl
-find-flat w (e ∷ m) h =
-    find-append write_cmp w (keyed_permits e.0 e.1) (flat_map (λ (e : Key × DotFlags). keyed_permits e.0 e.1) m)
-    ∙ (λ i. or_else (find-keyed w e.0 e.1 i) (find-flat w m (second _ _ h) i))
-    ∙ elim (same_key w.key e.0) as (λ b. same_key w.key e.0 ≡ b → or_else (cond b (find dot_cmp w.dot e.1) None) (find dot_cmp w.dot (store_at [] (find key_cmp w.key m))) ≡ find dot_cmp w.dot (store_at [] (cond b (Some e.1) (find key_cmp w.key m)))) [
-      | true ↦ λ t.
-          let none : find key_cmp w.key m ≡ None = ap (λ q. find key_cmp q m) (same_key_is w.key e.0 t) ∙ find_below keys_total exact_keys e.0 m (first _ _ h) in
-          ap (λ o. or_else (find dot_cmp w.dot e.1) (find dot_cmp w.dot (store_at [] o))) none ∙ else_none (find dot_cmp w.dot e.1)
-      | false ↦ λ t. refl
-    ] refl
-
--- what stands of a permit is what is at its dot at its key
-pub get-permits_of : (m : List (Key × DotFlags)) → T (is_sorted key_cmp m) → (w : Write) → map.get (permits_of m) w ≡ find dot_cmp w.dot (store_at [] (find key_cmp w.key m))
-unfolding permits_of
-get-permits_of m h w = map.get-from_entries writes_total (flat_map (λ (e : Key × DotFlags). keyed_permits e.0 e.1) m) w ∙ find-flat w m h
+use Rattle.dac_wishes.specs.Keys.{key_cmp, same_key, keys_total, exact_keys}
+use Rattle.dac_wishes.specs.Writes.{Write, write, same_dot}
+use Rattle.dac_wishes.specs.PermissionsValue.{PermissionsValue, ArePermissions, IsPermissionsBelow, join_permissions, joined_permit, known-join, standing-join, same_permissions, permits_at, is_permitted_by, is_permitted, is_up, IsPermitted}
+use Rattle.dac_wishes.specs.StoredPermits.{DotFlags, StoredFlags, AreStoredFlags, permits_of, permissions_of}
+use Rattle.dac_wishes.specs.PermitsByKey.{get-permits_of, find-permits_at, permits_at-sorted}
 
 -- ---- what is stored is known
 
@@ -123,56 +85,6 @@ module _ (v w : StoredFlags) (a : AreStoredFlags v) (b : AreStoredFlags w) where
 pub permissions_of-none : permissions_of (record { store = []; context = set.empty }) ≡ record { known = set.empty; standing = map.empty }
 unfolding permits_of
 permissions_of-none = refl
-
--- ---- the permits at a key
-
--- a permit at a key, by its dot
-find-among : (key : Key) (d : Dot) (es : List (Write × Flag)) → find dot_cmp d (permits_among key es) ≡ find write_cmp (write key d) es
-find-among key d [] = refl
-find-among key d (e ∷ es) =
-    elim (same_key e.0.key key) as (λ b. find dot_cmp d (list_map (λ (e : Write × Flag). (e.0.dot, e.1)) (cond b (e ∷ filter (λ (e : Write × Flag). same_key e.0.key key) es) (filter (λ (e : Write × Flag). same_key e.0.key key) es))) ≡ cond (b && same_dot d e.0.dot) (Some e.1) (find write_cmp (write key d) es)) [
-      | true ↦ ap (cond (same_dot d e.0.dot) (Some e.1)) (find-among key d es)
-      | false ↦ find-among key d es
-    ]
-    ∙ ap (λ t. cond t (Some e.1) (find write_cmp (write key d) es)) (sym (at_write key d e.0))
-
--- of two writes of one key the dots decide
-one_key : (key : Key) (w x : Write) → same_key w.key key ≡ true → same_key x.key key ≡ true → write_cmp w x ≡ dot_cmp w.dot x.dot
-one_key key w x s t =
-    let tie : key_cmp w.key x.key ≡ Equal = ap (λ k. key_cmp w.key k) (same_key_is x.key key t ∙ sym (same_key_is w.key key s)) ∙ tied_itself keys_total w.key in
-    ap (λ r. ordering_then r (dot_cmp w.dot x.dot)) tie
-
-both : (a b : Bool) → T a → T b → T (a && b)
-both true b p q = q
-both false b p q = p
-
-below_among : (key : Key) (w : Write) (es : List (Write × Flag)) → same_key w.key key ≡ true → T (below_all write_cmp w es) → T (below_all dot_cmp w.dot (permits_among key es))
-below_among key w [] s h = tt
-below_among key w (e ∷ es) s h = elim (same_key e.0.key key) as (λ b. same_key e.0.key key ≡ b → T (below_all dot_cmp w.dot (list_map (λ (e : Write × Flag). (e.0.dot, e.1)) (cond b (e ∷ filter (λ (e : Write × Flag). same_key e.0.key key) es) (filter (λ (e : Write × Flag). same_key e.0.key key) es))))) [
-  | true ↦ λ t. both _ _ (subst (λ r. T (is_lt r)) (one_key key w e.0 s t) (first _ _ h)) (below_among key w es s (second _ _ h))
-  | false ↦ λ t. below_among key w es s (second _ _ h)
-] refl
-
-sorted_among : (key : Key) (es : List (Write × Flag)) → T (is_sorted write_cmp es) → T (is_sorted dot_cmp (permits_among key es))
-sorted_among key [] h = tt
-sorted_among key (e ∷ es) h = elim (same_key e.0.key key) as (λ b. same_key e.0.key key ≡ b → T (is_sorted dot_cmp (list_map (λ (e : Write × Flag). (e.0.dot, e.1)) (cond b (e ∷ filter (λ (e : Write × Flag). same_key e.0.key key) es) (filter (λ (e : Write × Flag). same_key e.0.key key) es))))) [
-  | true ↦ λ t. both _ _ (below_among key e.0 es t (first _ _ h)) (sorted_among key es (second _ _ h))
-  | false ↦ λ t. sorted_among key es (second _ _ h)
-] refl
-
--- what stands at a key is the permit at its dot
-pub find-permits_at : (key : Key) (permits : Permits) (d : Dot) → find dot_cmp d (permits_at key permits) ≡ map.get permits (write key d)
-find-permits_at key permits d = find-among key d (map.entries permits) ∙ sym (map.get-entries permits (write key d))
-
-pub permits_at-sorted : (key : Key) (permits : Permits) → T (is_sorted dot_cmp (permits_at key permits))
-permits_at-sorted key permits = sorted_among key (map.entries permits) (map.entries_sorted permits)
-
--- the permits at a key are those that stand there
-pub permits_stored : (v : StoredFlags) → AreStoredFlags v → (key : Key) → store_at [] (find key_cmp key v.store) ≡ permits_at key (permits_of v.store)
-permits_stored v u key =
-    let at = at_store keys_total exact_keys (fun_laws flag_laws) _ (u.store.stores key) in
-    same_entries dot_cmp dots_total exact_dots _ _ at.in_order (permits_at-sorted key (permits_of v.store))
-    (λ d. sym (find-permits_at key (permits_of v.store) d ∙ get-permits_of v.store u.store.in_order (write key d)))
 
 -- ---- what is permitted
 

@@ -1,76 +1,24 @@
 -- What start wishes are, as they are stored.
-use Rattle.std.specs.Prelude.{◌≡◌, ◌↔◌, Bool, true, false, not, cond, ◌&&◌, ◌||◌, T, List, [], ◌∷◌, None, Some, is_some, map as list_map, refl}
+use Rattle.std.specs.Prelude.{◌≡◌, ◌↔◌, true, false, not, cond, ◌&&◌, ◌||◌, List, [], ◌∷◌, None, Some, is_some, refl}
 use Rattle.std.proofs.Common.{sym, ap, ◌∙◌, inl, inr}
-use Rattle.std.specs.List.{list_any, flat_map}
+use Rattle.std.specs.List.{list_any}
 use Rattle.std.specs.Ordering.{eq_by_cmp, is_eq}
 use Rattle.std.specs.Cmp.{Equal-is, tied_itself}
 use Rattle.std.specs.FinSet as set
-use Rattle.std.specs.FinMap.{find, is_sorted}
+use Rattle.std.specs.FinMap.{find}
 use Rattle.std.proofs.lemmas.Bool.{false≢true, or_cases, or_left, or_right}
-use Rattle.std.proofs.lemmas.List.Folds.{list_any-append}
 use Rattle.dac_dots.specs.declared.dot.Dot.{Dot}
-use Rattle.dac_dots.specs.Dots.{Dots, dot_cmp, dots_total, exact_dots}
+use Rattle.dac_dots.specs.Dots.{Dots, dot_cmp}
 use Rattle.dac_lattice.specs.Chains.{IsAny}
-use Rattle.dac_lattice.specs.Entries.{find_below}
-use Rattle.dac_lattice.specs.EntryLaws.{first, second}
 use Rattle.dac_store.specs.Stores.{IsStoredBelow, join_stored, causal_laws, both_ways}
 use Rattle.dac_store.specs.DotSets.{IsSetBelow, join_sets, is_empty_set, set_laws, contains_join}
 use Rattle.dac_store.specs.DotMaps.{has_in, store_at, IsKept, IsKeyedBelow, join_keyed, keyed_laws, at_join}
 use Rattle.dac_wishes.specs.declared.key.Key.{Key}
 use Rattle.dac_wishes.specs.Keys.{key_cmp, same_key, keys_total, exact_keys, same_key_is, same_key_itself}
-use Rattle.dac_wishes.specs.Writes.{Write, write, write_cmp, writes_total, exact_writes, same_dot, same_dot_itself, same_write, dots_at, contains-dots_at, list_any-alike}
+use Rattle.dac_wishes.specs.Writes.{Write, write, write_cmp, writes_total, exact_writes, same_dot, same_dot_itself}
 use Rattle.dac_wishes.specs.WishesValue.{WishesValue, AreWishes, IsBelow, join_wishes, is_wished, SomeStands, known-join, standing-join, same_wishes}
-use Rattle.dac_wishes.specs.StoredWishes.{StoredDots, AreStoredDots, writes_at, writes_of, wishes_of}
-
--- ---- what stands
-
-pub list_any-list_map : {X Y : Type 0} (p : Y → Bool) (f : X → Y) (xs : List X) → list_any p (list_map f xs) ≡ list_any (λ x. p (f x)) xs
-list_any-list_map p f [] = refl
-list_any-list_map p f (x ∷ xs) = ap (λ b. p (f x) || b) (list_any-list_map p f xs)
-
-pub list_any-flat_map : {X Y : Type 0} (p : Y → Bool) (f : X → List Y) (xs : List X) → list_any p (flat_map f xs) ≡ list_any (λ x. list_any p (f x)) xs
-list_any-flat_map p f [] = refl
-list_any-flat_map p f (x ∷ xs) = list_any-append p (f x) (flat_map f xs) ∙ ap (λ b. list_any p (f x) || b) (list_any-flat_map p f xs)
-
-list_any-and : {X : Type 0} (b : Bool) (p : X → Bool) (xs : List X) → list_any (λ x. b && p x) xs ≡ (b && list_any p xs)
-list_any-and true p xs = refl
-list_any-and false p [] = refl
-list_any-and false p (x ∷ xs) = list_any-and false p xs
-
-or_none : (a b : Bool) → b ≡ false → (a || b) ≡ a
-or_none true b e = refl
-or_none false b e = e
-
--- a write is among those of a key
-in_writes_at : (w : Write) (key : Key) (ds : Dots) → list_any (eq_by_cmp write_cmp w) (writes_at key ds) ≡ (same_key w.key key && set.contains ds w.dot)
-in_writes_at w key ds =
-    list_any-list_map (eq_by_cmp write_cmp w) (write key) (set.items ds)
-    ∙ list_any-alike (λ d. eq_by_cmp write_cmp w (write key d)) (λ d. same_key w.key key && same_dot w.dot d) (same_write w key) (set.items ds)
-    ∙ list_any-and (same_key w.key key) (same_dot w.dot) (set.items ds)
-    ∙ ap (λ b. same_key w.key key && b) (sym (set.contains-items ds w.dot))
-
--- in a list in order, what is among the dots of any entry of a key is among those at the key
-at_key : (key : Key) (d : Dot) (m : List (Key × Dots)) → T (is_sorted key_cmp m) → list_any (λ (e : Key × Dots). same_key key e.0 && set.contains e.1 d) m ≡ set.contains (store_at set.empty (find key_cmp key m)) d
-at_key key d [] h = sym (set.contains-empty dot_cmp d)
-at_key key d (e ∷ m) h = elim (same_key key e.0) as (λ b. same_key key e.0 ≡ b → ((b && set.contains e.1 d) || list_any (λ (f : Key × Dots). same_key key f.0 && set.contains f.1 d) m) ≡ set.contains (store_at set.empty (cond b (Some e.1) (find key_cmp key m))) d) [
-  | true ↦ λ t.
-      let none : find key_cmp key m ≡ None = ap (λ q. find key_cmp q m) (same_key_is key e.0 t) ∙ find_below keys_total exact_keys e.0 m (first _ _ h) in
-      or_none (set.contains e.1 d) _ (at_key key d m (second _ _ h) ∙ ap (λ v. set.contains (store_at set.empty v) d) none ∙ set.contains-empty dot_cmp d)
-  | false ↦ λ t. at_key key d m (second _ _ h)
-] refl
-
--- a write stands exactly if its dot is among those at its key
-pub contains-writes_of : (m : List (Key × Dots)) → T (is_sorted key_cmp m) → (w : Write) → set.contains (writes_of m) w ≡ set.contains (store_at set.empty (find key_cmp w.key m)) w.dot
-unfolding writes_of
-contains-writes_of m h w =
-    set.contains-from_list writes_total (flat_map (λ (e : Key × Dots). writes_at e.0 e.1) m) w
-    ∙ list_any-flat_map (eq_by_cmp write_cmp w) (λ (e : Key × Dots). writes_at e.0 e.1) m
-    ∙ list_any-alike (λ (e : Key × Dots). list_any (eq_by_cmp write_cmp w) (writes_at e.0 e.1)) (λ (e : Key × Dots). same_key w.key e.0 && set.contains e.1 w.dot) (λ e. in_writes_at w e.0 e.1) m
-    ∙ at_key w.key w.dot m h
-
--- the dots at a key are those that stand there
-pub dots_stored : (m : List (Key × Dots)) → T (is_sorted key_cmp m) → (key : Key) → store_at set.empty (find key_cmp key m) ≡ dots_at key (writes_of m)
-dots_stored m h key = set.same_set dots_total exact_dots _ _ (λ d. sym (contains-dots_at key (writes_of m) d ∙ contains-writes_of m h (write key d)))
+use Rattle.dac_wishes.specs.StoredWishes.{StoredDots, AreStoredDots, writes_of, wishes_of}
+use Rattle.dac_wishes.specs.StartsByKey.{contains-writes_of}
 
 -- ---- what is stored is known
 

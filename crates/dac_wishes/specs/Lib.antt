@@ -8,3 +8,6 @@ pub mod PermissionsValue
 pub mod StoredPermits
 pub mod PermitMeaning
 pub mod StoredDeltas
+pub mod ByKey
+pub mod StartsByKey
+pub mod PermitsByKey

@@ -39,6 +39,25 @@ impl Model for Permissions {
 }
 
 impl Permissions {
+    ghost use Rattle.dac_wishes.specs.StoredPermits.{permissions_of};
+    ghost use Rattle.dac_wishes.specs.PermitsByKey.{permits_by_key};
+
+    /// The permissions that are kept so: at each key its permits, by their dots. It takes no memory.
+    pub fn new(causal: Causal<DotMap<Key, DotFun<Flag>>>) -> Self
+        ensures { result ≡ permissions_of causal }
+    {
+        causal.known();
+        Permissions { causal }
+    }
+
+    /// The keys that have a permit that stands, in ascending order, each with the dots of its permits and
+    /// their values. It takes no memory.
+    pub fn entries(&self) -> &[(Key, DotFun<Flag>)]
+        ensures { result.now ≡ permits_by_key self.now.standing }
+    {
+        self.causal.store().entries()
+    }
+
     /// Whether the key is permitted: no permit of it stands and the default is true, or some stand and all
     /// say true. It takes no memory.
     pub fn permitted(&self, key: Key, default: bool) -> bool

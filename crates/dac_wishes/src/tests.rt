@@ -6,8 +6,9 @@ ghost use Rattle.dac_wishes.specs.declared.permit_act.PermitAct.TheVariants.{Per
 
 use super::*;
 use dac_base::{AppId, NoMemory, NodeId};
-use dac_dots::{Dot, Origin};
+use dac_dots::{Context, Dot, Origin};
 use dac_lattice::{Bottom, Flag, Lattice, Piece};
+use dac_store::{Causal, DotFun, DotMap, DotSet};
 use std::alloc::Global;
 use std::test::Fail;
 
@@ -138,5 +139,39 @@ fn a_permit_overrules_the_default(rt: HostRuntime) -> Result<(), Fail> {
     let granted: Permissions = delta_of(rt.alloc(), EARLY, &permit(rt.alloc(), true))?;
     assert!(rt; granted.permitted(KEY, false));
     assert!(rt; is_joined_above(rt.alloc(), &none, &granted)?);
+    Ok(())
+}
+
+/// The context of one dot.
+fn known(alloc: Global, dot: Dot) -> Result<Context, NoMemory> {
+    let mut context = Context::empty(alloc);
+    context.insert(dot)?;
+    Ok(context)
+}
+
+#[test]
+fn starts_by_key(rt: HostRuntime) -> Result<(), Fail> {
+    let store = DotMap::one(rt.alloc(), KEY, DotSet::one(rt.alloc(), EARLY)?)?;
+    let causal = Causal::new(store, known(rt.alloc(), EARLY)?);
+    let wishes = Wishes::new(causal.ok().ok_or("known")?);
+    let started: Wishes = delta_of(rt.alloc(), EARLY, &start(rt.alloc()))?;
+    assert!(rt; wishes.equal(&started));
+    let entries = wishes.entries();
+    assert_eq!(rt; entries.len(), 1);
+    assert_eq!(rt; entries[0].1.dots(), [EARLY].as_slice());
+    Ok(())
+}
+
+#[test]
+fn permits_by_key(rt: HostRuntime) -> Result<(), Fail> {
+    let permits = DotFun::one(rt.alloc(), EARLY, Flag::Up)?;
+    let store = DotMap::one(rt.alloc(), KEY, permits)?;
+    let causal = Causal::new(store, known(rt.alloc(), EARLY)?);
+    let permissions = Permissions::new(causal.ok().ok_or("known")?);
+    let granted: Permissions = delta_of(rt.alloc(), EARLY, &permit(rt.alloc(), true))?;
+    assert!(rt; permissions.equal(&granted));
+    let entries = permissions.entries();
+    assert_eq!(rt; entries.len(), 1);
+    assert_eq!(rt; entries[0].1.entries(), [(EARLY, Flag::Up)].as_slice());
     Ok(())
 }

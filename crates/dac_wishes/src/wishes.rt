@@ -36,6 +36,25 @@ impl Model for Wishes {
 }
 
 impl Wishes {
+    ghost use Rattle.dac_wishes.specs.StoredWishes.{wishes_of};
+    ghost use Rattle.dac_wishes.specs.StartsByKey.{starts_by_key};
+
+    /// The wishes that are kept so: at each key the dots of its starts. It takes no memory.
+    pub fn new(causal: Causal<DotMap<Key, DotSet>>) -> Self
+        ensures { result ≡ wishes_of causal }
+    {
+        causal.known();
+        Wishes { causal }
+    }
+
+    /// The keys that have a start that stands, in ascending order, each with the dots of its starts. It
+    /// takes no memory.
+    pub fn entries(&self) -> &[(Key, DotSet)]
+        ensures { result.now ≡ starts_by_key self.now.standing }
+    {
+        self.causal.store().entries()
+    }
+
     /// Whether some start of the key stands. It takes no memory.
     pub fn wished(&self, key: Key) -> bool
         ensures value { result ≡ is_wished key self.now }

@@ -6,7 +6,7 @@ use Rattle.dac_dots.specs.Dots.{dots_total, exact_dots, dot_cmp}
 use Rattle.dac_dots.specs.InOrder.{in_order, in_order-one}
 use Rattle.dac_store.specs.DotMaps.{store_at}
 use Rattle.dac_wishes.specs.Keys.{key_cmp}
-use Rattle.dac_wishes.proofs.WishStoring.{dots_stored}
+use Rattle.dac_wishes.specs.StartsByKey.{dots_stored}
 use Rattle.dac_wishes.proofs.wishes.Wishes.dots.Goals as goal
 
 pub returns-in-Some : goal.returns-in-Some

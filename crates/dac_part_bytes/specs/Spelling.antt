@@ -1,0 +1,96 @@
+-- The parts of a state as bytes: permits, start wishes, lives and claims. Numbers are written as in `dac_bytes`, the highest byte first, and one that doesn't fit by its lowest bits.
+use Rattle.std.specs.Prelude.{ℕ, ◌+◌, List, ◌++◌, length, Option, None, Some}
+use Rattle.std.specs.List.{flat_map}
+use Rattle.std.specs.FinMap as map
+use Rattle.dac_base.specs.declared.NodeId.{NodeId}
+use Rattle.dac_base.specs.declared.AppId.{AppId}
+use Rattle.dac_dots.specs.declared.dot.Dot.{Dot}
+use Rattle.dac_dots.specs.Dots.{Dots}
+use Rattle.dac_dots.specs.InOrder.{in_order}
+use Rattle.dac_lattice.specs.declared.flags.Flag.{Flag}
+use Rattle.dac_lattice.specs.declared.flags.Flag.TheVariants.{Up, Down}
+use Rattle.dac_chains.specs.declared.lives.Life.{Life}
+use Rattle.dac_chains.specs.declared.claims.Claim.{Claim}
+use Rattle.dac_chains.specs.declared.claims.How.{How}
+use Rattle.dac_chains.specs.declared.claims.How.TheVariants.{Normal, Failover, Takeover}
+use Rattle.dac_chains.specs.Lives.{Lives}
+use Rattle.dac_chains.specs.Claims.{Claims}
+use Rattle.dac_wishes.specs.declared.key.Key.{Key}
+use Rattle.dac_wishes.specs.Writes.{Writes}
+use Rattle.dac_wishes.specs.PermissionsValue.{Permits}
+use Rattle.dac_wishes.specs.StoredPermits.{DotFlags}
+use Rattle.dac_wishes.specs.StartsByKey.{starts_by_key}
+use Rattle.dac_wishes.specs.PermitsByKey.{permits_by_key}
+use Rattle.dac_bytes.specs.Numbers.{u8_bytes, u16_bytes, u32_bytes, u64_bytes}
+use Rattle.dac_bytes.specs.Spelling.{dot_bytes, origin_bytes}
+
+-- application, node and incarnation, in seven bytes
+unfoldable pub key_bytes : Key → List ℕ
+key_bytes key = u16_bytes key.app.0 ++ u8_bytes key.node.0 ++ u32_bytes key.inc
+
+-- ---- permits and start wishes
+
+-- what a permit says: 0 for false, 1 for true
+abbrev pub value_code : Flag → ℕ
+value_code Up = 1
+value_code Down = 0
+
+-- a permit: its dot, and what it says
+unfoldable pub permit_bytes : Dot × Flag → List ℕ
+permit_bytes p = dot_bytes p.0 ++ u8_bytes (value_code p.1)
+
+-- a key, how many permits it has, and these
+unfoldable pub keyed_permits_bytes : Key × DotFlags → List ℕ
+keyed_permits_bytes e = key_bytes e.0 ++ u32_bytes (length e.1) ++ flat_map permit_bytes e.1
+
+-- how many keys have permits, and the permits of each, in ascending order
+unfoldable pub permits_bytes : Permits → List ℕ
+permits_bytes permits = u32_bytes (length (permits_by_key permits)) ++ flat_map keyed_permits_bytes (permits_by_key permits)
+
+-- a key, how many start wishes it has, and their dots
+unfoldable pub keyed_dots_bytes : Key × List Dot → List ℕ
+keyed_dots_bytes e = key_bytes e.0 ++ u32_bytes (length e.1) ++ flat_map dot_bytes e.1
+
+-- how many keys have start wishes, and the dots of each, in ascending order
+unfoldable pub starts_bytes : Writes → List ℕ
+starts_bytes writes = u32_bytes (length (starts_by_key writes)) ++ flat_map (λ (e : Key × Dots). keyed_dots_bytes (e.0, in_order e.1)) (starts_by_key writes)
+
+-- ---- lives
+
+-- whether an incarnation is up, 0, or down, 1
+abbrev pub down_code : Flag → ℕ
+down_code Up = 0
+down_code Down = 1
+
+-- a node, its incarnation, and whether that one is up
+unfoldable pub life_bytes : NodeId × Life → List ℕ
+life_bytes e = u8_bytes e.0.0 ++ u32_bytes e.1.inc ++ u8_bytes (down_code e.1.flag)
+
+-- how many nodes have a life, and each life, in ascending order
+unfoldable pub lives_bytes : Lives → List ℕ
+lives_bytes lives = u8_bytes (length (map.entries lives)) ++ flat_map life_bytes (map.entries lives)
+
+-- ---- claims
+
+-- how an application came to its node: 1 for a start, 2 for a failover, 3 for a takeover
+abbrev pub how_code : How → ℕ
+how_code Normal = 1
+how_code Failover = 2
+how_code Takeover = 3
+
+-- the node that it was taken from: 0 for none, and else one more than the node
+abbrev pub from_code : Option NodeId → ℕ
+from_code None = 0
+from_code (Some node) = node.0 + 1
+
+-- how an application came to its node, and from which, in two bytes
+unfoldable pub manner_bytes : How → Option NodeId → List ℕ
+manner_bytes how from = u8_bytes (how_code how) ++ u8_bytes (from_code from)
+
+-- an application, the term of its claim, who claims it, and how it came there
+unfoldable pub claim_bytes : AppId × Claim → List ℕ
+claim_bytes e = u16_bytes e.0.0 ++ u64_bytes e.1.term ++ origin_bytes e.1.origin ++ manner_bytes e.1.how e.1.from
+
+-- how many applications are claimed, and each claim, in ascending order
+unfoldable pub claims_bytes : Claims → List ℕ
+claims_bytes claims = u16_bytes (length (map.entries claims)) ++ flat_map claim_bytes (map.entries claims)

@@ -1,0 +1,16 @@
+//! The parts of a state as bytes: permits, start wishes, lives and claims.
+//!
+//! All numbers are big-endian. A part is a count and its items in ascending order, so equal parts have equal
+//! bytes. Of permits and start wishes an item is a key with the dots that stand there, at least one. Each
+//! call that writes appends exactly the bytes that this crate's `specs/` give the part.
+//!
+//! A count that doesn't fit its field is written by its lowest bits.
+#![tactic(auto)]
+
+pub use writing::{
+    write_claims, write_key, write_lives, write_manner, write_permissions, write_wishes,
+};
+
+#[cfg(test)]
+mod tests;
+mod writing;

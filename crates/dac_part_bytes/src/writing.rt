@@ -1,0 +1,201 @@
+//! The writing side: each part after what a writer has.
+ghost use Rattle.std.specs.Prelude.{◌≡◌, ◌++◌, IfOk};
+ghost use Rattle.std.specs.List.{flat_map};
+ghost use Rattle.dac_bytes.specs.Spelling.{dot_bytes};
+ghost use Rattle.dac_part_bytes.specs.Spelling.{claim_bytes, claims_bytes, down_code, from_code, how_code, key_bytes, keyed_dots_bytes, keyed_permits_bytes, life_bytes, lives_bytes, manner_bytes, permit_bytes, permits_bytes, starts_bytes, value_code};
+
+use dac_base::{AppId, NoMemory, NodeId};
+use dac_bytes::ByteWriter;
+use dac_chains::{Claim, Claims, How, Life, Lives};
+use dac_dots::Dot;
+use dac_lattice::Flag;
+use dac_wishes::{Key, Permissions, Wishes};
+
+/// A key: its application in two bytes, its node in one and the incarnation in four. [`NoMemory`] is the
+/// only error; the writer is gone then.
+#[tactic(auto, unfolding(crate::specs::Spelling::key_bytes))]
+pub fn write_key(writer: ByteWriter, key: Key) -> Result<ByteWriter, NoMemory>
+    ensures { IfOk result (λ written. written ≡ writer ++ key_bytes key) }
+{
+    let written = writer
+        .write_u16(key.app.0)?
+        .write_u8(key.node.0)?
+        .write_u32(key.inc)?;
+    Ok(written)
+}
+
+fn value_code(flag: Flag) -> u8
+    ensures { result ≡ value_code flag }
+{
+    match flag {
+        Flag::Up => 1,
+        Flag::Down => 0,
+    }
+}
+
+#[tactic(auto, unfolding(crate::specs::Spelling::permit_bytes))]
+fn write_permit(writer: ByteWriter, dot: Dot, flag: Flag) -> Result<ByteWriter, NoMemory>
+    ensures { IfOk result (λ written. written ≡ writer ++ permit_bytes (dot, flag)) }
+{
+    let written = writer.write_dot(dot)?.write_u8(value_code(flag))?;
+    Ok(written)
+}
+
+/// A key and its permits.
+#[tactic(auto, unfolding(crate::specs::Spelling::keyed_permits_bytes))]
+fn write_permits(
+    writer: ByteWriter,
+    key: Key,
+    permits: &[(Dot, Flag)],
+) -> Result<ByteWriter, NoMemory>
+    ensures { IfOk result (λ written. written ≡ writer ++ keyed_permits_bytes (key, permits.now)) }
+{
+    let head = write_key(writer, key)?;
+    let mut written = head.write_count_u32(permits.len())?;
+    for (dot, flag) in permits {
+        written = write_permit(written, *dot, *flag)?;
+    }
+    Ok(written)
+}
+
+/// The permits that stand: how many keys have permits, and for each in ascending order the key, how many
+/// permits it has, and these, each a dot and 1 for true or 0 for false. [`NoMemory`] is the only error; the
+/// writer is gone then.
+#[tactic(auto, unfolding(crate::specs::Spelling::permits_bytes))]
+pub fn write_permissions(
+    writer: ByteWriter,
+    permissions: &Permissions,
+) -> Result<ByteWriter, NoMemory>
+    ensures { IfOk result (λ written. written ≡ writer ++ permits_bytes permissions.now.standing) }
+{
+    let entries = permissions.entries();
+    let mut written = writer.write_count_u32(entries.len())?;
+    for (key, permits) in entries {
+        written = write_permits(written, *key, permits.entries())?;
+    }
+    Ok(written)
+}
+
+/// A key and the dots of its start wishes.
+#[tactic(auto, unfolding(crate::specs::Spelling::keyed_dots_bytes))]
+fn write_dots(writer: ByteWriter, key: Key, dots: &[Dot]) -> Result<ByteWriter, NoMemory>
+    ensures { IfOk result (λ written. written ≡ writer ++ keyed_dots_bytes (key, dots.now)) }
+{
+    let head = write_key(writer, key)?;
+    let mut written = head.write_count_u32(dots.len())?;
+    for dot in dots {
+        written = written.write_dot(*dot)?;
+    }
+    Ok(written)
+}
+
+/// The start wishes that stand: how many keys have wishes, and for each in ascending order the key, how
+/// many wishes it has, and their dots. [`NoMemory`] is the only error; the writer is gone then.
+#[tactic(auto, unfolding(crate::specs::Spelling::starts_bytes))]
+pub fn write_wishes(writer: ByteWriter, wishes: &Wishes) -> Result<ByteWriter, NoMemory>
+    ensures { IfOk result (λ written. written ≡ writer ++ starts_bytes wishes.now.standing) }
+{
+    let entries = wishes.entries();
+    let mut written = writer.write_count_u32(entries.len())?;
+    for (key, dots) in entries {
+        written = write_dots(written, *key, dots.dots())?;
+    }
+    Ok(written)
+}
+
+fn down_code(flag: Flag) -> u8
+    ensures { result ≡ down_code flag }
+{
+    match flag {
+        Flag::Up => 0,
+        Flag::Down => 1,
+    }
+}
+
+#[tactic(auto, unfolding(crate::specs::Spelling::life_bytes))]
+fn write_life(writer: ByteWriter, node: NodeId, life: Life) -> Result<ByteWriter, NoMemory>
+    ensures { IfOk result (λ written. written ≡ writer ++ life_bytes (node, life)) }
+{
+    let written = writer
+        .write_u8(node.0)?
+        .write_u32(life.inc)?
+        .write_u8(down_code(life.flag))?;
+    Ok(written)
+}
+
+/// The lives: how many nodes have one, and for each in ascending order the node, its incarnation, and 0
+/// for up or 1 for down. [`NoMemory`] is the only error; the writer is gone then.
+#[tactic(auto, unfolding(crate::specs::Spelling::lives_bytes))]
+pub fn write_lives(writer: ByteWriter, lives: &Lives) -> Result<ByteWriter, NoMemory>
+    ensures { IfOk result (λ written. written ≡ writer ++ lives_bytes lives.now) }
+{
+    let entries = lives.entries();
+    let mut written = writer.write_count_u8(entries.len())?;
+    for (node, greatest) in entries {
+        written = write_life(written, *node, greatest.value)?;
+    }
+    Ok(written)
+}
+
+fn how_code(how: How) -> u8
+    ensures { result ≡ how_code how }
+{
+    match how {
+        How::Normal => 1,
+        How::Failover => 2,
+        How::Takeover => 3,
+    }
+}
+
+fn from_code(from: Option<NodeId>) -> usize
+    ensures { result ≡ from_code from }
+{
+    match from {
+        None => 0,
+        Some(node) => usize::from(node.0) + 1,
+    }
+}
+
+/// How an application came to its node: 1 for a start, 2 for a failover or 3 for a takeover, and then 0 or
+/// one more than the node that it was taken from, by its lowest bits. [`NoMemory`] is the only error; the
+/// writer is gone then.
+#[tactic(auto, unfolding(crate::specs::Spelling::manner_bytes))]
+pub fn write_manner(
+    writer: ByteWriter,
+    how: How,
+    from: Option<NodeId>,
+) -> Result<ByteWriter, NoMemory>
+    ensures { IfOk result (λ written. written ≡ writer ++ manner_bytes how from) }
+{
+    let written = writer
+        .write_u8(how_code(how))?
+        .write_count_u8(from_code(from))?;
+    Ok(written)
+}
+
+#[tactic(auto, unfolding(crate::specs::Spelling::claim_bytes))]
+fn write_claim(writer: ByteWriter, app: AppId, claim: Claim) -> Result<ByteWriter, NoMemory>
+    ensures { IfOk result (λ written. written ≡ writer ++ claim_bytes (app, claim)) }
+{
+    let head = writer
+        .write_u16(app.0)?
+        .write_u64(claim.term)?
+        .write_origin(claim.origin)?;
+    let written = write_manner(head, claim.how, claim.from)?;
+    Ok(written)
+}
+
+/// The claims: how many applications are claimed, and for each in ascending order the application, the
+/// term of its claim, who claims it, and how it came there. [`NoMemory`] is the only error; the writer is
+/// gone then.
+#[tactic(auto, unfolding(crate::specs::Spelling::claims_bytes))]
+pub fn write_claims(writer: ByteWriter, claims: &Claims) -> Result<ByteWriter, NoMemory>
+    ensures { IfOk result (λ written. written ≡ writer ++ claims_bytes claims.now) }
+{
+    let entries = claims.entries();
+    let mut written = writer.write_count_u16(entries.len())?;
+    for (app, greatest) in entries {
+        written = write_claim(written, *app, greatest.value)?;
+    }
+    Ok(written)
+}

@@ -1,0 +1,15 @@
+use Rattle.std.proofs.Common.{◌∙◌, sym}
+use Rattle.dac_dots.specs.Dots.{dots_total}
+use Rattle.dac_dots.specs.declared.dot.Dot.{Dot}
+use Rattle.dac_lattice.specs.Laws.{IsIn}
+use Rattle.dac_store.specs.Appending.{sorted_appended, find_appended}
+use Rattle.dac_store.proofs.dot_fun.DotFun.push.Goals as goal
+
+pub invariant_of-self-2 : goal.invariant_of-self-2
+invariant_of-self-2 g c =
+    let es = c.self.inside.entries.items in
+    let e : Dot × g.row.V.Denot = (c.args.dot, c.args.value) in
+    rw c.in_ok-push.ensures.items (record {
+      in_order = sorted_appended dots_total es e c.self.invariant.in_order (sym (rw c.deref.ensures.value at c.ends_below.ensures) ∙ c.if-not-ends_below.false);
+      values = λ q. find_appended dots_total (IsIn g.V.Lattice.is_value) es e q (c.self.invariant.values q) c.known.ensures;
+    })
