@@ -1,5 +1,6 @@
 pub mod Faults
 pub mod Fields
+pub mod Items
 pub mod Numbers
 pub mod Ranges
 pub mod Reading
