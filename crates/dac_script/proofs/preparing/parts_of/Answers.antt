@@ -1,6 +1,6 @@
 use Rattle.std.proofs.lemmas.Result.{err_from_is_err_and}
-use Rattle.dac_script.proofs.Preparing.{config_fails, script_has}
-use Rattle.dac_script.proofs.sim.parts_of.Goals as goal
+use Rattle.dac_script.proofs.WholeInput.{config_fails, script_has}
+use Rattle.dac_script.proofs.preparing.parts_of.Goals as goal
 
 pub returns-in_err-config-clause-fails : goal.returns-in_err-config-clause-fails
 returns-in_err-config-clause-fails c =

@@ -1,7 +1,7 @@
 use Rattle.std.proofs.lemmas.Result.{err_from_is_err_and}
 use Rattle.dac_script.specs.Inputs.{Says, IsFailureOf}
-use Rattle.dac_script.proofs.Preparing.{of_bytes, read_fails}
-use Rattle.dac_script.proofs.sim.prepare.Goals as goal
+use Rattle.dac_script.proofs.WholeInput.{of_bytes, read_fails}
+use Rattle.dac_script.proofs.preparing.prepare.Goals as goal
 
 pub returns-in_err-text-clause-fails : goal.returns-in_err-text-clause-fails
 returns-in_err-text-clause-fails g c =

@@ -14,11 +14,7 @@ use Rattle.dac_script.specs.declared.fault.InputFault.TheVariants.{TooLong, NoSc
 use Rattle.dac_script.specs.Failures.{failure_of_kind}
 use Rattle.dac_script.specs.Script.{lines_of, IsScriptFailure}
 use Rattle.dac_script.specs.Input.{IsParted, IsReadFailure}
-use Rattle.dac_script.specs.Inputs.{Says, IsFailureOf, IsSimulated}
-use Rattle.dac_script.specs.Play.{script_text}
-use Rattle.dac_script.specs.declared.line.ScriptLine.{ScriptLine}
-use Rattle.dac_core.specs.ModelWorld.{start}
-use Rattle.std.specs.Io.KnownBytes.{Appends}
+use Rattle.dac_script.specs.Inputs.{IsFailureOf}
 
 -- what holds of the text that was read holds of the bytes that there were
 pub of_bytes : (a : Option (List ℕ)) (text : List ℕ) (P : List ℕ → Type 0) → IfSome a (λ bytes. text ≡ bytes) → P text → IfSome a P
@@ -47,8 +43,3 @@ script_has text config script table (failure.Input fault) parted table_is fails 
 script_has text config script table (failure.Config fault) parted table_is fails = absurd fails
 script_has text config script table (failure.Script fault) parted table_is fails = record { config = config; script = script; parted = parted; table = table; table_is = table_is; fault_is = fails }
 script_has text config script table failure.NoMemory parted table_is fails = tt
-
--- the script that the input says was played
-pub simulated : (a old new : Option (List ℕ)) (table : Table) (lines : List ScriptLine) → IfSome a (λ bytes. Says bytes table lines) → Appends old new (script_text table (start table) lines) → IfSome a (λ bytes. IsSimulated bytes old new)
-simulated None old new table lines says printed = tt
-simulated (Some bytes) old new table lines says printed = record { table = table; lines = lines; says = says; printed = printed }
