@@ -8,8 +8,8 @@ use Rattle.dac_config.specs.Canonical.{canonical_text}
 use Rattle.dac_script.specs.declared.failure.Failure.{Failure}
 use Rattle.dac_script.specs.declared.failure.Failure.TheVariants as failure
 use Rattle.dac_script.specs.declared.fault.InputFault.TheVariants.{TooLong, NoScript, Read}
-use Rattle.dac_script.specs.declared.ending.Ending.{Ending}
-use Rattle.dac_script.specs.Endings.{Ends}
+use Rattle.dac_play.specs.declared.ending.Ending.{Ending}
+use Rattle.dac_play.specs.Endings.{Ends}
 
 -- the canonical text of the configuration that the bytes say
 pub record IsCanonicalOf (bytes text : List ℕ) : Type 0 where

@@ -2,9 +2,9 @@
 use Rattle.std.specs.Prelude.{◌≡◌, ℕ, List, Option, IfSome}
 use Rattle.std.specs.Io.KnownBytes.{Appends}
 use Rattle.dac_script.specs.declared.failure.Failure.{Failure}
-use Rattle.dac_script.specs.declared.ending.Ending.{Ending}
-use Rattle.dac_script.specs.declared.ending.Ending.TheVariants as ending
-use Rattle.dac_script.specs.Failures.{failure_text}
+use Rattle.dac_play.specs.declared.ending.Ending.{Ending}
+use Rattle.dac_play.specs.declared.ending.Ending.TheVariants as ending
+use Rattle.dac_play.specs.Texts.{failure_text}
 
 abbrev pub status_of : Ending → ℕ
 status_of ending.Done = 0

@@ -3,10 +3,13 @@ use Rattle.std.specs.Prelude.{ℕ, Bool, true, false, List, ◌++◌, codes}
 use Rattle.std.specs.Fmt.{decimal}
 use Rattle.dac_tokens.specs.Faults.{number_of, name_of}
 use Rattle.dac_tokens.specs.declared.fault.ConfigFault.{ConfigFault}
+use Rattle.hex.specs.Hex.{encode_lower}
+use Rattle.dac_script.specs.declared.failure.Failure.{Failure}
+use Rattle.dac_script.specs.declared.failure.Failure.TheVariants as failure
 use Rattle.dac_script.specs.declared.fault.InputFault.{InputFault}
 use Rattle.dac_script.specs.declared.fault.ScriptFault.{ScriptFault}
 use Rattle.dac_script.specs.Faults.{input_number, input_name, script_number, script_name}
-use Rattle.dac_script.specs.Names.{name_text}
+use Rattle.dac_config.specs.Canonical.{name_text}
 
 -- a boot: the incarnation, and the number of the operation that it issued
 abbrev pub booted_text : ℕ → ℕ → List ℕ
@@ -21,12 +24,22 @@ issued_text operation node incarnation counter =
 abbrev pub shipped_text : ℕ → ℕ → List ℕ
 shipped_text message heard = codes "shipped " ++ (decimal message ++ (codes " whole " ++ (decimal heard ++ codes "\n")))
 
+-- messages were shipped and delivered from each node that runs to each other one
+abbrev pub shared_text : ℕ → List ℕ
+shared_text messages = codes "shared " ++ (decimal messages ++ codes "\n")
+
+abbrev pub crashed_text : List ℕ
+crashed_text = codes "crashed\n"
+
 abbrev pub heard_text : Bool → List ℕ
 heard_text true = codes "heard new\n"
 heard_text false = codes "heard nothing new\n"
 
 abbrev pub no_message_text : ℕ → List ℕ
 no_message_text message = codes "no message " ++ (decimal message ++ codes "\n")
+
+abbrev pub no_operation_text : ℕ → List ℕ
+no_operation_text operation = codes "no operation " ++ (decimal operation ++ codes "\n")
 
 -- a refusal: the number and the name of its cause
 abbrev pub refused_text : ℕ → List ℕ → List ℕ
@@ -35,6 +48,10 @@ refused_text number name = codes "refused " ++ (decimal number ++ (codes " " ++ 
 abbrev pub same_text : Bool → List ℕ
 same_text true = codes "same\n"
 same_text false = codes "differ\n"
+
+-- the bytes of a state, each as two hexadecimal digits
+abbrev pub state_text : List ℕ → List ℕ
+state_text bytes = encode_lower bytes ++ codes "\n"
 
 abbrev pub off_text : List ℕ → List ℕ
 off_text node = codes "node " ++ (name_text node ++ codes " off\n")
@@ -49,3 +66,10 @@ config_fault_text fault =
 abbrev pub script_fault_text : ScriptFault → List ℕ
 script_fault_text fault =
     codes "script fault " ++ (decimal fault.line ++ (codes " " ++ (decimal (script_number fault.kind) ++ (codes " " ++ (script_name fault.kind ++ codes "\n")))))
+
+-- why nothing is played
+abbrev pub failure_text : Failure → List ℕ
+failure_text (failure.Input fault) = input_fault_text fault
+failure_text (failure.Config fault) = config_fault_text fault
+failure_text (failure.Script fault) = script_fault_text fault
+failure_text failure.NoMemory = codes "out of memory\n"

@@ -1,12 +1,11 @@
 //! A configuration checked, and printed in its one form.
 
 ghost use Rattle.std.specs.Prelude.{◌≡◌, IfOk, IfErr, IfSome};
-ghost use Rattle.dac_script.specs.Checks.{IsCanonicalOf, IsUnchecked, EndsCheck};
+ghost use Rattle.dac_play.specs.Checks.{IsCanonicalOf, IsUnchecked, EndsCheck};
 
 use crate::ending::{Ending, print, refuse};
-use crate::failure::Failure;
-use crate::input::read_input;
 use dac_config::read_config;
+use dac_script::{Failure, read_input};
 use std::alloc::Global;
 use std::io::{Read, Write};
 

@@ -2,10 +2,10 @@
 
 ghost use Rattle.std.specs.Prelude.{◌≡◌, true};
 ghost use Rattle.std.specs.Io.KnownBytes.{Appends};
-ghost use Rattle.dac_script.specs.Endings.{status_of, IsRefusal};
+ghost use Rattle.dac_play.specs.Endings.{status_of, IsRefusal};
 
-use crate::failure::{Failure, OUT_OF_MEMORY};
-use dac_base::NoMemory;
+use crate::texts::{OUT_OF_MEMORY, failure_line};
+use dac_script::Failure;
 use std::alloc::Global;
 use std::io::Write;
 
@@ -46,7 +46,7 @@ pub fn print<W: Write>(text: &[u8], output: &mut W) -> bool
 pub fn refuse<W: Write>(alloc: Global, failure: Failure, output: &mut W) -> Ending
     ensures { IsRefusal failure result (W.contents output.old) (W.contents output.new) }
 {
-    let Ok(line) = failure.line(alloc) else {
+    let Ok(line) = failure_line(alloc, failure) else {
         let _printed = print(OUT_OF_MEMORY.as_bytes(), output);
         return Ending::Stopped;
     };
