@@ -1,6 +1,5 @@
 mod LineByLine
 mod Numbers
 mod Parting
-mod Playing
-mod Preparing
+mod WholeInput
 mod ReadOn

@@ -1,21 +1,16 @@
 -- What an input says, and why it says nothing.
-use Rattle.std.specs.Prelude.{◌≡◌, ◌≢◌, ℕ, ◌<◌, List, Option, length, All, Err}
-use Rattle.std.specs.Io.KnownBytes.{Appends}
+use Rattle.std.specs.Prelude.{◌≡◌, ◌≢◌, ℕ, ◌<◌, List, length, All, Err}
 use Rattle.dac_tokens.specs.declared.fault.ConfigFault.{ConfigFault}
 use Rattle.dac_config.specs.Table.{Table}
 use Rattle.dac_config.specs.Says.{IsConfigOf}
 use Rattle.dac_config.specs.Reading.{config_at}
-use Rattle.dac_core.specs.ModelWorld.{start}
 use Rattle.dac_script.specs.declared.failure.Failure.{Failure}
 use Rattle.dac_script.specs.declared.failure.Failure.TheVariants as failure
 use Rattle.dac_script.specs.declared.fault.InputFault.TheVariants.{TooLong, NoScript, Read}
 use Rattle.dac_script.specs.declared.fault.ScriptFault.{ScriptFault}
 use Rattle.dac_script.specs.declared.line.ScriptLine.{ScriptLine}
-use Rattle.dac_script.specs.declared.ending.Ending.{Ending}
-use Rattle.dac_script.specs.Endings.{Ends}
 use Rattle.dac_script.specs.Script.{lines_of, ReadsAs, IsFirstFault}
 use Rattle.dac_script.specs.Input.{mark, IsParted}
-use Rattle.dac_script.specs.Play.{script_text}
 
 -- an input has two parts, which say this configuration and this script
 pub record Says (bytes : List ℕ) (table : Table) (lines : List ScriptLine) : Type 0 where
@@ -41,7 +36,7 @@ pub record HasScriptFault (bytes : List ℕ) (fault : ScriptFault) : Type 0 wher
   pub table_is : IsConfigOf config table
   pub fault_is : IsFirstFault table (lines_of script) fault
 
--- why an input isn't played; of a failed read and of want of memory the input says nothing
+-- why an input isn't read; of a failed read and of want of memory the input says nothing
 abbrev pub IsFailureOf : List ℕ → Failure → Type 0
 IsFailureOf bytes (failure.Input TooLong) = 2097152 < length bytes
 IsFailureOf bytes (failure.Input NoScript) = All (λ line. line ≢ mark) (lines_of bytes)
@@ -49,13 +44,3 @@ IsFailureOf bytes (failure.Input Read) = Unit {0}
 IsFailureOf bytes (failure.Config fault) = HasConfigFault bytes fault
 IsFailureOf bytes (failure.Script fault) = HasScriptFault bytes fault
 IsFailureOf bytes failure.NoMemory = Unit {0}
-
--- what is printed is that of the script that the input says
-pub record IsSimulated (bytes : List ℕ) (old new : Option (List ℕ)) : Type 0 where
-  pub table : Table
-  pub lines : List ScriptLine
-  pub says : Says bytes table lines
-  pub printed : Appends old new (script_text table (start table) lines)
-
-abbrev pub EndsSim : List ℕ → Ending → Option (List ℕ) → Option (List ℕ) → Type 0
-EndsSim bytes = Ends (IsSimulated bytes) (IsFailureOf bytes)

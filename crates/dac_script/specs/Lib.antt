@@ -1,13 +1,9 @@
 pub mod Names
 pub mod Words
 pub mod Faults
-pub mod Texts
+pub mod Asked
 pub mod Line
 pub mod Script
 pub mod Input
 pub mod Failures
-pub mod Endings
-pub mod Checks
-pub mod Answers
-pub mod Play
 pub mod Inputs

@@ -1,20 +1,26 @@
 //! One line of a script.
 
-ghost use Rattle.std.specs.Prelude.{◌≡◌, ◌<◌, IfOk, map};
+ghost use Rattle.std.specs.Prelude.{◌≡◌, ℕ, IfOk, map};
 ghost use Rattle.dac_config.specs.Table.{node_count};
-ghost use Rattle.dac_script.specs.Line.{seen, verb_of, named, numbered, actor, about, application, two, three, boot_line, start_line, stop_line, ship_line, hear_line, same_line, line_of, HasActors};
+ghost use Rattle.dac_script.specs.Line.{command_verb, verb_of, boot_line, crash_line, down_line, permit_line, start_line, stop_line, ship_line, hear_line, hand_line, share_line, state_line, same_line, line_of, HasActors};
 
+use crate::asked::{
+    actor, four, named, node_and_about, node_and_number, one, three, truth, two, wish_in,
+};
 use crate::fault::ScriptFaultKind;
-use crate::words::{name_in, number_in};
-use dac_base::{AppId, NodeId};
+use dac_base::NodeId;
 use dac_config::Config;
-use dac_core::{Command, What, WorldEvent};
+use dac_events::{Command, What, WorldEvent};
 
 /// A line of a script that says something.
 #[derive(Clone, Copy, Debug, PartialEq, Eq)]
 pub enum ScriptLine {
     /// Something happens at a node.
     Event(WorldEvent),
+    /// Each node that runs tells its state to each other node that runs.
+    Share,
+    /// The bytes of a node's state are printed.
+    State(NodeId),
     /// The bytes of two nodes' states are compared.
     Same(NodeId, NodeId),
 }
@@ -23,77 +29,66 @@ pub enum ScriptLine {
 #[derive(Clone, Copy, Debug, PartialEq, Eq)]
 enum Verb {
     Boot,
+    Crash,
+    Down,
+    Permit,
     Start,
     Stop,
     Ship,
     Hear,
+    Hand,
+    Share,
+    State,
     Same,
+}
+
+/// The commands that operators give.
+fn command_verb(word: &[u8]) -> Option<Verb>
+    ensures { result ≡ command_verb word.now }
+{
+    if word == b"down".as_slice() {
+        return Some(Verb::Down);
+    }
+    if word == b"permit".as_slice() {
+        return Some(Verb::Permit);
+    }
+    if word == b"start".as_slice() {
+        return Some(Verb::Start);
+    }
+    if word == b"stop".as_slice() {
+        return Some(Verb::Stop);
+    }
+    None
 }
 
 fn verb_of(word: &[u8]) -> Option<Verb>
     ensures { result ≡ verb_of word.now }
 {
-    match word {
-        b"boot" => Some(Verb::Boot),
-        b"start" => Some(Verb::Start),
-        b"stop" => Some(Verb::Stop),
-        b"ship" => Some(Verb::Ship),
-        b"hear" => Some(Verb::Hear),
-        b"same" => Some(Verb::Same),
-        _ => None,
+    if word == b"boot".as_slice() {
+        return Some(Verb::Boot);
     }
-}
-
-fn named(word: &[u8]) -> Result<&[u8], ScriptFaultKind>
-    ensures { seen (λ name. name.now) result ≡ named word.now }
-{
-    name_in(word).ok_or(ScriptFaultKind::BadName)
-}
-
-fn numbered(word: &[u8]) -> Result<u64, ScriptFaultKind>
-    ensures { result ≡ numbered word.now }
-{
-    number_in(word).ok_or(ScriptFaultKind::BadNumber)
-}
-
-/// The node where something is to happen.
-fn actor(config: &Config, name: &[u8]) -> Result<NodeId, ScriptFaultKind>
-    ensures node { result ≡ actor config.now name.now }
-    ensures below { IfOk result (λ node. node.0 < node_count config.now) }
-{
-    config.node_named(name).ok_or(ScriptFaultKind::UnknownActor)
-}
-
-/// The node that an event is about: the number past all nodes where the configuration has no such node.
-fn about(config: &Config, name: &[u8]) -> NodeId
-    ensures { result ≡ about config.now name.now }
-{
-    config.node_named(name).unwrap_or(NodeId(config.nodes()))
-}
-
-/// The application that an event is about: the number past all where the configuration has none such.
-fn application(config: &Config, name: &[u8]) -> AppId
-    ensures { result ≡ application config.now name.now }
-{
-    config.app_named(name).unwrap_or(AppId(config.apps()))
-}
-
-fn two<'a>(words: &[&'a [u8]]) -> Result<(&'a [u8], &'a [u8]), ScriptFaultKind>
-    ensures { seen (λ pair. (pair.0.now, pair.1.now)) result ≡ two (map (λ word. word.now) words.now) }
-{
-    match words {
-        [first, second] => Ok((*first, *second)),
-        _ => Err(ScriptFaultKind::BadCount),
+    if word == b"crash".as_slice() {
+        return Some(Verb::Crash);
     }
-}
-
-fn three<'a>(words: &[&'a [u8]]) -> Result<(&'a [u8], &'a [u8], &'a [u8]), ScriptFaultKind>
-    ensures { seen (λ all. (all.0.now, all.1.now, all.2.now)) result ≡ three (map (λ word. word.now) words.now) }
-{
-    match words {
-        [first, second, third] => Ok((*first, *second, *third)),
-        _ => Err(ScriptFaultKind::BadCount),
+    if word == b"ship".as_slice() {
+        return Some(Verb::Ship);
     }
+    if word == b"hear".as_slice() {
+        return Some(Verb::Hear);
+    }
+    if word == b"hand".as_slice() {
+        return Some(Verb::Hand);
+    }
+    if word == b"share".as_slice() {
+        return Some(Verb::Share);
+    }
+    if word == b"state".as_slice() {
+        return Some(Verb::State);
+    }
+    if word == b"same".as_slice() {
+        return Some(Verb::Same);
+    }
+    command_verb(word)
 }
 
 /// `boot NODE NOW`
@@ -101,13 +96,54 @@ fn boot(config: &Config, words: &[&[u8]]) -> Result<ScriptLine, ScriptFaultKind>
     ensures line { result ≡ boot_line config.now (map (λ word. word.now) words.now) }
     ensures actors { IfOk result (HasActors (node_count config.now)) }
 {
-    let (node, now) = two(words)?;
-    let node = named(node)?;
-    let now = numbered(now)?;
-    let node = actor(config, node)?;
+    let (node, now) = node_and_number(config, words)?;
     Ok(ScriptLine::Event(WorldEvent {
         node,
         what: What::Boot { now },
+    }))
+}
+
+/// `crash NODE`
+fn crash(config: &Config, words: &[&[u8]]) -> Result<ScriptLine, ScriptFaultKind>
+    ensures line { result ≡ crash_line config.now (map (λ word. word.now) words.now) }
+    ensures actors { IfOk result (HasActors (node_count config.now)) }
+{
+    let node = one(words)?;
+    let node = named(node)?;
+    let node = actor(config, node)?;
+    Ok(ScriptLine::Event(WorldEvent {
+        node,
+        what: What::Crash,
+    }))
+}
+
+/// `down NODE ABOUT`
+fn down(config: &Config, words: &[&[u8]]) -> Result<ScriptLine, ScriptFaultKind>
+    ensures line { result ≡ down_line config.now (map (λ word. word.now) words.now) }
+    ensures actors { IfOk result (HasActors (node_count config.now)) }
+{
+    let (node, subject) = node_and_about(config, words)?;
+    Ok(ScriptLine::Event(WorldEvent {
+        node,
+        what: What::Command(Command::Down { node: subject }),
+    }))
+}
+
+/// `permit NODE APP ABOUT true` or `permit NODE APP ABOUT false`
+fn permit(config: &Config, words: &[&[u8]]) -> Result<ScriptLine, ScriptFaultKind>
+    ensures line { result ≡ permit_line config.now (map (λ word. word.now) words.now) }
+    ensures actors { IfOk result (HasActors (node_count config.now)) }
+{
+    let (node, app, subject, value) = four(words)?;
+    let value = truth(value)?;
+    let wish = wish_in(config, node, app, subject)?;
+    Ok(ScriptLine::Event(WorldEvent {
+        node: wish.at,
+        what: What::Command(Command::Permit {
+            app: wish.app,
+            node: wish.node,
+            value,
+        }),
     }))
 }
 
@@ -117,15 +153,12 @@ fn start(config: &Config, words: &[&[u8]]) -> Result<ScriptLine, ScriptFaultKind
     ensures actors { IfOk result (HasActors (node_count config.now)) }
 {
     let (node, app, subject) = three(words)?;
-    let node = named(node)?;
-    let app = named(app)?;
-    let subject = named(subject)?;
-    let node = actor(config, node)?;
+    let wish = wish_in(config, node, app, subject)?;
     Ok(ScriptLine::Event(WorldEvent {
-        node,
+        node: wish.at,
         what: What::Command(Command::Start {
-            app: application(config, app),
-            node: about(config, subject),
+            app: wish.app,
+            node: wish.node,
         }),
     }))
 }
@@ -136,15 +169,12 @@ fn stop(config: &Config, words: &[&[u8]]) -> Result<ScriptLine, ScriptFaultKind>
     ensures actors { IfOk result (HasActors (node_count config.now)) }
 {
     let (node, app, subject) = three(words)?;
-    let node = named(node)?;
-    let app = named(app)?;
-    let subject = named(subject)?;
-    let node = actor(config, node)?;
+    let wish = wish_in(config, node, app, subject)?;
     Ok(ScriptLine::Event(WorldEvent {
-        node,
+        node: wish.at,
         what: What::Command(Command::Stop {
-            app: application(config, app),
-            node: about(config, subject),
+            app: wish.app,
+            node: wish.node,
         }),
     }))
 }
@@ -154,15 +184,10 @@ fn ship(config: &Config, words: &[&[u8]]) -> Result<ScriptLine, ScriptFaultKind>
     ensures line { result ≡ ship_line config.now (map (λ word. word.now) words.now) }
     ensures actors { IfOk result (HasActors (node_count config.now)) }
 {
-    let (node, subject) = two(words)?;
-    let node = named(node)?;
-    let subject = named(subject)?;
-    let node = actor(config, node)?;
+    let (node, to) = node_and_about(config, words)?;
     Ok(ScriptLine::Event(WorldEvent {
         node,
-        what: What::Ship {
-            to: about(config, subject),
-        },
+        what: What::Ship { to },
     }))
 }
 
@@ -171,14 +196,45 @@ fn hear(config: &Config, words: &[&[u8]]) -> Result<ScriptLine, ScriptFaultKind>
     ensures line { result ≡ hear_line config.now (map (λ word. word.now) words.now) }
     ensures actors { IfOk result (HasActors (node_count config.now)) }
 {
-    let (node, message) = two(words)?;
-    let node = named(node)?;
-    let message = numbered(message)?;
-    let node = actor(config, node)?;
+    let (node, message) = node_and_number(config, words)?;
     Ok(ScriptLine::Event(WorldEvent {
         node,
         what: What::Deliver(message),
     }))
+}
+
+/// `hand NODE O`
+fn hand(config: &Config, words: &[&[u8]]) -> Result<ScriptLine, ScriptFaultKind>
+    ensures line { result ≡ hand_line config.now (map (λ word. word.now) words.now) }
+    ensures actors { IfOk result (HasActors (node_count config.now)) }
+{
+    let (node, operation) = node_and_number(config, words)?;
+    Ok(ScriptLine::Event(WorldEvent {
+        node,
+        what: What::Hand(operation),
+    }))
+}
+
+/// `share`
+fn share(words: &[&[u8]]) -> Result<ScriptLine, ScriptFaultKind>
+    ensures line { result ≡ share_line (map (λ word. word.now) words.now) }
+    ensures actors { (nodes : ℕ) → IfOk result (HasActors nodes) }
+{
+    match words {
+        [] => Ok(ScriptLine::Share),
+        _ => Err(ScriptFaultKind::BadCount),
+    }
+}
+
+/// `state NODE`
+fn state(config: &Config, words: &[&[u8]]) -> Result<ScriptLine, ScriptFaultKind>
+    ensures line { result ≡ state_line config.now (map (λ word. word.now) words.now) }
+    ensures actors { IfOk result (HasActors (node_count config.now)) }
+{
+    let node = one(words)?;
+    let node = named(node)?;
+    let node = actor(config, node)?;
+    Ok(ScriptLine::State(node))
 }
 
 /// `same NODE NODE`
@@ -205,10 +261,16 @@ pub fn line_of(config: &Config, words: &[&[u8]]) -> Result<ScriptLine, ScriptFau
     };
     match verb_of(first) {
         Some(Verb::Boot) => boot(config, rest),
+        Some(Verb::Crash) => crash(config, rest),
+        Some(Verb::Down) => down(config, rest),
+        Some(Verb::Permit) => permit(config, rest),
         Some(Verb::Start) => start(config, rest),
         Some(Verb::Stop) => stop(config, rest),
         Some(Verb::Ship) => ship(config, rest),
         Some(Verb::Hear) => hear(config, rest),
+        Some(Verb::Hand) => hand(config, rest),
+        Some(Verb::Share) => share(rest),
+        Some(Verb::State) => state(config, rest),
         Some(Verb::Same) => same(config, rest),
         None => Err(ScriptFaultKind::BadWord),
     }

@@ -2,7 +2,8 @@
 
 ghost use Rattle.std.specs.Prelude.{◌≡◌, IfOk};
 ghost use Rattle.std.specs.List.{list_all};
-ghost use Rattle.dac_script.specs.Names.{is_name_byte, begins_small, is_bare, is_quotable, name_text};
+ghost use Rattle.dac_config.specs.Canonical.{is_name_byte, begins_small, is_bare, name_text};
+ghost use Rattle.dac_script.specs.Names.{is_quotable};
 
 use std::alloc::{AllocError, Global};
 

@@ -1,14 +1,12 @@
 //! The public calls, each with ample memory.
 
 use super::{
-    Ending, Failure, InputFault, ScriptFault, ScriptFaultKind, ScriptLine, booted_line, canonical,
-    check, config_fault_line, heard_line, input_fault_line, issued_line, no_message_line, off_line,
-    parted, prepare, printed_name, read_input, read_script, refused_line, same_line,
-    script_fault_line, shipped_line, simulate,
+    Failure, InputFault, ScriptFault, ScriptFaultKind, ScriptLine, parted, prepare, printed_name,
+    read_input, read_script,
 };
-use dac_base::NoMemory;
+use dac_base::{AppId, NodeId};
 use dac_config::read_config;
-use dac_tokens::{ConfigFault, FaultKind};
+use dac_events::{Command, What, WorldEvent};
 use std::alloc::Global;
 use std::test::Fail;
 
@@ -28,73 +26,6 @@ fn prints_names(rt: HostRuntime) -> Result<(), Fail> {
         let text = printed_name(rt.alloc(), name.as_bytes())?;
         assert_eq!(rt; text.as_slice(), printed.as_bytes(), "{name}");
     }
-    Ok(())
-}
-
-/// Whether a line was printed, and reads so.
-fn is_line(line: Result<Vec<u8>, NoMemory>, expected: &str) -> Result<bool, Fail> {
-    Ok(line?.as_slice() == expected.as_bytes())
-}
-
-#[test]
-fn prints_what_is_issued(rt: HostRuntime) -> Result<(), Fail> {
-    let alloc = rt.alloc();
-    assert!(rt; is_line(booted_line(alloc, 1, 2), "booted 1 op 2\n")?);
-    assert!(rt; is_line(issued_line(alloc, 3, b"c1@h", 1, 2), "issued 3 c1@h 1 2\n")?);
-    assert!(rt; is_line(issued_line(alloc, 3, b"c-1", 4, 5), "issued 3 'c-1' 4 5\n")?);
-    Ok(())
-}
-
-#[test]
-fn prints_messages_and_refusals(rt: HostRuntime) -> Result<(), Fail> {
-    let alloc = rt.alloc();
-    assert!(rt; is_line(shipped_line(alloc, 1, 2), "shipped 1 whole 2\n")?);
-    assert!(rt; is_line(no_message_line(alloc, 7), "no message 7\n")?);
-    assert!(rt; is_line(refused_line(alloc, 9, "NotLive"), "refused 9 NotLive\n")?);
-    assert_eq!(rt; heard_line(true), "heard new\n");
-    assert_eq!(rt; heard_line(false), "heard nothing new\n");
-    Ok(())
-}
-
-#[test]
-fn prints_comparisons(rt: HostRuntime) -> Result<(), Fail> {
-    assert!(rt; is_line(off_line(rt.alloc(), b"c1@h"), "node c1@h off\n")?);
-    assert_eq!(rt; same_line(true), "same\n");
-    assert_eq!(rt; same_line(false), "differ\n");
-    Ok(())
-}
-
-const CONFIG_FAULT: ConfigFault = ConfigFault {
-    kind: FaultKind::TwiceInList,
-    at: 37,
-};
-
-const SCRIPT_FAULT: ScriptFault = ScriptFault {
-    line: 3,
-    kind: ScriptFaultKind::BadNumber,
-};
-
-#[test]
-fn prints_faults(rt: HostRuntime) -> Result<(), Fail> {
-    let alloc = rt.alloc();
-    let input = input_fault_line(alloc, InputFault::Read);
-    assert!(rt; is_line(input, "input fault 3 Read\n")?);
-    let config = config_fault_line(alloc, CONFIG_FAULT);
-    assert!(rt; is_line(config, "config fault 7 TwiceInList at 37\n")?);
-    let script = script_fault_line(alloc, SCRIPT_FAULT);
-    assert!(rt; is_line(script, "script fault 3 4 BadNumber\n")?);
-    Ok(())
-}
-
-#[test]
-fn prints_why_nothing_is_run(rt: HostRuntime) -> Result<(), Fail> {
-    let alloc = rt.alloc();
-    let input = Failure::Input(InputFault::TooLong).line(alloc);
-    assert!(rt; is_line(input, "input fault 1 TooLong\n")?);
-    let script = Failure::Script(SCRIPT_FAULT).line(alloc);
-    assert!(rt; is_line(script, "script fault 3 4 BadNumber\n")?);
-    let memory = Failure::NoMemory.line(alloc);
-    assert!(rt; is_line(memory, "out of memory\n")?);
     Ok(())
 }
 
@@ -124,22 +55,80 @@ fn script_of(alloc: Global, text: &[u8]) -> Result<Result<Vec<ScriptLine>, Failu
     Ok(read_script(alloc, &config, text))
 }
 
+/// The event of a line.
+fn at(node: u8, what: What) -> ScriptLine {
+    ScriptLine::Event(WorldEvent {
+        node: NodeId(node),
+        what,
+    })
+}
+
 #[test]
 fn reads_scripts(rt: HostRuntime) -> Result<(), Fail> {
-    let text = b"boot c1@h 0\n%\n\nsame c1@h 'c2@h'";
+    let text =
+        b"boot c1@h 7\n%\n\ncrash c2@h\n down c1@h x\nhear c3@h 0\nhand c1@h 4611686018427387904\nshare\nstate c3@h\nsame c1@h 'c2@h'";
     let script = script_of(rt.alloc(), text)?.ok().ok_or("unread")?;
-    assert_eq!(rt; script.len(), 2);
+    let down = Command::Down { node: NodeId(3) };
+    let expected = [
+        at(0, What::Boot { now: 7 }),
+        at(1, What::Crash),
+        at(0, What::Command(down)),
+        at(2, What::Deliver(0)),
+        at(0, What::Hand(4_611_686_018_427_387_904)),
+        ScriptLine::Share,
+        ScriptLine::State(NodeId(2)),
+        ScriptLine::Same(NodeId(0), NodeId(1)),
+    ];
+    assert_eq!(rt; script.as_slice(), expected.as_slice());
+    Ok(())
+}
+
+#[test]
+fn reads_wishes(rt: HostRuntime) -> Result<(), Fail> {
+    let text =
+        b"permit c1@h a c2@h true\npermit c3@h c c1@h false\nstart c1@h b c3@h\nstop c2@h 'b' c1@h";
+    let script = script_of(rt.alloc(), text)?.ok().ok_or("unread")?;
+    let permit = |app, node, value| Command::Permit {
+        app: AppId(app),
+        node: NodeId(node),
+        value,
+    };
+    let start = Command::Start {
+        app: AppId(1),
+        node: NodeId(2),
+    };
+    let stop = Command::Stop {
+        app: AppId(1),
+        node: NodeId(0),
+    };
+    let expected = [
+        at(0, What::Command(permit(0, 1, true))),
+        at(2, What::Command(permit(2, 0, false))),
+        at(0, What::Command(start)),
+        at(1, What::Command(stop)),
+    ];
+    assert_eq!(rt; script.as_slice(), expected.as_slice());
     Ok(())
 }
 
 #[test]
 fn names_the_fault_of_a_script(rt: HostRuntime) -> Result<(), Fail> {
-    let why = script_of(rt.alloc(), b"boot c1@h 0\nship c1@h")?.err();
-    let expected = ScriptFault {
-        line: 2,
-        kind: ScriptFaultKind::BadCount,
-    };
-    assert_eq!(rt; why, Some(Failure::Script(expected)));
+    let cases = [
+        ("boot c1@h 0\nship c1@h", 2, ScriptFaultKind::BadCount),
+        ("share c1@h", 1, ScriptFaultKind::BadCount),
+        ("permit nobody a c1@h 'true'", 1, ScriptFaultKind::BadName),
+        ("hand nobody 01", 1, ScriptFaultKind::BadNumber),
+        ("crash nobody", 1, ScriptFaultKind::UnknownActor),
+        ("shares", 1, ScriptFaultKind::BadWord),
+    ];
+    for (text, line, kind) in cases {
+        let why = script_of(rt.alloc(), text.as_bytes())?.err();
+        assert_eq!(rt;
+            why,
+            Some(Failure::Script(ScriptFault { line, kind })),
+            "{text}"
+        );
+    }
     Ok(())
 }
 
@@ -155,39 +144,11 @@ fn prepares_inputs(rt: HostRuntime) -> Result<(), Fail> {
 }
 
 #[test]
-fn prints_canonical_texts(rt: HostRuntime) -> Result<(), Fail> {
-    let mut input = b"[{kernel,[{distributed,[{a,[c1@h]}]}]}].".as_slice();
-    let text = canonical(rt.alloc(), &mut input).ok().ok_or("refused")?;
-    assert_eq!(rt;
-        text.as_slice(),
-        b"[{kernel,[{distributed,[{a,0,[c1@h]}]},{permissions,[]},{sync_nodes_mandatory,[]},{sync_nodes_optional,[]}]}].\n".as_slice()
-    );
-    Ok(())
-}
-
-#[test]
-fn prints_why_nothing_is_done(rt: HostRuntime) {
-    let mut input = b"[].".as_slice();
-    let mut output = Vec::new(rt.alloc());
-    let ending = check(rt.alloc(), &mut input, &mut output);
-    assert_eq!(rt;
-        output.as_slice(),
-        b"config fault 5 NoDistributed at 3\n".as_slice()
-    );
-    let fault = ConfigFault {
-        kind: FaultKind::NoDistributed,
-        at: 3,
-    };
-    assert_eq!(rt; ending, Ending::Refused(Failure::Config(fault)));
-    assert_eq!(rt; ending.status(), 1);
-}
-
-#[test]
-fn plays_inputs(rt: HostRuntime) {
-    let mut input = INPUT;
-    let mut output = Vec::new(rt.alloc());
-    let ending = simulate(rt.alloc(), &mut input, &mut output);
-    let printed = b"booted 1 op 1\nnode c2@h off\n";
-    assert_eq!(rt; output.as_slice(), printed.as_slice());
-    assert_eq!(rt; ending, Ending::Done);
+fn names_faults_of_inputs(rt: HostRuntime) {
+    let why = prepare(rt.alloc(), &mut b"[].".as_slice()).err();
+    assert_eq!(rt; why, Some(Failure::Input(InputFault::NoScript)));
+    assert_eq!(rt; InputFault::NoScript.number(), 2);
+    assert_eq!(rt; InputFault::NoScript.name(), "NoScript");
+    assert_eq!(rt; ScriptFaultKind::BadName.number(), 3);
+    assert_eq!(rt; ScriptFaultKind::BadName.name(), "BadName");
 }

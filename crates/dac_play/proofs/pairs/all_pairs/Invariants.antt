@@ -1,0 +1,7 @@
+use Rattle.std.proofs.Common.{◌≡◌, take}
+use Rattle.std.specs.Prelude.{flat_map}
+use Rattle.dac_play.specs.Pairs.{pairs_of}
+use Rattle.dac_play.proofs.pairs.all_pairs.Given as goal
+
+abbrev pub invariant-loop-from : goal.invariant-loop-from
+invariant-loop-from l = l.all.items ≡ flat_map (pairs_of l.nodes) (take l.from-index l.nodes)

@@ -1,0 +1,36 @@
+-- What `distac check` prints of an input.
+use Rattle.std.specs.Prelude.{◌≡◌, ℕ, ◌<◌, List, length, Option, Err}
+use Rattle.std.specs.Io.KnownBytes.{Appends}
+use Rattle.dac_config.specs.Table.{Table}
+use Rattle.dac_config.specs.Says.{IsConfigOf}
+use Rattle.dac_config.specs.Reading.{config_at}
+use Rattle.dac_config.specs.Canonical.{canonical_text}
+use Rattle.dac_script.specs.declared.failure.Failure.{Failure}
+use Rattle.dac_script.specs.declared.failure.Failure.TheVariants as failure
+use Rattle.dac_script.specs.declared.fault.InputFault.TheVariants.{TooLong, NoScript, Read}
+use Rattle.dac_play.specs.declared.ending.Ending.{Ending}
+use Rattle.dac_play.specs.Endings.{Ends}
+
+-- the canonical text of the configuration that the bytes say
+pub record IsCanonicalOf (bytes text : List ℕ) : Type 0 where
+  pub table : Table
+  pub says : IsConfigOf bytes table
+  pub text_is : text ≡ canonical_text table
+
+-- why an input isn't checked; of a failed read and of want of memory the input says nothing
+abbrev pub IsUnchecked : List ℕ → Failure → Type 0
+IsUnchecked bytes (failure.Input TooLong) = 2097152 < length bytes
+IsUnchecked bytes (failure.Input NoScript) = ⊥
+IsUnchecked bytes (failure.Input Read) = Unit {0}
+IsUnchecked bytes (failure.Config fault) = config_at bytes ≡ Err fault
+IsUnchecked bytes (failure.Script fault) = ⊥
+IsUnchecked bytes failure.NoMemory = Unit {0}
+
+-- what is printed is the canonical text of what was read
+pub record IsChecked (bytes : List ℕ) (old new : Option (List ℕ)) : Type 0 where
+  pub text : List ℕ
+  pub canonical : IsCanonicalOf bytes text
+  pub printed : Appends old new text
+
+abbrev pub EndsCheck : List ℕ → Ending → Option (List ℕ) → Option (List ℕ) → Type 0
+EndsCheck bytes = Ends (IsChecked bytes) (IsUnchecked bytes)

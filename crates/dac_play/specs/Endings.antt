@@ -1,0 +1,31 @@
+-- How a command of the program ends.
+use Rattle.std.specs.Prelude.{◌≡◌, ℕ, List, Option, IfSome}
+use Rattle.std.specs.Io.KnownBytes.{Appends}
+use Rattle.dac_script.specs.declared.failure.Failure.{Failure}
+use Rattle.dac_play.specs.declared.ending.Ending.{Ending}
+use Rattle.dac_play.specs.declared.ending.Ending.TheVariants as ending
+use Rattle.dac_play.specs.Texts.{failure_text}
+
+abbrev pub status_of : Ending → ℕ
+status_of ending.Done = 0
+status_of (ending.Refused why) = 1
+status_of ending.Stopped = 1
+
+-- nothing was done, and the line of this failure was printed, unless memory was refused or the output took no more
+abbrev pub IsRefusal : Failure → Ending → Option (List ℕ) → Option (List ℕ) → Type 0
+IsRefusal failure ending.Done old new = ⊥
+IsRefusal failure (ending.Refused why) old new = (why ≡ failure) × Appends old new (failure_text failure)
+IsRefusal failure ending.Stopped old new = Unit {0}
+
+-- A command ended well, as `Well` says, or was refused for a failure of its input, as `Fails` says, whose line was
+-- printed; where it stopped for want of memory or of output, nothing is said.
+abbrev pub Ends : (Option (List ℕ) → Option (List ℕ) → Type 0) → (Failure → Type 0) → Ending → Option (List ℕ) → Option (List ℕ) → Type 0
+Ends Well Fails ending.Done old new = Well old new
+Ends Well Fails (ending.Refused why) old new = Fails why × Appends old new (failure_text why)
+Ends Well Fails ending.Stopped old new = Unit {0}
+
+-- what the program answers is the status of such an ending, where the reader tells its bytes
+pub record EndsWith (Ending_of : List ℕ → Ending → Type 0) (had : Option (List ℕ)) (status : ℕ) : Type 0 where
+  pub ending : Ending
+  pub status_is : status ≡ status_of ending
+  pub ends : IfSome had (λ bytes. Ending_of bytes ending)

@@ -1,0 +1,4 @@
+pub mod Texts
+pub mod Endings
+pub mod Checks
+pub mod Pairs

@@ -1,0 +1,75 @@
+-- The lines that the program prints.
+use Rattle.std.specs.Prelude.{ℕ, Bool, true, false, List, ◌++◌, codes}
+use Rattle.std.specs.Fmt.{decimal}
+use Rattle.dac_tokens.specs.Faults.{number_of, name_of}
+use Rattle.dac_tokens.specs.declared.fault.ConfigFault.{ConfigFault}
+use Rattle.hex.specs.Hex.{encode_lower}
+use Rattle.dac_script.specs.declared.failure.Failure.{Failure}
+use Rattle.dac_script.specs.declared.failure.Failure.TheVariants as failure
+use Rattle.dac_script.specs.declared.fault.InputFault.{InputFault}
+use Rattle.dac_script.specs.declared.fault.ScriptFault.{ScriptFault}
+use Rattle.dac_script.specs.Faults.{input_number, input_name, script_number, script_name}
+use Rattle.dac_config.specs.Canonical.{name_text}
+
+-- a boot: the incarnation, and the number of the operation that it issued
+abbrev pub booted_text : ℕ → ℕ → List ℕ
+booted_text incarnation operation = codes "booted " ++ (decimal incarnation ++ (codes " op " ++ (decimal operation ++ codes "\n")))
+
+-- an operation of a command: its number, its node, its incarnation and its counter
+abbrev pub issued_text : ℕ → List ℕ → ℕ → ℕ → List ℕ
+issued_text operation node incarnation counter =
+    codes "issued " ++ (decimal operation ++ (codes " " ++ (name_text node ++ (codes " " ++ (decimal incarnation ++ (codes " " ++ (decimal counter ++ codes "\n")))))))
+
+-- a whole state on its way: the message's number, and how many dots the state heard
+abbrev pub shipped_text : ℕ → ℕ → List ℕ
+shipped_text message heard = codes "shipped " ++ (decimal message ++ (codes " whole " ++ (decimal heard ++ codes "\n")))
+
+-- messages were shipped and delivered from each node that runs to each other one
+abbrev pub shared_text : ℕ → List ℕ
+shared_text messages = codes "shared " ++ (decimal messages ++ codes "\n")
+
+abbrev pub crashed_text : List ℕ
+crashed_text = codes "crashed\n"
+
+abbrev pub heard_text : Bool → List ℕ
+heard_text true = codes "heard new\n"
+heard_text false = codes "heard nothing new\n"
+
+abbrev pub no_message_text : ℕ → List ℕ
+no_message_text message = codes "no message " ++ (decimal message ++ codes "\n")
+
+abbrev pub no_operation_text : ℕ → List ℕ
+no_operation_text operation = codes "no operation " ++ (decimal operation ++ codes "\n")
+
+-- a refusal: the number and the name of its cause
+abbrev pub refused_text : ℕ → List ℕ → List ℕ
+refused_text number name = codes "refused " ++ (decimal number ++ (codes " " ++ (name ++ codes "\n")))
+
+abbrev pub same_text : Bool → List ℕ
+same_text true = codes "same\n"
+same_text false = codes "differ\n"
+
+-- the bytes of a state, each as two hexadecimal digits
+abbrev pub state_text : List ℕ → List ℕ
+state_text bytes = encode_lower bytes ++ codes "\n"
+
+abbrev pub off_text : List ℕ → List ℕ
+off_text node = codes "node " ++ (name_text node ++ codes " off\n")
+
+abbrev pub input_fault_text : InputFault → List ℕ
+input_fault_text fault = codes "input fault " ++ (decimal (input_number fault) ++ (codes " " ++ (input_name fault ++ codes "\n")))
+
+abbrev pub config_fault_text : ConfigFault → List ℕ
+config_fault_text fault =
+    codes "config fault " ++ (decimal (number_of fault.kind) ++ (codes " " ++ (name_of fault.kind ++ (codes " at " ++ (decimal fault.at ++ codes "\n")))))
+
+abbrev pub script_fault_text : ScriptFault → List ℕ
+script_fault_text fault =
+    codes "script fault " ++ (decimal fault.line ++ (codes " " ++ (decimal (script_number fault.kind) ++ (codes " " ++ (script_name fault.kind ++ codes "\n")))))
+
+-- why nothing is played
+abbrev pub failure_text : Failure → List ℕ
+failure_text (failure.Input fault) = input_fault_text fault
+failure_text (failure.Config fault) = config_fault_text fault
+failure_text (failure.Script fault) = script_fault_text fault
+failure_text failure.NoMemory = codes "out of memory\n"

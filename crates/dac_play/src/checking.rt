@@ -1,0 +1,36 @@
+//! A configuration checked, and printed in its one form.
+
+ghost use Rattle.std.specs.Prelude.{◌≡◌, IfOk, IfErr, IfSome};
+ghost use Rattle.dac_play.specs.Checks.{IsCanonicalOf, IsUnchecked, EndsCheck};
+
+use crate::ending::{Ending, print, refuse};
+use dac_config::read_config;
+use dac_script::{Failure, read_input};
+use std::alloc::Global;
+use std::io::{Read, Write};
+
+/// The canonical text of the configuration that an input is, or why it is none. The input as such is looked at
+/// first, and then what it says; `NoMemory` is answered only where memory is refused before a fault is met.
+pub fn canonical<R: Read>(alloc: Global, input: &mut R) -> Result<Vec<u8>, Failure>
+    ensures says { IfOk result (λ text. IfSome (R.remaining input.old) (λ bytes. IsCanonicalOf bytes text.items)) }
+    ensures fails { IfErr result (λ why. IfSome (R.remaining input.old) (λ bytes. IsUnchecked bytes why)) }
+{
+    let text = read_input(alloc, input)?;
+    let config = read_config(alloc, &text)?;
+    let canonical = config.canonical_text()?;
+    Ok(canonical)
+}
+
+/// Reads a configuration and prints its canonical text, or the line that says what is wrong with it.
+pub fn check<R: Read, W: Write>(alloc: Global, input: &mut R, output: &mut W) -> Ending
+    ensures { IfSome (R.remaining input.old) (λ bytes. EndsCheck bytes result (W.contents output.old) (W.contents output.new)) }
+{
+    let text = match canonical(alloc, input) {
+        Ok(text) => text,
+        Err(failure) => return refuse(alloc, failure, output),
+    };
+    if !print(&text, output) {
+        return Ending::Stopped;
+    }
+    Ending::Done
+}

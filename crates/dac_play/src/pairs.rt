@@ -1,0 +1,34 @@
+//! Which node tells which.
+
+ghost use Rattle.std.specs.Prelude.{◌≡◌, ◌++◌, IfOk, OnOk};
+ghost use Rattle.dac_play.specs.Pairs.{pairs_of, pairs};
+
+use dac_base::{NoMemory, NodeId};
+use std::alloc::Global;
+
+/// Puts a node with each other one of these behind some pairs.
+fn push_pairs(
+    pairs: &mut Vec<(NodeId, NodeId)>,
+    from: NodeId,
+    nodes: &[NodeId],
+) -> Result<(), NoMemory>
+    ensures { OnOk result (pairs.new.items ≡ pairs.old.items ++ pairs_of nodes.now from) }
+{
+    for to in nodes {
+        if *to != from {
+            pairs.push((from, *to))?;
+        }
+    }
+    Ok(())
+}
+
+/// Each of these nodes with each other one.
+pub fn all_pairs(alloc: Global, nodes: &[NodeId]) -> Result<Vec<(NodeId, NodeId)>, NoMemory>
+    ensures { IfOk result (λ all. all.items ≡ pairs nodes.now) }
+{
+    let mut all = Vec::new(alloc);
+    for from in nodes {
+        push_pairs(&mut all, *from, nodes)?;
+    }
+    Ok(all)
+}

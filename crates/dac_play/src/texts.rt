@@ -1,0 +1,171 @@
+//! The lines that the program prints, each ended by a line feed.
+
+ghost use Rattle.std.specs.Prelude.{◌≡◌, IfOk};
+ghost use Rattle.dac_play.specs.Texts.{booted_text, crashed_text, issued_text, shipped_text, shared_text, heard_text, no_message_text, no_operation_text, refused_text, same_text, state_text, off_text, input_fault_text, script_fault_text, config_fault_text, failure_text};
+
+use dac_base::NoMemory;
+use dac_script::{Failure, InputFault, ScriptFault, printed_name};
+use dac_tokens::ConfigFault;
+use std::alloc::Global;
+
+/// What is printed where memory was refused.
+pub const OUT_OF_MEMORY: &str = "out of memory\n";
+
+/// A node booted under this incarnation, which issued the operation of this number.
+pub fn booted_line(alloc: Global, incarnation: u32, operation: usize) -> Result<Vec<u8>, NoMemory>
+    ensures { IfOk result (λ line. line.items ≡ booted_text incarnation operation) }
+{
+    let line = format!(in alloc; "booted {incarnation} op {operation}\n")?;
+    Ok(line.into_bytes())
+}
+
+/// A node issued the operation of this number, under its incarnation and with this counter.
+pub fn issued_line(
+    alloc: Global,
+    operation: usize,
+    node: &[u8],
+    incarnation: u32,
+    counter: u64,
+) -> Result<Vec<u8>, NoMemory>
+    ensures { IfOk result (λ line. line.items ≡ issued_text operation node.now incarnation counter) }
+{
+    let mut line = format!(in alloc; "issued {operation} ")?.into_bytes();
+    let name = printed_name(alloc, node)?;
+    line.extend_from_slice(&name)?;
+    let rest = format!(in alloc; " {incarnation} {counter}\n")?;
+    line.extend_from_slice(rest.as_bytes())?;
+    Ok(line)
+}
+
+/// A node went down.
+pub fn crashed_line() -> &'static str
+    ensures { result.now ≡ crashed_text }
+{
+    "crashed\n"
+}
+
+/// The message of this number was shipped; its body is a whole state that heard this many dots.
+pub fn shipped_line(alloc: Global, message: usize, heard: u128) -> Result<Vec<u8>, NoMemory>
+    ensures { IfOk result (λ line. line.items ≡ shipped_text message heard) }
+{
+    let line = format!(in alloc; "shipped {message} whole {heard}\n")?;
+    Ok(line.into_bytes())
+}
+
+/// So many messages were shipped, and each was delivered at once.
+pub fn shared_line(alloc: Global, messages: usize) -> Result<Vec<u8>, NoMemory>
+    ensures { IfOk result (λ line. line.items ≡ shared_text messages) }
+{
+    let line = format!(in alloc; "shared {messages}\n")?;
+    Ok(line.into_bytes())
+}
+
+/// A node heard a message or an operation, which told it something or nothing new.
+pub fn heard_line(fresh: bool) -> &'static str
+    ensures { result.now ≡ heard_text fresh }
+{
+    if fresh {
+        "heard new\n"
+    } else {
+        "heard nothing new\n"
+    }
+}
+
+/// No message of this number was shipped.
+pub fn no_message_line(alloc: Global, message: u64) -> Result<Vec<u8>, NoMemory>
+    ensures { IfOk result (λ line. line.items ≡ no_message_text message) }
+{
+    let line = format!(in alloc; "no message {message}\n")?;
+    Ok(line.into_bytes())
+}
+
+/// No operation of this number was issued.
+pub fn no_operation_line(alloc: Global, operation: u64) -> Result<Vec<u8>, NoMemory>
+    ensures { IfOk result (λ line. line.items ≡ no_operation_text operation) }
+{
+    let line = format!(in alloc; "no operation {operation}\n")?;
+    Ok(line.into_bytes())
+}
+
+/// A node refused an event, for the cause of this number and name.
+pub fn refused_line(alloc: Global, number: u8, name: &str) -> Result<Vec<u8>, NoMemory>
+    ensures { IfOk result (λ line. line.items ≡ refused_text number name.now) }
+{
+    let line = format!(in alloc; "refused {number} {name}\n")?;
+    Ok(line.into_bytes())
+}
+
+/// Two nodes hold states of the same bytes, or not.
+pub fn same_line(same: bool) -> &'static str
+    ensures { result.now ≡ same_text same }
+{
+    if same { "same\n" } else { "differ\n" }
+}
+
+/// A node holds a state of these bytes: each as two digits, of which the letters are small.
+pub fn state_line(alloc: Global, bytes: &[u8]) -> Result<Vec<u8>, NoMemory>
+    ensures { IfOk result (λ line. line.items ≡ state_text bytes.now) }
+{
+    let mut line = hex::encode(alloc, bytes)?.into_bytes();
+    line.push(b'\n')?;
+    Ok(line)
+}
+
+/// The node is off, so it has no state.
+pub fn off_line(alloc: Global, node: &[u8]) -> Result<Vec<u8>, NoMemory>
+    ensures { IfOk result (λ line. line.items ≡ off_text node.now) }
+{
+    let mut line = format!(in alloc; "node ")?.into_bytes();
+    let name = printed_name(alloc, node)?;
+    line.extend_from_slice(&name)?;
+    line.extend_from_slice(b" off\n")?;
+    Ok(line)
+}
+
+/// The input as a whole has a fault.
+pub fn input_fault_line(alloc: Global, fault: InputFault) -> Result<Vec<u8>, NoMemory>
+    ensures { IfOk result (λ line. line.items ≡ input_fault_text fault) }
+{
+    let number = fault.number();
+    let name = fault.name();
+    let line = format!(in alloc; "input fault {number} {name}\n")?;
+    Ok(line.into_bytes())
+}
+
+/// The configuration has a fault.
+pub fn config_fault_line(alloc: Global, fault: ConfigFault) -> Result<Vec<u8>, NoMemory>
+    ensures { IfOk result (λ line. line.items ≡ config_fault_text fault) }
+{
+    let number = fault.kind.number();
+    let name = fault.kind.name();
+    let at = fault.at;
+    let line = format!(in alloc; "config fault {number} {name} at {at}\n")?;
+    Ok(line.into_bytes())
+}
+
+/// A line of the script has a fault.
+pub fn script_fault_line(alloc: Global, fault: ScriptFault) -> Result<Vec<u8>, NoMemory>
+    ensures { IfOk result (λ line. line.items ≡ script_fault_text fault) }
+{
+    let place = fault.line;
+    let number = fault.kind.number();
+    let name = fault.kind.name();
+    let line = format!(in alloc; "script fault {place} {number} {name}\n")?;
+    Ok(line.into_bytes())
+}
+
+/// Why nothing is played. The line needs memory itself; where that is refused, [`OUT_OF_MEMORY`] is what is
+/// left to print.
+pub fn failure_line(alloc: Global, failure: Failure) -> Result<Vec<u8>, NoMemory>
+    ensures { IfOk result (λ line. line.items ≡ failure_text failure) }
+{
+    match failure {
+        Failure::Input(fault) => input_fault_line(alloc, fault),
+        Failure::Config(fault) => config_fault_line(alloc, fault),
+        Failure::Script(fault) => script_fault_line(alloc, fault),
+        Failure::NoMemory => {
+            let line = Vec::from_slice(alloc, OUT_OF_MEMORY.as_bytes())?;
+            Ok(line)
+        }
+    }
+}

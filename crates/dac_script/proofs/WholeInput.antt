@@ -1,0 +1,45 @@
+-- From what was read to what the input says.
+use Rattle.std.proofs.Common.{◌≡◌, ℕ, List, Option, Some, None, Err, sym, subst}
+use Rattle.std.specs.Prelude.{IfSome}
+use Rattle.dac_tokens.specs.declared.fault.ConfigFault.{ConfigFault}
+use Rattle.dac_tokens.specs.declared.fault.FaultKind.{FaultKind}
+use Rattle.dac_tokens.specs.declared.fault.FaultKind.TheVariants.{NoMemory}
+use Rattle.dac_tokens.specs.Gives.{UnlessMemory}
+use Rattle.dac_config.specs.Table.{Table}
+use Rattle.dac_config.specs.Says.{IsConfigOf}
+use Rattle.dac_config.specs.Reading.{config_at}
+use Rattle.dac_script.specs.declared.failure.Failure.{Failure}
+use Rattle.dac_script.specs.declared.failure.Failure.TheVariants as failure
+use Rattle.dac_script.specs.declared.fault.InputFault.TheVariants.{TooLong, NoScript, Read}
+use Rattle.dac_script.specs.Failures.{failure_of_kind}
+use Rattle.dac_script.specs.Script.{lines_of, IsScriptFailure}
+use Rattle.dac_script.specs.Input.{IsParted, IsReadFailure}
+use Rattle.dac_script.specs.Inputs.{IsFailureOf}
+
+-- what holds of the text that was read holds of the bytes that there were
+pub of_bytes : (a : Option (List ℕ)) (text : List ℕ) (P : List ℕ → Type 0) → IfSome a (λ bytes. text ≡ bytes) → P text → IfSome a P
+of_bytes None text P same p = tt
+of_bytes (Some bytes) text P same p = subst P same p
+
+pub read_fails : (a : Option (List ℕ)) (why : Failure) → IsReadFailure a why → IfSome a (λ bytes. IsFailureOf bytes why)
+read_fails None (failure.Input TooLong) fails = tt
+read_fails (Some bytes) (failure.Input TooLong) fails = fails
+read_fails None why fails = tt
+read_fails (Some bytes) (failure.Input NoScript) fails = absurd fails
+read_fails (Some bytes) (failure.Input Read) fails = tt
+read_fails (Some bytes) (failure.Config fault) fails = absurd fails
+read_fails (Some bytes) (failure.Script fault) fails = absurd fails
+read_fails (Some bytes) failure.NoMemory fails = tt
+
+config_fails_by : (kind : FaultKind) (text config script : List ℕ) (fault : ConfigFault) → IsParted text config script → UnlessMemory kind (config_at config ≡ Err fault) → IsFailureOf text (failure_of_kind kind fault)
+config_fails_by NoMemory text config script fault parted fails = tt
+config_fails_by _ text config script fault parted fails = record { config = config; script = script; parted = parted; fault_is = fails }
+
+pub config_fails : (text config script : List ℕ) (fault : ConfigFault) (why : Failure) → IsParted text config script → UnlessMemory fault.kind (config_at config ≡ Err fault) → why ≡ failure_of_kind fault.kind fault → IsFailureOf text why
+config_fails text config script fault why parted fails is_why = subst (IsFailureOf text) (sym is_why) (config_fails_by fault.kind text config script fault parted fails)
+
+pub script_has : (text config script : List ℕ) (table : Table) (why : Failure) → IsParted text config script → IsConfigOf config table → IsScriptFailure table (lines_of script) why → IsFailureOf text why
+script_has text config script table (failure.Input fault) parted table_is fails = absurd fails
+script_has text config script table (failure.Config fault) parted table_is fails = absurd fails
+script_has text config script table (failure.Script fault) parted table_is fails = record { config = config; script = script; parted = parted; table = table; table_is = table_is; fault_is = fails }
+script_has text config script table failure.NoMemory parted table_is fails = tt

@@ -1,0 +1,41 @@
+//! A whole input read: its configuration and its script.
+
+ghost use Rattle.std.specs.Prelude.{IfOk, IfErr, IfSome, All};
+ghost use Rattle.dac_config.specs.Table.{node_count};
+ghost use Rattle.dac_script.specs.Line.{HasActors};
+ghost use Rattle.dac_script.specs.Inputs.{Says, IsFailureOf};
+
+use crate::failure::Failure;
+use crate::fault::InputFault;
+use crate::input::{parted, read_input};
+use crate::line::ScriptLine;
+use crate::script::read_script;
+use dac_config::{Config, read_config};
+use std::alloc::Global;
+use std::io::Read;
+
+/// Reads both parts of an input: its configuration, and then its script.
+fn parts_of(alloc: Global, text: &[u8]) -> Result<(Config, Vec<ScriptLine>), Failure>
+    ensures says { IfOk result (λ both. Says text.now both.0 both.1.items) }
+    ensures actors { IfOk result (λ both. All (HasActors (node_count both.0)) both.1.items) }
+    ensures fails { IfErr result (IsFailureOf text.now) }
+{
+    let Some((config, script)) = parted(text) else {
+        return Err(Failure::Input(InputFault::NoScript));
+    };
+    let config = read_config(alloc, config)?;
+    let script = read_script(alloc, &config, script)?;
+    Ok((config, script))
+}
+
+/// Reads and checks a whole input: the input as such, its configuration and then its script. The first of these
+/// that has a fault is answered; `NoMemory` only where memory is refused before a fault is met.
+pub fn prepare<R: Read>(alloc: Global, input: &mut R) -> Result<(Config, Vec<ScriptLine>), Failure>
+    ensures says { IfOk result (λ both. IfSome (R.remaining input.old) (λ bytes. Says bytes both.0 both.1.items)) }
+    ensures actors { IfOk result (λ both. All (HasActors (node_count both.0)) both.1.items) }
+    ensures fails { IfErr result (λ why. IfSome (R.remaining input.old) (λ bytes. IsFailureOf bytes why)) }
+{
+    let text = read_input(alloc, input)?;
+    let both = parts_of(alloc, &text)?;
+    Ok(both)
+}
