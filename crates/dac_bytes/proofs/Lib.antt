@@ -1,2 +1,3 @@
+pub mod AddLemmas
 pub mod CounterLemmas
 pub mod RowLemmas

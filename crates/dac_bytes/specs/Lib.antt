@@ -4,6 +4,7 @@ pub mod Items
 pub mod Numbers
 pub mod Ranges
 pub mod Reading
+pub mod RowViews
 pub mod Rows
 pub mod Spelling
 pub mod Takes
