@@ -1,3 +1,2 @@
 pub mod AddLemmas
-pub mod CounterLemmas
 pub mod RowLemmas
