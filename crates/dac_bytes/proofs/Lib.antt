@@ -1,2 +1,2 @@
-pub mod CounterLemmas
+pub mod AddLemmas
 pub mod RowLemmas

@@ -76,6 +76,15 @@ pub struct ReadFault {
     pub at: usize,
 }
 
+impl ReadFault {
+    /// What is wrong, and where.
+    pub fn new(kind: ReadFaultKind, at: usize) -> Self
+        ensures { (result.kind ≡ kind) × (result.at ≡ at) }
+    {
+        ReadFault { kind, at }
+    }
+}
+
 impl fmt::Display for ReadFault {
     fn fmt<W: fmt::Write>(&self, f: &mut fmt::Formatter<W>) -> fmt::Result {
         write!(f, "{} at {}", self.kind, self.at)
@@ -87,10 +96,7 @@ impl Error for ReadFault {}
 fn no_memory() -> ReadFault
     ensures { (result.kind ≡ NoMemory) × (result.at ≡ 0) }
 {
-    ReadFault {
-        kind: ReadFaultKind::NoMemory,
-        at: 0,
-    }
+    ReadFault::new(ReadFaultKind::NoMemory, 0)
 }
 
 impl From<AllocError> for ReadFault {

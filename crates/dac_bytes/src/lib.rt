@@ -12,6 +12,7 @@
 mod context;
 mod fault;
 mod reader;
+mod rows;
 mod writer;
 
 pub use fault::{ReadFault, ReadFaultKind};

@@ -1,7 +1,6 @@
 //! Bytes that are being read: numbers, nodes, origins and dots.
-ghost use Rattle.std.specs.Prelude.{◌≡◌, ◌↔◌, IsTrue, [], length};
+ghost use Rattle.std.specs.Prelude.{◌≡◌, ◌↔◌, ◌≤◌, IfOk, IsTrue, []};
 ghost use Rattle.std.specs.Int.{w8, w16, w32, w64};
-ghost use Rattle.dac_bytes.specs.declared.fault.ReadFaultKind.TheVariants.{BadNumber, BadOrder};
 ghost use Rattle.dac_bytes.specs.Reading.{Reads, taken, number_at, range_at, node_at, incarnation_at, counter_at, origin_at, dot_at, origin_above_at, dot_above_at, whole};
 
 use crate::fault::{ReadFault, ReadFaultKind};
@@ -55,19 +54,12 @@ impl<'a> ByteReader<'a> {
         self.rest.is_empty()
     }
 
-    /// A fault at the next byte.
-    fn fault(&self, kind: ReadFaultKind) -> ReadFault
-        ensures { (result.kind ≡ kind) × (result.at ≡ self.now.at) }
-    {
-        ReadFault { kind, at: self.at }
-    }
-
     /// The next so many bytes, and what is after them.
     fn take(self, count: usize) -> Result<(&'a [u8], ByteReader<'a>), ReadFault>
         ensures { Reads (λ x. (x.0.now, x.1)) result (taken count self.entry) }
     {
         if self.rest.len() < count {
-            return Err(self.fault(ReadFaultKind::Short));
+            return Err(ReadFault::new(ReadFaultKind::Short, self.at));
         }
         let at = self.at;
         let (front, rest) = self.rest.split_at(count);
@@ -116,12 +108,13 @@ impl<'a> ByteReader<'a> {
     /// A number in one byte from low to high. Another is `BadNumber` at its byte.
     #[tactic(auto, unfolding(crate::specs::Reading::range_at))]
     pub fn read_u8_in(self, low: u8, high: u8) -> Result<(u8, ByteReader<'a>), ReadFault>
-        ensures { result ≡ range_at w8 low high self.entry }
+        ensures exact { result ≡ range_at w8 low high self.entry }
+        ensures within { IfOk result (λ x. (low ≤ x.0) × (x.0 ≤ high)) }
     {
         let at = self.at();
         let (number, rest) = self.read_u8()?;
         if number < low || high < number {
-            return Err(bad_number(at));
+            return Err(ReadFault::new(ReadFaultKind::BadNumber, at));
         }
         Ok((number, rest))
     }
@@ -129,12 +122,13 @@ impl<'a> ByteReader<'a> {
     /// A number in four bytes from low to high. Another is `BadNumber` at its first byte.
     #[tactic(auto, unfolding(crate::specs::Reading::range_at))]
     pub fn read_u32_in(self, low: u32, high: u32) -> Result<(u32, ByteReader<'a>), ReadFault>
-        ensures { result ≡ range_at w32 low high self.entry }
+        ensures exact { result ≡ range_at w32 low high self.entry }
+        ensures within { IfOk result (λ x. (low ≤ x.0) × (x.0 ≤ high)) }
     {
         let at = self.at();
         let (number, rest) = self.read_u32()?;
         if number < low || high < number {
-            return Err(bad_number(at));
+            return Err(ReadFault::new(ReadFaultKind::BadNumber, at));
         }
         Ok((number, rest))
     }
@@ -142,12 +136,13 @@ impl<'a> ByteReader<'a> {
     /// A number in eight bytes from low to high. Another is `BadNumber` at its first byte.
     #[tactic(auto, unfolding(crate::specs::Reading::range_at))]
     pub fn read_u64_in(self, low: u64, high: u64) -> Result<(u64, ByteReader<'a>), ReadFault>
-        ensures { result ≡ range_at w64 low high self.entry }
+        ensures exact { result ≡ range_at w64 low high self.entry }
+        ensures within { IfOk result (λ x. (low ≤ x.0) × (x.0 ≤ high)) }
     {
         let at = self.at();
         let (number, rest) = self.read_u64()?;
         if number < low || high < number {
-            return Err(bad_number(at));
+            return Err(ReadFault::new(ReadFaultKind::BadNumber, at));
         }
         Ok((number, rest))
     }
@@ -162,10 +157,7 @@ impl<'a> ByteReader<'a> {
         if node < nodes {
             Ok((NodeId(node), rest))
         } else {
-            Err(ReadFault {
-                kind: ReadFaultKind::BadName,
-                at,
-            })
+            Err(ReadFault::new(ReadFaultKind::BadName, at))
         }
     }
 
@@ -220,7 +212,7 @@ impl<'a> ByteReader<'a> {
         if before.is_none_or(|before| before < origin) {
             Ok((origin, rest))
         } else {
-            Err(bad_order(at))
+            Err(ReadFault::new(ReadFaultKind::BadOrder, at))
         }
     }
 
@@ -238,25 +230,7 @@ impl<'a> ByteReader<'a> {
         if before.is_none_or(|before| before < dot) {
             Ok((dot, rest))
         } else {
-            Err(bad_order(at))
+            Err(ReadFault::new(ReadFaultKind::BadOrder, at))
         }
-    }
-}
-
-fn bad_number(at: usize) -> ReadFault
-    ensures { (result.kind ≡ BadNumber) × (result.at ≡ at) }
-{
-    ReadFault {
-        kind: ReadFaultKind::BadNumber,
-        at,
-    }
-}
-
-fn bad_order(at: usize) -> ReadFault
-    ensures { (result.kind ≡ BadOrder) × (result.at ≡ at) }
-{
-    ReadFault {
-        kind: ReadFaultKind::BadOrder,
-        at,
     }
 }
