@@ -5,7 +5,8 @@
 //! The state of one operation is what it means alone ([`State::delta_of`]), and the join of what two sets
 //! mean is what both mean together, so nothing is lost. States are a lattice, for every value of the type.
 //!
-//! A state takes room for each dot that it has heard of, and keeps none of the operations.
+//! A state has one spelling in bytes ([`State::encode`]). It takes room for each dot that it has heard of, and
+//! keeps none of the operations.
 #![tactic(auto)]
 
 pub use dac_chains::{Claim, Claims, How, Life, Lives};
@@ -13,6 +14,7 @@ pub use dac_operations::{Act, Op, OpFault};
 pub use dac_wishes::{DotList, Key, Permissions, Wishes};
 pub use state::State;
 
+mod coding;
 mod state;
 #[cfg(test)]
 mod tests;

@@ -23,6 +23,7 @@ use std::marker::Model;
 /// of finite sets and maps, so states with equal parts are equal.
 #[derive(Drop)]
 pub struct State {
+    alloc: Global,
     heard: Context,
     permissions: Permissions,
     wishes: Wishes,
@@ -55,11 +56,12 @@ impl State {
         let wishes = wishes_by(alloc, op)?;
         let lives = lives_by(alloc, op)?;
         let claims = claims_by(alloc, op)?;
-        Ok(State::of(heard, permissions, wishes, lives, claims))
+        Ok(State::of(alloc, heard, permissions, wishes, lives, claims))
     }
 
     /// The state of these parts. It takes no memory.
     pub(crate) fn of(
+        alloc: Global,
         heard: Context,
         permissions: Permissions,
         wishes: Wishes,
@@ -70,12 +72,18 @@ impl State {
         ensures { result ≡ state_of heard permissions wishes lives claims }
     {
         State {
+            alloc,
             heard,
             permissions,
             wishes,
             lives,
             claims,
         }
+    }
+
+    /// Where its memory comes from.
+    pub(crate) fn allocator(&self) -> Global {
+        self.alloc
     }
 
     /// The dots of the operations heard.
@@ -143,7 +151,7 @@ impl Lattice for State {
         let wishes = self.wishes.join(&other.wishes)?;
         let lives = self.lives.join(&other.lives)?;
         let claims = self.claims.join(&other.claims)?;
-        Ok(State::of(heard, permissions, wishes, lives, claims))
+        Ok(State::of(self.alloc, heard, permissions, wishes, lives, claims))
     }
 
     fn leq(&self, other: &Self) -> bool {
@@ -171,7 +179,7 @@ impl Lattice for State {
         let wishes = self.wishes.copy()?;
         let lives = self.lives.copy()?;
         let claims = self.claims.copy()?;
-        Ok(State::of(heard, permissions, wishes, lives, claims))
+        Ok(State::of(self.alloc, heard, permissions, wishes, lives, claims))
     }
 }
 
@@ -187,6 +195,7 @@ impl Bottom for State {
 
     fn bottom(alloc: Global) -> Self {
         State::of(
+            alloc,
             Context::empty(alloc),
             Permissions::bottom(alloc),
             Wishes::bottom(alloc),

@@ -1,0 +1,27 @@
+//! States as bytes.
+ghost use Rattle.std.specs.Prelude.{◌≡◌, IfOk};
+ghost use Rattle.dac_state.specs.StateSpelling.{spelling_of};
+
+use crate::state::State;
+use dac_base::NoMemory;
+use dac_bytes::ByteWriter;
+use dac_part_bytes::{write_claims, write_lives, write_permissions, write_wishes};
+
+impl State {
+    /// The bytes of the state, version 1: the dots heard, the dots known, the permits and the start wishes
+    /// that stand, the lives, the claims. Equal states have equal bytes. [`NoMemory`] is the only error.
+    #[tactic(auto, unfolding(crate::specs::StateSpelling::spelling_of))]
+    pub fn encode(&self) -> Result<Vec<u8>, NoMemory>
+        ensures { IfOk result (λ bytes. bytes.items ≡ spelling_of self.now) }
+    {
+        let writer = ByteWriter::new(self.allocator());
+        let dots = writer
+            .write_context(self.heard())?
+            .write_context(self.known())?;
+        let permits = write_permissions(dots, self.permissions())?;
+        let wishes = write_wishes(permits, self.wishes())?;
+        let lives = write_lives(wishes, self.lives())?;
+        let whole = write_claims(lives, self.claims())?;
+        Ok(whole.into_bytes())
+    }
+}
