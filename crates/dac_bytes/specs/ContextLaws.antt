@@ -1,23 +1,23 @@
 -- What is read as a context is the one spelling of a set of dots in range, and each such set is read from its spelling.
-use Rattle.std.specs.Prelude.{◌≡◌, ℕ, ◌+◌, ◌-◌, ◌<◌, ◌≤◌, ◌^◌, Bool, true, false, cond, nat_lt, nat_eq, List, [], ◌∷◌, ◌++◌, length, map, Option, Some, None, Result, Ok, refl}
+use Rattle.std.specs.Prelude.{◌≡◌, ℕ, ◌+◌, ◌-◌, ◌<◌, ◌≤◌, ◌^◌, true, false, cond, nat_lt, nat_eq, List, [], ◌∷◌, ◌++◌, length, Option, Some, None, Ok, refl}
 use Rattle.std.specs.List.{flat_map, AllByRecursion}
-use Rattle.std.specs.Int.{w16, w32, w64}
-use Rattle.std.proofs.Common.{inl, inr, sym, ap, subst, ◌∙◌, arith, append_assoc}
-use Rattle.std.proofs.lemmas.Bool.{ltb-true, lt-ltb, eqb-true, eqb-false, cases_Bool}
+use Rattle.std.specs.Int.{w16, w64}
+use Rattle.std.proofs.Common.{sym, subst, arith, append_assoc}
+use Rattle.std.proofs.lemmas.Bool.{ltb-true, lt-ltb, eqb-true, eqb-false}
 use Rattle.dac_dots.specs.Dots.{Dots, origin_cmp, origins_total}
 use Rattle.dac_dots.specs.declared.dot.Origin.{Origin}
 use Rattle.dac_bytes.specs.declared.fault.ReadFaultKind.TheVariants.{BadOrder}
 use Rattle.dac_bytes.specs.Fields.{u16_takes, u16_again, u32_in_takes, u32_in_again, u64_in_takes, u64_in_again, counter_takes, counter_again, origin_above_takes, origin_above_again}
 use Rattle.dac_bytes.specs.Items.{Chain, items_takes, items_again}
 use Rattle.dac_bytes.specs.Numbers.{u16_bytes, u32_bytes, u64_bytes}
-use Rattle.dac_bytes.specs.Ranges.{IsOrigin, IsFurther, IsRow, InRange, CountsFit, IsContext}
+use Rattle.dac_bytes.specs.Ranges.{IsOrigin, IsFurther, IsRow, CountsFit, IsContext}
 use Rattle.dac_bytes.specs.Reading.{Rest, ◌>>=◌, fault, is_above, number_at, range_at, counter_at, origin_above_at, items_at, further_at, further_count_at, row_at, rows_at, dots_in, context_at}
 use Rattle.dac_bytes.specs.RisingLaws.{IsNextAbove, AreRising, rising_of, chain_of}
 use Rattle.dac_bytes.specs.RowLaws.{rows_tell}
-use Rattle.dac_bytes.specs.Rows.{Row, rows_of, AreRowsOf}
+use Rattle.dac_bytes.specs.Rows.{Row, rows_of}
 use Rattle.dac_bytes.specs.SetLaws.{rows_in_range, rows_back, are_rows, same_rows_of}
 use Rattle.dac_bytes.specs.Spelling.{origin_bytes, row_bytes, context_bytes}
-use Rattle.dac_bytes.specs.Takes.{IsBytes, Takes, Takes-then, TakesAs, TakesAs-more, TakesAs-wanted, Again, Again-then, Again-made, Again-wanted, bind_ok, ok_is}
+use Rattle.dac_bytes.specs.Takes.{Takes, Takes-then, TakesAs, TakesAs-more, TakesAs-wanted, Again, Again-then, Again-made, Again-wanted, bind_ok, ok_is}
 
 -- ---- a row
 
