@@ -1,19 +1,17 @@
 -- The rows that are written are those of the set of dots.
-use Rattle.std.proofs.Common.{◌≡◌, ℕ, ◌+◌, ◌<◌, ◌⊎◌, inl, inr, Bool, true, false, ◌||◌, ◌&&◌, ◌++◌, nat_eq, nat_lt, nat_le, List, [], ◌∷◌, length, refl, sym, ap, ◌∙◌, subst, map, arith, append_assoc, get_or, take, eq-eqb}
+use Rattle.std.proofs.Common.{◌≡◌, ℕ, ◌+◌, ◌<◌, Bool, true, false, ◌||◌, ◌++◌, List, [], ◌∷◌, length, refl, sym, ap, ◌∙◌, map, append_assoc, get_or, take}
 use Rattle.std.specs.FinSet as set
-use Rattle.std.specs.List.{flat_map, AllByRecursion}
-use Rattle.std.specs.Ordering.{nat_cmp, eq_by_cmp, is_eq}
-use Rattle.std.proofs.lemmas.Bool.{and_parts, and_cases, or_cases, or_left, or_right, false≢true, cases_Bool, leb-true, leb-false, ltb-true, lt-ltb, eqb-true}
+use Rattle.std.specs.List.{flat_map}
+use Rattle.std.specs.Ordering.{eq_by_cmp}
 use Rattle.std.proofs.lemmas.List.{map_more, length-map}
-use Rattle.std.proofs.lemmas.Cmp.{tied_itself}
 use Rattle.std.proofs.lemmas.List.Folds.{flat_map-map, list_any-append}
 use Rattle.dac_dots.specs.Keys.{IsRising, has_key}
-use Rattle.dac_dots.specs.InOrder.{tie, in_order, in_order-one, in_order-rising, has_key-in_order}
-use Rattle.dac_dots.specs.Dots.{Dots, dot, dot_cmp, dots_total, exact_dots, origin_cmp, origins_total, exact_origins}
+use Rattle.dac_dots.specs.InOrder.{in_order, in_order-one}
+use Rattle.dac_dots.specs.Dots.{Dots, origin_cmp, origins_total, exact_origins}
 use Rattle.dac_dots.specs.declared.dot.Origin.{Origin}
 use Rattle.dac_dots.specs.declared.dot.Dot.{Dot}
 use Rattle.dac_bytes.specs.Numbers.{u16_bytes}
-use Rattle.dac_bytes.specs.Rows.{Row, row_of, rows_of, origins_of, counters_of, further_of, reach_of, IsRowOf, AreRowsOf}
+use Rattle.dac_bytes.specs.Rows.{Row, row_of, rows_of, origins_of, counters_of}
 use Rattle.dac_bytes.specs.Spelling.{row_bytes, context_bytes}
 
 -- a rising list that has the origins of the dots is the list of them

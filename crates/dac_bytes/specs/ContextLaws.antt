@@ -1,23 +1,23 @@
 -- What is read as a context is the one spelling of a set of dots in range, and each such set is read from its spelling.
-use Rattle.std.specs.Prelude.{◌≡◌, ℕ, ◌+◌, ◌-◌, ◌<◌, ◌≤◌, ◌^◌, Bool, true, false, cond, nat_lt, nat_eq, List, [], ◌∷◌, ◌++◌, length, map, Option, Some, None, Result, Ok, refl}
+use Rattle.std.specs.Prelude.{◌≡◌, ℕ, ◌+◌, ◌-◌, ◌<◌, ◌≤◌, ◌^◌, true, false, cond, nat_lt, nat_eq, List, [], ◌∷◌, ◌++◌, length, Option, Some, None, Ok, refl}
 use Rattle.std.specs.List.{flat_map, AllByRecursion}
-use Rattle.std.specs.Int.{w16, w32, w64}
-use Rattle.std.proofs.Common.{inl, inr, sym, ap, subst, ◌∙◌, arith, append_assoc}
-use Rattle.std.proofs.lemmas.Bool.{ltb-true, lt-ltb, eqb-true, eqb-false, cases_Bool}
+use Rattle.std.specs.Int.{w16, w64}
+use Rattle.std.proofs.Common.{sym, subst, arith, append_assoc}
+use Rattle.std.proofs.lemmas.Bool.{ltb-true, lt-ltb, eqb-true, eqb-false}
 use Rattle.dac_dots.specs.Dots.{Dots, origin_cmp, origins_total}
 use Rattle.dac_dots.specs.declared.dot.Origin.{Origin}
 use Rattle.dac_bytes.specs.declared.fault.ReadFaultKind.TheVariants.{BadOrder}
 use Rattle.dac_bytes.specs.Fields.{u16_takes, u16_again, u32_in_takes, u32_in_again, u64_in_takes, u64_in_again, counter_takes, counter_again, origin_above_takes, origin_above_again}
 use Rattle.dac_bytes.specs.Items.{Chain, items_takes, items_again}
 use Rattle.dac_bytes.specs.Numbers.{u16_bytes, u32_bytes, u64_bytes}
-use Rattle.dac_bytes.specs.Ranges.{IsOrigin, IsFurther, IsRow, InRange, CountsFit, IsContext}
+use Rattle.dac_bytes.specs.Ranges.{IsOrigin, IsFurther, IsRow, CountsFit, IsContext}
 use Rattle.dac_bytes.specs.Reading.{Rest, ◌>>=◌, fault, is_above, number_at, range_at, counter_at, origin_above_at, items_at, further_at, further_count_at, row_at, rows_at, dots_in, context_at}
 use Rattle.dac_bytes.specs.RisingLaws.{IsNextAbove, AreRising, rising_of, chain_of}
 use Rattle.dac_bytes.specs.RowLaws.{rows_tell}
-use Rattle.dac_bytes.specs.Rows.{Row, rows_of, AreRowsOf}
+use Rattle.dac_bytes.specs.Rows.{Row, rows_of}
 use Rattle.dac_bytes.specs.SetLaws.{rows_in_range, rows_back, are_rows, same_rows_of}
 use Rattle.dac_bytes.specs.Spelling.{origin_bytes, row_bytes, context_bytes}
-use Rattle.dac_bytes.specs.Takes.{IsBytes, Takes, Takes-then, TakesAs, TakesAs-more, TakesAs-wanted, Again, Again-then, Again-made, Again-wanted, bind_ok, ok_is}
+use Rattle.dac_bytes.specs.Takes.{Takes, Takes-then, TakesAs, TakesAs-more, TakesAs-wanted, Again, Again-then, Again-made, Again-wanted, bind_ok, ok_is}
 
 -- ---- a row
 
@@ -61,33 +61,58 @@ module _ (nodes : ℕ) where
   abbrev made : Origin → ℕ → List ℕ → Row
   made origin upto further = record { origin = origin; upto = upto; further = further }
 
+  -- the four fields of a row, one after the other
+  row_spelled : (origin : Origin) (upto : ℕ) (further : List ℕ) (r a b c end : Rest)
+      → Takes r (origin_bytes origin) a → Takes a (u64_bytes upto) b → Takes b (u32_bytes (length further)) c → Takes c (flat_map u64_bytes further) end → Takes r (row_bytes (made origin upto further)) end
+  unfolding row_bytes
+  row_spelled origin upto further r a b c end p q s t =
+      let ab = Takes-then r (origin_bytes origin) a (u64_bytes upto) b p q in
+      let abc = Takes-then r (origin_bytes origin ++ u64_bytes upto) b (u32_bytes (length further)) c ab s in
+      Takes-then r (origin_bytes origin ++ u64_bytes upto ++ u32_bytes (length further)) c (flat_map u64_bytes further) end abc t
+
+  row_is : (origin : Origin) (upto count : ℕ) (further : List ℕ) → IsOrigin nodes origin → upto ≤ 2 ^ 62 → (least_count upto ≤ count) × (count ≤ 2 ^ 32 - 1)
+      → (length further ≡ count) × Chain IsFurther (λ n. n) (upto + 1) further → IsRow nodes (made origin upto further)
+  row_is origin upto count further is most counts chain =
+      record {
+        origin = is;
+        upto = most;
+        further = chain.1;
+        count = omega (arith, counts.1, chain.0);
+        some = λ none. omega (arith, some_dot upto count counts.0 none, chain.0);
+      }
+
+  row_further : (before : Option Origin) (origin : Origin) (upto count : ℕ) (r a b c : Rest) (x : Row × Rest)
+      → Takes r (origin_bytes origin) a × (IsOrigin nodes origin × (is_above origin_cmp before origin ≡ true)) → Takes a (u64_bytes upto) b × ((0 ≤ upto) × (upto ≤ 2 ^ 62))
+      → Takes b (u32_bytes count) c × ((least_count upto ≤ count) × (count ≤ 2 ^ 32 - 1))
+      → (items_at further_at (λ n. n) count (upto + 1) c >>= λ further. Ok (made origin upto further.0, further.1)) ≡ Ok x → Takes r (row_bytes x.0) x.1 × IsNext before x.0
+  row_further before origin upto count r a b c x ta tb tc e =
+      let d = bind_ok (items_at further_at (λ n. n) count (upto + 1) c) (λ further. Ok (made origin upto further.0, further.1)) x e in
+      let further = d.0.0 in
+      let end = d.0.1 in
+      let td = items_takes further_at (λ n. n) u64_bytes IsFurther further_takes count (upto + 1) c d.0 tc.0.fits d.1 in
+      let counted : Takes b (u32_bytes (length further)) c = subst (λ (n : ℕ). Takes b (u32_bytes n) c) (sym td.1.0) tc.0 in
+      let spelled = row_spelled origin upto further r a b c end ta.0 tb.0 counted td.0 in
+      let is = row_is origin upto count further ta.1.0 tb.1.1 tc.1 td.1 in
+      subst (λ (x : Row × Rest). Takes r (row_bytes x.0) x.1 × IsNext before x.0) (ok_is (made origin upto further, end) x d.2) (spelled, (is, ta.1.1))
+
+  row_rest : (before : Option Origin) (r : Rest) (origin : Origin × Rest) (x : Row × Rest)
+      → Takes r (origin_bytes origin.0) origin.1 × (IsOrigin nodes origin.0 × (is_above origin_cmp before origin.0 ≡ true))
+      → (range_at w64 0 (2 ^ 62) origin.1 >>= λ upto. further_count_at upto.0 upto.1 >>= λ count. items_at further_at (λ n. n) count.0 (upto.0 + 1) count.1 >>= λ further. Ok (made origin.0 upto.0 further.0, further.1)) ≡ Ok x
+      → Takes r (row_bytes x.0) x.1 × IsNext before x.0
+  unfolding least_count
+  row_rest before r origin x ta e =
+      let b = bind_ok (range_at w64 0 (2 ^ 62) origin.1) (λ upto. further_count_at upto.0 upto.1 >>= λ count. items_at further_at (λ n. n) count.0 (upto.0 + 1) count.1 >>= λ further. Ok (made origin.0 upto.0 further.0, further.1)) x e in
+      let upto = b.0.0 in
+      let tb = u64_in_takes 0 (2 ^ 62) origin.1 b.0 ta.0.fits b.1 in
+      let c = bind_ok (further_count_at upto b.0.1) (λ count. items_at further_at (λ n. n) count.0 (upto + 1) count.1 >>= λ further. Ok (made origin.0 upto further.0, further.1)) x b.2 in
+      let tc = u32_in_takes (least_count upto) (2 ^ 32 - 1) b.0.1 c.0 tb.0.fits c.1 in
+      row_further before origin.0 upto c.0.0 r origin.1 b.0.1 c.0.1 x ta tb tc c.2
+
   row_takes : (before : Option Origin) → TakesAs (row_at nodes before) row_bytes (IsNext before)
-  unfolding row_at row_bytes least_count
+  unfolding row_at least_count
   row_takes before r x fits e =
       let a = bind_ok (origin_above_at nodes before r) (λ origin. range_at w64 0 (2 ^ 62) origin.1 >>= λ upto. further_count_at upto.0 upto.1 >>= λ count. items_at further_at (λ n. n) count.0 (upto.0 + 1) count.1 >>= λ further. Ok (made origin.0 upto.0 further.0, further.1)) x e in
-      let b = bind_ok (range_at w64 0 (2 ^ 62) a.0.1) (λ upto. further_count_at upto.0 upto.1 >>= λ count. items_at further_at (λ n. n) count.0 (upto.0 + 1) count.1 >>= λ further. Ok (made a.0.0 upto.0 further.0, further.1)) x a.2 in
-      let c = bind_ok (further_count_at b.0.0 b.0.1) (λ count. items_at further_at (λ n. n) count.0 (b.0.0 + 1) count.1 >>= λ further. Ok (made a.0.0 b.0.0 further.0, further.1)) x b.2 in
-      let d = bind_ok (items_at further_at (λ n. n) c.0.0 (b.0.0 + 1) c.0.1) (λ further. Ok (made a.0.0 b.0.0 further.0, further.1)) x c.2 in
-      let ta = origin_above_takes nodes before r a.0 fits a.1 in
-      let tb = u64_in_takes 0 (2 ^ 62) a.0.1 b.0 ta.0.fits b.1 in
-      let tc = u32_in_takes (least_count b.0.0) (2 ^ 32 - 1) b.0.1 c.0 tb.0.fits c.1 in
-      let td = items_takes further_at (λ n. n) u64_bytes IsFurther further_takes c.0.0 (b.0.0 + 1) c.0.1 d.0 tc.0.fits d.1 in
-      let row = made a.0.0 b.0.0 d.0.0 in
-      let counted : Takes b.0.1 (u32_bytes (length d.0.0)) c.0.1 = subst (λ (n : ℕ). Takes b.0.1 (u32_bytes n) c.0.1) (sym td.1.0) tc.0 in
-      let ab = Takes-then r (origin_bytes a.0.0) a.0.1 (u64_bytes b.0.0) b.0.1 ta.0 tb.0 in
-      let abc = Takes-then r (origin_bytes a.0.0 ++ u64_bytes b.0.0) b.0.1 (u32_bytes (length d.0.0)) c.0.1 ab counted in
-      let abcd = Takes-then r (origin_bytes a.0.0 ++ u64_bytes b.0.0 ++ u32_bytes (length d.0.0)) c.0.1 (flat_map u64_bytes d.0.0) d.0.1 abc td.0 in
-      let len : length d.0.0 ≡ c.0.0 = td.1.0 in
-      let most : c.0.0 ≤ 2 ^ 32 - 1 = tc.1.1 in
-      let least : least_count b.0.0 ≤ c.0.0 = tc.1.0 in
-      let is : IsRow nodes row = record {
-        origin = ta.1.0;
-        upto = tb.1.1;
-        further = td.1.1;
-        count = omega arith;
-        some = λ none. let some = some_dot b.0.0 c.0.0 least none in omega arith;
-      } in
-      subst (λ (x : Row × Rest). Takes r (row_bytes x.0) x.1 × IsNext before x.0) (ok_is (row, d.0.1) x d.2) (abcd, (is, ta.1.1))
+      row_rest before r a.0 x (origin_above_takes nodes before r a.0 fits a.1) a.2
 
   -- the set of rows that were read is spelled by them
   rows_are : (rows : List Row) → AreRising origin_cmp (λ (row : Row). row.origin) (IsRow nodes) None rows → rows_of (dots_in rows) ≡ rows

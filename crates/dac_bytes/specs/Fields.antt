@@ -1,8 +1,8 @@
 -- The laws of each field: what is read is spelled so and in range, and what is in range is read from its spelling.
-use Rattle.std.specs.Prelude.{◌≡◌, ℕ, ◌+◌, ◌-◌, ◌^◌, ◌<◌, ◌≤◌, Bool, true, false, ◌||◌, ◌%◌, cond, List, [], ◌∷◌, ◌++◌, length, take, drop, Option, Result, Ok, Err, nat_lt, refl}
+use Rattle.std.specs.Prelude.{◌≡◌, ℕ, ◌+◌, ◌-◌, ◌^◌, ◌<◌, ◌≤◌, Bool, true, false, ◌||◌, ◌%◌, cond, List, [], ◌∷◌, ◌++◌, length, take, Option, Ok, nat_lt, refl}
 use Rattle.std.specs.Int.{Width, w8, w16, w32, w64, byte_len, from_be_bytes, to_be_bytes}
-use Rattle.std.proofs.Common.{get_or, sym, ap, subst, ◌∙◌, arith, append_assoc}
-use Rattle.std.proofs.lemmas.Bool.{or_parts, or_from, ltb-true, ltb-false, lt-ltb, le-ltb, false≢true}
+use Rattle.std.proofs.Common.{sym, ap, subst, ◌∙◌, arith}
+use Rattle.std.proofs.lemmas.Bool.{or_parts, or_from, ltb-true, ltb-false, lt-ltb, le-ltb}
 use Rattle.std.proofs.lemmas.List.{take_at, drop_at, length-append, length-take}
 use Rattle.std.proofs.lemmas.Nat.{be_bytes_2, be_bytes_4, be_bytes_8, from_be_bytes-to_be_bytes_2, from_be_bytes-to_be_bytes_4, from_be_bytes-to_be_bytes_8}
 use Rattle.dac_base.specs.declared.NodeId.{NodeId}
@@ -12,7 +12,7 @@ use Rattle.dac_dots.specs.Dots.{dot_cmp, origin_cmp}
 use Rattle.dac_bytes.specs.declared.fault.ReadFaultKind.TheVariants.{Short, BadNumber, BadOrder, BadName}
 use Rattle.dac_bytes.specs.Numbers.{u8_bytes, u16_bytes, u32_bytes, u64_bytes}
 use Rattle.dac_bytes.specs.Ranges.{IsOrigin, IsDot}
-use Rattle.dac_bytes.specs.Reading.{Rest, Field, ◌>>=◌, after, fault, number_at, range_at, node_at, incarnation_at, counter_at, origin_at, dot_at, is_above, origin_above_at, dot_above_at}
+use Rattle.dac_bytes.specs.Reading.{Rest, ◌>>=◌, after, fault, number_at, range_at, node_at, incarnation_at, counter_at, origin_at, dot_at, is_above, origin_above_at, dot_above_at}
 use Rattle.dac_bytes.specs.Spelling.{origin_bytes, dot_bytes}
 use Rattle.dac_bytes.specs.Takes.{IsBytes, IsBytes-take, Takes, TakesAs, Again, Takes-front, bind_ok, guard_ok, wanted_ok, TakesAs-more, TakesAs-guard, TakesAs-wanted, TakesAs-both, Again-guard, Again-wanted, Again-both}
 

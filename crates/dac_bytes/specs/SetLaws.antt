@@ -1,11 +1,10 @@
 -- Rows that were read are the rows of the set of their dots, and the rows of a set can be read.
-use Rattle.std.specs.Prelude.{◌≡◌, ℕ, zero, suc, ◌+◌, ◌<◌, ◌≤◌, ◌^◌, Bool, true, false, ◌||◌, ◌&&◌, nat_le, List, [], ◌∷◌, ◌++◌, length, map, refl}
+use Rattle.std.specs.Prelude.{◌≡◌, ℕ, ◌+◌, ◌<◌, ◌≤◌, ◌^◌, Bool, true, false, ◌||◌, ◌&&◌, nat_le, List, [], ◌∷◌, ◌++◌, length, map, refl}
 use Rattle.std.specs.FinSet as set
 use Rattle.std.specs.List.{flat_map, AllByRecursion}
-use Rattle.std.specs.declared.cmp.Ordering.{Ordering}
-use Rattle.std.specs.declared.cmp.Ordering.TheVariants.{Less, Equal, Greater}
+use Rattle.std.specs.declared.cmp.Ordering.TheVariants.{Greater}
 use Rattle.std.specs.Ordering.{nat_cmp, eq_by_cmp, is_eq, ordering_reverse}
-use Rattle.std.proofs.Common.{◌⊎◌, inl, inr, sym, ap, subst, ◌∙◌, arith}
+use Rattle.std.proofs.Common.{inl, inr, sym, ap, subst, ◌∙◌, arith}
 use Rattle.std.proofs.lemmas.Bool.{and_parts, and_from, and_right, or_cases, or_from, or_left, or_right, false≢true, true≢false, leb-true, le-leb, lt-leb, cases_lt, cases_order, false_from_ne_true}
 use Rattle.std.proofs.lemmas.Cmp.{nat_cmp_total, tied_itself}
 use Rattle.std.proofs.lemmas.List.Concat.{flat_map-cons}
@@ -18,10 +17,10 @@ use Rattle.dac_dots.specs.Dots.{Dots, dot, dot_cmp, dots_total, exact_dots, orig
 use Rattle.dac_dots.specs.declared.dot.Origin.{Origin}
 use Rattle.dac_dots.specs.declared.dot.Dot.{Dot}
 use Rattle.dac_bytes.specs.CounterLaws.{is_eq-then}
-use Rattle.dac_bytes.specs.FurtherLaws.{AreFurther, further_of_chain, chain_of_further, some_key, some_length, has_one_to}
-use Rattle.dac_bytes.specs.Ranges.{IsOrigin, IsDot, InRange, CountsFit, IsRow, IsFurther}
+use Rattle.dac_bytes.specs.FurtherLaws.{further_of_chain, chain_of_further, some_key, some_length, has_one_to}
+use Rattle.dac_bytes.specs.Ranges.{IsOrigin, IsDot, InRange, IsRow, IsFurther}
 use Rattle.dac_bytes.specs.Reading.{one_to, dots_in_row, dots_in}
-use Rattle.dac_bytes.specs.Rows.{Row, rows_of, IsRowOf, AreRowsOf}
+use Rattle.dac_bytes.specs.Rows.{Row, IsRowOf, AreRowsOf}
 
 abbrev origins : List Row → List Origin
 origins rows = map (λ (row : Row). row.origin) rows

@@ -1,8 +1,8 @@
 -- What it means that a field is read as it is spelled, and that what is spelled is read again.
 use Rattle.std.specs.Prelude.{◌≡◌, ℕ, ◌+◌, ◌<◌, Bool, true, false, cond, List, [], ◌++◌, length, take, drop, Result, Ok, Err, refl}
-use Rattle.std.proofs.Common.{get_or, sym, ap, subst, ◌∙◌, ◌⊎◌, inl, inr, ◌≤◌, arith, append_assoc}
+use Rattle.std.proofs.Common.{get_or, sym, ap, subst, ◌∙◌, inl, inr, ◌≤◌, arith, append_assoc}
 use Rattle.std.proofs.lemmas.Bool.{cases_lt}
-use Rattle.std.proofs.lemmas.List.{append-nil, take-append-drop, length-append, length-take, get_or-drop, get_or-take, get_or_past}
+use Rattle.std.proofs.lemmas.List.{take-append-drop, length-append, length-take, get_or-drop, get_or-take, get_or_past}
 use Rattle.dac_bytes.specs.declared.fault.ReadFaultKind.{ReadFaultKind}
 use Rattle.dac_bytes.specs.declared.fault.ReadFault.{ReadFault}
 use Rattle.dac_bytes.specs.Reading.{Rest, Field, fault, ◌>>=◌}

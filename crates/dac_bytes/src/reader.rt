@@ -9,7 +9,7 @@ use dac_dots::{Dot, Origin};
 use std::marker::Model;
 
 /// The greatest counter of a dot.
-const MOST: u64 = 1 << 62;
+pub(crate) const MOST: u64 = 1 << 62;
 
 /// The rest of some bytes that are being read, and the place of its first byte. Contracts see these two.
 ///
@@ -232,5 +232,77 @@ impl<'a> ByteReader<'a> {
         } else {
             Err(ReadFault::new(ReadFaultKind::BadOrder, at))
         }
+    }
+}
+
+#[cfg(test)]
+mod tests {
+    use super::*;
+    use std::test::Fail;
+
+    #[test]
+    fn numbers(rt: HostRuntime) -> Result<(), Fail> {
+        let bytes = b"\x12\x34\x56\x78\x9a\xbc\xde\x01\x02\x03\x04\x05\x06\x07\x08";
+        let (a, reader) = ByteReader::new(bytes.as_slice()).read_u8()?;
+        let (b, reader) = reader.read_u16()?;
+        let (c, reader) = reader.read_u32()?;
+        assert!(rt; !reader.is_at_end());
+        let (d, reader) = reader.read_u64()?;
+        assert_eq!(rt; a, 0x12);
+        assert_eq!(rt; b, 0x3456);
+        assert_eq!(rt; c, 0x789a_bcde);
+        assert_eq!(rt; d, 0x0102_0304_0506_0708);
+        assert_eq!(rt; reader.at(), 15);
+        assert!(rt; reader.is_at_end());
+        Ok(())
+    }
+
+    #[test]
+    fn numbers_in_ranges(rt: HostRuntime) -> Result<(), Fail> {
+        let bytes = b"\x03\x00\x00\x00\x09\x00\x00\x00\x00\x00\x00\x00\x05";
+        let (how, reader) = ByteReader::new(bytes.as_slice()).read_u8_in(1, 3)?;
+        let (count, reader) = reader.read_u32_in(1, 9)?;
+        let (term, _) = reader.read_u64_in(5, 6)?;
+        assert_eq!(rt; how, 3);
+        assert_eq!(rt; count, 9);
+        assert_eq!(rt; term, 5);
+        let read = ByteReader::new(bytes.as_slice()).read_u8_in(0, 2);
+        assert_eq!(rt;
+            read.err(),
+            Some(ReadFault::new(ReadFaultKind::BadNumber, 0))
+        );
+        Ok(())
+    }
+
+    #[test]
+    fn dots_and_their_parts(rt: HostRuntime) -> Result<(), Fail> {
+        let bytes = b"\x02\x00\x00\x01\x02\x00\x00\x00\x00\x00\x00\x00\x05";
+        let (node, reader) = ByteReader::new(bytes.as_slice()).read_node(3)?;
+        let (inc, reader) = reader.read_incarnation()?;
+        let (n, _) = reader.read_counter()?;
+        assert_eq!(rt; node, NodeId(2));
+        assert_eq!(rt; inc, 258);
+        assert_eq!(rt; n, 5);
+        let (origin, _) = ByteReader::new(bytes.as_slice()).read_origin(3)?;
+        let (dot, _) = ByteReader::new(bytes.as_slice()).read_dot(3)?;
+        assert_eq!(rt; origin, Origin { node, inc });
+        assert_eq!(rt; dot, Dot { origin, n });
+        let (above, _) = ByteReader::new(bytes.as_slice()).read_origin_above(3, None)?;
+        assert_eq!(rt; above, origin);
+        let read = ByteReader::new(bytes.as_slice()).read_dot_above(3, Some(dot));
+        assert_eq!(rt;
+            read.err(),
+            Some(ReadFault::new(ReadFaultKind::BadOrder, 0))
+        );
+        Ok(())
+    }
+
+    #[test]
+    fn faults_of_a_dot(rt: HostRuntime) {
+        let bytes = b"\x02\x00\x00\x01\x02\x00\x00\x00\x00\x00\x00\x00";
+        let read = ByteReader::new(bytes.as_slice()).read_dot(3);
+        assert_eq!(rt; read.err(), Some(ReadFault::new(ReadFaultKind::Short, 5)));
+        let read = ByteReader::new(bytes.as_slice()).read_dot(2);
+        assert_eq!(rt; read.err(), Some(ReadFault::new(ReadFaultKind::BadName, 0)));
     }
 }

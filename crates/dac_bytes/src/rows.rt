@@ -1,17 +1,17 @@
 //! Contexts that are being read: first their rows, and then the set of the rows' dots.
-ghost use Rattle.std.specs.Prelude.{◌≡◌, map, OnOk, IfOk, Some};
-ghost use Rattle.dac_dots.specs.Dots.{dot};
+ghost use Rattle.std.specs.Prelude.{◌≡◌, ◌+◌, ◌++◌, ℕ, IfOk, List, Ok, OnOk, Some, length, map};
+ghost use Rattle.dac_dots.specs.Dots.{Dots, dot};
 ghost use Rattle.dac_bytes.specs.Reading.{Gives, context_at, dots_in, dots_in_row, further_at, items_at, one_to, row_at, rows_at};
+ghost use Rattle.dac_bytes.specs.Ranges.{IsContext};
 ghost use Rattle.dac_bytes.specs.RowViews.{Adds, row_view};
+ghost use Rattle.dac_bytes.specs.Spelling.{context_bytes};
+ghost use Rattle.dac_bytes.specs.Takes.{IsBytes, Takes};
 
 use crate::fault::{ReadFault, ReadFaultKind};
-use crate::reader::ByteReader;
+use crate::reader::{ByteReader, MOST};
 use dac_base::NoMemory;
 use dac_dots::{Context, Dot, Origin};
 use std::alloc::Global;
-
-/// The greatest counter of a dot.
-const MOST: u64 = 1 << 62;
 
 /// The dots of one origin: the counters 1 to `upto`, and the further ones.
 #[derive(Debug, Drop)]
@@ -154,25 +154,107 @@ fn context_of_rows(alloc: Global, rows: &[OriginRow]) -> Result<Context, NoMemor
     Ok(context)
 }
 
+/// The set of the dots of the rows that are read.
+#[tactic(auto, unfolding(crate::specs::Reading::context_at))]
+fn read_set<'a>(
+    reader: ByteReader<'a>,
+    alloc: Global,
+    nodes: u8,
+) -> Result<(Context, ByteReader<'a>), ReadFault>
+    ensures { Gives (λ x. x) result (context_at nodes reader.entry) }
+{
+    let (rows, rest) = read_rows(reader, alloc, nodes)?;
+    let context = context_of_rows(alloc, &rows)?;
+    Ok((context, rest))
+}
+
 impl<'a> ByteReader<'a> {
     /// A context of dots whose nodes are below the number of nodes. The first field that isn't in form is
-    /// the fault. An origin that isn't above the one before it, and a further counter that isn't above the
-    /// one before it or, as the first, not beyond the next after those without a gap, is `BadOrder`; an
-    /// origin without dots is `BadNumber` at its number of further counters.
+    /// the fault, at its first byte. An origin that isn't above the one before it is `BadOrder`, and so is
+    /// a further counter that isn't above the one before it, or continues those without a gap. An origin
+    /// without dots is `BadNumber` at its number of further counters.
     ///
-    /// Memory is taken for what was read and for the dots; nothing is reserved for a count. So a context
+    /// Memory is taken for what was read and for the dots, and nothing is reserved for a count. A context
     /// of few bytes can still want more memory than there is, as its counters without a gap are but one
     /// number.
-    #[tactic(auto, unfolding(crate::specs::Reading::context_at))]
     pub fn read_context(
         self,
         alloc: Global,
         nodes: u8,
     ) -> Result<(Context, ByteReader<'a>), ReadFault>
-        ensures { Gives (λ x. x) result (context_at nodes self.entry) }
+        // Which context or fault it is, unless memory runs out.
+        ensures exact { Gives (λ x. x) result (context_at nodes self.entry) }
+        // What is read of bytes is spelled so, and its dots and counts are in range.
+        ensures found { IsBytes self.entry.bytes → IfOk result (λ x. Takes self.entry (context_bytes x.0) x.1 × IsContext nodes x.0) }
+        // What is spelled so is read, unless memory runs out.
+        ensures again { (dots : Dots) (rest : List ℕ) → IsContext nodes dots → self.entry.bytes ≡ context_bytes dots ++ rest
+            → Gives (λ x. x) result (Ok (dots, record { at = self.entry.at + length (context_bytes dots); bytes = rest })) }
     {
-        let (rows, rest) = read_rows(self, alloc, nodes)?;
-        let context = context_of_rows(alloc, &rows)?;
-        Ok((context, rest))
+        read_set(self, alloc, nodes)
+    }
+}
+
+#[cfg(test)]
+mod tests {
+    use super::*;
+    use dac_base::NodeId;
+    use std::test::Fail;
+
+    fn dot(node: u8, inc: u32, n: u64) -> Dot {
+        Dot {
+            origin: Origin {
+                node: NodeId(node),
+                inc,
+            },
+            n,
+        }
+    }
+
+    #[test]
+    fn gaps_of_two_origins(rt: HostRuntime) -> Result<(), Fail> {
+        let bytes = b"\x00\x02\
+            \x00\x00\x00\x00\x01\x00\x00\x00\x00\x00\x00\x00\x02\x00\x00\x00\x02\
+            \x00\x00\x00\x00\x00\x00\x00\x04\x00\x00\x00\x00\x00\x00\x00\x07\
+            \x02\x00\x00\x01\x02\x00\x00\x00\x00\x00\x00\x00\x00\x00\x00\x00\x01\
+            \x00\x00\x00\x00\x00\x00\x00\x05\xff";
+        let (context, rest) = ByteReader::new(bytes.as_slice()).read_context(rt.alloc(), 3)?;
+        let expected = [
+            dot(0, 1, 1),
+            dot(0, 1, 2),
+            dot(0, 1, 4),
+            dot(0, 1, 7),
+            dot(2, 258, 5),
+        ];
+        assert_eq!(rt; context.dots()?.as_slice(), expected.as_slice());
+        assert_eq!(rt; rest.at(), 60);
+        Ok(())
+    }
+
+    #[test]
+    fn count_of_much_more_than_there_is(rt: HostRuntime) {
+        let bytes = b"\x00\x01\x01\x00\x00\x00\x01\x00\x00\x00\x00\x00\x00\x00\x00\xff\xff\xff\xff";
+        let read = ByteReader::new(bytes.as_slice()).read_context(rt.alloc(), 3);
+        assert_eq!(rt; read.err(), Some(ReadFault::new(ReadFaultKind::Short, 19)));
+    }
+
+    #[test]
+    fn counter_that_continues(rt: HostRuntime) {
+        let bytes = b"\x00\x01\x01\x00\x00\x00\x01\x00\x00\x00\x00\x00\x00\x00\x01\x00\x00\x00\x01\
+            \x00\x00\x00\x00\x00\x00\x00\x02";
+        let read = ByteReader::new(bytes.as_slice()).read_context(rt.alloc(), 3);
+        assert_eq!(rt;
+            read.err(),
+            Some(ReadFault::new(ReadFaultKind::BadOrder, 19))
+        );
+    }
+
+    #[test]
+    fn origin_without_dots(rt: HostRuntime) {
+        let bytes = b"\x00\x01\x01\x00\x00\x00\x01\x00\x00\x00\x00\x00\x00\x00\x00\x00\x00\x00\x00";
+        let read = ByteReader::new(bytes.as_slice()).read_context(rt.alloc(), 3);
+        assert_eq!(rt;
+            read.err(),
+            Some(ReadFault::new(ReadFaultKind::BadNumber, 15))
+        );
     }
 }
