@@ -50,8 +50,8 @@ by_hearing last None = record { last = last; after = Same; reply = Heard false }
 by_hearing last (Some r) = record { last = last; after = Runs r; reply = Heard true }
 
 -- what an accepted event does at a running node
-pub record Effect (last : ℕ) (r : RunValue) (e : Event) (change : Change) : Type 0 where
-  pub last : change.last ≡ last
+pub record Effect (number : ℕ) (r : RunValue) (e : Event) (change : Change) : Type 0 where
+  pub last : change.last ≡ number
   pub run : run_after change.after (Some r) ≡ unless_crashed (reply_on r.origin r.state e) (grown r (added e (reply_on r.origin r.state e)))
   pub reply : change.reply ≡ reply_on r.origin r.state e
 

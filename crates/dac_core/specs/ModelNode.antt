@@ -132,10 +132,14 @@ causes_to_name t s app node = (no_app t app, UnknownApp) ∷ (no_node t node, Un
 abbrev pub causes_to_issue : Origin → StateValue → ℕ → List (Bool × Refusal)
 causes_to_issue own s count = (too_many count, TooManyDots) ∷ (used_up s own, DotsUsedUp) ∷ []
 
+-- why nothing is said of whether an application may run at a node
+abbrev pub causes_to_permit : Table → Origin → StateValue → AppId → NodeId → List (Bool × Refusal)
+causes_to_permit t own s app node = causes_to_name t s app node ++ causes_to_issue own s (length (standing_permits s (key_at s app node)))
+
 -- why an incarnation that wasn't declared down doesn't take up a command
 abbrev pub causes_of : Table → Origin → StateValue → Command → List (Bool × Refusal)
 causes_of t own s (Down node) = (no_node t node, UnknownNode) ∷ (nat_eq node.0 own.node.0, OnSelf) ∷ (not_live s node, NotLive) ∷ (used_up s own, DotsUsedUp) ∷ []
-causes_of t own s (Permit app node value) = causes_to_name t s app node ++ causes_to_issue own s (length (standing_permits s (key_at s app node)))
+causes_of t own s (Permit app node value) = causes_to_permit t own s app node
 causes_of t own s (Start app node) = causes_to_name t s app node ++ causes_to_issue own s (length (standing_starts s (key_at s app node)))
 causes_of t own s (Stop app node) =
     let key = key_at s app node in

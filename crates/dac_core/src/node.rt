@@ -41,6 +41,7 @@ impl Node {
     ghost use Rattle.dac_core.specs.NodeValue.{off, origin_of, state_of};
     ghost use Rattle.dac_core.specs.ModelNode.{refusal_of, Steps};
     ghost use Rattle.dac_core.specs.Changes.{changed, Prepared};
+    ghost use Rattle.dac_core.specs.Hearing.{HearsExactly};
 
     /// A controller that is off and whose last incarnation had this number; 0 for one that never booted.
     pub fn off(alloc: Global, last: u32) -> Self
@@ -99,6 +100,8 @@ impl Node {
         ensures crash { IfErr result (λ why. event ≡ Event.Crash → why ≡ Refusal.Off) }
         ensures unchanged { OnErr result (self.new ≡ self.old) }
         ensures ok { IfOk result (λ reply. Steps config.now self_id self.old event self.new (Ok reply)) }
+        // What it has heard grows by the dots that the event brings, and by no more.
+        ensures heard { IfOk result (λ reply. HearsExactly self.old event reply self.new) }
     {
         let change = self.prepare(config, self_id, &event)?;
         Ok(self.apply(change))

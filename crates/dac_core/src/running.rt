@@ -1,9 +1,9 @@
 //! What a controller keeps while it runs, and its rules: which events it refuses, and what it does.
 
-ghost use Rattle.std.specs.Prelude.{◌≡◌, ◌∷◌, [], Bool, IfOk, cond, false};
+ghost use Rattle.std.specs.Prelude.{◌≡◌, ◌∷◌, [], IfOk, map, cond, false};
 ghost use Rattle.dac_config.specs.Table.{Table};
 ghost use Rattle.dac_operations.specs.Operations.{operation, fault_of};
-ghost use Rattle.dac_core.specs.ModelNode.{first, causes_of, causes_to_name, causes_to_issue, too_many, live_or_none, key_at, standing_starts as starts_standing, standing_permits as permits_standing, declared_down, refusal_of_command as refused_command, refusal_to_ship as refused_ship, refusal_to_hear as refused_hear, refusal_on, next_operation, used_up, up, act_of as said_by};
+ghost use Rattle.dac_core.specs.ModelNode.{first, causes_of, causes_to_name, causes_to_permit, causes_to_issue, too_many, live_or_none, key_at, standing_starts as starts_standing, standing_permits as permits_standing, declared_down, refusal_of_command as refused_command, refusal_to_ship as refused_ship, refusal_to_hear as refused_hear, refusal_on, next_operation, used_up, up, act_of as said_by};
 
 use crate::event::{Event, Message};
 use crate::refusal::Refusal;
@@ -11,9 +11,9 @@ use dac_base::{AppId, NoMemory, NodeId};
 use dac_config::Config;
 use dac_dots::{Dot, Origin};
 use dac_events::Command;
-use dac_lattice::{Bottom, Lattice};
+use dac_lattice::{Bottom, Flag, Lattice};
 use dac_state::{Act, DotList, Key, Op, State};
-use std::alloc::Global;
+use std::alloc::{AllocError, Global};
 use std::marker::Model;
 
 /// How many dots an operation may replace.
@@ -153,7 +153,7 @@ impl Running {
 
     /// Why nothing is said of whether an application may run at a node, if nothing is.
     fn refusal_to_permit(&self, config: &Config, app: AppId, node: NodeId) -> Option<Refusal>
-        ensures { (value : Bool) → result ≡ first (causes_of config.now self.now.origin self.now.state (Command.Permit app node value)) }
+        ensures { result ≡ first (causes_to_permit config.now self.now.origin self.now.state app node) }
     {
         if let Some(why) = refusal_to_name(config, &self.state, app, node) {
             return Some(why);
@@ -285,11 +285,7 @@ impl Running {
     fn standing_permits(&self, key: Key) -> Result<DotList, NoMemory>
         ensures { IfOk result (λ over. over ≡ permits_standing self.now.state key) }
     {
-        let permits = self.state.permissions().dots(key);
-        let dots = permits
-            .iter()
-            .map(|permit| permit.0)
-            .collect(self.alloc)?;
+        let dots = dots_of(self.alloc, self.state.permissions().dots(key))?;
         Ok(DotList::new(dots))
     }
 
@@ -350,6 +346,13 @@ impl Running {
             state,
         })
     }
+}
+
+/// The dots of permits, in their order.
+fn dots_of(alloc: Global, permits: &[(Dot, Flag)]) -> Result<Vec<Dot>, AllocError>
+    ensures { IfOk result (λ dots. dots.items ≡ map (λ permit. permit.0) permits.now) }
+{
+    permits.iter().map(|permit| permit.0).collect(alloc)
 }
 
 /// The live incarnation of a node, 0 where none is live.
