@@ -9,14 +9,12 @@
 //! keeps none of the operations.
 #![tactic(auto)]
 
-pub use dac_bytes::{ReadFault as StateFault, ReadFaultKind as StateFaultKind};
 pub use dac_chains::{Claim, Claims, How, Life, Lives};
 pub use dac_operations::{Act, Op, OpFault};
 pub use dac_wishes::{DotList, Key, Permissions, Wishes};
 pub use state::State;
 
 mod coding;
-mod decoding;
 mod state;
 #[cfg(test)]
 mod tests;
