@@ -198,8 +198,8 @@ impl World {
         if change.is_crash() {
             return Ok(change_node(&mut self.nodes, node, change));
         }
-        match make_room(&mut self.operations, &mut self.messages, change) {
-            Ok((change, noted)) => {
+        match make_room(&mut self.operations, &mut self.messages, &change.reply) {
+            Ok(noted) => {
                 let reply = change_node(&mut self.nodes, node, change);
                 note(&mut self.operations, &mut self.messages, noted);
                 Ok(reply)
@@ -218,23 +218,22 @@ fn change_node(nodes: &mut Vec<Node>, node: NodeId, change: Change) -> Reply
     nodes[node.0 as usize].apply(change)
 }
 
-/// Makes room for what a change's reply issues and ships, and copies the reply.
+/// Makes room for what a reply issues and ships, and copies the reply.
 fn make_room(
     operations: &mut Vec<Op>,
     messages: &mut Vec<Message>,
-    change: Change,
-) -> Result<(Change, Reply), NoMemory>
+    reply: &Reply,
+) -> Result<Reply, NoMemory>
     ensures operations { operations.new.items ≡ operations.old.items }
     ensures messages { messages.new.items ≡ messages.old.items }
     ensures operations_room { OnOk result (vec_len operations.new < vec_capacity operations.new) }
     ensures messages_room { OnOk result (vec_len messages.new < vec_capacity messages.new) }
-    ensures same { IfOk result (λ both. both.0 ≡ change) }
-    ensures copied { IfOk result (λ both. both.1 ≡ change.reply) }
+    ensures copied { IfOk result (λ copied. copied ≡ reply.now) }
 {
-    let copied = change.reply.copy()?;
     operations.reserve(1)?;
     messages.reserve(1)?;
-    Ok((change, copied))
+    let copied = reply.copy()?;
+    Ok(copied)
 }
 
 /// Notes what a reply issues and ships, where there is room.

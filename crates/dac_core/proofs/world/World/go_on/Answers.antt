@@ -25,8 +25,8 @@ returns-then-is_crash-clause-ok c =
 
 pub returns-in-Ok-clause-ok : goal.returns-in-Ok-clause-ok
 returns-in-Ok-clause-ok c = record {
-  reply = c.change_node-reply.ensures.reply ∙ ap (λ (x : Change). x.reply) c.in-Ok.ensures.same;
-  nodes = subst (λ (p : List NodeValue × Change). NodeChanges p.0 c.args.node p.1 c.change_node-reply.new.nodes.items) (λ i. (ap (λ (x : WorldValue). x.nodes) c.self.view_is i, c.in-Ok.ensures.same i)) c.change_node-reply.ensures.nodes;
+  reply = c.change_node-reply.ensures.reply;
+  nodes = subst (λ (nodes : List NodeValue). NodeChanges nodes c.args.node c.args.change c.change_node-reply.new.nodes.items) (ap (λ (x : WorldValue). x.nodes) c.self.view_is) c.change_node-reply.ensures.nodes;
   operations = c.note.ensures.operations ∙ (λ i. (c.make_room.ensures.operations ∙ ap (λ (x : WorldValue). x.operations) c.self.view_is) i ++ issued_by (c.in-Ok.ensures.copied i));
   messages = c.note.ensures.messages ∙ (λ i. (c.make_room.ensures.messages ∙ ap (λ (x : WorldValue). x.messages) c.self.view_is) i ++ shipped_by (c.in-Ok.ensures.copied i));
 }
