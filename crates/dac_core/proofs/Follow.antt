@@ -9,7 +9,6 @@ use Rattle.dac_base.specs.declared.NodeId.{NodeId}
 use Rattle.dac_config.specs.Table.{Table}
 use Rattle.dac_events.specs.declared.WorldEvent.{WorldEvent}
 use Rattle.dac_events.specs.declared.What.{What}
-use Rattle.dac_core.specs.declared.event.Message.{Message}
 use Rattle.dac_core.specs.declared.event.Event.{Event}
 use Rattle.dac_core.specs.declared.event.Event.TheVariants.{Boot, Crash, Command as Told, Ship, Hear, HearOp}
 use Rattle.dac_core.specs.declared.event.Reply.{Reply}

@@ -1,19 +1,18 @@
 -- What an accepted event adds to what a node has heard.
-use Rattle.std.proofs.Common.{◌≡◌, ℕ, Bool, true, false, not, ◌||◌, cond, [], ◌∷◌, Option, Some, None, refl, sym, ap, subst, ◌∙◌, true≢false}
+use Rattle.std.proofs.Common.{◌≡◌, ℕ, Bool, true, false, not, cond, [], ◌∷◌, Option, Some, None, refl, sym, ap, ◌∙◌, true≢false}
 use Rattle.std.specs.FinSet as set
 use Rattle.dac_base.specs.declared.NodeId.{NodeId}
-use Rattle.dac_dots.specs.Dots.{Dots, IsSubset, dot_cmp, dots_total, exact_dots}
-use Rattle.dac_store.specs.Stores.{both_ways, same_context, subset_left, subset_union}
+use Rattle.dac_dots.specs.Dots.{Dots, IsSubset, dot_cmp}
+use Rattle.dac_store.specs.Stores.{same_context, subset_left, subset_union}
 use Rattle.dac_operations.specs.Operations.{Operation}
-use Rattle.dac_meaning.specs.StateValue.{StateValue, join}
+use Rattle.dac_meaning.specs.StateValue.{StateValue}
 use Rattle.dac_meaning.specs.StateLaws.{heard-join}
 use Rattle.dac_meaning.specs.Meaning.{meaning_of}
 use Rattle.dac_config.specs.Table.{Table}
 use Rattle.dac_core.specs.declared.event.Event.{Event}
 use Rattle.dac_core.specs.declared.event.Event.TheVariants.{Boot, Crash, Command as Told, Ship, Hear, HearOp}
-use Rattle.dac_core.specs.declared.event.Reply.{Reply}
 use Rattle.dac_core.specs.declared.refusal.Refusal.TheVariants.{AlreadyOn}
-use Rattle.dac_core.specs.NodeValue.{NodeValue, RunValue, state_of}
+use Rattle.dac_core.specs.NodeValue.{RunValue, state_of}
 use Rattle.dac_core.specs.Below.{is_below, is_below-is}
 use Rattle.dac_core.specs.ModelNode.{refusal_by, reply_on, added, unless_crashed}
 use Rattle.dac_core.specs.Changes.{grown, left_by, reply_by}

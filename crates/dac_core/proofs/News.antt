@@ -1,14 +1,14 @@
 -- What is heard is answered by whether it brought a dot that the node hadn't heard.
-use Rattle.std.proofs.Common.{◌≡◌, Bool, true, false, not, cond, List, [], ◌∷◌, Option, Some, None, Result, Ok, Err, inl, inr, refl, sym, ap, subst, ◌∙◌, true≢false}
+use Rattle.std.proofs.Common.{◌≡◌, Bool, true, false, not, cond, List, [], ◌∷◌, Option, Some, None, Ok, Err, inl, inr, refl, sym, ap, subst, ◌∙◌, true≢false}
 use Rattle.std.specs.Prelude.{◌↔◌, IsTrue, nat_lt}
 use Rattle.std.specs.Option.{option_map}
 use Rattle.std.specs.List.{list_any}
 use Rattle.std.specs.FinSet as set
 use Rattle.dac_base.specs.declared.NodeId.{NodeId}
-use Rattle.dac_wishes.specs.Writes.{same_dot_is, same_dot_itself}
+use Rattle.dac_wishes.specs.Writes.{same_dot_is}
 use Rattle.dac_operations.specs.Operations.{Operation}
 use Rattle.dac_meaning.specs.StateValue.{StateValue}
-use Rattle.dac_meaning.specs.Meaning.{meaning_of, In, Within, Agree, has_dot}
+use Rattle.dac_meaning.specs.Meaning.{meaning_of, Within, Agree, has_dot}
 use Rattle.dac_meaning.specs.Readers.{heard-meaning}
 use Rattle.dac_meaning.specs.Members.{found, finds}
 use Rattle.dac_config.specs.Table.{Table}
@@ -16,20 +16,17 @@ use Rattle.dac_events.specs.declared.WorldEvent.{WorldEvent}
 use Rattle.dac_events.specs.declared.What.{What}
 use Rattle.dac_core.specs.declared.event.Event.{Event}
 use Rattle.dac_core.specs.declared.event.Event.TheVariants.{Boot, Crash, Command as Told, Ship, Hear, HearOp}
-use Rattle.dac_core.specs.declared.event.Reply.{Reply}
-use Rattle.dac_core.specs.declared.event.Reply.TheVariants.{Heard}
 use Rattle.dac_core.specs.declared.refusal.Refusal.TheVariants.{AlreadyOn}
-use Rattle.dac_core.specs.declared.fault.WorldFault.{WorldFault}
 use Rattle.dac_core.specs.declared.fault.WorldFault.TheVariants.{NoSuchNode}
 use Rattle.dac_core.specs.Below.{is_below, is_below-is}
-use Rattle.dac_core.specs.ModelNode.{ModelNode, ModelRun, joined, shown, run_shown, refusal_of, refusal_by, step_by, accepted}
+use Rattle.dac_core.specs.ModelNode.{ModelRun, joined, shown, run_shown, refusal_of, refusal_by, step_by, accepted}
 use Rattle.dac_core.specs.ModelWorld.{ModelWorld, happens, happens_by, answered_by, event_of, Step, Run}
 use Rattle.dac_core.specs.SetWorld.{SetWorld, brought_to, set_step}
 use Rattle.dac_core.specs.News.{HasDot, HasNews, held_by, TellsNews, AnswersNews}
 use Rattle.dac_core.proofs.Lists.{not_true}
 use Rattle.dac_core.proofs.Operations.{DistinctDots-agree}
 use Rattle.dac_core.proofs.Meanings.{heard_in, below_where_heard}
-use Rattle.dac_core.proofs.Sound.{Answer, Sound, HeldBy, Brings, held_at, brings_copy, brings_one, sound_step}
+use Rattle.dac_core.proofs.Sound.{Answer, Sound, Brings, held_at, brings_copy, brings_one, sound_step}
 
 -- ---- sets of operations
 

@@ -27,7 +27,7 @@ use Rattle.dac_core.specs.declared.event.Message.{Message}
 use Rattle.dac_core.specs.declared.event.Event.{Event}
 use Rattle.dac_core.specs.declared.event.Event.TheVariants.{Boot, Crash, Command as Told, Ship, Hear, HearOp}
 use Rattle.dac_core.specs.declared.event.Reply.{Reply}
-use Rattle.dac_core.specs.declared.event.Reply.TheVariants.{Crashed, Issued}
+use Rattle.dac_core.specs.declared.event.Reply.TheVariants.{Issued}
 use Rattle.dac_core.specs.declared.refusal.Refusal.TheVariants.{OnSelf, NotForMe, AlreadyOn}
 use Rattle.dac_core.specs.declared.fault.WorldFault.{WorldFault}
 use Rattle.dac_core.specs.declared.fault.WorldFault.TheVariants.{NoSuchNode}

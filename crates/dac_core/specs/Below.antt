@@ -10,7 +10,7 @@ use Rattle.std.specs.Cmp.{Equal-is}
 use Rattle.std.specs.FinSet as set
 use Rattle.std.specs.FinMap as map
 use Rattle.dac_base.specs.Ids.{exact_nodes, exact_apps}
-use Rattle.dac_dots.specs.Dots.{Dots, IsSubset, dots_total}
+use Rattle.dac_dots.specs.Dots.{IsSubset, dots_total}
 use Rattle.dac_lattice.specs.declared.flags.Flag.{Flag}
 use Rattle.dac_lattice.specs.declared.flags.Flag.TheVariants.{Up, Down}
 use Rattle.dac_lattice.specs.Flags.{IsFlagBelow}
@@ -20,10 +20,8 @@ use Rattle.dac_store.specs.AtDot.{StandsBelow}
 use Rattle.dac_chains.specs.Greatest.{AreNotAbove}
 use Rattle.dac_chains.specs.Lives.{life_cmp}
 use Rattle.dac_chains.specs.Claims.{claim_cmp}
-use Rattle.dac_wishes.specs.Writes.{Write, write_cmp, writes_total, exact_writes}
-use Rattle.dac_wishes.specs.WishesValue.{IsBelow as AreWishesBelow}
-use Rattle.dac_wishes.specs.PermissionsValue.{IsPermissionsBelow}
-use Rattle.dac_meaning.specs.StateValue.{StateValue, IsBelow, permissions_of, wishes_of}
+use Rattle.dac_wishes.specs.Writes.{Write, writes_total, exact_writes}
+use Rattle.dac_meaning.specs.StateValue.{StateValue, IsBelow}
 
 -- the first isn't above the second, where none is least
 abbrev pub is_within : {T : Type 0} → (T → T → Ordering) → Option T → Option T → Bool

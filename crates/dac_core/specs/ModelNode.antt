@@ -1,6 +1,6 @@
 -- The definition's node: which events it refuses and why, and what an accepted one does. It keeps each
 -- state that it issued or heard since it booted; the program keeps their join alone.
-use Rattle.std.specs.Prelude.{◌≡◌, ℕ, ◌+◌, ◌-◌, ◌^◌, Bool, true, false, not, cond, nat_eq, nat_le, nat_lt, List, [], ◌∷◌, ◌++◌, length, map as list_map, max, Option, Some, None, is_some, unwrap_or, Result, Ok, Err, fold}
+use Rattle.std.specs.Prelude.{◌≡◌, ℕ, ◌+◌, ◌-◌, ◌^◌, Bool, false, not, cond, nat_eq, nat_le, nat_lt, List, [], ◌∷◌, ◌++◌, length, map as list_map, max, Option, Some, None, is_some, unwrap_or, Result, Ok, Err, fold}
 use Rattle.std.specs.Option.{option_map}
 use Rattle.std.specs.FinSet as set
 use Rattle.std.specs.Ordering.{eq_by_cmp}

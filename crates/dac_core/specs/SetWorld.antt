@@ -1,6 +1,6 @@
 -- The world of sets: each node is off or holds a set of operations, and a message carries a copy of the
 -- sender's whole set. A set is given as a list; order and repeats don't matter.
-use Rattle.std.specs.Prelude.{ℕ, cond, not, ◌&&◌, nat_eq, List, [], ◌∷◌, ◌++◌, Option, Some, None, Result, Ok, Err}
+use Rattle.std.specs.Prelude.{cond, not, ◌&&◌, nat_eq, List, [], ◌∷◌, ◌++◌, Option, Some, None, Result, Ok, Err}
 use Rattle.dac_base.specs.declared.NodeId.{NodeId}
 use Rattle.dac_operations.specs.Operations.{Operation}
 use Rattle.dac_events.specs.declared.WorldEvent.{WorldEvent}

@@ -8,7 +8,7 @@ use crate::event::{Event, Message, Reply};
 use crate::running::Running;
 use dac_base::{NoMemory, NodeId};
 use dac_dots::Origin;
-use dac_operations::Op;
+use dac_state::Op;
 use std::alloc::Global;
 
 /// What runs after a change.
@@ -31,8 +31,7 @@ pub(crate) struct Change {
 }
 
 impl Change {
-    ghost use Rattle.dac_core.specs.Changes.{booted, Effect};
-    ghost use Rattle.dac_core.specs.Changes.{by_hearing};
+    ghost use Rattle.dac_core.specs.Changes.{booted, by_hearing, Effect};
 
     /// A controller that is off comes up as this node.
     pub(crate) fn boot(alloc: Global, node: NodeId, last: u32) -> Result<Self, NoMemory>

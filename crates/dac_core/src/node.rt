@@ -208,6 +208,13 @@ mod tests {
         assert_eq!(rt; origin.map(|origin| origin.inc), Some(5));
         let copy = node.copy()?;
         assert!(rt; copy.state().is_some());
+        let answer = node.step(&config, NodeId(1), Event::Crash);
+        assert!(rt; matches!(answer, Ok(Reply::Crashed)));
+        assert_eq!(rt; node.origin(), None);
+        let answer = node.step(&config, NodeId(1), Event::Boot { now: 0 });
+        assert!(rt; matches!(answer, Ok(Reply::Booted(_))));
+        let origin = node.origin();
+        assert_eq!(rt; origin.map(|origin| origin.inc), Some(6));
         Ok(())
     }
 

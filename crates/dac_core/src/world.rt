@@ -264,6 +264,7 @@ mod tests {
     use dac_config::read_config;
     use dac_events::Command;
     use dac_lattice::Lattice;
+    use dac_state::Key;
     use std::process::Abort;
     use std::test::Fail;
 
@@ -301,6 +302,38 @@ mod tests {
             node,
             what: What::Deliver(number),
         }
+    }
+
+    fn crash(node: NodeId) -> WorldEvent {
+        WorldEvent {
+            node,
+            what: What::Crash,
+        }
+    }
+
+    fn hand(node: NodeId, number: u64) -> WorldEvent {
+        WorldEvent {
+            node,
+            what: What::Hand(number),
+        }
+    }
+
+    fn down(node: NodeId, about: NodeId) -> WorldEvent {
+        WorldEvent {
+            node,
+            what: What::Command(Command::Down { node: about }),
+        }
+    }
+
+    /// Says of the first application whether it may run at the first node.
+    fn permit(node: NodeId, value: bool) -> WorldEvent {
+        let app = AppId(0);
+        let what = What::Command(Command::Permit {
+            app,
+            node: FIRST,
+            value,
+        });
+        WorldEvent { node, what }
     }
 
     fn start(node: NodeId, app: u16, about: NodeId) -> WorldEvent {
@@ -362,6 +395,18 @@ mod tests {
         }
     }
 
+    /// How many permits of the first application stand at the first node, by what it knows, and whether it is
+    /// permitted there.
+    fn permits_at_first(world: &World) -> Option<(usize, bool)> {
+        let key = Key {
+            app: AppId(0),
+            node: FIRST,
+            inc: 1,
+        };
+        let permissions = world.nodes.first()?.state()?.permissions();
+        Some((permissions.dots(key).len(), permissions.permitted(key, true)))
+    }
+
     #[test]
     fn first_path(rt: HostRuntime) -> Result<(), Fail> {
         let events = [
@@ -417,6 +462,9 @@ mod tests {
     fn refusals_in_order(rt: HostRuntime) -> Result<(), Fail> {
         let events = [
             (start(FIRST, 2, UNKNOWN), ("refused", 1)),
+            (down(FIRST, UNKNOWN), ("refused", 1)),
+            (crash(FIRST), ("refused", 1)),
+            (hand(FIRST, 1), ("no such operation", 0)),
             (boot(FIRST), ("booted", 1)),
             (boot(FIRST), ("refused", 2)),
             (start(FIRST, 2, UNKNOWN), ("refused", 4)),
@@ -424,6 +472,9 @@ mod tests {
             (start(FIRST, 1, FIRST), ("refused", 7)),
             (start(FIRST, 1, SECOND), ("refused", 9)),
             (stop(FIRST, 0, FIRST), ("refused", 10)),
+            (down(FIRST, UNKNOWN), ("refused", 5)),
+            (down(FIRST, FIRST), ("refused", 6)),
+            (down(FIRST, SECOND), ("refused", 9)),
             (ship(FIRST, UNKNOWN), ("refused", 5)),
             (ship(FIRST, FIRST), ("refused", 6)),
             (ship(FIRST, SECOND), ("shipped to", 1)),
@@ -431,6 +482,87 @@ mod tests {
             (deliver(THIRD, 1), ("refused", 15)),
         ];
         let _ = played(&rt, rt.alloc(), TWO, &events)?;
+        Ok(())
+    }
+
+    #[test]
+    fn declared_down_until_it_boots(rt: HostRuntime) -> Result<(), Fail> {
+        let events = [
+            (boot(FIRST), ("booted", 1)),
+            (boot(SECOND), ("booted", 1)),
+            (hand(SECOND, 1), ("heard new", 0)),
+            (down(SECOND, FIRST), ("issued", 2)),
+            (down(SECOND, FIRST), ("refused", 9)),
+            (permit(SECOND, true), ("refused", 9)),
+            (hand(FIRST, 3), ("heard new", 0)),
+            (start(FIRST, 9, UNKNOWN), ("refused", 3)),
+            (permit(FIRST, true), ("refused", 3)),
+            (down(FIRST, FIRST), ("refused", 3)),
+            (ship(FIRST, SECOND), ("shipped to", 1)),
+            (crash(FIRST), ("crashed", 0)),
+            (deliver(SECOND, 1), ("heard nothing new", 0)),
+            (boot(FIRST), ("booted", 1)),
+            (start(FIRST, 0, FIRST), ("issued", 2)),
+        ];
+        let world = played(&rt, rt.alloc(), TWO, &events)?;
+        let origin = world.node(FIRST).origin();
+        assert_eq!(rt; origin.map(|origin| origin.inc), Some(2));
+        Ok(())
+    }
+
+    #[test]
+    fn permits_of_one_key(rt: HostRuntime) -> Result<(), Fail> {
+        let events = [
+            (boot(FIRST), ("booted", 1)),
+            (boot(SECOND), ("booted", 1)),
+            (hand(SECOND, 1), ("heard new", 0)),
+            (permit(FIRST, false), ("issued", 2)),
+            (permit(SECOND, true), ("issued", 2)),
+            (ship(FIRST, SECOND), ("shipped to", 1)),
+            (ship(SECOND, FIRST), ("shipped to", 0)),
+            (deliver(SECOND, 1), ("heard new", 0)),
+            (deliver(FIRST, 2), ("heard new", 0)),
+        ];
+        let world = played(&rt, rt.alloc(), EXAMPLE, &events)?;
+        assert!(rt; are_same(&world));
+        assert_eq!(rt; permits_at_first(&world), Some((2, false)));
+        Ok(())
+    }
+
+    #[test]
+    fn a_permit_replaces_all_that_stand(rt: HostRuntime) -> Result<(), Fail> {
+        let events = [
+            (boot(FIRST), ("booted", 1)),
+            (boot(SECOND), ("booted", 1)),
+            (hand(SECOND, 1), ("heard new", 0)),
+            (permit(SECOND, false), ("issued", 2)),
+            (permit(FIRST, false), ("issued", 2)),
+            (hand(FIRST, 3), ("heard new", 0)),
+            (permit(FIRST, true), ("issued", 3)),
+        ];
+        let world = played(&rt, rt.alloc(), EXAMPLE, &events)?;
+        assert_eq!(rt; permits_at_first(&world), Some((1, true)));
+        Ok(())
+    }
+
+    #[test]
+    fn handed_out_of_order(rt: HostRuntime) -> Result<(), Fail> {
+        let events = [
+            (boot(FIRST), ("booted", 1)),
+            (start(FIRST, 0, FIRST), ("issued", 2)),
+            (start(FIRST, 0, FIRST), ("issued", 3)),
+            (boot(SECOND), ("booted", 1)),
+            (hand(SECOND, 3), ("heard new", 0)),
+            (hand(SECOND, 2), ("heard new", 0)),
+            (hand(SECOND, 2), ("heard nothing new", 0)),
+            (hand(SECOND, 1), ("heard new", 0)),
+            (hand(SECOND, 5), ("no such operation", 0)),
+            (hand(SECOND, 0), ("no such operation", 0)),
+            (ship(SECOND, FIRST), ("shipped to", 0)),
+            (deliver(FIRST, 1), ("heard new", 0)),
+        ];
+        let world = played(&rt, rt.alloc(), EXAMPLE, &events)?;
+        assert!(rt; are_same(&world));
         Ok(())
     }
 

@@ -3,7 +3,6 @@ use Rattle.std.proofs.Math.ListN.{length-set}
 use Rattle.std.specs.List.{slice_get}
 use Rattle.std.specs.Prelude.{refl}
 use Rattle.std.proofs.lemmas.Option.{slice_get_read}
-use Rattle.dac_core.specs.Changes.{changed}
 use Rattle.dac_core.proofs.Lists.{slice_get-set}
 use Rattle.dac_core.proofs.Follow.{changed_at}
 use Rattle.dac_core.proofs.world.change_node.Goals as goal

@@ -1,10 +1,10 @@
-use Rattle.std.proofs.Common.{◌≡◌, None, ap, subst, ◌∙◌}
+use Rattle.std.proofs.Common.{ap, subst, ◌∙◌}
 use Rattle.dac_operations.specs.declared.act.Act.{Act}
 use Rattle.dac_operations.specs.Operations.{fault_of}
 use Rattle.dac_meaning.specs.StateValue.{IsState}
 use Rattle.dac_core.specs.NodeValue.{RunValue, KnowsItself}
-use Rattle.dac_core.specs.ModelNode.{next_operation, act_of}
-use Rattle.dac_core.proofs.Issues.{Issues, issues}
+use Rattle.dac_core.specs.ModelNode.{next_operation}
+use Rattle.dac_core.proofs.Issues.{issues}
 use Rattle.dac_core.proofs.running.Running.command.Goals as goal
 
 pub issue-requires-clause-left : goal.issue-requires-clause-left
