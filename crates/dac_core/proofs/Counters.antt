@@ -11,8 +11,7 @@ use Rattle.std.proofs.lemmas.Bool.{or_cases, le-leb, leb-true}
 use Rattle.dac_dots.specs.declared.dot.Origin.{Origin}
 use Rattle.dac_dots.specs.declared.dot.Dot.{Dot}
 use Rattle.dac_dots.specs.Dots.{Dots, dot, origin_cmp, origins_total, exact_origins, IsNext, IsUsedUp}
-use Rattle.dac_state.specs.Meaning.{same_dot}
-use Rattle.dac_state.specs.Joins.{same_dot_is, same_dot_itself}
+use Rattle.dac_wishes.specs.Writes.{same_dot, same_dot_is, same_dot_itself}
 use Rattle.dac_core.specs.ModelNode.{greatest_among, greatest_counter}
 use Rattle.dac_core.proofs.Lists.{not_true}
 

@@ -7,21 +7,23 @@ use Rattle.std.proofs.lemmas.Option.{slice_get_read}
 use Rattle.std.proofs.lemmas.Map.Views.{exact_unsigned_eq}
 use Rattle.dac_base.specs.declared.NodeId.{NodeId}
 use Rattle.dac_config.specs.Table.{Table}
+use Rattle.dac_events.specs.declared.WorldEvent.{WorldEvent}
+use Rattle.dac_events.specs.declared.What.{What}
 use Rattle.dac_core.specs.declared.event.Message.{Message}
 use Rattle.dac_core.specs.declared.event.Event.{Event}
+use Rattle.dac_core.specs.declared.event.Event.TheVariants.{Boot, Crash, Command as Told, Ship, Hear, HearOp}
 use Rattle.dac_core.specs.declared.event.Reply.{Reply}
+use Rattle.dac_core.specs.declared.event.Reply.TheVariants.{Crashed}
 use Rattle.dac_core.specs.declared.refusal.Refusal.{Refusal}
-use Rattle.dac_core.specs.declared.refusal.Refusal.TheVariants.{NoMemory}
-use Rattle.dac_core.specs.declared.world_event.WorldEvent.{WorldEvent}
-use Rattle.dac_core.specs.declared.world_event.What.{What}
-use Rattle.dac_core.specs.declared.world_event.WorldFault.{WorldFault}
-use Rattle.dac_core.specs.declared.world_event.WorldFault.TheVariants.{NoSuchNode, Refused}
+use Rattle.dac_core.specs.declared.refusal.Refusal.TheVariants.{Off, NoMemory}
+use Rattle.dac_core.specs.declared.fault.WorldFault.{WorldFault}
+use Rattle.dac_core.specs.declared.fault.WorldFault.TheVariants.{NoSuchNode, Refused}
 use Rattle.dac_core.specs.declared.change.Change.{Change}
-use Rattle.dac_core.specs.NodeValue.{NodeValue}
-use Rattle.dac_core.specs.ModelNode.{ModelNode, ModelRun, shown, refusal_of, model_step, step_by, accepted, Stepped}
+use Rattle.dac_core.specs.NodeValue.{NodeValue, RunValue}
+use Rattle.dac_core.specs.ModelNode.{ModelNode, ModelRun, joined, shown, refusal_of, refusal_by, reply_on, model_step, step_by, accepted, Stepped}
 use Rattle.dac_core.specs.Changes.{Prepared, changed, left_by, reply_by}
 use Rattle.dac_core.specs.WorldValue.{WorldValue}
-use Rattle.dac_core.specs.ModelWorld.{ModelWorld, Shows, WorldStepped, happens, happens_by, answered_by, event_of, message_at, numbered, with_node, issued_by, shipped_by, out_of_memory, Step, Follows}
+use Rattle.dac_core.specs.ModelWorld.{ModelWorld, Shows, WorldStepped, happens, happens_by, answered_by, event_of, counted, numbered, with_node, issued_by, shipped_by, out_of_memory, Step, Follows}
 use Rattle.dac_core.specs.WorldChanges.{Goes}
 use Rattle.dac_core.proofs.Lists.{some_same, not_true}
 use Rattle.dac_core.proofs.Nodes.{shown_accepted, answer_accepted, step_accepted}
@@ -48,9 +50,26 @@ pub record Here (v : WorldValue) (me : NodeId) (old : NodeValue) : Type 0 where
 refusal_same : (t : Table) (w : ModelWorld) (v : WorldValue) → Shows w v → (me : NodeId) (e : Event) (old : NodeValue) → Here v me old → refusal_of t (shown (w.node me)) e ≡ refusal_of t old e
 refusal_same t w v h me e old here = ap (λ x. refusal_of t x e) (node_shown w v h me old here.inside here.there)
 
--- memory was wanting for an event that isn't refused
-pub lacked_follows : (t : Table) (v : WorldValue) (me : NodeId) (e : Event) (old : NodeValue) → Here v me old → refusal_of t old e ≡ None → Follows v (λ w. happens_by t w me (Ok e)) out_of_memory v
-lacked_follows t v me e old here none = record {
+-- only a crash is answered so
+only_crash : (me : NodeId) (last : ℕ) (run : Option ModelRun) (e : Event) → (accepted me last run e).answer ≡ Ok Crashed → e ≡ Crash
+only_crash me last None e h = cc
+only_crash me last (Some r) (Boot now) h = cc
+only_crash me last (Some r) Crash h = refl
+only_crash me last (Some r) (Told c) h = cc
+only_crash me last (Some r) (Ship to) h = cc
+only_crash me last (Some r) (Hear m) h = cc
+only_crash me last (Some r) (HearOp o) h = cc
+
+crash_at_node : (w : ModelWorld) (me : NodeId) (last : ℕ) (run : Option ModelRun) (e : Event) → (answered_by w me (accepted me last run e).node (accepted me last run e).answer).answer ≡ Ok Crashed → (accepted me last run e).answer ≡ Ok Crashed
+crash_at_node w me last None e h = cc
+crash_at_node w me last (Some r) e h = same (reply_on r.origin (joined r.log) e) h
+  where
+    same : (reply : Reply) → ◌≡◌ {A = Result Reply WorldFault} (Ok reply) (Ok Crashed) → ◌≡◌ {A = Result Reply Refusal} (Ok reply) (Ok Crashed)
+    same reply p = cc
+
+-- memory was wanting for an event that isn't refused and is no crash
+pub lacked_follows : (t : Table) (v : WorldValue) (me : NodeId) (e : Event) (old : NodeValue) → Here v me old → refusal_of t old e ≡ None → (e ≡ Crash → ⊥) → Follows v (λ w. happens_by t w me (Ok e)) out_of_memory v
+lacked_follows t v me e old here none stays = record {
   each = λ w h.
       let st = step_accepted t me (w.node me) e (refusal_same t w v h me e old here ∙ none) in (
         w,
@@ -58,6 +77,7 @@ lacked_follows t v me e old here none = record {
           inr (record {
             answered = λ _. out_of_memory;
             accepted = subst (λ (s : WorldStepped). IsOk s.answer) (sym (by_step t w me e _ st)) (is_ok_accepted w me (w.node me).last (w.node me).run e);
+            wants = λ is. stays (only_crash me (w.node me).last (w.node me).run e (crash_at_node w me (w.node me).last (w.node me).run e (sym (ap (λ (s : WorldStepped). s.answer) (by_step t w me e _ st)) ∙ is)));
             stayed = refl;
           }),
           h,
@@ -73,20 +93,24 @@ refused_follows t v me e old why here some = record {
       (w, (inl (record { answered = ap (λ (s : WorldStepped). s.answer) (sym all); went_on = ap (λ (s : WorldStepped). s.world) (sym all) }), h));
 }
 
--- what a node refuses, or lacks memory for
-pub err_follows : (t : Table) (v : WorldValue) (me : NodeId) (e : Event) (old : NodeValue) (why : Refusal) → Here v me old → why ≡ unwrap_or (refusal_of t old e) NoMemory → Follows v (λ w. happens_by t w me (Ok e)) (Err (Refused why)) v
-err_follows t v me e old why here is =
+-- what a node refuses, or lacks memory for; at a crash it only says that it is off
+pub err_follows : (t : Table) (v : WorldValue) (me : NodeId) (e : Event) (old : NodeValue) (why : Refusal) → Here v me old → why ≡ unwrap_or (refusal_of t old e) NoMemory → (e ≡ Crash → why ≡ Off) →
+    Follows v (λ w. happens_by t w me (Ok e)) (Err (Refused why)) v
+err_follows t v me e old why here is crash =
     elim (refusal_of t old e) as (λ r. refusal_of t old e ≡ r → why ≡ unwrap_or r NoMemory → Follows v (λ w. happens_by t w me (Ok e)) (Err (Refused why)) v) [
-      | None ↦ λ none f. subst (λ x. Follows v (λ w. happens_by t w me (Ok e)) (Err (Refused x)) v) (sym f) (lacked_follows t v me e old here none)
+      | None ↦ λ none f. subst (λ x. Follows v (λ w. happens_by t w me (Ok e)) (Err (Refused x)) v) (sym f) (lacked_follows t v me e old here none (λ c. not_off (sym f ∙ crash c)))
       | Some r ↦ λ some f. subst (λ x. Follows v (λ w. happens_by t w me (Ok e)) (Err (Refused x)) v) (sym f) (refused_follows t v me e old r here some)
     ] refl is
+  where
+    not_off : NoMemory ≡ Off → ⊥
+    not_off p = cc
 
 -- the node's place after a change
-pub changed_at : (v : WorldValue) (me : NodeId) (old : NodeValue) (change : Change) → slice_get v.nodes me.0 ≡ Some old → (x : NodeValue) → x ≡ changed old change → (n : ℕ) →
-    cond (nat_eq n me.0) (option_map (λ (y : NodeValue). changed y change) (slice_get v.nodes n)) (slice_get v.nodes n) ≡ cond (nat_eq n me.0) (Some x) (slice_get v.nodes n)
-changed_at v me old change there x is n =
-    elim (nat_eq n me.0) as (λ b. nat_eq n me.0 ≡ b → cond b (option_map (λ (y : NodeValue). changed y change) (slice_get v.nodes n)) (slice_get v.nodes n) ≡ cond b (Some x) (slice_get v.nodes n)) [
-      | true ↦ λ e. ap (λ k. option_map (λ (y : NodeValue). changed y change) (slice_get v.nodes k)) (exact_unsigned_eq n me.0 e) ∙ (ap (option_map (λ (y : NodeValue). changed y change)) there ∙ ap (λ y. Some y) (sym is))
+pub changed_at : (nodes : List NodeValue) (me : NodeId) (old : NodeValue) (change : Change) → slice_get nodes me.0 ≡ Some old → (x : NodeValue) → x ≡ changed old change → (n : ℕ) →
+    cond (nat_eq n me.0) (option_map (λ (y : NodeValue). changed y change) (slice_get nodes n)) (slice_get nodes n) ≡ cond (nat_eq n me.0) (Some x) (slice_get nodes n)
+changed_at nodes me old change there x is n =
+    elim (nat_eq n me.0) as (λ b. nat_eq n me.0 ≡ b → cond b (option_map (λ (y : NodeValue). changed y change) (slice_get nodes n)) (slice_get nodes n) ≡ cond b (Some x) (slice_get nodes n)) [
+      | true ↦ λ e. ap (λ k. option_map (λ (y : NodeValue). changed y change) (slice_get nodes k)) (exact_unsigned_eq n me.0 e) ∙ (ap (option_map (λ (y : NodeValue). changed y change)) there ∙ ap (λ y. Some y) (sym is))
       | false ↦ λ e. refl
     ] refl
 
@@ -106,8 +130,8 @@ ok_follows t v u me e old change reply here p goes = record {
         (
           inl (record { answered = ap (λ (s : WorldStepped). s.answer) (sym all); went_on = ap (λ (s : WorldStepped). s.world) (sym all) }),
           record {
-            count = goes.count ∙ h.count;
-            nodes = λ n. goes.nodes n ∙ (changed_at v me old change here.there (shown new) shows n ∙ (ap (cond (nat_eq n me.0) (Some (shown new))) (h.nodes n) ∙ at w new n (ap (nat_lt me.0) (sym h.count) ∙ lt-ltb me.0 (length v.nodes) here.inside)));
+            count = goes.nodes.count ∙ h.count;
+            nodes = λ n. goes.nodes.each n ∙ (changed_at v.nodes me old change here.there (shown new) shows n ∙ (ap (cond (nat_eq n me.0) (Some (shown new))) (h.nodes n) ∙ at w new n (ap (nat_lt me.0) (sym h.count) ∙ lt-ltb me.0 (length v.nodes) here.inside)));
             operations = goes.operations ∙ (λ i. h.operations i ++ issued_by (sym goes.reply i));
             messages = goes.messages ∙ (λ i. h.messages i ++ shipped_by (sym goes.reply i));
           },
@@ -131,33 +155,41 @@ follows_by v u answer f g same h = record {
 }
 
 -- an event at a node that there is
-pub happens_at : (t : Table) (v : WorldValue) (e : WorldEvent) → e.node.0 < length v.nodes → (w : ModelWorld) → Shows w v → happens_by t w e.node (event_of v.messages e.what) ≡ happens t w e
+pub happens_at : (t : Table) (v : WorldValue) (e : WorldEvent) → e.node.0 < length v.nodes → (w : ModelWorld) → Shows w v → happens_by t w e.node (event_of v.operations v.messages e.what) ≡ happens t w e
 happens_at t v e lt w h =
     let inside : nat_lt e.node.0 w.count ≡ true = ap (nat_lt e.node.0) (sym h.count) ∙ lt-ltb e.node.0 (length v.nodes) lt in
-    ap (λ ms. happens_by t w e.node (event_of ms e.what)) h.messages
-    ∙ ap (λ b. cond b (happens_by t w e.node (event_of w.messages e.what)) (record { world = w; answer = Err NoSuchNode })) (sym inside)
+    (λ i. happens_by t w e.node (event_of (h.operations i) (h.messages i) e.what))
+    ∙ ap (λ b. cond b (happens_by t w e.node (event_of w.operations w.messages e.what)) (record { world = w; answer = Err NoSuchNode })) (sym inside)
 
 -- what follows for a node's event follows for the world's
 pub world_follows : (t : Table) (v u : WorldValue) (e : WorldEvent) (what : What) (answer : Result Reply WorldFault) → e.node.0 < length v.nodes → e.what ≡ what →
-    Follows v (λ w. happens_by t w e.node (event_of v.messages what)) answer u → Follows v (λ w. happens t w e) answer u
+    Follows v (λ w. happens_by t w e.node (event_of v.operations v.messages what)) answer u → Follows v (λ w. happens t w e) answer u
 world_follows t v u e what answer lt is =
-    follows_by v u answer (λ w. happens_by t w e.node (event_of v.messages what)) (λ w. happens t w e)
-    (λ w s. ap (λ x. happens_by t w e.node (event_of v.messages x)) (sym is) ∙ happens_at t v e lt w s)
+    follows_by v u answer (λ w. happens_by t w e.node (event_of v.operations v.messages what)) (λ w. happens t w e)
+    (λ w s. ap (λ x. happens_by t w e.node (event_of v.operations v.messages x)) (sym is) ∙ happens_at t v e lt w s)
 
 -- the node that the code reads
 pub node_at : (v : WorldValue) (me : NodeId) (x : NodeValue) → me.0 < length v.nodes → x ≡ get_or v.nodes me.0 x → Here v me x
 node_at v me x lt read = record { inside = lt; there = slice_get_read v.nodes (length v.nodes) me.0 x refl lt read }
 
--- the message that the code reads
-pub message_there : (ms : List Message) (k : ℕ) (m : Message) → (k ≡ 0 → ⊥) → k - 1 < length ms → m ≡ get_or ms (k - 1) m → message_at ms k ≡ Some m
-message_there ms k m some lt read =
-    ap (λ b. cond b None (slice_get ms (k - 1))) (not_true (nat_eq k 0) (λ x. some (exact_unsigned_eq k 0 x)))
-    ∙ slice_get_read ms (length ms) (k - 1) m refl lt read
+-- the item of a number that the code reads
+pub counted_there : {X : Type 0} (xs : List X) (k : ℕ) (x : X) → (k ≡ 0 → ⊥) → k - 1 < length xs → x ≡ get_or xs (k - 1) x → counted xs k ≡ Some x
+counted_there xs k x some lt read =
+    ap (λ b. cond b None (slice_get xs (k - 1))) (not_true (nat_eq k 0) (λ e. some (exact_unsigned_eq k 0 e)))
+    ∙ slice_get_read xs (length xs) (k - 1) x refl lt read
 
 -- what comes of a prepared change: all of it, or want of memory and nothing
 pub gone_follows : (t : Table) (v u : WorldValue) (me : NodeId) (e : Event) (old : NodeValue) (change : Change) (answer : Result Reply WorldFault) → Here v me old → Prepared t me old e change →
-    IfOk answer (λ reply. Goes v me change reply u) → IfErr answer (λ fault. Err fault ≡ out_of_memory) → OnErr answer (u ≡ v) → Follows v (λ w. happens_by t w me (Ok e)) answer u
-gone_follows t v u me e old change (Ok reply) here p goes lacked same = ok_follows t v u me e old change reply here p goes
-gone_follows t v u me e old change (Err fault) here p goes lacked same =
+    IfOk answer (λ reply. Goes v me change reply u) → IfErr answer (λ fault. Err fault ≡ out_of_memory) → IfErr answer (λ _. change.reply ≡ Crashed → ⊥) → OnErr answer (u ≡ v) → Follows v (λ w. happens_by t w me (Ok e)) answer u
+gone_follows t v u me e old change (Ok reply) here p goes lacked stays same = ok_follows t v u me e old change reply here p goes
+gone_follows t v u me e old change (Err fault) here p goes lacked stays same =
     subst (λ x. Follows v (λ w. happens_by t w me (Ok e)) x u) (sym lacked)
-    (subst (λ x. Follows v (λ w. happens_by t w me (Ok e)) out_of_memory x) (sym same) (lacked_follows t v me e old here p.accepted))
+    (subst (λ x. Follows v (λ w. happens_by t w me (Ok e)) out_of_memory x) (sym same) (lacked_follows t v me e old here p.accepted (λ c. stays (p.reply ∙ crashes c))))
+  where
+    -- an accepted crash is at a running node
+    at_run : (last : ℕ) (run : Option RunValue) → refusal_by t last run Crash ≡ None → reply_by me last run Crash ≡ Crashed
+    at_run last None none = cc
+    at_run last (Some r) none = refl
+
+    crashes : e ≡ Crash → reply_by me old.last old.run e ≡ Crashed
+    crashes c = ap (reply_by me old.last old.run) c ∙ at_run old.last old.run (ap (refusal_by t old.last old.run) (sym c) ∙ p.accepted)

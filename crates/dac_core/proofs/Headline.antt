@@ -4,19 +4,21 @@ use Rattle.std.specs.Prelude.{nat_lt}
 use Rattle.std.specs.Option.{option_map}
 use Rattle.std.specs.List.{slice_get}
 use Rattle.dac_config.specs.Table.{Table}
-use Rattle.dac_state.specs.StateValue.{StateValue}
-use Rattle.dac_state.specs.Meaning.{meaning_of}
-use Rattle.dac_core.specs.declared.world_event.WorldEvent.{WorldEvent}
+use Rattle.dac_meaning.specs.StateValue.{StateValue}
+use Rattle.dac_meaning.specs.Meaning.{meaning_of, In}
+use Rattle.dac_events.specs.declared.WorldEvent.{WorldEvent}
 use Rattle.dac_core.specs.NodeValue.{NodeValue, RunValue, state_of}
 use Rattle.dac_core.specs.WorldValue.{WorldValue}
 use Rattle.dac_core.specs.ModelNode.{ModelRun, shown, run_shown}
 use Rattle.dac_core.specs.ModelWorld.{ModelWorld, Shows, RanAs, start, numbered}
 use Rattle.dac_core.specs.SetWorld.{SetWorld, set_run, no_sets}
-use Rattle.dac_core.specs.Convergence.{EachIsMeaning, Agrees, DistinctDots, HoldsSets, heard_among}
+use Rattle.dac_core.specs.News.{AnswersNews}
+use Rattle.dac_core.specs.Convergence.{EachIsMeaning, Agrees, DistinctDots, HoldsSets, CarryMeanings, heard_among}
 use Rattle.dac_core.proofs.Lists.{some_same}
 use Rattle.dac_core.proofs.Operations.{DistinctDots-agree}
 use Rattle.dac_core.proofs.Meanings.{meaning-heard_among}
-use Rattle.dac_core.proofs.Sound.{Answer, Sound, sound_run, sound_start, state_in}
+use Rattle.dac_core.proofs.Sound.{Answer, Sound, CopiesOk-get, sound_run, sound_start, state_in}
+use Rattle.dac_core.proofs.News.{news_run}
 
 -- the node that a place of the program's world shows
 node_there : (w : ModelWorld) (v : WorldValue) → Shows w v → (n : ℕ) (x : NodeValue) → slice_get v.nodes n ≡ Some x → x ≡ shown (w.node (numbered n))
@@ -59,12 +61,21 @@ agrees v h = record {
   each = λ m n s t a b same. h.each m s a ∙ (ap (λ heard. meaning_of (heard_among heard v.operations)) same ∙ sym (h.each n t b));
 }
 
+pub carry_meanings : (w : ModelWorld) (v : WorldValue) (s : SetWorld) → Shows w v → Sound w s → CarryMeanings v
+carry_meanings w v s shows h = record {
+  each = λ k m e.
+      let c = CopiesOk-get w.operations w.messages s.copies k m h.copies (ap (λ ms. slice_get ms k) (sym shows.messages) ∙ e) in
+      (c.0.operations, (λ o i. subst (In o) (sym shows.operations) (c.1.1.within o i), c.1.1.body));
+}
+
 -- what every run leaves
 pub record Headline (events : List WorldEvent) (answers : List Answer) (v : WorldValue) : Type 0 where
   pub meanings : EachIsMeaning v
   pub agree : Agrees v
   pub distinct : DistinctDots v.operations
   pub sets : HoldsSets v (set_run no_sets events answers)
+  pub bodies : CarryMeanings v
+  pub news : AnswersNews no_sets events answers
 
 pub headline : (t : Table) (events : List WorldEvent) (answers : List Answer) (v : WorldValue) → RanAs t events answers v → Headline events answers v
 headline t events answers v r =
@@ -75,4 +86,6 @@ headline t events answers v r =
       agree = agrees v meanings;
       distinct = subst DistinctDots (sym r.shows.operations) h.distinct;
       sets = holds_sets r.final v (set_run no_sets events answers) r.shows h;
+      bodies = carry_meanings r.final v (set_run no_sets events answers) r.shows h;
+      news = news_run t (start t) no_sets events answers r.final (sound_start t) r.run;
     }

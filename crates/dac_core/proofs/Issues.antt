@@ -1,46 +1,47 @@
 -- Why what a running node issues is an operation: its dot is new, and what it replaces is a short rising list.
-use Rattle.std.proofs.Common.{◌≡◌, ℕ, ◌<◌, ◌≤◌, ◌+◌, Bool, true, false, not, ◌||◌, List, [], ◌∷◌, ◌++◌, length, Option, Some, None, refl, sym, ap, subst, ◌∙◌, arith, true≢false}
-use Rattle.std.specs.Prelude.{◌==◌, if◌then◌else◌, MatchOption, is_some}
+use Rattle.std.proofs.Common.{◌≡◌, ℕ, ◌≤◌, ◌+◌, Bool, true, false, not, ◌||◌, List, [], ◌∷◌, ◌++◌, length, Option, Some, None, refl, sym, ap, subst, ◌∙◌, arith, true≢false}
+use Rattle.std.specs.Prelude.{◌==◌, if◌then◌else◌, MatchOption, is_some, nat_eq}
 use Rattle.std.specs.Option.{is_none}
-use Rattle.std.proofs.lemmas.Bool.{ltb-true}
 use Rattle.std.specs.FinSet as set
+use Rattle.std.specs.FinMap as map
 use Rattle.std.proofs.lemmas.Map.Views.{exact_unsigned_eq}
+use Rattle.dac_base.specs.declared.AppId.{AppId}
+use Rattle.dac_base.specs.declared.NodeId.{NodeId}
 use Rattle.dac_dots.specs.declared.dot.Origin.{Origin}
 use Rattle.dac_dots.specs.declared.dot.Dot.{Dot}
 use Rattle.dac_dots.specs.Dots.{Dots, dot, dot_cmp, dots_total, exact_dots, IsNext, IsUsedUp}
-use Rattle.dac_dots.specs.Keys.{has_key}
+use Rattle.dac_dots.specs.Keys.{IsRising, has_key}
 use Rattle.dac_dots.specs.InOrder.{in_order-rising, has_key-in_order}
-use Rattle.dac_state.specs.declared.operations.Act.{Act}
-use Rattle.dac_state.specs.declared.operations.Act.TheVariants.{Start as Starts, Stop as Stops}
-use Rattle.dac_state.specs.declared.operations.OpFault.TheVariants.{OwnDot, BadOver, BadCounter}
-use Rattle.dac_state.specs.declared.starts.Key.{Key}
-use Rattle.dac_state.specs.Operations.{fault_of, replaces_itself, has_bad_over, has_bad_counter, over_list}
-use Rattle.dac_state.specs.Starts.{dots_at, start, contains-dots_at}
-use Rattle.dac_state.specs.StateValue.{StateValue, IsState, bottom, join}
-use Rattle.dac_state.specs.StateLaws.{known-join}
-use Rattle.dac_state.specs.Meaning.{meaning_of}
-use Rattle.dac_state.specs.Readers.{known-meaning}
-use Rattle.dac_state.specs.Joins.{same_dot_itself}
-use Rattle.dac_base.specs.declared.AppId.{AppId}
-use Rattle.dac_base.specs.declared.NodeId.{NodeId}
+use Rattle.dac_wishes.specs.declared.key.Key.{Key}
+use Rattle.dac_wishes.specs.Writes.{write, dots_at, contains-dots_at, same_dot_itself}
+use Rattle.dac_operations.specs.declared.act.Act.{Act}
+use Rattle.dac_operations.specs.declared.act.Act.TheVariants.{Down as Downs, Permit as Permits, Start as Starts, Stop as Stops}
+use Rattle.dac_operations.specs.declared.op.OpFault.TheVariants.{OwnDot, BadOver, BadCounter, OnSelf as AboutItself}
+use Rattle.dac_operations.specs.Operations.{fault_of, replaces_itself, has_bad_over, has_bad_counter, is_on_self, over_list}
+use Rattle.dac_meaning.specs.StateValue.{StateValue, IsState, bottom, join}
+use Rattle.dac_meaning.specs.StateLaws.{known-join}
+use Rattle.dac_meaning.specs.Meaning.{meaning_of}
+use Rattle.dac_meaning.specs.Readers.{known-meaning}
 use Rattle.dac_config.specs.Table.{Table}
-use Rattle.dac_core.specs.declared.event.Command.{Command}
-use Rattle.dac_core.specs.declared.event.Command.TheVariants.{Start, Stop}
+use Rattle.dac_events.specs.declared.Command.{Command}
+use Rattle.dac_events.specs.declared.Command.TheVariants.{Down, Permit, Start, Stop}
 use Rattle.dac_core.specs.declared.refusal.Refusal.{Refusal}
-use Rattle.dac_core.specs.declared.refusal.Refusal.TheVariants.{NotStarted, TooManyDots, DotsUsedUp}
-use Rattle.dac_core.specs.NodeValue.{KnowsItself, RunValue}
-use Rattle.dac_core.specs.ModelNode.{first, causes_to_name, causes_to_issue, refusal_of_command, too_many, used_up, standing, greatest_counter, next_operation, key_at, up, not_wished}
+use Rattle.dac_core.specs.declared.refusal.Refusal.TheVariants.{DeclaredDown, UnknownNode, OnSelf, NotLive, NotStarted, TooManyDots, DotsUsedUp}
+use Rattle.dac_core.specs.NodeValue.{KnowsItself}
+use Rattle.dac_core.specs.ModelNode.{first, causes_of, causes_to_name, causes_to_issue, refusal_of_command, declared_down, no_node, not_live, too_many, used_up, standing_starts, standing_permits, greatest_counter, next_operation, live_or_none, key_at, act_of, up, not_wished}
 use Rattle.dac_core.proofs.Lists.{not_true}
 use Rattle.dac_core.proofs.Counters.{counter-greatest, next_none, next-is}
+use Rattle.dac_core.proofs.Permits.{permits_at-rising, permits_at-has}
 
 -- ---- a state that knows its own boot
 -- what is joined is known still
 pub knows-join : (o : Origin) (s t : StateValue) → KnowsItself o s → KnowsItself o (join s t)
-knows-join o s t h = known-join s t (dot o 1) ∙ ap (λ b. b || set.contains t.known (dot o 1)) h
+knows-join o s t h = ap (λ k. set.contains k (dot o 1)) (known-join s t) ∙ (set.contains-union dots_total s.known t.known (dot o 1) ∙ ap (λ b. b || set.contains t.known (dot o 1)) h)
 
 pub knows-boot : (o : Origin) → KnowsItself o (join bottom (meaning_of (up o ∷ [])))
 knows-boot o =
-    known-join bottom (meaning_of (up o ∷ [])) (dot o 1)
+    ap (λ k. set.contains k (dot o 1)) (known-join bottom (meaning_of (up o ∷ [])))
+    ∙ set.contains-union dots_total bottom.known (meaning_of (up o ∷ [])).known (dot o 1)
     ∙ ap (λ b. set.contains bottom.known (dot o 1) || b) (known-meaning (up o ∷ []) (dot o 1) ∙ ap (λ b. (b || false) || false) (same_dot_itself (dot o 1)))
     ∙ or-right (set.contains bottom.known (dot o 1))
   where
@@ -57,30 +58,45 @@ pub first-rest : (xs ys : List (Bool × Refusal)) → first (xs ++ ys) ≡ None 
 first-rest [] ys e = e
 first-rest (x ∷ xs) ys e = first-rest xs ys (first-none x.0 x.1 (xs ++ ys) e).1
 
--- a key for which an operation may be issued
-pub record MayIssue (own : Origin) (s : StateValue) (key : Key) : Type 0 where
-  pub few : too_many s key ≡ false
+-- an operation may be issued that replaces these dots
+pub record MayIssue (own : Origin) (s : StateValue) (over : List Dot) : Type 0 where
+  pub few : too_many (length over) ≡ false
   pub left : used_up s own ≡ false
 
-may_issue : (own : Origin) (s : StateValue) (key : Key) → first (causes_to_issue own s key) ≡ None → MayIssue own s key
-may_issue own s key e =
-    let rest = first-none (too_many s key) TooManyDots ((used_up s own, DotsUsedUp) ∷ []) e in
+may_issue : (own : Origin) (s : StateValue) (over : List Dot) → first (causes_to_issue own s (length over)) ≡ None → MayIssue own s over
+may_issue own s over e =
+    let rest = first-none (too_many (length over)) TooManyDots ((used_up s own, DotsUsedUp) ∷ []) e in
     record { few = rest.0; left = (first-none (used_up s own) DotsUsedUp [] rest.1).0 }
 
--- the key of an accepted command
-pub may_start : (t : Table) (own : Origin) (s : StateValue) (app : AppId) (node : NodeId) → refusal_of_command t own s (Start app node) ≡ None → MayIssue own s (key_at s app node)
-may_start t own s app node e = may_issue own s (key_at s app node) (first-rest (causes_to_name t s app node) (causes_to_issue own s (key_at s app node)) e)
+-- the node of an accepted Down is another one, and a counter is left
+pub record MayDeclare (own : Origin) (s : StateValue) (node : NodeId) : Type 0 where
+  pub other : nat_eq node.0 own.node.0 ≡ false
+  pub left : used_up s own ≡ false
 
-pub may_stop : (t : Table) (own : Origin) (s : StateValue) (app : AppId) (node : NodeId) → refusal_of_command t own s (Stop app node) ≡ None → MayIssue own s (key_at s app node)
-may_stop t own s app node e = let key = key_at s app node in may_issue own s key (first-none (not_wished s key) NotStarted (causes_to_issue own s key) (first-rest (causes_to_name t s app node) ((not_wished s key, NotStarted) ∷ causes_to_issue own s key) e)).1
+may_declare : (t : Table) (own : Origin) (s : StateValue) (node : NodeId) → first (causes_of t own s (Down node)) ≡ None → MayDeclare own s node
+may_declare t own s node e =
+    let a = first-none (no_node t node) UnknownNode ((nat_eq node.0 own.node.0, OnSelf) ∷ (not_live s node, NotLive) ∷ (used_up s own, DotsUsedUp) ∷ []) e in
+    let b = first-none (nat_eq node.0 own.node.0) OnSelf ((not_live s node, NotLive) ∷ (used_up s own, DotsUsedUp) ∷ []) a.1 in
+    let c = first-none (not_live s node) NotLive ((used_up s own, DotsUsedUp) ∷ []) b.1 in
+    record { other = b.0; left = (first-none (used_up s own) DotsUsedUp [] c.1).0 }
+
+may_permit : (t : Table) (own : Origin) (s : StateValue) (app : AppId) (node : NodeId) (value : Bool) → first (causes_of t own s (Permit app node value)) ≡ None → MayIssue own s (standing_permits s (key_at s app node))
+may_permit t own s app node value e =
+    let over = standing_permits s (key_at s app node) in
+    may_issue own s over (first-rest (causes_to_name t s app node) (causes_to_issue own s (length over)) e)
+
+may_start : (t : Table) (own : Origin) (s : StateValue) (app : AppId) (node : NodeId) → first (causes_of t own s (Start app node)) ≡ None → MayIssue own s (standing_starts s (key_at s app node))
+may_start t own s app node e =
+    let over = standing_starts s (key_at s app node) in
+    may_issue own s over (first-rest (causes_to_name t s app node) (causes_to_issue own s (length over)) e)
+
+may_stop : (t : Table) (own : Origin) (s : StateValue) (app : AppId) (node : NodeId) → first (causes_of t own s (Stop app node)) ≡ None → MayIssue own s (standing_starts s (key_at s app node))
+may_stop t own s app node e =
+    let key = key_at s app node in
+    let causes = causes_to_issue own s (length (standing_starts s key)) in
+    may_issue own s (standing_starts s key) (first-none (not_wished s key) NotStarted causes (first-rest (causes_to_name t s app node) ((not_wished s key, NotStarted) ∷ causes) e)).1
 
 -- ---- what the code reads of these causes
-pub few_is : (s : StateValue) (key : Key) (n : ℕ) → n ≡ length (standing s key) → n ≤ 1024 → too_many s key ≡ false
-few_is s key n is few = not_true (too_many s key) (λ t. above n (length (standing s key)) (ltb-true 1024 (length (standing s key)) t) is few)
-  where
-    above : (n k : ℕ) → 1024 < k → n ≡ k → n ≤ 1024 → ⊥
-    above n k h e f = omega arith
-
 pub used_up-is : (s : StateValue) (own : Origin) (known : Dots) (next : Option Dot) → known ≡ s.known → MatchOption next (IsUsedUp known own) (IsNext known own) → used_up s own ≡ is_none next
 used_up-is s own known next is h = sym (next_none s.known own next (subst (λ k. MatchOption next (IsUsedUp k own) (IsNext k own)) is h))
 
@@ -95,54 +111,64 @@ pub next_dot : (s : StateValue) (own : Origin) (known : Dots) (next : Option Dot
 next_dot s own known next d is h some = next-is s.known own d (subst (λ k. IsNext k own d) is (subst (λ o. MatchOption o (IsUsedUp known own) (IsNext known own)) some h))
 
 -- ---- operations
-fault_none : (d : Dot) (a : Act) → replaces_itself d a ≡ false → has_bad_over (over_list a) ≡ false → has_bad_counter d a ≡ false → fault_of d a ≡ None
-fault_none d a p q r = λ i. if p i then Some OwnDot else if q i then Some BadOver else if r i then Some BadCounter else None
+fault_none : (d : Dot) (a : Act) → replaces_itself d a ≡ false → has_bad_over (over_list a) ≡ false → has_bad_counter d a ≡ false → is_on_self d a ≡ false → fault_of d a ≡ None
+fault_none d a p q r s = λ i. if p i then Some OwnDot else if q i then Some BadOver else if r i then Some BadCounter else if s i then Some AboutItself else None
 
--- the dots that stand at a key don't have the next dot among them
-next_apart : (own : Origin) (s : StateValue) (key : Key) → IsState s → set.contains (dots_at key s.starts) (dot own (greatest_counter own s.known + 1)) ≡ false
-next_apart own s key is = not_true _ (λ t.
-    let next = dot own (greatest_counter own s.known + 1) in
-    let known : set.contains s.known next ≡ true = is.starts (start key next) (sym (contains-dots_at key s.starts next) ∙ t) in
-    above (greatest_counter own s.known) (counter-greatest s.known next known))
+-- the dot of the next operation
+abbrev next_of : Origin → StateValue → Dot
+next_of own s = dot own (greatest_counter own s.known + 1)
+
+-- it isn't known
+next_unknown : (own : Origin) (s : StateValue) → set.contains s.known (next_of own s) ≡ true → ⊥
+next_unknown own s h = above (greatest_counter own s.known) (counter-greatest s.known (next_of own s) h)
   where
     above : (g : ℕ) → g + 1 ≤ g → ⊥
     above g h = omega arith
 
--- the next counter isn't that of a boot
+-- its counter isn't that of a boot
 next_later : (own : Origin) (s : StateValue) → KnowsItself own s → (greatest_counter own s.known + 1 == 1) ≡ false
 next_later own s knows = not_true _ (λ t. first_only (greatest_counter own s.known) (counter-greatest s.known (dot own 1) knows) (exact_unsigned_eq (greatest_counter own s.known + 1) 1 t))
   where
     first_only : (g : ℕ) → 1 ≤ g → g + 1 ≡ 1 → ⊥
     first_only g h e = omega arith
 
--- what stands at the key of an accepted command is no bad list to replace
-standing_good : (own : Origin) (s : StateValue) (key : Key) → MayIssue own s key → has_bad_over (standing s key) ≡ false
-standing_good own s key may = λ i. not (in_order-rising dots_total exact_dots (dots_at key s.starts) i) || may.few i
+-- a short rising list is no bad list to replace
+good_over : (own : Origin) (s : StateValue) (over : List Dot) → IsRising dot_cmp over → MayIssue own s over → has_bad_over over ≡ false
+good_over own s over rising may = λ i. not (rising i) || may.few i
 
-standing_apart : (own : Origin) (s : StateValue) (key : Key) → IsState s → has_key dot_cmp (standing s key) (dot own (greatest_counter own s.known + 1)) ≡ false
-standing_apart own s key is = has_key-in_order dots_total exact_dots (dots_at key s.starts) (dot own (greatest_counter own s.known + 1)) ∙ next_apart own s key is
+-- what stands at a key doesn't have the next dot among it
+starts_apart : (own : Origin) (s : StateValue) (key : Key) → IsState s → has_key dot_cmp (standing_starts s key) (next_of own s) ≡ false
+starts_apart own s key is = not_true _ (λ t.
+    let there : set.contains (dots_at key s.starts) (next_of own s) ≡ true = sym (has_key-in_order dots_total exact_dots (dots_at key s.starts) (next_of own s)) ∙ t in
+    next_unknown own s (is.starts (write key (next_of own s)) (sym (contains-dots_at key s.starts (next_of own s)) ∙ there)))
 
-pub start_sound : (own : Origin) (s : StateValue) (key : Key) → IsState s → KnowsItself own s → MayIssue own s key → fault_of (next_operation s own (Starts key (standing s key))).dot (Starts key (standing s key)) ≡ None
-start_sound own s key is knows may = fault_none (dot own (greatest_counter own s.known + 1)) (Starts key (standing s key)) (standing_apart own s key is) (standing_good own s key may) (next_later own s knows)
+permits_apart : (own : Origin) (s : StateValue) (key : Key) → IsState s → has_key dot_cmp (standing_permits s key) (next_of own s) ≡ false
+permits_apart own s key is = not_true _ (λ t. next_unknown own s (is.permits (write key (next_of own s)) (sym (permits_at-has key s.permits (next_of own s)) ∙ t)))
 
-pub stop_sound : (own : Origin) (s : StateValue) (key : Key) → IsState s → KnowsItself own s → MayIssue own s key → fault_of (next_operation s own (Stops key (standing s key))).dot (Stops key (standing s key)) ≡ None
-stop_sound own s key is knows may = fault_none (dot own (greatest_counter own s.known + 1)) (Stops key (standing s key)) (standing_apart own s key is) (standing_good own s key may) (next_later own s knows)
+starts_rising : (s : StateValue) (key : Key) → IsRising dot_cmp (standing_starts s key)
+starts_rising s key = in_order-rising dots_total exact_dots (dots_at key s.starts)
 
--- the same, as the code comes to it
-pub start_issues : (t : Table) (r : RunValue) (c : Command) (app : AppId) (node : NodeId) (key : Key) (over : List Dot) → IsState r.state → KnowsItself r.origin r.state → c ≡ Start app node → refusal_of_command t r.origin r.state c ≡ None →
-    key ≡ key_at r.state app node → over ≡ standing r.state key → fault_of (dot r.origin (greatest_counter r.origin r.state.known + 1)) (Starts key over) ≡ None
-start_issues t r c app node key over is knows told none at all =
-    (λ i. fault_of (dot r.origin (greatest_counter r.origin r.state.known + 1)) (Starts (at i) (whole i)))
-    ∙ start_sound r.origin r.state (key_at r.state app node) is knows (may_start t r.origin r.state app node (subst (λ x. refusal_of_command t r.origin r.state x ≡ None) told none))
-  where
-    whole : over ≡ standing r.state (key_at r.state app node)
-    whole = all ∙ ap (standing r.state) at
+-- what an accepted command issues is an operation, and a counter is left for it
+pub record Issues (own : Origin) (s : StateValue) (a : Act) : Type 0 where
+  pub left : used_up s own ≡ false
+  pub sound : fault_of (next_operation s own a).dot a ≡ None
 
-pub stop_issues : (t : Table) (r : RunValue) (c : Command) (app : AppId) (node : NodeId) (key : Key) (over : List Dot) → IsState r.state → KnowsItself r.origin r.state → c ≡ Stop app node → refusal_of_command t r.origin r.state c ≡ None →
-    key ≡ key_at r.state app node → over ≡ standing r.state key → fault_of (dot r.origin (greatest_counter r.origin r.state.known + 1)) (Stops key over) ≡ None
-stop_issues t r c app node key over is knows told none at all =
-    (λ i. fault_of (dot r.origin (greatest_counter r.origin r.state.known + 1)) (Stops (at i) (whole i)))
-    ∙ stop_sound r.origin r.state (key_at r.state app node) is knows (may_stop t r.origin r.state app node (subst (λ x. refusal_of_command t r.origin r.state x ≡ None) told none))
-  where
-    whole : over ≡ standing r.state (key_at r.state app node)
-    whole = all ∙ ap (standing r.state) at
+issues_by : (t : Table) (own : Origin) (s : StateValue) (c : Command) → IsState s → KnowsItself own s → first (causes_of t own s c) ≡ None → Issues own s (act_of s c)
+issues_by t own s (Down node) is knows e =
+    let may = may_declare t own s node e in
+    record { left = may.left; sound = fault_none (next_of own s) (Downs node (live_or_none s node)) refl refl (next_later own s knows) may.other }
+issues_by t own s (Permit app node value) is knows e =
+    let key = key_at s app node in
+    let may = may_permit t own s app node value e in
+    record { left = may.left; sound = fault_none (next_of own s) (Permits key value (standing_permits s key)) (permits_apart own s key is) (good_over own s _ (permits_at-rising key s.permits) may) (next_later own s knows) refl }
+issues_by t own s (Start app node) is knows e =
+    let key = key_at s app node in
+    let may = may_start t own s app node e in
+    record { left = may.left; sound = fault_none (next_of own s) (Starts key (standing_starts s key)) (starts_apart own s key is) (good_over own s _ (starts_rising s key) may) (next_later own s knows) refl }
+issues_by t own s (Stop app node) is knows e =
+    let key = key_at s app node in
+    let may = may_stop t own s app node e in
+    record { left = may.left; sound = fault_none (next_of own s) (Stops key (standing_starts s key)) (starts_apart own s key is) (good_over own s _ (starts_rising s key) may) (next_later own s knows) refl }
+
+pub issues : (t : Table) (own : Origin) (s : StateValue) (c : Command) → IsState s → KnowsItself own s → refusal_of_command t own s c ≡ None → Issues own s (act_of s c)
+issues t own s c is knows e = issues_by t own s c is knows (first-none (declared_down own s) DeclaredDown (causes_of t own s c) e).1

@@ -5,6 +5,9 @@ pub mod Runs
 pub mod Operations
 pub mod Meanings
 pub mod Counters
+pub mod Permits
 pub mod Issues
+pub mod Hearing
 pub mod Sound
+pub mod News
 pub mod Headline

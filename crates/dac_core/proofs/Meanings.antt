@@ -2,33 +2,28 @@
 use Rattle.std.proofs.Common.{◌≡◌, Bool, true, false, inl, inr, List, [], ◌∷◌, ◌++◌, cond, refl, sym, ap, subst, ◌∙◌}
 use Rattle.std.specs.List.{filter}
 use Rattle.std.specs.FinSet as set
-use Rattle.std.specs.FinMap as map
-use Rattle.dac_base.specs.Ids.{node_cmp}
-use Rattle.dac_dots.specs.Dots.{dot_cmp}
-use Rattle.dac_state.specs.Operations.{Operation}
-use Rattle.dac_state.specs.Starts.{start_cmp}
-use Rattle.dac_state.specs.StateValue.{bottom, join}
-use Rattle.dac_state.specs.StateLaws.{same_state}
-use Rattle.dac_state.specs.Order.{IsBelow}
-use Rattle.dac_state.specs.Meaning.{meaning_of, In, Within, Agree, has_dot}
-use Rattle.dac_state.specs.Readers.{heard-meaning, known-meaning, starts-meaning, lives-meaning}
-use Rattle.dac_state.specs.Members.{In-append_left, Within-append, found, finds}
-use Rattle.dac_state.specs.Joins.{same_dot_is, same_dot_itself, meaning-same, join-meaning}
+use Rattle.dac_wishes.specs.Writes.{same_dot_is, same_dot_itself}
+use Rattle.dac_operations.specs.Operations.{Operation}
+use Rattle.dac_meaning.specs.StateValue.{IsBelow, bottom, join}
+use Rattle.dac_meaning.specs.StateLaws.{state_laws, bottom_value, bottom_least}
+use Rattle.dac_meaning.specs.Meaning.{meaning_of, In, Within, Agree, has_dot}
+use Rattle.dac_meaning.specs.Readers.{heard-meaning}
+use Rattle.dac_meaning.specs.Members.{In-append_left, Within-append, found, finds}
+use Rattle.dac_meaning.specs.Joins.{meaning-same, meaning-state, join-meaning}
 use Rattle.dac_core.specs.Convergence.{heard_among}
+use Rattle.dac_core.proofs.Operations.{Agree-within}
 
-pub meaning-none : bottom ≡ meaning_of []
-meaning-none = same_state bottom (meaning_of []) (record {
-  heard = λ d. set.contains-empty dot_cmp d ∙ sym (heard-meaning [] d);
-  known = λ d. set.contains-empty dot_cmp d ∙ sym (known-meaning [] d);
-  starts = λ q. set.contains-empty start_cmp q ∙ sym (starts-meaning [] q);
-  lives = λ n. map.get-empty node_cmp n ∙ sym (lives-meaning [] n);
-})
-
-pub join-bottom : (os : List Operation) → Agree os → join bottom (meaning_of os) ≡ meaning_of os
-join-bottom os agree = ap (λ s. join s (meaning_of os)) meaning-none ∙ join-meaning [] os agree
+-- a join with the least state is the other one
+pub join-bottom : (os : List Operation) → join bottom (meaning_of os) ≡ meaning_of os
+join-bottom os =
+    let s = meaning_of os in
+    let u = meaning-state os in
+    state_laws.antisymm (join bottom s) s (state_laws.closed bottom s bottom_value u) u
+    (state_laws.least bottom s s bottom_value u u (bottom_least s u) (state_laws.refl s u))
+    (state_laws.right bottom s bottom_value u)
 
 -- an operation of a set is heard in its meaning, and what is heard is one
-heard_in : (os : List Operation) (o : Operation) → In o os → set.contains (meaning_of os).heard o.dot ≡ true
+pub heard_in : (os : List Operation) (o : Operation) → In o os → set.contains (meaning_of os).heard o.dot ≡ true
 heard_in os o h = heard-meaning os o.dot ∙ finds (has_dot o.dot) os o h (same_dot_itself o.dot)
 
 in_heard : (os ops : List Operation) → Within os ops → Agree ops → (o : Operation) → In o ops → set.contains (meaning_of os).heard o.dot ≡ true → In o os
@@ -41,6 +36,15 @@ pub below_adds_nothing : (os ps ops : List Operation) → Within os ops → With
 below_adds_nothing os ps ops w v agree below =
     meaning-same os (os ++ ps) (λ o h. In-append_left o os ps h)
     (Within-append os ps os (λ o h. h) (λ o h. in_heard os ops w agree o (v o h) (below.heard o.dot (heard_in ps o h))))
+
+-- where each operation of ps is heard in a state, what ps mean is below it
+pub below_where_heard : (os ps ops : List Operation) → Within os ops → Within ps ops → Agree ops → ((o : Operation) → In o ps → set.contains (meaning_of os).heard o.dot ≡ true) → IsBelow (meaning_of ps) (meaning_of os)
+below_where_heard os ps ops w v agree heard =
+    let all : Within (os ++ ps) ops = Within-append os ps ops w v in
+    let same : join (meaning_of os) (meaning_of ps) ≡ meaning_of os =
+    join-meaning os ps (Agree-within (os ++ ps) ops all agree)
+    ∙ sym (meaning-same os (os ++ ps) (λ o h. In-append_left o os ps h) (Within-append os ps os (λ o h. h) (λ o h. in_heard os ops w agree o (v o h) (heard o h)))) in
+    subst (IsBelow (meaning_of ps)) same (state_laws.right (meaning_of os) (meaning_of ps) (meaning-state os) (meaning-state ps))
 
 -- ---- the operations that were heard
 In-filter : (p : Operation → Bool) (os : List Operation) (o : Operation) → In o os → p o ≡ true → In o (filter p os)

@@ -5,22 +5,33 @@ use Rattle.std.specs.Option.{option_map}
 use Rattle.std.proofs.lemmas.List.Sums.{fold-append}
 use Rattle.dac_base.specs.declared.NodeId.{NodeId}
 use Rattle.dac_config.specs.Table.{Table}
-use Rattle.dac_state.specs.StateValue.{StateValue, join, bottom}
+use Rattle.dac_meaning.specs.StateValue.{StateValue, join, bottom}
 use Rattle.dac_core.specs.declared.event.Event.{Event}
+use Rattle.dac_core.specs.declared.event.Reply.{Reply}
+use Rattle.dac_core.specs.declared.event.Reply.TheVariants.{Booted, Crashed, Issued, Shipped, Heard}
 use Rattle.dac_core.specs.declared.change.Change.{Change}
 use Rattle.dac_core.specs.NodeValue.{NodeValue}
-use Rattle.dac_core.specs.ModelNode.{ModelNode, ModelRun, shown, run_shown, joined, refusal_of, model_step, step_by, accepted, added, reply_on, Stepped, Steps}
+use Rattle.dac_core.specs.ModelNode.{ModelNode, ModelRun, shown, run_shown, joined, refusal_of, model_step, step_by, accepted, added, reply_on, unless_crashed, Stepped, Steps}
 use Rattle.dac_core.specs.Changes.{Prepared, changed, left_by, reply_by}
 
 -- more states joined
 pub joined-append : (log states : List StateValue) → joined (log ++ states) ≡ fold join (joined log) states
 joined-append log states = fold-append join bottom log states
 
+run_shown-unless : (reply : Reply) (r : ModelRun) → option_map run_shown (unless_crashed reply r) ≡ unless_crashed reply (run_shown r)
+run_shown-unless (Booted o) r = refl
+run_shown-unless Crashed r = refl
+run_shown-unless (Issued o) r = refl
+run_shown-unless (Shipped m) r = refl
+run_shown-unless (Heard fresh) r = refl
+
 -- an accepted event shows what the rules on values leave
 pub shown_accepted : (me : NodeId) (last : ℕ) (run : Option ModelRun) (e : Event) → shown (accepted me last run e).node ≡ left_by me last (option_map run_shown run) e
 shown_accepted me last None e = refl
 shown_accepted me last (Some r) e =
-    ap (λ (s : StateValue). record { last = last; run = Some (record { origin = r.origin; state = s }) }) (joined-append r.log (added e (reply_on r.origin (joined r.log) e)))
+    let reply = reply_on r.origin (joined r.log) e in
+    ap (λ run. record { last = last; run = run }) (run_shown-unless reply (record { origin = r.origin; log = r.log ++ added e reply }))
+    ∙ ap (λ (s : StateValue). record { last = last; run = unless_crashed reply (record { origin = r.origin; state = s }) }) (joined-append r.log (added e reply))
 
 -- and answers their reply
 pub answer_accepted : (me : NodeId) (last : ℕ) (run : Option ModelRun) (e : Event) → (accepted me last run e).answer ≡ Ok (reply_by me last (option_map run_shown run) e)

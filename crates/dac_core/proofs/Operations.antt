@@ -3,10 +3,10 @@ use Rattle.std.proofs.Common.{◌≡◌, Bool, true, false, ◌||◌, inl, inr, 
 use Rattle.std.specs.List.{list_any}
 use Rattle.std.proofs.lemmas.List.Folds.{list_any-append}
 use Rattle.dac_dots.specs.declared.dot.Dot.{Dot}
-use Rattle.dac_state.specs.Operations.{Operation}
-use Rattle.dac_state.specs.Meaning.{In, Within, Agree, has_dot, same_dot}
-use Rattle.dac_state.specs.Joins.{same_dot_is, same_dot_itself}
-use Rattle.dac_state.specs.Members.{finds}
+use Rattle.dac_wishes.specs.Writes.{same_dot, same_dot_is, same_dot_itself}
+use Rattle.dac_operations.specs.Operations.{Operation}
+use Rattle.dac_meaning.specs.Meaning.{In, Within, Agree, has_dot}
+use Rattle.dac_meaning.specs.Members.{finds}
 use Rattle.dac_core.specs.Convergence.{DistinctDots}
 use Rattle.dac_core.proofs.Lists.{not_true}
 

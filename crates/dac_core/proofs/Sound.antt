@@ -12,32 +12,33 @@ use Rattle.dac_base.specs.declared.NodeId.{NodeId}
 use Rattle.dac_config.specs.Table.{Table}
 use Rattle.dac_dots.specs.declared.dot.Origin.{Origin}
 use Rattle.dac_dots.specs.declared.dot.Dot.{Dot}
-use Rattle.dac_state.specs.declared.operations.Act.{Act}
-use Rattle.dac_state.specs.Operations.{Operation}
-use Rattle.dac_state.specs.StateValue.{StateValue, join}
-use Rattle.dac_state.specs.Meaning.{meaning_of, In, Within, Agree, has_dot, replaces}
-use Rattle.dac_state.specs.Readers.{names, known-meaning}
-use Rattle.dac_state.specs.Members.{Within-append, In-append_left, In-append_right, In-append_cases, found, finds}
-use Rattle.dac_state.specs.Joins.{same_dot_is, same_dot_itself, join-meaning}
+use Rattle.dac_wishes.specs.Writes.{same_dot_is, same_dot_itself}
+use Rattle.dac_operations.specs.declared.act.Act.{Act}
+use Rattle.dac_operations.specs.Operations.{Operation}
+use Rattle.dac_meaning.specs.StateValue.{StateValue, join}
+use Rattle.dac_meaning.specs.Meaning.{meaning_of, In, Within, Agree, has_dot, replaces, names}
+use Rattle.dac_meaning.specs.Readers.{known-meaning}
+use Rattle.dac_meaning.specs.Members.{Within-append, In-append_left, In-append_right, In-append_cases, found, finds}
+use Rattle.dac_meaning.specs.Joins.{join-meaning}
+use Rattle.dac_events.specs.declared.WorldEvent.{WorldEvent}
+use Rattle.dac_events.specs.declared.What.{What}
+use Rattle.dac_events.specs.declared.What.TheVariants.{Boot as Boots, Crash as Crashes, Command as Tells, Ship as Ships, Deliver, Hand}
 use Rattle.dac_core.specs.declared.event.Message.{Message}
 use Rattle.dac_core.specs.declared.event.Event.{Event}
-use Rattle.dac_core.specs.declared.event.Event.TheVariants.{Boot, Command as Told, Ship, Hear}
+use Rattle.dac_core.specs.declared.event.Event.TheVariants.{Boot, Crash, Command as Told, Ship, Hear, HearOp}
 use Rattle.dac_core.specs.declared.event.Reply.{Reply}
-use Rattle.dac_core.specs.declared.event.Reply.TheVariants.{Issued}
+use Rattle.dac_core.specs.declared.event.Reply.TheVariants.{Crashed, Issued}
 use Rattle.dac_core.specs.declared.refusal.Refusal.TheVariants.{OnSelf, NotForMe, AlreadyOn}
-use Rattle.dac_core.specs.declared.world_event.WorldEvent.{WorldEvent}
-use Rattle.dac_core.specs.declared.world_event.What.{What}
-use Rattle.dac_core.specs.declared.world_event.What.TheVariants.{Boot as Boots, Command as Tells, Ship as Ships, Deliver}
-use Rattle.dac_core.specs.declared.world_event.WorldFault.{WorldFault}
-use Rattle.dac_core.specs.declared.world_event.WorldFault.TheVariants.{NoSuchNode}
+use Rattle.dac_core.specs.declared.fault.WorldFault.{WorldFault}
+use Rattle.dac_core.specs.declared.fault.WorldFault.TheVariants.{NoSuchNode}
 use Rattle.dac_core.specs.Below.{is_below, is_below-is}
 use Rattle.dac_core.specs.ModelNode.{ModelNode, ModelRun, joined, shown, run_shown, refusal_of, refusal_by, refusal_to_hear, first, step_by, up, next_operation, act_of, accepted, greatest_counter}
-use Rattle.dac_core.specs.ModelWorld.{ModelWorld, happens, happens_by, answered_by, event_of, heard_by, message_at, with_node, Step, Run, start}
-use Rattle.dac_core.specs.SetWorld.{SetWorld, Copy, with_set, united, copy_at, ship_from, receive, set_step, set_run, no_sets, to_of, number_of}
+use Rattle.dac_core.specs.ModelWorld.{ModelWorld, happens, happens_by, answered_by, event_of, heard_by, handed_by, counted, with_node, Step, Run, start}
+use Rattle.dac_core.specs.SetWorld.{SetWorld, Copy, with_set, united, ship_from, copied_to, alone, brought_to, set_step, set_run, no_sets, to_of}
 use Rattle.dac_core.specs.Convergence.{DistinctDots}
 use Rattle.dac_core.proofs.Lists.{some_same, not_true}
 use Rattle.dac_core.proofs.Nodes.{joined-append}
-use Rattle.dac_core.proofs.Operations.{one_in, Agree-within, Agree-one, DistinctDots-agree, DistinctDots-push}
+use Rattle.dac_core.proofs.Operations.{one_in, Agree-within, DistinctDots-agree, DistinctDots-push}
 use Rattle.dac_core.proofs.Counters.{counter-greatest}
 use Rattle.dac_core.proofs.Meanings.{join-bottom, below_adds_nothing}
 
@@ -77,6 +78,7 @@ CopiesOk ops (m ∷ ms) (c ∷ cs) = CopyOk ops m c × CopiesOk ops ms cs
 
 pub record Sound (w : ModelWorld) (s : SetWorld) : Type 0 where
   pub nodes : (n : NodeId) → NodeOk w.operations n (w.node n) (s.node n)
+  pub issued : s.issued ≡ w.operations
   pub copies : CopiesOk w.operations w.messages s.copies
   pub distinct : DistinctDots w.operations
 
@@ -93,7 +95,7 @@ CopiesOk-push ops [] (d ∷ cs) m c h k = absurd h
 CopiesOk-push ops (l ∷ ms) [] m c h k = absurd h
 CopiesOk-push ops (l ∷ ms) (d ∷ cs) m c h k = (h.0, CopiesOk-push ops ms cs m c h.1 k)
 
-CopiesOk-get : (ops : List Operation) (ms : List Message) (cs : List Copy) (k : ℕ) (m : Message) → CopiesOk ops ms cs → slice_get ms k ≡ Some m → (c : Copy) × ((slice_get cs k ≡ Some c) × CopyOk ops m c)
+pub CopiesOk-get : (ops : List Operation) (ms : List Message) (cs : List Copy) (k : ℕ) (m : Message) → CopiesOk ops ms cs → slice_get ms k ≡ Some m → (c : Copy) × ((slice_get cs k ≡ Some c) × CopyOk ops m c)
 CopiesOk-get ops [] cs k m h e = absurd (none_some e)
   where
     none_some : None ≡ Some m → ⊥
@@ -131,7 +133,7 @@ boot_node ops n d held h =
     let own = own_origin n (d.last + 1) in
     let x = up own in
     record {
-      state = ap (λ s. Some s) (join-bottom (x ∷ []) (Agree-one x));
+      state = ap (λ s. Some s) (join-bottom (x ∷ []));
       origin = same_run n (d.last + 1) own (meaning_of (x ∷ []) ∷ []) refl;
       within = λ os e o i. In-append_right o ops (x ∷ []) (subst (In o) (sym (some_same (x ∷ []) os e)) i);
       own = λ os e o i t. subst (In o) (some_same (x ∷ []) os e) (elim (In-append_cases o ops (x ∷ []) i) [
@@ -153,7 +155,23 @@ boot_node ops n d held h =
     same_le : (i l : ℕ) → i ≡ l → i ≤ l
     same_le i l e = omega arith
 
--- its operation's dot is new
+-- a crash of node n
+crash_node : (ops : List Operation) (n : NodeId) (d : ModelNode) (held : Option (List Operation)) → NodeOk ops n d held → NodeOk ops n (record { last = d.last; run = None }) None
+crash_node ops n d held h = record {
+  state = refl;
+  origin = λ r e. absurd (no_run r e);
+  within = λ os e. absurd (no os e);
+  own = λ os e. absurd (no os e);
+  old = h.old;
+}
+  where
+    no : (os : List Operation) → None ≡ Some os → ⊥
+    no os e = cc
+
+    no_run : (r : ModelRun) → None ≡ Some r → ⊥
+    no_run r e = cc
+
+-- the dot of the operation of a boot is new
 boot_fresh : (ops : List Operation) (n : NodeId) (d : ModelNode) (held : Option (List Operation)) → NodeOk ops n d held → list_any (has_dot (up (own_origin n (d.last + 1))).dot) ops ≡ false
 boot_fresh ops n d held h = not_true (list_any (has_dot x.dot) ops) (λ t.
     let f = found (has_dot x.dot) ops t in
@@ -245,9 +263,10 @@ at_node P n d held node sets here far m =
 -- an operation is issued at node n
 sound_more : (w : ModelWorld) (s : SetWorld) (n : NodeId) (d : ModelNode) (held : Option (List Operation)) (x : Operation) → Sound w s → x.dot.origin.node ≡ n → list_any (has_dot x.dot) w.operations ≡ false →
     NodeOk (w.operations ++ x ∷ []) n d held →
-    Sound (record { count = w.count; node = with_node w.node n d; operations = w.operations ++ x ∷ []; messages = w.messages ++ [] }) (record { node = with_set s.node n held; copies = s.copies })
+    Sound (record { count = w.count; node = with_node w.node n d; operations = w.operations ++ x ∷ []; messages = w.messages ++ [] }) (record { node = with_set s.node n held; issued = s.issued ++ x ∷ []; copies = s.copies })
 sound_more w s n d held x h mine fresh here = record {
   nodes = at_node (NodeOk (w.operations ++ x ∷ [])) n d held w.node s.node here (λ m far. NodeOk-more w.operations m (w.node m) (s.node m) x (λ e. far (sym e ∙ mine)) (h.nodes m));
+  issued = ap (λ os. os ++ x ∷ []) h.issued;
   copies = subst (λ ms. CopiesOk (w.operations ++ x ∷ []) ms s.copies) (sym (append-nil w.messages)) (CopiesOk-more w.operations (x ∷ []) w.messages s.copies h.copies);
   distinct = DistinctDots-push w.operations x h.distinct fresh;
 }
@@ -255,36 +274,96 @@ sound_more w s n d held x h mine fresh here = record {
 -- nothing is issued: node n goes on to d with this set, and more may be on its way
 sound_same : (w : ModelWorld) (s : SetWorld) (n : NodeId) (d : ModelNode) (held : Option (List Operation)) (ms : List Message) (cs : List Copy) → Sound w s →
     NodeOk w.operations n d held → CopiesOk w.operations (w.messages ++ ms) cs →
-    Sound (record { count = w.count; node = with_node w.node n d; operations = w.operations ++ []; messages = w.messages ++ ms }) (record { node = with_set s.node n held; copies = cs })
-sound_same w s n d held ms cs h here copies = subst (λ os. Sound (record { count = w.count; node = with_node w.node n d; operations = os; messages = w.messages ++ ms }) (record { node = with_set s.node n held; copies = cs })) (sym (append-nil w.operations)) (record {
+    Sound (record { count = w.count; node = with_node w.node n d; operations = w.operations ++ []; messages = w.messages ++ ms }) (record { node = with_set s.node n held; issued = s.issued; copies = cs })
+sound_same w s n d held ms cs h here copies = subst (λ os. Sound (record { count = w.count; node = with_node w.node n d; operations = os; messages = w.messages ++ ms }) (record { node = with_set s.node n held; issued = s.issued; copies = cs })) (sym (append-nil w.operations)) (record {
   nodes = at_node (NodeOk w.operations) n d held w.node s.node here (λ m far. h.nodes m);
+  issued = h.issued;
   copies = copies;
   distinct = h.distinct;
 })
 
 -- which event is which
-ships_to : (ms : List Message) (what : What) (to : NodeId) → event_of ms what ≡ Ok (Ship to) → to_of what ≡ to
-ships_to ms (Boots now) to e = cc
-ships_to ms (Tells c) to e = cc
-ships_to ms (Ships x) to e = cc
-ships_to ms (Deliver k) to e = absurd (no (message_at ms k) e)
+ships_to : (os : List Operation) (ms : List Message) (what : What) (to : NodeId) → event_of os ms what ≡ Ok (Ship to) → to_of what ≡ to
+ships_to os ms (Boots now) to e = cc
+ships_to os ms Crashes to e = cc
+ships_to os ms (Tells c) to e = cc
+ships_to os ms (Ships x) to e = cc
+ships_to os ms (Deliver k) to e = absurd (no (counted ms k) e)
   where
     no : (o : Option Message) → heard_by o ≡ Ok (Ship to) → ⊥
     no None p = cc
     no (Some m) p = cc
+ships_to os ms (Hand k) to e = absurd (no (counted os k) e)
+  where
+    no : (o : Option Operation) → handed_by o ≡ Ok (Ship to) → ⊥
+    no None p = cc
+    no (Some x) p = cc
 
-hears : (ms : List Message) (what : What) (m : Message) → event_of ms what ≡ Ok (Hear m) → message_at ms (number_of what) ≡ Some m
-hears ms (Boots now) m e = cc
-hears ms (Tells c) m e = cc
-hears ms (Ships x) m e = cc
-hears ms (Deliver k) m e = yes (message_at ms k) e
+-- the number of a message that comes
+pub record Delivers (ms : List Message) (what : What) (m : Message) : Type 0 where
+  pub number : ℕ
+  pub is : what ≡ Deliver number
+  pub there : counted ms number ≡ Some m
+
+pub hears : (os : List Operation) (ms : List Message) (what : What) (m : Message) → event_of os ms what ≡ Ok (Hear m) → Delivers ms what m
+hears os ms (Boots now) m e = cc
+hears os ms Crashes m e = cc
+hears os ms (Tells c) m e = cc
+hears os ms (Ships x) m e = cc
+hears os ms (Deliver k) m e = record { number = k; is = refl; there = yes (counted ms k) e }
   where
     yes : (o : Option Message) → heard_by o ≡ Ok (Hear m) → o ≡ Some m
     yes None p = cc
     yes (Some l) p = cc
+hears os ms (Hand k) m e = absurd (no (counted os k) e)
+  where
+    no : (o : Option Operation) → handed_by o ≡ Ok (Hear m) → ⊥
+    no None p = cc
+    no (Some x) p = cc
+
+-- the number of an operation that comes by itself
+pub record Hands (os : List Operation) (what : What) (o : Operation) : Type 0 where
+  pub number : ℕ
+  pub is : what ≡ Hand number
+  pub there : counted os number ≡ Some o
+
+pub hears_op : (os : List Operation) (ms : List Message) (what : What) (o : Operation) → event_of os ms what ≡ Ok (HearOp o) → Hands os what o
+hears_op os ms (Boots now) o e = cc
+hears_op os ms Crashes o e = cc
+hears_op os ms (Tells c) o e = cc
+hears_op os ms (Ships x) o e = cc
+hears_op os ms (Deliver k) o e = absurd (no (counted ms k) e)
+  where
+    no : (m : Option Message) → heard_by m ≡ Ok (HearOp o) → ⊥
+    no None p = cc
+    no (Some l) p = cc
+hears_op os ms (Hand k) o e = record { number = k; is = refl; there = yes (counted os k) e }
+  where
+    yes : (x : Option Operation) → handed_by x ≡ Ok (HearOp o) → x ≡ Some o
+    yes None p = cc
+    yes (Some l) p = cc
+
+-- an operation of a number is one of them
+slice_get_in : (os : List Operation) (k : ℕ) (o : Operation) → slice_get os k ≡ Some o → In o os
+slice_get_in [] k o e = absurd (none_some e)
+  where
+    none_some : None ≡ Some o → ⊥
+    none_some p = cc
+slice_get_in (x ∷ os) zero o e = inl (sym (some_same x o e))
+slice_get_in (x ∷ os) (suc k) o e = inr (slice_get_in os k o e)
+
+counted_in : (os : List Operation) (k : ℕ) (o : Operation) → counted os k ≡ Some o → In o os
+counted_in os k o e =
+    elim (nat_eq k 0) as (λ b. cond b None (slice_get os (k - 1)) ≡ Some o → In o os) [
+      | true ↦ λ p. absurd (no p)
+      | false ↦ λ p. slice_get_in os (k - 1) o p
+    ] e
+  where
+    no : None ≡ Some o → ⊥
+    no p = cc
 
 -- the copy of a message
-message_copy : (ops : List Operation) (ms : List Message) (cs : List Copy) (k : ℕ) (m : Message) → CopiesOk ops ms cs → message_at ms k ≡ Some m → (c : Copy) × ((copy_at cs k ≡ Some c) × CopyOk ops m c)
+message_copy : (ops : List Operation) (ms : List Message) (cs : List Copy) (k : ℕ) (m : Message) → CopiesOk ops ms cs → counted ms k ≡ Some m → (c : Copy) × ((counted cs k ≡ Some c) × CopyOk ops m c)
 message_copy ops ms cs k m h e =
     elim (nat_eq k 0) as (λ b. cond b None (slice_get ms (k - 1)) ≡ Some m → (c : Copy) × ((cond b None (slice_get cs (k - 1)) ≡ Some c) × CopyOk ops m c)) [
       | true ↦ λ p. absurd (no p)
@@ -309,7 +388,7 @@ held_by ops n last r None h = absurd (no h.state)
     no p = cc
 held_by ops n last r (Some os) h = record { set = os; is = refl; state = some_same (joined r.log) (meaning_of os) h.state; mine = h.origin r refl; ok = h }
 
-held_at : (w : ModelWorld) (s : SetWorld) (n : NodeId) (r : ModelRun) → Sound w s → (w.node n).run ≡ Some r → HeldBy w.operations n (w.node n).last r (s.node n)
+pub held_at : (w : ModelWorld) (s : SetWorld) (n : NodeId) (r : ModelRun) → Sound w s → (w.node n).run ≡ Some r → HeldBy w.operations n (w.node n).last r (s.node n)
 held_at w s n r h on =
     let same : w.node n ≡ record { last = (w.node n).last; run = Some r } = λ i. record { last = (w.node n).last; run = on i } in
     held_by w.operations n (w.node n).last r (s.node n) (subst (λ d. NodeOk w.operations n d (s.node n)) same (h.nodes n))
@@ -326,13 +405,13 @@ sound_issue w s n what r act h on =
     let agree = DistinctDots-agree (w.operations ++ x ∷ []) (DistinctDots-push w.operations x h.distinct fresh) in
     let d : ModelNode = running last r.origin (r.log ++ meaning_of (x ∷ []) ∷ []) in
     let next : ModelWorld = record { count = w.count; node = with_node w.node n d; operations = w.operations ++ x ∷ []; messages = w.messages ++ [] } in
-    subst (λ (o : Option (List Operation)). Sound next (record { node = with_set s.node n (united o (x ∷ [])); copies = s.copies })) (sym held.is)
+    subst (λ (o : Option (List Operation)). Sound next (record { node = with_set s.node n (united o (x ∷ [])); issued = s.issued ++ x ∷ []; copies = s.copies })) (sym held.is)
     (sound_more w s n d (Some (held.set ++ x ∷ [])) x h (ap (λ (q : Origin). q.node) held.mine) fresh
     (issue_node w.operations held.set n last r.origin r.log x refl held.mine agree held.state held.ok))
 
 sound_ship : (w : ModelWorld) (s : SetWorld) (n : NodeId) (what : What) (to : NodeId) (r : ModelRun) → Sound w s → (w.node n).run ≡ Some r → to_of what ≡ to →
     Sound (record { count = w.count; node = with_node w.node n (running (w.node n).last r.origin (r.log ++ [])); operations = w.operations ++ []; messages = w.messages ++ (record { from = r.origin; to = to; body = joined r.log }) ∷ [] })
-    (record { node = s.node; copies = s.copies ++ ship_from (s.node n) n (to_of what) })
+    (record { node = s.node; issued = s.issued; copies = s.copies ++ ship_from (s.node n) n (to_of what) })
 sound_ship w s n what to r h on is =
     let held = held_at w s n r h on in
     let d : ModelNode = running (w.node n).last r.origin (r.log ++ []) in
@@ -342,8 +421,9 @@ sound_ship w s n what to r h on is =
     subst (λ (o : Option (List Operation)). CopiesOk w.operations (w.messages ++ m ∷ []) (s.copies ++ ship_from o n (to_of what))) (sym held.is)
     (CopiesOk-push w.operations w.messages s.copies m (record { from = n; to = to_of what; operations = held.set }) h.copies
     (record { body = held.state; within = held.ok.within held.set refl; to = sym is; from = ap (λ (q : Origin). q.node) held.mine })) in
-    subst (λ os. Sound (record { count = w.count; node = with_node w.node n d; operations = os; messages = w.messages ++ m ∷ [] }) (record { node = s.node; copies = s.copies ++ ship_from (s.node n) n (to_of what) })) (sym (append-nil w.operations)) (record {
+    subst (λ os. Sound (record { count = w.count; node = with_node w.node n d; operations = os; messages = w.messages ++ m ∷ [] }) (record { node = s.node; issued = s.issued; copies = s.copies ++ ship_from (s.node n) n (to_of what) })) (sym (append-nil w.operations)) (record {
       nodes = at_node (λ k x _. NodeOk w.operations k x (s.node k)) n d None w.node (λ _. None) here (λ k far. h.nodes k);
+      issued = h.issued;
       copies = copies;
       distinct = h.distinct;
     })
@@ -353,25 +433,52 @@ for_me true b e = cc
 for_me false true e = refl
 for_me false false e = cc
 
-sound_hear : (w : ModelWorld) (s : SetWorld) (n : NodeId) (what : What) (m : Message) (r : ModelRun) → Sound w s → (w.node n).run ≡ Some r → message_at w.messages (number_of what) ≡ Some m → refusal_to_hear r.origin m ≡ None →
-    Sound (record { count = w.count; node = with_node w.node n (running (w.node n).last r.origin (r.log ++ cond (not (is_below m.body (joined r.log))) (m.body ∷ []) [])); operations = w.operations ++ []; messages = w.messages ++ [] })
-    (receive s n (copy_at s.copies (number_of what)))
-sound_hear w s n what m r h on is accept =
+-- what an event brings to node n in the world of sets, and the state that it brings to the node
+pub record Brings (w : ModelWorld) (s : SetWorld) (n : NodeId) (what : What) (body : StateValue) : Type 0 where
+  pub operations : List Operation
+  pub brought : brought_to s n what ≡ operations
+  pub means : body ≡ meaning_of operations
+  pub within : Within operations w.operations
+
+pub brings_copy : (w : ModelWorld) (s : SetWorld) (n : NodeId) (what : What) (m : Message) (r : ModelRun) → Sound w s → (w.node n).run ≡ Some r → event_of w.operations w.messages what ≡ Ok (Hear m) → refusal_to_hear r.origin m ≡ None → Brings w s n what m.body
+brings_copy w s n what m r h on is accept =
+    let d = hears w.operations w.messages what m is in
     let held = held_at w s n r h on in
-    let c = message_copy w.operations w.messages s.copies (number_of what) m h.copies is in
-    let d : ModelNode = running (w.node n).last r.origin (r.log ++ cond (not (is_below m.body (joined r.log))) (m.body ∷ []) []) in
-    let next : ModelWorld = record { count = w.count; node = with_node w.node n d; operations = w.operations ++ []; messages = w.messages ++ [] } in
+    let c = message_copy w.operations w.messages s.copies d.number m h.copies d.there in
     let mine : refusal_to_hear (own_origin n (w.node n).last) m ≡ None = subst (λ q. refusal_to_hear q m ≡ None) held.mine accept in
     let goes : (nat_eq c.0.to.0 n.0 && not (nat_eq c.0.from.0 n.0)) ≡ true = sym (λ i. nat_eq (c.1.1.to i).0 n.0 && not (nat_eq (c.1.1.from i).0 n.0)) ∙ for_me (nat_eq m.from.node.0 n.0) (nat_eq m.to.0 n.0) mine in
-    let here : NodeOk w.operations n d (united (s.node n) c.0.operations) = subst (λ (o : Option (List Operation)). NodeOk w.operations n d (united o c.0.operations)) (sym held.is)
-    (hear_node w.operations held.set c.0.operations n (w.node n).last r.origin r.log m.body held.mine (DistinctDots-agree w.operations h.distinct) c.1.1.body c.1.1.within held.state held.ok (not (is_below m.body (joined r.log))) refl) in
+    record {
+      operations = c.0.operations;
+      brought = ap (brought_to s n) d.is ∙ (ap (copied_to n) c.1.0 ∙ ap (λ b. cond b c.0.operations []) goes);
+      means = c.1.1.body;
+      within = c.1.1.within;
+    }
+
+pub brings_one : (w : ModelWorld) (s : SetWorld) (n : NodeId) (what : What) (o : Operation) → Sound w s → event_of w.operations w.messages what ≡ Ok (HearOp o) → Brings w s n what (meaning_of (o ∷ []))
+brings_one w s n what o h is =
+    let d = hears_op w.operations w.messages what o is in
+    record {
+      operations = o ∷ [];
+      brought = ap (brought_to s n) d.is ∙ (ap (λ os. alone (counted os d.number)) h.issued ∙ ap alone d.there);
+      means = refl;
+      within = λ x i. subst (λ (y : Operation). In y w.operations) (sym (one_in x o i)) (counted_in w.operations d.number o d.there);
+    }
+
+sound_hear : (w : ModelWorld) (s : SetWorld) (n : NodeId) (what : What) (body : StateValue) (r : ModelRun) → Sound w s → (w.node n).run ≡ Some r → Brings w s n what body →
+    Sound (record { count = w.count; node = with_node w.node n (running (w.node n).last r.origin (r.log ++ cond (not (is_below body (joined r.log))) (body ∷ []) [])); operations = w.operations ++ []; messages = w.messages ++ [] })
+    (record { node = with_set s.node n (united (s.node n) (brought_to s n what)); issued = s.issued; copies = s.copies })
+sound_hear w s n what body r h on b =
+    let held = held_at w s n r h on in
+    let d : ModelNode = running (w.node n).last r.origin (r.log ++ cond (not (is_below body (joined r.log))) (body ∷ []) []) in
+    let next : ModelWorld = record { count = w.count; node = with_node w.node n d; operations = w.operations ++ []; messages = w.messages ++ [] } in
+    let here : NodeOk w.operations n d (united (s.node n) b.operations) = subst (λ (o : Option (List Operation)). NodeOk w.operations n d (united o b.operations)) (sym held.is)
+    (hear_node w.operations held.set b.operations n (w.node n).last r.origin r.log body held.mine (DistinctDots-agree w.operations h.distinct) b.means b.within held.state held.ok (not (is_below body (joined r.log))) refl) in
     let copies : CopiesOk w.operations (w.messages ++ []) s.copies = subst (λ ms. CopiesOk w.operations ms s.copies) (sym (append-nil w.messages)) h.copies in
-    subst (λ (o : Option Copy). Sound next (receive s n o)) (sym c.1.0)
-    (subst (λ b. Sound next (cond b (record { node = with_set s.node n (united (s.node n) c.0.operations); copies = s.copies }) s)) (sym goes)
-    (sound_same w s n d (united (s.node n) c.0.operations) [] s.copies h here copies))
+    subst (λ (os : List Operation). Sound next (record { node = with_set s.node n (united (s.node n) os); issued = s.issued; copies = s.copies })) (sym b.brought)
+    (sound_same w s n d (united (s.node n) b.operations) [] s.copies h here copies)
 
 -- an event that isn't refused
-sound_ok : (t : Table) (w : ModelWorld) (s : SetWorld) (n : NodeId) (what : What) (e : Event) (run : Option ModelRun) → Sound w s → event_of w.messages what ≡ Ok e → refusal_of t (shown (w.node n)) e ≡ None → (w.node n).run ≡ run →
+sound_ok : (t : Table) (w : ModelWorld) (s : SetWorld) (n : NodeId) (what : What) (e : Event) (run : Option ModelRun) → Sound w s → event_of w.operations w.messages what ≡ Ok e → refusal_of t (shown (w.node n)) e ≡ None → (w.node n).run ≡ run →
     Sound (answered_by w n (accepted n (w.node n).last run e).node (accepted n (w.node n).last run e).answer).world (set_step s n what (answered_by w n (accepted n (w.node n).last run e).node (accepted n (w.node n).last run e).answer).answer)
 sound_ok t w s n what e None h is none on =
     let x = up (own_origin n ((w.node n).last + 1)) in
@@ -380,13 +487,18 @@ sound_ok t w s n what (Boot now) (Some r) h is none on = absurd (no (ap (λ (l :
   where
     no : Some AlreadyOn ≡ None → ⊥
     no p = cc
+sound_ok t w s n what Crash (Some r) h is none on =
+    sound_same w s n (record { last = (w.node n).last; run = None }) None [] s.copies h (crash_node w.operations n (w.node n) (s.node n) (h.nodes n))
+    (subst (λ ms. CopiesOk w.operations ms s.copies) (sym (append-nil w.messages)) h.copies)
 sound_ok t w s n what (Told c) (Some r) h is none on = sound_issue w s n what r (act_of (joined r.log) c) h on
-sound_ok t w s n what (Ship to) (Some r) h is none on = sound_ship w s n what to r h on (ships_to w.messages what to is)
-sound_ok t w s n what (Hear m) (Some r) h is none on = sound_hear w s n what m r h on (hears w.messages what m is) (ap (λ (l : Option ModelRun). refusal_by t (w.node n).last (option_map run_shown l) (Hear m)) (sym on) ∙ none)
+sound_ok t w s n what (Ship to) (Some r) h is none on = sound_ship w s n what to r h on (ships_to w.operations w.messages what to is)
+sound_ok t w s n what (Hear m) (Some r) h is none on =
+    sound_hear w s n what m.body r h on (brings_copy w s n what m r h on is (ap (λ (l : Option ModelRun). refusal_by t (w.node n).last (option_map run_shown l) (Hear m)) (sym on) ∙ none))
+sound_ok t w s n what (HearOp o) (Some r) h is none on = sound_hear w s n what (meaning_of (o ∷ [])) r h on (brings_one w s n what o h is)
 
-sound_by : (t : Table) (w : ModelWorld) (s : SetWorld) (n : NodeId) (what : What) → Sound w s → Sound (happens_by t w n (event_of w.messages what)).world (set_step s n what (happens_by t w n (event_of w.messages what)).answer)
+sound_by : (t : Table) (w : ModelWorld) (s : SetWorld) (n : NodeId) (what : What) → Sound w s → Sound (happens_by t w n (event_of w.operations w.messages what)).world (set_step s n what (happens_by t w n (event_of w.operations w.messages what)).answer)
 sound_by t w s n what h =
-    elim (event_of w.messages what) as (λ r. event_of w.messages what ≡ r → Sound (happens_by t w n r).world (set_step s n what (happens_by t w n r).answer)) [
+    elim (event_of w.operations w.messages what) as (λ r. event_of w.operations w.messages what ≡ r → Sound (happens_by t w n r).world (set_step s n what (happens_by t w n r).answer)) [
       | Err fault ↦ λ _. h
       | Ok e ↦ λ is. elim (refusal_of t (shown (w.node n)) e) as (λ r. refusal_of t (shown (w.node n)) e ≡ r → Sound (answered_by w n (step_by r n (w.node n) e).node (step_by r n (w.node n) e).answer).world (set_step s n what (answered_by w n (step_by r n (w.node n) e).node (step_by r n (w.node n) e).answer).answer)) [
         | Some why ↦ λ _. h
@@ -396,12 +508,12 @@ sound_by t w s n what h =
 
 sound_happens : (t : Table) (w : ModelWorld) (s : SetWorld) (e : WorldEvent) → Sound w s → Sound (happens t w e).world (set_step s e.node e.what (happens t w e).answer)
 sound_happens t w s e h =
-    elim (nat_lt e.node.0 w.count) as (λ b. Sound (cond b (happens_by t w e.node (event_of w.messages e.what)) (record { world = w; answer = Err NoSuchNode })).world (set_step s e.node e.what (cond b (happens_by t w e.node (event_of w.messages e.what)) (record { world = w; answer = Err NoSuchNode })).answer)) [
+    elim (nat_lt e.node.0 w.count) as (λ b. Sound (cond b (happens_by t w e.node (event_of w.operations w.messages e.what)) (record { world = w; answer = Err NoSuchNode })).world (set_step s e.node e.what (cond b (happens_by t w e.node (event_of w.operations w.messages e.what)) (record { world = w; answer = Err NoSuchNode })).answer)) [
       | true ↦ sound_by t w s e.node e.what h
       | false ↦ h
     ]
 
-sound_step : (t : Table) (w : ModelWorld) (s : SetWorld) (e : WorldEvent) (a : Answer) (next : ModelWorld) → Sound w s → Step w (happens t w e) a next → Sound next (set_step s e.node e.what a)
+pub sound_step : (t : Table) (w : ModelWorld) (s : SetWorld) (e : WorldEvent) (a : Answer) (next : ModelWorld) → Sound w s → Step w (happens t w e) a next → Sound next (set_step s e.node e.what a)
 sound_step t w s e a next h (inl d) = subst (λ (p : ModelWorld × Answer). Sound p.0 (set_step s e.node e.what p.1)) (λ i. (sym d.went_on i, sym d.answered i)) (sound_happens t w s e h)
 sound_step t w s e a next h (inr l) = subst (λ (p : ModelWorld × Answer). Sound p.0 (set_step s e.node e.what p.1)) (λ i. (sym l.stayed i, sym l.answered i)) h
 
@@ -422,6 +534,7 @@ sound_start t = record {
     own = λ os e. absurd (no os e);
     old = λ o i. absurd i;
   };
+  issued = refl;
   copies = tt;
   distinct = tt;
 }

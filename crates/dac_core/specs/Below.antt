@@ -1,89 +1,164 @@
 -- Whether one state is below another, as a test.
-use Rattle.std.specs.Prelude.{◌≡◌, ℕ, Bool, true, false, ◌&&◌, List, [], ◌∷◌, Option, Some, None, nat_le, is_some, refl}
+use Rattle.std.specs.Prelude.{◌≡◌, Bool, true, false, not, ◌&&◌, ◌||◌, List, [], ◌∷◌, Option, Some, None, is_some, refl}
 use Rattle.std.proofs.Common.{sym, ap, subst, ◌∙◌, inl, inr, true≢false}
-use Rattle.std.proofs.lemmas.Bool.{and_parts, and_from, or_cases, le-leb, leb-true}
+use Rattle.std.proofs.lemmas.Bool.{and_parts, and_from, or_cases}
+use Rattle.std.proofs.lemmas.Map.Lookups.{CmpEqualImpliesEq}
+use Rattle.std.specs.declared.cmp.Ordering.{Ordering}
 use Rattle.std.specs.List.{list_all, list_any}
-use Rattle.std.specs.Ordering.{eq_by_cmp}
+use Rattle.std.specs.Ordering.{eq_by_cmp, is_le}
 use Rattle.std.specs.Cmp.{Equal-is}
 use Rattle.std.specs.FinSet as set
 use Rattle.std.specs.FinMap as map
-use Rattle.dac_base.specs.declared.NodeId.{NodeId}
-use Rattle.dac_base.specs.Ids.{node_cmp, exact_nodes}
-use Rattle.dac_dots.specs.Dots.{dots_total}
-use Rattle.dac_state.specs.declared.starts.Start.{Start}
-use Rattle.dac_state.specs.Starts.{starts_total, exact_starts}
-use Rattle.dac_state.specs.Lives.{Lives, IsNotAbove}
-use Rattle.dac_state.specs.Order.{IsBelow}
-use Rattle.dac_state.specs.StateValue.{StateValue}
+use Rattle.dac_base.specs.Ids.{exact_nodes, exact_apps}
+use Rattle.dac_dots.specs.Dots.{Dots, IsSubset, dots_total}
+use Rattle.dac_lattice.specs.declared.flags.Flag.{Flag}
+use Rattle.dac_lattice.specs.declared.flags.Flag.TheVariants.{Up, Down}
+use Rattle.dac_lattice.specs.Flags.{IsFlagBelow}
+use Rattle.dac_lattice.specs.Laws.{IsWithin}
+use Rattle.dac_lattice.specs.Chains.{IsAtMost}
+use Rattle.dac_store.specs.AtDot.{StandsBelow}
+use Rattle.dac_chains.specs.Greatest.{AreNotAbove}
+use Rattle.dac_chains.specs.Lives.{life_cmp}
+use Rattle.dac_chains.specs.Claims.{claim_cmp}
+use Rattle.dac_wishes.specs.Writes.{Write, write_cmp, writes_total, exact_writes}
+use Rattle.dac_wishes.specs.WishesValue.{IsBelow as AreWishesBelow}
+use Rattle.dac_wishes.specs.PermissionsValue.{IsPermissionsBelow}
+use Rattle.dac_meaning.specs.StateValue.{StateValue, IsBelow, permissions_of, wishes_of}
 
 -- the first isn't above the second, where none is least
-abbrev pub is_not_above : Option ℕ → Option ℕ → Bool
-is_not_above None y = true
-is_not_above (Some i) None = false
-is_not_above (Some i) (Some j) = nat_le i j
+abbrev pub is_within : {T : Type 0} → (T → T → Ordering) → Option T → Option T → Bool
+is_within cmp None y = true
+is_within cmp (Some v) None = false
+is_within cmp (Some v) (Some w) = is_le (cmp v w)
 
--- each node's life in x isn't above that in y
-abbrev pub lives_below : Lives → Lives → Bool
-lives_below x y = list_all (λ (n : NodeId). is_not_above (map.get x n) (map.get y n)) (map.keys x)
+-- no key has a greater value in the first than in the second
+abbrev pub are_not_above : {K T : Type 0} {R : K → K → Ordering} → (T → T → Ordering) → map.FinMap R T → map.FinMap R T → Bool
+are_not_above {K = K} cmp x y = list_all (λ (k : K). is_within cmp (map.get x k) (map.get y k)) (map.keys x)
+
+-- Up is below both, and Down below itself alone
+abbrev pub is_flag_below : Flag → Flag → Bool
+is_flag_below Up y = true
+is_flag_below Down Up = false
+is_flag_below Down Down = true
+
+-- what the second holds the first holds too, with a value that isn't above
+abbrev pub stands_below : Option Flag → Option Flag → Bool
+stands_below x None = true
+stands_below None (Some y) = false
+stands_below (Some x) (Some y) = is_flag_below x y
+
+-- what stands in y and x knows stands in x, with a value that isn't above
+abbrev pub permits_below : StateValue → StateValue → Bool
+permits_below x y = list_all (λ (w : Write). not (set.contains x.known w.dot) || stands_below (map.get x.permits w) (map.get y.permits w)) (map.keys y.permits)
+
+-- the start wishes that stand in y and x knows stand in x
+abbrev pub starts_below : StateValue → StateValue → Bool
+starts_below x y = set.is_subset (set.retain y.starts (λ (w : Write). set.contains x.known w.dot)) x.starts
 
 -- the state x is below y: its law `is_below-is` says that this test is the order of states
 unfoldable pub is_below : StateValue → StateValue → Bool
 is_below x y =
     set.is_subset x.heard y.heard
     && (set.is_subset x.known y.known
-    && (lives_below x.lives y.lives
-    && set.is_subset (set.retain y.starts (λ (q : Start). set.contains x.known q.dot)) x.starts))
+    && (permits_below x y
+    && (starts_below x y
+    && (are_not_above life_cmp x.lives y.lives && are_not_above claim_cmp x.claims y.claims))))
 
 -- ---- laws
-
-not_above-is : (a b : Option ℕ) → (IsNotAbove a b → is_not_above a b ≡ true) × (is_not_above a b ≡ true → IsNotAbove a b)
-not_above-is None b = (λ _. refl, λ _. tt)
-not_above-is (Some i) None = (λ h. absurd h, λ h. absurd (true≢false (sym h)))
-not_above-is (Some i) (Some j) = (λ h. le-leb i j h, λ h. leb-true i j h)
 
 all_pass : {X : Type 0} (p : X → Bool) → ((x : X) → p x ≡ true) → (xs : List X) → list_all p xs ≡ true
 all_pass p h [] = refl
 all_pass p h (x ∷ xs) = and_from _ _ (h x) (all_pass p h xs)
 
-passes : (p : NodeId → Bool) (n : NodeId) (ns : List NodeId) → list_all p ns ≡ true → list_any (eq_by_cmp node_cmp n) ns ≡ true → p n ≡ true
-passes p n [] h there = absurd (true≢false (sym there))
-passes p n (m ∷ ns) h there = elim (or_cases (eq_by_cmp node_cmp n m) (list_any (eq_by_cmp node_cmp n) ns) there) [
-  | inl e ↦ ap p (exact_nodes n m ((Equal-is (node_cmp n m)).0 e)) ∙ (and_parts _ _ h).0
-  | inr r ↦ passes p n ns (and_parts _ _ h).1 r
+-- a key among the keys passes what each of them passes
+passes : {K : Type 0} {R : K → K → Ordering} → CmpEqualImpliesEq R → (p : K → Bool) (k : K) (ks : List K) → list_all p ks ≡ true → list_any (eq_by_cmp R k) ks ≡ true → p k ≡ true
+passes exact p k [] h there = absurd (true≢false (sym there))
+passes {R = R} exact p k (m ∷ ks) h there = elim (or_cases (eq_by_cmp R k m) (list_any (eq_by_cmp R k) ks) there) [
+  | inl e ↦ ap p (exact k m ((Equal-is (R k m)).0 e)) ∙ (and_parts _ _ h).0
+  | inr r ↦ passes exact p k ks (and_parts _ _ h).1 r
 ]
 
-lives_below-is : (x y : Lives) → (((n : NodeId) → IsNotAbove (map.get x n) (map.get y n)) → lives_below x y ≡ true) × (lives_below x y ≡ true → (n : NodeId) → IsNotAbove (map.get x n) (map.get y n))
-lives_below-is x y = (
-  λ h. all_pass (λ (n : NodeId). is_not_above (map.get x n) (map.get y n)) (λ n. (not_above-is (map.get x n) (map.get y n)).0 (h n)) (map.keys x),
-  λ h n. at n (map.get x n) refl h,
-)
-  where
-    at : (n : NodeId) (a : Option ℕ) → map.get x n ≡ a → lives_below x y ≡ true → IsNotAbove a (map.get y n)
-    at n None e h = tt
-    at n (Some i) e h = (not_above-is (Some i) (map.get y n)).1 (subst (λ o. is_not_above o (map.get y n) ≡ true) e (passes (λ (m : NodeId). is_not_above (map.get x m) (map.get y m)) n (map.keys x) h (sym (map.contains_key-keys x n) ∙ ap is_some e)))
+-- ---- lives and claims
+
+module _ {K T : Type 0} {R : K → K → Ordering} (exact : CmpEqualImpliesEq R) (cmp : T → T → Ordering) where
+  within-is : (a b : Option T) → (IsWithin (IsAtMost cmp) a b → is_within cmp a b ≡ true) × (is_within cmp a b ≡ true → IsWithin (IsAtMost cmp) a b)
+  within-is None b = (λ _. refl, λ _. tt)
+  within-is (Some v) None = (λ h. absurd h, λ h. absurd (true≢false (sym h)))
+  within-is (Some v) (Some w) = (λ h. h, λ h. h)
+
+  not_above-is : (x y : map.FinMap R T) → (AreNotAbove cmp x y → are_not_above cmp x y ≡ true) × (are_not_above cmp x y ≡ true → AreNotAbove cmp x y)
+  not_above-is x y = (
+    λ h. all_pass (λ (k : K). is_within cmp (map.get x k) (map.get y k)) (λ k. (within-is (map.get x k) (map.get y k)).0 (h k)) (map.keys x),
+    λ h k. at k (map.get x k) refl h,
+  )
+    where
+      at : (k : K) (a : Option T) → map.get x k ≡ a → are_not_above cmp x y ≡ true → IsWithin (IsAtMost cmp) a (map.get y k)
+      at k None e h = tt
+      at k (Some v) e h = (within-is (Some v) (map.get y k)).1 (subst (λ o. is_within cmp o (map.get y k) ≡ true) e (passes exact (λ (m : K). is_within cmp (map.get x m) (map.get y m)) k (map.keys x) h (sym (map.contains_key-keys x k) ∙ ap is_some e)))
+
+-- ---- permits
+
+flag_below-is : (a b : Flag) → (IsFlagBelow a b → is_flag_below a b ≡ true) × (is_flag_below a b ≡ true → IsFlagBelow a b)
+flag_below-is Up b = (λ _. refl, λ _. tt)
+flag_below-is Down Up = (λ h. absurd h, λ h. absurd (true≢false (sym h)))
+flag_below-is Down Down = (λ _. refl, λ _. tt)
+
+stands_below-is : (a b : Option Flag) → (StandsBelow IsFlagBelow a b → stands_below a b ≡ true) × (stands_below a b ≡ true → StandsBelow IsFlagBelow a b)
+stands_below-is a None = (λ _. refl, λ _. tt)
+stands_below-is None (Some g) = (λ h. absurd h, λ h. absurd (true≢false (sym h)))
+stands_below-is (Some f) (Some g) = flag_below-is f g
+
+if_known : (a b : Bool) → (a ≡ true → b ≡ true) → (not a || b) ≡ true
+if_known true b h = h refl
+if_known false b h = refl
+
+known_then : (a b : Bool) → a ≡ true → (not a || b) ≡ true → b ≡ true
+known_then true b k h = h
+known_then false b k h = absurd (true≢false (sym k))
+
+module _ (x y : StateValue) where
+  permits_at_write : (w : Write) (o : Option Flag) → map.get y.permits w ≡ o → permits_below x y ≡ true → set.contains x.known w.dot ≡ true → StandsBelow IsFlagBelow (map.get x.permits w) o
+  permits_at_write w None e h k = tt
+  permits_at_write w (Some g) e h k =
+      subst (λ o. StandsBelow IsFlagBelow (map.get x.permits w) o) e
+      ((stands_below-is (map.get x.permits w) (map.get y.permits w)).1 (known_then (set.contains x.known w.dot) _ k
+      (passes exact_writes (λ (u : Write). not (set.contains x.known u.dot) || stands_below (map.get x.permits u) (map.get y.permits u)) w (map.keys y.permits) h (sym (map.contains_key-keys y.permits w) ∙ ap is_some e))))
+
+  permits_test : ((w : Write) → set.contains x.known w.dot ≡ true → StandsBelow IsFlagBelow (map.get x.permits w) (map.get y.permits w)) → permits_below x y ≡ true
+  permits_test h = all_pass (λ (w : Write). not (set.contains x.known w.dot) || stands_below (map.get x.permits w) (map.get y.permits w)) (λ w. if_known (set.contains x.known w.dot) _ (λ k. (stands_below-is (map.get x.permits w) (map.get y.permits w)).0 (h w k))) (map.keys y.permits)
+
+  -- ---- start wishes
+
+  kept : (w : Write) → set.contains (set.retain y.starts (λ (u : Write). set.contains x.known u.dot)) w ≡ (set.contains y.starts w && set.contains x.known w.dot)
+  kept w = set.contains-retain y.starts (λ (u : Write). set.contains x.known u.dot) w (λ u e. ap (λ (v : Write). set.contains x.known v.dot) (sym (exact_writes w u e)))
+
+  starts_test : ((w : Write) → set.contains y.starts w ≡ true → set.contains x.known w.dot ≡ true → set.contains x.starts w ≡ true) → starts_below x y ≡ true
+  starts_test h = set.contains-is_subset writes_total (set.retain y.starts (λ (u : Write). set.contains x.known u.dot)) x.starts (λ w t. let both = and_parts _ _ (sym (kept w) ∙ t) in h w both.0 both.1)
+
+  start_at_write : starts_below x y ≡ true → (w : Write) → set.contains y.starts w ≡ true → set.contains x.known w.dot ≡ true → set.contains x.starts w ≡ true
+  start_at_write t w there named = set.is_subset-contains writes_total (set.retain y.starts (λ (u : Write). set.contains x.known u.dot)) x.starts t w (kept w ∙ and_from _ _ there named)
 
 -- the test is the order
 pub is_below-is : (x y : StateValue) → (IsBelow x y → is_below x y ≡ true) × (is_below x y ≡ true → IsBelow x y)
 unfolding is_below
 is_below-is x y = (
   λ h. and_from _ _ (set.contains-is_subset dots_total x.heard y.heard h.heard)
-      (and_from _ _ (set.contains-is_subset dots_total x.known y.known h.known)
-      (and_from _ _ ((lives_below-is x.lives y.lives).0 h.lives)
-      (set.contains-is_subset starts_total (set.retain y.starts known) x.starts (λ q t. let both = and_parts _ _ (sym (kept q) ∙ t) in h.starts q both.0 both.1)))),
+      (and_from _ _ (set.contains-is_subset dots_total x.known y.known h.permits.known)
+      (and_from _ _ (permits_test x y h.permits.standing)
+      (and_from _ _ (starts_test x y h.starts.standing)
+      (and_from _ _ ((not_above-is exact_nodes life_cmp x.lives y.lives).0 h.lives) ((not_above-is exact_apps claim_cmp x.claims y.claims).0 h.claims))))),
   λ t.
       let a = and_parts _ _ t in
       let b = and_parts _ _ a.1 in
       let c = and_parts _ _ b.1 in
+      let d = and_parts _ _ c.1 in
+      let e = and_parts _ _ d.1 in
+      let known : IsSubset x.known y.known = set.is_subset-contains dots_total x.known y.known b.0 in
       record {
         heard = set.is_subset-contains dots_total x.heard y.heard a.0;
-        known = set.is_subset-contains dots_total x.known y.known b.0;
-        lives = (lives_below-is x.lives y.lives).1 c.0;
-        starts = λ q there named. set.is_subset-contains starts_total (set.retain y.starts known) x.starts c.1 q (kept q ∙ and_from _ _ there named);
+        permits = record { known = known; standing = λ w k. permits_at_write x y w (map.get y.permits w) refl c.0 k };
+        starts = record { known = known; standing = start_at_write x y d.0 };
+        lives = (not_above-is exact_nodes life_cmp x.lives y.lives).1 e.0;
+        claims = (not_above-is exact_apps claim_cmp x.claims y.claims).1 e.1;
       },
 )
-  where
-    known : Start → Bool
-    known q = set.contains x.known q.dot
-
-    kept : (q : Start) → set.contains (set.retain y.starts known) q ≡ (set.contains y.starts q && set.contains x.known q.dot)
-    kept q = set.contains-retain y.starts known q (λ r e. ap known (sym (exact_starts q r e)))

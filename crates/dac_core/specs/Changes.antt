@@ -1,16 +1,18 @@
 -- What an accepted event does to what a node holds.
-use Rattle.std.specs.Prelude.{◌≡◌, ℕ, ◌+◌, List, [], ◌∷◌, Option, Some, None, unwrap_or, fold}
+use Rattle.std.specs.Prelude.{◌≡◌, ℕ, ◌+◌, true, false, List, [], ◌∷◌, Option, Some, None, fold}
 use Rattle.dac_base.specs.declared.NodeId.{NodeId}
 use Rattle.dac_dots.specs.declared.dot.Origin.{Origin}
 use Rattle.dac_config.specs.Table.{Table}
-use Rattle.dac_state.specs.StateValue.{StateValue, bottom, join}
-use Rattle.dac_state.specs.Meaning.{meaning_of}
+use Rattle.dac_meaning.specs.StateValue.{StateValue, bottom, join}
+use Rattle.dac_meaning.specs.Meaning.{meaning_of}
 use Rattle.dac_core.specs.declared.event.Event.{Event}
 use Rattle.dac_core.specs.declared.event.Reply.{Reply}
-use Rattle.dac_core.specs.declared.event.Reply.TheVariants.{Booted}
+use Rattle.dac_core.specs.declared.event.Reply.TheVariants.{Booted, Heard}
 use Rattle.dac_core.specs.NodeValue.{NodeValue, RunValue}
+use Rattle.dac_core.specs.declared.change.After.{After}
+use Rattle.dac_core.specs.declared.change.After.TheVariants.{Same, Off, Runs}
 use Rattle.dac_core.specs.declared.change.Change.{Change}
-use Rattle.dac_core.specs.ModelNode.{refusal_of, reply_on, added, up}
+use Rattle.dac_core.specs.ModelNode.{refusal_of, reply_on, added, unless_crashed, up}
 
 -- the reply to an accepted event
 abbrev pub reply_by : NodeId → ℕ → Option RunValue → Event → Reply
@@ -28,21 +30,29 @@ booted own = grown (record { origin = own; state = bottom }) (meaning_of (up own
 -- what an accepted event leaves
 abbrev pub left_by : NodeId → ℕ → Option RunValue → Event → NodeValue
 left_by me last None e = record { last = last + 1; run = Some (booted (record { node = me; inc = last + 1 })) }
-left_by me last (Some r) e = record { last = last; run = Some (grown r (added e (reply_on r.origin r.state e))) }
+left_by me last (Some r) e =
+    let reply = reply_on r.origin r.state e in
+    record { last = last; run = unless_crashed reply (grown r (added e reply)) }
 
--- what stays where nothing else comes
-abbrev pub kept_or : Option RunValue → Option RunValue → Option RunValue
-kept_or None old = old
-kept_or (Some r) old = Some r
+-- what runs after a change
+abbrev pub run_after : After → Option RunValue → Option RunValue
+run_after Same old = old
+run_after Off old = None
+run_after (Runs r) old = Some r
 
 -- a node after a change
 abbrev pub changed : NodeValue → Change → NodeValue
-changed v change = record { last = change.last; run = kept_or change.run v.run }
+changed v change = record { last = change.last; run = run_after change.after v.run }
+
+-- what hearing changes, from what runs where it adds anything
+abbrev pub by_hearing : ℕ → Option RunValue → Change
+by_hearing last None = record { last = last; after = Same; reply = Heard false }
+by_hearing last (Some r) = record { last = last; after = Runs r; reply = Heard true }
 
 -- what an accepted event does at a running node
-pub record Effect (inc : ℕ) (r : RunValue) (e : Event) (change : Change) : Type 0 where
-  pub last : change.last ≡ inc
-  pub run : unwrap_or change.run r ≡ grown r (added e (reply_on r.origin r.state e))
+pub record Effect (number : ℕ) (r : RunValue) (e : Event) (change : Change) : Type 0 where
+  pub last : change.last ≡ number
+  pub run : run_after change.after (Some r) ≡ unless_crashed (reply_on r.origin r.state e) (grown r (added e (reply_on r.origin r.state e)))
   pub reply : change.reply ≡ reply_on r.origin r.state e
 
 -- the event isn't refused, and this is what it does

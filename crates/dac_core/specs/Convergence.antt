@@ -4,9 +4,10 @@ use Rattle.std.specs.List.{slice_get, list_any}
 use Rattle.std.specs.Option.{option_map}
 use Rattle.std.specs.FinSet as set
 use Rattle.dac_dots.specs.Dots.{Dots}
-use Rattle.dac_state.specs.Operations.{Operation}
-use Rattle.dac_state.specs.StateValue.{StateValue}
-use Rattle.dac_state.specs.Meaning.{meaning_of, has_dot}
+use Rattle.dac_operations.specs.Operations.{Operation}
+use Rattle.dac_meaning.specs.StateValue.{StateValue}
+use Rattle.dac_meaning.specs.Meaning.{meaning_of, has_dot, Within}
+use Rattle.dac_core.specs.declared.event.Message.{Message}
 use Rattle.dac_core.specs.NodeValue.{NodeValue, state_of}
 use Rattle.dac_core.specs.WorldValue.{WorldValue}
 use Rattle.dac_core.specs.ModelWorld.{numbered}
@@ -38,3 +39,7 @@ DistinctDots (o ∷ os) = (list_any (has_dot o.dot) os ≡ false) × DistinctDot
 -- each node runs exactly where it has a set in the world of sets, and its state is that set's meaning
 pub record HoldsSets (v : WorldValue) (sets : SetWorld) : Type 0 where
   pub each : (n : ℕ) (x : NodeValue) → slice_get v.nodes n ≡ Some x → state_of x ≡ option_map meaning_of (sets.node (numbered n))
+
+-- each message carries the meaning of a set of issued operations
+pub record CarryMeanings (v : WorldValue) : Type 0 where
+  pub each : (k : ℕ) (m : Message) → slice_get v.messages k ≡ Some m → (os : List Operation) × (Within os v.operations × (m.body ≡ meaning_of os))

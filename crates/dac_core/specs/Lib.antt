@@ -7,4 +7,6 @@ pub mod WorldValue
 pub mod ModelWorld
 pub mod WorldChanges
 pub mod SetWorld
+pub mod Hearing
+pub mod News
 pub mod Convergence

@@ -3,19 +3,19 @@ use Rattle.std.specs.Prelude.{◌≡◌, ℕ, ◌-◌, cond, nat_eq, nat_lt, Lis
 use Rattle.std.specs.List.{slice_get}
 use Rattle.dac_base.specs.declared.NodeId.{NodeId}
 use Rattle.dac_config.specs.Table.{Table, node_count}
-use Rattle.dac_state.specs.Operations.{Operation}
+use Rattle.dac_operations.specs.Operations.{Operation}
+use Rattle.dac_events.specs.declared.WorldEvent.{WorldEvent}
+use Rattle.dac_events.specs.declared.What.{What}
+use Rattle.dac_events.specs.declared.What.TheVariants.{Boot as Boots, Crash as Crashes, Command as Tells, Ship as Ships, Deliver, Hand}
 use Rattle.dac_core.specs.declared.event.Message.{Message}
 use Rattle.dac_core.specs.declared.event.Event.{Event}
-use Rattle.dac_core.specs.declared.event.Event.TheVariants.{Boot, Command as Told, Ship, Hear}
+use Rattle.dac_core.specs.declared.event.Event.TheVariants.{Boot, Crash, Command as Told, Ship, Hear, HearOp}
 use Rattle.dac_core.specs.declared.event.Reply.{Reply}
-use Rattle.dac_core.specs.declared.event.Reply.TheVariants.{Booted, Issued, Shipped, Heard}
+use Rattle.dac_core.specs.declared.event.Reply.TheVariants.{Booted, Crashed, Issued, Shipped, Heard}
 use Rattle.dac_core.specs.declared.refusal.Refusal.{Refusal}
 use Rattle.dac_core.specs.declared.refusal.Refusal.TheVariants.{NoMemory}
-use Rattle.dac_core.specs.declared.world_event.WorldEvent.{WorldEvent}
-use Rattle.dac_core.specs.declared.world_event.What.{What}
-use Rattle.dac_core.specs.declared.world_event.What.TheVariants.{Boot as Boots, Command as Tells, Ship as Ships, Deliver}
-use Rattle.dac_core.specs.declared.world_event.WorldFault.{WorldFault}
-use Rattle.dac_core.specs.declared.world_event.WorldFault.TheVariants.{NoSuchNode, NoSuchMessage, Refused}
+use Rattle.dac_core.specs.declared.fault.WorldFault.{WorldFault}
+use Rattle.dac_core.specs.declared.fault.WorldFault.TheVariants.{NoSuchNode, NoSuchMessage, NoSuchOperation, Refused}
 use Rattle.dac_core.specs.ModelNode.{ModelNode, shown, model_step}
 use Rattle.dac_core.specs.WorldValue.{WorldValue}
 
@@ -43,25 +43,33 @@ abbrev pub start : Table → ModelWorld
 start t = record { count = node_count t; node = λ _. record { last = 0; run = None }; operations = []; messages = [] }
 
 -- ---- one event
--- the k-th message, counted from 1
-abbrev pub message_at : List Message → ℕ → Option Message
-message_at ms k = cond (nat_eq k 0) None (slice_get ms (k - 1))
+-- the k-th of a list, counted from 1
+abbrev pub counted : {X : Type 0} → List X → ℕ → Option X
+counted xs k = cond (nat_eq k 0) None (slice_get xs (k - 1))
 
 -- the node's event where a message comes
 abbrev pub heard_by : Option Message → Result Event WorldFault
 heard_by None = Err NoSuchMessage
 heard_by (Some m) = Ok (Hear m)
 
--- the node's event
-abbrev pub event_of : List Message → What → Result Event WorldFault
-event_of ms (Boots now) = Ok (Boot now)
-event_of ms (Tells c) = Ok (Told c)
-event_of ms (Ships to) = Ok (Ship to)
-event_of ms (Deliver k) = heard_by (message_at ms k)
+-- the node's event where an operation comes by itself
+abbrev pub handed_by : Option Operation → Result Event WorldFault
+handed_by None = Err NoSuchOperation
+handed_by (Some o) = Ok (HearOp o)
+
+-- the node's event, from what was issued and what was shipped
+abbrev pub event_of : List Operation → List Message → What → Result Event WorldFault
+event_of os ms (Boots now) = Ok (Boot now)
+event_of os ms Crashes = Ok Crash
+event_of os ms (Tells c) = Ok (Told c)
+event_of os ms (Ships to) = Ok (Ship to)
+event_of os ms (Deliver k) = heard_by (counted ms k)
+event_of os ms (Hand k) = handed_by (counted os k)
 
 -- the operations that a reply issues
 abbrev pub issued_by : Reply → List Operation
 issued_by (Booted o) = o ∷ []
+issued_by Crashed = []
 issued_by (Issued o) = o ∷ []
 issued_by (Shipped m) = []
 issued_by (Heard fresh) = []
@@ -69,6 +77,7 @@ issued_by (Heard fresh) = []
 -- the messages that a reply ships
 abbrev pub shipped_by : Reply → List Message
 shipped_by (Booted o) = []
+shipped_by Crashed = []
 shipped_by (Issued o) = []
 shipped_by (Shipped m) = m ∷ []
 shipped_by (Heard fresh) = []
@@ -94,7 +103,7 @@ happens_by t w n (Ok e) = answered_by w n (model_step t n (w.node n) e).node (mo
 
 -- one event of the world
 abbrev pub happens : Table → ModelWorld → WorldEvent → WorldStepped
-happens t w e = cond (nat_lt e.node.0 w.count) (happens_by t w e.node (event_of w.messages e.what)) (record { world = w; answer = Err NoSuchNode })
+happens t w e = cond (nat_lt e.node.0 w.count) (happens_by t w e.node (event_of w.operations w.messages e.what)) (record { world = w; answer = Err NoSuchNode })
 
 -- ---- runs
 -- the answer for want of memory
@@ -106,10 +115,11 @@ pub record Done (by : WorldStepped) (answer : Result Reply WorldFault) (next : M
   pub answered : answer ≡ by.answer
   pub went_on : next ≡ by.world
 
--- memory was wanting for an event that would have been accepted: it is no event
+-- memory was wanting for an event that would have been accepted: it is no event. A crash wants none.
 pub record Lacked (w : ModelWorld) (by : WorldStepped) (answer : Result Reply WorldFault) (next : ModelWorld) : Type 0 where
   pub answered : answer ≡ out_of_memory
   pub accepted : IsOk by.answer
+  pub wants : by.answer ≡ Ok Crashed → ⊥
   pub stayed : next ≡ w
 
 -- an event, its answer, and the world after it

@@ -5,7 +5,7 @@ use Rattle.std.specs.Coded.{Coded, code_by, coded×, coded_ℕ, coded_option}
 use Rattle.std.specs.FinSet as set
 use Rattle.dac_dots.specs.declared.dot.Origin.{Origin}
 use Rattle.dac_dots.specs.Dots.{dot, coded_origin}
-use Rattle.dac_state.specs.StateValue.{StateValue, coded_state}
+use Rattle.dac_meaning.specs.StateValue.{StateValue, coded_state}
 
 -- what a running node keeps: its present incarnation, and its state
 pub record RunValue : Type 0 where

@@ -1,12 +1,13 @@
 -- How a refusal is shown.
 use Rattle.std.specs.Prelude.{ℕ, List, codes}
 use Rattle.dac_core.specs.declared.refusal.Refusal.{Refusal}
-use Rattle.dac_core.specs.declared.refusal.Refusal.TheVariants.{Off, AlreadyOn, UnknownApp, UnknownNode, OnSelf, NotInList, NotLive, NotStarted, NotForMe, TooManyDots, DotsUsedUp, IncarnationsUsedUp, NoMemory}
+use Rattle.dac_core.specs.declared.refusal.Refusal.TheVariants.{Off, AlreadyOn, DeclaredDown, UnknownApp, UnknownNode, OnSelf, NotInList, NotLive, NotStarted, NotForMe, TooManyDots, DotsUsedUp, IncarnationsUsedUp, NoMemory}
 
 -- the number in the program's output
 abbrev pub number_of : Refusal → ℕ
 number_of Off = 1
 number_of AlreadyOn = 2
+number_of DeclaredDown = 3
 number_of UnknownApp = 4
 number_of UnknownNode = 5
 number_of OnSelf = 6
@@ -23,6 +24,7 @@ number_of NoMemory = 21
 abbrev pub name_of : Refusal → List ℕ
 name_of Off = codes "Off"
 name_of AlreadyOn = codes "AlreadyOn"
+name_of DeclaredDown = codes "DeclaredDown"
 name_of UnknownApp = codes "UnknownApp"
 name_of UnknownNode = codes "UnknownNode"
 name_of OnSelf = codes "OnSelf"

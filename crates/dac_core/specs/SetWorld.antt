@@ -1,15 +1,15 @@
 -- The world of sets: each node is off or holds a set of operations, and a message carries a copy of the
 -- sender's whole set. A set is given as a list; order and repeats don't matter.
-use Rattle.std.specs.Prelude.{ℕ, ◌-◌, cond, not, ◌&&◌, nat_eq, List, [], ◌∷◌, ◌++◌, Option, Some, None, Result, Ok, Err}
-use Rattle.std.specs.List.{slice_get}
+use Rattle.std.specs.Prelude.{ℕ, cond, not, ◌&&◌, nat_eq, List, [], ◌∷◌, ◌++◌, Option, Some, None, Result, Ok, Err}
 use Rattle.dac_base.specs.declared.NodeId.{NodeId}
-use Rattle.dac_state.specs.Operations.{Operation}
+use Rattle.dac_operations.specs.Operations.{Operation}
+use Rattle.dac_events.specs.declared.WorldEvent.{WorldEvent}
+use Rattle.dac_events.specs.declared.What.{What}
+use Rattle.dac_events.specs.declared.What.TheVariants.{Boot as Boots, Crash as Crashes, Command as Tells, Ship as Ships, Deliver, Hand}
 use Rattle.dac_core.specs.declared.event.Reply.{Reply}
-use Rattle.dac_core.specs.declared.event.Reply.TheVariants.{Booted, Issued, Shipped, Heard}
-use Rattle.dac_core.specs.declared.world_event.WorldEvent.{WorldEvent}
-use Rattle.dac_core.specs.declared.world_event.What.{What}
-use Rattle.dac_core.specs.declared.world_event.What.TheVariants.{Boot as Boots, Command as Tells, Ship as Ships, Deliver}
-use Rattle.dac_core.specs.declared.world_event.WorldFault.{WorldFault}
+use Rattle.dac_core.specs.declared.event.Reply.TheVariants.{Booted, Crashed, Issued, Shipped, Heard}
+use Rattle.dac_core.specs.declared.fault.WorldFault.{WorldFault}
+use Rattle.dac_core.specs.ModelWorld.{counted}
 
 -- a copy of a node's whole set on its way
 pub record Copy : Type 0 where
@@ -17,14 +17,15 @@ pub record Copy : Type 0 where
   pub to : NodeId
   pub operations : List Operation
 
--- each node's set, where it runs, and each copy that was ever shipped, the oldest first
+-- each node's set, where it runs, and, the oldest first, each operation that was ever issued and each copy that was ever shipped
 pub record SetWorld : Type 0 where
   pub node : NodeId → Option (List Operation)
+  pub issued : List Operation
   pub copies : List Copy
 
 -- all nodes off
 abbrev pub no_sets : SetWorld
-no_sets = record { node = λ _. None; copies = [] }
+no_sets = record { node = λ _. None; issued = []; copies = [] }
 
 -- node n's set replaced
 abbrev pub with_set : (NodeId → Option (List Operation)) → NodeId → Option (List Operation) → NodeId → Option (List Operation)
@@ -35,44 +36,50 @@ abbrev pub united : Option (List Operation) → List Operation → Option (List 
 united None os = None
 united (Some held) os = Some (held ++ os)
 
--- the k-th copy, counted from 1
-abbrev pub copy_at : List Copy → ℕ → Option Copy
-copy_at cs k = cond (nat_eq k 0) None (slice_get cs (k - 1))
-
 -- the copy of a node's whole set, where it runs
 abbrev pub ship_from : Option (List Operation) → NodeId → NodeId → List Copy
 ship_from None n to = []
 ship_from (Some held) n to = (record { from = n; to = to; operations = held }) ∷ []
 
--- A copy comes to node n, and the sets unite. At its sender, at another node than its addressee and at a
--- node that is off it changes nothing.
-abbrev pub receive : SetWorld → NodeId → Option Copy → SetWorld
-receive w n None = w
-receive w n (Some c) = cond (nat_eq c.to.0 n.0 && not (nat_eq c.from.0 n.0)) (record { node = with_set w.node n (united (w.node n) c.operations); copies = w.copies }) w
+-- The operations that a copy brings to node n: its whole set. At its sender and at another node than its
+-- addressee it brings none.
+abbrev pub copied_to : NodeId → Option Copy → List Operation
+copied_to n None = []
+copied_to n (Some c) = cond (nat_eq c.to.0 n.0 && not (nat_eq c.from.0 n.0)) c.operations []
+
+-- the operation alone, if there is one
+abbrev pub alone : Option Operation → List Operation
+alone None = []
+alone (Some o) = o ∷ []
+
+-- the operations that an event brings to node n: a delivery those of the copy, and a handing the one that it names
+abbrev pub brought_to : SetWorld → NodeId → What → List Operation
+brought_to w n (Boots now) = []
+brought_to w n Crashes = []
+brought_to w n (Tells c) = []
+brought_to w n (Ships to) = []
+brought_to w n (Deliver k) = copied_to n (counted w.copies k)
+brought_to w n (Hand k) = alone (counted w.issued k)
 
 -- where an event ships to
 abbrev pub to_of : What → NodeId
 to_of (Boots now) = record { 0 = 0 }
+to_of Crashes = record { 0 = 0 }
 to_of (Tells c) = record { 0 = 0 }
 to_of (Ships to) = to
 to_of (Deliver k) = record { 0 = 0 }
+to_of (Hand k) = record { 0 = 0 }
 
--- the number of the message that an event delivers
-abbrev pub number_of : What → ℕ
-number_of (Boots now) = 0
-number_of (Tells c) = 0
-number_of (Ships to) = 0
-number_of (Deliver k) = k
-
--- One event at node n with its answer, which brings the operations. A boot gives the set of one Up, a
--- command adds what it issues, a ship puts a copy of the whole set on its way, a delivery unites, and a
--- refused event changes nothing.
+-- One event at node n with its answer, which brings the operations that are issued. A boot gives the set of
+-- one Up, a crash takes the node's set away, a command adds what it issues, a ship puts a copy of the whole
+-- set on its way, what is delivered or handed is united with the set, and a refused event changes nothing.
 abbrev pub set_step : SetWorld → NodeId → What → Result Reply WorldFault → SetWorld
 set_step w n what (Err fault) = w
-set_step w n what (Ok (Booted o)) = record { node = with_set w.node n (Some (o ∷ [])); copies = w.copies }
-set_step w n what (Ok (Issued o)) = record { node = with_set w.node n (united (w.node n) (o ∷ [])); copies = w.copies }
-set_step w n what (Ok (Shipped m)) = record { node = w.node; copies = w.copies ++ ship_from (w.node n) n (to_of what) }
-set_step w n what (Ok (Heard fresh)) = receive w n (copy_at w.copies (number_of what))
+set_step w n what (Ok (Booted o)) = record { node = with_set w.node n (Some (o ∷ [])); issued = w.issued ++ o ∷ []; copies = w.copies }
+set_step w n what (Ok Crashed) = record { node = with_set w.node n None; issued = w.issued; copies = w.copies }
+set_step w n what (Ok (Issued o)) = record { node = with_set w.node n (united (w.node n) (o ∷ [])); issued = w.issued ++ o ∷ []; copies = w.copies }
+set_step w n what (Ok (Shipped m)) = record { node = w.node; issued = w.issued; copies = w.copies ++ ship_from (w.node n) n (to_of what) }
+set_step w n what (Ok (Heard fresh)) = record { node = with_set w.node n (united (w.node n) (brought_to w n what)); issued = w.issued; copies = w.copies }
 
 -- these events with their answers, one after another
 abbrev pub set_run : SetWorld → List WorldEvent → List (Result Reply WorldFault) → SetWorld

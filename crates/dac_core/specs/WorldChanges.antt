@@ -1,5 +1,5 @@
 -- What an accepted event does to what the program's world holds.
-use Rattle.std.specs.Prelude.{◌≡◌, ℕ, cond, nat_eq, ◌++◌, length}
+use Rattle.std.specs.Prelude.{◌≡◌, ℕ, cond, nat_eq, List, ◌++◌, length}
 use Rattle.std.specs.List.{slice_get}
 use Rattle.std.specs.Option.{option_map}
 use Rattle.dac_base.specs.declared.NodeId.{NodeId}
@@ -10,10 +10,14 @@ use Rattle.dac_core.specs.Changes.{changed}
 use Rattle.dac_core.specs.WorldValue.{WorldValue}
 use Rattle.dac_core.specs.ModelWorld.{issued_by, shipped_by}
 
+-- of these nodes one changes
+pub record NodeChanges (before : List NodeValue) (node : NodeId) (change : Change) (after : List NodeValue) : Type 0 where
+  pub count : length after ≡ length before
+  pub each : (n : ℕ) → slice_get after n ≡ cond (nat_eq n node.0) (option_map (λ (x : NodeValue). changed x change) (slice_get before n)) (slice_get before n)
+
 -- from v the world goes on to u: one node changes, and what its reply issues and ships is noted
 pub record Goes (v : WorldValue) (node : NodeId) (change : Change) (given : Reply) (u : WorldValue) : Type 0 where
   pub reply : given ≡ change.reply
-  pub count : length u.nodes ≡ length v.nodes
-  pub nodes : (n : ℕ) → slice_get u.nodes n ≡ cond (nat_eq n node.0) (option_map (λ (x : NodeValue). changed x change) (slice_get v.nodes n)) (slice_get v.nodes n)
+  pub nodes : NodeChanges v.nodes node change u.nodes
   pub operations : u.operations ≡ v.operations ++ issued_by change.reply
   pub messages : u.messages ≡ v.messages ++ shipped_by change.reply

@@ -1,7 +1,7 @@
 -- What the program's world holds.
 use Rattle.std.specs.Prelude.{List, refl}
 use Rattle.std.specs.Coded.{Coded, code_by, coded×, coded_list}
-use Rattle.dac_state.specs.Operations.{Operation}
+use Rattle.dac_operations.specs.Operations.{Operation}
 use Rattle.dac_core.specs.declared.event.Message.{Message}
 use Rattle.dac_core.specs.NodeValue.{NodeValue, coded_node_value}
 

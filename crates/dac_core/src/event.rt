@@ -2,8 +2,9 @@
 
 ghost use Rattle.std.specs.Prelude.{◌≡◌, IfOk};
 
-use dac_base::{AppId, NoMemory, NodeId};
+use dac_base::{NoMemory, NodeId};
 use dac_dots::Origin;
+use dac_events::Command;
 use dac_lattice::Lattice;
 use dac_state::{Op, State};
 
@@ -32,27 +33,6 @@ impl Message {
     }
 }
 
-/// What an operator tells a controller. It may be given at any controller: it names the node that it is
-/// about, and holds for that node's live incarnation (after `application:start/1` and `application:stop/1`
-/// of Erlang/OTP, which hold for the node where they run).
-#[derive(Clone, Copy, Debug, PartialEq, Eq)]
-pub enum Command {
-    /// The application is wished at the node.
-    Start {
-        /// The application.
-        app: AppId,
-        /// The node that it is about.
-        node: NodeId,
-    },
-    /// The application's start wishes at the node end.
-    Stop {
-        /// The application.
-        app: AppId,
-        /// The node that it is about.
-        node: NodeId,
-    },
-}
-
 /// What happens at a node.
 #[derive(Drop)]
 pub enum Event {
@@ -61,6 +41,8 @@ pub enum Event {
         /// The present moment, in milliseconds.
         now: u64,
     },
+    /// The node goes down and loses all but the number of its incarnation.
+    Crash,
     /// An operator's command.
     Command(Command),
     /// The node's state is to be shipped.
@@ -70,6 +52,8 @@ pub enum Event {
     },
     /// A message comes.
     Hear(Message),
+    /// One operation comes by itself, whether or not those came that its issuer had heard.
+    HearOp(Op),
 }
 
 impl Event {
@@ -79,11 +63,16 @@ impl Event {
     {
         match self {
             Event::Boot { now } => Ok(Event::Boot { now: *now }),
+            Event::Crash => Ok(Event::Crash),
             Event::Command(command) => Ok(Event::Command(*command)),
             Event::Ship { to } => Ok(Event::Ship { to: *to }),
             Event::Hear(message) => {
                 let message = message.copy()?;
                 Ok(Event::Hear(message))
+            }
+            Event::HearOp(operation) => {
+                let operation = operation.copy()?;
+                Ok(Event::HearOp(operation))
             }
         }
     }
@@ -94,11 +83,13 @@ impl Event {
 pub enum Reply {
     /// The node came up: it issued this operation.
     Booted(Op),
+    /// The node went down.
+    Crashed,
     /// The command was issued as this operation.
     Issued(Op),
     /// This message is on its way.
     Shipped(Message),
-    /// The message was heard; whether it added anything.
+    /// The message or the operation was heard; whether it added anything.
     Heard(bool),
 }
 
@@ -112,6 +103,7 @@ impl Reply {
                 let operation = operation.copy()?;
                 Ok(Reply::Booted(operation))
             }
+            Reply::Crashed => Ok(Reply::Crashed),
             Reply::Issued(operation) => {
                 let operation = operation.copy()?;
                 Ok(Reply::Issued(operation))
@@ -150,6 +142,9 @@ mod tests {
         let up = Op::new(Dot { origin: from, n: 1 }, Act::Up)
             .ok()
             .ok_or("no operation")?;
+        let up = up.copy()?;
+        assert!(rt; matches!(Event::HearOp(up.copy()?).copy()?, Event::HearOp(_)));
+        assert!(rt; matches!(Event::Crash.copy()?, Event::Crash));
         assert!(rt; matches!(Reply::Booted(up).copy()?, Reply::Booted(_)));
         assert!(rt; matches!(Reply::Shipped(message).copy()?, Reply::Shipped(_)));
         Ok(())

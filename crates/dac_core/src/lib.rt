@@ -3,23 +3,24 @@
 //! A [`Node`] is one controller: off with the number of its last incarnation, or running with the state
 //! that it has heard and issued. It changes by [`Node::step`] alone, one [`Event`] at a time. A [`World`]
 //! has all controllers of a configuration, every operation that they issued and every message that they
-//! shipped; messages may be lost, repeated and reordered.
+//! shipped; messages and single operations may be lost, repeated and reordered, and controllers may crash.
 //!
 //! The promise is convergence, on [`World::run`]: after any list of events each running controller's state
 //! is the meaning of the set of operations that it has heard, so controllers that heard the same set hold
 //! equal states.
 #![tactic(auto)]
 
-pub use event::{Command, Event, Message, Reply};
+pub use dac_events::{Command, What, WorldEvent};
+pub use event::{Event, Message, Reply};
+pub use fault::WorldFault;
 pub use node::Node;
 pub use refusal::Refusal;
 pub use world::World;
-pub use world_event::{What, WorldEvent, WorldFault};
 
 mod change;
 mod event;
+mod fault;
 mod node;
 mod refusal;
 mod running;
 mod world;
-mod world_event;

@@ -4,14 +4,14 @@ ghost use Rattle.std.specs.Prelude.{◌≡◌, IfOk, IfErr, OnErr, unwrap_or};
 ghost use Rattle.dac_config.specs.Table.{Table};
 ghost use Rattle.dac_core.specs.ModelNode.{refusal_off as refused_off};
 
-use crate::change::Change;
+use crate::change::{After, Change};
 use crate::event::{Event, Message, Reply};
 use crate::refusal::Refusal;
 use crate::running::Running;
 use dac_base::{NoMemory, NodeId};
 use dac_config::Config;
 use dac_dots::Origin;
-use dac_state::State;
+use dac_state::{Op, State};
 use std::alloc::Global;
 use std::marker::Model;
 
@@ -41,6 +41,7 @@ impl Node {
     ghost use Rattle.dac_core.specs.NodeValue.{off, origin_of, state_of};
     ghost use Rattle.dac_core.specs.ModelNode.{refusal_of, Steps};
     ghost use Rattle.dac_core.specs.Changes.{changed, Prepared};
+    ghost use Rattle.dac_core.specs.Hearing.{HearsExactly};
 
     /// A controller that is off and whose last incarnation had this number; 0 for one that never booted.
     pub fn off(alloc: Global, last: u32) -> Self
@@ -92,12 +93,15 @@ impl Node {
     }
 
     /// One event. It is refused with the first cause that holds, and with `NoMemory` only where there is no
-    /// other; the controller is then as before. A controller that boots is node `self_id` until it is off
-    /// again.
+    /// other; the controller is then as before. A crash takes no memory: a running controller always goes
+    /// down. A controller that boots is node `self_id` until it is off again.
     pub fn step(&mut self, config: &Config, self_id: NodeId, event: Event) -> Result<Reply, Refusal>
         ensures err { IfErr result (λ why. why ≡ unwrap_or (refusal_of config.now self.old event) Refusal.NoMemory) }
+        ensures crash { IfErr result (λ why. event ≡ Event.Crash → why ≡ Refusal.Off) }
         ensures unchanged { OnErr result (self.new ≡ self.old) }
         ensures ok { IfOk result (λ reply. Steps config.now self_id self.old event self.new (Ok reply)) }
+        // What it has heard grows by the dots that the event brings, and by no more.
+        ensures heard { IfOk result (λ reply. HearsExactly self.old event reply self.new) }
     {
         let change = self.prepare(config, self_id, &event)?;
         Ok(self.apply(change))
@@ -113,7 +117,7 @@ impl Node {
         }
     }
 
-    /// What an event would do. All that may want memory is done here.
+    /// What an event would do. All that may want memory is done here; a crash wants none.
     pub(crate) fn prepare(
         &self,
         config: &Config,
@@ -122,6 +126,7 @@ impl Node {
     ) -> Result<Change, Refusal>
         ensures ok { IfOk result (λ change. Prepared config.now self_id self.now event.now change) }
         ensures err { IfErr result (λ why. why ≡ unwrap_or (refusal_of config.now self.now event.now) Refusal.NoMemory) }
+        ensures crash { IfErr result (λ why. event.now ≡ Event.Crash → why ≡ Refusal.Off) }
     {
         if let Some(why) = self.refusal(config, event) {
             return Err(why);
@@ -146,15 +151,28 @@ impl Node {
         Ok(Change::hear(self.last, run, message)?)
     }
 
+    /// What an operation that comes by itself would do.
+    pub(crate) fn prepare_hear_op(&self, operation: &Op) -> Result<Change, Refusal>
+        ensures ok { IfOk result (λ change. (t : Table) (me : NodeId) → Prepared t me self.now (Event.HearOp operation.now) change) }
+        ensures err { IfErr result (λ why. (t : Table) → why ≡ unwrap_or (refusal_of t self.now (Event.HearOp operation.now)) Refusal.NoMemory) }
+    {
+        let Some(run) = &self.run else {
+            return Err(Refusal::Off);
+        };
+        Ok(Change::hear_op(self.last, run, operation)?)
+    }
+
     /// Does what was prepared.
     pub(crate) fn apply(&mut self, change: Change) -> Reply
         ensures new { self.new ≡ changed self.old change }
         ensures reply { result ≡ change.reply }
     {
-        let Change { last, run, reply } = change;
+        let Change { last, after, reply } = change;
         self.last = last;
-        if let Some(run) = run {
-            self.run = Some(run);
+        match after {
+            After::Same => {}
+            After::Off => self.run = None,
+            After::Runs(run) => self.run = Some(run),
         }
         reply
     }

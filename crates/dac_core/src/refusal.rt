@@ -13,11 +13,13 @@ pub enum Refusal {
     Off,
     /// The node runs already.
     AlreadyOn,
+    /// This incarnation isn't the live one of its own node, by what is known here: it was declared down.
+    DeclaredDown,
     /// The configuration has no such application.
     UnknownApp,
     /// The configuration has no such node.
     UnknownNode,
-    /// A node neither ships to itself nor hears itself.
+    /// A node neither ships to itself nor hears itself nor declares itself down.
     OnSelf,
     /// The node isn't in the application's list.
     NotInList,
@@ -47,6 +49,7 @@ impl Refusal {
         match self {
             Refusal::Off => 1,
             Refusal::AlreadyOn => 2,
+            Refusal::DeclaredDown => 3,
             Refusal::UnknownApp => 4,
             Refusal::UnknownNode => 5,
             Refusal::OnSelf => 6,
@@ -68,6 +71,7 @@ impl Refusal {
         match self {
             Refusal::Off => "Off",
             Refusal::AlreadyOn => "AlreadyOn",
+            Refusal::DeclaredDown => "DeclaredDown",
             Refusal::UnknownApp => "UnknownApp",
             Refusal::UnknownNode => "UnknownNode",
             Refusal::OnSelf => "OnSelf",

@@ -1,15 +1,17 @@
 //! All controllers of a configuration, with what they issued and shipped.
 
-ghost use Rattle.std.specs.Prelude.{◌≡◌, ◌<◌, ◌++◌, IfOk, OnOk, vec_len, vec_capacity};
+ghost use Rattle.std.specs.Prelude.{◌≡◌, ◌<◌, ◌++◌, IfOk, OnOk, length, vec_len, vec_capacity};
 ghost use Rattle.dac_core.specs.ModelWorld.{issued_by, shipped_by};
+ghost use Rattle.dac_core.specs.WorldChanges.{NodeChanges};
 
 use crate::change::Change;
 use crate::event::{Event, Message, Reply};
+use crate::fault::WorldFault;
 use crate::node::Node;
 use crate::refusal::Refusal;
-use crate::world_event::{What, WorldEvent, WorldFault};
 use dac_base::{NoMemory, NodeId};
 use dac_config::Config;
+use dac_events::{What, WorldEvent};
 use dac_state::Op;
 use std::alloc::Global;
 use std::marker::Model;
@@ -28,7 +30,7 @@ impl Model for World {
 
     ghost Value = { WorldValue };
 
-    ghost use Rattle.dac_state.specs.contracts.operations.Op as operation;
+    ghost use Rattle.dac_operations.specs.contracts.op.Op as operation;
     ghost use Rattle.dac_core.specs.contracts.event.Message as message;
     ghost use Rattle.dac_core.specs.WorldValue.{coded_world};
 
@@ -40,9 +42,10 @@ impl Model for World {
 impl World {
     ghost use Rattle.std.specs.Prelude.{◌≡◌, ◌<◌, IfOk, IfErr, OnErr, Some, Ok, length, slice_get};
     ghost use Rattle.dac_config.specs.Table.{node_count};
-    ghost use Rattle.dac_core.specs.ModelWorld.{Shows, start, Follows, RanAs, happens, happens_by, heard_by, message_at, out_of_memory};
+    ghost use Rattle.dac_core.specs.ModelWorld.{Shows, start, Follows, RanAs, happens, happens_by, heard_by, handed_by, counted, out_of_memory};
     ghost use Rattle.dac_core.specs.SetWorld.{set_run, no_sets};
-    ghost use Rattle.dac_core.specs.Convergence.{EachIsMeaning, Agrees, DistinctDots, HoldsSets};
+    ghost use Rattle.dac_core.specs.Convergence.{EachIsMeaning, Agrees, DistinctDots, HoldsSets, CarryMeanings};
+    ghost use Rattle.dac_core.specs.News.{AnswersNews};
     ghost use Rattle.dac_core.specs.WorldChanges.{Goes};
 
     /// All controllers of the configuration, off and never booted.
@@ -80,6 +83,10 @@ impl World {
         ensures distinct { IfOk result (λ both. DistinctDots both.0.operations) }
         // Each controller holds the set that the world of sets has at its node.
         ensures sets { IfOk result (λ both. HoldsSets both.0 (set_run no_sets events.now both.1.items)) }
+        // Each shipped message's body is the meaning of a set of issued operations.
+        ensures bodies { IfOk result (λ both. CarryMeanings both.0) }
+        // Each answer to what was heard tells whether it brought a dot that the controller hadn't heard.
+        ensures news { IfOk result (λ both. AnswersNews no_sets events.now both.1.items) }
     {
         let mut world = World::new(alloc, config)?;
         let mut answers = Vec::with_capacity(alloc, events.len())?;
@@ -102,9 +109,11 @@ impl World {
         }
         match event.what {
             What::Boot { now } => self.happen(config, node, &Event::Boot { now }),
+            What::Crash => self.happen(config, node, &Event::Crash),
             What::Command(command) => self.happen(config, node, &Event::Command(command)),
             What::Ship { to } => self.happen(config, node, &Event::Ship { to }),
             What::Deliver(number) => self.deliver(config, node, number),
+            What::Hand(number) => self.hand(config, node, number),
         }
     }
 
@@ -146,7 +155,7 @@ impl World {
     /// The message of this number comes to a node.
     fn deliver(&mut self, config: &Config, node: NodeId, number: u64) -> Result<Reply, WorldFault>
         requires { node.0 < length self.old.nodes }
-        ensures follows { Follows self.old (λ w. happens_by config.now w node (heard_by (message_at self.old.messages number))) result self.new }
+        ensures follows { Follows self.old (λ w. happens_by config.now w node (heard_by (counted self.old.messages number))) result self.new }
         ensures unchanged { OnErr result (self.new ≡ self.old) }
         ensures count { length self.new.nodes ≡ length self.old.nodes }
     {
@@ -160,22 +169,53 @@ impl World {
         }
     }
 
-    /// Does what a node prepared. All that may want memory comes before the first change.
+    /// The operation of this number comes to a node by itself.
+    fn hand(&mut self, config: &Config, node: NodeId, number: u64) -> Result<Reply, WorldFault>
+        requires { node.0 < length self.old.nodes }
+        ensures follows { Follows self.old (λ w. happens_by config.now w node (handed_by (counted self.old.operations number))) result self.new }
+        ensures unchanged { OnErr result (self.new ≡ self.old) }
+        ensures count { length self.new.nodes ≡ length self.old.nodes }
+    {
+        if number == 0 || number > self.operations.len() as u64 {
+            return Err(WorldFault::NoSuchOperation);
+        }
+        let operation = &self.operations[number as usize - 1];
+        match self.nodes[node.0 as usize].prepare_hear_op(operation) {
+            Ok(change) => self.go_on(node, change),
+            Err(why) => Err(WorldFault::Refused(why)),
+        }
+    }
+
+    /// Does what a node prepared. All that may want memory comes before the first change; a crash wants
+    /// none.
     fn go_on(&mut self, node: NodeId, change: Change) -> Result<Reply, WorldFault>
         requires { node.0 < length self.old.nodes }
         ensures ok { IfOk result (λ reply. Goes self.old node change reply self.new) }
         ensures err { IfErr result (λ fault. Err fault ≡ out_of_memory) }
+        ensures crash { IfErr result (λ _. change.reply ≡ Reply.Crashed → ⊥) }
         ensures unchanged { OnErr result (self.new ≡ self.old) }
     {
+        if change.is_crash() {
+            return Ok(change_node(&mut self.nodes, node, change));
+        }
         match make_room(&mut self.operations, &mut self.messages, change) {
             Ok((change, noted)) => {
-                let reply = self.nodes[node.0 as usize].apply(change);
+                let reply = change_node(&mut self.nodes, node, change);
                 note(&mut self.operations, &mut self.messages, noted);
                 Ok(reply)
             }
             Err(NoMemory) => Err(WorldFault::Refused(Refusal::NoMemory)),
         }
     }
+}
+
+/// Does what a node prepared.
+fn change_node(nodes: &mut Vec<Node>, node: NodeId, change: Change) -> Reply
+    requires { node.0 < length nodes.old.items }
+    ensures reply { result ≡ change.reply }
+    ensures nodes { NodeChanges nodes.old.items node change nodes.new.items }
+{
+    nodes[node.0 as usize].apply(change)
 }
 
 /// Makes room for what a change's reply issues and ships, and copies the reply.
@@ -214,16 +254,16 @@ fn note(operations: &mut Vec<Op>, messages: &mut Vec<Message>, reply: Reply)
         Reply::Shipped(message) => {
             let _ = messages.push(message);
         }
-        Reply::Heard(_) => {}
+        Reply::Crashed | Reply::Heard(_) => {}
     }
 }
 
 #[cfg(test)]
 mod tests {
     use super::*;
-    use crate::event::Command;
     use dac_base::AppId;
     use dac_config::read_config;
+    use dac_events::Command;
     use dac_lattice::Lattice;
     use std::process::Abort;
     use std::test::Fail;
@@ -284,12 +324,14 @@ mod tests {
     fn told(answer: &Result<Reply, WorldFault>) -> (&'static str, u64) {
         match answer {
             Ok(Reply::Booted(operation)) => ("booted", operation.dot().n),
+            Ok(Reply::Crashed) => ("crashed", 0),
             Ok(Reply::Issued(operation)) => ("issued", operation.dot().n),
             Ok(Reply::Shipped(message)) => ("shipped to", message.to.0 as u64),
             Ok(Reply::Heard(true)) => ("heard new", 0),
             Ok(Reply::Heard(false)) => ("heard nothing new", 0),
             Err(WorldFault::NoSuchNode) => ("no such node", 0),
             Err(WorldFault::NoSuchMessage) => ("no such message", 0),
+            Err(WorldFault::NoSuchOperation) => ("no such operation", 0),
             Err(WorldFault::Refused(why)) => ("refused", why.number() as u64),
         }
     }

@@ -1,7 +1,1 @@
-pub mod Rising
-pub mod Sets
-pub mod Wishes
-pub mod Incarnations
-pub mod Alone
-pub mod SpellingLemmas
-pub mod Membership
+mod Making

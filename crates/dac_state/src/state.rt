@@ -1,62 +1,81 @@
 //! What a set of operations adds up to.
+ghost use Rattle.std.specs.Prelude.{◌≡◌, ◌∷◌, [], IfOk};
+ghost use Rattle.dac_meaning.specs.StateValue.{permissions_of, wishes_of};
+ghost use Rattle.dac_meaning.specs.Meaning.{meaning_of};
+ghost use Rattle.dac_state.specs.Parts.{AreParts, state_of};
 
-use crate::dot_list::DotList;
-use crate::lives::Lives;
-use crate::operations::{Act, Op};
-use crate::starts::{Key, Start, StartSet};
-use dac_base::{NoMemory, NodeId};
-use dac_dots::{Context, Dot};
-use dac_lattice::{Bottom, Lattice};
+use dac_base::NoMemory;
+use dac_chains::{Claims, Lives};
+use dac_dots::Context;
+use dac_lattice::{Bottom, Lattice, Piece};
+use dac_meaning::laws;
+use dac_operations::Op;
+use dac_wishes::{Permissions, Wishes};
 use std::alloc::Global;
 use std::marker::Model;
 
-/// What a controller keeps of the operations that it has heard: their dots, the dots that they name, the
-/// start wishes that none of them replaces, and the greatest incarnation of each node that came up.
+/// What a controller keeps of the operations that it has heard: their dots, the permits and the start
+/// wishes that none of them replaces, each beside the dots that they name, the life of each node and the
+/// greatest claim of each application.
 ///
-/// States are a lattice. A join knows what either side knows, and a wish that one side has stands in it
-/// unless the other side knows its dot and has it no more. Contracts see a state as a record of finite sets
-/// and maps, so states with equal parts are equal.
+/// States are a lattice. A join knows what either side knows, and a permit or wish that one side has
+/// stands in it unless the other side knows its dot and has it no more. Contracts see a state as a record
+/// of finite sets and maps, so states with equal parts are equal.
 #[derive(Drop)]
 pub struct State {
-    pub(crate) heard: Context,
-    pub(crate) known: Context,
-    pub(crate) starts: StartSet,
-    pub(crate) lives: Lives,
+    heard: Context,
+    permissions: Permissions,
+    wishes: Wishes,
+    lives: Lives,
+    claims: Claims,
 }
 
 impl Model for State {
-    ghost use Rattle.dac_state.specs.StateValue.{StateValue, IsState, coded_state};
+    ghost use Rattle.dac_meaning.specs.StateValue.{StateValue, coded_state};
+    ghost use Rattle.dac_state.specs.Parts.{AreParts, state_of};
 
     ghost Value = { StateValue };
 
     ghost coded = { coded_state };
 
-    ghost view = { λ a. record { heard = a.heard; known = a.known; starts = a.starts; lives = a.lives } };
+    ghost view = { λ a. state_of a.heard a.permissions a.wishes a.lives a.claims };
 
-    ghost invariant = { λ a. IsState (record { heard = a.heard; known = a.known; starts = a.starts; lives = a.lives }) };
+    // permissions and wishes know the same dots
+    ghost invariant = { λ a. AreParts a.heard a.permissions a.wishes a.lives a.claims };
 }
 
 impl State {
-    ghost use Rattle.std.specs.Prelude.{◌≡◌, ◌∷◌, [], IfOk, length};
-    ghost use Rattle.std.specs.FinMap as map;
-    ghost use Rattle.dac_dots.specs.InOrder.{in_order};
-    ghost use Rattle.dac_state.specs.Starts.{dots_at};
-    ghost use Rattle.dac_state.specs.Meaning.{meaning_of};
-    ghost use Rattle.dac_state.specs.Wishes.{is_wished};
-
     /// What one operation means alone. [`NoMemory`] is the only error.
     pub fn delta_of(alloc: Global, op: &Op) -> Result<Self, NoMemory>
         ensures { IfOk result (λ state. state ≡ meaning_of (op.now ∷ [])) }
     {
-        op.known();
-        let dot = op.dot();
-        let act = op.act();
-        Ok(State {
-            heard: heard_by(alloc, dot)?,
-            known: known_by(alloc, dot, act)?,
-            starts: wishes_by(alloc, dot, act)?,
-            lives: lives_by(alloc, dot, act)?,
-        })
+        laws::parts_of_meaning();
+        let heard = heard_by(alloc, op)?;
+        let permissions = permissions_by(alloc, op)?;
+        let wishes = wishes_by(alloc, op)?;
+        let lives = lives_by(alloc, op)?;
+        let claims = claims_by(alloc, op)?;
+        Ok(State::of(heard, permissions, wishes, lives, claims))
+    }
+
+    /// The state of these parts. It takes no memory.
+    pub(crate) fn of(
+        heard: Context,
+        permissions: Permissions,
+        wishes: Wishes,
+        lives: Lives,
+        claims: Claims,
+    ) -> Self
+        requires { AreParts heard permissions wishes lives claims }
+        ensures { result ≡ state_of heard permissions wishes lives claims }
+    {
+        State {
+            heard,
+            permissions,
+            wishes,
+            lives,
+            claims,
+        }
     }
 
     /// The dots of the operations heard.
@@ -70,43 +89,41 @@ impl State {
     pub fn known(&self) -> &Context
         ensures { result.now ≡ self.now.known }
     {
-        &self.known
+        self.wishes.context()
     }
 
-    /// The greatest incarnation of the node that came up, or `None` where it never did.
-    pub fn life(&self, node: NodeId) -> Option<u32>
-        ensures { result ≡ map.get self.now.lives node }
+    /// The permits that stand.
+    pub fn permissions(&self) -> &Permissions
+        ensures { result.now ≡ permissions_of self.now }
     {
-        self.lives.get(node)
+        &self.permissions
     }
 
-    /// Whether some start wish of the key stands.
-    pub fn wished(&self, key: Key) -> bool
-        ensures { result ≡ is_wished key self.now }
+    /// The start wishes that stand.
+    pub fn wishes(&self) -> &Wishes
+        ensures { result.now ≡ wishes_of self.now }
     {
-        self.starts.has(key)
+        &self.wishes
     }
 
-    /// How many start wishes of the key stand. It takes no memory.
-    pub fn standing_count(&self, key: Key) -> usize
-        ensures { result ≡ length (in_order (dots_at key self.now.starts)) }
+    /// The life of each node.
+    pub fn lives(&self) -> &Lives
+        ensures { result.now ≡ self.now.lives }
     {
-        self.starts.count(key)
+        &self.lives
     }
 
-    /// The dots of the start wishes of the key that stand, in ascending order. [`NoMemory`] is the only
-    /// error.
-    pub fn standing(&self, key: Key) -> Result<DotList, NoMemory>
-        ensures { IfOk result (λ dots. dots ≡ in_order (dots_at key self.now.starts)) }
+    /// The greatest claim of each application.
+    pub fn claims(&self) -> &Claims
+        ensures { result.now ≡ self.now.claims }
     {
-        self.starts.dots(key)
+        &self.claims
     }
 }
 
 impl Lattice for State {
-    ghost use Rattle.dac_state.specs.StateValue.{IsState, join};
-    ghost use Rattle.dac_state.specs.Order.{IsBelow};
-    ghost use Rattle.dac_state.specs.StateLaws.{state_laws};
+    ghost use Rattle.dac_meaning.specs.StateValue.{IsState, IsBelow, join};
+    ghost use Rattle.dac_meaning.specs.StateLaws.{state_laws};
 
     ghost is_value = { IsState };
 
@@ -117,29 +134,29 @@ impl Lattice for State {
     ghost laws = { state_laws };
 
     fn known(&self) {
-        let _starts = &self.starts;
+        let _heard = &self.heard;
     }
 
     fn join(&self, other: &Self) -> Result<Self, NoMemory> {
-        Ok(State {
-            heard: self.heard.union(&other.heard)?,
-            known: self.known.union(&other.known)?,
-            starts: self.starts.join(&self.known, &other.starts, &other.known)?,
-            lives: self.lives.join(&other.lives)?,
-        })
+        let heard = self.heard.union(&other.heard)?;
+        let permissions = self.permissions.join(&other.permissions)?;
+        let wishes = self.wishes.join(&other.wishes)?;
+        let lives = self.lives.join(&other.lives)?;
+        let claims = self.claims.join(&other.claims)?;
+        Ok(State::of(heard, permissions, wishes, lives, claims))
     }
 
     fn leq(&self, other: &Self) -> bool {
         if !self.heard.is_subset(&other.heard) {
             return false;
         }
-        if !self.known.is_subset(&other.known) {
+        if !self.permissions.leq(&other.permissions) {
             return false;
         }
-        if !self.lives.leq(&other.lives) {
+        if !self.wishes.leq(&other.wishes) {
             return false;
         }
-        self.starts.lets_all_stand(&self.known, &other.starts)
+        self.lives.leq(&other.lives) && self.claims.leq(&other.claims)
     }
 
     fn equal(&self, other: &Self) -> bool {
@@ -149,18 +166,18 @@ impl Lattice for State {
     }
 
     fn copy(&self) -> Result<Self, NoMemory> {
-        Ok(State {
-            heard: self.heard.copy()?,
-            known: self.known.copy()?,
-            starts: self.starts.copy()?,
-            lives: self.lives.copy()?,
-        })
+        let heard = self.heard.copy()?;
+        let permissions = self.permissions.copy()?;
+        let wishes = self.wishes.copy()?;
+        let lives = self.lives.copy()?;
+        let claims = self.claims.copy()?;
+        Ok(State::of(heard, permissions, wishes, lives, claims))
     }
 }
 
 impl Bottom for State {
-    ghost use Rattle.dac_state.specs.StateValue.{bottom};
-    ghost use Rattle.dac_state.specs.StateLaws.{bottom_least, bottom_value};
+    ghost use Rattle.dac_meaning.specs.StateValue.{bottom};
+    ghost use Rattle.dac_meaning.specs.StateLaws.{bottom_least, bottom_value};
 
     ghost bottom = { bottom };
 
@@ -169,262 +186,64 @@ impl Bottom for State {
     ghost bottom_value = { bottom_value };
 
     fn bottom(alloc: Global) -> Self {
-        State {
-            heard: Context::empty(alloc),
-            known: Context::empty(alloc),
-            starts: StartSet::empty(alloc),
-            lives: Lives::empty(alloc),
-        }
+        State::of(
+            Context::empty(alloc),
+            Permissions::bottom(alloc),
+            Wishes::bottom(alloc),
+            Lives::bottom(alloc),
+            Claims::bottom(alloc),
+        )
     }
-}
-
-ghost use Rattle.std.specs.Prelude.{◌≡◌, IfOk};
-ghost use Rattle.std.specs.FinSet as set;
-ghost use Rattle.std.specs.FinMap as map;
-ghost use Rattle.dac_base.specs.declared.NodeId.{NodeId};
-ghost use Rattle.dac_state.specs.Operations.{operation, over_of};
-ghost use Rattle.dac_state.specs.Meaning.{is_wish};
-ghost use Rattle.dac_state.specs.Lives.{came_up};
-
-/// The set of the dots of a list.
-fn context_of(alloc: Global, dots: &[Dot]) -> Result<Context, NoMemory>
-    ensures { IfOk result (λ context. context ≡ set.from_list dots.now) }
-{
-    let mut context = Context::empty(alloc);
-    for dot in dots {
-        context.insert(*dot)?;
-    }
-    Ok(context)
 }
 
 /// The dot of an operation.
-fn heard_by(alloc: Global, dot: Dot) -> Result<Context, NoMemory>
-    ensures { IfOk result (λ heard. heard ≡ set.insert set.empty dot) }
+fn heard_by(alloc: Global, op: &Op) -> Result<Context, NoMemory>
+    ensures { IfOk result (λ heard. heard ≡ (meaning_of (op.now ∷ [])).heard) }
 {
+    laws::delta_is_meaning();
     let mut heard = Context::empty(alloc);
-    heard.insert(dot)?;
+    heard.insert(op.dot())?;
     Ok(heard)
 }
 
-/// The dots that an operation names: its own and those that it replaces.
-fn known_by(alloc: Global, dot: Dot, act: &Act) -> Result<Context, NoMemory>
-    ensures { IfOk result (λ known. known ≡ set.insert (over_of act.now) dot) }
+/// What an operation permits and knows.
+fn permissions_by(alloc: Global, op: &Op) -> Result<Permissions, NoMemory>
+    ensures { IfOk result (λ permissions. permissions ≡ permissions_of (meaning_of (op.now ∷ []))) }
 {
-    let mut known = context_of(alloc, act.over())?;
-    known.insert(dot)?;
-    Ok(known)
+    laws::delta_is_meaning();
+    op.known();
+    let act = op.permit_act(alloc)?;
+    let permissions = Permissions::delta(alloc, op.dot(), &act)?;
+    Ok(permissions)
 }
 
-/// What an operation wishes.
-fn wishes_by(alloc: Global, dot: Dot, act: &Act) -> Result<StartSet, NoMemory>
-    ensures { IfOk result (λ starts. (q : Start) → set.contains starts q ≡ is_wish q (operation dot act.now)) }
+/// What an operation wishes and knows.
+fn wishes_by(alloc: Global, op: &Op) -> Result<Wishes, NoMemory>
+    ensures { IfOk result (λ wishes. wishes ≡ wishes_of (meaning_of (op.now ∷ []))) }
 {
-    let mut starts = StartSet::empty(alloc);
-    match act {
-        Act::Up => Ok(starts),
-        Act::Start { key, over: _ } => {
-            starts.insert(Start { key: *key, dot })?;
-            Ok(starts)
-        }
-        Act::Stop { key: _, over: _ } => Ok(starts),
-    }
+    laws::delta_is_meaning();
+    op.known();
+    let act = op.wish_act(alloc)?;
+    let wishes = Wishes::delta(alloc, op.dot(), &act)?;
+    Ok(wishes)
 }
 
-/// What came up by an operation.
-fn lives_by(alloc: Global, dot: Dot, act: &Act) -> Result<Lives, NoMemory>
-    ensures { IfOk result (λ lives. (n : NodeId) → map.get lives n ≡ came_up n (operation dot act.now)) }
+/// What an operation says of a node's life.
+fn lives_by(alloc: Global, op: &Op) -> Result<Lives, NoMemory>
+    ensures { IfOk result (λ lives. lives ≡ (meaning_of (op.now ∷ [])).lives) }
 {
-    if !act.is_up() {
-        return Ok(Lives::empty(alloc));
-    }
-    let lives = Lives::one(alloc, dot.origin.node, dot.origin.inc)?;
+    laws::delta_is_meaning();
+    let act = op.life_act();
+    let lives = Lives::delta(alloc, op.dot(), &act)?;
     Ok(lives)
 }
 
-#[cfg(test)]
-mod tests {
-    use super::*;
-    use crate::laws;
-    use dac_base::AppId;
-    use dac_dots::Origin;
-    use std::test::Fail;
-
-    const KEY: Key = Key {
-        app: AppId(0),
-        node: NodeId(1),
-        inc: 1,
-    };
-
-    /// A dot of node 0, incarnation 1.
-    fn dot(n: u64) -> Dot {
-        let node = NodeId(0);
-        Dot {
-            origin: Origin { node, inc: 1 },
-            n,
-        }
-    }
-
-    fn up(alloc: Global) -> Result<State, Fail> {
-        let op = Op::new(dot(1), Act::Up)?;
-        Ok(State::delta_of(alloc, &op)?)
-    }
-
-    fn list(alloc: Global, dots: &[Dot]) -> Result<DotList, Fail> {
-        Ok(DotList::new(Vec::from_slice(alloc, dots)?))
-    }
-
-    fn start(alloc: Global, n: u64, over: &[Dot]) -> Result<State, Fail> {
-        let over = list(alloc, over)?;
-        let op = Op::new(dot(n), Act::Start { key: KEY, over })?;
-        Ok(State::delta_of(alloc, &op)?)
-    }
-
-    fn stop(alloc: Global, n: u64, over: &[Dot]) -> Result<State, Fail> {
-        let over = list(alloc, over)?;
-        let op = Op::new(dot(n), Act::Stop { key: KEY, over })?;
-        Ok(State::delta_of(alloc, &op)?)
-    }
-
-    /// Two starts of one key, neither of which replaces the other.
-    fn both(alloc: Global) -> Result<State, Fail> {
-        let first = start(alloc, 2, &[])?;
-        let second = start(alloc, 3, &[])?;
-        Ok(first.join(&second)?)
-    }
-
-    /// Both, and a stop of the first.
-    fn stopped(alloc: Global) -> Result<State, Fail> {
-        let both = both(alloc)?;
-        let stop = stop(alloc, 4, &[dot(2)])?;
-        Ok(both.join(&stop)?)
-    }
-
-    /// The first start comes once more.
-    fn started_again(alloc: Global, state: &State) -> Result<State, Fail> {
-        let start = start(alloc, 2, &[])?;
-        Ok(start.join(state)?)
-    }
-
-    /// A stop, and then the start that it names.
-    fn stopped_first(alloc: Global) -> Result<State, Fail> {
-        let stop = stop(alloc, 3, &[dot(2)])?;
-        let start = start(alloc, 2, &[])?;
-        Ok(stop.join(&start)?)
-    }
-
-    fn known_dots(state: &State) -> Result<Vec<Dot>, NoMemory> {
-        state.known().dots()
-    }
-
-    /// Joins through the bound, as callers of any lattice do.
-    fn join_both<L: Bottom>(alloc: Global, first: &L, second: &L) -> Result<L, NoMemory> {
-        let joined = L::bottom(alloc).join(first)?.join(second)?;
-        Ok(joined)
-    }
-
-    /// Whether the states joined into nothing, one after the other, are their join in the other order.
-    fn is_join_from_nothing(
-        alloc: Global,
-        first: &State,
-        second: &State,
-    ) -> Result<bool, NoMemory> {
-        let joined = join_both(alloc, first, second)?;
-        let other = second.join(first)?;
-        Ok(joined.equal(&other))
-    }
-
-    /// Whether the order agrees with the join, through the bound.
-    fn is_joined_above<L: Lattice>(low: &L, high: &L) -> Result<bool, NoMemory> {
-        low.known();
-        high.known();
-        let joined = low.join(high)?;
-        let copied = high.copy()?;
-        Ok(low.leq(high) && joined.equal(high) && copied.equal(high))
-    }
-
-    #[test]
-    fn an_up_hears_itself(rt: HostRuntime) -> Result<(), Fail> {
-        let state = up(rt.alloc())?;
-        assert_eq!(rt; state.heard().dots()?.as_slice(), [dot(1)].as_slice());
-        Ok(())
-    }
-
-    #[test]
-    fn an_up_is_a_life(rt: HostRuntime) -> Result<(), Fail> {
-        let state = up(rt.alloc())?;
-        assert_eq!(rt; state.life(NodeId(0)), Some(1));
-        assert_eq!(rt; state.life(NodeId(1)), None);
-        Ok(())
-    }
-
-    #[test]
-    fn starts_stand(rt: HostRuntime) -> Result<(), Fail> {
-        let both = both(rt.alloc())?;
-        assert!(rt; both.wished(KEY));
-        assert_eq!(rt; both.standing_count(KEY), 2);
-        Ok(())
-    }
-
-    #[test]
-    fn a_stop_ends_what_it_names(rt: HostRuntime) -> Result<(), Fail> {
-        let stopped = stopped(rt.alloc())?;
-        assert_eq!(rt; stopped.standing(KEY)?.as_slice(), [dot(3)].as_slice());
-        Ok(())
-    }
-
-    #[test]
-    fn what_is_stopped_stays_so(rt: HostRuntime) -> Result<(), Fail> {
-        let stopped = stopped(rt.alloc())?;
-        let again = started_again(rt.alloc(), &stopped)?;
-        assert!(rt; again.equal(&stopped));
-        Ok(())
-    }
-
-    #[test]
-    fn a_stop_knows_what_it_names(rt: HostRuntime) -> Result<(), Fail> {
-        let known = known_dots(&stop(rt.alloc(), 3, &[dot(2)])?)?;
-        assert_eq!(rt; known.as_slice(), [dot(2), dot(3)].as_slice());
-        Ok(())
-    }
-
-    #[test]
-    fn a_stop_may_come_first(rt: HostRuntime) -> Result<(), Fail> {
-        let joined = stopped_first(rt.alloc())?;
-        assert!(rt; !joined.wished(KEY));
-        Ok(())
-    }
-
-    #[test]
-    fn a_stop_is_above(rt: HostRuntime) -> Result<(), Fail> {
-        let both = both(rt.alloc())?;
-        let stopped = stopped(rt.alloc())?;
-        assert!(rt; is_joined_above(&both, &stopped)?);
-        assert!(rt; !stopped.leq(&both));
-        Ok(())
-    }
-
-    #[test]
-    fn joins_from_nothing(rt: HostRuntime) -> Result<(), Fail> {
-        let up = up(rt.alloc())?;
-        let start = start(rt.alloc(), 2, &[])?;
-        assert!(rt; is_join_from_nothing(rt.alloc(), &start, &up)?);
-        Ok(())
-    }
-
-    #[test]
-    fn an_up_is_something(rt: HostRuntime) -> Result<(), Fail> {
-        let up = up(rt.alloc())?;
-        let nothing = State::bottom(rt.alloc());
-        assert!(rt; !up.equal(&nothing));
-        Ok(())
-    }
-
-    #[test]
-    fn laws_are_told() {
-        laws::parts_of_meaning();
-        laws::wishes_of_meaning();
-        laws::order_and_repeats();
-        laws::join_of_meanings();
-        laws::order_of_states();
-    }
+/// What an operation claims.
+fn claims_by(alloc: Global, op: &Op) -> Result<Claims, NoMemory>
+    ensures { IfOk result (λ claims. claims ≡ (meaning_of (op.now ∷ [])).claims) }
+{
+    laws::delta_is_meaning();
+    let act = op.claim_act();
+    let claims = Claims::delta(alloc, op.dot(), &act)?;
+    Ok(claims)
 }

@@ -1,7 +1,7 @@
 use Rattle.std.proofs.Common.{◌≡◌, [], ◌∷◌, sym, ap, subst, ◌∙◌}
-use Rattle.dac_state.specs.Operations.{Operation}
-use Rattle.dac_state.specs.StateValue.{join, bottom}
-use Rattle.dac_state.specs.Meaning.{meaning_of}
+use Rattle.dac_operations.specs.Operations.{Operation}
+use Rattle.dac_meaning.specs.StateValue.{join, bottom}
+use Rattle.dac_meaning.specs.Meaning.{meaning_of}
 use Rattle.dac_core.specs.NodeValue.{KnowsItself}
 use Rattle.dac_core.specs.ModelNode.{up}
 use Rattle.dac_core.proofs.Issues.{knows-boot}

@@ -1,7 +1,7 @@
 use Rattle.std.proofs.Common.{◌≡◌, ◌+◌, false, sym, ap, subst, ◌∙◌}
 use Rattle.dac_dots.specs.declared.dot.Dot.{Dot}
 use Rattle.dac_dots.specs.Dots.{dot}
-use Rattle.dac_state.specs.Operations.{operation, fault_of}
+use Rattle.dac_operations.specs.Operations.{operation, fault_of}
 use Rattle.dac_core.specs.NodeValue.{RunValue}
 use Rattle.dac_core.specs.ModelNode.{used_up, greatest_counter}
 use Rattle.dac_core.proofs.Issues.{next_there, next_dot}

@@ -1,29 +1,32 @@
-use Rattle.std.proofs.Common.{◌≡◌, ◌<◌, ◌++◌, ap, sym, subst, ◌∙◌, length, get_or, cond, nat_eq, Some}
-use Rattle.std.specs.List.{slice_get}
-use Rattle.std.proofs.Math.ListN.{length-set}
+use Rattle.std.proofs.Common.{◌≡◌, ◌++◌, List, [], ap, sym, subst, ◌∙◌, append-nil}
+use Rattle.std.specs.Prelude.{refl}
+use Rattle.dac_core.specs.declared.event.Reply.{Reply}
+use Rattle.dac_core.specs.declared.event.Reply.TheVariants.{Crashed}
 use Rattle.dac_core.specs.declared.change.Change.{Change}
-use Rattle.dac_core.specs.Changes.{changed}
+use Rattle.dac_core.specs.NodeValue.{NodeValue}
 use Rattle.dac_core.specs.WorldValue.{WorldValue}
+use Rattle.dac_core.specs.WorldChanges.{NodeChanges}
 use Rattle.dac_core.specs.ModelWorld.{issued_by, shipped_by}
-use Rattle.dac_core.proofs.Lists.{slice_get-set}
-use Rattle.dac_core.proofs.Follow.{node_at, changed_at}
 use Rattle.dac_core.proofs.world.World.go_on.Goals as goal
 
-pub returns-in-Ok-clause-ok : goal.returns-in-Ok-clause-ok
-returns-in-Ok-clause-ok c =
+nothing_noted : {X : Type 0} (xs ys : List X) (more : Reply → List X) (reply : Reply) → ys ≡ xs → reply ≡ Crashed → more Crashed ≡ [] → ys ≡ xs ++ more reply
+nothing_noted xs ys more reply same crashed none = same ∙ (sym (append-nil xs) ∙ ap (λ zs. xs ++ zs) (sym (ap more crashed ∙ none)))
+
+pub returns-then-is_crash-clause-ok : goal.returns-then-is_crash-clause-ok
+returns-then-is_crash-clause-ok c =
     let v = c.args.self.now in
-    let me = c.args.node in
-    let old = c.index_mut.result.now in
-    let items = c.self.inside.nodes.items in
-    let here = node_at v me old c.requires (subst (λ (x : WorldValue). old ≡ get_or x.nodes me.0 old) c.self.view_is c.index_mut.ensures.value) in
-    let new : c.apply-reply.new.self ≡ changed old c.args.change = c.apply-reply.ensures.new ∙ ap (changed old) c.in-Ok.ensures.same in
-    let lt : me.0 < length items = subst (λ (x : WorldValue). me.0 < length x.nodes) (sym c.self.view_is) c.requires in
+    let crashed : c.args.change.reply ≡ Crashed = c.is_crash.ensures.0 c.if-is_crash.true in
     record {
-      reply = c.apply-reply.ensures.reply ∙ ap (λ (x : Change). x.reply) c.in-Ok.ensures.same;
-      count = length-set items me.0 c.apply-reply.new.self ∙ ap (λ (x : WorldValue). length x.nodes) c.self.view_is;
-      nodes = λ n. slice_get-set items me.0 n c.apply-reply.new.self lt
-          ∙ (ap (λ (x : WorldValue). cond (nat_eq n me.0) (Some c.apply-reply.new.self) (slice_get x.nodes n)) c.self.view_is
-          ∙ sym (changed_at v me old c.args.change here.there c.apply-reply.new.self new n));
-      operations = c.note.ensures.operations ∙ (λ i. (c.make_room.ensures.operations ∙ ap (λ (x : WorldValue). x.operations) c.self.view_is) i ++ issued_by (c.in-Ok.ensures.copied i));
-      messages = c.note.ensures.messages ∙ (λ i. (c.make_room.ensures.messages ∙ ap (λ (x : WorldValue). x.messages) c.self.view_is) i ++ shipped_by (c.in-Ok.ensures.copied i));
+      reply = c.change_node.ensures.reply;
+      nodes = subst (λ (nodes : List NodeValue). NodeChanges nodes c.args.node c.args.change c.change_node.new.nodes.items) (ap (λ (x : WorldValue). x.nodes) c.self.view_is) c.change_node.ensures.nodes;
+      operations = nothing_noted v.operations c.self.inside.operations.items issued_by c.args.change.reply (ap (λ (x : WorldValue). x.operations) c.self.view_is) crashed refl;
+      messages = nothing_noted v.messages c.self.inside.messages.items shipped_by c.args.change.reply (ap (λ (x : WorldValue). x.messages) c.self.view_is) crashed refl;
     }
+
+pub returns-in-Ok-clause-ok : goal.returns-in-Ok-clause-ok
+returns-in-Ok-clause-ok c = record {
+  reply = c.change_node-reply.ensures.reply ∙ ap (λ (x : Change). x.reply) c.in-Ok.ensures.same;
+  nodes = subst (λ (p : List NodeValue × Change). NodeChanges p.0 c.args.node p.1 c.change_node-reply.new.nodes.items) (λ i. (ap (λ (x : WorldValue). x.nodes) c.self.view_is i, c.in-Ok.ensures.same i)) c.change_node-reply.ensures.nodes;
+  operations = c.note.ensures.operations ∙ (λ i. (c.make_room.ensures.operations ∙ ap (λ (x : WorldValue). x.operations) c.self.view_is) i ++ issued_by (c.in-Ok.ensures.copied i));
+  messages = c.note.ensures.messages ∙ (λ i. (c.make_room.ensures.messages ∙ ap (λ (x : WorldValue). x.messages) c.self.view_is) i ++ shipped_by (c.in-Ok.ensures.copied i));
+}

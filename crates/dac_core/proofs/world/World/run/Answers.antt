@@ -2,8 +2,8 @@ use Rattle.std.proofs.Common.{◌≡◌, ℕ, ◌+◌, ◌≤◌, List, cond, tr
 use Rattle.std.specs.Prelude.{is_ok}
 use Rattle.std.proofs.lemmas.List.{get_or_default}
 use Rattle.dac_config.specs.Table.{Table}
-use Rattle.dac_core.specs.declared.world_event.WorldEvent.{WorldEvent}
-use Rattle.dac_core.specs.declared.world_event.What.TheVariants.{Boot}
+use Rattle.dac_events.specs.declared.WorldEvent.{WorldEvent}
+use Rattle.dac_events.specs.declared.What.TheVariants.{Boot}
 use Rattle.dac_core.specs.WorldValue.{WorldValue}
 use Rattle.dac_core.specs.ModelWorld.{RanAs}
 use Rattle.dac_core.proofs.Runs.{ran_turn}
@@ -37,3 +37,9 @@ returns-clause-distinct c = (headline c.args.config.now c.args.events.now c.loop
 
 pub returns-clause-sets : goal.returns-clause-sets
 returns-clause-sets c = (headline c.args.config.now c.args.events.now c.loop-event.answers.items c.loop-event.world (whole c.args.config.now c.args.events.now c.loop-event.answers.items c.loop-event.world c.loop-event.event-index c.loop-event-test.false c.loop-event.invariant.ran)).sets
+
+pub returns-clause-bodies : goal.returns-clause-bodies
+returns-clause-bodies c = (headline c.args.config.now c.args.events.now c.loop-event.answers.items c.loop-event.world (whole c.args.config.now c.args.events.now c.loop-event.answers.items c.loop-event.world c.loop-event.event-index c.loop-event-test.false c.loop-event.invariant.ran)).bodies
+
+pub returns-clause-news : goal.returns-clause-news
+returns-clause-news c = (headline c.args.config.now c.args.events.now c.loop-event.answers.items c.loop-event.world (whole c.args.config.now c.args.events.now c.loop-event.answers.items c.loop-event.world c.loop-event.event-index c.loop-event-test.false c.loop-event.invariant.ran)).news

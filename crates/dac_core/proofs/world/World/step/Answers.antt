@@ -1,5 +1,5 @@
 use Rattle.std.proofs.Common.{◌<◌, length, rules, subst}
-use Rattle.dac_core.specs.declared.world_event.What.TheVariants.{Boot, Command, Ship, Deliver}
+use Rattle.dac_events.specs.declared.What.TheVariants.{Boot, Crash, Command, Ship, Deliver, Hand}
 use Rattle.dac_core.specs.WorldValue.{WorldValue}
 use Rattle.dac_core.proofs.Follow.{world_follows}
 use Rattle.dac_core.proofs.world.World.step.Goals as goal
@@ -31,3 +31,17 @@ returns-in-Deliver-clause-follows c =
     world_follows c.args.config.now c.args.self.now c.deliver.new.self c.args.event.now (Deliver c.in-Deliver.number) c.deliver.result
     (subst (λ (v : WorldValue). c.args.event.now.node.0 < length v.nodes) c.self.view_is inside)
     c.in-Deliver.is c.deliver.ensures.follows
+
+pub returns-in-Crash-clause-follows : goal.returns-in-Crash-clause-follows
+returns-in-Crash-clause-follows c =
+    let inside : c.args.event.now.node.0 < length c.self.inside.nodes.items = search rules in
+    world_follows c.args.config.now c.args.self.now c.happen-in-Crash.new.self c.args.event.now Crash c.happen-in-Crash.result
+    (subst (λ (v : WorldValue). c.args.event.now.node.0 < length v.nodes) c.self.view_is inside)
+    c.in-Crash.is c.happen-in-Crash.ensures.follows
+
+pub returns-in-Hand-clause-follows : goal.returns-in-Hand-clause-follows
+returns-in-Hand-clause-follows c =
+    let inside : c.args.event.now.node.0 < length c.self.inside.nodes.items = search rules in
+    world_follows c.args.config.now c.args.self.now c.hand.new.self c.args.event.now (Hand c.in-Hand.number) c.hand.result
+    (subst (λ (v : WorldValue). c.args.event.now.node.0 < length v.nodes) c.self.view_is inside)
+    c.in-Hand.is c.hand.ensures.follows

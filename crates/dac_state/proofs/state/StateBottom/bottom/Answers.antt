@@ -1,5 +1,6 @@
-use Rattle.dac_state.specs.StateLaws.{bottom_value}
+use Rattle.dac_meaning.specs.StateLaws.{bottom_value}
+use Rattle.dac_state.proofs.Making.{are_parts}
 use Rattle.dac_state.proofs.state.StateBottom.bottom.Goals as goal
 
-pub invariant_of-result : goal.invariant_of-result
-invariant_of-result c = rw (c.empty.ensures, c.empty-2.ensures, c.empty-3.ensures, c.empty-4.ensures) bottom_value
+pub of-requires : goal.of-requires
+of-requires c = are_parts (record { heard = c.empty.ensures; permissions = c.bottom.ensures; wishes = c.bottom-2.ensures; lives = c.bottom-3.ensures; claims = c.bottom-4.ensures }) bottom_value

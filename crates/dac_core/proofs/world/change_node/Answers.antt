@@ -1,0 +1,20 @@
+use Rattle.std.proofs.Common.{◌≡◌, sym, ◌∙◌, length, Some}
+use Rattle.std.proofs.Math.ListN.{length-set}
+use Rattle.std.specs.List.{slice_get}
+use Rattle.std.specs.Prelude.{refl}
+use Rattle.std.proofs.lemmas.Option.{slice_get_read}
+use Rattle.dac_core.specs.Changes.{changed}
+use Rattle.dac_core.proofs.Lists.{slice_get-set}
+use Rattle.dac_core.proofs.Follow.{changed_at}
+use Rattle.dac_core.proofs.world.change_node.Goals as goal
+
+pub returns-clause-nodes : goal.returns-clause-nodes
+returns-clause-nodes c =
+    let items = c.args.nodes.now.items in
+    let me = c.args.node in
+    let old = c.index_mut.result.now in
+    let there : slice_get items me.0 ≡ Some old = slice_get_read items (length items) me.0 old refl c.requires c.index_mut.ensures.value in
+    record {
+      count = length-set items me.0 c.apply.new.self;
+      each = λ n. slice_get-set items me.0 n c.apply.new.self c.requires ∙ sym (changed_at items me old c.args.change there c.apply.new.self c.apply.ensures.new n);
+    }

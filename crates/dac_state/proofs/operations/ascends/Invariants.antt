@@ -1,7 +1,0 @@
-use Rattle.std.proofs.Common.{◌≡◌, ◌-◌, drop}
-use Rattle.dac_dots.specs.Dots.{dot_cmp}
-use Rattle.dac_dots.specs.Keys.{is_rising}
-use Rattle.dac_state.proofs.operations.ascends.Given as goal
-
-abbrev pub invariant-loop-i : goal.invariant-loop-i
-invariant-loop-i l = is_rising dot_cmp l.dots ≡ is_rising dot_cmp (drop (l.i - 1) l.dots)
