@@ -1,0 +1,3 @@
+mod Playing
+mod Shares
+mod Simulating

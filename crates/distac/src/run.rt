@@ -2,15 +2,15 @@
 
 ghost use Rattle.std.specs.Prelude.{◌≡◌, ◌≤◌, map};
 ghost use Rattle.clap.specs.Words.{kind_of};
-ghost use Rattle.dac_script.specs.Checks.{EndsCheck};
-ghost use Rattle.dac_script.specs.Endings.{EndsWith};
-ghost use Rattle.dac_script.specs.Inputs.{EndsSim};
+ghost use Rattle.dac_play.specs.Checks.{EndsCheck};
+ghost use Rattle.dac_play.specs.Endings.{EndsWith};
+ghost use Rattle.dac_play.specs.Simulations.{EndsSim};
 ghost use Rattle.distac.specs.CommandLine.{check_words, sim_words};
 
 use crate::command_line::{Request, asked};
 use clap::Error;
 use clap::error::ErrorKind;
-use dac_script::{OUT_OF_MEMORY, check, simulate};
+use dac_play::{OUT_OF_MEMORY, check, simulate};
 use std::alloc::Global;
 use std::io::{Eprint, Print, Read, Write};
 

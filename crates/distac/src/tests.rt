@@ -12,6 +12,9 @@ use std::test::Fail;
 const EXAMPLE: &str =
     "[{kernel,\n[{distributed, [{myapp, 5000, [cp1@cave, {cp2@cave, cp3@cave}]}]},\n{sync_nodes_mandatory, [cp2@cave, cp3@cave]},\n{sync_nodes_timeout, 5000}\n]\n}\n].\n";
 
+/// Three nodes and one application, which waits for no node.
+const PLAIN: &str = "[{kernel,[{distributed,[{a,[c1@h,{c2@h,c3@h}]}]}]}].\n";
+
 /// A reader whose every read fails.
 #[derive(Drop)]
 struct Broken(ErrorKind);
@@ -72,12 +75,17 @@ fn simulated<R: Read>(rt: &HostRuntime, input: &mut R) -> (u8, Vec<u8>) {
     (status, output)
 }
 
-/// What `distac sim` writes for the example's configuration and this script, and its status.
-fn played(rt: &HostRuntime, script: &str) -> Result<(u8, Vec<u8>), Fail> {
-    let mut text = String::from_str(rt.alloc(), EXAMPLE)?;
+/// What `distac sim` writes for a configuration and a script, and its status.
+fn played_in(rt: &HostRuntime, config: &str, script: &str) -> Result<(u8, Vec<u8>), Fail> {
+    let mut text = String::from_str(rt.alloc(), config)?;
     text.push_str("--\n")?;
     text.push_str(script)?;
     Ok(simulated(rt, &mut text.as_bytes()))
+}
+
+/// What `distac sim` writes for the example's configuration and this script, and its status.
+fn played(rt: &HostRuntime, script: &str) -> Result<(u8, Vec<u8>), Fail> {
+    played_in(rt, EXAMPLE, script)
 }
 
 /// The status and the output of `distac check` for a configuration.
@@ -207,6 +215,53 @@ fn plays_the_first_path(rt: HostRuntime) -> Result<(), Fail> {
 }
 
 #[test]
+fn plays_permissions(rt: HostRuntime) -> Result<(), Fail> {
+    let script =
+        "boot c1@h 0\nboot c2@h 0\npermit c1@h a c1@h false\npermit c2@h a c2@h true\nshare\npermit c2@h a c1@h true\nsame c1@h c2@h\nshare\nsame c1@h c2@h\n";
+    let printed =
+        "booted 1 op 1\nbooted 1 op 2\nissued 3 c1@h 1 2\nissued 4 c2@h 1 2\nshared 2\nissued 5 c2@h 1 3\ndiffer\nshared 2\nsame\n";
+    let (status, output) = played_in(&rt, PLAIN, script)?;
+    assert_eq!(rt; output.as_slice(), printed.as_bytes());
+    assert_eq!(rt; status, 0);
+    Ok(())
+}
+
+#[test]
+fn plays_operations_out_of_order(rt: HostRuntime) -> Result<(), Fail> {
+    let script =
+        "boot cp1@cave 0\nboot cp2@cave 0\npermit cp1@cave myapp cp1@cave false\npermit cp1@cave myapp cp1@cave true\npermit cp1@cave myapp cp1@cave true\nstart cp1@cave myapp cp1@cave\nhand cp2@cave 1\nhand cp2@cave 6\nhand cp2@cave 5\nhand cp2@cave 3\nhand cp2@cave 4\nhand cp2@cave 4\nship cp2@cave cp1@cave\nhear cp1@cave 1\nsame cp1@cave cp2@cave\n";
+    let printed =
+        "booted 1 op 1\nbooted 1 op 2\nissued 3 cp1@cave 1 2\nissued 4 cp1@cave 1 3\nissued 5 cp1@cave 1 4\nissued 6 cp1@cave 1 5\nheard new\nheard new\nheard new\nheard new\nheard new\nheard nothing new\nshipped 1 whole 6\nheard new\nsame\n";
+    let (status, output) = played(&rt, script)?;
+    assert_eq!(rt; output.as_slice(), printed.as_bytes());
+    assert_eq!(rt; status, 0);
+    Ok(())
+}
+
+#[test]
+fn plays_crashes_and_downs(rt: HostRuntime) -> Result<(), Fail> {
+    let script =
+        "boot c2@h 0\nboot c3@h 0\nshare\ndown c2@h c3@h\nshare\nstart c3@h a c3@h\ncrash c3@h\nboot c3@h 6\nboot c3@h 6\ncrash c1@h\n";
+    let printed =
+        "booted 1 op 1\nbooted 1 op 2\nshared 2\nissued 3 c2@h 1 2\nshared 2\nrefused 3 DeclaredDown\ncrashed\nbooted 2 op 4\nrefused 2 AlreadyOn\nrefused 1 Off\n";
+    let (status, output) = played_in(&rt, PLAIN, script)?;
+    assert_eq!(rt; output.as_slice(), printed.as_bytes());
+    assert_eq!(rt; status, 0);
+    Ok(())
+}
+
+#[test]
+fn prints_states(rt: HostRuntime) -> Result<(), Fail> {
+    // Heard and known: one incarnation's first dot. No permit and no start; one node that is up; no claim.
+    let printed =
+        "booted 1 op 1\n00010100000001000000000000000100000000000101000000010000000000000001000000000000000000000000010100000001000000\nnode cp1@cave off\n";
+    let (status, output) = played(&rt, "boot cp2@cave 0\nstate cp2@cave\nstate cp1@cave\n")?;
+    assert_eq!(rt; output.as_slice(), printed.as_bytes());
+    assert_eq!(rt; status, 0);
+    Ok(())
+}
+
+#[test]
 fn prints_refusals(rt: HostRuntime) -> Result<(), Fail> {
     let cases = [
         ("start cp1@cave myapp cp1@cave", "refused 1 Off\n"),
@@ -237,6 +292,10 @@ fn prints_refusals(rt: HostRuntime) -> Result<(), Fail> {
         (
             "hear cp1@cave 0\nhear cp1@cave 7",
             "no message 0\nno message 7\n",
+        ),
+        (
+            "hand cp1@cave 3\nboot cp1@cave 0\nhand cp1@cave 0\nhear cp1@cave 1",
+            "no operation 3\nbooted 1 op 1\nno operation 0\nno message 1\n",
         ),
         (
             "boot cp2@cave 0\nsame cp2@cave cp1@cave",
@@ -271,6 +330,12 @@ fn names_script_faults(rt: HostRuntime) -> Result<(), Fail> {
             "script fault 1 4 BadNumber\n",
         ),
         ("boot cp1@cave 0x", "script fault 1 4 BadNumber\n"),
+        ("permit cp1@cave myapp cp1@cave", "script fault 1 2 BadCount\n"),
+        (
+            "permit nobody myapp cp1@cave 'true'",
+            "script fault 1 3 BadName\n",
+        ),
+        ("share cp1@cave", "script fault 1 2 BadCount\n"),
         ("same cp1@cave nobody", "script fault 1 5 UnknownActor\n"),
         (
             "boot nobody 4611686018427387904\njump",

@@ -1,0 +1,7 @@
+use Rattle.std.proofs.Common.{◌≡◌}
+use Rattle.dac_play.specs.Play.{state_at}
+use Rattle.dac_play.specs.Sharing.{having_state}
+use Rattle.dac_play.proofs.sharing.running.Given as goal
+
+abbrev pub invariant-loop-number : goal.invariant-loop-number
+invariant-loop-number l = l.nodes.items ≡ having_state (state_at l.world) l.number

@@ -1,0 +1,40 @@
+-- The lines for what the world answers.
+use Rattle.std.specs.Prelude.{ℕ, List, Result, Ok, Err, codes}
+use Rattle.std.specs.FinSet as set
+use Rattle.dac_config.specs.Table.{Table, node_name}
+use Rattle.dac_events.specs.declared.What.{What}
+use Rattle.dac_events.specs.declared.What.TheVariants.{Deliver, Hand}
+use Rattle.dac_events.specs.declared.WorldEvent.{WorldEvent}
+use Rattle.dac_core.specs.Refusals.{number_of, name_of}
+use Rattle.dac_core.specs.declared.event.Reply.{Reply}
+use Rattle.dac_core.specs.declared.event.Reply.TheVariants.{Booted, Crashed, Issued, Shipped, Heard}
+use Rattle.dac_core.specs.declared.fault.WorldFault.{WorldFault}
+use Rattle.dac_core.specs.declared.fault.WorldFault.TheVariants.{NoSuchNode, NoSuchMessage, NoSuchOperation, Refused}
+use Rattle.dac_play.specs.declared.answers.Counts.{Counts}
+use Rattle.dac_play.specs.Texts.{booted_text, crashed_text, issued_text, shipped_text, heard_text, no_message_text, no_operation_text, refused_text}
+
+-- a reply of the node of this name; operations and messages are counted up to and with this event's
+abbrev pub reply_text : List ℕ → Reply → Counts → List ℕ
+reply_text node (Booted operation) counts = booted_text operation.dot.origin.inc counts.operations
+reply_text node Crashed counts = crashed_text
+reply_text node (Issued operation) counts = issued_text counts.operations node operation.dot.origin.inc operation.dot.n
+reply_text node (Shipped message) counts = shipped_text counts.messages (set.len message.body.heard)
+reply_text node (Heard fresh) counts = heard_text fresh
+
+-- the number of the message or the operation that an event asks for
+abbrev pub asked_number : What → ℕ
+asked_number (Deliver message) = message
+asked_number (Hand operation) = operation
+asked_number _ = 0
+
+-- a fault of the world; that of an unknown node doesn't come of a script
+abbrev pub fault_text : What → WorldFault → List ℕ
+fault_text what NoSuchNode = codes "no such node\n"
+fault_text what NoSuchMessage = no_message_text (asked_number what)
+fault_text what NoSuchOperation = no_operation_text (asked_number what)
+fault_text what (Refused why) = refused_text (number_of why) (name_of why)
+
+-- what the world answered to an event
+abbrev pub answer_text : Table → WorldEvent → Result Reply WorldFault → Counts → List ℕ
+answer_text table event (Ok reply) counts = reply_text (node_name table event.node) reply counts
+answer_text table event (Err fault) counts = fault_text event.what fault

@@ -1,0 +1,59 @@
+-- What a script does in a world, and what is printed of it.
+use Rattle.std.specs.Prelude.{◌≡◌, ℕ, ◌-◌, List, [], ◌∷◌, ◌++◌, length, Option, None, Some, slice_get}
+use Rattle.std.specs.Option.{option_and_then}
+use Rattle.std.specs.Str.{bytes_eq}
+use Rattle.dac_base.specs.declared.NodeId.{NodeId}
+use Rattle.dac_config.specs.Table.{Table, node_name}
+use Rattle.dac_meaning.specs.StateValue.{StateValue}
+use Rattle.dac_state.specs.StateSpelling.{spelling_of}
+use Rattle.dac_core.specs.NodeValue.{state_of}
+use Rattle.dac_core.specs.WorldValue.{WorldValue}
+use Rattle.dac_core.specs.ModelWorld.{ModelWorld, Shows, happens}
+use Rattle.dac_script.specs.declared.line.ScriptLine.{ScriptLine}
+use Rattle.dac_script.specs.declared.line.ScriptLine.TheVariants as says
+use Rattle.dac_play.specs.declared.answers.Counts.{Counts}
+use Rattle.dac_play.specs.Texts.{shared_text, state_text, same_text, off_text}
+use Rattle.dac_play.specs.Answers.{answer_text}
+use Rattle.dac_play.specs.Sharing.{state_in, shared}
+
+-- the state of a node of the program's world, where it runs
+abbrev pub state_at : WorldValue → NodeId → Option StateValue
+state_at v node = option_and_then state_of (slice_get v.nodes node.0)
+
+-- the bytes of the state of a node of this name, or that it is off
+abbrev pub bytes_text : List ℕ → Option StateValue → List ℕ
+bytes_text node None = off_text node
+bytes_text node (Some state) = state_text (spelling_of state)
+
+-- whether the states of two nodes of these names have the same bytes, or the first of them that is off
+abbrev pub compare_text : List ℕ → List ℕ → Option StateValue → Option StateValue → List ℕ
+compare_text first second None other = off_text first
+compare_text first second (Some one) None = off_text second
+compare_text first second (Some one) (Some other) = same_text (bytes_eq (spelling_of one) (spelling_of other))
+
+-- what was issued and shipped so far
+abbrev pub counts_in : ModelWorld → Counts
+counts_in w = record { operations = length w.operations; messages = length w.messages }
+
+-- the world after a line
+abbrev pub world_after : Table → ModelWorld → ScriptLine → ModelWorld
+world_after table w (says.Event event) = (happens table w event).world
+world_after table w says.Share = shared table w
+world_after table w (says.State node) = w
+world_after table w (says.Same first second) = w
+
+-- what is printed for a line
+abbrev pub line_text : Table → ModelWorld → ScriptLine → List ℕ
+line_text table w (says.Event event) = answer_text table event (happens table w event).answer (counts_in (happens table w event).world)
+line_text table w says.Share = shared_text (length (shared table w).messages - length w.messages)
+line_text table w (says.State node) = bytes_text (node_name table node) (state_in w node)
+line_text table w (says.Same first second) = compare_text (node_name table first) (node_name table second) (state_in w first) (state_in w second)
+
+-- what is printed for a script, line by line
+abbrev pub script_text : Table → ModelWorld → List ScriptLine → List ℕ
+script_text table w [] = []
+script_text table w (line ∷ lines) = line_text table w line ++ script_text table (world_after table w line) lines
+
+-- From old, a line prints this text and leads to new, as in each of the definition's worlds that shows old.
+pub record PlaysLine (table : Table) (old : WorldValue) (line : ScriptLine) (text : List ℕ) (new : WorldValue) : Type 0 where
+  pub each : (w : ModelWorld) → Shows w old → (text ≡ line_text table w line) × Shows (world_after table w line) new

@@ -1,0 +1,55 @@
+-- What `share` does in the definition's world.
+use Rattle.std.specs.Prelude.{◌≡◌, ℕ, Bool, List, length, map, filter, fold, Option, if◌then◌else◌}
+use Rattle.std.specs.List.{range_with_len}
+use Rattle.std.specs.Option.{is_some}
+use Rattle.std.specs.Result.{is_ok}
+use Rattle.dac_base.specs.declared.NodeId.{NodeId}
+use Rattle.dac_config.specs.Table.{Table}
+use Rattle.dac_events.specs.declared.What.TheVariants as what
+use Rattle.dac_events.specs.declared.WorldEvent.{WorldEvent}
+use Rattle.dac_meaning.specs.StateValue.{StateValue}
+use Rattle.dac_core.specs.NodeValue.{state_of}
+use Rattle.dac_core.specs.WorldValue.{WorldValue}
+use Rattle.dac_core.specs.ModelNode.{shown}
+use Rattle.dac_core.specs.ModelWorld.{ModelWorld, WorldStepped, Shows, happens, numbered}
+use Rattle.dac_play.specs.Pairs.{pairs}
+
+-- the state of a node of the definition's world, where it runs
+abbrev pub state_in : ModelWorld → NodeId → Option StateValue
+state_in w node = state_of (shown (w.node node))
+
+-- the nodes of these numbers and below that have a state, in the order of their names
+abbrev pub having_state : (NodeId → Option StateValue) → ℕ → List NodeId
+having_state state count = filter (λ node. is_some (state node)) (map numbered (range_with_len 0 count))
+
+-- a node ships to another one
+abbrev pub shipping : NodeId × NodeId → WorldEvent
+shipping pair = record { node = pair.0; what = what.Ship pair.1 }
+
+-- the message that was shipped last comes to a node
+abbrev pub delivery : ℕ → NodeId → WorldEvent
+delivery messages to = record { node = to; what = what.Deliver messages }
+
+-- after a ship to this node: where anything was shipped, it is delivered
+abbrev pub delivered : Table → NodeId → WorldStepped → ModelWorld
+delivered table to shipped =
+    if is_ok shipped.answer then (happens table shipped.world (delivery (length shipped.world.messages) to)).world
+    else shipped.world
+
+-- a node ships to another one, which hears the message at once; what either refuses is passed over
+abbrev pub told : Table → ModelWorld → NodeId × NodeId → ModelWorld
+told table w pair = delivered table pair.1 (happens table w (shipping pair))
+
+-- Each node that runs tells each other one, one pair after another in the order of their names. (Who runs
+-- doesn't change meanwhile.)
+abbrev pub shared : Table → ModelWorld → ModelWorld
+shared table w = fold (told table) w (pairs (having_state (state_in w) w.count))
+
+-- From old, the program's world goes on to new as each of the definition's worlds that shows old does.
+pub record Leads (old : WorldValue) (by : ModelWorld → ModelWorld) (new : WorldValue) : Type 0 where
+  pub each : (w : ModelWorld) → Shows w old → Shows (by w) new
+
+-- From old, the program's world accepts this event or refuses it, as each of the definition's worlds that shows
+-- old does, and goes on to new.
+pub record IsAnswered (table : Table) (old : WorldValue) (event : WorldEvent) (accepted : Bool) (new : WorldValue) : Type 0 where
+  pub each : (w : ModelWorld) → Shows w old → (accepted ≡ is_ok (happens table w event).answer) × Shows (happens table w event).world new

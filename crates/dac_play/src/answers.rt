@@ -1,0 +1,105 @@
+//! The line for what the world answers to an event.
+
+ghost use Rattle.std.specs.Prelude.{◌≡◌, ◌≢◌, ◌<◌, IfOk, OnOk};
+ghost use Rattle.dac_core.specs.ModelWorld.{out_of_memory};
+ghost use Rattle.dac_config.specs.Table.{node_count};
+ghost use Rattle.dac_play.specs.Answers.{reply_text, asked_number, fault_text, answer_text};
+
+use crate::texts::{
+    booted_line, crashed_line, heard_line, issued_line, no_message_line, no_operation_line,
+    refused_line, shipped_line,
+};
+use dac_base::NoMemory;
+use dac_config::Config;
+use dac_core::{Refusal, Reply, What, WorldEvent, WorldFault};
+use std::alloc::Global;
+
+/// What has happened in the world so far, this event included.
+#[derive(Clone, Copy, Debug, PartialEq, Eq)]
+pub struct Counts {
+    /// How many operations were issued.
+    pub operations: usize,
+    /// How many messages were shipped.
+    pub messages: usize,
+}
+
+/// The line for a reply of the node where the event happened.
+fn reply_line(
+    alloc: Global,
+    node: &[u8],
+    reply: &Reply,
+    counts: Counts,
+) -> Result<Vec<u8>, NoMemory>
+    ensures { IfOk result (λ line. line.items ≡ reply_text node.now reply.now counts) }
+{
+    match reply {
+        Reply::Booted(operation) => {
+            let dot = operation.dot();
+            booted_line(alloc, dot.origin.inc, counts.operations)
+        }
+        Reply::Crashed => {
+            let line = Vec::from_slice(alloc, crashed_line().as_bytes())?;
+            Ok(line)
+        }
+        Reply::Issued(operation) => {
+            let dot = operation.dot();
+            issued_line(alloc, counts.operations, node, dot.origin.inc, dot.n)
+        }
+        Reply::Shipped(message) => {
+            let heard = message.body.heard().len();
+            shipped_line(alloc, counts.messages, heard)
+        }
+        Reply::Heard(fresh) => {
+            let line = Vec::from_slice(alloc, heard_line(*fresh).as_bytes())?;
+            Ok(line)
+        }
+    }
+}
+
+/// The number of the message or the operation that an event asks for.
+fn asked_number(what: What) -> u64
+    ensures { result ≡ asked_number what }
+{
+    match what {
+        What::Deliver(message) => message,
+        What::Hand(operation) => operation,
+        _ => 0,
+    }
+}
+
+/// The line for a fault. Want of memory is no line: it ends the run.
+fn fault_line(alloc: Global, what: What, fault: WorldFault) -> Result<Vec<u8>, NoMemory>
+    ensures text { IfOk result (λ line. line.items ≡ fault_text what fault) }
+    ensures enough { OnOk result (fault ≢ WorldFault.Refused Refusal.NoMemory) }
+{
+    match fault {
+        WorldFault::NoSuchNode => {
+            let line = Vec::from_slice(alloc, b"no such node\n")?;
+            Ok(line)
+        }
+        WorldFault::NoSuchMessage => no_message_line(alloc, asked_number(what)),
+        WorldFault::NoSuchOperation => no_operation_line(alloc, asked_number(what)),
+        WorldFault::Refused(Refusal::NoMemory) => Err(NoMemory),
+        WorldFault::Refused(why) => refused_line(alloc, why.number(), why.name()),
+    }
+}
+
+/// The line for what the world answered to an event, which left these counts.
+///
+/// [`NoMemory`] is also the answer where the world answered so: such an event is no event, and the run ends.
+pub fn answer_line(
+    alloc: Global,
+    config: &Config,
+    event: &WorldEvent,
+    answer: &Result<Reply, WorldFault>,
+    counts: Counts,
+) -> Result<Vec<u8>, NoMemory>
+    requires { event.now.node.0 < node_count config.now }
+    ensures text { IfOk result (λ line. line.items ≡ answer_text config.now event.now answer.now counts) }
+    ensures enough { OnOk result (answer.now ≢ out_of_memory) }
+{
+    match answer {
+        Ok(reply) => reply_line(alloc, config.node_name(event.node), reply, counts),
+        Err(fault) => fault_line(alloc, event.what, *fault),
+    }
+}

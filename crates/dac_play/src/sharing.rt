@@ -1,0 +1,99 @@
+//! Each node that runs tells its state to each other one.
+
+ghost use Rattle.std.specs.Prelude.{◌≡◌, ◌≢◌, ◌<◌, IfOk, OnOk, length};
+ghost use Rattle.std.specs.Option.{is_some};
+ghost use Rattle.std.specs.Result.{is_ok};
+ghost use Rattle.dac_config.specs.Table.{node_count};
+ghost use Rattle.dac_core.specs.ModelWorld.{out_of_memory};
+ghost use Rattle.dac_play.specs.Play.{state_at};
+ghost use Rattle.dac_play.specs.Sharing.{having_state, told, shared, Leads, IsAnswered};
+
+use crate::pairs::all_pairs;
+use crate::states::state_of;
+use dac_base::{NoMemory, NodeId};
+use dac_config::Config;
+use dac_core::{Refusal, Reply, What, World, WorldEvent, WorldFault};
+use std::alloc::Global;
+
+/// Whether a node runs.
+fn runs(world: &World, node: NodeId) -> bool
+    requires { node.0 < length world.now.nodes }
+    ensures { result ≡ is_some (state_at world.now node) }
+{
+    state_of(world, node).is_some()
+}
+
+/// The nodes that run, in the order of their names.
+fn running(alloc: Global, config: &Config, world: &World) -> Result<Vec<NodeId>, NoMemory>
+    requires { length world.now.nodes ≡ node_count config.now }
+    ensures { IfOk result (λ nodes. nodes.items ≡ having_state (state_at world.now) (node_count config.now)) }
+{
+    let mut nodes = Vec::new(alloc);
+    for number in 0..config.nodes() {
+        let node = NodeId(number);
+        if runs(world, node) {
+            nodes.push(node)?;
+        }
+    }
+    Ok(nodes)
+}
+
+/// Whether an event was accepted. Want of memory is no answer: such an event is no event.
+fn accepted(answer: &Result<Reply, WorldFault>) -> Result<bool, NoMemory>
+    ensures known { IfOk result (λ accepted. accepted ≡ is_ok answer.now) }
+    ensures enough { OnOk result (answer.now ≢ out_of_memory) }
+{
+    match answer {
+        Ok(_reply) => Ok(true),
+        Err(WorldFault::Refused(Refusal::NoMemory)) => Err(NoMemory),
+        Err(_fault) => Ok(false),
+    }
+}
+
+/// One event of the world: whether it was accepted. After one that is refused all is as before.
+fn accepts(config: &Config, world: &mut World, event: &WorldEvent) -> Result<bool, NoMemory>
+    ensures count { length world.new.nodes ≡ length world.old.nodes }
+    ensures answers { IfOk result (λ accepted. IsAnswered config.now world.old event.now accepted world.new) }
+{
+    let answer = world.step(config, event);
+    accepted(&answer)
+}
+
+/// A node ships to another one, and the message is delivered at once.
+fn tell(config: &Config, world: &mut World, pair: (NodeId, NodeId)) -> Result<(), NoMemory>
+    ensures count { length world.new.nodes ≡ length world.old.nodes }
+    ensures leads { OnOk result (Leads world.old (λ w. told config.now w pair) world.new) }
+{
+    let (from, to) = pair;
+    let ship = WorldEvent {
+        node: from,
+        what: What::Ship { to },
+    };
+    let shipped = accepts(config, world, &ship)?;
+    if !shipped {
+        return Ok(());
+    }
+    let delivery = WorldEvent {
+        node: to,
+        what: What::Deliver(world.messages().len() as u64),
+    };
+    let _heard = accepts(config, world, &delivery)?;
+    Ok(())
+}
+
+/// Each node that runs ships to each other one, in the order of their names, and each message is delivered at
+/// once. What a node refuses is passed over.
+///
+/// [`NoMemory`] ends it; the world is then as after some of the pairs.
+pub fn share(alloc: Global, config: &Config, world: &mut World) -> Result<(), NoMemory>
+    requires { length world.old.nodes ≡ node_count config.now }
+    ensures count { length world.new.nodes ≡ length world.old.nodes }
+    ensures leads { OnOk result (Leads world.old (shared config.now) world.new) }
+{
+    let nodes = running(alloc, config, world)?;
+    let pairs = all_pairs(alloc, &nodes)?;
+    for pair in &pairs {
+        tell(config, world, *pair)?;
+    }
+    Ok(())
+}

@@ -1,0 +1,138 @@
+//! A script played in a world of controllers, with the line that is printed for each of its lines.
+
+ghost use Rattle.std.specs.Prelude.{◌≡◌, ◌<◌, ◌-◌, IfOk, IfSome, OnOk, All, length};
+ghost use Rattle.std.specs.Io.KnownBytes.{Appends};
+ghost use Rattle.dac_config.specs.Table.{node_count};
+ghost use Rattle.dac_core.specs.ModelWorld.{start};
+ghost use Rattle.dac_script.specs.Line.{HasActors};
+ghost use Rattle.dac_script.specs.declared.line.ScriptLine.TheVariants as says;
+ghost use Rattle.dac_play.specs.Play.{script_text, PlaysLine};
+ghost use Rattle.dac_play.specs.Simulations.{EndsSim};
+
+use crate::answers::{Counts, answer_line};
+use crate::ending::{Ending, print, refuse};
+use crate::sharing::share;
+use crate::states::{bytes_line, compare_line};
+use crate::texts::{OUT_OF_MEMORY, shared_line};
+use dac_base::NoMemory;
+use dac_config::Config;
+use dac_core::{World, WorldEvent};
+use dac_script::{ScriptLine, prepare};
+use std::alloc::Global;
+use std::io::{Read, Write};
+
+/// Why a script was not played to its end.
+#[derive(Clone, Copy, Debug, PartialEq, Eq)]
+pub enum Stop {
+    /// Memory was refused.
+    NoMemory,
+    /// The output took no more.
+    Output,
+}
+
+impl From<NoMemory> for Stop {
+    ghost use Rattle.dac_play.specs.declared.sim.Stop.TheVariants.{NoMemory as WantOfMemory};
+
+    ghost from_gives = { λ _ stop. stop ≡ WantOfMemory };
+
+    fn from(_refused: NoMemory) -> Self {
+        Stop::NoMemory
+    }
+}
+
+/// An event of the script, and the line that is printed for it.
+fn event_step(
+    alloc: Global,
+    config: &Config,
+    world: &mut World,
+    event: &WorldEvent,
+) -> Result<Vec<u8>, NoMemory>
+    requires actor { event.now.node.0 < node_count config.now }
+    requires all { length world.old.nodes ≡ node_count config.now }
+    ensures all { length world.new.nodes ≡ node_count config.now }
+    ensures plays { IfOk result (λ text. PlaysLine config.now world.old (says.Event event.now) text.items world.new) }
+{
+    let answer = world.step(config, event);
+    let counts = Counts {
+        operations: world.operations().len(),
+        messages: world.messages().len(),
+    };
+    answer_line(alloc, config, event, &answer, counts)
+}
+
+/// A share, and the line that is printed for it.
+fn share_step(alloc: Global, config: &Config, world: &mut World) -> Result<Vec<u8>, NoMemory>
+    requires { length world.old.nodes ≡ node_count config.now }
+    ensures all { length world.new.nodes ≡ node_count config.now }
+    ensures plays { IfOk result (λ text. PlaysLine config.now world.old says.Share text.items world.new) }
+{
+    let before = world.messages().len();
+    share(alloc, config, world)?;
+    let after = world.messages().len();
+    let line = shared_line(alloc, after.saturating_sub(before))?;
+    Ok(line)
+}
+
+/// What a line of the script does in the world, and the line that is printed for it.
+fn step(
+    alloc: Global,
+    config: &Config,
+    world: &mut World,
+    line: &ScriptLine,
+) -> Result<Vec<u8>, NoMemory>
+    requires actors { HasActors (node_count config.now) line.now }
+    requires all { length world.old.nodes ≡ node_count config.now }
+    ensures all { length world.new.nodes ≡ node_count config.now }
+    ensures plays { IfOk result (λ text. PlaysLine config.now world.old line.now text.items world.new) }
+{
+    match line {
+        ScriptLine::Event(event) => event_step(alloc, config, world, event),
+        ScriptLine::Share => share_step(alloc, config, world),
+        ScriptLine::State(node) => bytes_line(alloc, config, world, *node),
+        ScriptLine::Same(first, second) => compare_line(alloc, config, world, *first, *second),
+    }
+}
+
+/// Plays the lines of a script one after another, from all nodes off, and prints the line for each.
+///
+/// It stops where memory is refused, and where the output takes no more; nothing is said then of what was printed.
+pub fn play<W: Write>(
+    alloc: Global,
+    config: &Config,
+    script: &[ScriptLine],
+    output: &mut W,
+) -> Result<(), Stop>
+    requires { All (HasActors (node_count config.now)) script.now }
+    ensures { OnOk result (Appends (W.contents output.old) (W.contents output.new) (script_text config.now (start config.now) script.now)) }
+{
+    let mut world = World::new(alloc, config)?;
+    for line in script {
+        let text = step(alloc, config, &mut world, line)?;
+        if output.write_all(&text).is_err() {
+            return Err(Stop::Output);
+        }
+    }
+    if output.flush().is_err() {
+        return Err(Stop::Output);
+    }
+    Ok(())
+}
+
+/// Reads a configuration and a script, plays the script and prints what comes of each line. The whole input is
+/// read and checked before anything is played; where it has a fault, a line that says so is all that is printed.
+pub fn simulate<R: Read, W: Write>(alloc: Global, input: &mut R, output: &mut W) -> Ending
+    ensures { IfSome (R.remaining input.old) (λ bytes. EndsSim bytes result (W.contents output.old) (W.contents output.new)) }
+{
+    let (config, script) = match prepare(alloc, input) {
+        Ok(both) => both,
+        Err(failure) => return refuse(alloc, failure, output),
+    };
+    match play(alloc, &config, &script, output) {
+        Ok(()) => Ending::Done,
+        Err(Stop::Output) => Ending::Stopped,
+        Err(Stop::NoMemory) => {
+            let _printed = print(OUT_OF_MEMORY.as_bytes(), output);
+            Ending::Stopped
+        }
+    }
+}

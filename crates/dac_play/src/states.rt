@@ -1,0 +1,65 @@
+//! The states of nodes, shown and compared by their bytes.
+
+ghost use Rattle.std.specs.Prelude.{◌≡◌, ◌<◌, IfOk, length};
+ghost use Rattle.std.specs.Option.{option_copied};
+ghost use Rattle.dac_config.specs.Table.{node_count, node_name};
+ghost use Rattle.dac_play.specs.Play.{state_at, bytes_text, compare_text};
+
+use crate::texts::{off_line, same_line, state_line};
+use dac_base::{NoMemory, NodeId};
+use dac_config::Config;
+use dac_core::World;
+use dac_state::State;
+use std::alloc::Global;
+
+/// The state of a node, where it runs.
+pub fn state_of(world: &World, node: NodeId) -> Option<&State>
+    requires { node.0 < length world.now.nodes }
+    ensures { option_copied result ≡ state_at world.now node }
+{
+    world.node(node).state()
+}
+
+/// The line for a node's state: its bytes, or that the node is off.
+pub fn bytes_line(
+    alloc: Global,
+    config: &Config,
+    world: &World,
+    node: NodeId,
+) -> Result<Vec<u8>, NoMemory>
+    requires node { node.0 < node_count config.now }
+    requires all { length world.now.nodes ≡ node_count config.now }
+    ensures { IfOk result (λ line. line.items ≡ bytes_text (node_name config.now node) (state_at world.now node)) }
+{
+    let Some(state) = state_of(world, node) else {
+        return off_line(alloc, config.node_name(node));
+    };
+    let bytes = state.encode()?;
+    let line = state_line(alloc, &bytes)?;
+    Ok(line)
+}
+
+/// The line for two nodes' states: whether they have the same bytes, or the first of the nodes that is off.
+pub fn compare_line(
+    alloc: Global,
+    config: &Config,
+    world: &World,
+    first: NodeId,
+    second: NodeId,
+) -> Result<Vec<u8>, NoMemory>
+    requires first { first.0 < node_count config.now }
+    requires second { second.0 < node_count config.now }
+    requires all { length world.now.nodes ≡ node_count config.now }
+    ensures { IfOk result (λ line. line.items ≡ compare_text (node_name config.now first) (node_name config.now second) (state_at world.now first) (state_at world.now second)) }
+{
+    let Some(one) = state_of(world, first) else {
+        return off_line(alloc, config.node_name(first));
+    };
+    let Some(other) = state_of(world, second) else {
+        return off_line(alloc, config.node_name(second));
+    };
+    let one = one.encode()?;
+    let other = other.encode()?;
+    let line = Vec::from_slice(alloc, same_line(one == other).as_bytes())?;
+    Ok(line)
+}
