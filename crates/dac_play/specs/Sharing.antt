@@ -18,7 +18,7 @@ use Rattle.dac_play.specs.Pairs.{pairs}
 abbrev pub state_in : ModelWorld → NodeId → Option StateValue
 state_in w node = state_of (shown (w.node node))
 
--- the nodes of these numbers and below that have a state, in the order of their names
+-- the nodes of the first so many numbers that have a state, in the order of their names
 abbrev pub having_state : (NodeId → Option StateValue) → ℕ → List NodeId
 having_state state count = filter (λ node. is_some (state node)) (map numbered (range_with_len 0 count))
 

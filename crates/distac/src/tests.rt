@@ -330,7 +330,10 @@ fn names_script_faults(rt: HostRuntime) -> Result<(), Fail> {
             "script fault 1 4 BadNumber\n",
         ),
         ("boot cp1@cave 0x", "script fault 1 4 BadNumber\n"),
-        ("permit cp1@cave myapp cp1@cave", "script fault 1 2 BadCount\n"),
+        (
+            "permit cp1@cave myapp cp1@cave",
+            "script fault 1 2 BadCount\n",
+        ),
         (
             "permit nobody myapp cp1@cave 'true'",
             "script fault 1 3 BadName\n",
