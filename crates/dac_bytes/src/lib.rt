@@ -10,6 +10,10 @@
 #![tactic(auto)]
 
 mod context;
+mod fault;
+mod reader;
 mod writer;
 
+pub use fault::{ReadFault, ReadFaultKind};
+pub use reader::ByteReader;
 pub use writer::ByteWriter;

@@ -1,0 +1,33 @@
+-- What an origin, a dot and a context have to be so that they can be read where there are so many nodes.
+use Rattle.std.specs.Prelude.{◌≡◌, ℕ, ◌<◌, ◌≤◌, ◌^◌, true, length}
+use Rattle.std.specs.List.{AllByRecursion}
+use Rattle.std.specs.FinSet as set
+use Rattle.dac_dots.specs.Dots.{Dots}
+use Rattle.dac_dots.specs.declared.dot.Origin.{Origin}
+use Rattle.dac_dots.specs.declared.dot.Dot.{Dot}
+use Rattle.dac_bytes.specs.Rows.{Row, rows_of}
+
+-- a node that there is, and an incarnation from 1
+pub record IsOrigin (nodes : ℕ) (o : Origin) : Type 0 where
+  pub node : o.node.0 < nodes
+  pub first : 1 ≤ o.inc
+  pub last : o.inc < 2 ^ 32
+
+-- an origin's dot, with a counter that can be issued
+pub record IsDot (nodes : ℕ) (d : Dot) : Type 0 where
+  pub origin : IsOrigin nodes d.origin
+  pub first : 1 ≤ d.n
+  pub last : d.n ≤ 2 ^ 62
+
+-- each dot is one that there can be
+abbrev pub InRange : ℕ → Dots → Type 0
+InRange nodes dots = (d : Dot) → set.contains dots d ≡ true → IsDot nodes d
+
+-- the counts fit the fields that they are written in
+pub record CountsFit (dots : Dots) : Type 0 where
+  pub origins : length (rows_of dots) < 2 ^ 16
+  pub further : AllByRecursion (λ (row : Row). length row.further < 2 ^ 32) (rows_of dots)
+
+-- a context that can be read
+abbrev pub IsContext : ℕ → Dots → Type 0
+IsContext nodes dots = InRange nodes dots × CountsFit dots

@@ -1,0 +1,175 @@
+-- Reading from left to right, with the first fault that is met and its place.
+use Rattle.std.specs.Prelude.{◌≡◌, ℕ, zero, suc, ◌+◌, ◌-◌, ◌^◌, Bool, true, List, [], ◌∷◌, ◌++◌, length, map, take, drop, Option, Some, None, Result, Ok, Err, nat_lt, ◌||◌, ◌==◌, if◌then◌else◌}
+use Rattle.std.specs.List.{flat_map}
+use Rattle.std.specs.Int.{Width, w8, w16, w32, w64, byte_len, from_be_bytes}
+use Rattle.std.specs.declared.cmp.Ordering.{Ordering}
+use Rattle.std.specs.Ordering.{is_lt}
+use Rattle.std.specs.FinSet as set
+use Rattle.dac_base.specs.declared.NodeId.{NodeId}
+use Rattle.dac_dots.specs.declared.dot.Origin.{Origin}
+use Rattle.dac_dots.specs.declared.dot.Dot.{Dot}
+use Rattle.dac_dots.specs.Dots.{Dots, dot, dot_cmp, origin_cmp}
+use Rattle.dac_bytes.specs.declared.fault.ReadFaultKind.{ReadFaultKind}
+use Rattle.dac_bytes.specs.declared.fault.ReadFaultKind.TheVariants.{Short, BadNumber, BadOrder, BadName, NoMemory}
+use Rattle.dac_bytes.specs.declared.fault.ReadFault.{ReadFault}
+use Rattle.dac_bytes.specs.Rows.{Row}
+
+-- the rest of a text of bytes, and the place of its first byte in that text
+pub record Rest : Type 0 where
+  pub at : ℕ
+  pub bytes : List ℕ
+
+-- the whole of a text of bytes
+abbrev pub whole : List ℕ → Rest
+whole bytes = record { at = 0; bytes = bytes }
+
+-- what is after the first n bytes
+abbrev pub after : ℕ → Rest → Rest
+after n r = record { at = r.at + n; bytes = drop n r.bytes }
+
+-- a field: its value and what is after it, or the first fault
+abbrev pub Field : Type 0 → Type 0
+Field X = Result (X × Rest) ReadFault
+
+-- a fault at the first byte of r
+abbrev pub fault : {X : Type 0} → ReadFaultKind → Rest → Result X ReadFault
+fault kind r = Err (record { kind = kind; at = r.at })
+
+infixl 10 ◌>>=◌
+abbrev pub ◌>>=◌ : {A B : Type 0} → Result A ReadFault → (A → Result B ReadFault) → Result B ReadFault
+(Ok x) >>= f = f x
+(Err e) >>= f = Err e
+
+-- What a function returned, seen by view, is what reading gives.
+abbrev pub Reads : {X Y : Type 0} → (X → Y) → Result X ReadFault → Result Y ReadFault → Type 0
+Reads view (Ok x) read = read ≡ Ok (view x)
+Reads view (Err e) read = read ≡ Err e
+
+-- A fault is the one that reading gives, unless it is want of memory.
+abbrev pub Fails : {Y : Type 0} → ReadFaultKind → ReadFault → Result Y ReadFault → Type 0
+Fails NoMemory e read = Unit {0}
+Fails _ e read = read ≡ Err e
+
+-- What a function returned, seen by view, is what reading gives, unless memory ran out.
+abbrev pub Gives : {X Y : Type 0} → (X → Y) → Result X ReadFault → Result Y ReadFault → Type 0
+Gives view (Ok x) read = read ≡ Ok (view x)
+Gives view (Err e) read = Fails e.kind e read
+
+-- ---- numbers
+
+-- the next n bytes
+abbrev pub taken : ℕ → Rest → Field (List ℕ)
+taken n r = if nat_lt (length r.bytes) n then fault Short r else Ok (take n r.bytes, after n r)
+
+-- a number in as many bytes as w has, the highest first
+abbrev pub number_at : Width → Rest → Field ℕ
+number_at w r = if nat_lt (length r.bytes) (byte_len w) then fault Short r else Ok (from_be_bytes w (take (byte_len w) r.bytes), after (byte_len w) r)
+
+-- a number that has to be from low to high
+unfoldable pub range_at : Width → ℕ → ℕ → Rest → Field ℕ
+range_at w low high r = do
+  n ← number_at w r
+  if nat_lt n.0 low || nat_lt high n.0 then fault BadNumber r else Ok n
+
+-- ---- names
+
+-- a node, which has to be below the number of nodes
+unfoldable pub node_at : ℕ → Rest → Field NodeId
+node_at nodes r = do
+  n ← number_at w8 r
+  if nat_lt n.0 nodes then Ok (record { 0 = n.0 }, n.1) else fault BadName r
+
+-- an incarnation, from 1
+abbrev pub incarnation_at : Rest → Field ℕ
+incarnation_at r = range_at w32 1 (2 ^ 32 - 1) r
+
+-- a counter of a dot, 1 to 2^62
+abbrev pub counter_at : Rest → Field ℕ
+counter_at r = range_at w64 1 (2 ^ 62) r
+
+-- node and incarnation
+unfoldable pub origin_at : ℕ → Rest → Field Origin
+origin_at nodes r = do
+  node ← node_at nodes r
+  inc ← incarnation_at node.1
+  Ok (record { node = node.0; inc = inc.0 }, inc.1)
+
+-- origin and counter
+unfoldable pub dot_at : ℕ → Rest → Field Dot
+dot_at nodes r = do
+  origin ← origin_at nodes r
+  n ← counter_at origin.1
+  Ok (record { origin = origin.0; n = n.0 }, n.1)
+
+-- ---- items in order
+
+-- whether k is above the one before it, where there is one
+abbrev pub is_above : {K : Type 0} → (K → K → Ordering) → Option K → K → Bool
+is_above R None k = true
+is_above R (Some before) k = is_lt (R before k)
+
+-- an origin above the one before it
+unfoldable pub origin_above_at : ℕ → Option Origin → Rest → Field Origin
+origin_above_at nodes before r = do
+  origin ← origin_at nodes r
+  if is_above origin_cmp before origin.0 then Ok origin else fault BadOrder r
+
+-- a dot above the one before it
+unfoldable pub dot_above_at : ℕ → Option Dot → Rest → Field Dot
+dot_above_at nodes before r = do
+  d ← dot_at nodes r
+  if is_above dot_cmp before d.0 then Ok d else fault BadOrder r
+
+-- so many items, one after the other; of the item before it each needs to know what next says
+unfoldable pub items_at : {S X : Type 0} → (S → Rest → Field X) → (X → S) → ℕ → S → Rest → Field (List X)
+items_at item next zero s r = Ok ([], r)
+items_at item next (suc n) s r = do
+  first ← item s r
+  others ← items_at item next n (next first.0) first.1
+  Ok (first.0 ∷ others.0, others.1)
+
+-- ---- contexts
+
+-- a further counter, above the one before it
+unfoldable pub further_at : ℕ → Rest → Field ℕ
+further_at before r = do
+  n ← counter_at r
+  if nat_lt before n.0 then Ok n else fault BadOrder r
+
+-- the number of further counters: at least one where there is no other dot
+abbrev pub further_count_at : ℕ → Rest → Field ℕ
+further_count_at upto r = range_at w32 (if upto == 0 then 1 else 0) (2 ^ 32 - 1) r
+
+-- the dots of an origin above the one before it; their further counters don't continue 1 to upto
+unfoldable pub row_at : ℕ → Option Origin → Rest → Field Row
+row_at nodes before r = do
+  origin ← origin_above_at nodes before r
+  upto ← range_at w64 0 (2 ^ 62) origin.1
+  count ← further_count_at upto.0 upto.1
+  further ← items_at further_at (λ n. n) count.0 (upto.0 + 1) count.1
+  Ok (record { origin = origin.0; upto = upto.0; further = further.0 }, further.1)
+
+-- the number of origins that have dots, and the dots of each
+unfoldable pub rows_at : ℕ → Rest → Field (List Row)
+rows_at nodes r = do
+  count ← number_at w16 r
+  items_at (row_at nodes) (λ (row : Row). Some row.origin) count.0 None count.1
+
+-- 1 to n
+abbrev pub one_to : ℕ → List ℕ
+one_to zero = []
+one_to (suc n) = one_to n ++ suc n ∷ []
+
+-- the dots of a row
+abbrev pub dots_in_row : Row → List Dot
+dots_in_row row = map (dot row.origin) (one_to row.upto ++ row.further)
+
+-- the dots of these rows
+unfoldable pub dots_in : List Row → Dots
+dots_in rows = set.from_list (flat_map dots_in_row rows)
+
+-- a set of dots, by its rows
+unfoldable pub context_at : ℕ → Rest → Field Dots
+context_at nodes r = do
+  rows ← rows_at nodes r
+  Ok (dots_in rows.0, rows.1)

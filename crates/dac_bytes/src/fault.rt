@@ -1,0 +1,118 @@
+//! Why bytes can't be read.
+
+ghost use Rattle.std.specs.Prelude.{◌≡◌};
+ghost use Rattle.dac_bytes.specs.declared.fault.ReadFaultKind.TheVariants.{NoMemory};
+
+use std::alloc::{AllocError, AllocFailed};
+use std::error::Error;
+use std::fmt;
+
+/// What is wrong at a place of the bytes. The number of each kind is its place in this list, from 1, and
+/// its name and number are part of the program's output.
+///
+/// The readers of this crate answer the first four and the last. The others are for those who read what is
+/// made of such fields.
+#[derive(Clone, Copy, Debug, PartialEq, Eq, Hash)]
+pub enum ReadFaultKind {
+    /// The bytes end before this field does.
+    Short = 1,
+    /// A number is out of its range.
+    BadNumber,
+    /// An item isn't above the one before it.
+    BadOrder,
+    /// No node or application has this number.
+    BadName,
+    /// A node isn't in the list of the application.
+    NotInList,
+    /// A dot that stands isn't among those that are known.
+    NotKnown,
+    /// Bytes come after the last field.
+    Trailing,
+    /// Memory was refused; nothing is said of the bytes.
+    NoMemory,
+}
+
+impl ReadFaultKind {
+    ghost use Rattle.dac_bytes.specs.Faults.{name_of, number_of};
+
+    /// The number that stands for it in the program's output, 1 to 8.
+    pub fn number(self) -> u8
+        ensures { result ≡ number_of self }
+    {
+        self as u8
+    }
+
+    /// Its name in the program's output, which is also what `Display` prints.
+    pub fn name(self) -> &'static str
+        ensures { result.now ≡ name_of self }
+    {
+        match self {
+            ReadFaultKind::Short => "Short",
+            ReadFaultKind::BadNumber => "BadNumber",
+            ReadFaultKind::BadOrder => "BadOrder",
+            ReadFaultKind::BadName => "BadName",
+            ReadFaultKind::NotInList => "NotInList",
+            ReadFaultKind::NotKnown => "NotKnown",
+            ReadFaultKind::Trailing => "Trailing",
+            ReadFaultKind::NoMemory => "NoMemory",
+        }
+    }
+}
+
+impl fmt::Display for ReadFaultKind {
+    fn fmt<W: fmt::Write>(&self, f: &mut fmt::Formatter<W>) -> fmt::Result {
+        f.write_str(self.name())
+    }
+}
+
+impl Error for ReadFaultKind {}
+
+/// The first fault of some bytes, from left to right. `Display` prints it as `NAME at P`.
+#[derive(Clone, Copy, Debug, PartialEq, Eq, Hash)]
+pub struct ReadFault {
+    /// What is wrong.
+    pub kind: ReadFaultKind,
+    /// Where: the place of a byte, from 0; 0 for `NoMemory`.
+    pub at: usize,
+}
+
+impl fmt::Display for ReadFault {
+    fn fmt<W: fmt::Write>(&self, f: &mut fmt::Formatter<W>) -> fmt::Result {
+        write!(f, "{} at {}", self.kind, self.at)
+    }
+}
+
+impl Error for ReadFault {}
+
+fn no_memory() -> ReadFault
+    ensures { (result.kind ≡ NoMemory) × (result.at ≡ 0) }
+{
+    ReadFault {
+        kind: ReadFaultKind::NoMemory,
+        at: 0,
+    }
+}
+
+impl From<AllocError> for ReadFault {
+    ghost from_gives = { λ _ e. (e.kind ≡ NoMemory) × (e.at ≡ 0) };
+
+    fn from(_error: AllocError) -> ReadFault {
+        no_memory()
+    }
+}
+
+impl<T: Drop> From<AllocFailed<T>> for ReadFault {
+    ghost from_gives = { λ _ e. (e.kind ≡ NoMemory) × (e.at ≡ 0) };
+
+    fn from(_failed: AllocFailed<T>) -> ReadFault {
+        no_memory()
+    }
+}
+
+impl From<dac_base::NoMemory> for ReadFault {
+    ghost from_gives = { λ _ e. (e.kind ≡ NoMemory) × (e.at ≡ 0) };
+
+    fn from(_refused: dac_base::NoMemory) -> ReadFault {
+        no_memory()
+    }
+}

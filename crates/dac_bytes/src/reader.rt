@@ -1,0 +1,262 @@
+//! Bytes that are being read: numbers, nodes, origins and dots.
+ghost use Rattle.std.specs.Prelude.{◌≡◌, ◌↔◌, IsTrue, [], length};
+ghost use Rattle.std.specs.Int.{w8, w16, w32, w64};
+ghost use Rattle.dac_bytes.specs.declared.fault.ReadFaultKind.TheVariants.{BadNumber, BadOrder};
+ghost use Rattle.dac_bytes.specs.Reading.{Reads, taken, number_at, range_at, node_at, incarnation_at, counter_at, origin_at, dot_at, origin_above_at, dot_above_at, whole};
+
+use crate::fault::{ReadFault, ReadFaultKind};
+use dac_base::NodeId;
+use dac_dots::{Dot, Origin};
+use std::marker::Model;
+
+/// The greatest counter of a dot.
+const MOST: u64 = 1 << 62;
+
+/// The rest of some bytes that are being read, and the place of its first byte. Contracts see these two.
+///
+/// Each call takes the reader and gives it back with what it read, after the field. A field that the bytes
+/// end in is `Short` at its first byte.
+#[derive(Debug, Drop)]
+pub struct ByteReader<'a> {
+    at: usize,
+    rest: &'a [u8],
+}
+
+impl<'a> Model for ByteReader<'a> {
+    ghost use Rattle.std.specs.Prelude.{length, ◌+◌, ◌<◌, ◌^◌};
+    ghost use Rattle.dac_bytes.specs.Reading.{Rest};
+
+    ghost Value = { Rest };
+
+    ghost view = { λ r. record { at = r.at; bytes = r.rest.now } };
+
+    ghost invariant = { λ r. r.at + length r.rest.now < 2 ^ 64 };
+}
+
+impl<'a> ByteReader<'a> {
+    /// All of the bytes, from place 0.
+    pub fn new(bytes: &'a [u8]) -> Self
+        ensures { result ≡ whole bytes.now }
+    {
+        ByteReader { at: 0, rest: bytes }
+    }
+
+    /// The place of the next byte, from 0.
+    pub fn at(&self) -> usize
+        ensures { result ≡ self.now.at }
+    {
+        self.at
+    }
+
+    /// Whether all bytes have been read.
+    pub fn is_at_end(&self) -> bool
+        ensures { IsTrue result ↔ (self.now.bytes ≡ []) }
+    {
+        self.rest.is_empty()
+    }
+
+    /// A fault at the next byte.
+    fn fault(&self, kind: ReadFaultKind) -> ReadFault
+        ensures { (result.kind ≡ kind) × (result.at ≡ self.now.at) }
+    {
+        ReadFault { kind, at: self.at }
+    }
+
+    /// The next so many bytes, and what is after them.
+    fn take(self, count: usize) -> Result<(&'a [u8], ByteReader<'a>), ReadFault>
+        ensures { Reads (λ x. (x.0.now, x.1)) result (taken count self.entry) }
+    {
+        if self.rest.len() < count {
+            return Err(self.fault(ReadFaultKind::Short));
+        }
+        let at = self.at;
+        let (front, rest) = self.rest.split_at(count);
+        Ok((
+            front,
+            ByteReader {
+                at: at + count,
+                rest,
+            },
+        ))
+    }
+
+    /// A number in one byte.
+    pub fn read_u8(self) -> Result<(u8, ByteReader<'a>), ReadFault>
+        ensures { result ≡ number_at w8 self.entry }
+    {
+        let (bytes, rest) = self.take(1)?;
+        Ok((bytes[0], rest))
+    }
+
+    /// A number in two bytes, the high one first.
+    pub fn read_u16(self) -> Result<(u16, ByteReader<'a>), ReadFault>
+        ensures { result ≡ number_at w16 self.entry }
+    {
+        let (bytes, rest) = self.take(2)?;
+        Ok((u16::from_be_bytes([bytes[0], bytes[1]]), rest))
+    }
+
+    /// A number in four bytes, the highest one first.
+    pub fn read_u32(self) -> Result<(u32, ByteReader<'a>), ReadFault>
+        ensures { result ≡ number_at w32 self.entry }
+    {
+        let (b, rest) = self.take(4)?;
+        Ok((u32::from_be_bytes([b[0], b[1], b[2], b[3]]), rest))
+    }
+
+    /// A number in eight bytes, the highest one first.
+    pub fn read_u64(self) -> Result<(u64, ByteReader<'a>), ReadFault>
+        ensures { result ≡ number_at w64 self.entry }
+    {
+        let (b, rest) = self.take(8)?;
+        let number = u64::from_be_bytes([b[0], b[1], b[2], b[3], b[4], b[5], b[6], b[7]]);
+        Ok((number, rest))
+    }
+
+    /// A number in one byte from low to high. Another is `BadNumber` at its byte.
+    #[tactic(auto, unfolding(crate::specs::Reading::range_at))]
+    pub fn read_u8_in(self, low: u8, high: u8) -> Result<(u8, ByteReader<'a>), ReadFault>
+        ensures { result ≡ range_at w8 low high self.entry }
+    {
+        let at = self.at();
+        let (number, rest) = self.read_u8()?;
+        if number < low || high < number {
+            return Err(bad_number(at));
+        }
+        Ok((number, rest))
+    }
+
+    /// A number in four bytes from low to high. Another is `BadNumber` at its first byte.
+    #[tactic(auto, unfolding(crate::specs::Reading::range_at))]
+    pub fn read_u32_in(self, low: u32, high: u32) -> Result<(u32, ByteReader<'a>), ReadFault>
+        ensures { result ≡ range_at w32 low high self.entry }
+    {
+        let at = self.at();
+        let (number, rest) = self.read_u32()?;
+        if number < low || high < number {
+            return Err(bad_number(at));
+        }
+        Ok((number, rest))
+    }
+
+    /// A number in eight bytes from low to high. Another is `BadNumber` at its first byte.
+    #[tactic(auto, unfolding(crate::specs::Reading::range_at))]
+    pub fn read_u64_in(self, low: u64, high: u64) -> Result<(u64, ByteReader<'a>), ReadFault>
+        ensures { result ≡ range_at w64 low high self.entry }
+    {
+        let at = self.at();
+        let (number, rest) = self.read_u64()?;
+        if number < low || high < number {
+            return Err(bad_number(at));
+        }
+        Ok((number, rest))
+    }
+
+    /// A node in one byte. One that isn't below the number of nodes is `BadName` at its byte.
+    #[tactic(auto, unfolding(crate::specs::Reading::node_at))]
+    pub fn read_node(self, nodes: u8) -> Result<(NodeId, ByteReader<'a>), ReadFault>
+        ensures { result ≡ node_at nodes self.entry }
+    {
+        let at = self.at();
+        let (node, rest) = self.read_u8()?;
+        if node < nodes {
+            Ok((NodeId(node), rest))
+        } else {
+            Err(ReadFault {
+                kind: ReadFaultKind::BadName,
+                at,
+            })
+        }
+    }
+
+    /// An incarnation in four bytes. 0 is `BadNumber` at its first byte.
+    pub fn read_incarnation(self) -> Result<(u32, ByteReader<'a>), ReadFault>
+        ensures { result ≡ incarnation_at self.entry }
+    {
+        let read = self.read_u32_in(1, u32::MAX)?;
+        Ok(read)
+    }
+
+    /// A counter of a dot in eight bytes. 0, and one above 2^62, is `BadNumber` at its first byte.
+    pub fn read_counter(self) -> Result<(u64, ByteReader<'a>), ReadFault>
+        ensures { result ≡ counter_at self.entry }
+    {
+        let read = self.read_u64_in(1, MOST)?;
+        Ok(read)
+    }
+
+    /// Who issued an operation: the node in one byte and its incarnation in four.
+    #[tactic(auto, unfolding(crate::specs::Reading::origin_at))]
+    pub fn read_origin(self, nodes: u8) -> Result<(Origin, ByteReader<'a>), ReadFault>
+        ensures { result ≡ origin_at nodes self.entry }
+    {
+        let (node, rest) = self.read_node(nodes)?;
+        let (inc, rest) = rest.read_incarnation()?;
+        Ok((Origin { node, inc }, rest))
+    }
+
+    /// The name of an operation: its origin in five bytes and its counter in eight.
+    #[tactic(auto, unfolding(crate::specs::Reading::dot_at))]
+    pub fn read_dot(self, nodes: u8) -> Result<(Dot, ByteReader<'a>), ReadFault>
+        ensures { result ≡ dot_at nodes self.entry }
+    {
+        let (origin, rest) = self.read_origin(nodes)?;
+        let (n, rest) = rest.read_counter()?;
+        Ok((Dot { origin, n }, rest))
+    }
+
+    /// An origin that is above the one before it, where there is one. Another is `BadOrder` at its first
+    /// byte.
+    #[tactic(auto, unfolding(crate::specs::Reading::origin_above_at))]
+    pub fn read_origin_above(
+        self,
+        nodes: u8,
+        before: Option<Origin>,
+    ) -> Result<(Origin, ByteReader<'a>), ReadFault>
+        ensures { result ≡ origin_above_at nodes before self.entry }
+    {
+        let at = self.at();
+        let (origin, rest) = self.read_origin(nodes)?;
+        if before.is_none_or(|before| before < origin) {
+            Ok((origin, rest))
+        } else {
+            Err(bad_order(at))
+        }
+    }
+
+    /// A dot that is above the one before it, where there is one. Another is `BadOrder` at its first byte.
+    #[tactic(auto, unfolding(crate::specs::Reading::dot_above_at))]
+    pub fn read_dot_above(
+        self,
+        nodes: u8,
+        before: Option<Dot>,
+    ) -> Result<(Dot, ByteReader<'a>), ReadFault>
+        ensures { result ≡ dot_above_at nodes before self.entry }
+    {
+        let at = self.at();
+        let (dot, rest) = self.read_dot(nodes)?;
+        if before.is_none_or(|before| before < dot) {
+            Ok((dot, rest))
+        } else {
+            Err(bad_order(at))
+        }
+    }
+}
+
+fn bad_number(at: usize) -> ReadFault
+    ensures { (result.kind ≡ BadNumber) × (result.at ≡ at) }
+{
+    ReadFault {
+        kind: ReadFaultKind::BadNumber,
+        at,
+    }
+}
+
+fn bad_order(at: usize) -> ReadFault
+    ensures { (result.kind ≡ BadOrder) × (result.at ≡ at) }
+{
+    ReadFault {
+        kind: ReadFaultKind::BadOrder,
+        at,
+    }
+}
