@@ -7,10 +7,12 @@
 //! A count that doesn't fit its field is written by its lowest bits.
 #![tactic(auto)]
 
+pub use read_fields::{read_app, read_key, read_manner};
 pub use writing::{
     write_claims, write_key, write_lives, write_manner, write_permissions, write_wishes,
 };
 
+mod read_fields;
 #[cfg(test)]
 mod tests;
 mod writing;
