@@ -1,2 +1,3 @@
-pub mod CounterLemmas
+pub mod AddLemmas
+pub mod ContextLemmas
 pub mod RowLemmas

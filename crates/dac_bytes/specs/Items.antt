@@ -64,8 +64,8 @@ module _ {S X : Type 0} (item : S → Rest → Field X) (next : X → S) where
   ends e front count i s r total lt fails so_far =
       let k : count - i ≡ suc (count - (i + 1)) = omega arith in
       Fails-on e.kind e (item s r) total fails (λ h.
-          let one : with_front front (items_at item next (count - i) s r) ≡ Err e = rw (k, h) refl in
-          sym so_far ∙ one)
+      let one : with_front front (items_at item next (count - i) s r) ≡ Err e = rw (k, h) refl in
+      sym so_far ∙ one)
 
   -- all items were read
   pub is_done : (front : List X) (count i : ℕ) (s : S) (r : Rest) (total : Field (List X)) → count ≤ i → with_front front (items_at item next (count - i) s r) ≡ total → total ≡ Ok (front, r)

@@ -1,10 +1,11 @@
 -- What an origin, a dot and a context have to be so that they can be read where there are so many nodes.
-use Rattle.std.specs.Prelude.{◌≡◌, ℕ, ◌<◌, ◌≤◌, ◌^◌, true, length}
+use Rattle.std.specs.Prelude.{◌≡◌, ℕ, ◌+◌, ◌<◌, ◌≤◌, ◌^◌, true, length}
 use Rattle.std.specs.List.{AllByRecursion}
 use Rattle.std.specs.FinSet as set
 use Rattle.dac_dots.specs.Dots.{Dots}
 use Rattle.dac_dots.specs.declared.dot.Origin.{Origin}
 use Rattle.dac_dots.specs.declared.dot.Dot.{Dot}
+use Rattle.dac_bytes.specs.Items.{Chain}
 use Rattle.dac_bytes.specs.Rows.{Row, rows_of}
 
 -- a node that there is, and an incarnation from 1
@@ -18,6 +19,20 @@ pub record IsDot (nodes : ℕ) (d : Dot) : Type 0 where
   pub origin : IsOrigin nodes d.origin
   pub first : 1 ≤ d.n
   pub last : d.n ≤ 2 ^ 62
+
+-- a further counter above a lower number
+pub record IsFurther (low n : ℕ) : Type 0 where
+  pub first : 1 ≤ n
+  pub last : n ≤ 2 ^ 62
+  pub above : low < n
+
+-- the dots of an origin as they can be written: 1 to upto, and further ones that don't continue these; there is one at least
+pub record IsRow (nodes : ℕ) (row : Row) : Type 0 where
+  pub origin : IsOrigin nodes row.origin
+  pub upto : row.upto ≤ 2 ^ 62
+  pub further : Chain IsFurther (λ n. n) (row.upto + 1) row.further
+  pub count : length row.further < 2 ^ 32
+  pub some : row.upto ≡ 0 → 1 ≤ length row.further
 
 -- each dot is one that there can be
 abbrev pub InRange : ℕ → Dots → Type 0

@@ -76,6 +76,15 @@ pub struct ReadFault {
     pub at: usize,
 }
 
+impl ReadFault {
+    /// What is wrong, and where.
+    pub fn new(kind: ReadFaultKind, at: usize) -> Self
+        ensures { (result.kind ≡ kind) × (result.at ≡ at) }
+    {
+        ReadFault { kind, at }
+    }
+}
+
 impl fmt::Display for ReadFault {
     fn fmt<W: fmt::Write>(&self, f: &mut fmt::Formatter<W>) -> fmt::Result {
         write!(f, "{} at {}", self.kind, self.at)
@@ -87,10 +96,7 @@ impl Error for ReadFault {}
 fn no_memory() -> ReadFault
     ensures { (result.kind ≡ NoMemory) × (result.at ≡ 0) }
 {
-    ReadFault {
-        kind: ReadFaultKind::NoMemory,
-        at: 0,
-    }
+    ReadFault::new(ReadFaultKind::NoMemory, 0)
 }
 
 impl From<AllocError> for ReadFault {
@@ -114,5 +120,24 @@ impl From<dac_base::NoMemory> for ReadFault {
 
     fn from(_refused: dac_base::NoMemory) -> ReadFault {
         no_memory()
+    }
+}
+
+#[cfg(test)]
+mod tests {
+    use super::*;
+    use std::test::Fail;
+
+    #[test]
+    fn number_and_name(rt: HostRuntime) -> Result<(), Fail> {
+        let fault = ReadFault::new(ReadFaultKind::BadOrder, 7);
+        assert_eq!(rt; fault.kind.number(), 3);
+        assert_eq!(rt; fault.kind.name(), "BadOrder");
+        let printed = format!(in rt.alloc(); "{fault}")?;
+        assert_eq!(rt; printed.as_str(), "BadOrder at 7");
+        let refused = ReadFault::from(dac_base::NoMemory);
+        assert_eq!(rt; refused.kind.number(), 8);
+        assert_eq!(rt; refused.at, 0);
+        Ok(())
     }
 }

@@ -1,17 +1,23 @@
-//! Numbers, origins, dots and causal contexts as bytes: the writing side.
+//! Numbers, origins, dots and causal contexts as bytes, written and read.
 //!
 //! All numbers are big-endian. An origin is five bytes, a dot thirteen. A context is a version vector with
 //! the dots beyond it, by origin: how far the origin's counters go 1, 2, 3, .. without a gap, and the
 //! further ones. Each call of [`ByteWriter`] appends exactly the bytes that this crate's `specs/` give the
 //! value, so a value has one spelling, and of a context it is proved that its rows tell which dots it has.
 //!
+//! Each call of [`ByteReader`] gives exactly the value that its bytes spell, or the first fault from left
+//! to right with the place of its byte, as the reading functions of `specs/` have it. Their laws stand
+//! beside them: what is read of a field is spelled so and is in range, and what is in range is read from
+//! its spelling, whatever follows. So of each field, and of contexts, there is one spelling that is read.
+//!
 //! A count that doesn't fit its field is written by its lowest bits. Writing a context takes time in its
-//! dots times its origins.
+//! dots times its origins; reading one reserves nothing for a count.
 #![tactic(auto)]
 
 mod context;
 mod fault;
 mod reader;
+mod rows;
 mod writer;
 
 pub use fault::{ReadFault, ReadFaultKind};

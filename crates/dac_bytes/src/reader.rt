@@ -1,7 +1,6 @@
 //! Bytes that are being read: numbers, nodes, origins and dots.
-ghost use Rattle.std.specs.Prelude.{◌≡◌, ◌↔◌, IsTrue, [], length};
+ghost use Rattle.std.specs.Prelude.{◌≡◌, ◌↔◌, ◌≤◌, IfOk, IsTrue, []};
 ghost use Rattle.std.specs.Int.{w8, w16, w32, w64};
-ghost use Rattle.dac_bytes.specs.declared.fault.ReadFaultKind.TheVariants.{BadNumber, BadOrder};
 ghost use Rattle.dac_bytes.specs.Reading.{Reads, taken, number_at, range_at, node_at, incarnation_at, counter_at, origin_at, dot_at, origin_above_at, dot_above_at, whole};
 
 use crate::fault::{ReadFault, ReadFaultKind};
@@ -10,7 +9,7 @@ use dac_dots::{Dot, Origin};
 use std::marker::Model;
 
 /// The greatest counter of a dot.
-const MOST: u64 = 1 << 62;
+pub(crate) const MOST: u64 = 1 << 62;
 
 /// The rest of some bytes that are being read, and the place of its first byte. Contracts see these two.
 ///
@@ -55,19 +54,12 @@ impl<'a> ByteReader<'a> {
         self.rest.is_empty()
     }
 
-    /// A fault at the next byte.
-    fn fault(&self, kind: ReadFaultKind) -> ReadFault
-        ensures { (result.kind ≡ kind) × (result.at ≡ self.now.at) }
-    {
-        ReadFault { kind, at: self.at }
-    }
-
     /// The next so many bytes, and what is after them.
     fn take(self, count: usize) -> Result<(&'a [u8], ByteReader<'a>), ReadFault>
         ensures { Reads (λ x. (x.0.now, x.1)) result (taken count self.entry) }
     {
         if self.rest.len() < count {
-            return Err(self.fault(ReadFaultKind::Short));
+            return Err(ReadFault::new(ReadFaultKind::Short, self.at));
         }
         let at = self.at;
         let (front, rest) = self.rest.split_at(count);
@@ -116,12 +108,13 @@ impl<'a> ByteReader<'a> {
     /// A number in one byte from low to high. Another is `BadNumber` at its byte.
     #[tactic(auto, unfolding(crate::specs::Reading::range_at))]
     pub fn read_u8_in(self, low: u8, high: u8) -> Result<(u8, ByteReader<'a>), ReadFault>
-        ensures { result ≡ range_at w8 low high self.entry }
+        ensures exact { result ≡ range_at w8 low high self.entry }
+        ensures within { IfOk result (λ x. (low ≤ x.0) × (x.0 ≤ high)) }
     {
         let at = self.at();
         let (number, rest) = self.read_u8()?;
         if number < low || high < number {
-            return Err(bad_number(at));
+            return Err(ReadFault::new(ReadFaultKind::BadNumber, at));
         }
         Ok((number, rest))
     }
@@ -129,12 +122,13 @@ impl<'a> ByteReader<'a> {
     /// A number in four bytes from low to high. Another is `BadNumber` at its first byte.
     #[tactic(auto, unfolding(crate::specs::Reading::range_at))]
     pub fn read_u32_in(self, low: u32, high: u32) -> Result<(u32, ByteReader<'a>), ReadFault>
-        ensures { result ≡ range_at w32 low high self.entry }
+        ensures exact { result ≡ range_at w32 low high self.entry }
+        ensures within { IfOk result (λ x. (low ≤ x.0) × (x.0 ≤ high)) }
     {
         let at = self.at();
         let (number, rest) = self.read_u32()?;
         if number < low || high < number {
-            return Err(bad_number(at));
+            return Err(ReadFault::new(ReadFaultKind::BadNumber, at));
         }
         Ok((number, rest))
     }
@@ -142,12 +136,13 @@ impl<'a> ByteReader<'a> {
     /// A number in eight bytes from low to high. Another is `BadNumber` at its first byte.
     #[tactic(auto, unfolding(crate::specs::Reading::range_at))]
     pub fn read_u64_in(self, low: u64, high: u64) -> Result<(u64, ByteReader<'a>), ReadFault>
-        ensures { result ≡ range_at w64 low high self.entry }
+        ensures exact { result ≡ range_at w64 low high self.entry }
+        ensures within { IfOk result (λ x. (low ≤ x.0) × (x.0 ≤ high)) }
     {
         let at = self.at();
         let (number, rest) = self.read_u64()?;
         if number < low || high < number {
-            return Err(bad_number(at));
+            return Err(ReadFault::new(ReadFaultKind::BadNumber, at));
         }
         Ok((number, rest))
     }
@@ -162,10 +157,7 @@ impl<'a> ByteReader<'a> {
         if node < nodes {
             Ok((NodeId(node), rest))
         } else {
-            Err(ReadFault {
-                kind: ReadFaultKind::BadName,
-                at,
-            })
+            Err(ReadFault::new(ReadFaultKind::BadName, at))
         }
     }
 
@@ -220,7 +212,7 @@ impl<'a> ByteReader<'a> {
         if before.is_none_or(|before| before < origin) {
             Ok((origin, rest))
         } else {
-            Err(bad_order(at))
+            Err(ReadFault::new(ReadFaultKind::BadOrder, at))
         }
     }
 
@@ -238,25 +230,79 @@ impl<'a> ByteReader<'a> {
         if before.is_none_or(|before| before < dot) {
             Ok((dot, rest))
         } else {
-            Err(bad_order(at))
+            Err(ReadFault::new(ReadFaultKind::BadOrder, at))
         }
     }
 }
 
-fn bad_number(at: usize) -> ReadFault
-    ensures { (result.kind ≡ BadNumber) × (result.at ≡ at) }
-{
-    ReadFault {
-        kind: ReadFaultKind::BadNumber,
-        at,
-    }
-}
+#[cfg(test)]
+mod tests {
+    use super::*;
+    use std::test::Fail;
 
-fn bad_order(at: usize) -> ReadFault
-    ensures { (result.kind ≡ BadOrder) × (result.at ≡ at) }
-{
-    ReadFault {
-        kind: ReadFaultKind::BadOrder,
-        at,
+    #[test]
+    fn numbers(rt: HostRuntime) -> Result<(), Fail> {
+        let bytes = b"\x12\x34\x56\x78\x9a\xbc\xde\x01\x02\x03\x04\x05\x06\x07\x08";
+        let (a, reader) = ByteReader::new(bytes.as_slice()).read_u8()?;
+        let (b, reader) = reader.read_u16()?;
+        let (c, reader) = reader.read_u32()?;
+        assert!(rt; !reader.is_at_end());
+        let (d, reader) = reader.read_u64()?;
+        assert_eq!(rt; a, 0x12);
+        assert_eq!(rt; b, 0x3456);
+        assert_eq!(rt; c, 0x789a_bcde);
+        assert_eq!(rt; d, 0x0102_0304_0506_0708);
+        assert_eq!(rt; reader.at(), 15);
+        assert!(rt; reader.is_at_end());
+        Ok(())
+    }
+
+    #[test]
+    fn numbers_in_ranges(rt: HostRuntime) -> Result<(), Fail> {
+        let bytes = b"\x03\x00\x00\x00\x09\x00\x00\x00\x00\x00\x00\x00\x05";
+        let (how, reader) = ByteReader::new(bytes.as_slice()).read_u8_in(1, 3)?;
+        let (count, reader) = reader.read_u32_in(1, 9)?;
+        let (term, _) = reader.read_u64_in(5, 6)?;
+        assert_eq!(rt; how, 3);
+        assert_eq!(rt; count, 9);
+        assert_eq!(rt; term, 5);
+        let read = ByteReader::new(bytes.as_slice()).read_u8_in(0, 2);
+        assert_eq!(rt;
+            read.err(),
+            Some(ReadFault::new(ReadFaultKind::BadNumber, 0))
+        );
+        Ok(())
+    }
+
+    #[test]
+    fn dots_and_their_parts(rt: HostRuntime) -> Result<(), Fail> {
+        let bytes = b"\x02\x00\x00\x01\x02\x00\x00\x00\x00\x00\x00\x00\x05";
+        let (node, reader) = ByteReader::new(bytes.as_slice()).read_node(3)?;
+        let (inc, reader) = reader.read_incarnation()?;
+        let (n, _) = reader.read_counter()?;
+        assert_eq!(rt; node, NodeId(2));
+        assert_eq!(rt; inc, 258);
+        assert_eq!(rt; n, 5);
+        let (origin, _) = ByteReader::new(bytes.as_slice()).read_origin(3)?;
+        let (dot, _) = ByteReader::new(bytes.as_slice()).read_dot(3)?;
+        assert_eq!(rt; origin, Origin { node, inc });
+        assert_eq!(rt; dot, Dot { origin, n });
+        let (above, _) = ByteReader::new(bytes.as_slice()).read_origin_above(3, None)?;
+        assert_eq!(rt; above, origin);
+        let read = ByteReader::new(bytes.as_slice()).read_dot_above(3, Some(dot));
+        assert_eq!(rt;
+            read.err(),
+            Some(ReadFault::new(ReadFaultKind::BadOrder, 0))
+        );
+        Ok(())
+    }
+
+    #[test]
+    fn faults_of_a_dot(rt: HostRuntime) {
+        let bytes = b"\x02\x00\x00\x01\x02\x00\x00\x00\x00\x00\x00\x00";
+        let read = ByteReader::new(bytes.as_slice()).read_dot(3);
+        assert_eq!(rt; read.err(), Some(ReadFault::new(ReadFaultKind::Short, 5)));
+        let read = ByteReader::new(bytes.as_slice()).read_dot(2);
+        assert_eq!(rt; read.err(), Some(ReadFault::new(ReadFaultKind::BadName, 0)));
     }
 }

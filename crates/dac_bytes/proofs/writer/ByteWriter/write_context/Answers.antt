@@ -1,5 +1,6 @@
 use Rattle.std.proofs.Common.{rules}
-use Rattle.dac_bytes.proofs.RowLemmas.{context_written, rows_tell}
+use Rattle.dac_bytes.specs.RowLaws.{rows_tell}
+use Rattle.dac_bytes.proofs.RowLemmas.{context_written}
 use Rattle.dac_bytes.proofs.writer.ByteWriter.write_context.Goals as goal
 
 pub returns-clause-ok : goal.returns-clause-ok

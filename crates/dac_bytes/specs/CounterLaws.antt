@@ -16,16 +16,16 @@ use Rattle.dac_bytes.specs.Rows.{is_of, counters_of}
 
 -- ---- numbers
 
-less : (a b : ℕ) → is_lt (nat_cmp a b) ≡ true → a < b
+pub less : (a b : ℕ) → is_lt (nat_cmp a b) ≡ true → a < b
 less a b e = grind (arith, nat_tests)
 
-is_less : (a b : ℕ) → a < b → is_lt (nat_cmp a b) ≡ true
+pub is_less : (a b : ℕ) → a < b → is_lt (nat_cmp a b) ≡ true
 is_less a b e = grind (arith, nat_tests)
 
 pub same : (a b : ℕ) → eq_by_cmp nat_cmp a b ≡ true → a ≡ b
 same a b e = grind (arith, nat_tests)
 
-is_same : (a b : ℕ) → a ≡ b → eq_by_cmp nat_cmp a b ≡ true
+pub is_same : (a b : ℕ) → a ≡ b → eq_by_cmp nat_cmp a b ≡ true
 is_same a b e = grind (arith, nat_tests)
 
 is_other : (a b : ℕ) → (a ≡ b → ⊥) → eq_by_cmp nat_cmp a b ≡ false
@@ -34,7 +34,7 @@ is_other a b e = grind (arith, nat_tests)
 turned : (a b : ℕ) → eq_by_cmp nat_cmp a b ≡ nat_eq b a
 turned a b = grind (arith, nat_tests)
 
-below_more : (k n : ℕ) (ns : List ℕ) → k < n → is_below_all nat_cmp n ns ≡ true → is_below_all nat_cmp k ns ≡ true
+pub below_more : (k n : ℕ) (ns : List ℕ) → k < n → is_below_all nat_cmp n ns ≡ true → is_below_all nat_cmp k ns ≡ true
 below_more k n [] p h = refl
 below_more k n (x ∷ ns) p h = and_from _ _ (is_less k x (let q = less n x (and_parts _ _ h).0 in omega arith)) (below_more k n ns p (and_parts _ _ h).1)
 
@@ -127,7 +127,7 @@ module _ (p : ℕ → Bool) where
 
 -- ---- the counters of an origin
 
-is_eq-then : (r s : Ordering) → is_eq (ordering_then r s) ≡ (is_eq r && is_eq s)
+pub is_eq-then : (r s : Ordering) → is_eq (ordering_then r s) ≡ (is_eq r && is_eq s)
 is_eq-then Less s = refl
 is_eq-then Equal s = refl
 is_eq-then Greater s = refl
