@@ -7,10 +7,16 @@
 //! A count that doesn't fit its field is written by its lowest bits.
 #![tactic(auto)]
 
+pub use reading_chains::{read_claims, read_lives};
+pub use reading_fields::{read_app, read_key, read_manner};
+pub use reading_keyed::{read_permissions, read_wishes};
 pub use writing::{
     write_claims, write_key, write_lives, write_manner, write_permissions, write_wishes,
 };
 
+mod reading_chains;
+mod reading_fields;
+mod reading_keyed;
 #[cfg(test)]
 mod tests;
 mod writing;

@@ -1,0 +1,16 @@
+use Rattle.std.proofs.Common.{◌≡◌, ◌-◌, Some, None}
+use Rattle.dac_bytes.specs.Reading.{items_at}
+use Rattle.dac_bytes.specs.Items.{with_front}
+use Rattle.std.specs.FinMap as map
+use Rattle.dac_base.specs.declared.AppId.{AppId}
+use Rattle.dac_base.specs.Ids.{app_cmp}
+use Rattle.dac_chains.specs.declared.claims.Claim.{Claim}
+use Rattle.dac_part_bytes.specs.Reading.{claim_at}
+use Rattle.dac_part_bytes.specs.Ascending.{Reaches}
+use Rattle.dac_part_bytes.proofs.reading_chains.read_counted_claims.Given as goal
+
+-- what was read with what is still to be read is the whole, and the items so far are below what may come
+abbrev pub invariant-loop : goal.invariant-loop
+invariant-loop l =
+    (with_front (map.entries l.claims) (items_at (claim_at l.config) (λ (e : AppId × Claim). Some e.0) (l.count - l.counter) l.before l.rest) ≡ items_at (claim_at l.config) (λ (e : AppId × Claim). Some e.0) l.count None l.fn.reader)
+    × Reaches app_cmp (λ (e : AppId × Claim). e.0) l.before (map.entries l.claims)

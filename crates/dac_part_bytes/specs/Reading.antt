@@ -1,0 +1,273 @@
+-- Reading the parts of a state from left to right, with the first fault that is met and its place. The names in them are those of a configuration, and the dots that stand are among those that are known.
+use Rattle.std.specs.Prelude.{ℕ, zero, suc, ◌-◌, ◌^◌, Bool, true, false, ◌==◌, List, length, Option, Some, None, is_some, Ok, nat_lt, if◌then◌else◌}
+use Rattle.std.specs.Int.{w8, w16, w32}
+use Rattle.std.specs.FinSet as set
+use Rattle.std.specs.FinMap as map
+use Rattle.dac_base.specs.declared.NodeId.{NodeId}
+use Rattle.dac_base.specs.declared.AppId.{AppId}
+use Rattle.dac_base.specs.Ids.{app_cmp, node_cmp}
+use Rattle.dac_dots.specs.declared.dot.Dot.{Dot}
+use Rattle.dac_dots.specs.declared.dot.Origin.{Origin}
+use Rattle.dac_dots.specs.Dots.{Dots}
+use Rattle.dac_lattice.specs.declared.flags.Flag.{Flag}
+use Rattle.dac_lattice.specs.declared.flags.Flag.TheVariants.{Up, Down}
+use Rattle.dac_chains.specs.declared.lives.Life.{Life}
+use Rattle.dac_chains.specs.declared.claims.Claim.{Claim}
+use Rattle.dac_chains.specs.declared.claims.How.{How}
+use Rattle.dac_chains.specs.declared.claims.How.TheVariants.{Normal, Failover, Takeover}
+use Rattle.dac_chains.specs.Lives.{Lives}
+use Rattle.dac_chains.specs.Claims.{Claims}
+use Rattle.dac_wishes.specs.declared.key.Key.{Key}
+use Rattle.dac_wishes.specs.Keys.{key_cmp}
+use Rattle.dac_wishes.specs.Writes.{Writes}
+use Rattle.dac_wishes.specs.PermissionsValue.{Permits}
+use Rattle.dac_wishes.specs.StoredPermits.{DotFlags, permits_of}
+use Rattle.dac_wishes.specs.StoredWishes.{writes_of}
+use Rattle.dac_config.specs.Table.{Table, node_count, app_count, group_of}
+use Rattle.dac_bytes.specs.declared.fault.ReadFaultKind.TheVariants.{BadNumber, BadOrder, BadName, NotInList, NotKnown}
+use Rattle.dac_bytes.specs.Reading.{Rest, Field, fault, ◌>>=◌, number_at, range_at, node_at, incarnation_at, counter_at, origin_at, dot_above_at, items_at, is_above}
+
+-- a count, and so many items, each above the one before it by its key
+unfoldable pub counted_at : {K X : Type 0} → (Rest → Field ℕ) → (Option K → Rest → Field X) → (X → K) → Rest → Field (List X)
+counted_at count item key r = do
+  n ← count r
+  xs ← items_at item (λ x. Some (key x)) n.0 None n.1
+  Ok (xs.0, xs.1)
+
+-- ---- keys
+
+-- an application, which has to be below the number of applications
+unfoldable pub app_at : ℕ → Rest → Field AppId
+app_at apps r = do
+  n ← number_at w16 r
+  if nat_lt n.0 apps then Ok (record { 0 = n.0 }, n.1) else fault BadName r
+
+-- an application at an incarnation of a node
+abbrev pub key_of : AppId → Origin → Key
+key_of app origin = record { app = app; node = origin.node; inc = origin.inc }
+
+-- whether the node is in the application's list
+abbrev pub is_listed : Table → AppId → NodeId → Bool
+is_listed t app node = is_some (group_of t app node)
+
+-- the fields of a key
+unfoldable pub key_fields_at : Table → Rest → Field Key
+key_fields_at t r = do
+  app ← app_at (app_count t) r
+  origin ← origin_at (node_count t) app.1
+  Ok (key_of app.0 origin.0, origin.1)
+
+-- a key, whose node is in the application's list
+unfoldable pub listed_key_at : Table → Rest → Field Key
+listed_key_at t r = do
+  key ← key_fields_at t r
+  if is_listed t key.0.app key.0.node then Ok key else fault NotInList r
+
+-- a key above the one before it
+unfoldable pub key_at : Table → Option Key → Rest → Field Key
+key_at t before r = do
+  key ← listed_key_at t r
+  if is_above key_cmp before key.0 then Ok key else fault BadOrder r
+
+-- ---- permits
+
+-- a dot above the one before it, which is known
+unfoldable pub known_dot_at : ℕ → Dots → Option Dot → Rest → Field Dot
+known_dot_at nodes known before r = do
+  d ← dot_above_at nodes before r
+  if set.contains known d.0 then Ok d else fault NotKnown r
+
+-- what a permit says, by its code
+abbrev pub value_of : ℕ → Flag
+value_of zero = Down
+value_of (suc n) = Up
+
+-- a permit: its dot, and what it says
+unfoldable pub permit_at : ℕ → Dots → Option Dot → Rest → Field (Dot × Flag)
+permit_at nodes known before r = do
+  d ← known_dot_at nodes known before r
+  value ← range_at w8 0 1 d.1
+  Ok ((d.0, value_of value.0), value.1)
+
+-- a count of at least one
+abbrev pub some_at : Rest → Field ℕ
+some_at r = range_at w32 1 (2 ^ 32 - 1) r
+
+-- the permits of a key, at least one
+unfoldable pub permits_of_key_at : ℕ → Dots → Rest → Field DotFlags
+permits_of_key_at nodes known r = counted_at some_at (permit_at nodes known) (λ (p : Dot × Flag). p.0) r
+
+-- a key above the one before it, with its permits
+unfoldable pub keyed_permits_at : Table → Dots → Option Key → Rest → Field (Key × DotFlags)
+keyed_permits_at t known before r = do
+  key ← key_at t before r
+  permits ← permits_of_key_at (node_count t) known key.1
+  Ok ((key.0, permits.0), permits.1)
+
+-- the permits, by key
+unfoldable pub permits_by_key_at : Table → Dots → Rest → Field (List (Key × DotFlags))
+permits_by_key_at t known r = counted_at (number_at w32) (keyed_permits_at t known) (λ (e : Key × DotFlags). e.0) r
+
+-- the permits
+unfoldable pub all_permits_at : Table → Dots → Rest → Field Permits
+all_permits_at t known r = do
+  keyed ← permits_by_key_at t known r
+  Ok (permits_of keyed.0, keyed.1)
+
+-- ---- start wishes
+
+-- the dots of the start wishes of a key, at least one
+unfoldable pub dots_of_key_at : ℕ → Dots → Rest → Field (List Dot)
+dots_of_key_at nodes known r = counted_at some_at (known_dot_at nodes known) (λ (d : Dot). d) r
+
+-- a key above the one before it, with the dots of its start wishes
+unfoldable pub keyed_dots_at : Table → Dots → Option Key → Rest → Field (Key × Dots)
+keyed_dots_at t known before r = do
+  key ← key_at t before r
+  dots ← dots_of_key_at (node_count t) known key.1
+  Ok ((key.0, set.from_list dots.0), dots.1)
+
+-- the start wishes, by key
+unfoldable pub starts_by_key_at : Table → Dots → Rest → Field (List (Key × Dots))
+starts_by_key_at t known r = counted_at (number_at w32) (keyed_dots_at t known) (λ (e : Key × Dots). e.0) r
+
+-- the start wishes
+unfoldable pub all_starts_at : Table → Dots → Rest → Field Writes
+all_starts_at t known r = do
+  keyed ← starts_by_key_at t known r
+  Ok (writes_of keyed.0, keyed.1)
+
+-- ---- lives
+
+-- a node above the one before it
+unfoldable pub node_above_at : ℕ → Option NodeId → Rest → Field NodeId
+node_above_at nodes before r = do
+  node ← node_at nodes r
+  if is_above node_cmp before node.0 then Ok node else fault BadOrder r
+
+-- up or down, by its code
+abbrev pub flag_of : ℕ → Flag
+flag_of zero = Up
+flag_of (suc n) = Down
+
+-- an incarnation, and whether it is up
+unfoldable pub inc_and_flag_at : Rest → Field Life
+inc_and_flag_at r = do
+  inc ← incarnation_at r
+  down ← range_at w8 0 1 inc.1
+  Ok (record { inc = inc.0; flag = flag_of down.0 }, down.1)
+
+-- the life of a node above the one before it
+unfoldable pub life_at : ℕ → Option NodeId → Rest → Field (NodeId × Life)
+life_at nodes before r = do
+  node ← node_above_at nodes before r
+  life ← inc_and_flag_at node.1
+  Ok ((node.0, life.0), life.1)
+
+-- the lives, in order
+unfoldable pub lives_in_order_at : ℕ → Rest → Field (List (NodeId × Life))
+lives_in_order_at nodes r = counted_at (number_at w8) (life_at nodes) (λ (e : NodeId × Life). e.0) r
+
+-- the lives
+unfoldable pub all_lives_at : ℕ → Rest → Field Lives
+all_lives_at nodes r = do
+  lives ← lives_in_order_at nodes r
+  Ok (map.from_entries lives.0, lives.1)
+
+-- ---- claims
+
+-- how an application came to its node, by its code
+abbrev pub how_of : ℕ → How
+how_of zero = Normal
+how_of (suc zero) = Normal
+how_of (suc (suc zero)) = Failover
+how_of (suc (suc (suc n))) = Takeover
+
+-- how an application came to its node
+unfoldable pub how_at : Rest → Field How
+how_at r = do
+  n ← range_at w8 1 3 r
+  Ok (how_of n.0, n.1)
+
+-- the code of no node, or of a node that there is
+unfoldable pub from_code_at : ℕ → Rest → Field ℕ
+from_code_at nodes r = do
+  n ← number_at w8 r
+  if nat_lt nodes n.0 then fault BadName r else Ok n
+
+-- what was started came from no node, and all else from one
+abbrev pub is_from_of : How → ℕ → Bool
+is_from_of Normal n = n == 0
+is_from_of Failover n = nat_lt 0 n
+is_from_of Takeover n = nat_lt 0 n
+
+-- the code of a node that fits how
+unfoldable pub fitting_code_at : ℕ → How → Rest → Field ℕ
+fitting_code_at nodes how r = do
+  n ← from_code_at nodes r
+  if is_from_of how n.0 then Ok n else fault BadNumber r
+
+-- a node, by its code
+abbrev pub from_of : ℕ → Option NodeId
+from_of zero = None
+from_of (suc n) = Some (record { 0 = n })
+
+-- the node that an application was taken from
+unfoldable pub from_at : ℕ → How → Rest → Field (Option NodeId)
+from_at nodes how r = do
+  n ← fitting_code_at nodes how r
+  Ok (from_of n.0, n.1)
+
+-- how an application came to its node, and from which
+unfoldable pub manner_at : ℕ → Rest → Field (How × Option NodeId)
+manner_at nodes r = do
+  how ← how_at r
+  from ← from_at nodes how.0 how.1
+  Ok ((how.0, from.0), from.1)
+
+-- who claims an application, and how it came there
+unfoldable pub claimer_at : ℕ → Rest → Field (Origin × (How × Option NodeId))
+claimer_at nodes r = do
+  origin ← origin_at nodes r
+  manner ← manner_at nodes origin.1
+  Ok ((origin.0, manner.0), manner.1)
+
+-- a claim by its parts
+abbrev pub claim_of : ℕ → Origin × (How × Option NodeId) → Claim
+claim_of term claimer = record { term = term; origin = claimer.0; how = claimer.1.0; from = claimer.1.1 }
+
+-- a claim, its term first
+unfoldable pub term_and_claimer_at : ℕ → Rest → Field Claim
+term_and_claimer_at nodes r = do
+  term ← counter_at r
+  claimer ← claimer_at nodes term.1
+  Ok (claim_of term.0 claimer.0, claimer.1)
+
+-- the fields of an application's claim
+unfoldable pub claim_fields_at : Table → Rest → Field (AppId × Claim)
+claim_fields_at t r = do
+  app ← app_at (app_count t) r
+  claim ← term_and_claimer_at (node_count t) app.1
+  Ok ((app.0, claim.0), claim.1)
+
+-- an application's claim by a node in its list
+unfoldable pub listed_claim_at : Table → Rest → Field (AppId × Claim)
+listed_claim_at t r = do
+  e ← claim_fields_at t r
+  if is_listed t e.0.0 e.0.1.origin.node then Ok e else fault NotInList r
+
+-- the claim of an application above the one before it
+unfoldable pub claim_at : Table → Option AppId → Rest → Field (AppId × Claim)
+claim_at t before r = do
+  e ← listed_claim_at t r
+  if is_above app_cmp before e.0.0 then Ok e else fault BadOrder r
+
+-- the claims, in order
+unfoldable pub claims_in_order_at : Table → Rest → Field (List (AppId × Claim))
+claims_in_order_at t r = counted_at (number_at w16) (claim_at t) (λ (e : AppId × Claim). e.0) r
+
+-- the claims
+unfoldable pub all_claims_at : Table → Rest → Field Claims
+all_claims_at t r = do
+  claims ← claims_in_order_at t r
+  Ok (map.from_entries claims.0, claims.1)

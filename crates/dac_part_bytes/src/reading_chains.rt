@@ -1,0 +1,203 @@
+//! The reading side: lives and claims.
+ghost use Rattle.std.specs.Prelude.{◌≡◌, ◌<◌, None, Some, IfOk};
+ghost use Rattle.std.specs.FinMap as map;
+ghost use Rattle.dac_config.specs.Table.{app_count, node_count};
+ghost use Rattle.dac_bytes.specs.Reading.{Gives, items_at};
+ghost use Rattle.dac_part_bytes.specs.Reading.{all_claims_at, all_lives_at, claim_at, claim_fields_at, claimer_at, claims_in_order_at, life_at, listed_claim_at, lives_in_order_at, term_and_claimer_at};
+
+use crate::reading_fields::{is_listed, read_app, read_inc_and_flag, read_manner, read_node_above};
+use dac_base::{AppId, NodeId};
+use dac_bytes::{ByteReader, ReadFault, ReadFaultKind};
+use dac_chains::{Claim, Claims, How, Life, Lives};
+use dac_config::Config;
+use dac_dots::Origin;
+use dac_lattice::{Bottom, Lattice};
+use std::alloc::Global;
+
+/// The greatest term of a claim.
+const MOST: u64 = 1 << 62;
+
+/// The life of a node above the one before it.
+#[tactic(auto, unfolding(crate::specs::Reading::life_at))]
+fn read_life<'a>(
+    reader: ByteReader<'a>,
+    nodes: u8,
+    before: Option<NodeId>,
+) -> Result<((NodeId, Life), ByteReader<'a>), ReadFault>
+    ensures { result ≡ life_at nodes before reader.entry }
+{
+    let (node, rest) = read_node_above(reader, nodes, before)?;
+    let (life, rest) = read_inc_and_flag(rest)?;
+    Ok(((node, life), rest))
+}
+
+/// So many lives.
+fn read_counted_lives<'a>(
+    reader: ByteReader<'a>,
+    alloc: Global,
+    nodes: u8,
+    count: u8,
+) -> Result<(Lives, ByteReader<'a>), ReadFault>
+    ensures { Gives (λ x. (map.entries x.0, x.1)) result (items_at (life_at nodes) (λ e. Some e.0) count None reader.entry) }
+{
+    let mut lives = Lives::bottom(alloc);
+    let mut before = None;
+    let mut rest = reader;
+    for _ in 0..count {
+        let (entry, after) = read_life(rest, nodes, before)?;
+        let (node, life) = entry;
+        lives = lives.join(&Lives::one(alloc, node, life)?)?;
+        before = Some(node);
+        rest = after;
+    }
+    Ok((lives, rest))
+}
+
+/// The lives: how many nodes have one, and for each in ascending order the node, its incarnation, and 0
+/// for up or 1 for down.
+///
+/// Each field is checked as it is read, so the fault is the first from left to right: a node is `BadName`
+/// where the configuration hasn't it and then `BadOrder` where it isn't above the one before it, an
+/// incarnation of 0 is `BadNumber` at its first byte, and so is a flag above 1. `NoMemory` says nothing of
+/// the bytes.
+#[tactic(auto, unfolding(crate::specs::Reading::all_lives_at, crate::specs::Reading::lives_in_order_at, crate::specs::Reading::counted_at))]
+pub fn read_lives<'a>(
+    reader: ByteReader<'a>,
+    alloc: Global,
+    config: &Config,
+) -> Result<(Lives, ByteReader<'a>), ReadFault>
+    ensures { Gives (λ x. x) result (all_lives_at (node_count config.now) reader.entry) }
+{
+    let (count, rest) = reader.read_u8()?;
+    let read = read_counted_lives(rest, alloc, config.nodes(), count)?;
+    Ok(read)
+}
+
+#[tactic(auto, unfolding(crate::specs::Reading::claimer_at))]
+fn read_claimer<'a>(
+    reader: ByteReader<'a>,
+    nodes: u8,
+) -> Result<((Origin, (How, Option<NodeId>)), ByteReader<'a>), ReadFault>
+    ensures { result ≡ claimer_at nodes reader.entry }
+{
+    let (origin, rest) = reader.read_origin(nodes)?;
+    let (manner, rest) = read_manner(rest, nodes)?;
+    Ok(((origin, manner), rest))
+}
+
+#[tactic(auto, unfolding(crate::specs::Reading::term_and_claimer_at))]
+fn read_term_and_claimer<'a>(
+    reader: ByteReader<'a>,
+    nodes: u8,
+) -> Result<(Claim, ByteReader<'a>), ReadFault>
+    ensures { result ≡ term_and_claimer_at nodes reader.entry }
+{
+    let (term, rest) = reader.read_u64_in(1, MOST)?;
+    let (claimer, rest) = read_claimer(rest, nodes)?;
+    let (origin, (how, from)) = claimer;
+    let claim = Claim {
+        term,
+        origin,
+        how,
+        from,
+    };
+    Ok((claim, rest))
+}
+
+#[tactic(auto, unfolding(crate::specs::Reading::claim_fields_at))]
+fn read_claim_fields<'a>(
+    reader: ByteReader<'a>,
+    config: &Config,
+) -> Result<((AppId, Claim), ByteReader<'a>), ReadFault>
+    ensures exact { result ≡ claim_fields_at config.now reader.entry }
+    ensures below { IfOk result (λ x. x.0.0.0 < app_count config.now) }
+{
+    let (app, rest) = read_app(reader, config.apps())?;
+    let (claim, rest) = read_term_and_claimer(rest, config.nodes())?;
+    Ok(((app, claim), rest))
+}
+
+#[tactic(auto, unfolding(crate::specs::Reading::listed_claim_at))]
+fn read_listed_claim<'a>(
+    reader: ByteReader<'a>,
+    config: &Config,
+) -> Result<((AppId, Claim), ByteReader<'a>), ReadFault>
+    ensures { result ≡ listed_claim_at config.now reader.entry }
+{
+    let at = reader.at();
+    let (entry, rest) = read_claim_fields(reader, config)?;
+    let (app, claim) = entry;
+    if is_listed(config, app, claim.origin.node) {
+        Ok(((app, claim), rest))
+    } else {
+        Err(ReadFault {
+            kind: ReadFaultKind::NotInList,
+            at,
+        })
+    }
+}
+
+/// The claim of an application above the one before it.
+#[tactic(auto, unfolding(crate::specs::Reading::claim_at))]
+fn read_claim<'a>(
+    reader: ByteReader<'a>,
+    config: &Config,
+    before: Option<AppId>,
+) -> Result<((AppId, Claim), ByteReader<'a>), ReadFault>
+    ensures { result ≡ claim_at config.now before reader.entry }
+{
+    let at = reader.at();
+    let (entry, rest) = read_listed_claim(reader, config)?;
+    let (app, claim) = entry;
+    if before.is_none_or(|before| before < app) {
+        Ok(((app, claim), rest))
+    } else {
+        Err(ReadFault {
+            kind: ReadFaultKind::BadOrder,
+            at,
+        })
+    }
+}
+
+/// So many claims.
+fn read_counted_claims<'a>(
+    reader: ByteReader<'a>,
+    alloc: Global,
+    config: &Config,
+    count: u16,
+) -> Result<(Claims, ByteReader<'a>), ReadFault>
+    ensures { Gives (λ x. (map.entries x.0, x.1)) result (items_at (claim_at config.now) (λ e. Some e.0) count None reader.entry) }
+{
+    let mut claims = Claims::bottom(alloc);
+    let mut before = None;
+    let mut rest = reader;
+    for _ in 0..count {
+        let (entry, after) = read_claim(rest, config, before)?;
+        let (app, claim) = entry;
+        claims = claims.join(&Claims::one(alloc, app, claim)?)?;
+        before = Some(app);
+        rest = after;
+    }
+    Ok((claims, rest))
+}
+
+/// The claims: how many applications are claimed, and for each in ascending order the application, the
+/// term of its claim, who claims it, and how it came there.
+///
+/// Each field is checked as it is read, so the fault is the first from left to right: an application and a
+/// node that the configuration hasn't are `BadName` at their first byte, a term and an incarnation out of
+/// range `BadNumber`, and the last two fields as in [`read_manner`](crate::read_manner). Then the claim is
+/// `NotInList` at its first byte where the node isn't in the application's list, and `BadOrder` there where
+/// the application isn't above the one before it. `NoMemory` says nothing of the bytes.
+#[tactic(auto, unfolding(crate::specs::Reading::all_claims_at, crate::specs::Reading::claims_in_order_at, crate::specs::Reading::counted_at))]
+pub fn read_claims<'a>(
+    reader: ByteReader<'a>,
+    alloc: Global,
+    config: &Config,
+) -> Result<(Claims, ByteReader<'a>), ReadFault>
+    ensures { Gives (λ x. x) result (all_claims_at config.now reader.entry) }
+{
+    let (count, rest) = reader.read_u16()?;
+    let read = read_counted_claims(rest, alloc, config, count)?;
+    Ok(read)
+}

@@ -1,0 +1,291 @@
+//! The reading side: keys, dots that stand, and codes.
+ghost use Rattle.std.specs.Prelude.{◌≡◌, ◌<◌, IfOk};
+ghost use Rattle.dac_config.specs.Table.{app_count};
+ghost use Rattle.dac_part_bytes.specs.Reading.{app_at, fitting_code_at, flag_of, from_at, from_code_at, from_of, how_at, how_of, inc_and_flag_at, is_from_of, is_listed, key_at, key_fields_at, known_dot_at, listed_key_at, manner_at, node_above_at, permit_at, value_of};
+
+use dac_base::{AppId, NodeId};
+use dac_bytes::{ByteReader, ReadFault, ReadFaultKind};
+use dac_chains::{How, Life};
+use dac_config::Config;
+use dac_dots::{Context, Dot};
+use dac_lattice::Flag;
+use dac_wishes::Key;
+
+/// An application in two bytes. One that isn't below the number of applications is `BadName` at its first
+/// byte.
+#[tactic(auto, unfolding(crate::specs::Reading::app_at))]
+pub fn read_app<'a>(reader: ByteReader<'a>, apps: u16) -> Result<(AppId, ByteReader<'a>), ReadFault>
+    ensures exact { result ≡ app_at apps reader.entry }
+    ensures below { IfOk result (λ x. x.0.0 < apps) }
+{
+    let at = reader.at();
+    let (app, rest) = reader.read_u16()?;
+    if app < apps {
+        Ok((AppId(app), rest))
+    } else {
+        Err(ReadFault {
+            kind: ReadFaultKind::BadName,
+            at,
+        })
+    }
+}
+
+/// Whether the node is in the application's list.
+pub(crate) fn is_listed(config: &Config, app: AppId, node: NodeId) -> bool
+    requires { app.0 < app_count config.now }
+    ensures { result ≡ is_listed config.now app node }
+{
+    config.group_of(app, node).is_some()
+}
+
+#[tactic(auto, unfolding(crate::specs::Reading::key_fields_at))]
+fn read_key_fields<'a>(
+    reader: ByteReader<'a>,
+    config: &Config,
+) -> Result<(Key, ByteReader<'a>), ReadFault>
+    ensures exact { result ≡ key_fields_at config.now reader.entry }
+    ensures below { IfOk result (λ x. x.0.app.0 < app_count config.now) }
+{
+    let (app, rest) = read_app(reader, config.apps())?;
+    let (origin, rest) = rest.read_origin(config.nodes())?;
+    let key = Key {
+        app,
+        node: origin.node,
+        inc: origin.inc,
+    };
+    Ok((key, rest))
+}
+
+#[tactic(auto, unfolding(crate::specs::Reading::listed_key_at))]
+fn read_listed_key<'a>(
+    reader: ByteReader<'a>,
+    config: &Config,
+) -> Result<(Key, ByteReader<'a>), ReadFault>
+    ensures { result ≡ listed_key_at config.now reader.entry }
+{
+    let at = reader.at();
+    let (key, rest) = read_key_fields(reader, config)?;
+    if is_listed(config, key.app, key.node) {
+        Ok((key, rest))
+    } else {
+        Err(ReadFault {
+            kind: ReadFaultKind::NotInList,
+            at,
+        })
+    }
+}
+
+/// A key above the one before it, where there is one. Its application and its node are `BadName` at their
+/// first byte where the configuration hasn't them, and its incarnation `BadNumber` where it is 0. Then the
+/// key is `NotInList` at its first byte where the node isn't in the application's list, and `BadOrder`
+/// there where it isn't above.
+#[tactic(auto, unfolding(crate::specs::Reading::key_at))]
+pub fn read_key<'a>(
+    reader: ByteReader<'a>,
+    config: &Config,
+    before: Option<Key>,
+) -> Result<(Key, ByteReader<'a>), ReadFault>
+    ensures { result ≡ key_at config.now before reader.entry }
+{
+    let at = reader.at();
+    let (key, rest) = read_listed_key(reader, config)?;
+    if before.is_none_or(|before| before < key) {
+        Ok((key, rest))
+    } else {
+        Err(ReadFault {
+            kind: ReadFaultKind::BadOrder,
+            at,
+        })
+    }
+}
+
+/// A dot above the one before it, which is known.
+#[tactic(auto, unfolding(crate::specs::Reading::known_dot_at))]
+pub(crate) fn read_known_dot<'a>(
+    reader: ByteReader<'a>,
+    nodes: u8,
+    known: &Context,
+    before: Option<Dot>,
+) -> Result<(Dot, ByteReader<'a>), ReadFault>
+    ensures { result ≡ known_dot_at nodes known.now before reader.entry }
+{
+    let at = reader.at();
+    let (dot, rest) = reader.read_dot_above(nodes, before)?;
+    if known.contains(dot) {
+        Ok((dot, rest))
+    } else {
+        Err(ReadFault {
+            kind: ReadFaultKind::NotKnown,
+            at,
+        })
+    }
+}
+
+fn value_of(code: u8) -> Flag
+    ensures { result ≡ value_of code }
+{
+    match code {
+        0 => Flag::Down,
+        _ => Flag::Up,
+    }
+}
+
+/// A permit with a dot above the one before it.
+#[tactic(auto, unfolding(crate::specs::Reading::permit_at))]
+pub(crate) fn read_permit<'a>(
+    reader: ByteReader<'a>,
+    nodes: u8,
+    known: &Context,
+    before: Option<Dot>,
+) -> Result<((Dot, Flag), ByteReader<'a>), ReadFault>
+    ensures { result ≡ permit_at nodes known.now before reader.entry }
+{
+    let (dot, rest) = read_known_dot(reader, nodes, known, before)?;
+    let (code, rest) = rest.read_u8_in(0, 1)?;
+    Ok(((dot, value_of(code)), rest))
+}
+
+/// A node above the one before it.
+#[tactic(auto, unfolding(crate::specs::Reading::node_above_at))]
+pub(crate) fn read_node_above<'a>(
+    reader: ByteReader<'a>,
+    nodes: u8,
+    before: Option<NodeId>,
+) -> Result<(NodeId, ByteReader<'a>), ReadFault>
+    ensures { result ≡ node_above_at nodes before reader.entry }
+{
+    let at = reader.at();
+    let (node, rest) = reader.read_node(nodes)?;
+    if before.is_none_or(|before| before < node) {
+        Ok((node, rest))
+    } else {
+        Err(ReadFault {
+            kind: ReadFaultKind::BadOrder,
+            at,
+        })
+    }
+}
+
+fn flag_of(code: u8) -> Flag
+    ensures { result ≡ flag_of code }
+{
+    match code {
+        0 => Flag::Up,
+        _ => Flag::Down,
+    }
+}
+
+/// An incarnation, and whether it is up.
+#[tactic(auto, unfolding(crate::specs::Reading::inc_and_flag_at))]
+pub(crate) fn read_inc_and_flag<'a>(
+    reader: ByteReader<'a>,
+) -> Result<(Life, ByteReader<'a>), ReadFault>
+    ensures { result ≡ inc_and_flag_at reader.entry }
+{
+    let (inc, rest) = reader.read_incarnation()?;
+    let (code, rest) = rest.read_u8_in(0, 1)?;
+    let flag = flag_of(code);
+    Ok((Life { inc, flag }, rest))
+}
+
+fn how_of(code: u8) -> How
+    ensures { result ≡ how_of code }
+{
+    match code {
+        0 => How::Normal,
+        1 => How::Normal,
+        2 => How::Failover,
+        _ => How::Takeover,
+    }
+}
+
+#[tactic(auto, unfolding(crate::specs::Reading::how_at))]
+fn read_how<'a>(reader: ByteReader<'a>) -> Result<(How, ByteReader<'a>), ReadFault>
+    ensures { result ≡ how_at reader.entry }
+{
+    let (code, rest) = reader.read_u8_in(1, 3)?;
+    Ok((how_of(code), rest))
+}
+
+/// The code of no node, or of a node below the number of nodes.
+#[tactic(auto, unfolding(crate::specs::Reading::from_code_at))]
+fn read_from_code<'a>(reader: ByteReader<'a>, nodes: u8) -> Result<(u8, ByteReader<'a>), ReadFault>
+    ensures { result ≡ from_code_at nodes reader.entry }
+{
+    let at = reader.at();
+    let (code, rest) = reader.read_u8()?;
+    if nodes < code {
+        return Err(ReadFault {
+            kind: ReadFaultKind::BadName,
+            at,
+        });
+    }
+    Ok((code, rest))
+}
+
+/// Whether the code is that of no node exactly for a start.
+fn is_from_of(how: How, code: u8) -> bool
+    ensures { result ≡ is_from_of how code }
+{
+    match how {
+        How::Normal => code == 0,
+        How::Failover => 0 < code,
+        How::Takeover => 0 < code,
+    }
+}
+
+#[tactic(auto, unfolding(crate::specs::Reading::fitting_code_at))]
+fn read_fitting_code<'a>(
+    reader: ByteReader<'a>,
+    nodes: u8,
+    how: How,
+) -> Result<(u8, ByteReader<'a>), ReadFault>
+    ensures { result ≡ fitting_code_at nodes how reader.entry }
+{
+    let at = reader.at();
+    let (code, rest) = read_from_code(reader, nodes)?;
+    if is_from_of(how, code) {
+        Ok((code, rest))
+    } else {
+        Err(ReadFault {
+            kind: ReadFaultKind::BadNumber,
+            at,
+        })
+    }
+}
+
+fn from_of(code: u8) -> Option<NodeId>
+    ensures { result ≡ from_of code }
+{
+    match code {
+        0 => None,
+        _ => Some(NodeId(code - 1)),
+    }
+}
+
+#[tactic(auto, unfolding(crate::specs::Reading::from_at))]
+fn read_from<'a>(
+    reader: ByteReader<'a>,
+    nodes: u8,
+    how: How,
+) -> Result<(Option<NodeId>, ByteReader<'a>), ReadFault>
+    ensures { result ≡ from_at nodes how reader.entry }
+{
+    let (code, rest) = read_fitting_code(reader, nodes, how)?;
+    Ok((from_of(code), rest))
+}
+
+/// How an application came to its node, and from which. The first is `BadNumber` at its byte where it isn't
+/// 1 to 3. The second is `BadName` at its byte where it is above the number of nodes, and else `BadNumber`
+/// where it isn't 0 exactly for a start.
+#[tactic(auto, unfolding(crate::specs::Reading::manner_at))]
+pub fn read_manner<'a>(
+    reader: ByteReader<'a>,
+    nodes: u8,
+) -> Result<((How, Option<NodeId>), ByteReader<'a>), ReadFault>
+    ensures { result ≡ manner_at nodes reader.entry }
+{
+    let (how, rest) = read_how(reader)?;
+    let (from, rest) = read_from(rest, nodes, how)?;
+    Ok(((how, from), rest))
+}
