@@ -1,0 +1,61 @@
+-- What lives and claims have to be so that they can be read: of lives, where there are so many nodes, and of claims, by a configuration.
+use Rattle.std.specs.Prelude.{◌≡◌, ℕ, ◌<◌, ◌≤◌, ◌^◌, true, length, Option, None, Some}
+use Rattle.std.specs.List.{AllByRecursion}
+use Rattle.std.specs.FinMap as map
+use Rattle.dac_base.specs.declared.NodeId.{NodeId}
+use Rattle.dac_base.specs.declared.AppId.{AppId}
+use Rattle.dac_chains.specs.declared.lives.Life.{Life}
+use Rattle.dac_chains.specs.declared.claims.Claim.{Claim}
+use Rattle.dac_chains.specs.declared.claims.How.{How}
+use Rattle.dac_chains.specs.declared.claims.How.TheVariants.{Normal, Failover, Takeover}
+use Rattle.dac_chains.specs.Lives.{Lives}
+use Rattle.dac_chains.specs.Claims.{Claims}
+use Rattle.dac_config.specs.Table.{Table, node_count, app_count}
+use Rattle.dac_bytes.specs.Ranges.{IsOrigin}
+use Rattle.dac_part_bytes.specs.Reading.{is_listed}
+
+-- ---- lives
+
+-- the life of a node
+pub record IsLifeInForm (nodes : ℕ) (e : NodeId × Life) : Type 0 where
+  -- there is such a node
+  pub node : e.0.0 < nodes
+  -- its incarnation is one from 1
+  pub first : 1 ≤ e.1.inc
+  pub last : e.1.inc < 2 ^ 32
+
+-- the lives of some nodes
+pub record AreLivesInForm (nodes : ℕ) (lives : Lives) : Type 0 where
+  -- each is in form
+  pub each : AllByRecursion (IsLifeInForm nodes) (map.entries lives)
+  -- and their number fits its field
+  pub count : length (map.entries lives) < 2 ^ 8
+
+-- ---- claims
+
+-- What was started came from no node, and all else from one that there is.
+abbrev pub IsFromFor : ℕ → How → Option NodeId → Type 0
+IsFromFor nodes Normal from = from ≡ None
+IsFromFor nodes Failover from = (node : NodeId) × (from ≡ Some node) × (node.0 < nodes)
+IsFromFor nodes Takeover from = (node : NodeId) × (from ≡ Some node) × (node.0 < nodes)
+
+-- the claim of an application
+pub record IsClaimInForm (t : Table) (e : AppId × Claim) : Type 0 where
+  -- there is such an application
+  pub app : e.0.0 < app_count t
+  -- its term is one that can be issued
+  pub first : 1 ≤ e.1.term
+  pub last : e.1.term ≤ 2 ^ 62
+  -- who claims it is an incarnation of a node that there is
+  pub origin : IsOrigin (node_count t) e.1.origin
+  -- and that node is in the application's list
+  pub listed : is_listed t e.0 e.1.origin.node ≡ true
+  -- where it came from fits how it came
+  pub from : IsFromFor (node_count t) e.1.how e.1.from
+
+-- the claims of some applications
+pub record AreClaimsInForm (t : Table) (claims : Claims) : Type 0 where
+  -- each is in form
+  pub each : AllByRecursion (IsClaimInForm t) (map.entries claims)
+  -- and their number fits its field
+  pub count : length (map.entries claims) < 2 ^ 16

@@ -1,0 +1,54 @@
+-- What permits and start wishes have to be so that they can be read: of keys that the configuration has, by dots that are known, and so many that the counts fit their fields.
+use Rattle.std.specs.Prelude.{◌≡◌, ℕ, ◌<◌, ◌^◌, true, List, length, is_some}
+use Rattle.std.specs.FinSet as set
+use Rattle.std.specs.FinMap as map
+use Rattle.dac_dots.specs.declared.dot.Dot.{Dot}
+use Rattle.dac_dots.specs.declared.dot.Origin.{Origin}
+use Rattle.dac_dots.specs.Dots.{Dots}
+use Rattle.dac_dots.specs.InOrder.{in_order}
+use Rattle.dac_wishes.specs.declared.key.Key.{Key}
+use Rattle.dac_wishes.specs.Writes.{Write, Writes, dots_at}
+use Rattle.dac_wishes.specs.PermissionsValue.{Permits, permits_at}
+use Rattle.dac_wishes.specs.PermitsByKey.{permits_by_key}
+use Rattle.dac_wishes.specs.StartsByKey.{starts_by_key}
+use Rattle.dac_config.specs.Table.{Table, node_count, app_count}
+use Rattle.dac_bytes.specs.Ranges.{IsOrigin, IsDot}
+use Rattle.dac_part_bytes.specs.Reading.{is_listed}
+
+-- a key's node and incarnation
+abbrev pub origin_of : Key → Origin
+origin_of key = record { node = key.node; inc = key.inc }
+
+-- an application that there is, a node that there is with an incarnation from 1, and the node in the application's list
+pub record IsKey (t : Table) (key : Key) : Type 0 where
+  pub app : key.app.0 < app_count t
+  pub origin : IsOrigin (node_count t) (origin_of key)
+  pub listed : is_listed t key.app key.node ≡ true
+
+-- a dot that there can be, and that is known
+pub record IsKnownDot (t : Table) (known : Dots) (d : Dot) : Type 0 where
+  pub dot : IsDot (node_count t) d
+  pub among : set.contains known d ≡ true
+
+-- the write of such a key by such a dot
+pub record IsKnownWrite (t : Table) (known : Dots) (w : Write) : Type 0 where
+  pub key : IsKey t w.key
+  pub dot : IsKnownDot t known w.dot
+
+-- permits that can be read
+pub record ArePermitsInForm (t : Table) (known : Dots) (permits : Permits) : Type 0 where
+  -- each is of a key that the configuration has, by a dot that is known
+  pub each : (w : Write) → is_some (map.get permits w) ≡ true → IsKnownWrite t known w
+  -- how many keys have permits fits its field
+  pub keys : length (permits_by_key permits) < 2 ^ 32
+  -- and so does how many permits a key has
+  pub dots : (key : Key) → length (permits_at key permits) < 2 ^ 32
+
+-- start wishes that can be read
+pub record AreStartsInForm (t : Table) (known : Dots) (writes : Writes) : Type 0 where
+  -- each is of a key that the configuration has, by a dot that is known
+  pub each : (w : Write) → set.contains writes w ≡ true → IsKnownWrite t known w
+  -- how many keys have wishes fits its field
+  pub keys : length (starts_by_key writes) < 2 ^ 32
+  -- and so does how many wishes a key has
+  pub dots : (key : Key) → length (in_order (dots_at key writes)) < 2 ^ 32

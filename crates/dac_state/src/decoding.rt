@@ -1,0 +1,137 @@
+//! States from bytes.
+ghost use Rattle.std.specs.Prelude.{◌≡◌, IfOk, Ok};
+ghost use Rattle.std.specs.FinSet as set;
+ghost use Rattle.dac_config.specs.Table.{node_count};
+ghost use Rattle.dac_dots.specs.Dots.{IsSubset};
+ghost use Rattle.dac_bytes.specs.Reading.{Gives};
+ghost use Rattle.dac_meaning.specs.StateValue.{StateValue};
+ghost use Rattle.dac_state.specs.StateForm.{IsInForm};
+ghost use Rattle.dac_state.specs.StateSpelling.{spelling_of};
+ghost use Rattle.dac_state.specs.StateReading.{dots_at, standing_at, chains_at, pieces_at, parts_at, state_at};
+
+use crate::state::State;
+use dac_bytes::{ByteReader, ReadFault, ReadFaultKind};
+use dac_chains::{Claims, Lives};
+use dac_config::Config;
+use dac_dots::Context;
+use dac_lattice::Lattice;
+use dac_part_bytes::{read_claims, read_lives, read_permissions, read_wishes};
+use dac_wishes::{Permissions, Wishes};
+use std::alloc::Global;
+
+/// The dots heard and the dots known.
+#[tactic(auto, unfolding(crate::specs::StateReading::dots_at))]
+fn read_dots<'a>(
+    reader: ByteReader<'a>,
+    alloc: Global,
+    nodes: u8,
+) -> Result<((Context, Context), ByteReader<'a>), ReadFault>
+    ensures exact { Gives (λ x. x) result (dots_at nodes reader.entry) }
+    ensures within { IfOk result (λ x. IsSubset x.0.0 x.0.1) }
+{
+    let (heard, rest) = reader.read_context(alloc, nodes)?;
+    let (known, rest) = rest.read_context(alloc, nodes)?;
+    if heard.is_subset(&known) {
+        return Ok(((heard, known), rest));
+    }
+    Err(ReadFault {
+        kind: ReadFaultKind::NotKnown,
+        at: rest.at(),
+    })
+}
+
+/// What stands among the dots known.
+#[tactic(auto, unfolding(crate::specs::StateReading::standing_at))]
+fn read_standing<'a>(
+    reader: ByteReader<'a>,
+    alloc: Global,
+    config: &Config,
+    known: &Context,
+) -> Result<((Permissions, Wishes), ByteReader<'a>), ReadFault>
+    ensures exact { Gives (λ x. ((x.0.0.standing, x.0.1.standing), x.1)) result (standing_at config.now known.now reader.entry) }
+    ensures permitted { IfOk result (λ x. x.0.0.known ≡ known.now) }
+    ensures wished { IfOk result (λ x. x.0.1.known ≡ known.now) }
+{
+    let (permissions, rest) = read_permissions(reader, alloc, config, known)?;
+    let (wishes, rest) = read_wishes(rest, alloc, config, known)?;
+    Ok(((permissions, wishes), rest))
+}
+
+/// The lives and the claims.
+#[tactic(auto, unfolding(crate::specs::StateReading::chains_at))]
+fn read_chains<'a>(
+    reader: ByteReader<'a>,
+    alloc: Global,
+    config: &Config,
+) -> Result<((Lives, Claims), ByteReader<'a>), ReadFault>
+    ensures { Gives (λ x. x) result (chains_at config.now reader.entry) }
+{
+    let (lives, rest) = read_lives(reader, alloc, config)?;
+    let (claims, rest) = read_claims(rest, alloc, config)?;
+    Ok(((lives, claims), rest))
+}
+
+/// What stands, and what only grows.
+type Pieces = ((Permissions, Wishes), (Lives, Claims));
+
+/// The pieces of a state that knows these dots.
+#[tactic(auto, unfolding(crate::specs::StateReading::pieces_at))]
+fn read_pieces<'a>(
+    reader: ByteReader<'a>,
+    alloc: Global,
+    config: &Config,
+    known: &Context,
+) -> Result<(Pieces, ByteReader<'a>), ReadFault>
+    ensures exact { Gives (λ x. (((x.0.0.0.standing, x.0.0.1.standing), x.0.1), x.1)) result (pieces_at config.now known.now reader.entry) }
+    ensures permitted { IfOk result (λ x. x.0.0.0.known ≡ known.now) }
+    ensures wished { IfOk result (λ x. x.0.0.1.known ≡ known.now) }
+{
+    let (standing, rest) = read_standing(reader, alloc, config, known)?;
+    let (chains, rest) = read_chains(rest, alloc, config)?;
+    Ok(((standing, chains), rest))
+}
+
+/// The state of its parts.
+#[tactic(auto, unfolding(crate::specs::StateReading::parts_at))]
+fn read_parts<'a>(
+    reader: ByteReader<'a>,
+    alloc: Global,
+    config: &Config,
+) -> Result<(State, ByteReader<'a>), ReadFault>
+    ensures { Gives (λ x. x) result (parts_at config.now reader.entry) }
+{
+    let ((heard, known), rest) = read_dots(reader, alloc, config.nodes())?;
+    let (pieces, rest) = read_pieces(rest, alloc, config, &known)?;
+    let ((permissions, wishes), (lives, claims)) = pieces;
+    Lattice::known(&permissions);
+    Lattice::known(&wishes);
+    let state = State::of(alloc, heard, permissions, wishes, lives, claims);
+    Ok((state, rest))
+}
+
+impl State {
+    /// The state that the bytes spell, version 1, under a configuration.
+    ///
+    /// Each field is checked as it is read, so the fault is the first from left to right, with its byte
+    /// counted from 0: `Short` where a field isn't whole, `BadNumber`, `BadName`, `NotInList`, `BadOrder`
+    /// and `NotKnown` as the parts say, `NotKnown` after the dots known where a heard one isn't among
+    /// them, `Trailing` at the first byte after the claims. `NoMemory` says nothing of the bytes.
+    #[tactic(auto, unfolding(crate::specs::StateReading::state_at))]
+    pub fn decode(alloc: Global, config: &Config, bytes: &[u8]) -> Result<Self, ReadFault>
+        // What is read is spelled so, and in form.
+        ensures found { IfOk result (λ s. IsInForm config.now s × (bytes.now ≡ spelling_of s)) }
+        // What is spelled so and in form is read, unless memory runs out.
+        ensures only { (s : StateValue) → IsInForm config.now s → bytes.now ≡ spelling_of s → Gives (λ s. s) result (Ok s) }
+        // Which fault it is.
+        ensures exact { Gives (λ s. s) result (state_at config.now bytes.now) }
+    {
+        let (state, rest) = read_parts(ByteReader::new(bytes), alloc, config)?;
+        if rest.is_at_end() {
+            return Ok(state);
+        }
+        Err(ReadFault {
+            kind: ReadFaultKind::Trailing,
+            at: rest.at(),
+        })
+    }
+}
