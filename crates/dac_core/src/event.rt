@@ -123,30 +123,64 @@ mod tests {
     use dac_dots::Dot;
     use dac_lattice::Bottom;
     use dac_state::Act;
+    use std::alloc::Global;
     use std::test::Fail;
 
-    #[test]
-    fn copies_with_ample_memory(rt: HostRuntime) -> Result<(), Fail> {
-        let from = Origin {
-            node: NodeId(0),
-            inc: 1,
-        };
-        let message = Message {
-            from,
+    const FROM: Origin = Origin {
+        node: NodeId(0),
+        inc: 1,
+    };
+
+    /// A message to node 1 with a state that heard nothing.
+    fn message(alloc: Global) -> Message {
+        Message {
+            from: FROM,
             to: NodeId(1),
-            body: State::bottom(rt.alloc()),
-        };
-        let copy = message.copy()?;
-        assert_eq!(rt; copy.to, NodeId(1));
-        assert!(rt; matches!(Event::Hear(copy).copy()?, Event::Hear(_)));
-        let up = Op::new(Dot { origin: from, n: 1 }, Act::Up)
-            .ok()
-            .ok_or("no operation")?;
-        let up = up.copy()?;
-        assert!(rt; matches!(Event::HearOp(up.copy()?).copy()?, Event::HearOp(_)));
-        assert!(rt; matches!(Event::Crash.copy()?, Event::Crash));
-        assert!(rt; matches!(Reply::Booted(up).copy()?, Reply::Booted(_)));
-        assert!(rt; matches!(Reply::Shipped(message).copy()?, Reply::Shipped(_)));
+            body: State::bottom(alloc),
+        }
+    }
+
+    fn up() -> Result<Op, Fail> {
+        Ok(Op::new(Dot { origin: FROM, n: 1 }, Act::Up)?)
+    }
+
+    /// A copy of an event, which goes.
+    fn copied(event: Event) -> Result<Event, NoMemory> {
+        let copy = event.copy()?;
+        Ok(copy)
+    }
+
+    /// A copy of a reply, which goes.
+    fn repeated(reply: Reply) -> Result<Reply, NoMemory> {
+        let copy = reply.copy()?;
+        Ok(copy)
+    }
+
+    #[test]
+    fn copies_heard_messages(rt: HostRuntime) -> Result<(), Fail> {
+        let event = copied(Event::Hear(message(rt.alloc())))?;
+        assert!(rt; matches!(event, Event::Hear(_)));
+        Ok(())
+    }
+
+    #[test]
+    fn copies_heard_operations(rt: HostRuntime) -> Result<(), Fail> {
+        let event = copied(Event::HearOp(up()?))?;
+        assert!(rt; matches!(event, Event::HearOp(_)));
+        Ok(())
+    }
+
+    #[test]
+    fn copies_issued_operations(rt: HostRuntime) -> Result<(), Fail> {
+        let reply = repeated(Reply::Issued(up()?))?;
+        assert!(rt; matches!(reply, Reply::Issued(_)));
+        Ok(())
+    }
+
+    #[test]
+    fn copies_shipped_messages(rt: HostRuntime) -> Result<(), Fail> {
+        let reply = repeated(Reply::Shipped(message(rt.alloc())))?;
+        assert!(rt; matches!(reply, Reply::Shipped(_)));
         Ok(())
     }
 }

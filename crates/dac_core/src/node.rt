@@ -197,24 +197,47 @@ mod tests {
 
     const ONE: &[u8] = b"[{kernel,[{distributed,[{a,[c1@h,c2@h]}]}]}].";
 
+    /// The controller after an event, if it accepts it.
+    fn after(config: &Config, mut node: Node, event: Event) -> Option<Node> {
+        match node.step(config, NodeId(1), event) {
+            Ok(_) => Some(node),
+            Err(_) => None,
+        }
+    }
+
+    /// The controller after a boot.
+    fn booted(config: &Config, node: Node) -> Option<Node> {
+        after(config, node, Event::Boot { now: 0 })
+    }
+
+    fn inc_of(node: &Node) -> Option<u32> {
+        let origin = node.origin()?;
+        Some(origin.inc)
+    }
+
+    /// Whether a copy of the controller runs.
+    fn copy_runs(node: Node) -> Result<bool, NoMemory> {
+        let copy = node.copy()?;
+        Ok(copy.state().is_some())
+    }
+
     #[test]
     fn a_boot_goes_by_the_next_number(rt: HostRuntime) -> Result<(), Fail> {
         let config = read_config(rt.alloc(), ONE)?;
-        let mut node = Node::off(rt.alloc(), 4);
-        assert_eq!(rt; node.origin(), None);
-        let answer = node.step(&config, NodeId(1), Event::Boot { now: 0 });
-        assert!(rt; matches!(answer, Ok(Reply::Booted(_))));
-        let origin = node.origin();
-        assert_eq!(rt; origin.map(|origin| origin.inc), Some(5));
-        let copy = node.copy()?;
-        assert!(rt; copy.state().is_some());
-        let answer = node.step(&config, NodeId(1), Event::Crash);
-        assert!(rt; matches!(answer, Ok(Reply::Crashed)));
-        assert_eq!(rt; node.origin(), None);
-        let answer = node.step(&config, NodeId(1), Event::Boot { now: 0 });
-        assert!(rt; matches!(answer, Ok(Reply::Booted(_))));
-        let origin = node.origin();
-        assert_eq!(rt; origin.map(|origin| origin.inc), Some(6));
+        let node = booted(&config, Node::off(rt.alloc(), 4)).ok_or("refused")?;
+        assert_eq!(rt; inc_of(&node), Some(5));
+        assert!(rt; copy_runs(node)?);
+        Ok(())
+    }
+
+    #[test]
+    fn a_crash_keeps_the_number(rt: HostRuntime) -> Result<(), Fail> {
+        let config = read_config(rt.alloc(), ONE)?;
+        let node = booted(&config, Node::off(rt.alloc(), 4)).ok_or("refused")?;
+        let node = after(&config, node, Event::Crash).ok_or("refused")?;
+        assert_eq!(rt; inc_of(&node), None);
+        let node = booted(&config, node).ok_or("refused")?;
+        assert_eq!(rt; inc_of(&node), Some(6));
         Ok(())
     }
 
