@@ -1,7 +1,8 @@
 -- What is read as a state is spelled so and is in form, and a state in form is read from its spelling.
-use Rattle.std.specs.Prelude.{◌≡◌, ℕ, ◌<◌, ◌≤◌, ◌^◌, ◌==◌, Bool, true, cond, List, [], ◌++◌, length, Ok}
+use Rattle.std.specs.Prelude.{◌≡◌, ℕ, ◌+◌, ◌<◌, ◌≤◌, ◌^◌, ◌==◌, Bool, true, cond, List, [], ◌∷◌, ◌++◌, length, Ok}
 use Rattle.std.proofs.Common.{refl, sym, ap, subst, ◌∙◌, append_assoc, append-nil, arith}
 use Rattle.std.specs.FinSet as set
+use Rattle.std.proofs.lemmas.Bool.{eqb-true}
 use Rattle.dac_dots.specs.Dots.{Dots, IsSubset, dots_total}
 use Rattle.dac_chains.specs.Lives.{Lives}
 use Rattle.dac_chains.specs.Claims.{Claims}
@@ -120,7 +121,7 @@ module _ (t : Table) where
     where
       nothing : (rest : List ℕ) → (length rest == 0) ≡ true → rest ≡ []
       nothing [] h = refl
-      nothing (b ∷ rest) h = absurd cc
+      nothing (b ∷ rest) h = let e : length (b ∷ rest) ≡ 0 = eqb-true (length (b ∷ rest)) 0 h in absurd (omega (arith, e))
 
   -- ---- what is read again
 

@@ -109,6 +109,21 @@ fn read_parts<'a>(
     Ok((state, rest))
 }
 
+/// A state, and no byte after it.
+#[tactic(auto, unfolding(crate::specs::StateReading::state_at))]
+fn read_state(alloc: Global, config: &Config, bytes: &[u8]) -> Result<State, ReadFault>
+    ensures { Gives (λ s. s) result (state_at config.now bytes.now) }
+{
+    let (state, rest) = read_parts(ByteReader::new(bytes), alloc, config)?;
+    if rest.is_at_end() {
+        return Ok(state);
+    }
+    Err(ReadFault {
+        kind: ReadFaultKind::Trailing,
+        at: rest.at(),
+    })
+}
+
 impl State {
     /// The state that the bytes spell, version 1, under a configuration.
     ///
@@ -116,7 +131,6 @@ impl State {
     /// counted from 0: `Short` where a field isn't whole, `BadNumber`, `BadName`, `NotInList`, `BadOrder`
     /// and `NotKnown` as the parts say, `NotKnown` after the dots known where a heard one isn't among
     /// them, `Trailing` at the first byte after the claims. `NoMemory` says nothing of the bytes.
-    #[tactic(auto, unfolding(crate::specs::StateReading::state_at))]
     pub fn decode(alloc: Global, config: &Config, bytes: &[u8]) -> Result<Self, ReadFault>
         // What is read is spelled so, and in form.
         ensures found { IfOk result (λ s. IsInForm config.now s × (bytes.now ≡ spelling_of s)) }
@@ -125,13 +139,9 @@ impl State {
         // Which fault it is.
         ensures exact { Gives (λ s. s) result (state_at config.now bytes.now) }
     {
-        let (state, rest) = read_parts(ByteReader::new(bytes), alloc, config)?;
-        if rest.is_at_end() {
-            return Ok(state);
-        }
-        Err(ReadFault {
-            kind: ReadFaultKind::Trailing,
-            at: rest.at(),
-        })
+        // Nodes are numbered in one byte, and applications in two.
+        let _nodes = config.nodes();
+        let _apps = config.apps();
+        read_state(alloc, config, bytes)
     }
 }
