@@ -1,12 +1,10 @@
 -- What is known of an item that was read: it is above the one before it, its dots are known, and a key has some.
-use Rattle.std.proofs.Common.{◌≡◌, ℕ, ◌≤◌, ◌-◌, ◌^◌, Bool, true, false, cond, ◌||◌, nat_lt, List, [], ◌∷◌, length, Option, None, Some, Ok, is_some, refl, sym, ap, subst, ◌∙◌, arith, inl, inr}
-use Rattle.std.specs.List.{list_any, AllByRecursion}
+use Rattle.std.proofs.Common.{◌≡◌, ℕ, ◌≤◌, ◌-◌, ◌^◌, Bool, true, false, cond, ◌||◌, nat_lt, List, [], ◌∷◌, Option, None, Some, Ok, is_some, refl, sym, ap, subst, ◌∙◌, inl, inr}
+use Rattle.std.specs.List.{AllByRecursion}
 use Rattle.std.specs.Int.{w8, w32}
 use Rattle.std.specs.FinSet as set
 use Rattle.std.specs.FinMap.{find}
-use Rattle.std.specs.Ordering.{is_eq}
-use Rattle.std.specs.Cmp.{tied_itself}
-use Rattle.std.proofs.lemmas.Bool.{false≢true, or_cases, or_left, ltb-false, eqb-true, false_from_ne_true}
+use Rattle.std.proofs.lemmas.Bool.{false≢true, or_cases, ltb-false}
 use Rattle.std.proofs.lemmas.List.Elements.{All-from_recursion}
 use Rattle.dac_dots.specs.declared.dot.Dot.{Dot}
 use Rattle.dac_dots.specs.Dots.{Dots, dot_cmp, dots_total, exact_dots}
@@ -27,7 +25,7 @@ use Rattle.dac_wishes.specs.Writes.{same_dot, same_dot_is}
 use Rattle.dac_wishes.specs.StoredPermits.{DotFlags}
 use Rattle.dac_config.specs.Table.{Table, node_count}
 use Rattle.dac_bytes.specs.declared.fault.ReadFaultKind.TheVariants.{BadNumber, BadOrder, NotKnown}
-use Rattle.dac_bytes.specs.Reading.{Rest, Field, fault, ◌>>=◌, number_at, range_at, node_at, dot_at, dot_above_at, items_at, is_above}
+use Rattle.dac_bytes.specs.Reading.{Rest, fault, ◌>>=◌, number_at, range_at, node_at, dot_at, dot_above_at, items_at, is_above}
 use Rattle.dac_bytes.specs.Takes.{bind_ok, guard_ok, wanted_ok, ok_is}
 use Rattle.dac_part_bytes.specs.Reading.{known_dot_at, permit_at, value_of, some_at, permits_of_key_at, key_at, listed_key_at, keyed_permits_at, dots_of_key_at, keyed_dots_at, node_above_at, inc_and_flag_at, life_at, claim_at, listed_claim_at}
 use Rattle.dac_part_bytes.specs.Ascending.{IsNext, counted_chain, items_chain, chain_each}

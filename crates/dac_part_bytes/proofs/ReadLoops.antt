@@ -1,23 +1,23 @@
 -- What the loops that read items keep: they begin with nothing, and append one item at a time.
-use Rattle.std.proofs.Common.{◌≡◌, ℕ, Bool, true, false, cond, List, [], ◌∷◌, ◌++◌, length, Option, None, Some, Ok, Err, refl, sym, ap, subst, ◌∙◌}
-use Rattle.std.specs.Prelude.{T, Result, IsOk, IfOk, IfErr}
+use Rattle.std.proofs.Common.{◌≡◌, ℕ, Bool, true, false, cond, List, [], ◌∷◌, ◌++◌, Option, None, Some, Ok, Err, refl, sym, ap, subst, ◌∙◌}
+use Rattle.std.specs.Prelude.{Result, IsOk, IfOk, IfErr}
 use Rattle.std.specs.declared.cmp.Ordering.{Ordering}
-use Rattle.std.specs.Ordering.{ord_max, is_lt, is_eq, eq_by_cmp}
+use Rattle.std.specs.Ordering.{ord_max, is_lt, eq_by_cmp}
 use Rattle.std.specs.Cmp.{IsTotalOrder, tied_itself}
 use Rattle.std.specs.FinSet as set
 use Rattle.std.specs.FinMap as map
-use Rattle.std.specs.FinMap.{find, is_sorted}
+use Rattle.std.specs.FinMap.{find}
 use Rattle.std.specs.FinMap.Entries.{same_entries, find-append}
 use Rattle.std.proofs.lemmas.List.{nil_from_length}
 use Rattle.std.proofs.lemmas.Bool.{and_parts, false≢true}
 use Rattle.std.proofs.lemmas.Map.Lookups.{CmpEqualImpliesEq}
 use Rattle.dac_dots.specs.declared.dot.Dot.{Dot}
 use Rattle.dac_dots.specs.Dots.{Dots, dot_cmp, dots_total, exact_dots}
-use Rattle.dac_dots.specs.InOrder.{in_order, in_order-one, in_order-rising, in_order-same, tie, less}
+use Rattle.dac_dots.specs.InOrder.{in_order, in_order-one, in_order-rising, in_order-same, tie}
 use Rattle.dac_lattice.specs.Laws.{join_options}
 use Rattle.dac_store.specs.Appending.{is_above_dots, is_above_entries, rising_appended, sorted_appended}
 use Rattle.dac_chains.specs.Greatest.{greater, get-greater}
-use Rattle.dac_bytes.specs.Reading.{Rest, Field, ◌>>=◌, items_at}
+use Rattle.dac_bytes.specs.Reading.{Rest, Field, items_at}
 use Rattle.dac_bytes.specs.Items.{with_front}
 use Rattle.dac_part_bytes.specs.Ascending.{Reaches}
 

@@ -1,5 +1,5 @@
 -- Items that are read in ascending order: what is known of them all, and what a loop that appends them keeps.
-use Rattle.std.specs.Prelude.{◌≡◌, ℕ, zero, suc, Bool, true, false, cond, ◌&&◌, List, [], ◌∷◌, ◌++◌, length, map as list_map, Option, None, Some, Ok, refl}
+use Rattle.std.specs.Prelude.{◌≡◌, ℕ, zero, suc, Bool, true, false, ◌&&◌, List, [], ◌∷◌, ◌++◌, length, map as list_map, Option, None, Some, Ok, refl}
 use Rattle.std.proofs.Common.{sym, ap, subst, ◌∙◌}
 use Rattle.std.specs.declared.cmp.Ordering.{Ordering}
 use Rattle.std.specs.Ordering.{is_lt}
@@ -8,7 +8,7 @@ use Rattle.std.specs.List.{list_all, flat_map, AllByRecursion}
 use Rattle.std.proofs.Math.Bool.{and-true}
 use Rattle.std.proofs.lemmas.Bool.{and_parts, and_from}
 use Rattle.std.proofs.lemmas.List.Folds.{list_all-append}
-use Rattle.dac_dots.specs.Keys.{is_below_all, is_rising, IsRising}
+use Rattle.dac_dots.specs.Keys.{is_below_all, IsRising}
 use Rattle.dac_dots.specs.InOrder.{less, below_more}
 use Rattle.dac_bytes.specs.Reading.{Rest, Field, ◌>>=◌, items_at, is_above}
 use Rattle.dac_bytes.specs.Takes.{TakesAs, TakesAs-both, Again, Again-both, bind_ok, ok_is}

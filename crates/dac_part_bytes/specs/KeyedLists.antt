@@ -118,8 +118,8 @@ module _ (t : Table) (known : Dots) where
       TakesAs-both (key_at t before) key_bytes (IsKeyAbove t before) (λ _ r. dots_of_key_at nodes known r) (λ _. dots_of_key_bytes) (λ _ ds. AreDotsOfKey t known ds)
       (λ key ds. (key, set.from_list ds)) keyed_starts_bytes (IsDotsAbove before)
       (key_takes t before) (λ _ _. dots_of_key_takes) (λ key ds p q.
-          let same = dots_again ds q.2 in
-          (dots_regroup key ds ∙ ap (λ (ds : List Dot). keyed_dots_bytes (key, ds)) same, ((p.0, subst (AreDotsOfKey t known) same q), p.1)))
+      let same = dots_again ds q.2 in
+      (dots_regroup key ds ∙ ap (λ (ds : List Dot). keyed_dots_bytes (key, ds)) same, ((p.0, subst (AreDotsOfKey t known) same q), p.1)))
 
   pub permits_list_takes : TakesAs (permits_by_key_at t known) permits_list_bytes (ArePermitsByKey t known)
   unfolding permits_by_key_at
@@ -162,8 +162,8 @@ module _ (t : Table) (known : Dots) where
     keyed_dots_again before e is =
         let ds = in_order e.1 in
         let read : Again (keyed_dots_at t known before) (key_bytes e.0 ++ dots_of_key_bytes ds) (e.0, set.from_list ds) =
-            Again-both (key_at t before) (λ _ r. dots_of_key_at nodes known r) (λ key ds. (key, set.from_list ds)) (key_bytes e.0) (dots_of_key_bytes ds) e.0 ds
-            (key_again t few_nodes few_apps before e.0 (is.0.0, is.1)) (dots_of_key_again ds is.0.1) in
+        Again-both (key_at t before) (λ _ r. dots_of_key_at nodes known r) (λ key ds. (key, set.from_list ds)) (key_bytes e.0) (dots_of_key_bytes ds) e.0 ds
+        (key_again t few_nodes few_apps before e.0 (is.0.0, is.1)) (dots_of_key_again ds is.0.1) in
         let spelled = subst (λ (text : List ℕ). Again (keyed_dots_at t known before) text (e.0, set.from_list ds)) (dots_regroup e.0 ds) read in
         subst (λ (s : Dots). Again (keyed_dots_at t known before) (keyed_starts_bytes e) (e.0, s)) (in_order-same dots_total exact_dots e.1) spelled
 

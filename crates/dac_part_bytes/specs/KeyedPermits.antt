@@ -101,7 +101,7 @@ module _ (t : Table) (known : Dots) where
         let one = some_permit ps kept.1 in
         let few : length ps < 2 ^ 32 = subst (λ (ps : DotFlags). length ps < 2 ^ 32) (sym same) (is.dots key) in
         let each = all_found dots_total exact_dots (λ (p : Dot × Flag). IsKnownDot t known p.0) ps kept.0.in_order
-            (λ d f h. (stands key ps same d (ap (λ (v : Option Flag). is_some v) h)).dot) in
+        (λ d f h. (stands key ps same d (ap (λ (v : Option Flag). is_some v) h)).dot) in
         ((stands key ps same one.0 one.1).key, ((not_none ps kept.1, omega (arith, few)), each, rising_keys dot_cmp ps kept.0.in_order))
 
     -- their list by key is in form

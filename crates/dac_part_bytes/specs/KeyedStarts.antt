@@ -118,7 +118,7 @@ module _ (t : Table) (known : Dots) where
         let has = some_from s (in_order s) refl kept.1 in
         let few : length (in_order s) < 2 ^ 32 = subst (λ (s : Dots). length (in_order s) < 2 ^ 32) (sym same) (is.dots key) in
         let each = all_has dots_total exact_dots (IsKnownDot t known) (in_order s)
-            (λ d h. (stands key s same d (sym (has_key-in_order dots_total exact_dots s d) ∙ h)).dot) in
+        (λ d h. (stands key s same d (sym (has_key-in_order dots_total exact_dots s d) ∙ h)).dot) in
         let rising = subst (λ (ds : List Dot). IsRising dot_cmp ds) (sym (each_itself (in_order s))) (in_order-rising dots_total exact_dots s) in
         ((stands key s same has.one has.held).key, ((has.some, omega (arith, few)), each, rising))
 

@@ -1,7 +1,7 @@
 //! The reading side: keys, dots that stand, and codes.
 ghost use Rattle.std.specs.Prelude.{◌≡◌, ◌<◌, IfOk};
 ghost use Rattle.dac_config.specs.Table.{app_count};
-ghost use Rattle.dac_part_bytes.specs.Reading.{app_at, fitting_code_at, flag_of, from_at, from_code_at, from_of, how_at, how_of, inc_and_flag_at, is_from_of, is_listed, key_at, key_fields_at, known_dot_at, listed_key_at, manner_at, node_above_at, permit_at, value_of};
+ghost use Rattle.dac_part_bytes.specs.Reading.{app_at, fitting_code_at, flag_of, from_at, from_code_at, from_of, how_at, how_of, inc_and_flag_at, is_from_of, is_listed, key_at, key_fields_at, known_dot_at, listed_key_at, manner_at, node_above_at, permit_at, some_at, value_of};
 
 use dac_base::{AppId, NodeId};
 use dac_bytes::{ByteReader, ReadFault, ReadFaultKind};
@@ -121,6 +121,14 @@ pub(crate) fn read_known_dot<'a>(
     }
 }
 
+/// A number of dots of a key, which is at least one.
+pub(crate) fn read_some<'a>(reader: ByteReader<'a>) -> Result<(u32, ByteReader<'a>), ReadFault>
+    ensures { result ≡ some_at reader.entry }
+{
+    let read = reader.read_u32_in(1, u32::MAX)?;
+    Ok(read)
+}
+
 fn value_of(code: u8) -> Flag
     ensures { result ≡ value_of code }
 {
@@ -141,8 +149,8 @@ pub(crate) fn read_permit<'a>(
     ensures { result ≡ permit_at nodes known.now before reader.entry }
 {
     let (dot, rest) = read_known_dot(reader, nodes, known, before)?;
-    let (code, rest) = rest.read_u8_in(0, 1)?;
-    Ok(((dot, value_of(code)), rest))
+    let (value, rest) = rest.read_u8_in(0, 1)?;
+    Ok(((dot, value_of(value)), rest))
 }
 
 /// A node above the one before it.

@@ -8,7 +8,7 @@ ghost use Rattle.dac_store.specs.Stores.{IsHeld};
 ghost use Rattle.std.specs.FinSet as set;
 ghost use Rattle.dac_part_bytes.specs.Reading.{all_permits_at, all_starts_at, dots_of_key_at, keyed_dots_at, keyed_permits_at, known_dot_at, permit_at, permits_by_key_at, permits_of_key_at, starts_by_key_at};
 
-use crate::reading_fields::{read_key, read_known_dot, read_permit};
+use crate::reading_fields::{read_key, read_known_dot, read_permit, read_some};
 use dac_base::NoMemory;
 use dac_bytes::{ByteReader, ReadFault};
 use dac_config::Config;
@@ -51,7 +51,7 @@ fn read_permits_of_key<'a>(
 ) -> Result<(DotFun<Flag>, ByteReader<'a>), ReadFault>
     ensures { Gives (λ x. x) result (permits_of_key_at nodes known.now reader.entry) }
 {
-    let (count, rest) = reader.read_u32_in(1, u32::MAX)?;
+    let (count, rest) = read_some(reader)?;
     let read = read_permits(rest, alloc, nodes, known, count)?;
     Ok(read)
 }
@@ -176,7 +176,7 @@ fn read_dots_of_key<'a>(
 ) -> Result<(DotSet, ByteReader<'a>), ReadFault>
     ensures { Gives (λ x. (in_order x.0, x.1)) result (dots_of_key_at nodes known.now reader.entry) }
 {
-    let (count, rest) = reader.read_u32_in(1, u32::MAX)?;
+    let (count, rest) = read_some(reader)?;
     let read = read_dots(rest, alloc, nodes, known, count)?;
     Ok(read)
 }

@@ -2,8 +2,9 @@
 
 use super::*;
 use dac_base::{AppId, NoMemory, NodeId};
-use dac_bytes::ByteWriter;
+use dac_bytes::{ByteReader, ByteWriter, ReadFault, ReadFaultKind};
 use dac_chains::{Claim, Claims, How, Life, Lives};
+use dac_config::{Config, ConfigFault, read_config};
 use dac_dots::{Context, Dot, Origin};
 use dac_lattice::{Bottom, Flag, Lattice};
 use dac_store::{Causal, DotFun, DotMap, DotSet};
@@ -144,5 +145,84 @@ fn lives_and_claims(rt: HostRuntime) -> Result<(), Fail> {
     let writer = ByteWriter::new(rt.alloc());
     let bytes = write_claims(writer, &claims(rt.alloc())?)?.into_bytes();
     assert_eq!(rt; bytes.as_slice(), CLAIMS);
+    Ok(())
+}
+
+/// Three nodes and three applications, of which each part above has names.
+fn config(alloc: Global) -> Result<Config, ConfigFault> {
+    let text = b"[{kernel,[{distributed,[{p,[a@h,b@h]},{q,[c@h]},{r,[a@h]}]}]}].";
+    read_config(alloc, text)
+}
+
+#[test]
+fn permits_and_starts_are_read_again(rt: HostRuntime) -> Result<(), Fail> {
+    let config = config(rt.alloc())?;
+    let known = known(rt.alloc())?;
+    let (read, rest) = read_permissions(ByteReader::new(PERMITS), rt.alloc(), &config, &known)?;
+    assert!(rt; read.equal(&permissions(rt.alloc())?) && rest.is_at_end());
+    let (read, rest) = read_wishes(ByteReader::new(STARTS), rt.alloc(), &config, &known)?;
+    assert!(rt; read.equal(&wishes(rt.alloc())?) && rest.is_at_end());
+    Ok(())
+}
+
+#[test]
+fn lives_and_claims_are_read_again(rt: HostRuntime) -> Result<(), Fail> {
+    let config = config(rt.alloc())?;
+    let (read, rest) = read_lives(ByteReader::new(LIVES), rt.alloc(), &config)?;
+    assert!(rt; read.equal(&lives(rt.alloc())?) && rest.is_at_end());
+    let (read, rest) = read_claims(ByteReader::new(CLAIMS), rt.alloc(), &config)?;
+    assert!(rt; read.equal(&claims(rt.alloc())?) && rest.is_at_end());
+    Ok(())
+}
+
+/// These bytes with another one at a place.
+fn with_byte(alloc: Global, bytes: &[u8], place: usize, byte: u8) -> Result<Vec<u8>, Fail> {
+    let mut changed = Vec::from_slice(alloc, bytes)?;
+    if let Some(there) = changed.get_mut(place) {
+        *there = byte;
+    }
+    Ok(changed)
+}
+
+#[test]
+fn faults_of_permits(rt: HostRuntime) -> Result<(), Fail> {
+    let config = config(rt.alloc())?;
+    let known = known(rt.alloc())?;
+    let rows = [
+        (4, 1, ReadFaultKind::BadName, 4),
+        (6, 3, ReadFaultKind::BadName, 6),
+        (10, 0, ReadFaultKind::BadNumber, 7),
+        (6, 2, ReadFaultKind::NotInList, 4),
+        (14, 0, ReadFaultKind::BadNumber, 11),
+        (29, 0, ReadFaultKind::BadOrder, 29),
+        (27, 9, ReadFaultKind::NotKnown, 15),
+        (28, 2, ReadFaultKind::BadNumber, 28),
+        (44, 0, ReadFaultKind::BadOrder, 43),
+        (3, 3, ReadFaultKind::Short, 68),
+    ];
+    for (place, byte, kind, at) in rows {
+        let bytes = with_byte(rt.alloc(), PERMITS, place, byte)?;
+        let read = read_permissions(ByteReader::new(&bytes), rt.alloc(), &config, &known);
+        assert_eq!(rt; read.err(), Some(ReadFault { kind, at }));
+    }
+    Ok(())
+}
+
+#[test]
+fn faults_of_claims(rt: HostRuntime) -> Result<(), Fail> {
+    let config = config(rt.alloc())?;
+    let rows = [
+        (11, 0, ReadFaultKind::BadNumber, 4),
+        (17, 0, ReadFaultKind::BadNumber, 17),
+        (18, 1, ReadFaultKind::BadNumber, 18),
+        (18, 4, ReadFaultKind::BadName, 18),
+        (20, 0, ReadFaultKind::NotInList, 19),
+        (35, 0, ReadFaultKind::BadNumber, 35),
+    ];
+    for (place, byte, kind, at) in rows {
+        let bytes = with_byte(rt.alloc(), CLAIMS, place, byte)?;
+        let read = read_claims(ByteReader::new(&bytes), rt.alloc(), &config);
+        assert_eq!(rt; read.err(), Some(ReadFault { kind, at }));
+    }
     Ok(())
 }

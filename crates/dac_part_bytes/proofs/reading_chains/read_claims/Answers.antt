@@ -1,4 +1,4 @@
-use Rattle.std.proofs.Common.{ap, Ok, sym, ◌∙◌, refl}
+use Rattle.std.proofs.Common.{ap, Ok}
 use Rattle.dac_base.specs.Ids.{apps_total, exact_apps}
 use Rattle.dac_part_bytes.specs.Reading.{all_claims_at, claims_in_order_at, counted_at}
 use Rattle.dac_part_bytes.proofs.ReadLoops.{entries_again}

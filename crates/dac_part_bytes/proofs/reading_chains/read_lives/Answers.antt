@@ -1,4 +1,4 @@
-use Rattle.std.proofs.Common.{ap, Ok, sym, ◌∙◌, refl}
+use Rattle.std.proofs.Common.{ap, Ok}
 use Rattle.dac_base.specs.Ids.{nodes_total, exact_nodes}
 use Rattle.dac_part_bytes.specs.Reading.{all_lives_at, lives_in_order_at, counted_at}
 use Rattle.dac_part_bytes.proofs.ReadLoops.{entries_again}
