@@ -95,11 +95,11 @@ module _ (t : Table) where
       (λ _ r. chains_at t r) (λ _. chains_bytes) (λ _ c. AreLivesInForm (node_count t) c.0 × AreClaimsInForm t c.1)
       (λ s c. (s, c)) pieces_bytes (ArePieces known)
       (TakesAs-both (all_permits_at t known) permits_bytes (ArePermitsInForm t known) (λ _ r. all_starts_at t known r) (λ _. starts_bytes) (λ _. AreStartsInForm t known)
-        (λ permits starts. (permits, starts)) standing_bytes (λ s. ArePermitsInForm t known s.0 × AreStartsInForm t known s.1)
-        (permits_takes t known) (λ _ _. starts_takes t known) (λ permits starts p q. (refl, (p, q))))
+      (λ permits starts. (permits, starts)) standing_bytes (λ s. ArePermitsInForm t known s.0 × AreStartsInForm t known s.1)
+      (permits_takes t known) (λ _ _. starts_takes t known) (λ permits starts p q. (refl, (p, q))))
       (λ _ _. TakesAs-both (all_lives_at (node_count t)) lives_bytes (AreLivesInForm (node_count t)) (λ _ r. all_claims_at t r) (λ _. claims_bytes) (λ _. AreClaimsInForm t)
-        (λ lives claims. (lives, claims)) chains_bytes (λ c. AreLivesInForm (node_count t) c.0 × AreClaimsInForm t c.1)
-        (lives_takes (node_count t)) (λ _ _. claims_takes t) (λ lives claims p q. (refl, (p, q))))
+      (λ lives claims. (lives, claims)) chains_bytes (λ c. AreLivesInForm (node_count t) c.0 × AreClaimsInForm t c.1)
+      (lives_takes (node_count t)) (λ _ _. claims_takes t) (λ lives claims p q. (refl, (p, q))))
       (λ s c p q. (refl, record { permits = p.0; starts = p.1; lives = q.0; claims = q.1 }))
 
   parts_take : TakesAs (parts_at t) spelling_of (IsInForm t)
@@ -138,26 +138,26 @@ module _ (t : Table) where
         Again-then (context_at n) more (context_bytes dots.0) (context_bytes dots.1) dots.0 dots
         (context_again n one_byte_each dots.0 d.heard)
         (λ at rest.
-            let end : Rest = record { at = at + length (context_bytes dots.1); bytes = rest } in
-            ap (λ f. f >>= λ known. cond (set.is_subset dots.0 known.0) (Ok ((dots.0, known.0), known.1)) (fault NotKnown known.1)) (context_again n one_byte_each dots.1 d.known at rest)
-            ∙ ap (λ (b : Bool). cond b (Ok (dots, end)) (fault NotKnown end)) d.within)
+        let end : Rest = record { at = at + length (context_bytes dots.1); bytes = rest } in
+        ap (λ f. f >>= λ known. cond (set.is_subset dots.0 known.0) (Ok ((dots.0, known.0), known.1)) (fault NotKnown known.1)) (context_again n one_byte_each dots.1 d.known at rest)
+        ∙ ap (λ (b : Bool). cond b (Ok (dots, end)) (fault NotKnown end)) d.within)
 
     pieces_again : (known : Dots) (p : Pieces) → ArePieces known p → Again (pieces_at t known) (pieces_bytes p) p
     unfolding pieces_at standing_at chains_at standing_bytes chains_bytes pieces_bytes
     pieces_again known p q =
         Again-both (standing_at t known) (λ _ r. chains_at t r) (λ s c. (s, c)) (standing_bytes p.0) (chains_bytes p.1) p.0 p.1
         (Again-both (all_permits_at t known) (λ _ r. all_starts_at t known r) (λ permits starts. (permits, starts)) (permits_bytes p.0.0) (starts_bytes p.0.1) p.0.0 p.0.1
-          (permits_again t known one_byte_each few_apps p.0.0 q.permits) (starts_again t known one_byte_each few_apps p.0.1 q.starts))
+        (permits_again t known one_byte_each few_apps p.0.0 q.permits) (starts_again t known one_byte_each few_apps p.0.1 q.starts))
         (Again-both (all_lives_at (node_count t)) (λ _ r. all_claims_at t r) (λ lives claims. (lives, claims)) (lives_bytes p.1.0) (claims_bytes p.1.1) p.1.0 p.1.1
-          (lives_again (node_count t) one_byte_each p.1.0 q.lives) (claims_again t few_nodes few_apps p.1.1 q.claims))
+        (lives_again (node_count t) one_byte_each p.1.0 q.lives) (claims_again t few_nodes few_apps p.1.1 q.claims))
 
     parts_again : (s : StateValue) → IsInForm t s → Again (parts_at t) (spelling_of s) s
     unfolding parts_at
     parts_again s is =
         subst (λ (text : List ℕ). Again (parts_at t) text s) (sym (spelled s))
         (Again-both (dots_at (node_count t)) (λ dots. pieces_at t dots.1) state_from (dots_bytes (s.heard, s.known)) (pieces_bytes ((s.permits, s.starts), (s.lives, s.claims))) (s.heard, s.known) ((s.permits, s.starts), (s.lives, s.claims))
-          (dots_again (s.heard, s.known) (record { heard = is.heard; known = is.known; within = set.contains-is_subset dots_total s.heard s.known is.within }))
-          (pieces_again s.known ((s.permits, s.starts), (s.lives, s.claims)) (record { permits = is.permits; starts = is.starts; lives = is.lives; claims = is.claims })))
+        (dots_again (s.heard, s.known) (record { heard = is.heard; known = is.known; within = set.contains-is_subset dots_total s.heard s.known is.within }))
+        (pieces_again s.known ((s.permits, s.starts), (s.lives, s.claims)) (record { permits = is.permits; starts = is.starts; lives = is.lives; claims = is.claims })))
 
     -- A state in form is read from its spelling.
     pub decoded_again : (s : StateValue) → IsInForm t s → state_at t (spelling_of s) ≡ Ok s

@@ -6,8 +6,7 @@ use std::alloc::Global;
 use std::test::Fail;
 
 /// The example of OTP's manual on distributed applications.
-const EXAMPLE: &[u8] =
-    b"[{kernel,[{distributed,[{myapp,5000,[cp1@cave,{cp2@cave,cp3@cave}]}]}]}].";
+const EXAMPLE: &[u8] = b"[{kernel,[{distributed,[{myapp,5000,[cp1@cave,{cp2@cave,cp3@cave}]}]}]}].";
 
 /// The second node booted, and has heard of nothing else.
 const BOOTED: &[u8] =
