@@ -60,6 +60,11 @@ impl ReadFaultKind {
 }
 
 impl fmt::Display for ReadFaultKind {
+    ghost use Rattle.std.specs.Prelude.{Some};
+    ghost use Rattle.dac_bytes.specs.Faults.{name_of};
+
+    ghost output = { λ kind. Some (name_of kind) };
+
     fn fmt<W: fmt::Write>(&self, f: &mut fmt::Formatter<W>) -> fmt::Result {
         f.write_str(self.name())
     }
@@ -86,6 +91,12 @@ impl ReadFault {
 }
 
 impl fmt::Display for ReadFault {
+    ghost use Rattle.std.specs.Prelude.{◌++◌, Some, codes};
+    ghost use Rattle.std.specs.Fmt.{decimal};
+    ghost use Rattle.dac_bytes.specs.Faults.{name_of};
+
+    ghost output = { λ fault. Some (name_of fault.kind ++ (codes " at " ++ decimal fault.at)) };
+
     fn fmt<W: fmt::Write>(&self, f: &mut fmt::Formatter<W>) -> fmt::Result {
         write!(f, "{} at {}", self.kind, self.at)
     }
