@@ -1,6 +1,6 @@
 //! The newest deltas, by number.
-ghost use Rattle.std.specs.Prelude.{◌≡◌, ◌<◌, ◌≤◌, ◌^◌, OnOk, OnErr, IfOk};
-ghost use Rattle.dac_deltas.specs.Kept.{IsBuffer, empty, pushed, trimmed, interval_of};
+ghost use Rattle.std.specs.Prelude.{◌≡◌, ◌<◌, ◌≤◌, ◌^◌, OnOk, OnErr, IfOk, IfSome};
+ghost use Rattle.dac_deltas.specs.Kept.{IsBuffer, empty, pushed, trimmed, from, interval_of, IsJoinOf};
 
 use dac_base::NoMemory;
 use dac_lattice::Bottom;
@@ -28,7 +28,7 @@ impl<L: Bottom> Model for Buffer<L> {
 
     ghost view = { λ b. newest b.count b.deltas.items };
 
-    ghost invariant = { λ b. IsBuffer L.is_value b.count b.deltas.items };
+    ghost invariant = { λ b. IsBuffer L.is_value (newest b.count b.deltas.items) };
 }
 
 impl<L: Bottom> Buffer<L> {
@@ -41,6 +41,14 @@ impl<L: Bottom> Buffer<L> {
             count: 0,
             deltas: VecDeque::new(alloc),
         }
+    }
+
+    /// The base and those kept make the count, at most 256 are kept, each is a value of the lattice, and the
+    /// count is at most 2^62. This only tells proofs so, and does nothing when it runs.
+    pub fn known(&self)
+        ensures { IsBuffer L.is_value self.now }
+    {
+        let _deltas = &self.deltas;
     }
 
     /// How many deltas were pushed ever. The first has number 0.
@@ -87,7 +95,8 @@ impl<L: Bottom> Buffer<L> {
     /// is the only error.
     pub fn interval(&self, a: u64) -> Result<Option<L>, NoMemory>
         requires { a ≤ self.now.count }
-        ensures { IfOk result (λ found. found ≡ interval_of L.bottom L.join self.now a) }
+        ensures value { IfOk result (λ found. found ≡ interval_of L.bottom L.join self.now a) }
+        ensures least { IfOk result (λ found. IfSome found (IsJoinOf L.is_value L.below (from self.now a))) }
     {
         let base = self.base();
         if a < base {
