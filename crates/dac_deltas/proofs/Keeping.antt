@@ -1,5 +1,5 @@
 -- Lists of kept deltas after one more came and after the oldest went.
-use Rattle.std.proofs.Common.{◌≡◌, ◌+◌, ◌<◌, ◌^◌, ℕ, List, [], ◌∷◌, ◌++◌, drop, fold, length, refl, sym, ap, subst, ◌∙◌, arith}
+use Rattle.std.proofs.Common.{◌≡◌, ◌+◌, ◌<◌, ◌^◌, ℕ, List, [], ◌∷◌, ◌++◌, drop, fold, length, sym, ap, subst, ◌∙◌, arith}
 use Rattle.std.proofs.lemmas.List.{length-drop, length-append}
 use Rattle.std.proofs.lemmas.List.Elements.{All-drop, All-push}
 use Rattle.std.specs.List.{All}
@@ -21,6 +21,6 @@ module _ {L : Type 0} (is_value : L → Type 0) (count : ℕ) (xs : List L) (h :
       }
 
 -- a join to which nothing is left to add is whole
-pub nothing_left : {L : Type 0} (join : L → L → L) (joined : L) (rest : List L) → length rest ≡ 0 → fold join joined rest ≡ joined
-nothing_left join joined [] none = refl
-nothing_left join joined (d ∷ ds) none = absurd (omega arith)
+pub nothing_left : {L : Type 0} (join : L → L → L) (joined all : L) (rest : List L) → fold join joined rest ≡ all → length rest ≡ 0 → all ≡ joined
+nothing_left join joined all [] is none = sym is
+nothing_left join joined all (d ∷ ds) is none = absurd (omega arith)

@@ -1,11 +1,11 @@
 -- The join of some deltas, one after another, is the least value that is above each of them.
-use Rattle.std.specs.Prelude.{◌≡◌, ◌<◌, ℕ, List, [], ◌∷◌, length, drop, fold, cond, nat_lt, Option, Some, None, IfSome}
+use Rattle.std.specs.Prelude.{ℕ, List, [], ◌∷◌, fold, nat_lt, Some, None, IfSome}
 use Rattle.std.proofs.Common.{zero, suc, arith}
-use Rattle.std.specs.List.{All, slice_index_or}
+use Rattle.std.specs.List.{All}
 use Rattle.std.proofs.lemmas.List.Elements.{All-drop}
 use Rattle.std.proofs.lemmas.Bool.{cond_both}
 use Rattle.dac_lattice.specs.Laws.{IsLattice}
-use Rattle.dac_deltas.specs.Kept.{Kept, IsBuffer, IsJoinOf, from, interval_of}
+use Rattle.dac_deltas.specs.Kept.{Kept, IsJoinOf, from, interval_of}
 
 module _ {L : Type 0} {is_value : L → Type 0} {below : L → L → Type 0} {join : L → L → L} (laws : IsLattice is_value below join) where
   joined_value : (ds : List L) (x : L) → is_value x → All is_value ds → is_value (fold join x ds)

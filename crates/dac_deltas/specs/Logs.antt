@@ -1,11 +1,9 @@
 -- What is left of a log of deltas that is never cut, when those below a base are dropped. The calls of a buffer are those of such a log.
-use Rattle.std.specs.Prelude.{◌≡◌, ◌<◌, ◌≤◌, ℕ, ◌+◌, ◌-◌, List, [], ◌∷◌, ◌++◌, length, drop, fold, min, max, cond, nat_lt, Option, Some, None, refl}
-use Rattle.std.proofs.Common.{arith, sym, ap, subst, ◌∙◌, drop-drop, lt-ltb, le-ltb}
+use Rattle.std.specs.Prelude.{◌≡◌, ◌<◌, ◌≤◌, ℕ, ◌+◌, ◌-◌, List, [], ◌∷◌, ◌++◌, length, drop, fold, min, max, cond, Some, None, refl}
+use Rattle.std.proofs.Common.{arith, sym, ap, ◌∙◌, drop-drop, lt-ltb, le-ltb}
 use Rattle.std.specs.List.{All}
 use Rattle.std.proofs.lemmas.List.{drop-append-le, length-append, length-drop}
-use Rattle.dac_lattice.specs.Laws.{IsLattice}
 use Rattle.dac_deltas.specs.Kept.{Kept, IsJoinOf, empty, pushed, trimmed, interval_of}
-use Rattle.dac_deltas.specs.Joins.{joins_are_least}
 
 -- what is kept of a log, where those below the base are dropped
 abbrev pub kept_of : {L : Type 0} → ℕ → List L → Kept L

@@ -43,7 +43,7 @@ NothingIsGreatest = AreGreatest [] map.empty
 
 -- to raise a number is to acknowledge one more
 abbrev pub RaisesAcknowledge : Type 0
-RaisesAcknowledge = (rs : List (Origin × ℕ)) (m : Numbers) (origin : Origin) (n : ℕ) → AreGreatest rs m → AreGreatest ((origin , n) ∷ rs) (raised m origin n)
+RaisesAcknowledge = (rs : List (Origin × ℕ)) (m : Numbers) (origin : Origin) (n : ℕ) → AreGreatest rs m → AreGreatest ((origin, n) ∷ rs) (raised m origin n)
 
 -- ---- the laws
 pub nothing_is_greatest : NothingIsGreatest
@@ -55,14 +55,20 @@ module _ (origin q : Origin) (n : ℕ) (P : ℕ → Type 0) where
 
   -- one number more of the same origin
   same_origin : (before : Option ℕ) → q ≡ origin → IsGreatest P before → IsGreatest WithOne (Some (greater before n))
-  same_origin None same h = (inl (sym same, refl), λ k s. elim s [
-    | inl is ↦ let e = is.1 in omega arith
-    | inr p ↦ absurd (h k p)
-  ])
-  same_origin (Some g) same h = (reached, λ k s. elim s [
-    | inl is ↦ let e = is.1 in omega arith
-    | inr p ↦ let at_most = h.1 k p in omega arith
-  ])
+  same_origin None same h = (
+    inl (sym same, refl),
+    λ k s. elim s [
+      | inl is ↦ let e = is.1 in omega arith
+      | inr p ↦ absurd (h k p)
+    ],
+  )
+  same_origin (Some g) same h = (
+    reached,
+    λ k s. elim s [
+      | inl is ↦ let e = is.1 in omega arith
+      | inr p ↦ let at_most = h.1 k p in omega arith
+    ],
+  )
     where
       reached : WithOne (max g n)
       reached = elim (leb n g) as (λ b. leb n g ≡ b → WithOne (max g n)) [

@@ -124,3 +124,68 @@ impl<L: Bottom> Buffer<L> {
         })
     }
 }
+
+#[cfg(test)]
+mod tests {
+    use super::*;
+    use dac_lattice::Max;
+    use std::test::Fail;
+
+    /// The numbers from 1 on, so many of them, pushed in this order.
+    fn of_numbers(alloc: Global, count: u64) -> Result<Buffer<Max<u64>>, NoMemory>
+        requires { count ≤ 2 ^ 62 }
+        ensures { IfOk result (λ made. made.count ≡ count) }
+    {
+        let mut buffer = Buffer::new(alloc);
+        for number in 0..count {
+            buffer.push(Max::new(number + 1))?;
+        }
+        Ok(buffer)
+    }
+
+    /// How many deltas there were, and the least number that is kept.
+    fn ends(buffer: &Buffer<Max<u64>>) -> (u64, u64) {
+        (buffer.count(), buffer.base())
+    }
+
+    /// The greatest of the numbers from a delta on.
+    fn greatest(buffer: &Buffer<Max<u64>>, a: u64) -> Result<Option<u64>, NoMemory>
+        requires { a ≤ buffer.now.count }
+    {
+        let found = buffer.interval(a)?;
+        Ok(found.map(|greatest| greatest.value))
+    }
+
+    #[test]
+    fn begins_empty(rt: HostRuntime) -> Result<(), Fail> {
+        let buffer = of_numbers(rt.alloc(), 0)?;
+        assert_eq!(rt; ends(&buffer), (0, 0));
+        assert_eq!(rt; greatest(&buffer, 0)?, Some(0));
+        Ok(())
+    }
+
+    #[test]
+    fn oldest_is_dropped(rt: HostRuntime) -> Result<(), Fail> {
+        let buffer = of_numbers(rt.alloc(), 257)?;
+        assert_eq!(rt; ends(&buffer), (257, 1));
+        assert_eq!(rt; greatest(&buffer, 0)?, None);
+        assert_eq!(rt; greatest(&buffer, 1)?, Some(257));
+        assert_eq!(rt; greatest(&buffer, 257)?, Some(0));
+        Ok(())
+    }
+
+    #[test]
+    fn trim_moves_the_base(rt: HostRuntime) -> Result<(), Fail> {
+        let mut buffer = of_numbers(rt.alloc(), 257)?;
+        buffer.trim(200);
+        assert_eq!(rt; ends(&buffer), (257, 200));
+        assert_eq!(rt; greatest(&buffer, 199)?, None);
+        assert_eq!(rt; greatest(&buffer.copy()?, 200)?, Some(257));
+        buffer.trim(100);
+        assert_eq!(rt; ends(&buffer), (257, 200));
+        buffer.trim(1000);
+        buffer.known();
+        assert_eq!(rt; ends(&buffer), (257, 257));
+        Ok(())
+    }
+}

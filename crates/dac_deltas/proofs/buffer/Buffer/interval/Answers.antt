@@ -1,4 +1,5 @@
-use Rattle.std.proofs.Common.{sym, subst, ◌∙◌}
+use Rattle.std.proofs.Common.{◌-◌, fold, subst}
+use Rattle.std.specs.VecDeque.Iter.{deque_iter_rest}
 use Rattle.std.proofs.lemmas.List.Elements.{All-drop}
 use Rattle.dac_deltas.specs.Kept.{IsBuffer, IsJoinOf, from}
 use Rattle.dac_deltas.specs.Joins.{joins_are_least}
@@ -10,6 +11,7 @@ returns-clause-least g c =
     let is_value = g.L.Lattice.is_value in
     let kept = c.args.self.now in
     let values = (subst (IsBuffer is_value) c.self.view_is c.self.invariant).values in
-    let same = sym c.loop-delta.invariant ∙ nothing_left g.L.Lattice.join c.loop-delta.joined _ c.in-None.ensures.steps.0 in
-    subst (IsJoinOf is_value g.L.Lattice.below (from kept c.args.a)) same
-    (joins_are_least g.met.L.Lattice.laws g.L.Bottom.bottom g.met.L.Bottom.bottom_value g.met.L.Bottom.least (from kept c.args.a) (All-drop is_value _ kept.deltas values))
+    let all = fold g.L.Lattice.join g.L.Bottom.bottom (from kept c.args.a) in
+    let whole = nothing_left g.L.Lattice.join c.loop-delta.joined all (deque_iter_rest c.loop-delta.delta-iterator) c.loop-delta.invariant c.in-None.ensures.steps.0 in
+    subst (IsJoinOf is_value g.L.Lattice.below (from kept c.args.a)) whole
+    (joins_are_least g.met.L.Lattice.laws g.L.Bottom.bottom g.met.L.Bottom.bottom_value g.met.L.Bottom.least (from kept c.args.a) (All-drop is_value (c.args.a - kept.base) kept.deltas values))
