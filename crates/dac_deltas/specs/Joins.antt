@@ -1,11 +1,9 @@
 -- The join of some deltas, one after another, is the least value that is above each of them.
-use Rattle.std.specs.Prelude.{ℕ, List, [], ◌∷◌, fold, nat_lt, Some, None, IfSome}
+use Rattle.std.specs.Prelude.{List, [], ◌∷◌, fold}
 use Rattle.std.proofs.Common.{zero, suc, arith}
 use Rattle.std.specs.List.{All}
-use Rattle.std.proofs.lemmas.List.Elements.{All-drop}
-use Rattle.std.proofs.lemmas.Bool.{cond_both}
 use Rattle.dac_lattice.specs.Laws.{IsLattice}
-use Rattle.dac_deltas.specs.Kept.{Kept, IsJoinOf, from, interval_of}
+use Rattle.dac_deltas.specs.Kept.{IsJoinOf}
 
 module _ {L : Type 0} {is_value : L → Type 0} {below : L → L → Type 0} {join : L → L → L} (laws : IsLattice is_value below join) where
   joined_value : (ds : List L) (x : L) → is_value x → All is_value ds → is_value (fold join x ds)
@@ -38,7 +36,3 @@ module _ {L : Type 0} {is_value : L → Type 0} {below : L → L → Type 0} {jo
       above = joined_above ds bottom value h;
       least = λ x v above. joined_least ds bottom x value v h (least x v) above;
     }
-
-    pub intervals_are_least : (k : Kept L) (a : ℕ) → All is_value k.deltas → IfSome (interval_of bottom join k a) (IsJoinOf is_value below (from k a))
-    intervals_are_least k a h = cond_both (nat_lt a k.base) None (Some (fold join bottom (from k a))) (λ found. IfSome found (IsJoinOf is_value below (from k a)))
-        (λ _. tt) (λ _. joins_are_least (from k a) (All-drop is_value _ k.deltas h))

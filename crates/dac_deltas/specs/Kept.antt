@@ -20,6 +20,7 @@ abbrev pub newest : {L : Type 0} → ℕ → List L → Kept L
 newest count ds = record { count = count; base = count - length ds; deltas = ds }
 
 -- ---- what calls do to it
+-- no deltas
 abbrev pub empty : {L : Type 0} → Kept L
 empty = record { count = 0; base = 0; deltas = [] }
 
@@ -36,12 +37,12 @@ abbrev pub trimmed : {L : Type 0} → Kept L → ℕ → Kept L
 trimmed k n = cut k (min n k.count - k.base)
 
 -- the deltas numbered a and on, where all of them are kept
-abbrev pub from : {L : Type 0} → Kept L → ℕ → List L
-from k a = drop (a - k.base) k.deltas
+abbrev pub numbered_from : {L : Type 0} → Kept L → ℕ → List L
+numbered_from k a = drop (a - k.base) k.deltas
 
 -- the join of the deltas from a number on, where all of them are kept
 abbrev pub interval_of : {L : Type 0} → L → (L → L → L) → Kept L → ℕ → Option L
-interval_of bottom join k a = cond (nat_lt a k.base) None (Some (fold join bottom (from k a)))
+interval_of bottom join k a = cond (nat_lt a k.base) None (Some (fold join bottom (numbered_from k a)))
 
 -- ---- what a join is
 -- a value is the least of those that are above each of the deltas

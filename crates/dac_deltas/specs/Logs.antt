@@ -9,13 +9,17 @@ use Rattle.dac_deltas.specs.Kept.{Kept, IsJoinOf, empty, pushed, trimmed, interv
 abbrev pub kept_of : {L : Type 0} → ℕ → List L → Kept L
 kept_of base log = record { count = length log; base = base; deltas = drop base log }
 
+-- the same, where all but the newest 256 are dropped too
+abbrev pub newest_of : {L : Type 0} → ℕ → List L → Kept L
+newest_of base log = kept_of (max base (length log - 256)) log
+
 -- a buffer begins as the empty log
 abbrev pub EmptyIsOfNothing : Type 0 → Type 0
 EmptyIsOfNothing L = ◌≡◌ {A = Kept L} empty (kept_of 0 [])
 
--- a push appends to the log, and moves the base on to the newest 256
+-- a push appends to the log, and drops all but the newest 256
 abbrev pub PushesAppend : Type 0 → Type 0
-PushesAppend L = (base : ℕ) (log : List L) (delta : L) → base ≤ length log → pushed (kept_of base log) delta ≡ kept_of (max base (length log + 1 - 256)) (log ++ delta ∷ [])
+PushesAppend L = (base : ℕ) (log : List L) (delta : L) → base ≤ length log → pushed (kept_of base log) delta ≡ newest_of base (log ++ delta ∷ [])
 
 -- a trim leaves the log, and moves the base on to the number or to the end
 abbrev pub TrimsMoveTheBase : Type 0 → Type 0
@@ -45,7 +49,7 @@ module _ {L : Type 0} where
       let some = length-drop base log in
       let more = log ++ delta ∷ [] in
       let gone = length (drop base log) + 1 - 256 in
-      let to : base + gone ≡ max base (length log + 1 - 256) = omega arith in
+      let to : base + gone ≡ max base (length more - 256) = omega arith in
       same_kept _ _ _ _ _ _ (sym all) to (ap (drop gone) (sym (drop-append-le base log (delta ∷ []) h)) ∙ (drop-drop gone base more ∙ ap (λ n. drop n more) to))
 
   pub trims_move_the_base : TrimsMoveTheBase L

@@ -1,6 +1,6 @@
 //! The newest deltas, by number.
 ghost use Rattle.std.specs.Prelude.{◌≡◌, ◌<◌, ◌≤◌, ◌^◌, OnOk, OnErr, IfOk, IfSome};
-ghost use Rattle.dac_deltas.specs.Kept.{IsBuffer, empty, pushed, trimmed, from, interval_of, IsJoinOf};
+ghost use Rattle.dac_deltas.specs.Kept.{IsBuffer, empty, pushed, trimmed, numbered_from, interval_of, IsJoinOf};
 
 use dac_base::NoMemory;
 use dac_lattice::Bottom;
@@ -96,7 +96,7 @@ impl<L: Bottom> Buffer<L> {
     pub fn interval(&self, a: u64) -> Result<Option<L>, NoMemory>
         requires { a ≤ self.now.count }
         ensures value { IfOk result (λ found. found ≡ interval_of L.bottom L.join self.now a) }
-        ensures least { IfOk result (λ found. IfSome found (IsJoinOf L.is_value L.below (from self.now a))) }
+        ensures least { IfOk result (λ found. IfSome found (IsJoinOf L.is_value L.below (numbered_from self.now a))) }
     {
         let base = self.base();
         if a < base {
