@@ -1,10 +1,10 @@
 -- A total order in which only equal values tie is a lattice.
-use Rattle.std.specs.Prelude.{◌≡◌, true, false, cond, refl, IsTrue}
-use Rattle.std.proofs.Common.{sym, ap, subst}
+use Rattle.std.specs.Prelude.{◌≡◌, ℕ, true, false, cond, refl, IsTrue}
+use Rattle.std.proofs.Common.{zero, suc, arith, sym, ap, subst}
 use Rattle.std.specs.declared.cmp.Ordering.{Ordering}
 use Rattle.std.specs.declared.cmp.Ordering.TheVariants.{Less, Equal, Greater}
-use Rattle.std.specs.Ordering.{is_le, is_lt, is_gt, ordering_reverse, ord_max}
-use Rattle.std.specs.Cmp.{IsTotalOrder}
+use Rattle.std.specs.Ordering.{is_le, is_lt, is_gt, nat_cmp, ordering_reverse, ord_max}
+use Rattle.std.specs.Cmp.{IsTotalOrder, nat_cmp_is}
 use Rattle.std.proofs.lemmas.Bool.{true≢false, false≢true}
 use Rattle.std.proofs.lemmas.Cmp.{upto, tied_itself}
 use Rattle.std.proofs.lemmas.Map.Lookups.{CmpEqualImpliesEq}
@@ -63,3 +63,8 @@ module _ {T : Type 0} {cmp : T → T → Ordering} (o : IsTotalOrder cmp) (exact
     ] refl;
     least = λ x y z _ _ _ p q. elim (is_lt (cmp y x)) as (λ b. IsAtMost cmp (cond b x y) z) [ true ↦ p | false ↦ q ];
   }
+
+-- no number is below 0
+pub zero_is_least : (n : ℕ) → IsAtMost nat_cmp 0 n
+zero_is_least zero = refl
+zero_is_least (suc n) = ap is_le (sym (nat_cmp_is 0 (suc n) Less (omega arith)))

@@ -1,9 +1,10 @@
 //! The greatest of totally ordered values.
 ghost use Rattle.std.specs.Prelude.{◌≡◌, ◌↔◌, IsTrue, IfOk};
 
-use crate::Lattice;
+use crate::{Bottom, Lattice};
 use dac_base::NoMemory;
 use dac_dots::MapKey;
+use std::alloc::Global;
 
 /// The greatest value seen. The order is that of the values, and a join takes the greater of two.
 #[derive(Clone, Copy, Debug)]
@@ -54,6 +55,21 @@ impl<T: MapKey> Lattice for Max<T> {
     }
 }
 
+/// The least number is 0.
+impl Bottom for Max<u64> {
+    ghost use Rattle.dac_lattice.specs.Chains.{zero_is_least};
+
+    ghost bottom = { record { value = 0 } };
+
+    ghost least = { λ x _. zero_is_least x.value };
+
+    ghost bottom_value = { tt };
+
+    fn bottom(_alloc: Global) -> Self {
+        Max::new(0)
+    }
+}
+
 #[cfg(test)]
 mod tests {
     use super::*;
@@ -72,6 +88,18 @@ mod tests {
         assert!(rt; is_joined_above(&Max::new(5u64), &Max::new(5))?);
         assert!(rt; !is_joined_above(&Max::new(5u64), &Max::new(2))?);
         assert_eq!(rt; Max::new(5u64).join(&Max::new(2))?.value, 5);
+        Ok(())
+    }
+
+    /// Whether a value is the least one, through the bound.
+    fn is_bottom<L: Bottom>(alloc: Global, value: &L) -> bool {
+        value.equal(&L::bottom(alloc))
+    }
+
+    #[test]
+    fn zero_is_least(rt: HostRuntime) -> Result<(), Fail> {
+        assert!(rt; is_bottom(rt.alloc(), &Max::new(0u64)));
+        assert!(rt; !is_bottom(rt.alloc(), &Max::new(1u64)));
         Ok(())
     }
 }

@@ -1,0 +1,52 @@
+-- What a buffer keeps of a log of deltas, which are numbered from 0. (Delta intervals are after delta-state replicated data types; that 256 are kept is this project's own.)
+use Rattle.std.specs.Prelude.{◌≡◌, ℕ, ◌+◌, ◌-◌, ◌≤◌, ◌^◌, List, [], ◌∷◌, ◌++◌, length, drop, fold, min, cond, nat_lt, Option, Some, None}
+use Rattle.std.specs.List.{All}
+
+-- how many deltas there were ever, the least number that is kept, and the deltas kept, the oldest first
+pub record Kept (L : Type 0) : Type 0 where
+  pub count : ℕ
+  pub base : ℕ
+  pub deltas : List L
+
+-- what holds of each buffer
+pub record IsBuffer {L : Type 0} (is_value : L → Type 0) (k : Kept L) : Type 0 where
+  pub numbered : k.base + length k.deltas ≡ k.count
+  pub few : length k.deltas ≤ 256
+  pub countable : k.count ≤ 2 ^ 62
+  pub values : All is_value k.deltas
+
+-- these deltas are the newest of so many
+abbrev pub newest : {L : Type 0} → ℕ → List L → Kept L
+newest count ds = record { count = count; base = count - length ds; deltas = ds }
+
+-- ---- what calls do to it
+-- no deltas
+abbrev pub empty : {L : Type 0} → Kept L
+empty = record { count = 0; base = 0; deltas = [] }
+
+-- the base is so many deltas further
+abbrev pub cut : {L : Type 0} → Kept L → ℕ → Kept L
+cut k n = record { count = k.count; base = k.base + n; deltas = drop n k.deltas }
+
+-- with one more delta, and at most 256 kept
+abbrev pub pushed : {L : Type 0} → Kept L → L → Kept L
+pushed k x = cut (record { count = k.count + 1; base = k.base; deltas = k.deltas ++ x ∷ [] }) (length k.deltas + 1 - 256)
+
+-- without the deltas below a number
+abbrev pub trimmed : {L : Type 0} → Kept L → ℕ → Kept L
+trimmed k n = cut k (min n k.count - k.base)
+
+-- the deltas numbered a and on, where all of them are kept
+abbrev pub numbered_from : {L : Type 0} → Kept L → ℕ → List L
+numbered_from k a = drop (a - k.base) k.deltas
+
+-- the join of the deltas from a number on, where all of them are kept
+abbrev pub interval_of : {L : Type 0} → L → (L → L → L) → Kept L → ℕ → Option L
+interval_of bottom join k a = cond (nat_lt a k.base) None (Some (fold join bottom (numbered_from k a)))
+
+-- ---- what a join is
+-- a value is the least of those that are above each of the deltas
+pub record IsJoinOf {L : Type 0} (is_value : L → Type 0) (below : L → L → Type 0) (ds : List L) (joined : L) : Type 0 where
+  pub value : is_value joined
+  pub above : All (λ d. below d joined) ds
+  pub least : (x : L) → is_value x → All (λ d. below d x) ds → below joined x

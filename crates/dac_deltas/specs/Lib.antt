@@ -1,0 +1,4 @@
+pub mod Kept
+pub mod Joins
+pub mod Logs
+pub mod Numbers

@@ -1,0 +1,68 @@
+-- What is left of a log of deltas that is never cut, when those below a base are dropped. The calls of a buffer are those of such a log.
+use Rattle.std.specs.Prelude.{◌≡◌, ◌<◌, ◌≤◌, ℕ, ◌+◌, ◌-◌, List, [], ◌∷◌, ◌++◌, length, drop, fold, min, max, cond, Some, None, refl}
+use Rattle.std.proofs.Common.{arith, sym, ap, ◌∙◌, drop-drop, lt-ltb, le-ltb}
+use Rattle.std.specs.List.{All}
+use Rattle.std.proofs.lemmas.List.{drop-append-le, length-append, length-drop}
+use Rattle.dac_deltas.specs.Kept.{Kept, IsJoinOf, empty, pushed, trimmed, interval_of}
+
+-- what is kept of a log, where those below the base are dropped
+abbrev pub kept_of : {L : Type 0} → ℕ → List L → Kept L
+kept_of base log = record { count = length log; base = base; deltas = drop base log }
+
+-- the same, where all but the newest 256 are dropped too
+abbrev pub newest_of : {L : Type 0} → ℕ → List L → Kept L
+newest_of base log = kept_of (max base (length log - 256)) log
+
+-- a buffer begins as the empty log
+abbrev pub EmptyIsOfNothing : Type 0 → Type 0
+EmptyIsOfNothing L = ◌≡◌ {A = Kept L} empty (kept_of 0 [])
+
+-- a push appends to the log, and drops all but the newest 256
+abbrev pub PushesAppend : Type 0 → Type 0
+PushesAppend L = (base : ℕ) (log : List L) (delta : L) → base ≤ length log → pushed (kept_of base log) delta ≡ newest_of base (log ++ delta ∷ [])
+
+-- a trim leaves the log, and moves the base on to the number or to the end
+abbrev pub TrimsMoveTheBase : Type 0 → Type 0
+TrimsMoveTheBase L = (base : ℕ) (log : List L) (n : ℕ) → trimmed (kept_of base log) n ≡ kept_of (max base (min n (length log))) log
+
+module _ {L : Type 0} (bottom : L) (join : L → L → L) where
+  -- from the base on, an interval is the join of the log's deltas from its number on
+  abbrev pub IntervalsAreOfTheLog : Type 0
+  IntervalsAreOfTheLog = (base : ℕ) (log : List L) (a : ℕ) → base ≤ a → interval_of bottom join (kept_of base log) a ≡ Some (fold join bottom (drop a log))
+
+  -- below the base there is none
+  abbrev pub DroppedHaveNone : Type 0
+  DroppedHaveNone = (base : ℕ) (log : List L) (a : ℕ) → a < base → interval_of bottom join (kept_of base log) a ≡ None
+
+-- the deltas of a log, joined one after another, are the least value above each of them
+abbrev pub JoinsAreLeast : {L : Type 0} → (L → Type 0) → (L → L → Type 0) → (L → L → L) → L → Type 0
+JoinsAreLeast {L} is_value below join bottom = (log : List L) → All is_value log → IsJoinOf is_value below log (fold join bottom log)
+
+-- ---- the laws
+module _ {L : Type 0} where
+  same_kept : (count count' base base' : ℕ) (ds ds' : List L) → count ≡ count' → base ≡ base' → ds ≡ ds' → ◌≡◌ {A = Kept L} (record { count = count; base = base; deltas = ds }) (record { count = count'; base = base'; deltas = ds' })
+  same_kept count count' base base' ds ds' c b d = λ i. record { count = c i; base = b i; deltas = d i }
+
+  pub pushes_append : PushesAppend L
+  pushes_append base log delta h =
+      let all = length-append log (delta ∷ []) in
+      let some = length-drop base log in
+      let more = log ++ delta ∷ [] in
+      let gone = length (drop base log) + 1 - 256 in
+      let to : base + gone ≡ max base (length more - 256) = omega arith in
+      same_kept _ _ _ _ _ _ (sym all) to (ap (drop gone) (sym (drop-append-le base log (delta ∷ []) h)) ∙ (drop-drop gone base more ∙ ap (λ n. drop n more) to))
+
+  pub trims_move_the_base : TrimsMoveTheBase L
+  trims_move_the_base base log n =
+      let to : base + (min n (length log) - base) ≡ max base (min n (length log)) = omega arith in
+      same_kept _ _ _ _ _ _ refl to (drop-drop (min n (length log) - base) base log ∙ ap (λ k. drop k log) to)
+
+  module _ (bottom : L) (join : L → L → L) where
+    pub intervals_are_of_the_log : IntervalsAreOfTheLog bottom join
+    intervals_are_of_the_log base log a h =
+        let to : base + (a - base) ≡ a = omega arith in
+        ap (λ b. cond b None (Some (fold join bottom (drop (a - base) (drop base log))))) (le-ltb a base h)
+        ∙ ap (λ ds. Some (fold join bottom ds)) (drop-drop (a - base) base log ∙ ap (λ k. drop k log) to)
+
+    pub dropped_have_none : DroppedHaveNone bottom join
+    dropped_have_none base log a h = ap (λ b. cond b None (Some (fold join bottom (drop (a - base) (drop base log))))) (lt-ltb a base h)

@@ -1,0 +1,101 @@
+//! What was acknowledged.
+ghost use Rattle.std.specs.Prelude.{◌≡◌, OnOk, OnErr, IfOk};
+ghost use Rattle.std.specs.FinMap as map;
+ghost use Rattle.dac_deltas.specs.Numbers.{raised};
+
+use dac_base::NoMemory;
+use dac_dots::Origin;
+use std::alloc::Global;
+use std::collections::BTreeMap;
+use std::marker::Model;
+
+/// The greatest number that each origin acknowledged. Contracts see it as a finite map from origins to
+/// numbers.
+#[derive(Drop)]
+pub struct Acks {
+    numbers: BTreeMap<Origin, u64>,
+}
+
+impl Model for Acks {
+    ghost use Rattle.std.specs.FinMap as map;
+    ghost use Rattle.std.specs.Coded.{coded_ℕ};
+    ghost use Rattle.dac_dots.specs.Dots.{coded_origin};
+    ghost use Rattle.dac_deltas.specs.Numbers.{Numbers};
+
+    ghost Value = { Numbers };
+
+    ghost coded = { map.code coded_origin coded_ℕ };
+
+    ghost view = { λ a. map.from_entries a.numbers.entries };
+}
+
+impl Acks {
+    /// Nothing is acknowledged. It takes no memory.
+    pub fn new(alloc: Global) -> Self
+        ensures { result ≡ map.empty }
+    {
+        Acks {
+            numbers: BTreeMap::new(alloc),
+        }
+    }
+
+    /// The greatest number that an origin acknowledged, if it acknowledged any.
+    pub fn get(&self, origin: Origin) -> Option<u64>
+        ensures { result ≡ map.get self.now origin }
+    {
+        self.numbers.get(&origin).copied()
+    }
+
+    /// An origin acknowledges a number. A lesser one than before changes nothing. [`NoMemory`] is the only
+    /// error, and leaves all as it was.
+    pub fn raise(&mut self, origin: Origin, number: u64) -> Result<(), NoMemory>
+        ensures ok { OnOk result (self.new ≡ raised self.old origin number) }
+        ensures err { OnErr result (self.new ≡ self.old) }
+    {
+        let greatest = match self.get(origin) {
+            Some(before) => before.max(number),
+            None => number,
+        };
+        self.numbers.insert(origin, greatest)?;
+        Ok(())
+    }
+
+    /// An equal table, with memory of its own. [`NoMemory`] is the only error.
+    pub fn copy(&self) -> Result<Self, NoMemory>
+        ensures { IfOk result (λ copied. copied ≡ self.now) }
+    {
+        Ok(Acks {
+            numbers: self.numbers.clone()?,
+        })
+    }
+}
+
+#[cfg(test)]
+mod tests {
+    use super::*;
+    use dac_base::NodeId;
+    use std::test::Fail;
+
+    /// An incarnation of the first node.
+    fn origin(inc: u32) -> Origin {
+        Origin {
+            node: NodeId(0),
+            inc,
+        }
+    }
+
+    #[test]
+    fn greatest_stays(rt: HostRuntime) -> Result<(), Fail> {
+        let mut acks = Acks::new(rt.alloc());
+        assert_eq!(rt; acks.get(origin(1)), None);
+        acks.raise(origin(1), 3)?;
+        acks.raise(origin(1), 2)?;
+        assert_eq!(rt; acks.get(origin(1)), Some(3));
+        acks.raise(origin(2), 1)?;
+        acks.raise(origin(1), 4)?;
+        let copied = acks.copy()?;
+        assert_eq!(rt; copied.get(origin(1)), Some(4));
+        assert_eq!(rt; copied.get(origin(2)), Some(1));
+        Ok(())
+    }
+}
