@@ -1,0 +1,4 @@
+mod Counting
+mod Least
+mod FirstChoice
+mod Judged
