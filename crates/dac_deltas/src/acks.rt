@@ -1,5 +1,5 @@
 //! What was acknowledged.
-ghost use Rattle.std.specs.Prelude.{◌≡◌, OnOk, OnErr, IfOk};
+ghost use Rattle.std.specs.Prelude.{◌≡◌, None, OnOk, OnErr, IfOk};
 ghost use Rattle.std.specs.FinMap as map;
 ghost use Rattle.dac_deltas.specs.Numbers.{raised};
 
@@ -47,10 +47,11 @@ impl Acks {
     }
 
     /// An origin acknowledges a number. A lesser one than before changes nothing. [`NoMemory`] is the only
-    /// error, and leaves all as it was.
+    /// error; it comes only where the origin acknowledged none before, and leaves all as it was.
     pub fn raise(&mut self, origin: Origin, number: u64) -> Result<(), NoMemory>
         ensures ok { OnOk result (self.new ≡ raised self.old origin number) }
         ensures err { OnErr result (self.new ≡ self.old) }
+        ensures first { OnErr result (map.get self.old origin ≡ None) }
     {
         let greatest = match self.get(origin) {
             Some(before) => before.max(number),

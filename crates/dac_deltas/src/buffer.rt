@@ -1,5 +1,5 @@
 //! The newest deltas, by number.
-ghost use Rattle.std.specs.Prelude.{◌≡◌, ◌<◌, ◌≤◌, ◌^◌, OnOk, OnErr, IfOk, IfSome};
+ghost use Rattle.std.specs.Prelude.{◌≡◌, ◌<◌, ◌≤◌, ◌^◌, Ok, None, OnOk, OnErr, IfOk, IfSome};
 ghost use Rattle.dac_deltas.specs.Kept.{IsBuffer, empty, pushed, trimmed, numbered_from, interval_of, IsJoinOf};
 
 use dac_base::NoMemory;
@@ -92,9 +92,10 @@ impl<L: Bottom> Buffer<L> {
 
     /// The join of the deltas from number `a` on, which is the least value where `a` is the count, and none
     /// where a delta from `a` on is no longer kept. The caller owes that `a` is at most the count. [`NoMemory`]
-    /// is the only error.
+    /// is the only error, and comes only where all deltas from `a` on are kept.
     pub fn interval(&self, a: u64) -> Result<Option<L>, NoMemory>
         requires { a ≤ self.now.count }
+        ensures dropped { a < self.now.base → result ≡ Ok None }
         ensures value { IfOk result (λ found. found ≡ interval_of L.bottom L.join self.now a) }
         ensures least { IfOk result (λ found. IfSome found (IsJoinOf L.is_value L.below (numbered_from self.now a))) }
     {
