@@ -11,7 +11,7 @@ use Rattle.dac_config.specs.Table.{Table, node_name}
 use Rattle.dac_core.specs.declared.event.Reply.{Reply}
 use Rattle.dac_events.specs.declared.WorldEvent.{WorldEvent}
 use Rattle.dac_core.specs.declared.fault.WorldFault.{WorldFault}
-use Rattle.dac_core.specs.NodeValue.{state_of}
+use Rattle.dac_core.specs.NodeValue.{origin_of, state_of}
 use Rattle.dac_core.specs.WorldValue.{WorldValue}
 use Rattle.dac_core.specs.ModelNode.{shown}
 use Rattle.dac_core.specs.ModelWorld.{ModelWorld, Shows, Follows, Done, Lacked, start, happens, out_of_memory, numbered}
@@ -20,8 +20,8 @@ use Rattle.dac_script.specs.declared.line.ScriptLine.{ScriptLine}
 use Rattle.dac_script.specs.declared.line.ScriptLine.TheVariants as says
 use Rattle.dac_play.specs.Answers.{answer_text}
 use Rattle.dac_play.specs.Texts.{shared_text}
-use Rattle.dac_play.specs.Sharing.{state_in, shared, Leads}
-use Rattle.dac_play.specs.Play.{state_at, bytes_text, compare_text, counts_in, world_after, script_text, PlaysLine}
+use Rattle.dac_play.specs.Sharing.{origin_in, state_in, shared, Leads}
+use Rattle.dac_play.specs.Play.{state_at, origin_at, shown_text, bytes_text, compare_text, counts_in, world_after, script_text, PlaysLine}
 
 -- ---- one line
 same_counts : (w : ModelWorld) (v : WorldValue) (counts : Counts) → Shows w v → counts.operations ≡ length v.operations → counts.messages ≡ length v.messages → counts ≡ counts_in w
@@ -62,6 +62,14 @@ pub same_plays : (table : Table) (v : WorldValue) (first second : NodeId) (text 
 same_plays table v first second text lt mt is_text = record {
   each = λ w shows. (is_text ∙ ap₂ (compare_text (node_name table first) (node_name table second)) (state_shown w v first shows lt) (state_shown w v second shows mt), shows);
 }
+
+origin_shown : (w : ModelWorld) (v : WorldValue) (node : NodeId) → Shows w v → node.0 < length v.nodes → origin_at v node ≡ origin_in w node
+origin_shown w v node shows lt =
+    let within : node.0 < w.count = omega (arith, shows.count) in
+    ap (option_and_then origin_of) (shows.nodes node.0 ∙ ap (λ b. cond b (Some (shown (w.node (numbered node.0)))) None) (lt-ltb node.0 w.count within))
+
+pub page_plays : (table : Table) (v : WorldValue) (node : NodeId) (text : List ℕ) → node.0 < length v.nodes → text ≡ shown_text table node (origin_at v node) (state_at v node) → PlaysLine table v (says.Page node) text v
+page_plays table v node text lt is_text = record { each = λ w shows. (is_text ∙ ap₂ (shown_text table node) (origin_shown w v node shows lt) (state_shown w v node shows lt), shows) }
 
 pub state_plays : (table : Table) (v : WorldValue) (node : NodeId) (text : List ℕ) → node.0 < length v.nodes → text ≡ bytes_text (node_name table node) (state_at v node) → PlaysLine table v (says.State node) text v
 state_plays table v node text lt is_text = record { each = λ w shows. (is_text ∙ ap (bytes_text (node_name table node)) (state_shown w v node shows lt), shows) }

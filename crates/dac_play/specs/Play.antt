@@ -1,34 +1,45 @@
 -- What a script does in a world, and what is printed of it.
 use Rattle.std.specs.Prelude.{◌≡◌, ℕ, ◌-◌, List, [], ◌∷◌, ◌++◌, length, Option, None, Some, slice_get}
-use Rattle.std.specs.Option.{option_and_then}
+use Rattle.std.specs.Option.{option_and_then, option_map_or}
 use Rattle.std.specs.Str.{bytes_eq}
 use Rattle.dac_base.specs.declared.NodeId.{NodeId}
+use Rattle.dac_dots.specs.declared.dot.Origin.{Origin}
 use Rattle.dac_config.specs.Table.{Table, node_name}
 use Rattle.dac_meaning.specs.StateValue.{StateValue}
 use Rattle.dac_state.specs.StateSpelling.{spelling_of}
-use Rattle.dac_core.specs.NodeValue.{state_of}
+use Rattle.dac_core.specs.NodeValue.{origin_of, state_of}
 use Rattle.dac_core.specs.WorldValue.{WorldValue}
 use Rattle.dac_core.specs.ModelWorld.{ModelWorld, Shows, happens}
+use Rattle.dac_status.specs.Summaries.{summary_of}
+use Rattle.dac_status.specs.Texts.{header_text, page_text}
 use Rattle.dac_script.specs.declared.line.ScriptLine.{ScriptLine}
 use Rattle.dac_script.specs.declared.line.ScriptLine.TheVariants as says
 use Rattle.dac_play.specs.declared.answers.Counts.{Counts}
-use Rattle.dac_play.specs.Texts.{shared_text, state_text, same_text, off_text}
+use Rattle.dac_play.specs.Texts.{shared_text, state_text, same_text}
 use Rattle.dac_play.specs.Answers.{answer_text}
-use Rattle.dac_play.specs.Sharing.{state_in, shared}
+use Rattle.dac_play.specs.Sharing.{origin_in, state_in, shared}
 
 -- the state of a node of the program's world, where it runs
 abbrev pub state_at : WorldValue → NodeId → Option StateValue
 state_at v node = option_and_then state_of (slice_get v.nodes node.0)
 
+-- the present incarnation of a node of the program's world, where it runs
+abbrev pub origin_at : WorldValue → NodeId → Option Origin
+origin_at v node = option_and_then origin_of (slice_get v.nodes node.0)
+
+-- as what a node runs, and the page of its state; a node that is off has none
+abbrev pub shown_text : Table → NodeId → Option Origin → Option StateValue → List ℕ
+shown_text table node origin state = header_text (node_name table node) origin ++ option_map_or (λ s. page_text table (summary_of table s)) state []
+
 -- the bytes of the state of a node of this name, or that it is off
 abbrev pub bytes_text : List ℕ → Option StateValue → List ℕ
-bytes_text node None = off_text node
+bytes_text node None = header_text node None
 bytes_text node (Some state) = state_text (spelling_of state)
 
 -- whether the states of two nodes of these names have the same bytes, or the first of them that is off
 abbrev pub compare_text : List ℕ → List ℕ → Option StateValue → Option StateValue → List ℕ
-compare_text first second None other = off_text first
-compare_text first second (Some one) None = off_text second
+compare_text first second None other = header_text first None
+compare_text first second (Some one) None = header_text second None
 compare_text first second (Some one) (Some other) = same_text (bytes_eq (spelling_of one) (spelling_of other))
 
 -- what was issued and shipped so far
@@ -39,6 +50,7 @@ counts_in w = record { operations = length w.operations; messages = length w.mes
 abbrev pub world_after : Table → ModelWorld → ScriptLine → ModelWorld
 world_after table w (says.Event event) = (happens table w event).world
 world_after table w says.Share = shared table w
+world_after table w (says.Page node) = w
 world_after table w (says.State node) = w
 world_after table w (says.Same first second) = w
 
@@ -46,6 +58,7 @@ world_after table w (says.Same first second) = w
 abbrev pub line_text : Table → ModelWorld → ScriptLine → List ℕ
 line_text table w (says.Event event) = answer_text table event (happens table w event).answer (counts_in (happens table w event).world)
 line_text table w says.Share = shared_text (length (shared table w).messages - length w.messages)
+line_text table w (says.Page node) = shown_text table node (origin_in w node) (state_in w node)
 line_text table w (says.State node) = bytes_text (node_name table node) (state_in w node)
 line_text table w (says.Same first second) = compare_text (node_name table first) (node_name table second) (state_in w first) (state_in w second)
 

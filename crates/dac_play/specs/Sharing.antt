@@ -4,11 +4,12 @@ use Rattle.std.specs.List.{range_with_len}
 use Rattle.std.specs.Option.{is_some}
 use Rattle.std.specs.Result.{is_ok}
 use Rattle.dac_base.specs.declared.NodeId.{NodeId}
+use Rattle.dac_dots.specs.declared.dot.Origin.{Origin}
 use Rattle.dac_config.specs.Table.{Table}
 use Rattle.dac_events.specs.declared.What.TheVariants as what
 use Rattle.dac_events.specs.declared.WorldEvent.{WorldEvent}
 use Rattle.dac_meaning.specs.StateValue.{StateValue}
-use Rattle.dac_core.specs.NodeValue.{state_of}
+use Rattle.dac_core.specs.NodeValue.{origin_of, state_of}
 use Rattle.dac_core.specs.WorldValue.{WorldValue}
 use Rattle.dac_core.specs.ModelNode.{shown}
 use Rattle.dac_core.specs.ModelWorld.{ModelWorld, WorldStepped, Shows, happens, numbered}
@@ -17,6 +18,10 @@ use Rattle.dac_play.specs.Pairs.{pairs}
 -- the state of a node of the definition's world, where it runs
 abbrev pub state_in : ModelWorld → NodeId → Option StateValue
 state_in w node = state_of (shown (w.node node))
+
+-- the present incarnation of a node of the definition's world, where it runs
+abbrev pub origin_in : ModelWorld → NodeId → Option Origin
+origin_in w node = origin_of (shown (w.node node))
 
 -- the nodes of the first so many numbers that have a state, in the order of their names
 abbrev pub having_state : (NodeId → Option StateValue) → ℕ → List NodeId

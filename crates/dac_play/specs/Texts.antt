@@ -53,9 +53,6 @@ same_text false = codes "differ\n"
 abbrev pub state_text : List ℕ → List ℕ
 state_text bytes = encode_lower bytes ++ codes "\n"
 
-abbrev pub off_text : List ℕ → List ℕ
-off_text node = codes "node " ++ (name_text node ++ codes " off\n")
-
 abbrev pub input_fault_text : InputFault → List ℕ
 input_fault_text fault = codes "input fault " ++ (decimal (input_number fault) ++ (codes " " ++ (input_name fault ++ codes "\n")))
 

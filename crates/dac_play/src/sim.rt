@@ -12,7 +12,7 @@ ghost use Rattle.dac_play.specs.Simulations.{EndsSim};
 use crate::answers::{Counts, answer_line};
 use crate::ending::{Ending, print, refuse};
 use crate::sharing::share;
-use crate::states::{bytes_line, compare_line};
+use crate::states::{bytes_line, compare_line, shown_lines};
 use crate::texts::{OUT_OF_MEMORY, shared_line};
 use dac_base::NoMemory;
 use dac_config::Config;
@@ -88,6 +88,7 @@ fn step(
     match line {
         ScriptLine::Event(event) => event_step(alloc, config, world, event),
         ScriptLine::Share => share_step(alloc, config, world),
+        ScriptLine::Page(node) => shown_lines(alloc, config, world, *node),
         ScriptLine::State(node) => bytes_line(alloc, config, world, *node),
         ScriptLine::Same(first, second) => compare_line(alloc, config, world, *first, *second),
     }

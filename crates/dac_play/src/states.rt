@@ -1,15 +1,16 @@
-//! The states of nodes, shown and compared by their bytes.
+//! Nodes and their states, shown by their pages, and shown and compared by their bytes.
 
 ghost use Rattle.std.specs.Prelude.{◌≡◌, ◌<◌, IfOk, length};
 ghost use Rattle.std.specs.Option.{option_copied};
 ghost use Rattle.dac_config.specs.Table.{node_count, node_name};
-ghost use Rattle.dac_play.specs.Play.{state_at, bytes_text, compare_text};
+ghost use Rattle.dac_play.specs.Play.{state_at, origin_at, shown_text, bytes_text, compare_text};
 
-use crate::texts::{off_line, same_line, state_line};
+use crate::texts::{same_line, state_line};
 use dac_base::{NoMemory, NodeId};
 use dac_config::Config;
 use dac_core::World;
 use dac_state::State;
+use dac_status::{Summary, header, page};
 use std::alloc::Global;
 
 /// The state of a node, where it runs.
@@ -18,6 +19,26 @@ pub fn state_of(world: &World, node: NodeId) -> Option<&State>
     ensures { option_copied result ≡ state_at world.now node }
 {
     world.node(node).state()
+}
+
+/// The lines that show a node: as what it runs, and its page. A node that is off has no page.
+pub fn shown_lines(
+    alloc: Global,
+    config: &Config,
+    world: &World,
+    node: NodeId,
+) -> Result<Vec<u8>, NoMemory>
+    requires node { node.0 < node_count config.now }
+    requires all { length world.now.nodes ≡ node_count config.now }
+    ensures { IfOk result (λ lines. lines.items ≡ shown_text config.now node (origin_at world.now node) (state_at world.now node)) }
+{
+    let mut lines = header(alloc, config, node, world.node(node).origin())?;
+    if let Some(state) = state_of(world, node) {
+        let summary = Summary::of(config, state);
+        let page = page(alloc, config, &summary)?;
+        lines.extend_from_slice(&page)?;
+    }
+    Ok(lines)
 }
 
 /// The line for a node's state: its bytes, or that the node is off.
@@ -32,7 +53,7 @@ pub fn bytes_line(
     ensures { IfOk result (λ line. line.items ≡ bytes_text (node_name config.now node) (state_at world.now node)) }
 {
     let Some(state) = state_of(world, node) else {
-        return off_line(alloc, config.node_name(node));
+        return header(alloc, config, node, None);
     };
     let bytes = state.encode()?;
     let line = state_line(alloc, &bytes)?;
@@ -53,10 +74,10 @@ pub fn compare_line(
     ensures { IfOk result (λ line. line.items ≡ compare_text (node_name config.now first) (node_name config.now second) (state_at world.now first) (state_at world.now second)) }
 {
     let Some(one) = state_of(world, first) else {
-        return off_line(alloc, config.node_name(first));
+        return header(alloc, config, first, None);
     };
     let Some(other) = state_of(world, second) else {
-        return off_line(alloc, config.node_name(second));
+        return header(alloc, config, second, None);
     };
     let one = one.encode()?;
     let other = other.encode()?;

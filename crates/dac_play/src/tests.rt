@@ -2,7 +2,7 @@
 
 use super::{
     Ending, Stop, booted_line, canonical, check, config_fault_line, crashed_line, failure_line,
-    heard_line, input_fault_line, issued_line, no_message_line, no_operation_line, off_line, play,
+    heard_line, input_fault_line, issued_line, no_message_line, no_operation_line, play,
     refused_line, same_line, script_fault_line, shared_line, shipped_line, simulate, state_line,
 };
 use dac_base::NoMemory;
@@ -42,7 +42,6 @@ fn prints_messages_and_refusals(rt: HostRuntime) -> Result<(), Fail> {
 #[test]
 fn prints_states(rt: HostRuntime) -> Result<(), Fail> {
     assert!(rt; is_line(state_line(rt.alloc(), &[0, 10, 255]), "000aff\n")?);
-    assert!(rt; is_line(off_line(rt.alloc(), b"c1@h"), "node c1@h off\n")?);
     assert_eq!(rt; same_line(true), "same\n");
     assert_eq!(rt; same_line(false), "differ\n");
     Ok(())

@@ -1,7 +1,7 @@
 //! The lines that the program prints, each ended by a line feed.
 
 ghost use Rattle.std.specs.Prelude.{◌≡◌, IfOk};
-ghost use Rattle.dac_play.specs.Texts.{booted_text, crashed_text, issued_text, shipped_text, shared_text, heard_text, no_message_text, no_operation_text, refused_text, same_text, state_text, off_text, input_fault_text, script_fault_text, config_fault_text, failure_text};
+ghost use Rattle.dac_play.specs.Texts.{booted_text, crashed_text, issued_text, shipped_text, shared_text, heard_text, no_message_text, no_operation_text, refused_text, same_text, state_text, input_fault_text, script_fault_text, config_fault_text, failure_text};
 
 use dac_base::NoMemory;
 use dac_script::{Failure, InputFault, ScriptFault, printed_name};
@@ -108,17 +108,6 @@ pub fn state_line(alloc: Global, bytes: &[u8]) -> Result<Vec<u8>, NoMemory>
 {
     let mut line = hex::encode(alloc, bytes)?.into_bytes();
     line.push(b'\n')?;
-    Ok(line)
-}
-
-/// The node is off, so it has no state.
-pub fn off_line(alloc: Global, node: &[u8]) -> Result<Vec<u8>, NoMemory>
-    ensures { IfOk result (λ line. line.items ≡ off_text node.now) }
-{
-    let mut line = format!(in alloc; "node ")?.into_bytes();
-    let name = printed_name(alloc, node)?;
-    line.extend_from_slice(&name)?;
-    line.extend_from_slice(b" off\n")?;
     Ok(line)
 }
 

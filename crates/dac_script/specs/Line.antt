@@ -32,9 +32,10 @@ verb_of word =
     else (if bytes_eq word (codes "hear") then Some verb.Hear
     else (if bytes_eq word (codes "hand") then Some verb.Hand
     else (if bytes_eq word (codes "share") then Some verb.Share
+    else (if bytes_eq word (codes "page") then Some verb.Page
     else (if bytes_eq word (codes "state") then Some verb.State
     else (if bytes_eq word (codes "same") then Some verb.Same
-    else command_verb word)))))))
+    else command_verb word))))))))
 
 -- something happens at a node
 abbrev pub happens : NodeId → What → Result ScriptLine ScriptFaultKind
@@ -95,6 +96,13 @@ abbrev pub share_line : List (List ℕ) → Result ScriptLine ScriptFaultKind
 share_line [] = Ok says.Share
 share_line (word ∷ words) = Err BadCount
 
+abbrev pub page_line : Table → List (List ℕ) → Result ScriptLine ScriptFaultKind
+page_line table words = do
+  word ← one words
+  name ← named word
+  node ← actor table name
+  Ok (says.Page node)
+
 abbrev pub state_line : Table → List (List ℕ) → Result ScriptLine ScriptFaultKind
 state_line table words = do
   word ← one words
@@ -123,6 +131,7 @@ said_by (Some verb.Ship) table words = ship_line table words
 said_by (Some verb.Hear) table words = hear_line table words
 said_by (Some verb.Hand) table words = hand_line table words
 said_by (Some verb.Share) table words = share_line words
+said_by (Some verb.Page) table words = page_line table words
 said_by (Some verb.State) table words = state_line table words
 said_by (Some verb.Same) table words = same_line table words
 said_by None table words = Err BadWord
@@ -136,5 +145,6 @@ line_of table (word ∷ words) = said_by (verb_of word) table words
 abbrev pub HasActors : ℕ → ScriptLine → Type 0
 HasActors nodes (says.Event event) = event.node.0 < nodes
 HasActors nodes says.Share = Unit {0}
+HasActors nodes (says.Page node) = node.0 < nodes
 HasActors nodes (says.State node) = node.0 < nodes
 HasActors nodes (says.Same first second) = (first.0 < nodes) × (second.0 < nodes)

@@ -2,7 +2,7 @@
 
 ghost use Rattle.std.specs.Prelude.{◌≡◌, ℕ, IfOk, map};
 ghost use Rattle.dac_config.specs.Table.{node_count};
-ghost use Rattle.dac_script.specs.Line.{command_verb, verb_of, boot_line, crash_line, down_line, permit_line, start_line, stop_line, ship_line, hear_line, hand_line, share_line, state_line, same_line, line_of, HasActors};
+ghost use Rattle.dac_script.specs.Line.{command_verb, verb_of, boot_line, crash_line, down_line, permit_line, start_line, stop_line, ship_line, hear_line, hand_line, share_line, page_line, state_line, same_line, line_of, HasActors};
 
 use crate::asked::{
     actor, four, named, node_and_about, node_and_number, one, three, truth, two, wish_in,
@@ -19,6 +19,8 @@ pub enum ScriptLine {
     Event(WorldEvent),
     /// Each node that runs tells its state to each other node that runs.
     Share,
+    /// The page of a node is printed.
+    Page(NodeId),
     /// The bytes of a node's state are printed.
     State(NodeId),
     /// The bytes of two nodes' states are compared.
@@ -38,6 +40,7 @@ enum Verb {
     Hear,
     Hand,
     Share,
+    Page,
     State,
     Same,
 }
@@ -81,6 +84,9 @@ fn verb_of(word: &[u8]) -> Option<Verb>
     }
     if word == b"share".as_slice() {
         return Some(Verb::Share);
+    }
+    if word == b"page".as_slice() {
+        return Some(Verb::Page);
     }
     if word == b"state".as_slice() {
         return Some(Verb::State);
@@ -226,6 +232,17 @@ fn share(words: &[&[u8]]) -> Result<ScriptLine, ScriptFaultKind>
     }
 }
 
+/// `page NODE`
+fn page(config: &Config, words: &[&[u8]]) -> Result<ScriptLine, ScriptFaultKind>
+    ensures line { result ≡ page_line config.now (map (λ word. word.now) words.now) }
+    ensures actors { IfOk result (HasActors (node_count config.now)) }
+{
+    let node = one(words)?;
+    let node = named(node)?;
+    let node = actor(config, node)?;
+    Ok(ScriptLine::Page(node))
+}
+
 /// `state NODE`
 fn state(config: &Config, words: &[&[u8]]) -> Result<ScriptLine, ScriptFaultKind>
     ensures line { result ≡ state_line config.now (map (λ word. word.now) words.now) }
@@ -270,6 +287,7 @@ pub fn line_of(config: &Config, words: &[&[u8]]) -> Result<ScriptLine, ScriptFau
         Some(Verb::Hear) => hear(config, rest),
         Some(Verb::Hand) => hand(config, rest),
         Some(Verb::Share) => share(rest),
+        Some(Verb::Page) => page(config, rest),
         Some(Verb::State) => state(config, rest),
         Some(Verb::Same) => same(config, rest),
         None => Err(ScriptFaultKind::BadWord),

@@ -66,7 +66,7 @@ fn at(node: u8, what: What) -> ScriptLine {
 #[test]
 fn reads_scripts(rt: HostRuntime) -> Result<(), Fail> {
     let text =
-        b"boot c1@h 7\n%\n\ncrash c2@h\n down c1@h x\nhear c3@h 0\nhand c1@h 4611686018427387904\nshare\nstate c3@h\nsame c1@h 'c2@h'";
+        b"boot c1@h 7\n%\n\ncrash c2@h\n down c1@h x\nhear c3@h 0\nhand c1@h 4611686018427387904\nshare\npage c2@h\nstate c3@h\nsame c1@h 'c2@h'";
     let script = script_of(rt.alloc(), text)?.ok().ok_or("unread")?;
     let down = Command::Down { node: NodeId(3) };
     let expected = [
@@ -76,6 +76,7 @@ fn reads_scripts(rt: HostRuntime) -> Result<(), Fail> {
         at(2, What::Deliver(0)),
         at(0, What::Hand(4_611_686_018_427_387_904)),
         ScriptLine::Share,
+        ScriptLine::Page(NodeId(1)),
         ScriptLine::State(NodeId(2)),
         ScriptLine::Same(NodeId(0), NodeId(1)),
     ];

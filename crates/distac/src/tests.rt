@@ -229,9 +229,9 @@ fn plays_permissions(rt: HostRuntime) -> Result<(), Fail> {
 #[test]
 fn plays_operations_out_of_order(rt: HostRuntime) -> Result<(), Fail> {
     let script =
-        "boot cp1@cave 0\nboot cp2@cave 0\npermit cp1@cave myapp cp1@cave false\npermit cp1@cave myapp cp1@cave true\npermit cp1@cave myapp cp1@cave true\nstart cp1@cave myapp cp1@cave\nhand cp2@cave 1\nhand cp2@cave 6\nhand cp2@cave 5\nhand cp2@cave 3\nhand cp2@cave 4\nhand cp2@cave 4\nship cp2@cave cp1@cave\nhear cp1@cave 1\nsame cp1@cave cp2@cave\n";
+        "boot cp1@cave 0\nboot cp2@cave 0\npermit cp1@cave myapp cp1@cave false\npermit cp1@cave myapp cp1@cave true\npermit cp1@cave myapp cp1@cave true\nstart cp1@cave myapp cp1@cave\nhand cp2@cave 1\nhand cp2@cave 6\nhand cp2@cave 5\nhand cp2@cave 3\npage cp2@cave\nhand cp2@cave 4\npage cp2@cave\nhand cp2@cave 4\nship cp2@cave cp1@cave\nhear cp1@cave 1\nsame cp1@cave cp2@cave\n";
     let printed =
-        "booted 1 op 1\nbooted 1 op 2\nissued 3 cp1@cave 1 2\nissued 4 cp1@cave 1 3\nissued 5 cp1@cave 1 4\nissued 6 cp1@cave 1 5\nheard new\nheard new\nheard new\nheard new\nheard new\nheard nothing new\nshipped 1 whole 6\nheard new\nsame\n";
+        "booted 1 op 1\nbooted 1 op 2\nissued 3 cp1@cave 1 2\nissued 4 cp1@cave 1 3\nissued 5 cp1@cave 1 4\nissued 6 cp1@cave 1 5\nheard new\nheard new\nheard new\nheard new\nnode cp2@cave 1\nheard 5 known 6\nnode cp1@cave up 1\nnode cp2@cave up 1\nnode cp3@cave unknown\napp myapp holder none verdict nobody\nlist cp1@cave=barred cp2@cave=idle cp3@cave=down\nheard new\nnode cp2@cave 1\nheard 6 known 6\nnode cp1@cave up 1\nnode cp2@cave up 1\nnode cp3@cave unknown\napp myapp holder none verdict start cp1@cave\nlist cp1@cave=ok cp2@cave=idle cp3@cave=down\nheard nothing new\nshipped 1 whole 6\nheard new\nsame\n";
     let (status, output) = played(&rt, script)?;
     assert_eq!(rt; output.as_slice(), printed.as_bytes());
     assert_eq!(rt; status, 0);
@@ -245,6 +245,17 @@ fn plays_crashes_and_downs(rt: HostRuntime) -> Result<(), Fail> {
     let printed =
         "booted 1 op 1\nbooted 1 op 2\nshared 2\nissued 3 c2@h 1 2\nshared 2\nrefused 3 DeclaredDown\ncrashed\nbooted 2 op 4\nrefused 2 AlreadyOn\nrefused 1 Off\n";
     let (status, output) = played_in(&rt, PLAIN, script)?;
+    assert_eq!(rt; output.as_slice(), printed.as_bytes());
+    assert_eq!(rt; status, 0);
+    Ok(())
+}
+
+#[test]
+fn prints_pages(rt: HostRuntime) -> Result<(), Fail> {
+    let script = "boot cp2@cave 0\npage cp2@cave\npage cp1@cave\n";
+    let printed =
+        "booted 1 op 1\nnode cp2@cave 1\nheard 1 known 1\nnode cp1@cave unknown\nnode cp2@cave up 1\nnode cp3@cave unknown\napp myapp holder none verdict nobody\nlist cp1@cave=down cp2@cave=idle cp3@cave=down\nnode cp1@cave off\n";
+    let (status, output) = played(&rt, script)?;
     assert_eq!(rt; output.as_slice(), printed.as_bytes());
     assert_eq!(rt; status, 0);
     Ok(())

@@ -1,0 +1,44 @@
+-- Places that are filled one after another.
+use Rattle.std.proofs.Common.{◌≡◌, ℕ, ◌+◌, ◌-◌, ◌<◌, List, [], ◌∷◌, ◌++◌, length, map, set, replicate, suc, sym, ap, ap₂, ◌∙◌, arith, append_assoc}
+use Rattle.std.specs.List.{range_with_len}
+use Rattle.std.proofs.Math.Seq.{set-append_seam}
+use Rattle.std.proofs.lemmas.List.{length-map, map-append}
+use Rattle.std.proofs.lemmas.List.FromFn.{length-map-range_with_len, map-range_with_len_more}
+use Rattle.dac_base.specs.declared.NodeId.{NodeId}
+use Rattle.dac_base.specs.declared.AppId.{AppId}
+use Rattle.dac_status.specs.Summaries.{placed}
+
+abbrev pub node_numbered : ℕ → NodeId
+node_numbered n = record { 0 = n }
+
+abbrev pub app_numbered : ℕ → AppId
+app_numbered n = record { 0 = n }
+
+module _ {X T : Type 0} (places : ℕ) (blank : T) (make : ℕ → X) (f : X → T) where
+  -- what the first n of them give
+  abbrev first : ℕ → List T
+  first n = map f (map make (range_with_len 0 n))
+
+  length-first : (n : ℕ) → length (first n) ≡ n
+  length-first n = length-map (map make (range_with_len 0 n)) f ∙ length-map-range_with_len make 0 n
+
+  first-more : (n : ℕ) → first (n + 1) ≡ first n ++ f (make n) ∷ []
+  first-more n = ap (map f) (map-range_with_len_more make 0 n n (omega arith)) ∙ map-append f (map make (range_with_len 0 n)) (make n ∷ [])
+
+  pub placed_none : replicate places blank ≡ placed places blank (first 0)
+  unfolding placed
+  placed_none = ap (λ n. replicate n blank) (omega arith)
+
+  pub placed_more : (n : ℕ) (xs : List T) → n < places → xs ≡ placed places blank (first n) → set xs n (f (make n)) ≡ placed places blank (first (n + 1))
+  unfolding placed
+  placed_more n xs lt is =
+      let left = places - (n + 1) in
+      let room : places - n ≡ suc left = omega arith in
+      let v = f (make n) in
+      ap (λ l. set l n v) is
+      ∙ ap (λ c. set (first n ++ replicate (places - c) blank) n v) (length-first n)
+      ∙ ap (λ c. set (first n ++ replicate c blank) n v) room
+      ∙ ap (λ i. set (first n ++ blank ∷ replicate left blank) i v) (sym (length-first n))
+      ∙ set-append_seam (first n) blank (replicate left blank) v
+      ∙ sym (append_assoc (first n) (v ∷ []) (replicate left blank))
+      ∙ ap₂ (λ l c. l ++ replicate c blank) (sym (first-more n)) (ap (λ c. places - c) (sym (length-first (n + 1))))

@@ -1,0 +1,66 @@
+-- What a controller knows, in short: how much it has heard, the life of each node, and for each application who holds it, what is to become of it, and how each node stands for it. (This project's own.)
+use Rattle.std.specs.Prelude.{◌≡◌, ℕ, ◌-◌, not, List, ◌++◌, length, map as list_map, replicate, Option, None, Some, if◌then◌else◌}
+use Rattle.std.specs.FinSet as set
+use Rattle.std.specs.FinMap as map
+use Rattle.dac_base.specs.declared.NodeId.{NodeId}
+use Rattle.dac_base.specs.declared.AppId.{AppId}
+use Rattle.dac_config.specs.Table.{Table}
+use Rattle.dac_chains.specs.declared.lives.Life.{Life}
+use Rattle.dac_chains.specs.Lives.{IsLive, live_at}
+use Rattle.dac_meaning.specs.StateValue.{StateValue}
+use Rattle.dac_decide.specs.declared.verdicts.Verdict.TheVariants.{Nobody}
+use Rattle.dac_decide.specs.Placement.{IsPermittedAt, is_permitted_at, IsStartedAt, is_started_at, key_at, nodes_of, apps_of, verdict_of}
+use Rattle.dac_status.specs.declared.marks.Mark.{Mark}
+use Rattle.dac_status.specs.declared.marks.Mark.TheVariants.{Down, Barred, Idle, Ok}
+use Rattle.dac_status.specs.declared.summary.AppSummary.{AppSummary}
+use Rattle.dac_status.specs.declared.summary.Summary.{Summary}
+
+-- these, and behind them blanks up to so many places
+unfoldable pub placed : {T : Type 0} → ℕ → T → List T → List T
+placed places blank items = items ++ replicate (places - length items) blank
+
+-- ---- marks
+
+-- What keeps an application from a node, by the first that does: the node isn't live, the application is not permitted there, or it wasn't started there. Where nothing does, all is well.
+abbrev pub IsMark : Table → StateValue → AppId → NodeId → Mark → Type 0
+IsMark table s app node Down = (inc : ℕ) → ¬ IsLive s.lives node inc
+IsMark table s app node Barred = (inc : ℕ) × IsLive s.lives node inc × ¬ IsPermittedAt table s (key_at app node inc)
+IsMark table s app node Idle = (inc : ℕ) × IsLive s.lives node inc × IsPermittedAt table s (key_at app node inc) × ¬ IsStartedAt s (key_at app node inc)
+IsMark table s app node Ok = (inc : ℕ) × IsLive s.lives node inc × IsPermittedAt table s (key_at app node inc) × IsStartedAt s (key_at app node inc)
+
+-- the mark of a node that is live at this incarnation, or isn't live
+abbrev pub mark_at : Table → StateValue → AppId → NodeId → Option ℕ → Mark
+mark_at table s app node None = Down
+mark_at table s app node (Some inc) =
+    if not (is_permitted_at table s (key_at app node inc)) then Barred
+    else (if not (is_started_at s (key_at app node inc)) then Idle
+    else Ok)
+
+abbrev pub mark_of : Table → StateValue → AppId → NodeId → Mark
+mark_of table s app node = mark_at table s app node (live_at s.lives node)
+
+-- the marks of the nodes by their numbers
+abbrev pub marks_of : Table → StateValue → AppId → List Mark
+marks_of table s app = placed 16 Down (list_map (mark_of table s app) (nodes_of table))
+
+-- ---- summaries
+
+-- the lives of the nodes by their numbers
+abbrev pub lives_of : Table → StateValue → List (Option Life)
+lives_of table s = placed 16 None (list_map (map.get s.lives) (nodes_of table))
+
+-- the greatest claim of an application, what is to become of it, and the mark of each node
+abbrev pub app_summary : Table → StateValue → AppId → AppSummary
+app_summary table s app = record { claim = map.get s.claims app; verdict = verdict_of table s app; marks = marks_of table s app }
+
+-- in the place of an application that isn't there
+abbrev pub no_app : AppSummary
+no_app = record { claim = None; verdict = Nobody; marks = replicate 16 Down }
+
+-- the applications by their numbers
+abbrev pub app_summaries : Table → StateValue → List AppSummary
+app_summaries table s = placed 64 no_app (list_map (app_summary table s) (apps_of table))
+
+-- what a state says, in short: how many dots it has heard and knows, the life of each node of the configuration, and where each of its applications stands
+abbrev pub summary_of : Table → StateValue → Summary
+summary_of table s = record { heard = set.len s.heard; known = set.len s.known; lives = lives_of table s; apps = app_summaries table s }

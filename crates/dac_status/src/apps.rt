@@ -1,0 +1,251 @@
+//! Applications, as they are printed.
+
+ghost use Rattle.std.specs.Prelude.{◌≡◌, ◌<◌, false, ◌++◌, ◌==◌, IfOk, OnOk};
+ghost use Rattle.std.specs.Option.{option_map_or};
+ghost use Rattle.dac_config.specs.Table.{app_count, group_of};
+ghost use Rattle.dac_status.specs.Texts.{node_text, how_text, from_text, claim_text, holder_text, verdict_text, standing_text, mark_text, marked_text, member_text, group_text, list_text, summary_text, app_lines};
+
+use crate::marks::Mark;
+use crate::nodes::node_text;
+use crate::summary::{AppSummary, MAX_APPS, MAX_NODES};
+use dac_base::{AppId, NoMemory, NodeId};
+use dac_chains::{Claim, How};
+use dac_config::{Config, printed_name};
+use dac_decide::Verdict;
+use std::alloc::Global;
+
+/// How many groups a list can have: each has a node of its own.
+const MAX_GROUPS: u16 = 16;
+
+fn how_text(how: How) -> &'static str
+    ensures { result.now ≡ how_text how }
+{
+    match how {
+        How::Normal => " normal",
+        How::Failover => " failover",
+        How::Takeover => " takeover",
+    }
+}
+
+/// Puts behind a text the node that an application was taken from, if any.
+fn put_from(
+    alloc: Global,
+    text: &mut Vec<u8>,
+    config: &Config,
+    from: Option<NodeId>,
+) -> Result<(), NoMemory>
+    ensures { OnOk result (text.new.items ≡ text.old.items ++ from_text config.now from) }
+{
+    let Some(node) = from else {
+        return Ok(());
+    };
+    let name = node_text(alloc, config, node)?;
+    text.extend_from_slice(b" from ")?;
+    text.extend_from_slice(&name)?;
+    Ok(())
+}
+
+/// Who made a claim, its term, and how the application came there.
+fn claim_text(alloc: Global, config: &Config, claim: Claim) -> Result<Vec<u8>, NoMemory>
+    ensures { IfOk result (λ text. text.items ≡ claim_text config.now claim) }
+{
+    let mut text = node_text(alloc, config, claim.origin.node)?;
+    let incarnation = claim.origin.inc;
+    let term = claim.term;
+    let numbers = format!(in alloc; " {incarnation} term {term}")?;
+    text.extend_from_slice(numbers.as_bytes())?;
+    text.extend_from_slice(how_text(claim.how).as_bytes())?;
+    put_from(alloc, &mut text, config, claim.from)?;
+    Ok(text)
+}
+
+/// Who holds an application, if anyone does.
+fn holder_text(alloc: Global, config: &Config, claim: Option<Claim>) -> Result<Vec<u8>, NoMemory>
+    ensures { IfOk result (λ text. text.items ≡ holder_text config.now claim) }
+{
+    match claim {
+        Some(claim) => claim_text(alloc, config, claim),
+        None => {
+            let text = Vec::from_slice(alloc, b"none")?;
+            Ok(text)
+        }
+    }
+}
+
+/// A word, and a node.
+fn at_node(alloc: Global, config: &Config, word: &[u8], node: NodeId) -> Result<Vec<u8>, NoMemory>
+    ensures { IfOk result (λ text. text.items ≡ word.now ++ node_text config.now node) }
+{
+    let name = node_text(alloc, config, node)?;
+    let mut text = Vec::from_slice(alloc, word)?;
+    text.extend_from_slice(&name)?;
+    Ok(text)
+}
+
+fn verdict_text(alloc: Global, config: &Config, verdict: Verdict) -> Result<Vec<u8>, NoMemory>
+    ensures { IfOk result (λ text. text.items ≡ verdict_text config.now verdict) }
+{
+    match verdict {
+        Verdict::Start(node) => at_node(alloc, config, b"start ", node),
+        Verdict::Failover(node) => at_node(alloc, config, b"failover ", node),
+        Verdict::Halted(node) => at_node(alloc, config, b"halted ", node),
+        Verdict::Move(node) => at_node(alloc, config, b"move ", node),
+        Verdict::Takeover(node) => at_node(alloc, config, b"takeover ", node),
+        Verdict::Kept(node) => at_node(alloc, config, b"kept ", node),
+        Verdict::Nobody => {
+            let text = Vec::from_slice(alloc, b"nobody")?;
+            Ok(text)
+        }
+    }
+}
+
+/// The line of an application: who holds it, and the verdict.
+fn standing_line(
+    alloc: Global,
+    config: &Config,
+    app: AppId,
+    claim: Option<Claim>,
+    verdict: Verdict,
+) -> Result<Vec<u8>, NoMemory>
+    requires { app.0 < app_count config.now }
+    ensures { IfOk result (λ line. line.items ≡ standing_text config.now app claim verdict) }
+{
+    let mut line = Vec::from_slice(alloc, b"app ")?;
+    let name = printed_name(alloc, config.app_name(app))?;
+    line.extend_from_slice(&name)?;
+    line.extend_from_slice(b" holder ")?;
+    let holder = holder_text(alloc, config, claim)?;
+    line.extend_from_slice(&holder)?;
+    line.extend_from_slice(b" verdict ")?;
+    let verdict = verdict_text(alloc, config, verdict)?;
+    line.extend_from_slice(&verdict)?;
+    line.push(b'\n')?;
+    Ok(line)
+}
+
+fn mark_text(mark: Mark) -> &'static str
+    ensures { result.now ≡ mark_text mark }
+{
+    match mark {
+        Mark::Down => "down",
+        Mark::Barred => "barred",
+        Mark::Idle => "idle",
+        Mark::Ok => "ok",
+    }
+}
+
+/// Puts behind a text a node with its mark.
+fn put_marked(
+    alloc: Global,
+    text: &mut Vec<u8>,
+    config: &Config,
+    mark: Mark,
+    node: NodeId,
+) -> Result<(), NoMemory>
+    ensures { OnOk result (text.new.items ≡ text.old.items ++ marked_text config.now mark node) }
+{
+    let name = node_text(alloc, config, node)?;
+    text.push(b' ')?;
+    text.extend_from_slice(&name)?;
+    text.push(b'=')?;
+    text.extend_from_slice(mark_text(mark).as_bytes())?;
+    Ok(())
+}
+
+/// Whether a node is of this group of an application's list.
+fn is_member(config: &Config, app: AppId, group: u16, node: NodeId) -> bool
+    requires { app.0 < app_count config.now }
+    ensures { result ≡ option_map_or (λ other. other == group) (group_of config.now app node) false }
+{
+    match config.group_of(app, node) {
+        Some(other) => other == group,
+        None => false,
+    }
+}
+
+/// Puts behind a text a node with its mark, where it is of this group of an application's list.
+fn put_member(
+    alloc: Global,
+    text: &mut Vec<u8>,
+    config: &Config,
+    app: AppId,
+    marks: &[Mark; MAX_NODES],
+    group: u16,
+    node: NodeId,
+) -> Result<(), NoMemory>
+    requires app { app.0 < app_count config.now }
+    requires place { node.0 < MAX_NODES }
+    ensures { OnOk result (text.new.items ≡ text.old.items ++ member_text config.now app marks.now group node) }
+{
+    if !is_member(config, app, group, node) {
+        return Ok(());
+    }
+    let mark = marks[node.0 as usize];
+    put_marked(alloc, text, config, mark, node)
+}
+
+/// Puts behind a text the nodes of a group of an application's list, with their marks.
+fn put_group(
+    alloc: Global,
+    text: &mut Vec<u8>,
+    config: &Config,
+    app: AppId,
+    marks: &[Mark; MAX_NODES],
+    group: u16,
+) -> Result<(), NoMemory>
+    requires { app.0 < app_count config.now }
+    ensures { OnOk result (text.new.items ≡ text.old.items ++ group_text config.now app marks.now group) }
+{
+    for number in 0..config.nodes() {
+        put_member(alloc, text, config, app, marks, group, NodeId(number))?;
+    }
+    Ok(())
+}
+
+/// The line of an application's list: the nodes group by group, each with its mark.
+fn list_line(
+    alloc: Global,
+    config: &Config,
+    app: AppId,
+    marks: &[Mark; MAX_NODES],
+) -> Result<Vec<u8>, NoMemory>
+    requires { app.0 < app_count config.now }
+    ensures { IfOk result (λ line. line.items ≡ list_text config.now app marks.now) }
+{
+    let mut line = Vec::from_slice(alloc, b"list")?;
+    for group in 0..MAX_GROUPS {
+        put_group(alloc, &mut line, config, app, marks, group)?;
+    }
+    line.push(b'\n')?;
+    Ok(line)
+}
+
+/// The two lines of an application.
+fn summary_lines(
+    alloc: Global,
+    config: &Config,
+    app: AppId,
+    summary: &AppSummary,
+) -> Result<Vec<u8>, NoMemory>
+    requires { app.0 < app_count config.now }
+    ensures { IfOk result (λ lines. lines.items ≡ summary_text config.now app summary.now) }
+{
+    let mut lines = standing_line(alloc, config, app, summary.claim, summary.verdict)?;
+    let list = list_line(alloc, config, app, &summary.marks)?;
+    lines.extend_from_slice(&list)?;
+    Ok(lines)
+}
+
+/// The lines of an application, which stands as these say by their numbers.
+pub fn app_lines(
+    alloc: Global,
+    config: &Config,
+    apps: &[AppSummary; MAX_APPS],
+    app: AppId,
+) -> Result<Vec<u8>, NoMemory>
+    requires app { app.0 < app_count config.now }
+    requires place { app.0 < MAX_APPS }
+    ensures { IfOk result (λ lines. lines.items ≡ app_lines config.now apps.now app) }
+{
+    summary_lines(alloc, config, app, &apps[app.0 as usize])
+}

@@ -1,0 +1,18 @@
+//! What operators are shown of a controller: a summary of its state, and the page that is printed of one.
+//!
+//! A [`Summary`] is plain data of a fixed size, made and copied without memory: it says what the definitions of lives, claims, permissions, wishes
+//! and placement say of a state, and nothing of how the state is kept. [`page`] is its text, and [`header`] the line above it.
+#![tactic(auto)]
+
+mod apps;
+mod marks;
+mod nodes;
+mod pages;
+mod summary;
+
+pub use marks::{Mark, mark_of};
+pub use pages::{header, page};
+pub use summary::{AppSummary, MAX_APPS, MAX_NODES, Summary};
+
+#[cfg(test)]
+mod tests;

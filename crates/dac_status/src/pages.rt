@@ -1,0 +1,85 @@
+//! The page of a node, and the line above it.
+
+ghost use Rattle.std.specs.Prelude.{◌≡◌, ◌<◌, ◌++◌, IfOk, OnOk};
+ghost use Rattle.std.specs.List.{flat_map};
+ghost use Rattle.dac_config.specs.Table.{node_count, node_name};
+ghost use Rattle.dac_decide.specs.Placement.{nodes_of, apps_of};
+ghost use Rattle.dac_status.specs.Texts.{header_text, counts_text, node_line, app_lines, page_text};
+
+use crate::apps::app_lines;
+use crate::nodes::node_line;
+use crate::summary::Summary;
+use dac_base::{AppId, NoMemory, NodeId};
+use dac_config::{Config, printed_name};
+use dac_dots::Origin;
+use std::alloc::Global;
+
+/// The line above a page: a node, and as which incarnation it runs, or that it is off. A node that is off has no page.
+pub fn header(
+    alloc: Global,
+    config: &Config,
+    node: NodeId,
+    origin: Option<Origin>,
+) -> Result<Vec<u8>, NoMemory>
+    requires { node.0 < node_count config.now }
+    ensures { IfOk result (λ line. line.items ≡ header_text (node_name config.now node) origin) }
+{
+    let mut line = Vec::from_slice(alloc, b"node ")?;
+    let name = printed_name(alloc, config.node_name(node))?;
+    line.extend_from_slice(&name)?;
+    match origin {
+        None => line.extend_from_slice(b" off\n")?,
+        Some(origin) => {
+            let incarnation = origin.inc;
+            let rest = format!(in alloc; " {incarnation}\n")?;
+            line.extend_from_slice(rest.as_bytes())?;
+        }
+    }
+    Ok(line)
+}
+
+/// The page of a node: what is printed of a summary of its state. It says how much was heard, the life of each node in the order of
+/// the names, and two lines of each application in the order of the configuration file: who holds it with the verdict,
+/// and the mark of each node of its list, by group, then by name.
+pub fn page(alloc: Global, config: &Config, summary: &Summary) -> Result<Vec<u8>, NoMemory>
+    ensures { IfOk result (λ text. text.items ≡ page_text config.now summary.now) }
+{
+    let heard = summary.heard;
+    let known = summary.known;
+    let mut text = format!(in alloc; "heard {heard} known {known}\n")?.into_bytes();
+    put_nodes(alloc, &mut text, config, summary)?;
+    put_apps(alloc, &mut text, config, summary)?;
+    Ok(text)
+}
+
+/// The lines of the nodes.
+fn put_nodes(
+    alloc: Global,
+    text: &mut Vec<u8>,
+    config: &Config,
+    summary: &Summary,
+) -> Result<(), NoMemory>
+    ensures { OnOk result (text.new.items ≡ text.old.items ++ flat_map (node_line config.now summary.now.lives) (nodes_of config.now)) }
+{
+    for number in 0..config.nodes() {
+        let line = node_line(alloc, config, &summary.lives, NodeId(number))?;
+        text.extend_from_slice(&line)?;
+    }
+    Ok(())
+}
+
+/// The lines of the applications.
+fn put_apps(
+    alloc: Global,
+    text: &mut Vec<u8>,
+    config: &Config,
+    summary: &Summary,
+) -> Result<(), NoMemory>
+    ensures { OnOk result (text.new.items ≡ text.old.items ++ flat_map (app_lines config.now summary.now.apps) (apps_of config.now)) }
+{
+    for number in 0..config.apps() {
+        let lines = app_lines(alloc, config, &summary.apps, AppId(number))?;
+        text.extend_from_slice(&lines)?;
+    }
+    Ok(())
+}

@@ -1,0 +1,127 @@
+//! What a controller knows, in short.
+
+ghost use Rattle.std.specs.Prelude.{◌≡◌, ◌<◌};
+ghost use Rattle.std.specs.FinMap as map;
+ghost use Rattle.dac_config.specs.Table.{app_count};
+ghost use Rattle.dac_decide.specs.Placement.{verdict_of};
+ghost use Rattle.dac_status.specs.Summaries.{marks_of, lives_of, no_app, app_summary, app_summaries, summary_of};
+
+use crate::marks::{Mark, mark_of};
+use dac_base::{AppId, NodeId};
+use dac_chains::{Claim, Life};
+use dac_config::Config;
+use dac_decide::{Verdict, verdict};
+use dac_state::State;
+
+/// How many nodes a summary has a place for: as many as a configuration can have.
+pub const MAX_NODES: usize = 16;
+
+/// How many applications a summary has a place for: as many as a configuration can have.
+pub const MAX_APPS: usize = 64;
+
+/// Where an application stands.
+#[derive(Clone, Copy, Debug, PartialEq, Eq)]
+pub struct AppSummary {
+    /// The greatest claim of it, if it was claimed.
+    pub claim: Option<Claim>,
+    /// What is to become of it.
+    pub verdict: Verdict,
+    /// The mark of each node by its number, whether the application's list has the node or not. A place past the
+    /// configuration's nodes says `Down`.
+    pub marks: [Mark; MAX_NODES],
+}
+
+/// What a controller knows, in short: plain data of a fixed size.
+#[derive(Clone, Copy, Debug, PartialEq, Eq)]
+pub struct Summary {
+    /// How many operations were heard: the number of their dots.
+    pub heard: u128,
+    /// How many dots are known: of operations heard, and of those that one of them replaces.
+    pub known: u128,
+    /// The life of each node by its number, if anything was said of it. A place past the configuration's nodes is empty.
+    pub lives: [Option<Life>; MAX_NODES],
+    /// Each application by its number. A place past the configuration's applications says nothing: no claim, nobody, all down.
+    pub apps: [AppSummary; MAX_APPS],
+}
+
+impl Summary {
+    /// The summary of a state under the configuration. It takes no memory.
+    pub fn of(config: &Config, state: &State) -> Summary
+        ensures { result ≡ summary_of config.now state.now }
+    {
+        Summary {
+            heard: state.heard().len(),
+            known: state.known().len(),
+            lives: lives_of(config, state),
+            apps: apps_of(config, state),
+        }
+    }
+}
+
+/// The life of a node.
+fn life_of(state: &State, node: NodeId) -> Option<Life>
+    ensures { result ≡ map.get state.now.lives node }
+{
+    match state.lives().life(node) {
+        Some((inc, flag)) => Some(Life { inc, flag }),
+        None => None,
+    }
+}
+
+/// The life of each node of the configuration, by its number.
+fn lives_of(config: &Config, state: &State) -> [Option<Life>; MAX_NODES]
+    ensures { result ≡ lives_of config.now state.now }
+{
+    let mut lives = [None; MAX_NODES];
+    for number in 0..config.nodes() {
+        lives[number as usize] = life_of(state, NodeId(number));
+    }
+    lives
+}
+
+/// The mark of each node of the configuration, by its number.
+fn marks_of(config: &Config, state: &State, app: AppId) -> [Mark; MAX_NODES]
+    requires { app.0 < app_count config.now }
+    ensures { result ≡ marks_of config.now state.now app }
+{
+    let mut marks = [Mark::Down; MAX_NODES];
+    for number in 0..config.nodes() {
+        marks[number as usize] = mark_of(config, state, app, NodeId(number));
+    }
+    marks
+}
+
+/// Where an application stands.
+fn app_summary(config: &Config, state: &State, app: AppId) -> AppSummary
+    requires { app.0 < app_count config.now }
+    ensures { result ≡ app_summary config.now state.now app }
+{
+    AppSummary {
+        claim: state.claims().greatest(app),
+        verdict: verdict(config, state, app),
+        marks: marks_of(config, state, app),
+    }
+}
+
+/// What stands in the place of an application that isn't there.
+fn no_app() -> AppSummary
+    ensures { result ≡ no_app }
+{
+    AppSummary {
+        claim: None,
+        verdict: Verdict::Nobody,
+        marks: [Mark::Down; MAX_NODES],
+    }
+}
+
+/// Where each application of the configuration stands, by its number.
+fn apps_of(config: &Config, state: &State) -> [AppSummary; MAX_APPS]
+    ensures { result ≡ app_summaries config.now state.now }
+{
+    let blank = no_app();
+    let mut apps = [blank; MAX_APPS];
+    for number in 0..config.apps() {
+        apps[number as usize] = app_summary(config, state, AppId(number));
+    }
+    apps
+}
