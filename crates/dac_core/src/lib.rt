@@ -21,6 +21,8 @@ mod change;
 mod event;
 mod fault;
 mod node;
+#[cfg(test)]
+mod node_tests;
 mod refusal;
 mod running;
 mod world;
