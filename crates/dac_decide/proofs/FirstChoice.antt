@@ -1,4 +1,4 @@
--- The first choice has the least rank, and so it's the first in words.
+-- The first choice has the least rank, and so is the first in words.
 use Rattle.std.proofs.Common.{◌≡◌, ◌↔◌, ℕ, ◌+◌, ◌<◌, ◌≤◌, Bool, true, false, cond, List, [], ◌∷◌, ◌++◌, Option, Some, None, option_map, refl, sym, ap, subst, ◌∙◌, arith, inl, inr, zero, suc, add-one}
 use Rattle.std.specs.Prelude.{◌⊎◌, MatchOption, IsSome, map as list_map}
 use Rattle.std.specs.Option.{is_some}

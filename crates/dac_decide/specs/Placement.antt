@@ -111,7 +111,7 @@ is_earlier table app m n = is_less (group_of table app m) (group_of table app n)
 abbrev pub IsPreferred : Table → StateValue → AppId → NodeId → NodeId → Type 0
 IsPreferred table s app n m = (load_of table s app n < load_of table s app m) ⊎ ((load_of table s app n ≡ load_of table s app m) × (n.0 ≤ m.0))
 
--- the first choice: an eligible node, no eligible node is of an earlier group, and it's the one of its group that is preferred
+-- The first choice is an eligible node. No eligible node is of an earlier group, and of its own group it is preferred to each (OTP: within a tuple, the node with the fewest applications; the tie by name is this project's own).
 pub record IsFirst (table : Table) (s : StateValue) (app : AppId) (n : NodeId) : Type 0 where
   pub node : n.0 < node_count table
   pub eligible : IsEligible table s app n
@@ -142,7 +142,7 @@ HeldBy s app P = (o : Origin) × (holder_of s app ≡ Some o) × P o
 abbrev pub key_of : AppId → Origin → Key
 key_of app o = key_at app o.node o.inc
 
--- how an application stands at its holder, by what is the matter there first: it has none, it's lost with it, it was stopped there, it isn't allowed there any more; or all is well
+-- How an application stands at its holder, by what is the matter there first: it has none, this one isn't live, it was stopped there, or it isn't permitted there; otherwise all is well.
 abbrev pub IsStanding : Table → StateValue → AppId → Standing → Type 0
 IsStanding table s app Unclaimed = holder_of s app ≡ None
 IsStanding table s app Lost = HeldBy s app (λ o. ¬ IsUp s o)
@@ -150,7 +150,7 @@ IsStanding table s app (Stopped n) = HeldBy s app (λ o. (o.node ≡ n) × IsUp 
 IsStanding table s app Barred = HeldBy s app (λ o. IsUp s o × IsStartedAt s (key_of app o) × ¬ IsPermittedAt table s (key_of app o))
 IsStanding table s app (Upheld n) = HeldBy s app (λ o. (o.node ≡ n) × IsUp s o × IsStartedAt s (key_of app o) × IsPermittedAt table s (key_of app o))
 
--- What is to become of the application. It's started, fails over or is moved at the first choice, if there is one; a stopped one is left alone, and another is taken over exactly where an eligible node's group is earlier than the holder's.
+-- What is to become of the application. It is to be started, to fail over or to be moved at the first choice, where there is one. A stopped one is left alone. Where all is well it is taken over, exactly where an eligible node's group is earlier than the holder's.
 abbrev pub IsVerdict : Table → StateValue → AppId → Verdict → Type 0
 IsVerdict table s app (Start n) = IsStanding table s app Unclaimed × IsFirst table s app n
 IsVerdict table s app (Failover n) = IsStanding table s app Lost × IsFirst table s app n

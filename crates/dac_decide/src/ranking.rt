@@ -20,7 +20,7 @@ pub(crate) struct Rank {
     pub group: u16,
     /// How many other applications run there.
     pub load: u32,
-    /// Its number, which goes by its name.
+    /// Its number, which goes by its name in byte order.
     pub node: NodeId,
 }
 

@@ -13,10 +13,10 @@ use dac_state::State;
 /// How many other applications run at a node. An application runs at a node where its greatest claim is
 /// of the node's live incarnation and the node is eligible for it; claims of who went down don't count.
 /// After OTP's Design Principles, chapter Distributed Applications: of a tuple's nodes, the one with the
-/// fewest applications is taken.
+/// fewest applications is taken. It takes no memory.
 pub fn load(config: &Config, state: &State, app: AppId, node: NodeId) -> u32
     ensures value { result ≡ load_of config.now state.now app node }
-    // What is counted.
+    // what is counted
     ensures runs { (other : App) → other.0 < app_count config.now
         → IsTrue (runs_at config.now state.now other node) ↔ RunsAt config.now state.now other node }
 {
@@ -45,7 +45,8 @@ fn runs_at(config: &Config, state: &State, app: AppId, node: NodeId) -> bool
     }
 }
 
-/// Who holds an application: the origin of its greatest claim. It may be any, also none of the nodes, in a state that no operation made.
+/// Who holds an application: the origin of its greatest claim. In a state that no operation made, this may be
+/// no node of the configuration.
 pub(crate) fn holder(state: &State, app: AppId) -> Option<Origin>
     ensures { result ≡ holder_of state.now app }
 {
