@@ -4,7 +4,8 @@ ghost use Rattle.std.specs.Prelude.{◌≡◌, IfOk};
 ghost use Rattle.dac_play.specs.Texts.{booted_text, crashed_text, issued_text, shipped_text, shared_text, heard_text, no_message_text, no_operation_text, refused_text, same_text, state_text, off_text, input_fault_text, script_fault_text, config_fault_text, failure_text};
 
 use dac_base::NoMemory;
-use dac_script::{Failure, InputFault, ScriptFault, printed_name};
+use dac_config::printed_name;
+use dac_script::{Failure, InputFault, ScriptFault};
 use dac_tokens::ConfigFault;
 use std::alloc::Global;
 

@@ -1,4 +1,3 @@
-pub mod Names
 pub mod Words
 pub mod Faults
 pub mod Asked

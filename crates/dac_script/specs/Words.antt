@@ -2,8 +2,8 @@
 use Rattle.std.specs.Prelude.{ℕ, ◌+◌, ◌-◌, ◌*◌, ◌^◌, Bool, false, not, ◌&&◌, List, [], ◌∷◌, length, take, filter, nat_le, ◌==◌, slice_index, if◌then◌else◌, Option, Some, None}
 use Rattle.std.specs.List.{slice_split, list_all}
 use Rattle.std.specs.Char.{is_ascii_digit}
+use Rattle.dac_tokens.specs.Scan.{is_quotable}
 use Rattle.dac_config.specs.Canonical.{is_bare}
-use Rattle.dac_script.specs.Names.{is_quotable}
 
 -- the words of a line stand between its spaces
 abbrev pub words_of : List ℕ → List (List ℕ)

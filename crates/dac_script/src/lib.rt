@@ -10,7 +10,6 @@ mod failure;
 mod fault;
 mod input;
 mod line;
-mod names;
 mod preparing;
 mod script;
 #[cfg(test)]
@@ -21,6 +20,5 @@ pub use failure::Failure;
 pub use fault::{InputFault, ScriptFault, ScriptFaultKind};
 pub use input::{MAX_INPUT, MAX_READS, parted, read_input};
 pub use line::ScriptLine;
-pub use names::printed_name;
 pub use preparing::prepare;
 pub use script::read_script;

@@ -1,8 +1,8 @@
 //! The public calls, each with ample memory.
 
 use super::{
-    Failure, InputFault, ScriptFault, ScriptFaultKind, ScriptLine, parted, prepare, printed_name,
-    read_input, read_script,
+    Failure, InputFault, ScriptFault, ScriptFaultKind, ScriptLine, parted, prepare, read_input,
+    read_script,
 };
 use dac_base::{AppId, NodeId};
 use dac_config::read_config;
@@ -11,23 +11,6 @@ use std::alloc::Global;
 use std::test::Fail;
 
 const EXAMPLE: &str = "[{kernel,[{distributed,[{a,5000,[c1@h,{c2@h,c3@h}]},{b,[c2@h]}]}]}].\n";
-
-#[test]
-fn prints_names(rt: HostRuntime) -> Result<(), Fail> {
-    let cases = [
-        ("c1@h", "c1@h"),
-        ("a_B9", "a_B9"),
-        ("n-1@h.example", "'n-1@h.example'"),
-        ("Cp1", "'Cp1'"),
-        ("fun", "'fun'"),
-        ("", "''"),
-    ];
-    for (name, printed) in cases {
-        let text = printed_name(rt.alloc(), name.as_bytes())?;
-        assert_eq!(rt; text.as_slice(), printed.as_bytes(), "{name}");
-    }
-    Ok(())
-}
 
 #[test]
 fn parts_inputs(rt: HostRuntime) -> Result<(), Fail> {

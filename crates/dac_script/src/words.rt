@@ -3,10 +3,10 @@
 ghost use Rattle.std.specs.Prelude.{◌≡◌, ◌<◌, ◌≤◌, ◌^◌, IfOk, map, option_map, Some, None, nat_lt, if◌then◌else◌};
 ghost use Rattle.std.specs.List.{list_all};
 ghost use Rattle.std.specs.Char.{is_ascii_digit};
-ghost use Rattle.dac_script.specs.Names.{is_quotable};
+ghost use Rattle.dac_tokens.specs.Scan.{is_quotable};
 ghost use Rattle.dac_script.specs.Words.{words_of, quoted_name, is_digits, value_from, number_in, name_in};
 
-use crate::names::{is_bare, is_quotable};
+use dac_config::is_bare;
 use std::alloc::{AllocError, Global};
 
 /// The greatest number that a script may name.
@@ -19,6 +19,13 @@ pub fn words_of<'a>(alloc: Global, line: &'a [u8]) -> Result<Vec<&'a [u8]>, Allo
     line.split(|byte| *byte == b' ')
         .filter(|word| !word.is_empty())
         .collect(alloc)
+}
+
+/// Whether the byte may stand between the quotes of an atom.
+fn is_quotable(byte: u8) -> bool
+    ensures { result ≡ is_quotable byte }
+{
+    byte >= b' ' && byte != 0x7f && byte != b'\'' && byte != b'\\'
 }
 
 fn all_quotable(name: &[u8]) -> bool
