@@ -1,3 +1,4 @@
+mod LineFaults
 mod LineByLine
 mod Numbers
 mod Parting

@@ -2,6 +2,7 @@ pub mod Words
 pub mod Faults
 pub mod Asked
 pub mod Line
+pub mod LineFaults
 pub mod Script
 pub mod Input
 pub mod Failures

@@ -1,5 +1,5 @@
 -- A whole script.
-use Rattle.std.specs.Prelude.{◌≡◌, ℕ, ◌-◌, ◌<◌, Bool, true, false, not, List, [], ◌∷◌, map, filter, take, Some, Ok, Err, Result, slice_get, ◌==◌}
+use Rattle.std.specs.Prelude.{◌≡◌, ℕ, ◌-◌, ◌<◌, Bool, true, false, not, List, [], ◌∷◌, All, map, filter, take, Some, Ok, Err, Result, slice_get, ◌==◌}
 use Rattle.std.specs.List.{slice_split}
 use Rattle.dac_config.specs.Table.{Table}
 use Rattle.dac_script.specs.declared.failure.Failure.{Failure}
@@ -9,6 +9,7 @@ use Rattle.dac_script.specs.declared.fault.ScriptFaultKind.{ScriptFaultKind}
 use Rattle.dac_script.specs.declared.line.ScriptLine.{ScriptLine}
 use Rattle.dac_script.specs.Words.{words_of}
 use Rattle.dac_script.specs.Line.{line_of}
+use Rattle.dac_script.specs.LineFaults.{HasFault, IsFaultless, IsLeast}
 
 -- the lines of a text stand between its line feeds
 abbrev pub lines_of : List ℕ → List (List ℕ)
@@ -27,11 +28,12 @@ line_in table line = line_of table (words_of line)
 abbrev pub readable : ScriptLine → Result ScriptLine ScriptFaultKind
 readable said = Ok said
 
--- of these lines, those that say something say this, in their order
+-- of these lines, those that say something have no fault and say this, in their order
 pub record ReadsAs (table : Table) (lines : List (List ℕ)) (script : List ScriptLine) : Type 0 where
   pub said : map (line_in table) (filter is_said lines) ≡ map readable script
+  pub faultless : All (λ line. IsFaultless table (words_of line)) (filter is_said lines)
 
--- the fault of the first line that has one: all lines before it can be read
+-- the fault of the first line that has one, and of that line the least kind: all lines before it can be read
 pub record IsFirstFault (table : Table) (lines : List (List ℕ)) (fault : ScriptFault) : Type 0 where
   pub before : List ScriptLine
   pub reads : ReadsAs table (take (fault.line - 1) lines) before
@@ -40,6 +42,7 @@ pub record IsFirstFault (table : Table) (lines : List (List ℕ)) (fault : Scrip
   pub stands : slice_get lines (fault.line - 1) ≡ Some line
   pub said : is_said line ≡ true
   pub answered : line_in table line ≡ Err fault.kind
+  pub least : IsLeast (HasFault table (words_of line)) fault.kind
 
 -- why a script isn't read: its first fault, or want of memory
 abbrev pub IsScriptFailure : Table → List (List ℕ) → Failure → Type 0

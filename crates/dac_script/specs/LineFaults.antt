@@ -1,0 +1,65 @@
+-- The faults of a line, whatever a reader does: what each word has to be, by the first one, and what is wrong with it.
+use Rattle.std.specs.Prelude.{◌≡◌, ◌≢◌, ◌⊎◌, ℕ, ◌≤◌, List, [], ◌∷◌, length, codes, None}
+use Rattle.std.specs.Option.{MatchOption, IsSomeAnd}
+use Rattle.std.specs.List.{Any, zip}
+use Rattle.dac_config.specs.Table.{Table, node_named}
+use Rattle.dac_script.specs.declared.fault.ScriptFaultKind.{ScriptFaultKind}
+use Rattle.dac_script.specs.declared.fault.ScriptFaultKind.TheVariants.{BadWord, BadCount, BadName, BadNumber, UnknownActor}
+use Rattle.dac_script.specs.declared.line.Verb.{Verb}
+use Rattle.dac_script.specs.declared.line.Verb.TheVariants as verb
+use Rattle.dac_script.specs.Faults.{script_number}
+use Rattle.dac_script.specs.Words.{name_in, number_in}
+use Rattle.dac_script.specs.Line.{verb_of}
+
+-- what a word has to be: the node where something happens, the application or the node that it is about, a number, or `true` or `false`
+pub data Role : Type 0 where
+  Actor : Role
+  Application : Role
+  About : Role
+  Number : Role
+  Flag : Role
+
+-- the words behind the first one
+abbrev pub roles_of : Verb → List Role
+roles_of verb.Boot = Actor ∷ Number ∷ []
+roles_of verb.Crash = Actor ∷ []
+roles_of verb.Down = Actor ∷ About ∷ []
+roles_of verb.Permit = Actor ∷ Application ∷ About ∷ Flag ∷ []
+roles_of verb.Start = Actor ∷ Application ∷ About ∷ []
+roles_of verb.Stop = Actor ∷ Application ∷ About ∷ []
+roles_of verb.Ship = Actor ∷ About ∷ []
+roles_of verb.Hear = Actor ∷ Number ∷ []
+roles_of verb.Hand = Actor ∷ Number ∷ []
+roles_of verb.Share = []
+roles_of verb.State = Actor ∷ []
+roles_of verb.Same = Actor ∷ Actor ∷ []
+
+-- neither `true` nor `false`; `'true'` isn't either
+abbrev pub IsNoFlag : List ℕ → Type 0
+IsNoFlag word = (word ≢ codes "true") × (word ≢ codes "false")
+
+-- A word in its role has a fault of this kind. Names of other nodes and of applications may be unknown.
+abbrev pub IsWrong : Table → Role → List ℕ → ScriptFaultKind → Type 0
+IsWrong table Actor word kind = ((kind ≡ BadName) × (name_in word ≡ None)) ⊎ ((kind ≡ UnknownActor) × IsSomeAnd (name_in word) (λ name. node_named table name ≡ None))
+IsWrong table Application word kind = (kind ≡ BadName) × (name_in word ≡ None)
+IsWrong table About word kind = (kind ≡ BadName) × (name_in word ≡ None)
+IsWrong table Number word kind = (kind ≡ BadNumber) × (number_in word ≡ None)
+IsWrong table Flag word kind = (kind ≡ BadName) × IsNoFlag word
+
+-- Words in these roles have a fault of this kind: they are too few or too many, or one of them has it.
+abbrev pub AreWrong : Table → List Role → List (List ℕ) → ScriptFaultKind → Type 0
+AreWrong table roles words kind = ((kind ≡ BadCount) × (length words ≢ length roles)) ⊎ Any (λ (both : Role × List ℕ). IsWrong table both.0 both.1 kind) (zip roles words)
+
+-- a line of these words has a fault of this kind
+abbrev pub HasFault : Table → List (List ℕ) → ScriptFaultKind → Type 0
+HasFault table [] kind = kind ≡ BadWord
+HasFault table (first ∷ words) kind = MatchOption (verb_of first) (kind ≡ BadWord) (λ verb. AreWrong table (roles_of verb) words kind)
+
+-- a line without a fault
+abbrev pub IsFaultless : Table → List (List ℕ) → Type 0
+IsFaultless table line = (kind : ScriptFaultKind) → ¬ HasFault table line kind
+
+-- the least of these kinds
+pub record IsLeast (P : ScriptFaultKind → Type 0) (kind : ScriptFaultKind) : Type 0 where
+  pub has : P kind
+  pub least : (other : ScriptFaultKind) → P other → script_number kind ≤ script_number other
