@@ -22,7 +22,8 @@ pub enum Mark {
     Ok,
 }
 
-/// How a node stands for an application, whether the application's list has the node or not. It takes no memory.
+/// How a node stands for an application, whether the application's list has the node or not. It takes no
+/// memory.
 pub fn mark_of(config: &Config, state: &State, app: AppId, node: NodeId) -> Mark
     requires { app.0 < app_count config.now }
     ensures value { result ≡ mark_of config.now state.now app node }

@@ -14,7 +14,8 @@ use dac_config::{Config, printed_name};
 use dac_dots::Origin;
 use std::alloc::Global;
 
-/// The line above a page: a node, and as which incarnation it runs, or that it is off. A node that is off has no page.
+/// The line above a page: a node, and as which incarnation it runs, or that it is off. A node that is off has
+/// no page. [`NoMemory`] is the only error.
 pub fn header(
     alloc: Global,
     config: &Config,
@@ -38,9 +39,10 @@ pub fn header(
     Ok(line)
 }
 
-/// The page of a node: what is printed of a summary of its state. It says how much was heard, the life of each node in the order of
-/// the names, and two lines of each application in the order of the configuration file: who holds it with the verdict,
-/// and the mark of each node of its list, by group, then by name.
+/// The page of a node: what is printed of a summary of its state. It says how much was heard, the life of each
+/// node in the order of the names, and in two lines of each application, in the order of the configuration
+/// file, who holds it with the verdict, and the mark of each node of its list, by group, then by name.
+/// [`NoMemory`] is the only error.
 pub fn page(alloc: Global, config: &Config, summary: &Summary) -> Result<Vec<u8>, NoMemory>
     ensures { IfOk result (λ text. text.items ≡ page_text config.now summary.now) }
 {

@@ -26,8 +26,8 @@ pub struct AppSummary {
     pub claim: Option<Claim>,
     /// What is to become of it.
     pub verdict: Verdict,
-    /// The mark of each node by its number, whether the application's list has the node or not. A place past the
-    /// configuration's nodes says `Down`.
+    /// The mark of each node by its number, whether the application's list has the node or not. A place past
+    /// the configuration's nodes says `Down`.
     pub marks: [Mark; MAX_NODES],
 }
 
@@ -38,9 +38,11 @@ pub struct Summary {
     pub heard: u128,
     /// How many dots are known: of operations heard, and of those that one of them replaces.
     pub known: u128,
-    /// The life of each node by its number, if anything was said of it. A place past the configuration's nodes is empty.
+    /// The life of each node by its number, if anything was said of it. A place past the configuration's nodes
+    /// is empty.
     pub lives: [Option<Life>; MAX_NODES],
-    /// Each application by its number. A place past the configuration's applications says nothing: no claim, nobody, all down.
+    /// Each application by its number. A place past the configuration's applications says nothing: no claim,
+    /// nobody, all down.
     pub apps: [AppSummary; MAX_APPS],
 }
 

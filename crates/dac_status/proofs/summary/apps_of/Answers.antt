@@ -4,7 +4,7 @@ use Rattle.dac_status.proofs.Places.{app_numbered, placed_none, placed_more}
 use Rattle.dac_status.proofs.summary.apps_of.Goals as goal
 
 pub loop-number-init : goal.loop-number-init
-loop-number-init c = ap (replicate 64) c.no_app.ensures ∙ placed_none 64 no_app app_numbered (app_summary c.args.config.now c.args.state.now)
+loop-number-init c = ap (replicate 64) c.no_app-blank.ensures ∙ placed_none 64 no_app app_numbered (app_summary c.args.config.now c.args.state.now)
 
 pub loop-number-preserved : goal.loop-number-preserved
 loop-number-preserved c =
