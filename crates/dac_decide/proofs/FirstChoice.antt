@@ -1,10 +1,10 @@
 -- The first choice has the least rank, and so is the first in words.
-use Rattle.std.proofs.Common.{◌≡◌, ◌↔◌, ℕ, ◌+◌, ◌<◌, ◌≤◌, Bool, true, false, cond, List, [], ◌∷◌, ◌++◌, Option, Some, None, option_map, refl, sym, ap, subst, ◌∙◌, arith, inl, inr, zero, suc, add-one}
-use Rattle.std.specs.Prelude.{◌⊎◌, MatchOption, IsSome, map as list_map}
+use Rattle.std.proofs.Common.{◌≡◌, ◌↔◌, ℕ, ◌+◌, ◌<◌, ◌≤◌, true, false, cond, [], ◌∷◌, Option, Some, None, option_map, refl, sym, ap, subst, ◌∙◌, arith, inl, inr, zero, suc, add-one}
+use Rattle.std.specs.Prelude.{MatchOption, IsSome, map as list_map}
 use Rattle.std.specs.Option.{is_some}
 use Rattle.std.specs.List.{range_with_len, filter_map, reduce}
 use Rattle.std.specs.Ordering.{ord_min}
-use Rattle.std.proofs.lemmas.Bool.{true≢false, false≢true}
+use Rattle.std.proofs.lemmas.Bool.{false≢true}
 use Rattle.std.proofs.lemmas.List.Elements.{filter_map-append}
 use Rattle.std.proofs.lemmas.List.FromFn.{map-range_with_len_more}
 use Rattle.dac_base.specs.declared.NodeId.{NodeId}
@@ -13,7 +13,7 @@ use Rattle.dac_lattice.specs.Laws.{join_options}
 use Rattle.dac_config.specs.Table.{Table, node_count, group_of}
 use Rattle.dac_meaning.specs.StateValue.{StateValue}
 use Rattle.dac_decide.specs.Ranks.{Rank, rank_cmp}
-use Rattle.dac_decide.specs.Placement.{IsEligible, is_eligible, EachEligible, IsEarlier, IsPreferred, IsFirst, load_of, rank_of}
+use Rattle.dac_decide.specs.Placement.{IsEligible, is_eligible, EachEligible, IsFirst, load_of, rank_of}
 use Rattle.dac_decide.proofs.Least.{IsLeast, IsUpTo, least_more, reduce_more, up_to_parts}
 
 abbrev pub numbered : ℕ → NodeId

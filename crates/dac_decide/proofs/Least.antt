@@ -1,5 +1,5 @@
 -- The least of ranks, one after another.
-use Rattle.std.proofs.Common.{◌≡◌, ℕ, ◌+◌, ◌<◌, ◌≤◌, Bool, true, false, cond, List, [], ◌∷◌, ◌++◌, Option, Some, None, refl, sym, ap, subst, ◌∙◌, arith, append-nil, inl, inr, below_more}
+use Rattle.std.proofs.Common.{◌≡◌, ℕ, ◌+◌, ◌<◌, ◌≤◌, true, false, cond, List, [], ◌∷◌, ◌++◌, Option, Some, None, refl, sym, ap, subst, ◌∙◌, arith, append-nil, inl, inr, below_more}
 use Rattle.std.specs.Prelude.{◌⊎◌, MatchOption, fold}
 use Rattle.std.specs.Option.{is_some}
 use Rattle.std.specs.List.{reduce, cons_option}

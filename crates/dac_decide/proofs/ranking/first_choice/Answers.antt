@@ -1,10 +1,9 @@
-use Rattle.std.proofs.Common.{◌≡◌, ◌↔◌, ◌<◌, ◌≤◌, Option, Some, None, sym, ap, ap₂, subst, ◌∙◌, arith, below_more}
+use Rattle.std.proofs.Common.{◌≡◌, ◌↔◌, Option, Some, None, sym, ap₂, subst, ◌∙◌, arith, below_more}
 use Rattle.std.specs.Prelude.{IsSome, MatchOption}
 use Rattle.std.specs.Ordering.{ord_min}
 use Rattle.std.proofs.lemmas.Grind.{common_steps}
 use Rattle.dac_base.specs.declared.NodeId.{NodeId}
 use Rattle.dac_lattice.specs.Laws.{join_options}
-use Rattle.dac_config.specs.Table.{node_count}
 use Rattle.dac_decide.specs.Ranks.{Rank, rank_cmp}
 use Rattle.dac_decide.specs.Placement.{IsEligible, EachEligible, IsFirst, first_choice}
 use Rattle.dac_decide.proofs.FirstChoice.{numbered, first_more, first_cases}
