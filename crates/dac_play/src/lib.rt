@@ -23,6 +23,6 @@ pub use ending::{Ending, print, refuse};
 pub use sim::{Stop, play, simulate};
 pub use texts::{
     OUT_OF_MEMORY, booted_line, config_fault_line, crashed_line, failure_line, heard_line,
-    input_fault_line, issued_line, no_message_line, no_operation_line, refused_line,
-    same_line, script_fault_line, shared_line, shipped_line, state_line,
+    input_fault_line, issued_line, no_message_line, no_operation_line, refused_line, same_line,
+    script_fault_line, shared_line, shipped_line, state_line,
 };
