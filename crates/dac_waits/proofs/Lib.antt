@@ -1,0 +1,5 @@
+mod AllUp
+mod Lost
+mod Rows
+mod Due
+mod Places

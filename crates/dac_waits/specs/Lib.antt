@@ -1,0 +1,2 @@
+pub mod FailoverWait
+pub mod StartGate
