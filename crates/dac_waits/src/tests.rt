@@ -1,5 +1,5 @@
-//! Waits and start gates under two configurations: an application `a` at c1@h, or else at c2@h or c3@h after five
-//! seconds, and three nodes of which the first waits five seconds for the others.
+//! Waits of an application `a` that belongs to c1@h, or else to c2@h or c3@h after five seconds; and start gates of
+//! three nodes.
 use crate::{Opening, Waits, gate};
 use dac_base::{AppId, NodeId};
 use dac_config::{Config, read_config};
@@ -9,6 +9,7 @@ use dac_state::{Act, DotList, How, Key, Op, State};
 use std::alloc::Global;
 use std::test::Fail;
 
+/// The application's time is five seconds.
 const FAILOVER: &[u8] = b"[{kernel,[{distributed,[{a,5000,[c1@h,{c2@h,c3@h}]}]}]}].";
 
 /// The nodes came up, c1@h ran `a`, and went down.
@@ -21,6 +22,38 @@ const LOST: &[Step] = &[
     Step::Start(C3, 1),
     Step::Down(C1, 1),
 ];
+
+/// Then c2@h ran it too, and went down.
+const LOST_AGAIN: &[Step] = &[
+    Step::Up(C1, 1),
+    Step::Up(C2, 1),
+    Step::Up(C3, 1),
+    Step::Run(C1, 1, 1),
+    Step::Start(C3, 1),
+    Step::Down(C1, 1),
+    Step::Run(C2, 1, 2),
+    Step::Down(C2, 1),
+];
+
+/// Instead, c1@h came up again.
+const BACK: &[Step] = &[
+    Step::Up(C1, 1),
+    Step::Up(C3, 1),
+    Step::Run(C1, 1, 1),
+    Step::Start(C3, 1),
+    Step::Down(C1, 1),
+    Step::Up(C1, 2),
+    Step::Start(C1, 2),
+];
+
+/// Three nodes, of which the second is mandatory and the third optional.
+const FIVE_SECONDS: &[u8] =
+    b"[{kernel,[{distributed,[{a,[c1@h]}]},{sync_nodes_mandatory,[c2@h]},{sync_nodes_optional,[c3@h]},{sync_nodes_timeout,5000}]}].";
+
+const FOREVER: &[u8] =
+    b"[{kernel,[{distributed,[{a,[c1@h]}]},{sync_nodes_mandatory,[c2@h]},{sync_nodes_timeout,infinity}]}].";
+
+const NO_TIME: &[u8] = b"[{kernel,[{distributed,[{a,[c1@h]}]},{sync_nodes_mandatory,[c2@h]}]}].";
 
 const A: AppId = AppId(0);
 
@@ -103,93 +136,119 @@ fn state_after(alloc: Global, steps: &[Step]) -> Result<State, Fail> {
     Ok(state)
 }
 
-/// Whether what is to become of `a` is due.
-fn is_due(config: &Config, waits: &Waits, state: &State, now: u64) -> bool {
-    A.0 < config.apps() && waits.due(config, state, A, now)
+/// Notes at a moment what these steps mean.
+fn note(
+    alloc: Global,
+    config: &Config,
+    waits: &mut Waits,
+    steps: &[Step],
+    moment: u64,
+) -> Result<(), Fail> {
+    let state = state_after(alloc, steps)?;
+    waits.note(config, &state, moment);
+    Ok(())
+}
+
+/// The waits after these notes, each of what some steps mean, at its moment.
+fn waits_after(alloc: Global, config: &Config, notes: &[(&[Step], u64)]) -> Result<Waits, Fail> {
+    let mut waits = Waits::new(alloc, config)?;
+    for (steps, moment) in notes {
+        note(alloc, config, &mut waits, steps, *moment)?;
+    }
+    Ok(waits.copy()?)
+}
+
+/// Whether what is to become of `a` by these steps is due at a moment, after these notes.
+fn is_due(alloc: Global, notes: &[(&[Step], u64)], steps: &[Step], now: u64) -> Result<bool, Fail> {
+    let config = read_config(alloc, FAILOVER)?;
+    let waits = waits_after(alloc, &config, notes)?;
+    let state = state_after(alloc, steps)?;
+    Ok(A.0 < config.apps() && waits.due(&config, &state, A, now))
 }
 
 #[test]
 fn failover_waits_from_the_first_note(rt: HostRuntime) -> Result<(), Fail> {
-    let config = read_config(rt.alloc(), FAILOVER)?;
-    let lost = state_after(rt.alloc(), LOST)?;
-    let mut waits = Waits::new(rt.alloc(), &config)?;
-    assert!(rt; !is_due(&config, &waits, &lost, 9000));
-    waits.note(&config, &lost, 1000);
-    waits.note(&config, &lost, 5999);
-    let waits = waits.copy()?;
-    assert!(rt; !is_due(&config, &waits, &lost, 5999));
-    assert!(rt; is_due(&config, &waits, &lost, 6000));
+    let notes = [(LOST, 1000), (LOST, 5999)];
+    assert!(rt; !is_due(rt.alloc(), &[], LOST, 9000)?);
+    assert!(rt; !is_due(rt.alloc(), &notes, LOST, 5999)?);
+    assert!(rt; is_due(rt.alloc(), &notes, LOST, 6000)?);
     Ok(())
 }
 
 #[test]
 fn another_claim_waits_anew(rt: HostRuntime) -> Result<(), Fail> {
-    let config = read_config(rt.alloc(), FAILOVER)?;
-    let lost = state_after(rt.alloc(), LOST)?;
-    let mut waits = Waits::new(rt.alloc(), &config)?;
-    waits.note(&config, &lost, 1000);
-    let other = state_after(rt.alloc(), &[Step::Run(C2, 1, 2), Step::Down(C2, 1)])?;
-    let lost = lost.join(&other)?;
-    assert!(rt; !is_due(&config, &waits, &lost, 6000));
-    waits.note(&config, &lost, 3000);
-    assert!(rt; !is_due(&config, &waits, &lost, 7999));
-    assert!(rt; is_due(&config, &waits, &lost, 8000));
+    let notes = [(LOST, 1000), (LOST_AGAIN, 3000)];
+    assert!(rt; !is_due(rt.alloc(), &[(LOST, 1000)], LOST_AGAIN, 6000)?);
+    assert!(rt; !is_due(rt.alloc(), &notes, LOST_AGAIN, 7999)?);
+    assert!(rt; is_due(rt.alloc(), &notes, LOST_AGAIN, 8000)?);
     Ok(())
 }
 
 #[test]
 fn who_returns_has_it_at_once(rt: HostRuntime) -> Result<(), Fail> {
-    let config = read_config(rt.alloc(), FAILOVER)?;
-    let lost = state_after(rt.alloc(), LOST)?;
-    let back = state_after(rt.alloc(), &[Step::Up(C1, 2), Step::Start(C1, 2)])?;
-    let state = lost.join(&back)?;
-    let waits = Waits::new(rt.alloc(), &config)?;
-    assert!(rt; is_due(&config, &waits, &state, 0));
+    assert!(rt; is_due(rt.alloc(), &[], BACK, 0)?);
     Ok(())
 }
 
 #[test]
 fn only_failovers_wait(rt: HostRuntime) -> Result<(), Fail> {
-    let config = read_config(rt.alloc(), FAILOVER)?;
-    let waits = Waits::new(rt.alloc(), &config)?;
-    let started = state_after(rt.alloc(), &[Step::Up(C2, 1), Step::Start(C2, 1)])?;
-    assert!(rt; is_due(&config, &waits, &started, 0));
-    let running = state_after(rt.alloc(), &[Step::Up(C2, 1), Step::Run(C2, 1, 1)])?;
-    assert!(rt; !is_due(&config, &waits, &running, 0));
+    let started = [Step::Up(C2, 1), Step::Start(C2, 1)];
+    assert!(rt; is_due(rt.alloc(), &[], &started, 0)?);
+    let running = [Step::Up(C2, 1), Step::Run(C2, 1, 1)];
+    assert!(rt; !is_due(rt.alloc(), &[], &running, 0)?);
     Ok(())
 }
 
-/// Three nodes, of which the second is mandatory and the third optional.
-const FIVE_SECONDS: &[u8] = b"[{kernel,[{distributed,[{a,[c1@h]}]},{sync_nodes_mandatory,[c2@h]},\
-    {sync_nodes_optional,[c3@h]},{sync_nodes_timeout,5000}]}].";
-
-const FOREVER: &[u8] = b"[{kernel,[{distributed,[{a,[c1@h]}]},{sync_nodes_mandatory,[c2@h]},\
-    {sync_nodes_timeout,infinity}]}].";
-
-const NO_TIME: &[u8] = b"[{kernel,[{distributed,[{a,[c1@h]}]},{sync_nodes_mandatory,[c2@h]}]}].";
+/// What becomes of a node so many milliseconds after its boot, where these steps were done.
+fn opening_after(
+    alloc: Global,
+    text: &[u8],
+    steps: &[Step],
+    elapsed: u32,
+) -> Result<Opening, Fail> {
+    let config = read_config(alloc, text)?;
+    let state = state_after(alloc, steps)?;
+    Ok(gate(&config, &state, 1000, 1000 + u64::from(elapsed)))
+}
 
 #[test]
 fn gate_waits_for_all_until_the_time_is_over(rt: HostRuntime) -> Result<(), Fail> {
-    let config = read_config(rt.alloc(), FIVE_SECONDS)?;
-    let alone = state_after(rt.alloc(), &[Step::Up(C1, 1)])?;
-    assert_eq!(rt; gate(&config, &alone, 1000, 5999), Opening::Shut);
-    assert_eq!(rt; gate(&config, &alone, 1000, 6000), Opening::GiveUp);
-    let second = state_after(rt.alloc(), &[Step::Up(C2, 1)])?;
-    let both = alone.join(&second)?;
-    assert_eq!(rt; gate(&config, &both, 1000, 5999), Opening::Shut);
-    assert_eq!(rt; gate(&config, &both, 1000, 6000), Opening::Opened);
-    let third = state_after(rt.alloc(), &[Step::Up(C3, 1)])?;
-    let all = both.join(&third)?;
-    assert_eq!(rt; gate(&config, &all, 1000, 1000), Opening::Opened);
+    let alone = [Step::Up(C1, 1)];
+    assert_eq!(rt;
+        opening_after(rt.alloc(), FIVE_SECONDS, &alone, 4999)?,
+        Opening::Shut
+    );
+    assert_eq!(rt;
+        opening_after(rt.alloc(), FIVE_SECONDS, &alone, 5000)?,
+        Opening::GiveUp
+    );
+    let mandatory = [Step::Up(C1, 1), Step::Up(C2, 1)];
+    assert_eq!(rt;
+        opening_after(rt.alloc(), FIVE_SECONDS, &mandatory, 4999)?,
+        Opening::Shut
+    );
+    assert_eq!(rt;
+        opening_after(rt.alloc(), FIVE_SECONDS, &mandatory, 5000)?,
+        Opening::Opened
+    );
+    let all = [Step::Up(C1, 1), Step::Up(C2, 1), Step::Up(C3, 1)];
+    assert_eq!(rt;
+        opening_after(rt.alloc(), FIVE_SECONDS, &all, 0)?,
+        Opening::Opened
+    );
     Ok(())
 }
 
 #[test]
 fn gate_of_no_time_is_open_and_of_infinity_shut(rt: HostRuntime) -> Result<(), Fail> {
-    let alone = state_after(rt.alloc(), &[Step::Up(C1, 1)])?;
-    let config = read_config(rt.alloc(), NO_TIME)?;
-    assert_eq!(rt; gate(&config, &alone, 0, 0), Opening::Opened);
-    let config = read_config(rt.alloc(), FOREVER)?;
-    assert_eq!(rt; gate(&config, &alone, 0, 4294967296), Opening::Shut);
+    let alone = [Step::Up(C1, 1)];
+    assert_eq!(rt;
+        opening_after(rt.alloc(), NO_TIME, &alone, 0)?,
+        Opening::Opened
+    );
+    assert_eq!(rt;
+        opening_after(rt.alloc(), FOREVER, &alone, u32::MAX)?,
+        Opening::Shut
+    );
     Ok(())
 }

@@ -1,18 +1,8 @@
 //! The waits of failovers.
 ghost use Rattle.std.specs.Prelude.{◌≡◌, ◌↔◌, ◌<◌, ◌∷◌, [], List, IsTrue, IfOk};
 ghost use Rattle.dac_config.specs.Table.{app_count};
-ghost use Rattle.dac_waits.specs.FailoverWait.{
-  Note,
-  waits_of,
-  IsDue,
-  is_due,
-  lost_in,
-  noted_next,
-  is_held_at,
-  is_wait_over,
-  is_due_with,
-  noted_at,
-};
+ghost use Rattle.dac_waits.specs.FailoverWait.{Note, waits_of, IsDue, is_due, is_due_with, noted_at};
+ghost use Rattle.dac_waits.specs.FailoverWait.{lost_in, noted_next, is_held_at, is_wait_over};
 
 use dac_base::{AppId, NoMemory, NodeId};
 use dac_chains::Claim;
