@@ -120,7 +120,7 @@ fn meaning(alloc: Global, step: Step) -> Result<State, Fail> {
         Step::Start(node, inc) => delta(alloc, dot(node, inc, 2), start(alloc, node, inc)),
         Step::Run(node, inc, term) => {
             let started = delta(alloc, dot(node, inc, 2), start(alloc, node, inc))?;
-            let claimed = delta(alloc, dot(node, inc, 2 + term), claim(term))?;
+            let claimed = delta(alloc, dot(node, inc, 3), claim(term))?;
             Ok(started.join(&claimed)?)
         }
     }
