@@ -1,6 +1,6 @@
 -- Whether the nodes that a starting node waits for are live, by the tests of them all.
-use Rattle.std.proofs.Common.{◌≡◌, ◌↔◌, ℕ, ◌+◌, ◌<◌, ◌≤◌, Bool, true, false, cond, not, ◌&&◌, ◌||◌, [], ◌∷◌, Option, Some, None, get_or, length, refl, sym, ap, subst, ◌∙◌, arith, inl, inr}
-use Rattle.std.specs.Prelude.{nat_lt, IsTrue, map as list_map}
+use Rattle.std.proofs.Common.{◌≡◌, ℕ, ◌+◌, ◌<◌, Bool, true, false, cond, not, ◌&&◌, ◌||◌, [], ◌∷◌, Option, Some, None, get_or, refl, sym, ap, subst, ◌∙◌, arith, inl, inr}
+use Rattle.std.specs.Prelude.{nat_lt, map as list_map}
 use Rattle.std.specs.Option.{is_some, option_and_then}
 use Rattle.std.specs.List.{range_with_len, list_all}
 use Rattle.std.specs.FinMap as map

@@ -1,5 +1,5 @@
 -- The wait of a failover. After OTP's kernel manual, parameter `distributed`: when a node goes down, its applications are restarted elsewhere after their time. (That each controller counts it from its own ticks is this project's own.)
-use Rattle.std.specs.Prelude.{◌≡◌, ◌⊎◌, ℕ, ◌+◌, ◌≤◌, Bool, true, false, IsTrue, not, ◌&&◌, ◌||◌, ◌==◌, nat_le, List, [], ◌∷◌, ◌++◌, map as list_map, get_or, Option, None, Some, if◌then◌else◌, ⊤, refl}
+use Rattle.std.specs.Prelude.{◌≡◌, ◌⊎◌, ℕ, ◌+◌, ◌≤◌, Bool, true, false, ◌&&◌, ◌||◌, ◌==◌, nat_le, List, [], ◌∷◌, ◌++◌, map as list_map, get_or, Option, None, Some, if◌then◌else◌, ⊤, refl}
 use Rattle.std.specs.List.{All}
 use Rattle.std.specs.Option.{option_map, option_map_or, option_and_then}
 use Rattle.std.specs.Ordering.{is_eq}
@@ -7,7 +7,6 @@ use Rattle.std.specs.Coded.{Coded, code_by, coded×, coded_ℕ}
 use Rattle.std.specs.FinMap as map
 use Rattle.dac_base.specs.declared.NodeId.{NodeId}
 use Rattle.dac_base.specs.declared.AppId.{AppId}
-use Rattle.dac_dots.specs.declared.dot.Origin.{Origin}
 use Rattle.dac_config.specs.Table.{Table, timeout_of}
 use Rattle.dac_chains.specs.declared.claims.Claim.{Claim}
 use Rattle.dac_chains.specs.Claims.{claim_cmp, coded_claim}

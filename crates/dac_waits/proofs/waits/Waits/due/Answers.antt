@@ -1,5 +1,5 @@
 use Rattle.std.proofs.Common.{◌≡◌, ◌↔◌, Bool, true, sym, ap, subst, ◌∙◌}
-use Rattle.dac_waits.specs.FailoverWait.{Note, IsDue, is_due, is_due_with}
+use Rattle.dac_waits.specs.FailoverWait.{IsDue, is_due_with}
 use Rattle.dac_waits.proofs.Places.{kept_at}
 use Rattle.dac_waits.proofs.Due.{due_to_words}
 use Rattle.dac_waits.proofs.waits.Waits.due.Goals as goal

@@ -1,4 +1,4 @@
-use Rattle.std.proofs.Common.{◌≡◌, [], ◌∷◌, ◌++◌, None, sym, ap, ◌∙◌}
+use Rattle.std.proofs.Common.{[], ◌∷◌, ◌++◌, None, sym, ap, ◌∙◌}
 use Rattle.dac_waits.proofs.Places.{kept_more}
 use Rattle.dac_waits.proofs.waits.Waits.new.Goals as goal
 

@@ -1,4 +1,4 @@
-use Rattle.std.proofs.Common.{◌≡◌, ◌<◌, length, set, sym, ap, ap₂, ◌∙◌, arith, length-set}
+use Rattle.std.proofs.Common.{◌≡◌, ◌<◌, length, set, ap, ap₂, ◌∙◌, arith, length-set}
 use Rattle.dac_config.specs.Table.{app_count}
 use Rattle.dac_waits.specs.FailoverWait.{Note, waits_of, noted_next}
 use Rattle.dac_waits.proofs.Places.{length_waits, partly, partly_at, partly_more, partly_all}
