@@ -1,3 +1,2 @@
-pub mod AddLemmas
-pub mod ContextLemmas
-pub mod RowLemmas
+pub mod ReadRows
+pub mod WrittenRows

@@ -25,7 +25,7 @@ regroup front x (Err e) = refl
 
 -- a fault of one step is that of another
 pub Fails-on : {A B : Type 0} (kind : ReadFaultKind) (e : ReadFault) (a : Result A ReadFault) (b : Result B ReadFault) → Fails kind e a → (a ≡ Err e → b ≡ Err e) → Fails kind e b
-Fails-on NoMemory e a b h on = tt
+Fails-on NoMemory e a b h on = h
 Fails-on Short e a b h on = on h
 Fails-on BadNumber e a b h on = on h
 Fails-on BadOrder e a b h on = on h
@@ -35,15 +35,15 @@ Fails-on NotKnown e a b h on = on h
 Fails-on Trailing e a b h on = on h
 
 -- a step that takes no memory fails with its fault
-pub Fails-from : {A : Type 0} (kind : ReadFaultKind) (e : ReadFault) (a : Result A ReadFault) → a ≡ Err e → Fails kind e a
-Fails-from NoMemory e a h = tt
-Fails-from Short e a h = h
-Fails-from BadNumber e a h = h
-Fails-from BadOrder e a h = h
-Fails-from BadName e a h = h
-Fails-from NotInList e a h = h
-Fails-from NotKnown e a h = h
-Fails-from Trailing e a h = h
+pub Fails-from : {A : Type 0} (kind : ReadFaultKind) (e : ReadFault) (a : Result A ReadFault) → ¬ (kind ≡ NoMemory) → a ≡ Err e → Fails kind e a
+Fails-from NoMemory e a real h = absurd (real refl)
+Fails-from Short e a real h = h
+Fails-from BadNumber e a real h = h
+Fails-from BadOrder e a real h = h
+Fails-from BadName e a real h = h
+Fails-from NotInList e a real h = h
+Fails-from NotKnown e a real h = h
+Fails-from Trailing e a real h = h
 
 module _ {S X : Type 0} (item : S → Rest → Field X) (next : X → S) where
   -- ---- a loop

@@ -1,16 +1,8 @@
-pub mod ContextLaws
-pub mod CounterLaws
 pub mod Faults
-pub mod Fields
-pub mod FurtherLaws
 pub mod Items
 pub mod Numbers
 pub mod Ranges
 pub mod Reading
-pub mod RisingLaws
-pub mod RowLaws
-pub mod RowViews
-pub mod Rows
-pub mod SetLaws
 pub mod Spelling
 pub mod Takes
+pub mod laws

@@ -6,13 +6,16 @@ use Rattle.dac_dots.specs.Dots.{Dots}
 use Rattle.dac_dots.specs.declared.dot.Origin.{Origin}
 use Rattle.dac_dots.specs.declared.dot.Dot.{Dot}
 use Rattle.dac_bytes.specs.Items.{Chain}
-use Rattle.dac_bytes.specs.Rows.{Row, rows_of}
+use Rattle.dac_dots.specs.Rows.{Row, rows_of}
 
--- a node that there is, and an incarnation from 1
+-- an incarnation: from 1, and within its field
+abbrev pub IsIncarnation : ℕ → Type 0
+IsIncarnation n = (1 ≤ n) × (n < 2 ^ 32)
+
+-- a node that there is, and an incarnation
 pub record IsOrigin (nodes : ℕ) (o : Origin) : Type 0 where
   pub node : o.node.0 < nodes
-  pub first : 1 ≤ o.inc
-  pub last : o.inc < 2 ^ 32
+  pub inc : IsIncarnation o.inc
 
 -- an origin's dot, with a counter that can be issued
 pub record IsDot (nodes : ℕ) (d : Dot) : Type 0 where

@@ -1,18 +1,16 @@
 -- Reading from left to right, with the first fault that is met and its place.
-use Rattle.std.specs.Prelude.{◌≡◌, ℕ, zero, suc, ◌+◌, ◌-◌, ◌^◌, Bool, true, List, [], ◌∷◌, ◌++◌, length, map, take, drop, Option, Some, None, Result, Ok, Err, nat_lt, ◌||◌, ◌==◌, if◌then◌else◌}
-use Rattle.std.specs.List.{flat_map}
+use Rattle.std.specs.Prelude.{◌≡◌, ℕ, zero, suc, ◌+◌, ◌-◌, ◌^◌, Bool, true, List, [], ◌∷◌, length, take, drop, Option, Some, None, Result, Ok, Err, IfErr, nat_lt, ◌||◌, ◌==◌, if◌then◌else◌}
 use Rattle.std.specs.Int.{Width, w8, w16, w32, w64, byte_len, from_be_bytes}
 use Rattle.std.specs.declared.cmp.Ordering.{Ordering}
 use Rattle.std.specs.Ordering.{is_lt}
-use Rattle.std.specs.FinSet as set
 use Rattle.dac_base.specs.declared.NodeId.{NodeId}
 use Rattle.dac_dots.specs.declared.dot.Origin.{Origin}
 use Rattle.dac_dots.specs.declared.dot.Dot.{Dot}
-use Rattle.dac_dots.specs.Dots.{Dots, dot, dot_cmp, origin_cmp}
+use Rattle.dac_dots.specs.Dots.{Dots, dot_cmp, origin_cmp}
 use Rattle.dac_bytes.specs.declared.fault.ReadFaultKind.{ReadFaultKind}
 use Rattle.dac_bytes.specs.declared.fault.ReadFaultKind.TheVariants.{Short, BadNumber, BadOrder, BadName, NoMemory}
 use Rattle.dac_bytes.specs.declared.fault.ReadFault.{ReadFault}
-use Rattle.dac_bytes.specs.Rows.{Row}
+use Rattle.dac_dots.specs.Rows.{Row, dots_in}
 
 -- the rest of a text of bytes, and the place of its first byte in that text
 pub record Rest : Type 0 where
@@ -45,10 +43,14 @@ abbrev pub Reads : {X Y : Type 0} → (X → Y) → Result X ReadFault → Resul
 Reads view (Ok x) read = read ≡ Ok (view x)
 Reads view (Err e) read = read ≡ Err e
 
--- A fault is the one that reading gives, unless it is want of memory.
+-- A fault is the one that reading gives, unless it is want of memory, which stands at 0 and says nothing of the bytes.
 abbrev pub Fails : {Y : Type 0} → ReadFaultKind → ReadFault → Result Y ReadFault → Type 0
-Fails NoMemory e read = Unit {0}
+Fails NoMemory e read = e.at ≡ 0
 Fails _ e read = read ≡ Err e
+
+-- What a function returned has no want of memory.
+abbrev pub IsOfBytes : {X : Type 0} → Result X ReadFault → Type 0
+IsOfBytes result = IfErr result (λ e. ¬ (e.kind ≡ NoMemory))
 
 -- What a function returned, seen by view, is what reading gives, unless memory ran out.
 abbrev pub Gives : {X Y : Type 0} → (X → Y) → Result X ReadFault → Result Y ReadFault → Type 0
@@ -154,19 +156,6 @@ unfoldable pub rows_at : ℕ → Rest → Field (List Row)
 rows_at nodes r = do
   count ← number_at w16 r
   items_at (row_at nodes) (λ (row : Row). Some row.origin) count.0 None count.1
-
--- 1 to n
-abbrev pub one_to : ℕ → List ℕ
-one_to zero = []
-one_to (suc n) = one_to n ++ suc n ∷ []
-
--- the dots of a row
-abbrev pub dots_in_row : Row → List Dot
-dots_in_row row = map (dot row.origin) (one_to row.upto ++ row.further)
-
--- the dots of these rows
-unfoldable pub dots_in : List Row → Dots
-dots_in rows = set.from_list (flat_map dots_in_row rows)
 
 -- a set of dots, by its rows
 unfoldable pub context_at : ℕ → Rest → Field Dots

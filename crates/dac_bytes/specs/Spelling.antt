@@ -5,11 +5,15 @@ use Rattle.dac_dots.specs.Dots.{Dots}
 use Rattle.dac_dots.specs.declared.dot.Origin.{Origin}
 use Rattle.dac_dots.specs.declared.dot.Dot.{Dot}
 use Rattle.dac_bytes.specs.Numbers.{u8_bytes, u16_bytes, u32_bytes, u64_bytes}
-use Rattle.dac_bytes.specs.Rows.{Row, rows_of}
+use Rattle.dac_dots.specs.Rows.{Row, rows_of}
+
+-- an incarnation, in four bytes
+unfoldable pub incarnation_bytes : ℕ → List ℕ
+incarnation_bytes n = u32_bytes n
 
 -- node and incarnation, in five bytes
 unfoldable pub origin_bytes : Origin → List ℕ
-origin_bytes origin = u8_bytes origin.node.0 ++ u32_bytes origin.inc
+origin_bytes origin = u8_bytes origin.node.0 ++ incarnation_bytes origin.inc
 
 -- origin and counter, in thirteen bytes
 unfoldable pub dot_bytes : Dot → List ℕ

@@ -1,11 +1,11 @@
 -- What it means that a field is read as it is spelled, and that what is spelled is read again.
-use Rattle.std.specs.Prelude.{◌≡◌, ℕ, ◌+◌, ◌<◌, Bool, true, false, cond, List, [], ◌++◌, length, take, drop, Result, Ok, Err, refl}
+use Rattle.std.specs.Prelude.{◌≡◌, ℕ, ◌+◌, ◌<◌, Bool, true, false, cond, List, [], ◌++◌, length, take, drop, Result, Ok, Err, IfOk, refl}
 use Rattle.std.proofs.Common.{get_or, sym, ap, subst, ◌∙◌, inl, inr, ◌≤◌, arith, append_assoc}
 use Rattle.std.proofs.lemmas.Bool.{cases_lt}
 use Rattle.std.proofs.lemmas.List.{take-append-drop, length-append, length-take, get_or-drop, get_or-take, get_or_past}
 use Rattle.dac_bytes.specs.declared.fault.ReadFaultKind.{ReadFaultKind}
 use Rattle.dac_bytes.specs.declared.fault.ReadFault.{ReadFault}
-use Rattle.dac_bytes.specs.Reading.{Rest, Field, fault, ◌>>=◌}
+use Rattle.dac_bytes.specs.Reading.{Rest, Field, Gives, fault, ◌>>=◌}
 
 -- each is a byte
 abbrev pub IsBytes : List ℕ → Type 0
@@ -24,6 +24,15 @@ TakesAs {X = X} read text Is = (r : Rest) (x : X × Rest) → IsBytes r.bytes �
 -- Wherever the text stands, read gives x from it and leaves what comes after it.
 abbrev pub Again : {X : Type 0} → (Rest → Field X) → List ℕ → X → Type 0
 Again read text x = (at : ℕ) (rest : List ℕ) → read (record { at = at; bytes = text ++ rest }) ≡ Ok (x, record { at = at + length text; bytes = rest })
+
+-- What a call read of r, as view shows it, is spelled by text, and Is holds of it.
+abbrev pub IsFoundAs : {X Y : Type 0} → (X → Y × Rest) → (Y → List ℕ) → (Y → Type 0) → Rest → Result X ReadFault → Type 0
+IsFoundAs view text Is r result = IsBytes r.bytes → IfOk result (λ x. Takes r (text (view x).0) (view x).1 × Is (view x).0)
+
+-- What r begins with is what a call read of it, as view shows it, unless memory ran out: any y of which Is holds, as text spells it.
+abbrev pub IsReadAgain : {X Y : Type 0} → (X → Y × Rest) → (Y → List ℕ) → (Y → Type 0) → Rest → Result X ReadFault → Type 0
+IsReadAgain {Y = Y} view text Is r result =
+    (y : Y) (rest : List ℕ) → Is y → r.bytes ≡ text y ++ rest → Gives view result (Ok (y, record { at = r.at + length (text y); bytes = rest }))
 
 -- ---- taking
 

@@ -133,22 +133,3 @@ impl From<dac_base::NoMemory> for ReadFault {
         no_memory()
     }
 }
-
-#[cfg(test)]
-mod tests {
-    use super::*;
-    use std::test::Fail;
-
-    #[test]
-    fn number_and_name(rt: HostRuntime) -> Result<(), Fail> {
-        let fault = ReadFault::new(ReadFaultKind::BadOrder, 7);
-        assert_eq!(rt; fault.kind.number(), 3);
-        assert_eq!(rt; fault.kind.name(), "BadOrder");
-        let printed = format!(in rt.alloc(); "{fault}")?;
-        assert_eq!(rt; printed.as_str(), "BadOrder at 7");
-        let refused = ReadFault::from(dac_base::NoMemory);
-        assert_eq!(rt; refused.kind.number(), 8);
-        assert_eq!(rt; refused.at, 0);
-        Ok(())
-    }
-}

@@ -1,7 +1,7 @@
 //! Bytes that are being read: numbers, nodes, origins and dots.
 ghost use Rattle.std.specs.Prelude.{◌≡◌, ◌↔◌, ◌≤◌, IfOk, IsTrue, []};
 ghost use Rattle.std.specs.Int.{w8, w16, w32, w64};
-ghost use Rattle.dac_bytes.specs.Reading.{Reads, taken, number_at, range_at, node_at, incarnation_at, counter_at, origin_at, dot_at, origin_above_at, dot_above_at, whole};
+ghost use Rattle.dac_bytes.specs.Reading.{IsOfBytes, Reads, taken, number_at, range_at, node_at, incarnation_at, counter_at, origin_at, dot_at, origin_above_at, dot_above_at, whole};
 
 use crate::fault::{ReadFault, ReadFaultKind};
 use dac_base::NodeId;
@@ -56,7 +56,8 @@ impl<'a> ByteReader<'a> {
 
     /// The next so many bytes, and what is after them.
     fn take(self, count: usize) -> Result<(&'a [u8], ByteReader<'a>), ReadFault>
-        ensures { Reads (λ x. (x.0.now, x.1)) result (taken count self.entry) }
+        ensures exact { Reads (λ x. (x.0.now, x.1)) result (taken count self.entry) }
+        ensures real { IsOfBytes result }
     {
         if self.rest.len() < count {
             return Err(ReadFault::new(ReadFaultKind::Short, self.at));
@@ -74,7 +75,8 @@ impl<'a> ByteReader<'a> {
 
     /// A number in one byte.
     pub fn read_u8(self) -> Result<(u8, ByteReader<'a>), ReadFault>
-        ensures { result ≡ number_at w8 self.entry }
+        ensures exact { result ≡ number_at w8 self.entry }
+        ensures real { IsOfBytes result }
     {
         let (bytes, rest) = self.take(1)?;
         Ok((bytes[0], rest))
@@ -82,7 +84,8 @@ impl<'a> ByteReader<'a> {
 
     /// A number in two bytes, the high one first.
     pub fn read_u16(self) -> Result<(u16, ByteReader<'a>), ReadFault>
-        ensures { result ≡ number_at w16 self.entry }
+        ensures exact { result ≡ number_at w16 self.entry }
+        ensures real { IsOfBytes result }
     {
         let (bytes, rest) = self.take(2)?;
         Ok((u16::from_be_bytes([bytes[0], bytes[1]]), rest))
@@ -90,7 +93,8 @@ impl<'a> ByteReader<'a> {
 
     /// A number in four bytes, the highest one first.
     pub fn read_u32(self) -> Result<(u32, ByteReader<'a>), ReadFault>
-        ensures { result ≡ number_at w32 self.entry }
+        ensures exact { result ≡ number_at w32 self.entry }
+        ensures real { IsOfBytes result }
     {
         let (b, rest) = self.take(4)?;
         Ok((u32::from_be_bytes([b[0], b[1], b[2], b[3]]), rest))
@@ -98,7 +102,8 @@ impl<'a> ByteReader<'a> {
 
     /// A number in eight bytes, the highest one first.
     pub fn read_u64(self) -> Result<(u64, ByteReader<'a>), ReadFault>
-        ensures { result ≡ number_at w64 self.entry }
+        ensures exact { result ≡ number_at w64 self.entry }
+        ensures real { IsOfBytes result }
     {
         let (b, rest) = self.take(8)?;
         let number = u64::from_be_bytes([b[0], b[1], b[2], b[3], b[4], b[5], b[6], b[7]]);
@@ -109,6 +114,7 @@ impl<'a> ByteReader<'a> {
     #[tactic(auto, unfolding(crate::specs::Reading::range_at))]
     pub fn read_u8_in(self, low: u8, high: u8) -> Result<(u8, ByteReader<'a>), ReadFault>
         ensures exact { result ≡ range_at w8 low high self.entry }
+        ensures real { IsOfBytes result }
         ensures within { IfOk result (λ x. (low ≤ x.0) × (x.0 ≤ high)) }
     {
         let at = self.at();
@@ -123,6 +129,7 @@ impl<'a> ByteReader<'a> {
     #[tactic(auto, unfolding(crate::specs::Reading::range_at))]
     pub fn read_u32_in(self, low: u32, high: u32) -> Result<(u32, ByteReader<'a>), ReadFault>
         ensures exact { result ≡ range_at w32 low high self.entry }
+        ensures real { IsOfBytes result }
         ensures within { IfOk result (λ x. (low ≤ x.0) × (x.0 ≤ high)) }
     {
         let at = self.at();
@@ -137,6 +144,7 @@ impl<'a> ByteReader<'a> {
     #[tactic(auto, unfolding(crate::specs::Reading::range_at))]
     pub fn read_u64_in(self, low: u64, high: u64) -> Result<(u64, ByteReader<'a>), ReadFault>
         ensures exact { result ≡ range_at w64 low high self.entry }
+        ensures real { IsOfBytes result }
         ensures within { IfOk result (λ x. (low ≤ x.0) × (x.0 ≤ high)) }
     {
         let at = self.at();
@@ -150,7 +158,8 @@ impl<'a> ByteReader<'a> {
     /// A node in one byte. One that isn't below the number of nodes is `BadName` at its byte.
     #[tactic(auto, unfolding(crate::specs::Reading::node_at))]
     pub fn read_node(self, nodes: u8) -> Result<(NodeId, ByteReader<'a>), ReadFault>
-        ensures { result ≡ node_at nodes self.entry }
+        ensures exact { result ≡ node_at nodes self.entry }
+        ensures real { IsOfBytes result }
     {
         let at = self.at();
         let (node, rest) = self.read_u8()?;
@@ -163,7 +172,8 @@ impl<'a> ByteReader<'a> {
 
     /// An incarnation in four bytes. 0 is `BadNumber` at its first byte.
     pub fn read_incarnation(self) -> Result<(u32, ByteReader<'a>), ReadFault>
-        ensures { result ≡ incarnation_at self.entry }
+        ensures exact { result ≡ incarnation_at self.entry }
+        ensures real { IsOfBytes result }
     {
         let read = self.read_u32_in(1, u32::MAX)?;
         Ok(read)
@@ -171,7 +181,8 @@ impl<'a> ByteReader<'a> {
 
     /// A counter of a dot in eight bytes. 0, and one above 2^62, is `BadNumber` at its first byte.
     pub fn read_counter(self) -> Result<(u64, ByteReader<'a>), ReadFault>
-        ensures { result ≡ counter_at self.entry }
+        ensures exact { result ≡ counter_at self.entry }
+        ensures real { IsOfBytes result }
     {
         let read = self.read_u64_in(1, MOST)?;
         Ok(read)
@@ -180,7 +191,8 @@ impl<'a> ByteReader<'a> {
     /// Who issued an operation: the node in one byte and its incarnation in four.
     #[tactic(auto, unfolding(crate::specs::Reading::origin_at))]
     pub fn read_origin(self, nodes: u8) -> Result<(Origin, ByteReader<'a>), ReadFault>
-        ensures { result ≡ origin_at nodes self.entry }
+        ensures exact { result ≡ origin_at nodes self.entry }
+        ensures real { IsOfBytes result }
     {
         let (node, rest) = self.read_node(nodes)?;
         let (inc, rest) = rest.read_incarnation()?;
@@ -190,7 +202,8 @@ impl<'a> ByteReader<'a> {
     /// The name of an operation: its origin in five bytes and its counter in eight.
     #[tactic(auto, unfolding(crate::specs::Reading::dot_at))]
     pub fn read_dot(self, nodes: u8) -> Result<(Dot, ByteReader<'a>), ReadFault>
-        ensures { result ≡ dot_at nodes self.entry }
+        ensures exact { result ≡ dot_at nodes self.entry }
+        ensures real { IsOfBytes result }
     {
         let (origin, rest) = self.read_origin(nodes)?;
         let (n, rest) = rest.read_counter()?;
@@ -205,7 +218,8 @@ impl<'a> ByteReader<'a> {
         nodes: u8,
         before: Option<Origin>,
     ) -> Result<(Origin, ByteReader<'a>), ReadFault>
-        ensures { result ≡ origin_above_at nodes before self.entry }
+        ensures exact { result ≡ origin_above_at nodes before self.entry }
+        ensures real { IsOfBytes result }
     {
         let at = self.at();
         let (origin, rest) = self.read_origin(nodes)?;
@@ -223,7 +237,8 @@ impl<'a> ByteReader<'a> {
         nodes: u8,
         before: Option<Dot>,
     ) -> Result<(Dot, ByteReader<'a>), ReadFault>
-        ensures { result ≡ dot_above_at nodes before self.entry }
+        ensures exact { result ≡ dot_above_at nodes before self.entry }
+        ensures real { IsOfBytes result }
     {
         let at = self.at();
         let (dot, rest) = self.read_dot(nodes)?;
@@ -232,77 +247,5 @@ impl<'a> ByteReader<'a> {
         } else {
             Err(ReadFault::new(ReadFaultKind::BadOrder, at))
         }
-    }
-}
-
-#[cfg(test)]
-mod tests {
-    use super::*;
-    use std::test::Fail;
-
-    #[test]
-    fn numbers(rt: HostRuntime) -> Result<(), Fail> {
-        let bytes = b"\x12\x34\x56\x78\x9a\xbc\xde\x01\x02\x03\x04\x05\x06\x07\x08";
-        let (a, reader) = ByteReader::new(bytes.as_slice()).read_u8()?;
-        let (b, reader) = reader.read_u16()?;
-        let (c, reader) = reader.read_u32()?;
-        assert!(rt; !reader.is_at_end());
-        let (d, reader) = reader.read_u64()?;
-        assert_eq!(rt; a, 0x12);
-        assert_eq!(rt; b, 0x3456);
-        assert_eq!(rt; c, 0x789a_bcde);
-        assert_eq!(rt; d, 0x0102_0304_0506_0708);
-        assert_eq!(rt; reader.at(), 15);
-        assert!(rt; reader.is_at_end());
-        Ok(())
-    }
-
-    #[test]
-    fn numbers_in_ranges(rt: HostRuntime) -> Result<(), Fail> {
-        let bytes = b"\x03\x00\x00\x00\x09\x00\x00\x00\x00\x00\x00\x00\x05";
-        let (how, reader) = ByteReader::new(bytes.as_slice()).read_u8_in(1, 3)?;
-        let (count, reader) = reader.read_u32_in(1, 9)?;
-        let (term, _) = reader.read_u64_in(5, 6)?;
-        assert_eq!(rt; how, 3);
-        assert_eq!(rt; count, 9);
-        assert_eq!(rt; term, 5);
-        let read = ByteReader::new(bytes.as_slice()).read_u8_in(0, 2);
-        assert_eq!(rt;
-            read.err(),
-            Some(ReadFault::new(ReadFaultKind::BadNumber, 0))
-        );
-        Ok(())
-    }
-
-    #[test]
-    fn dots_and_their_parts(rt: HostRuntime) -> Result<(), Fail> {
-        let bytes = b"\x02\x00\x00\x01\x02\x00\x00\x00\x00\x00\x00\x00\x05";
-        let (node, reader) = ByteReader::new(bytes.as_slice()).read_node(3)?;
-        let (inc, reader) = reader.read_incarnation()?;
-        let (n, _) = reader.read_counter()?;
-        assert_eq!(rt; node, NodeId(2));
-        assert_eq!(rt; inc, 258);
-        assert_eq!(rt; n, 5);
-        let (origin, _) = ByteReader::new(bytes.as_slice()).read_origin(3)?;
-        let (dot, _) = ByteReader::new(bytes.as_slice()).read_dot(3)?;
-        assert_eq!(rt; origin, Origin { node, inc });
-        assert_eq!(rt; dot, Dot { origin, n });
-        let (above, _) = ByteReader::new(bytes.as_slice()).read_origin_above(3, None)?;
-        assert_eq!(rt; above, origin);
-        let read = ByteReader::new(bytes.as_slice()).read_dot_above(3, Some(dot));
-        assert_eq!(rt;
-            read.err(),
-            Some(ReadFault::new(ReadFaultKind::BadOrder, 0))
-        );
-        Ok(())
-    }
-
-    #[test]
-    fn faults_of_a_dot(rt: HostRuntime) {
-        let bytes = b"\x02\x00\x00\x01\x02\x00\x00\x00\x00\x00\x00\x00";
-        let read = ByteReader::new(bytes.as_slice()).read_dot(3);
-        assert_eq!(rt; read.err(), Some(ReadFault::new(ReadFaultKind::Short, 5)));
-        let read = ByteReader::new(bytes.as_slice()).read_dot(2);
-        assert_eq!(rt; read.err(), Some(ReadFault::new(ReadFaultKind::BadName, 0)));
     }
 }

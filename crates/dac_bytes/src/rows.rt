@@ -1,21 +1,21 @@
-//! Contexts that are being read: first their rows, and then the set of the rows' dots.
-ghost use Rattle.std.specs.Prelude.{◌≡◌, ◌+◌, ◌++◌, ℕ, IfOk, List, Ok, OnOk, Some, length, map};
-ghost use Rattle.dac_dots.specs.Dots.{Dots, dot};
-ghost use Rattle.dac_bytes.specs.Reading.{Gives, context_at, dots_in, dots_in_row, further_at, items_at, one_to, row_at, rows_at};
+//! Contexts that are read, row by row.
+ghost use Rattle.std.specs.Prelude.{◌≡◌, ◌+◌, ◌++◌, ℕ, IfOk, List, Ok, None, Some, length};
+ghost use Rattle.dac_dots.specs.Dots.{Dots};
+ghost use Rattle.dac_dots.specs.Rows.{rows_of};
+ghost use Rattle.dac_bytes.specs.Reading.{Gives, IsOfBytes, context_at, further_at, items_at, row_at, rows_at};
 ghost use Rattle.dac_bytes.specs.Ranges.{IsContext};
-ghost use Rattle.dac_bytes.specs.RowViews.{Adds, row_view};
 ghost use Rattle.dac_bytes.specs.Spelling.{context_bytes};
 ghost use Rattle.dac_bytes.specs.Takes.{IsBytes, Takes};
 
 use crate::fault::{ReadFault, ReadFaultKind};
 use crate::reader::{ByteReader, MOST};
 use dac_base::NoMemory;
-use dac_dots::{Context, Dot, Origin};
+use dac_dots::{Context, Origin};
 use std::alloc::Global;
 
-/// The dots of one origin: the counters 1 to `upto`, and the further ones.
-#[derive(Debug, Drop)]
-struct OriginRow {
+/// The dots of one origin as they are read: the counters 1 to `upto`, and the further ones.
+#[derive(Drop)]
+struct ReadRow {
     origin: Origin,
     upto: u64,
     further: Vec<u64>,
@@ -24,7 +24,8 @@ struct OriginRow {
 /// A further counter, above the one before it.
 #[tactic(auto, unfolding(crate::specs::Reading::further_at))]
 fn read_further<'a>(reader: ByteReader<'a>, before: u64) -> Result<(u64, ByteReader<'a>), ReadFault>
-    ensures { result ≡ further_at before reader.entry }
+    ensures exact { result ≡ further_at before reader.entry }
+    ensures real { IsOfBytes result }
 {
     let at = reader.at();
     let (n, rest) = reader.read_counter()?;
@@ -62,15 +63,15 @@ fn read_row<'a>(
     alloc: Global,
     nodes: u8,
     before: Option<Origin>,
-) -> Result<(OriginRow, ByteReader<'a>), ReadFault>
-    ensures { Gives (λ x. (row_view x.0, x.1)) result (row_at nodes before reader.entry) }
+) -> Result<(ReadRow, ByteReader<'a>), ReadFault>
+    ensures { Gives (λ x. (record { origin = x.0.origin; upto = x.0.upto; further = x.0.further.items }, x.1)) result (row_at nodes before reader.entry) }
 {
     let (origin, rest) = reader.read_origin_above(nodes, before)?;
     let (upto, rest) = rest.read_u64_in(0, MOST)?;
     let least = if upto == 0 { 1 } else { 0 };
     let (count, rest) = rest.read_u32_in(least, u32::MAX)?;
     let (further, rest) = read_counters(rest, alloc, count, upto + 1)?;
-    let row = OriginRow {
+    let row = ReadRow {
         origin,
         upto,
         further,
@@ -78,25 +79,25 @@ fn read_row<'a>(
     Ok((row, rest))
 }
 
-/// So many rows, their origins in rising order.
+/// So many rows, their origins in rising order: the set that has them.
 fn read_counted_rows<'a>(
     reader: ByteReader<'a>,
     alloc: Global,
     nodes: u8,
     count: u16,
-) -> Result<(Vec<OriginRow>, ByteReader<'a>), ReadFault>
-    ensures { Gives (λ x. (map row_view x.0.items, x.1)) result (items_at (row_at nodes) (λ row. Some row.origin) count None reader.entry) }
+) -> Result<(Context, ByteReader<'a>), ReadFault>
+    ensures { Gives (λ x. (rows_of x.0, x.1)) result (items_at (row_at nodes) (λ row. Some row.origin) count None reader.entry) }
 {
-    let mut rows = Vec::new(alloc);
+    let mut context = Context::empty(alloc);
     let mut before = None;
     let mut rest = reader;
     for _ in 0..count {
         let (row, after) = read_row(rest, alloc, nodes, before)?;
         before = Some(row.origin);
-        rows.push(row)?;
+        let _pushed = context.push_row(row.origin, row.upto, &row.further)?;
         rest = after;
     }
-    Ok((rows, rest))
+    Ok((context, rest))
 }
 
 /// The rows of a context.
@@ -105,57 +106,15 @@ fn read_rows<'a>(
     reader: ByteReader<'a>,
     alloc: Global,
     nodes: u8,
-) -> Result<(Vec<OriginRow>, ByteReader<'a>), ReadFault>
-    ensures { Gives (λ x. (map row_view x.0.items, x.1)) result (rows_at nodes reader.entry) }
+) -> Result<(Context, ByteReader<'a>), ReadFault>
+    ensures { Gives (λ x. (rows_of x.0, x.1)) result (rows_at nodes reader.entry) }
 {
     let (count, rest) = reader.read_u16()?;
     let rows = read_counted_rows(rest, alloc, nodes, count)?;
     Ok(rows)
 }
 
-/// Puts the dots 1 to `upto` of an origin into a context.
-fn insert_upto(context: &mut Context, origin: Origin, upto: u64) -> Result<(), NoMemory>
-    ensures { OnOk result (Adds context.old (map (dot origin) (one_to upto)) context.new) }
-{
-    for below in 0..upto {
-        let n = below + 1;
-        context.insert(Dot { origin, n })?;
-    }
-    Ok(())
-}
-
-/// Puts the dots of an origin with these counters into a context.
-fn insert_counters(context: &mut Context, origin: Origin, counters: &[u64]) -> Result<(), NoMemory>
-    ensures { OnOk result (Adds context.old (map (dot origin) counters.now) context.new) }
-{
-    for n in counters {
-        context.insert(Dot { origin, n: *n })?;
-    }
-    Ok(())
-}
-
-/// Puts the dots of a row into a context.
-fn insert_row(context: &mut Context, row: &OriginRow) -> Result<(), NoMemory>
-    ensures { OnOk result (Adds context.old (dots_in_row (row_view row.now)) context.new) }
-{
-    insert_upto(context, row.origin, row.upto)?;
-    insert_counters(context, row.origin, &row.further)?;
-    Ok(())
-}
-
-/// The set of the dots of these rows.
-fn context_of_rows(alloc: Global, rows: &[OriginRow]) -> Result<Context, NoMemory>
-    ensures { IfOk result (λ context. context ≡ dots_in (map row_view rows.now)) }
-{
-    let mut context = Context::empty(alloc);
-    for row in rows {
-        insert_row(&mut context, row)?;
-    }
-    Ok(context)
-}
-
 /// The set of the dots of the rows that are read.
-#[tactic(auto, unfolding(crate::specs::Reading::context_at))]
 fn read_set<'a>(
     reader: ByteReader<'a>,
     alloc: Global,
@@ -163,9 +122,7 @@ fn read_set<'a>(
 ) -> Result<(Context, ByteReader<'a>), ReadFault>
     ensures { Gives (λ x. x) result (context_at nodes reader.entry) }
 {
-    let (rows, rest) = read_rows(reader, alloc, nodes)?;
-    let context = context_of_rows(alloc, &rows)?;
-    Ok((context, rest))
+    read_rows(reader, alloc, nodes)
 }
 
 impl<'a> ByteReader<'a> {
@@ -174,9 +131,7 @@ impl<'a> ByteReader<'a> {
     /// a further counter that isn't above the one before it, or continues those without a gap. An origin
     /// without dots is `BadNumber` at its number of further counters.
     ///
-    /// Memory is taken for what was read and for the dots, and nothing is reserved for a count. A context
-    /// of few bytes can still want more memory than there is, as its counters without a gap are but one
-    /// number.
+    /// Memory is taken for what was read, and nothing is reserved for a count.
     pub fn read_context(
         self,
         alloc: Global,
@@ -191,70 +146,5 @@ impl<'a> ByteReader<'a> {
             → Gives (λ x. x) result (Ok (dots, record { at = self.entry.at + length (context_bytes dots); bytes = rest })) }
     {
         read_set(self, alloc, nodes)
-    }
-}
-
-#[cfg(test)]
-mod tests {
-    use super::*;
-    use dac_base::NodeId;
-    use std::test::Fail;
-
-    fn dot(node: u8, inc: u32, n: u64) -> Dot {
-        Dot {
-            origin: Origin {
-                node: NodeId(node),
-                inc,
-            },
-            n,
-        }
-    }
-
-    #[test]
-    fn gaps_of_two_origins(rt: HostRuntime) -> Result<(), Fail> {
-        let bytes = b"\x00\x02\
-            \x00\x00\x00\x00\x01\x00\x00\x00\x00\x00\x00\x00\x02\x00\x00\x00\x02\
-            \x00\x00\x00\x00\x00\x00\x00\x04\x00\x00\x00\x00\x00\x00\x00\x07\
-            \x02\x00\x00\x01\x02\x00\x00\x00\x00\x00\x00\x00\x00\x00\x00\x00\x01\
-            \x00\x00\x00\x00\x00\x00\x00\x05\xff";
-        let (context, rest) = ByteReader::new(bytes.as_slice()).read_context(rt.alloc(), 3)?;
-        let expected = [
-            dot(0, 1, 1),
-            dot(0, 1, 2),
-            dot(0, 1, 4),
-            dot(0, 1, 7),
-            dot(2, 258, 5),
-        ];
-        assert_eq!(rt; context.dots()?.as_slice(), expected.as_slice());
-        assert_eq!(rt; rest.at(), 60);
-        Ok(())
-    }
-
-    #[test]
-    fn count_of_much_more_than_there_is(rt: HostRuntime) {
-        let bytes = b"\x00\x01\x01\x00\x00\x00\x01\x00\x00\x00\x00\x00\x00\x00\x00\xff\xff\xff\xff";
-        let read = ByteReader::new(bytes.as_slice()).read_context(rt.alloc(), 3);
-        assert_eq!(rt; read.err(), Some(ReadFault::new(ReadFaultKind::Short, 19)));
-    }
-
-    #[test]
-    fn counter_that_continues(rt: HostRuntime) {
-        let bytes = b"\x00\x01\x01\x00\x00\x00\x01\x00\x00\x00\x00\x00\x00\x00\x01\x00\x00\x00\x01\
-            \x00\x00\x00\x00\x00\x00\x00\x02";
-        let read = ByteReader::new(bytes.as_slice()).read_context(rt.alloc(), 3);
-        assert_eq!(rt;
-            read.err(),
-            Some(ReadFault::new(ReadFaultKind::BadOrder, 19))
-        );
-    }
-
-    #[test]
-    fn origin_without_dots(rt: HostRuntime) {
-        let bytes = b"\x00\x01\x01\x00\x00\x00\x01\x00\x00\x00\x00\x00\x00\x00\x00\x00\x00\x00\x00";
-        let read = ByteReader::new(bytes.as_slice()).read_context(rt.alloc(), 3);
-        assert_eq!(rt;
-            read.err(),
-            Some(ReadFault::new(ReadFaultKind::BadNumber, 15))
-        );
     }
 }

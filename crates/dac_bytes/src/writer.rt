@@ -1,7 +1,7 @@
 //! Bytes that are being written: numbers, origins and dots.
 ghost use Rattle.std.specs.Prelude.{◌≡◌, [], ◌∷◌, ◌++◌, IfOk};
 ghost use Rattle.dac_bytes.specs.Numbers.{u8_bytes, u16_bytes, u32_bytes, u64_bytes};
-ghost use Rattle.dac_bytes.specs.Spelling.{dot_bytes, origin_bytes};
+ghost use Rattle.dac_bytes.specs.Spelling.{dot_bytes, incarnation_bytes, origin_bytes};
 
 use dac_base::NoMemory;
 use dac_dots::{Dot, Origin};
@@ -113,12 +113,21 @@ impl ByteWriter {
         Ok(written)
     }
 
+    /// An incarnation in four bytes.
+    #[tactic(auto, unfolding(crate::specs::Spelling::incarnation_bytes))]
+    pub fn write_incarnation(self, inc: u32) -> Result<Self, NoMemory>
+        ensures { IfOk result (λ written. written ≡ self ++ incarnation_bytes inc) }
+    {
+        let written = self.write_u32(inc)?;
+        Ok(written)
+    }
+
     /// Who issued an operation: the node in one byte and its incarnation in four.
     #[tactic(auto, unfolding(crate::specs::Spelling::origin_bytes))]
     pub fn write_origin(self, origin: Origin) -> Result<Self, NoMemory>
         ensures { IfOk result (λ written. written ≡ self ++ origin_bytes origin) }
     {
-        let written = self.write_u8(origin.node.0)?.write_u32(origin.inc)?;
+        let written = self.write_u8(origin.node.0)?.write_incarnation(origin.inc)?;
         Ok(written)
     }
 
@@ -129,54 +138,5 @@ impl ByteWriter {
     {
         let written = self.write_origin(dot.origin)?.write_u64(dot.n)?;
         Ok(written)
-    }
-}
-
-#[cfg(test)]
-mod tests {
-    use super::*;
-    use dac_base::NodeId;
-    use std::test::Fail;
-
-    #[test]
-    fn numbers(rt: HostRuntime) -> Result<(), Fail> {
-        let writer = ByteWriter::new(rt.alloc())
-            .write_u8(0x12)?
-            .write_u16(0x3456)?
-            .write_u32(0x789a_bcde)?
-            .write_u64(0x0102_0304_0506_0708)?;
-        let expected = b"\x12\x34\x56\x78\x9a\xbc\xde\x01\x02\x03\x04\x05\x06\x07\x08";
-        let bytes = writer.into_bytes();
-        assert_eq!(rt; bytes.as_slice(), expected.as_slice());
-        Ok(())
-    }
-
-    #[test]
-    fn counts_are_written_by_their_lowest_bits(rt: HostRuntime) -> Result<(), Fail> {
-        let writer = ByteWriter::new(rt.alloc())
-            .write_count_u8(0x1_02)?
-            .write_count_u16(0x1_0203)?
-            .write_count_u32(0x1_0203_0405)?;
-        let bytes = writer.into_bytes();
-        assert_eq!(rt;
-            bytes.as_slice(),
-            b"\x02\x02\x03\x02\x03\x04\x05".as_slice()
-        );
-        Ok(())
-    }
-
-    #[test]
-    fn origin_and_dot(rt: HostRuntime) -> Result<(), Fail> {
-        let origin = Origin {
-            node: NodeId(2),
-            inc: 1,
-        };
-        let writer = ByteWriter::new(rt.alloc())
-            .write_origin(origin)?
-            .write_dot(Dot { origin, n: 258 })?;
-        let bytes = writer.into_bytes();
-        let expected = b"\x02\x00\x00\x00\x01\x02\x00\x00\x00\x01\x00\x00\x00\x00\x00\x00\x01\x02";
-        assert_eq!(rt; bytes.as_slice(), expected.as_slice());
-        Ok(())
     }
 }

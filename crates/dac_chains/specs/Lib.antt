@@ -3,3 +3,4 @@ pub mod Kept
 pub mod Lives
 pub mod Claims
 pub mod Hows
+pub mod laws

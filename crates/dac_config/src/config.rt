@@ -1,5 +1,5 @@
 //! The tables of a configuration and its readers.
-ghost use Rattle.std.specs.Prelude.{◌≡◌, ◌<◌, ◌≤◌, ◌==◌, length, position, IfOk, IfSome};
+ghost use Rattle.std.specs.Prelude.{◌≡◌, ◌<◌, ◌≤◌, ◌==◌, length, position, All, IfOk, IfSome};
 ghost use Rattle.std.specs.Str.{bytes_eq};
 ghost use Rattle.std.specs.List.{list_any};
 ghost use Rattle.dac_config.specs.Table.{node_count, app_count, group_among};
@@ -86,6 +86,9 @@ impl Config {
     pub fn apps(&self) -> u16
         ensures count { result ≡ app_count self.now }
         ensures few { result ≤ 64 }
+        // Each has few groups, and they are of nodes that there are.
+        ensures groups { All (λ app. length app.groups ≤ 16) self.now.apps }
+        ensures members { All (λ app. All (λ group. All (λ node. node < node_count self.now) group) app.groups) self.now.apps }
     {
         self.apps.len() as u16
     }

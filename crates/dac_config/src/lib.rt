@@ -18,6 +18,3 @@ pub use dac_shapes::SyncWait;
 pub use dac_tokens::{ConfigFault, FaultKind};
 pub use naming::{is_bare, printed_name};
 pub use read::read_config;
-
-#[cfg(test)]
-mod tests;

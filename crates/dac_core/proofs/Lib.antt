@@ -1,13 +1,1 @@
 pub mod Lists
-pub mod Nodes
-pub mod Follow
-pub mod Runs
-pub mod Operations
-pub mod Meanings
-pub mod Counters
-pub mod Permits
-pub mod Issues
-pub mod Hearing
-pub mod Sound
-pub mod News
-pub mod Headline

@@ -10,19 +10,11 @@
 //! equal states.
 #![tactic(auto)]
 
+pub use dac_commands::Refusal;
 pub use dac_events::{Command, What, WorldEvent};
-pub use event::{Event, Message, Reply};
-pub use fault::WorldFault;
-pub use node::Node;
-pub use refusal::Refusal;
+pub use dac_messages::{Event, Message, Reply};
+pub use dac_node::Node;
+pub use dac_worlds::WorldFault;
 pub use world::World;
 
-mod change;
-mod event;
-mod fault;
-mod node;
-#[cfg(test)]
-mod node_tests;
-mod refusal;
-mod running;
 mod world;

@@ -1,18 +1,17 @@
 //! All controllers of a configuration, with what they issued and shipped.
 
-ghost use Rattle.std.specs.Prelude.{◌≡◌, ◌<◌, ◌++◌, IfOk, OnOk, length, vec_len, vec_capacity};
-ghost use Rattle.dac_core.specs.ModelWorld.{issued_by, shipped_by};
-ghost use Rattle.dac_core.specs.WorldChanges.{NodeChanges};
+ghost use Rattle.std.specs.Prelude.{◌≡◌, ◌<◌, ◌++◌, ◌↔◌, IsTrue, IfOk, OnOk, length, vec_len, vec_capacity};
+ghost use Rattle.dac_worlds.specs.ModelWorld.{issued_by, shipped_by};
+ghost use Rattle.dac_worlds.specs.WorldChanges.{NodeChanges};
 
-use crate::change::Change;
-use crate::event::{Event, Message, Reply};
-use crate::fault::WorldFault;
-use crate::node::Node;
-use crate::refusal::Refusal;
 use dac_base::{NoMemory, NodeId};
+use dac_commands::Refusal;
 use dac_config::Config;
 use dac_events::{What, WorldEvent};
+use dac_messages::{Event, Message, Reply};
+use dac_node::{Change, Node};
 use dac_state::Op;
+use dac_worlds::{WorldFault, laws};
 use std::alloc::Global;
 use std::marker::Model;
 
@@ -26,13 +25,13 @@ pub struct World {
 }
 
 impl Model for World {
-    ghost use Rattle.dac_core.specs.WorldValue.{WorldValue};
+    ghost use Rattle.dac_worlds.specs.WorldValue.{WorldValue};
 
     ghost Value = { WorldValue };
 
     ghost use Rattle.dac_operations.specs.contracts.op.Op as operation;
-    ghost use Rattle.dac_core.specs.contracts.event.Message as message;
-    ghost use Rattle.dac_core.specs.WorldValue.{coded_world};
+    ghost use Rattle.dac_messages.specs.contracts.message.Message as message;
+    ghost use Rattle.dac_worlds.specs.WorldValue.{coded_world};
 
     ghost coded = { coded_world operation.the_row.coded message.the_row.coded };
 
@@ -42,11 +41,11 @@ impl Model for World {
 impl World {
     ghost use Rattle.std.specs.Prelude.{◌≡◌, ◌<◌, IfOk, IfErr, OnErr, Some, Ok, length, slice_get};
     ghost use Rattle.dac_config.specs.Table.{node_count};
-    ghost use Rattle.dac_core.specs.ModelWorld.{Shows, start, Follows, RanAs, happens, happens_by, heard_by, handed_by, counted, out_of_memory};
-    ghost use Rattle.dac_core.specs.SetWorld.{set_run, no_sets};
-    ghost use Rattle.dac_core.specs.Convergence.{EachIsMeaning, Agrees, DistinctDots, HoldsSets, CarryMeanings};
-    ghost use Rattle.dac_core.specs.News.{AnswersNews};
-    ghost use Rattle.dac_core.specs.WorldChanges.{Goes};
+    ghost use Rattle.dac_worlds.specs.ModelWorld.{Shows, start, Follows, RanAs, happens, happens_by, heard_by, handed_by, counted, out_of_memory};
+    ghost use Rattle.dac_worlds.specs.SetWorld.{set_run, no_sets};
+    ghost use Rattle.dac_worlds.specs.Convergence.{EachIsMeaning, Agrees, DistinctDots, HoldsSets, CarryMeanings};
+    ghost use Rattle.dac_worlds.specs.News.{AnswersNews};
+    ghost use Rattle.dac_worlds.specs.WorldChanges.{Goes};
 
     /// All controllers of the configuration, off and never booted.
     pub fn new(alloc: Global, config: &Config) -> Result<Self, NoMemory>
@@ -94,6 +93,8 @@ impl World {
             let answer = world.step(config, event);
             let _ = answers.push(answer);
         }
+        // What holds of every run holds of this one.
+        laws::runs_converge();
         Ok((world, answers))
     }
 
@@ -195,10 +196,10 @@ impl World {
         ensures crash { IfErr result (λ _. change.reply ≡ Reply.Crashed → ⊥) }
         ensures unchanged { OnErr result (self.new ≡ self.old) }
     {
-        if change.is_crash() {
+        if is_crash(&change) {
             return Ok(change_node(&mut self.nodes, node, change));
         }
-        match make_room(&mut self.operations, &mut self.messages, &change.reply) {
+        match make_room(&mut self.operations, &mut self.messages, change.reply()) {
             Ok(noted) => {
                 let reply = change_node(&mut self.nodes, node, change);
                 note(&mut self.operations, &mut self.messages, noted);
@@ -207,6 +208,13 @@ impl World {
             Err(NoMemory) => Err(WorldFault::Refused(Refusal::NoMemory)),
         }
     }
+}
+
+/// Whether a node goes down.
+fn is_crash(change: &Change) -> bool
+    ensures { IsTrue result ↔ (change.now.reply ≡ Reply.Crashed) }
+{
+    matches!(change.reply(), Reply::Crashed)
 }
 
 /// Does what a node prepared.
@@ -254,327 +262,5 @@ fn note(operations: &mut Vec<Op>, messages: &mut Vec<Message>, reply: Reply)
             let _ = messages.push(message);
         }
         Reply::Crashed | Reply::Heard(_) => {}
-    }
-}
-
-#[cfg(test)]
-mod tests {
-    use super::*;
-    use dac_base::AppId;
-    use dac_config::read_config;
-    use dac_events::Command;
-    use dac_lattice::Lattice;
-    use dac_state::Key;
-    use std::process::Abort;
-    use std::test::Fail;
-
-    /// The example of OTP's manual on distributed applications.
-    const EXAMPLE: &[u8] =
-        b"[{kernel,[{distributed,[{myapp,5000,[cp1@cave,{cp2@cave,cp3@cave}]}]},{sync_nodes_mandatory,[cp2@cave,cp3@cave]},{sync_nodes_timeout,5000}]}].";
-
-    /// Two applications, the second at the second node alone.
-    const TWO: &[u8] = b"[{kernel,[{distributed,[{a,5000,[c1@h,{c2@h,c3@h}]},{b,[c2@h]}]}]}].";
-
-    const FIRST: NodeId = NodeId(0);
-
-    const SECOND: NodeId = NodeId(1);
-
-    const THIRD: NodeId = NodeId(2);
-
-    const UNKNOWN: NodeId = NodeId(3);
-
-    fn boot(node: NodeId) -> WorldEvent {
-        WorldEvent {
-            node,
-            what: What::Boot { now: 0 },
-        }
-    }
-
-    fn ship(node: NodeId, to: NodeId) -> WorldEvent {
-        WorldEvent {
-            node,
-            what: What::Ship { to },
-        }
-    }
-
-    fn deliver(node: NodeId, number: u64) -> WorldEvent {
-        WorldEvent {
-            node,
-            what: What::Deliver(number),
-        }
-    }
-
-    fn crash(node: NodeId) -> WorldEvent {
-        WorldEvent {
-            node,
-            what: What::Crash,
-        }
-    }
-
-    fn hand(node: NodeId, number: u64) -> WorldEvent {
-        WorldEvent {
-            node,
-            what: What::Hand(number),
-        }
-    }
-
-    fn down(node: NodeId, about: NodeId) -> WorldEvent {
-        WorldEvent {
-            node,
-            what: What::Command(Command::Down { node: about }),
-        }
-    }
-
-    /// Says of the first application whether it may run at the first node.
-    fn permit(node: NodeId, value: bool) -> WorldEvent {
-        let app = AppId(0);
-        let what = What::Command(Command::Permit {
-            app,
-            node: FIRST,
-            value,
-        });
-        WorldEvent { node, what }
-    }
-
-    fn start(node: NodeId, app: u16, about: NodeId) -> WorldEvent {
-        let app = AppId(app);
-        WorldEvent {
-            node,
-            what: What::Command(Command::Start { app, node: about }),
-        }
-    }
-
-    fn stop(node: NodeId, app: u16, about: NodeId) -> WorldEvent {
-        let app = AppId(app);
-        WorldEvent {
-            node,
-            what: What::Command(Command::Stop { app, node: about }),
-        }
-    }
-
-    /// An answer as a word and a number: a counter, an addressee or a refusal.
-    fn told(answer: &Result<Reply, WorldFault>) -> (&'static str, u64) {
-        match answer {
-            Ok(Reply::Booted(operation)) => ("booted", operation.dot().n),
-            Ok(Reply::Crashed) => ("crashed", 0),
-            Ok(Reply::Issued(operation)) => ("issued", operation.dot().n),
-            Ok(Reply::Shipped(message)) => ("shipped to", message.to.0 as u64),
-            Ok(Reply::Heard(true)) => ("heard new", 0),
-            Ok(Reply::Heard(false)) => ("heard nothing new", 0),
-            Err(WorldFault::NoSuchNode) => ("no such node", 0),
-            Err(WorldFault::NoSuchMessage) => ("no such message", 0),
-            Err(WorldFault::NoSuchOperation) => ("no such operation", 0),
-            Err(WorldFault::Refused(why)) => ("refused", why.number() as u64),
-        }
-    }
-
-    /// The world after these events, each of which is answered as wanted.
-    fn played<R: Abort>(
-        rt: &R,
-        alloc: Global,
-        text: &[u8],
-        events: &[(WorldEvent, (&'static str, u64))],
-    ) -> Result<World, Fail> {
-        let config = read_config(alloc, text)?;
-        let mut world = World::new(alloc, &config)?;
-        for (event, want) in events {
-            let answer = world.step(&config, event);
-            assert_eq!(rt; told(&answer), *want, "at {event:?}");
-        }
-        Ok(world)
-    }
-
-    /// Whether the first two nodes run and hold equal states.
-    fn are_same(world: &World) -> bool {
-        if world.nodes.len() < 2 {
-            return false;
-        }
-        match (world.nodes[0].state(), world.nodes[1].state()) {
-            (Some(mine), Some(theirs)) => mine.equal(theirs),
-            _ => false,
-        }
-    }
-
-    /// How many permits of the first application stand at the first node, by what it knows, and whether it is
-    /// permitted there.
-    fn permits_at_first(world: &World) -> Option<(usize, bool)> {
-        let key = Key {
-            app: AppId(0),
-            node: FIRST,
-            inc: 1,
-        };
-        let permissions = world.nodes.first()?.state()?.permissions();
-        Some((
-            permissions.dots(key).len(),
-            permissions.permitted(key, true),
-        ))
-    }
-
-    #[test]
-    fn first_path(rt: HostRuntime) -> Result<(), Fail> {
-        let events = [
-            (boot(FIRST), ("booted", 1)),
-            (boot(SECOND), ("booted", 1)),
-            (start(FIRST, 0, FIRST), ("issued", 2)),
-            (ship(FIRST, SECOND), ("shipped to", 1)),
-            (deliver(SECOND, 1), ("heard new", 0)),
-            (ship(SECOND, FIRST), ("shipped to", 0)),
-            (deliver(FIRST, 2), ("heard new", 0)),
-        ];
-        let world = played(&rt, rt.alloc(), EXAMPLE, &events)?;
-        assert!(rt; are_same(&world));
-        assert_eq!(rt; world.operations().len(), 3);
-        assert_eq!(rt; world.messages().len(), 2);
-        Ok(())
-    }
-
-    #[test]
-    fn a_stop_makes_states_differ(rt: HostRuntime) -> Result<(), Fail> {
-        let events = [
-            (boot(FIRST), ("booted", 1)),
-            (boot(SECOND), ("booted", 1)),
-            (start(FIRST, 0, FIRST), ("issued", 2)),
-            (ship(FIRST, SECOND), ("shipped to", 1)),
-            (deliver(SECOND, 1), ("heard new", 0)),
-            (stop(SECOND, 0, FIRST), ("issued", 2)),
-        ];
-        let world = played(&rt, rt.alloc(), EXAMPLE, &events)?;
-        assert!(rt; !are_same(&world));
-        Ok(())
-    }
-
-    #[test]
-    fn late_and_repeated_messages(rt: HostRuntime) -> Result<(), Fail> {
-        let events = [
-            (boot(FIRST), ("booted", 1)),
-            (ship(FIRST, SECOND), ("shipped to", 1)),
-            (deliver(SECOND, 1), ("refused", 1)),
-            (boot(SECOND), ("booted", 1)),
-            (deliver(SECOND, 1), ("heard new", 0)),
-            (deliver(SECOND, 1), ("heard nothing new", 0)),
-            (deliver(SECOND, 2), ("no such message", 0)),
-            (deliver(SECOND, 0), ("no such message", 0)),
-            (deliver(FIRST, 1), ("refused", 6)),
-            (boot(UNKNOWN), ("no such node", 0)),
-        ];
-        let _ = played(&rt, rt.alloc(), EXAMPLE, &events)?;
-        Ok(())
-    }
-
-    #[test]
-    fn refusals_in_order(rt: HostRuntime) -> Result<(), Fail> {
-        let events = [
-            (start(FIRST, 2, UNKNOWN), ("refused", 1)),
-            (boot(FIRST), ("booted", 1)),
-            (boot(FIRST), ("refused", 2)),
-            (start(FIRST, 2, UNKNOWN), ("refused", 4)),
-            (start(FIRST, 1, UNKNOWN), ("refused", 5)),
-            (start(FIRST, 1, FIRST), ("refused", 7)),
-            (start(FIRST, 1, SECOND), ("refused", 9)),
-            (stop(FIRST, 0, FIRST), ("refused", 10)),
-            (ship(FIRST, UNKNOWN), ("refused", 5)),
-            (ship(FIRST, FIRST), ("refused", 6)),
-            (ship(FIRST, SECOND), ("shipped to", 1)),
-            (boot(THIRD), ("booted", 1)),
-            (deliver(THIRD, 1), ("refused", 15)),
-        ];
-        let _ = played(&rt, rt.alloc(), TWO, &events)?;
-        Ok(())
-    }
-
-    #[test]
-    fn downs_refused_in_order(rt: HostRuntime) -> Result<(), Fail> {
-        let events = [
-            (down(FIRST, UNKNOWN), ("refused", 1)),
-            (crash(FIRST), ("refused", 1)),
-            (hand(FIRST, 1), ("no such operation", 0)),
-            (boot(FIRST), ("booted", 1)),
-            (down(FIRST, UNKNOWN), ("refused", 5)),
-            (down(FIRST, FIRST), ("refused", 6)),
-            (down(FIRST, SECOND), ("refused", 9)),
-        ];
-        let _ = played(&rt, rt.alloc(), TWO, &events)?;
-        Ok(())
-    }
-
-    #[test]
-    fn declared_down_until_it_boots(rt: HostRuntime) -> Result<(), Fail> {
-        let events = [
-            (boot(FIRST), ("booted", 1)),
-            (boot(SECOND), ("booted", 1)),
-            (hand(SECOND, 1), ("heard new", 0)),
-            (down(SECOND, FIRST), ("issued", 2)),
-            (hand(FIRST, 3), ("heard new", 0)),
-            (start(FIRST, 9, UNKNOWN), ("refused", 3)),
-            (crash(FIRST), ("crashed", 0)),
-            (boot(FIRST), ("booted", 1)),
-            (start(FIRST, 0, FIRST), ("issued", 2)),
-        ];
-        let _ = played(&rt, rt.alloc(), TWO, &events)?;
-        Ok(())
-    }
-
-    #[test]
-    fn permits_of_one_key(rt: HostRuntime) -> Result<(), Fail> {
-        let events = [
-            (boot(FIRST), ("booted", 1)),
-            (boot(SECOND), ("booted", 1)),
-            (hand(SECOND, 1), ("heard new", 0)),
-            (permit(FIRST, false), ("issued", 2)),
-            (permit(SECOND, true), ("issued", 2)),
-            (ship(FIRST, SECOND), ("shipped to", 1)),
-            (ship(SECOND, FIRST), ("shipped to", 0)),
-            (deliver(SECOND, 1), ("heard new", 0)),
-            (deliver(FIRST, 2), ("heard new", 0)),
-        ];
-        let world = played(&rt, rt.alloc(), EXAMPLE, &events)?;
-        assert!(rt; are_same(&world));
-        assert_eq!(rt; permits_at_first(&world), Some((2, false)));
-        Ok(())
-    }
-
-    #[test]
-    fn a_permit_replaces_all_that_stand(rt: HostRuntime) -> Result<(), Fail> {
-        let events = [
-            (boot(FIRST), ("booted", 1)),
-            (boot(SECOND), ("booted", 1)),
-            (hand(SECOND, 1), ("heard new", 0)),
-            (permit(SECOND, false), ("issued", 2)),
-            (permit(FIRST, false), ("issued", 2)),
-            (hand(FIRST, 3), ("heard new", 0)),
-            (permit(FIRST, true), ("issued", 3)),
-        ];
-        let world = played(&rt, rt.alloc(), EXAMPLE, &events)?;
-        assert_eq!(rt; permits_at_first(&world), Some((1, true)));
-        Ok(())
-    }
-
-    #[test]
-    fn handed_out_of_order(rt: HostRuntime) -> Result<(), Fail> {
-        let events = [
-            (boot(FIRST), ("booted", 1)),
-            (start(FIRST, 0, FIRST), ("issued", 2)),
-            (start(FIRST, 0, FIRST), ("issued", 3)),
-            (boot(SECOND), ("booted", 1)),
-            (hand(SECOND, 3), ("heard new", 0)),
-            (hand(SECOND, 2), ("heard new", 0)),
-            (hand(SECOND, 2), ("heard nothing new", 0)),
-            (hand(SECOND, 1), ("heard new", 0)),
-            (ship(SECOND, FIRST), ("shipped to", 0)),
-            (deliver(FIRST, 1), ("heard new", 0)),
-        ];
-        let world = played(&rt, rt.alloc(), EXAMPLE, &events)?;
-        assert!(rt; are_same(&world));
-        Ok(())
-    }
-
-    #[test]
-    fn a_run_answers_each_event(rt: HostRuntime) -> Result<(), Fail> {
-        let config = read_config(rt.alloc(), TWO)?;
-        let events = [boot(FIRST), ship(FIRST, SECOND)];
-        let (world, answers) = World::run(rt.alloc(), &config, &events)?;
-        assert_eq!(rt; world.messages().len(), 1);
-        assert_eq!(rt; answers.len(), 2);
-        Ok(())
     }
 }

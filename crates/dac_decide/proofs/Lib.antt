@@ -1,4 +1,2 @@
-mod Counting
-mod Least
-mod FirstChoice
-mod Judged
+mod AllUp
+mod Places

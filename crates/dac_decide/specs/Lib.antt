@@ -1,2 +1,4 @@
-pub mod Placement
-pub mod Ranks
+pub mod FailoverWait
+pub mod StartGate
+pub mod InWords
+pub mod laws

@@ -1,26 +1,21 @@
-//! Where each application belongs: pure functions of a configuration and a state, which take no memory.
+//! Where each application belongs and when a controller acts on it: placement, how long a failover waits, and
+//! when a starting node goes on.
 //!
-//! A node is eligible for an application where its list names the node, and the node is live at an incarnation
-//! at which the application is permitted and started. The greatest claim says who holds an application; it
-//! runs where its holder is live and eligible. The verdict compares who holds it with who is its first choice:
-//! it is to be started, to fail over, to be moved or to be taken over there, or it is left where it is. So
-//! controllers that heard the same operations give the same verdicts.
+//! [`eligible`], [`load`] and [`verdict`] say where an application belongs; they stand in `dac_placement`.
 //!
-//! Every answer holds for any state, also one that no operation made. A verdict goes through all nodes and, for
-//! each, through all applications; both are few.
+//! Each controller counts from its own ticks. [`Waits`] keeps, for each application, which lost claim the last
+//! tick found and since when the ticks before it had found the same one; [`Waits::due`] tells from it whether
+//! the application's verdict is to be carried out now. [`gate`] tells whether a node that was booted still waits
+//! for its mandatory and optional nodes, goes on, or gives up.
+//!
+//! No call but [`Waits::new`] and [`Waits::copy`] takes memory. Waits differ between controllers that heard the
+//! same: they are of the moments at which each of them ticked.
 #![tactic(auto)]
 
-mod deciding;
-mod eligibility;
-mod ranking;
-mod running;
-mod standing;
-mod verdicts;
+pub mod laws;
+mod start_gate;
+mod waits;
 
-pub use deciding::verdict;
-pub use eligibility::eligible;
-pub use running::load;
-pub use verdicts::Verdict;
-
-#[cfg(test)]
-mod tests;
+pub use dac_placement::{Verdict, eligible, load, verdict};
+pub use start_gate::{Opening, gate};
+pub use waits::Waits;

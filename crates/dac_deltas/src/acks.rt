@@ -70,33 +70,3 @@ impl Acks {
         })
     }
 }
-
-#[cfg(test)]
-mod tests {
-    use super::*;
-    use dac_base::NodeId;
-    use std::test::Fail;
-
-    /// An incarnation of the first node.
-    fn origin(inc: u32) -> Origin {
-        Origin {
-            node: NodeId(0),
-            inc,
-        }
-    }
-
-    #[test]
-    fn greatest_stays(rt: HostRuntime) -> Result<(), Fail> {
-        let mut acks = Acks::new(rt.alloc());
-        assert_eq!(rt; acks.get(origin(1)), None);
-        acks.raise(origin(1), 3)?;
-        acks.raise(origin(1), 2)?;
-        assert_eq!(rt; acks.get(origin(1)), Some(3));
-        acks.raise(origin(2), 1)?;
-        acks.raise(origin(1), 4)?;
-        let copied = acks.copy()?;
-        assert_eq!(rt; copied.get(origin(1)), Some(4));
-        assert_eq!(rt; copied.get(origin(2)), Some(1));
-        Ok(())
-    }
-}

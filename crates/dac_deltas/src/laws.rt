@@ -25,17 +25,3 @@ pub fn acks_are_greatest()
     ensures new { NothingIsGreatest }
     ensures raise { RaisesAcknowledge }
 {}
-
-#[cfg(test)]
-mod tests {
-    use super::*;
-    use dac_lattice::Max;
-    use std::test::Fail;
-
-    #[test]
-    fn laws_hold(_rt: HostRuntime) -> Result<(), Fail> {
-        buffers_keep_logs::<Max<u64>>();
-        acks_are_greatest();
-        Ok(())
-    }
-}

@@ -20,18 +20,18 @@ or_same true b h = h refl
 or_same false b h = refl
 
 module _ {K : Type 0} {R : K → K → Ordering} (o : IsTotalOrder R) where
-  greater : (x y : K) → R x y ≡ Less → R y x ≡ Greater
+  pub greater : (x y : K) → R x y ≡ Less → R y x ≡ Greater
   greater x y p = o.antisymm y x ∙ ap ordering_reverse p
 
   smaller : (x y : K) → R x y ≡ Greater → R y x ≡ Less
   smaller x y p = o.antisymm y x ∙ ap ordering_reverse p
 
-  below_at : (x : K) (ks : List K) (i : ℕ) (d : K) → is_below_all R x ks ≡ true → i < length ks → R x (get_or ks i d) ≡ Less
+  pub below_at : (x : K) (ks : List K) (i : ℕ) (d : K) → is_below_all R x ks ≡ true → i < length ks → R x (get_or ks i d) ≡ Less
   below_at x [] i d h p = absurd (omega arith)
   below_at x (k ∷ ks) zero d h p = less _ (and_parts _ _ h).0
   below_at x (k ∷ ks) (suc i) d h p = below_at x ks i d (and_parts _ _ h).1 (omega arith)
 
-  neighbours : (ks : List K) → IsRising R ks → (i : ℕ) (d : K) → suc i < length ks → is_lt (R (get_or ks (suc i) d) (get_or ks i d)) ≡ false
+  pub neighbours : (ks : List K) → IsRising R ks → (i : ℕ) (d : K) → suc i < length ks → is_lt (R (get_or ks (suc i) d) (get_or ks i d)) ≡ false
   neighbours [] h i d p = absurd (omega arith)
   neighbours (x ∷ ks) h zero d p = ap is_lt (greater x (get_or ks 0 d) (below_at x ks 0 d (and_parts _ _ h).0 (omega arith)))
   neighbours (x ∷ ks) h (suc i) d p = neighbours ks (and_parts _ _ h).1 i d (omega arith)

@@ -1,4 +1,9 @@
-pub mod Keys
-pub mod InOrder
+pub mod CounterLaws
 pub mod Dots
+pub mod InOrder
 pub mod KeyLaws
+pub mod Keys
+pub mod MergeLaws
+pub mod RowLaws
+pub mod RowSets
+pub mod Rows

@@ -1,11 +1,14 @@
 //! Causal contexts: sets of dots.
-ghost use Rattle.std.specs.Prelude.{◌≡◌, ◌↔◌, IsTrue, IfOk, OnOk, OnErr, MatchOption};
+ghost use Rattle.std.specs.Prelude.{◌≡◌, ◌↔◌, ◌≤◌, ◌<◌, ◌^◌, ◌∷◌, ◌++◌, ◌||◌, [], length, slice_get, Some, false, true, if◌then◌else◌, IsTrue, IfOk, OnOk, OnErr, MatchOption};
 ghost use Rattle.std.specs.FinSet as set;
-ghost use Rattle.dac_dots.specs.Dots.{HasPrevious, IsNext, IsSubset, IsUsedUp, IsVector};
+ghost use Rattle.dac_dots.specs.Dots.{Dots, dot_cmp, IsNext, IsSubset, IsUsedUp, IsVector};
 ghost use Rattle.dac_dots.specs.InOrder.{in_order};
+ghost use Rattle.dac_dots.specs.Keys.{IsRising};
+ghost use Rattle.dac_dots.specs.Rows.{AreRowsOf, CanFollow, HasSome, IsBelow, IsKept, IsRowIn, row_has, rows_of};
+ghost use Rattle.dac_dots.specs.declared.dot.Dot.{Dot};
 
 use crate::dot::{Dot, Origin};
-use crate::keys::{holds_key, insert_key};
+use crate::row::{OriginRow, has_no_dots, place_of, rises_from};
 use dac_base::NoMemory;
 use std::alloc::Global;
 use std::marker::Model;
@@ -19,21 +22,21 @@ const MOST: u64 = 1 << 62;
 /// an origin and lack the third.
 #[derive(Drop)]
 pub struct Context {
-    dots: Vec<Dot>,
+    rows: Vec<OriginRow>,
 }
 
 impl Model for Context {
     ghost use Rattle.std.specs.FinSet as set;
-    ghost use Rattle.dac_dots.specs.Keys.{IsRising};
     ghost use Rattle.dac_dots.specs.Dots.{dot_cmp, coded_dot};
+    ghost use Rattle.dac_dots.specs.Rows.{AreKept, dots_in};
 
     ghost Value = { set.FinSet dot_cmp };
 
     ghost coded = { set.code coded_dot };
 
-    ghost view = { λ a. set.from_list a.dots.items };
+    ghost view = { λ a. dots_in a.rows.items };
 
-    ghost invariant = { λ a. IsRising dot_cmp a.dots.items };
+    ghost invariant = { λ a. AreKept a.rows.items };
 }
 
 impl Context {
@@ -42,7 +45,7 @@ impl Context {
         ensures { result ≡ set.empty }
     {
         Context {
-            dots: Vec::new(alloc),
+            rows: Vec::new(alloc),
         }
     }
 
@@ -50,18 +53,22 @@ impl Context {
     pub fn copy(&self) -> Result<Self, NoMemory>
         ensures { IfOk result (λ copied. copied ≡ self.now) }
     {
-        let mut dots = Vec::new(*self.dots.allocator());
-        for dot in &self.dots {
-            dots.push(*dot)?;
+        let alloc = *self.rows.allocator();
+        let mut rows = Vec::with_capacity(alloc, self.rows.len())?;
+        for row in &self.rows {
+            rows.push(row.copy(alloc)?)?;
         }
-        Ok(Context { dots })
+        Ok(Context { rows })
     }
 
     /// Whether the set has this dot.
     pub fn contains(&self, dot: Dot) -> bool
         ensures { result ≡ set.contains self.now dot }
     {
-        holds_key(&self.dots, dot)
+        match place_of(&self.rows, dot.origin) {
+            Ok(place) => self.rows[place].holds(dot.n),
+            Err(_) => false,
+        }
     }
 
     /// Puts a dot into the set. One that is there already changes nothing and takes no memory. After
@@ -69,8 +76,38 @@ impl Context {
     pub fn insert(&mut self, dot: Dot) -> Result<(), NoMemory>
         ensures ok { OnOk result (self.new ≡ set.insert self.old dot) }
         ensures err { OnErr result (self.new ≡ self.old) }
+        ensures first { OnErr result (set.contains self.old dot ≡ false) }
     {
-        insert_key(&mut self.dots, dot)?;
+        match place_of(&self.rows, dot.origin) {
+            Ok(place) => {
+                let row = &mut self.rows[place];
+                row.insert(dot.n)?;
+            }
+            Err(place) => {
+                let row = OriginRow::one(*self.rows.allocator(), dot)?;
+                self.rows.insert(place, row)?;
+            }
+        }
+        Ok(())
+    }
+
+    /// Puts the dots of a row into the set.
+    fn unite_row(&mut self, row: &OriginRow) -> Result<(), NoMemory>
+        requires kept { IsKept row.now }
+        requires some { HasSome row.now }
+        ensures { OnOk result ((q : Dot) → set.contains self.new q ≡ (row_has q row.now || set.contains self.old q)) }
+    {
+        let alloc = *self.rows.allocator();
+        match place_of(&self.rows, row.origin) {
+            Ok(place) => {
+                let both = self.rows[place].unite(alloc, row)?;
+                self.rows[place] = both;
+            }
+            Err(place) => {
+                let copied = row.copy(alloc)?;
+                self.rows.insert(place, copied)?;
+            }
+        }
         Ok(())
     }
 
@@ -79,18 +116,28 @@ impl Context {
         ensures { IfOk result (λ both. both ≡ set.union self.now other.now) }
     {
         let mut both = self.copy()?;
-        for dot in &other.dots {
-            both.insert(*dot)?;
+        for row in &other.rows {
+            both.unite_row(row)?;
         }
         Ok(both)
+    }
+
+    /// Whether the set has each dot of a row.
+    fn has_row(&self, row: &OriginRow) -> bool
+        ensures { IsTrue result ↔ IsRowIn row.now self.now }
+    {
+        match place_of(&self.rows, row.origin) {
+            Ok(place) => row.is_within(&self.rows[place]),
+            Err(_) => row.is_empty(),
+        }
     }
 
     /// Whether the other set has each dot of this one.
     pub fn is_subset(&self, other: &Self) -> bool
         ensures { IsTrue result ↔ IsSubset self.now other.now }
     {
-        for dot in &self.dots {
-            if !other.contains(*dot) {
+        for row in &self.rows {
+            if !other.has_row(row) {
                 return false;
             }
         }
@@ -102,41 +149,26 @@ impl Context {
     pub fn next(&self, origin: Origin) -> Option<Dot>
         ensures { MatchOption result (IsUsedUp self.now origin) (IsNext self.now origin) }
     {
-        let mut greatest = 0;
-        for dot in &self.dots {
-            if dot.origin == origin {
-                greatest = greatest.max(dot.n);
-            }
-        }
-        if greatest < MOST {
+        let last = match place_of(&self.rows, origin) {
+            Ok(place) => self.rows[place].last(),
+            Err(_) => 0,
+        };
+        if last < MOST {
             Some(Dot {
                 origin,
-                n: greatest + 1,
+                n: last + 1,
             })
         } else {
             None
         }
     }
 
-    /// Whether the dot is the first of its origin, or comes right after one of this set.
-    fn has_previous(&self, dot: Dot) -> bool
-        ensures { IsTrue result ↔ HasPrevious self.now dot }
-    {
-        if dot.n <= 1 {
-            return dot.n == 1;
-        }
-        self.contains(Dot {
-            origin: dot.origin,
-            n: dot.n - 1,
-        })
-    }
-
     /// Whether the set is a version vector: the counters of each origin are 1 to some number, with no gap.
     pub fn is_vector(&self) -> bool
         ensures { IsTrue result ↔ IsVector self.now }
     {
-        for dot in &self.dots {
-            if !self.has_previous(*dot) {
+        for row in &self.rows {
+            if row.has_gap() {
                 return false;
             }
         }
@@ -147,83 +179,82 @@ impl Context {
     pub fn len(&self) -> u128
         ensures { result ≡ set.len self.now }
     {
-        self.dots.len() as u128
+        let mut len = 0;
+        for row in &self.rows {
+            len += row.len();
+        }
+        len
     }
 
     /// The dots in rising order, each once. [`NoMemory`] is the only error.
     pub fn dots(&self) -> Result<Vec<Dot>, NoMemory>
-        ensures { IfOk result (λ dots. dots.items ≡ in_order self.now) }
+        ensures value { IfOk result (λ dots. dots.items ≡ in_order self.now) }
+        ensures rising { IfOk result (λ dots. IsRising dot_cmp dots.items) }
+        ensures same { IfOk result (λ dots. set.from_list dots.items ≡ self.now) }
     {
-        let copied = self.copy()?;
-        Ok(copied.dots)
-    }
-}
-
-#[cfg(test)]
-mod tests {
-    use super::*;
-    use dac_base::NodeId;
-    use std::test::Fail;
-
-    const FIRST: Origin = Origin {
-        node: NodeId(0),
-        inc: 1,
-    };
-
-    fn first(n: u64) -> Dot {
-        Dot { origin: FIRST, n }
-    }
-
-    #[test]
-    fn vector_gap(rt: HostRuntime) -> Result<(), Fail> {
-        let mut context = Context::empty(rt.alloc());
-        for n in [1, 2, 4] {
-            context.insert(first(n))?;
+        let mut dots = Vec::new(*self.rows.allocator());
+        for row in &self.rows {
+            row.put_dots(&mut dots)?;
         }
-        assert!(rt; !context.is_vector());
-        assert!(rt; !context.contains(first(3)));
-        assert_eq!(rt; context.next(FIRST), Some(first(5)));
-
-        context.insert(first(3))?;
-        assert!(rt; context.is_vector());
-        assert!(rt; context.contains(first(3)));
-        let dots = [first(1), first(2), first(3), first(4)];
-        assert_eq!(rt; context.dots()?.as_slice(), dots.as_slice());
-        let both = context.union(&context)?;
-        assert_eq!(rt; both.dots()?.as_slice(), dots.as_slice());
-        assert_eq!(rt; both.len(), 4);
-        Ok(())
+        Ok(dots)
     }
 
-    #[test]
-    fn origins_are_apart(rt: HostRuntime) -> Result<(), Fail> {
-        let second = Origin {
-            node: NodeId(0),
-            inc: 2,
-        };
-        let restarted = Dot {
-            origin: second,
-            n: 1,
-        };
-        let mut context = Context::empty(rt.alloc());
-        context.insert(first(1))?;
-        let before = context.copy()?;
-        assert_eq!(rt; context.next(second), Some(restarted));
-        context.insert(restarted)?;
-        context.insert(restarted)?;
-        assert_eq!(rt; context.len(), 2);
-        assert!(rt; before.is_subset(&context));
-        assert!(rt; !context.is_subset(&before));
-        Ok(())
+    /// The row of the `i`-th origin that has dots, by the order of origins: the origin, how far its counters
+    /// go 1, 2, 3, .. without a gap, and the further ones in rising order.
+    pub fn row(&self, i: usize) -> Option<(Origin, u64, &[u64])>
+        ensures value { MatchOption result (length (rows_of self.now) ≤ i) (λ row. slice_get (rows_of self.now) i ≡ Some (record { origin = row.0; upto = row.1; further = row.2.now })) }
+        // There are fewer than there are numbers of places.
+        ensures few { length (rows_of self.now) < 2 ^ 63 }
+        // What these rows are.
+        ensures rows { AreRowsOf self.now (rows_of self.now) }
+    {
+        let row = self.rows.get(i)?;
+        Some((row.origin, row.upto, &row.further))
     }
 
-    #[test]
-    fn last_counter(rt: HostRuntime) -> Result<(), Fail> {
-        let mut context = Context::empty(rt.alloc());
-        context.insert(first(MOST - 1))?;
-        assert_eq!(rt; context.next(FIRST), Some(first(MOST)));
-        context.insert(first(MOST))?;
-        assert_eq!(rt; context.next(FIRST), None);
-        Ok(())
+    /// Whether the origin is above all that have dots.
+    fn is_below(&self, origin: Origin) -> bool
+        ensures { IsTrue result ↔ IsBelow (rows_of self.now) origin }
+    {
+        match self.rows.last() {
+            Some(row) => row.origin.cmp(&origin).is_lt(),
+            None => true,
+        }
+    }
+
+    /// Whether these dots of an origin can be appended.
+    fn can_follow(&self, origin: Origin, upto: u64, further: &[u64]) -> bool
+        ensures { IsTrue result ↔ CanFollow (rows_of self.now) (record { origin = origin; upto = upto; further = further.now }) }
+    {
+        if has_no_dots(upto, further) {
+            return false;
+        }
+        if !self.is_below(origin) {
+            return false;
+        }
+        rises_from(upto, further)
+    }
+
+    /// Appends the dots of an origin above all that have dots: the counters 1 to `upto`, and further ones,
+    /// which rise from above `upto + 1`. There has to be one at least. Where it isn't so the answer is false,
+    /// and nothing changes; nor does it after [`NoMemory`], the only error.
+    pub fn push_row(&mut self, origin: Origin, upto: u64, further: &[u64]) -> Result<bool, NoMemory>
+        ensures answer { IfOk result (λ pushed. IsTrue pushed ↔ CanFollow (rows_of self.old) (record { origin = origin; upto = upto; further = further.now })) }
+        ensures ok { IfOk result (λ pushed. rows_of self.new ≡ (if pushed then rows_of self.old ++ record { origin = origin; upto = upto; further = further.now } ∷ [] else rows_of self.old)) }
+        ensures same { IfOk result (λ pushed. pushed ≡ false → self.new ≡ self.old) }
+        ensures err { OnErr result (self.new ≡ self.old) }
+        ensures last { OnErr result (CanFollow (rows_of self.old) (record { origin = origin; upto = upto; further = further.now })) }
+    {
+        if !self.can_follow(origin, upto, further) {
+            return Ok(false);
+        }
+        let alloc = *self.rows.allocator();
+        let row = OriginRow {
+            origin,
+            upto,
+            further: Vec::from_slice(alloc, further)?,
+        };
+        self.rows.push(row)?;
+        Ok(true)
     }
 }

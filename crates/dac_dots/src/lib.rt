@@ -5,8 +5,9 @@
 //! finite set of dots and nothing of how it is kept, so this crate promises the sets' own laws: what a
 //! set contains, that equal sets are equal values, and which dot of an origin comes next.
 //!
-//! A context is kept as one sorted list: a look-up takes a binary search, an insertion moves the dots
-//! above it, and a union inserts each dot of the other set.
+//! A context is kept by origin: how far the counters go 1, 2, 3, .. without a gap, and the further ones. So
+//! calls cost by the number of origins and of further counters, and not by that of dots; only the list of
+//! all dots does.
 #![tactic(auto)]
 
 pub use context::Context;
@@ -16,3 +17,4 @@ pub use keys::MapKey;
 mod context;
 mod dot;
 pub mod keys;
+mod row;

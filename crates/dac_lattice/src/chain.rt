@@ -69,37 +69,3 @@ impl Bottom for Max<u64> {
         Max::new(0)
     }
 }
-
-#[cfg(test)]
-mod tests {
-    use super::*;
-    use std::test::Fail;
-
-    /// Whether the order agrees with the join, through the bound.
-    fn is_joined_above<L: Lattice>(low: &L, high: &L) -> Result<bool, NoMemory> {
-        low.known();
-        high.known();
-        Ok(low.leq(high) && low.join(high)?.equal(high) && high.copy()?.equal(high))
-    }
-
-    #[test]
-    fn takes_the_greater(rt: HostRuntime) -> Result<(), Fail> {
-        assert!(rt; is_joined_above(&Max::new(2u64), &Max::new(5))?);
-        assert!(rt; is_joined_above(&Max::new(5u64), &Max::new(5))?);
-        assert!(rt; !is_joined_above(&Max::new(5u64), &Max::new(2))?);
-        assert_eq!(rt; Max::new(5u64).join(&Max::new(2))?.value, 5);
-        Ok(())
-    }
-
-    /// Whether a value is the least one, through the bound.
-    fn is_bottom<L: Bottom>(alloc: Global, value: &L) -> bool {
-        value.equal(&L::bottom(alloc))
-    }
-
-    #[test]
-    fn zero_is_least(rt: HostRuntime) -> Result<(), Fail> {
-        assert!(rt; is_bottom(rt.alloc(), &Max::new(0u64)));
-        assert!(rt; !is_bottom(rt.alloc(), &Max::new(1u64)));
-        Ok(())
-    }
-}

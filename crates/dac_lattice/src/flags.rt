@@ -73,28 +73,3 @@ impl Bottom for Flag {
         Flag::Up
     }
 }
-
-#[cfg(test)]
-mod tests {
-    use super::*;
-    use std::test::Fail;
-
-    /// Whether the least value is below this one, and a join with it changes nothing, through the bound.
-    fn is_above_bottom<L: Bottom>(alloc: Global, value: &L) -> Result<bool, NoMemory> {
-        let bottom = L::bottom(alloc);
-        Ok(bottom.leq(value) && bottom.join(value)?.equal(value) && value.copy()?.equal(value))
-    }
-
-    #[test]
-    fn down_stays(rt: HostRuntime) -> Result<(), Fail> {
-        assert_eq!(rt; Flag::Up.join(&Flag::Down)?, Flag::Down);
-        assert_eq!(rt; Flag::Down.join(&Flag::Up)?, Flag::Down);
-        assert_eq!(rt; Flag::Up.join(&Flag::Up)?, Flag::Up);
-        assert!(rt; !Flag::Down.leq(&Flag::Up));
-        assert!(rt; !Flag::Up.equal(&Flag::Down));
-        assert!(rt; is_above_bottom(rt.alloc(), &Flag::Up)?);
-        assert!(rt; is_above_bottom(rt.alloc(), &Flag::Down)?);
-        assert!(rt; Flag::Up < Flag::Down);
-        Ok(())
-    }
-}

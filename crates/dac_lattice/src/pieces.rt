@@ -28,7 +28,6 @@ pub trait Piece: Bottom {
 
     /// What one operation adds. [`NoMemory`] is the only error.
     fn delta(alloc: Global, dot: Dot, act: &Self::Act) -> Result<Self, NoMemory>
-        requires { fits dot act.now }
         ensures { IfOk result (λ made. made ≡ delta dot act.now) };
 
     /// To add an operation is to join its delta, and no operations are the least value.
@@ -58,59 +57,3 @@ pub fn laws_of_pieces<P: Piece>()
     ensures together { JoinsAreTogether P.is_value P.join P.fits P.means }
     ensures order_and_repeats { OrderAndRepeatsAreNothing P.is_value P.join P.fits P.means }
 {}
-
-#[cfg(test)]
-mod tests {
-    use super::*;
-    use crate::{Flag, Lattice};
-    use dac_base::NodeId;
-    use dac_dots::Origin;
-    use std::test::Fail;
-
-    /// The flag is down where some operation says so.
-    impl Piece for Flag {
-        ghost use Rattle.std.specs.Prelude.{◌≡◌, refl};
-        ghost use Rattle.std.proofs.Common.{sym, ap, ◌∙◌};
-        ghost use Rattle.dac_lattice.specs.Pieces.{joined};
-        ghost use Rattle.dac_lattice.specs.Flags.{join_flags};
-        ghost use Rattle.dac_lattice.specs.declared.flags.Flag.TheVariants.{Up};
-
-        type Act = Flag;
-
-        ghost fits = { λ _ _. Unit {0} };
-
-        ghost delta = { λ _ act. act };
-
-        ghost means = { λ os v. v ≡ joined join_flags Up (λ _ act. act) os };
-
-        ghost piece_laws = { record {
-          delta_value = λ _ _. tt;
-          start = refl;
-          step = λ os o v _ _ e. ap (λ w. join_flags w o.1) e;
-          one = λ os v w _ _ e f. e ∙ sym f;
-        } };
-
-        fn delta(_alloc: Global, _dot: Dot, act: &Flag) -> Result<Flag, NoMemory> {
-            Ok(*act)
-        }
-    }
-
-    /// One operation, whose dot is (0, 1, 1).
-    fn one(act: Flag) -> (Dot, Flag) {
-        let origin = Origin {
-            node: NodeId(0),
-            inc: 1,
-        };
-        (Dot { origin, n: 1 }, act)
-    }
-
-    #[test]
-    fn deltas_are_joined(rt: HostRuntime) -> Result<(), Fail> {
-        let nothing: Flag = join_deltas(rt.alloc(), &[])?;
-        assert_eq!(rt; nothing, Flag::Up);
-        let down: Flag = join_deltas(rt.alloc(), &[one(Flag::Down)])?;
-        assert_eq!(rt; down, Flag::Down);
-        laws_of_pieces::<Flag>();
-        Ok(())
-    }
-}

@@ -2,3 +2,4 @@ pub mod Membership
 pub mod Alone
 pub mod Nothing
 pub mod KeysOfMeaning
+mod PieceParts

@@ -8,3 +8,5 @@ pub mod Readers
 pub mod Joins
 pub mod MeaningLaws
 pub mod DeltaLaws
+pub mod PieceParts
+pub mod Below

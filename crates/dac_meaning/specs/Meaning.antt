@@ -22,7 +22,7 @@ use Rattle.dac_wishes.specs.Keys.{same_key}
 use Rattle.dac_wishes.specs.Writes.{Write, Writes, write, write_cmp, same_dot}
 use Rattle.dac_wishes.specs.PermissionsValue.{Permits}
 use Rattle.dac_operations.specs.declared.act.Act.{Act}
-use Rattle.dac_operations.specs.declared.act.Act.TheVariants.{Up, Down, Permit, Start, Stop, Claim}
+use Rattle.dac_operations.specs.declared.act.Act.TheVariants.{Permit, Start}
 use Rattle.dac_operations.specs.Operations.{Operation, over_list}
 use Rattle.dac_operations.specs.Seen.{seen_life, seen_claim}
 use Rattle.dac_meaning.specs.StateValue.{StateValue}
@@ -70,11 +70,7 @@ known_of os = set.from_list (flat_map (λ (o : Operation). o.dot ∷ over_list o
 -- the start wish in an operation
 abbrev pub starts_in : Dot → Act → List Write
 starts_in d (Start key over) = write key d ∷ []
-starts_in d Up = []
-starts_in d (Down node inc) = []
-starts_in d (Permit key value over) = []
-starts_in d (Stop key over) = []
-starts_in d (Claim app term how from) = []
+starts_in d _ = []
 
 -- the start wishes that stand
 abbrev pub starts_of : List Operation → Writes
@@ -90,11 +86,7 @@ is_same false v = not v
 -- the act says this of the key
 abbrev pub says : Key → Bool → Act → Bool
 says key v (Permit k value over) = same_key key k && is_same value v
-says key v Up = false
-says key v (Down node inc) = false
-says key v (Start k over) = false
-says key v (Stop k over) = false
-says key v (Claim app term how from) = false
+says key v _ = false
 
 -- the operation is this permit, with this value
 abbrev pub is_permit : Write → Bool → Operation → Bool
@@ -117,11 +109,7 @@ permit_at os w = if is_replaced w.dot os then None else said w os
 -- the permit in an operation
 abbrev pub permits_in : Dot → Act → List Write
 permits_in d (Permit key value over) = write key d ∷ []
-permits_in d Up = []
-permits_in d (Down node inc) = []
-permits_in d (Start key over) = []
-permits_in d (Stop key over) = []
-permits_in d (Claim app term how from) = []
+permits_in d _ = []
 
 -- the permits that stand
 abbrev pub permits_of : List Operation → Permits
@@ -166,11 +154,7 @@ names d o = has_dot d o || replaces d o
 -- the act wishes a start of the key
 abbrev pub wishes : Key → Act → Bool
 wishes key (Start k over) = same_key key k
-wishes key Up = false
-wishes key (Down node inc) = false
-wishes key (Permit k value over) = false
-wishes key (Stop k over) = false
-wishes key (Claim app term how from) = false
+wishes key _ = false
 
 -- the operation is this start wish
 abbrev pub is_start : Write → Operation → Bool

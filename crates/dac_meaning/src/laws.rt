@@ -4,6 +4,7 @@
 ghost use Rattle.dac_lattice.specs.Laws.{IsLattice};
 ghost use Rattle.dac_meaning.specs.StateValue.{StateValue, IsState, IsBelow, bottom, join};
 ghost use Rattle.dac_meaning.specs.MeaningLaws.{HeardAreDots, KnownAreNamed, PermitsAreUnreplaced, StartsAreUnreplaced, LivesAreGreatest, ClaimsAreGreatest, WishedHaveStarts, PermittedAreSaid, MeaningsAreStates, NothingMeansBottom, OrderAndRepeatsAreNothing, JoinsAreTogether};
+ghost use Rattle.dac_meaning.specs.PieceParts.{PermitsAreJoined, WishesAreJoined, LivesAreJoined, ClaimsAreJoined};
 ghost use Rattle.dac_meaning.specs.DeltaLaws.{OneIsHeard, PermitDeltaIsMeaning, WishDeltaIsMeaning, LifeDeltaIsMeaning, ClaimDeltaIsMeaning};
 
 /// What the parts of a meaning are, in terms of its operations: heard are their dots, known these and the
@@ -50,26 +51,18 @@ pub fn delta_is_meaning()
     ensures claims { ClaimDeltaIsMeaning }
 {}
 
+/// What each piece makes of the operations that it sees, its joined deltas, is that part of what they mean, where
+/// no two different operations have one dot. So the definitions of the pieces and of meanings are one.
+pub fn pieces_are_parts()
+    ensures permits { PermitsAreJoined }
+    ensures starts { WishesAreJoined }
+    ensures lives { LivesAreJoined }
+    ensures claims { ClaimsAreJoined }
+{}
+
 /// The order of states is a partial order, and the join is the least upper bound of two states. This
 /// holds for every value of the type, whether or not a set of operations means it.
 pub fn order_of_states()
     ensures lattice { IsLattice IsState IsBelow join }
     ensures least { (s : StateValue) → IsState s → IsBelow bottom s }
 {}
-
-#[cfg(test)]
-mod tests {
-    use super::*;
-    use std::test::Fail;
-
-    #[test]
-    fn laws_hold(_rt: HostRuntime) -> Result<(), Fail> {
-        parts_of_meaning();
-        keys_of_meaning();
-        order_and_repeats();
-        join_of_meanings();
-        delta_is_meaning();
-        order_of_states();
-        Ok(())
-    }
-}

@@ -19,21 +19,15 @@ operation d a = record { dot = d; act = a }
 
 -- the dots that an act replaces, as it lists them
 abbrev pub over_list : Act → List Dot
-over_list Up = []
-over_list (Down node inc) = []
 over_list (Permit key value over) = over
 over_list (Start key over) = over
 over_list (Stop key over) = over
-over_list (Claim app term how from) = []
+over_list _ = []
 
 -- a node came up
 abbrev pub is_up : Act → Bool
 is_up Up = true
-is_up (Down node inc) = false
-is_up (Permit key value over) = false
-is_up (Start key over) = false
-is_up (Stop key over) = false
-is_up (Claim app term how from) = false
+is_up _ = false
 
 -- the act replaces the dot that it would have
 abbrev pub replaces_itself : Dot → Act → Bool
@@ -49,12 +43,8 @@ has_bad_counter d a = if is_up a then not (d.n == 1) else d.n == 1
 
 -- the act declares down the node that would issue it
 abbrev pub is_on_self : Dot → Act → Bool
-is_on_self d Up = false
 is_on_self d (Down node inc) = node.0 == d.origin.node.0
-is_on_self d (Permit key value over) = false
-is_on_self d (Start key over) = false
-is_on_self d (Stop key over) = false
-is_on_self d (Claim app term how from) = false
+is_on_self d _ = false
 
 -- why a dot and an act make no operation: the first cause that holds
 abbrev pub fault_of : Dot → Act → Option OpFault

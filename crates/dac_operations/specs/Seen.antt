@@ -16,21 +16,13 @@ use Rattle.dac_operations.specs.Operations.{over_list, replaces_itself}
 
 -- what start wishes see of an act that doesn't replace its own dot
 abbrev pub wish_in : Act → WishAct
-wish_in Up = NoWish []
-wish_in (Down node inc) = NoWish []
-wish_in (Permit key value over) = NoWish over
 wish_in (Start key over) = SeenStart key over
-wish_in (Stop key over) = NoWish over
-wish_in (Claim app term how from) = NoWish []
+wish_in a = NoWish (over_list a)
 
 -- what permissions see of an act that doesn't replace its own dot
 abbrev pub permit_in : Act → PermitAct
-permit_in Up = NoPermit []
-permit_in (Down node inc) = NoPermit []
 permit_in (Permit key value over) = SeenPermit key value over
-permit_in (Start key over) = NoPermit over
-permit_in (Stop key over) = NoPermit over
-permit_in (Claim app term how from) = NoPermit []
+permit_in a = NoPermit (over_list a)
 
 -- the dots of a list but one
 abbrev pub without : Dot → List Dot → List Dot
@@ -48,16 +40,9 @@ seen_permit d a = if replaces_itself d a then NoPermit (without d (over_list a))
 abbrev pub seen_life : Act → LifeAct
 seen_life Up = SeenUp
 seen_life (Down node inc) = SeenDown node inc
-seen_life (Permit key value over) = NoLife
-seen_life (Start key over) = NoLife
-seen_life (Stop key over) = NoLife
-seen_life (Claim app term how from) = NoLife
+seen_life _ = NoLife
 
 -- what claims see of an act
 abbrev pub seen_claim : Act → ClaimAct
-seen_claim Up = NoClaim
-seen_claim (Down node inc) = NoClaim
-seen_claim (Permit key value over) = NoClaim
-seen_claim (Start key over) = NoClaim
-seen_claim (Stop key over) = NoClaim
 seen_claim (Claim app term how from) = SeenClaim app term how from
+seen_claim _ = NoClaim

@@ -12,5 +12,3 @@ pub use op::{Op, OpFault};
 mod act;
 mod op;
 mod seen;
-#[cfg(test)]
-mod tests;

@@ -19,7 +19,7 @@ use Rattle.dac_store.specs.Appending.{is_above_dots, is_above_entries, rising_ap
 use Rattle.dac_chains.specs.Greatest.{greater, get-greater}
 use Rattle.dac_bytes.specs.Reading.{Rest, Field, items_at}
 use Rattle.dac_bytes.specs.Items.{with_front}
-use Rattle.dac_part_bytes.specs.Ascending.{Reaches}
+use Rattle.dac_part_bytes.specs.laws.Ascending.{Reaches}
 
 with_none : {X : Type 0} (read : Field (List X)) → with_front [] read ≡ read
 with_none (Ok y) = refl
@@ -38,9 +38,6 @@ pushed_is pushed above new more old p q e = e ∙ ap (λ b. cond b more old) (p 
 
 -- ---- dots in order
 
-pub no_dots : [] ≡ in_order (set.empty {R = dot_cmp})
-no_dots = in_order-one dots_total exact_dots (set.empty {R = dot_cmp}) [] refl refl
-
 pub dots_pushed : (s : Dots) (d : Dot) → is_above_dots s d ≡ true → in_order (set.insert s d) ≡ in_order s ++ d ∷ []
 dots_pushed s d above =
     sym (in_order-one dots_total exact_dots (set.insert s d) (in_order s ++ d ∷ []) (rising_appended dots_total (in_order s) d (in_order-rising dots_total exact_dots s) above)
@@ -51,9 +48,6 @@ dots_pushed s d above =
 module _ {K V : Type 0} {R : K → K → Ordering} (o : IsTotalOrder R) (exact : CmpEqualImpliesEq R) where
   pub no_entries : map.entries (map.empty {X = V} {R = R}) ≡ []
   no_entries = nil_from_length (map.entries (map.empty {X = V} {R = R})) (sym (map.len-entries (map.empty {X = V} {R = R})) ∙ map.len-empty R V)
-
-  pub entries_again : (m : map.FinMap R V) → map.from_entries (map.entries m) ≡ m
-  entries_again m = map.same_map o exact _ m (λ q. map.get-from_entries o (map.entries m) q ∙ sym (map.get-entries m q))
 
   absent : (es : List (K × V)) (k : K) → is_above_entries R es k ≡ true → find R k es ≡ None
   absent [] k h = refl

@@ -11,7 +11,7 @@ use Rattle.dac_chains.specs.declared.claims.How.TheVariants.{Normal, Failover, T
 use Rattle.dac_chains.specs.Lives.{Lives}
 use Rattle.dac_chains.specs.Claims.{Claims}
 use Rattle.dac_config.specs.Table.{Table, node_count, app_count}
-use Rattle.dac_bytes.specs.Ranges.{IsOrigin}
+use Rattle.dac_bytes.specs.Ranges.{IsIncarnation, IsOrigin}
 use Rattle.dac_part_bytes.specs.Reading.{is_listed}
 
 -- ---- lives
@@ -20,9 +20,8 @@ use Rattle.dac_part_bytes.specs.Reading.{is_listed}
 pub record IsLifeInForm (nodes : ℕ) (e : NodeId × Life) : Type 0 where
   -- there is such a node
   pub node : e.0.0 < nodes
-  -- its incarnation is one from 1
-  pub first : 1 ≤ e.1.inc
-  pub last : e.1.inc < 2 ^ 32
+  -- its incarnation is one that there can be
+  pub inc : IsIncarnation e.1.inc
 
 -- the lives of some nodes
 pub record AreLivesInForm (nodes : ℕ) (lives : Lives) : Type 0 where

@@ -3,7 +3,6 @@ use Rattle.std.specs.Prelude.{◌≡◌, ℕ, ◌<◌, ◌^◌, true, List, leng
 use Rattle.std.specs.FinSet as set
 use Rattle.std.specs.FinMap as map
 use Rattle.dac_dots.specs.declared.dot.Dot.{Dot}
-use Rattle.dac_dots.specs.declared.dot.Origin.{Origin}
 use Rattle.dac_dots.specs.Dots.{Dots}
 use Rattle.dac_dots.specs.InOrder.{in_order}
 use Rattle.dac_wishes.specs.declared.key.Key.{Key}
@@ -14,10 +13,7 @@ use Rattle.dac_wishes.specs.StartsByKey.{starts_by_key}
 use Rattle.dac_config.specs.Table.{Table, node_count, app_count}
 use Rattle.dac_bytes.specs.Ranges.{IsOrigin, IsDot}
 use Rattle.dac_part_bytes.specs.Reading.{is_listed}
-
--- a key's node and incarnation
-abbrev pub origin_of : Key → Origin
-origin_of key = record { node = key.node; inc = key.inc }
+use Rattle.dac_part_bytes.specs.Spelling.{origin_of}
 
 -- an application that there is, a node that there is with an incarnation from 1, and the node in the application's list
 pub record IsKey (t : Table) (key : Key) : Type 0 where

@@ -5,6 +5,7 @@ use Rattle.std.specs.FinMap as map
 use Rattle.dac_base.specs.declared.NodeId.{NodeId}
 use Rattle.dac_base.specs.declared.AppId.{AppId}
 use Rattle.dac_dots.specs.declared.dot.Dot.{Dot}
+use Rattle.dac_dots.specs.declared.dot.Origin.{Origin}
 use Rattle.dac_dots.specs.Dots.{Dots}
 use Rattle.dac_dots.specs.InOrder.{in_order}
 use Rattle.dac_lattice.specs.declared.flags.Flag.{Flag}
@@ -22,11 +23,19 @@ use Rattle.dac_wishes.specs.StoredPermits.{DotFlags}
 use Rattle.dac_wishes.specs.StartsByKey.{starts_by_key}
 use Rattle.dac_wishes.specs.PermitsByKey.{permits_by_key}
 use Rattle.dac_bytes.specs.Numbers.{u8_bytes, u16_bytes, u32_bytes, u64_bytes}
-use Rattle.dac_bytes.specs.Spelling.{dot_bytes, origin_bytes}
+use Rattle.dac_bytes.specs.Spelling.{dot_bytes, incarnation_bytes, origin_bytes}
+
+-- an application, in two bytes
+abbrev pub app_bytes : AppId → List ℕ
+app_bytes app = u16_bytes app.0
+
+-- a key's node and incarnation
+abbrev pub origin_of : Key → Origin
+origin_of key = record { node = key.node; inc = key.inc }
 
 -- application, node and incarnation, in seven bytes
 unfoldable pub key_bytes : Key → List ℕ
-key_bytes key = u16_bytes key.app.0 ++ u8_bytes key.node.0 ++ u32_bytes key.inc
+key_bytes key = app_bytes key.app ++ origin_bytes (origin_of key)
 
 -- ---- permits and start wishes
 
@@ -64,7 +73,7 @@ down_code Down = 1
 
 -- a node, its incarnation, and whether that one is up
 unfoldable pub life_bytes : NodeId × Life → List ℕ
-life_bytes e = u8_bytes e.0.0 ++ u32_bytes e.1.inc ++ u8_bytes (down_code e.1.flag)
+life_bytes e = u8_bytes e.0.0 ++ incarnation_bytes e.1.inc ++ u8_bytes (down_code e.1.flag)
 
 -- how many nodes have a life, and each life, in ascending order
 unfoldable pub lives_bytes : Lives → List ℕ
@@ -89,7 +98,7 @@ manner_bytes how from = u8_bytes (how_code how) ++ u8_bytes (from_code from)
 
 -- an application, the term of its claim, who claims it, and how it came there
 unfoldable pub claim_bytes : AppId × Claim → List ℕ
-claim_bytes e = u16_bytes e.0.0 ++ u64_bytes e.1.term ++ origin_bytes e.1.origin ++ manner_bytes e.1.how e.1.from
+claim_bytes e = app_bytes e.0 ++ u64_bytes e.1.term ++ origin_bytes e.1.origin ++ manner_bytes e.1.how e.1.from
 
 -- how many applications are claimed, and each claim, in ascending order
 unfoldable pub claims_bytes : Claims → List ℕ

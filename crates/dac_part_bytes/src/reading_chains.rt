@@ -2,7 +2,10 @@
 ghost use Rattle.std.specs.Prelude.{◌≡◌, ◌<◌, None, Some, IfOk};
 ghost use Rattle.std.specs.FinMap as map;
 ghost use Rattle.dac_config.specs.Table.{app_count, node_count};
-ghost use Rattle.dac_bytes.specs.Reading.{Gives, items_at};
+ghost use Rattle.dac_bytes.specs.Reading.{Gives, IsOfBytes, items_at};
+ghost use Rattle.dac_bytes.specs.Takes.{IsFoundAs, IsReadAgain};
+ghost use Rattle.dac_part_bytes.specs.ChainForm.{AreClaimsInForm, AreLivesInForm};
+ghost use Rattle.dac_part_bytes.specs.Spelling.{claims_bytes, lives_bytes};
 ghost use Rattle.dac_part_bytes.specs.Reading.{all_claims_at, all_lives_at, claim_at, claim_fields_at, claimer_at, claims_in_order_at, life_at, listed_claim_at, lives_in_order_at, term_and_claimer_at};
 
 use crate::reading_fields::{is_listed, read_app, read_inc_and_flag, read_manner, read_node_above};
@@ -24,7 +27,8 @@ fn read_life<'a>(
     nodes: u8,
     before: Option<NodeId>,
 ) -> Result<((NodeId, Life), ByteReader<'a>), ReadFault>
-    ensures { result ≡ life_at nodes before reader.entry }
+    ensures exact { result ≡ life_at nodes before reader.entry }
+    ensures real { IsOfBytes result }
 {
     let (node, rest) = read_node_above(reader, nodes, before)?;
     let (life, rest) = read_inc_and_flag(rest)?;
@@ -53,15 +57,9 @@ fn read_counted_lives<'a>(
     Ok((lives, rest))
 }
 
-/// The lives: how many nodes have one, and for each in ascending order the node, its incarnation, and 0
-/// for up or 1 for down.
-///
-/// Each field is checked as it is read, so the fault is the first from left to right: a node is `BadName`
-/// where the configuration hasn't it and then `BadOrder` where it isn't above the one before it, an
-/// incarnation of 0 is `BadNumber` at its first byte, and so is a flag above 1. `NoMemory` says nothing of
-/// the bytes.
+/// The lives.
 #[tactic(auto, unfolding(crate::specs::Reading::all_lives_at, crate::specs::Reading::lives_in_order_at, crate::specs::Reading::counted_at))]
-pub fn read_lives<'a>(
+fn read_all_lives<'a>(
     reader: ByteReader<'a>,
     alloc: Global,
     config: &Config,
@@ -73,12 +71,36 @@ pub fn read_lives<'a>(
     Ok(read)
 }
 
+/// The lives: how many nodes have one, and for each in ascending order the node, its incarnation, and 0
+/// for up or 1 for down.
+///
+/// Each field is checked as it is read, so the fault is the first from left to right: a node is `BadName`
+/// where the configuration hasn't it and then `BadOrder` where it isn't above the one before it, an
+/// incarnation of 0 is `BadNumber` at its first byte, and so is a flag above 1. `NoMemory` says nothing of
+/// the bytes.
+pub fn read_lives<'a>(
+    reader: ByteReader<'a>,
+    alloc: Global,
+    config: &Config,
+) -> Result<(Lives, ByteReader<'a>), ReadFault>
+    ensures exact { Gives (λ x. x) result (all_lives_at (node_count config.now) reader.entry) }
+    // What is read is spelled so, and in form.
+    ensures found { IsFoundAs (λ x. x) lives_bytes (AreLivesInForm (node_count config.now)) reader.entry result }
+    // What is spelled so and in form is read, unless memory runs out.
+    ensures again { IsReadAgain (λ x. x) lives_bytes (AreLivesInForm (node_count config.now)) reader.entry result }
+{
+    // Nodes are numbered in one byte.
+    let _nodes = config.nodes();
+    read_all_lives(reader, alloc, config)
+}
+
 #[tactic(auto, unfolding(crate::specs::Reading::claimer_at))]
 fn read_claimer<'a>(
     reader: ByteReader<'a>,
     nodes: u8,
 ) -> Result<((Origin, (How, Option<NodeId>)), ByteReader<'a>), ReadFault>
-    ensures { result ≡ claimer_at nodes reader.entry }
+    ensures exact { result ≡ claimer_at nodes reader.entry }
+    ensures real { IsOfBytes result }
 {
     let (origin, rest) = reader.read_origin(nodes)?;
     let (manner, rest) = read_manner(rest, nodes)?;
@@ -90,7 +112,8 @@ fn read_term_and_claimer<'a>(
     reader: ByteReader<'a>,
     nodes: u8,
 ) -> Result<(Claim, ByteReader<'a>), ReadFault>
-    ensures { result ≡ term_and_claimer_at nodes reader.entry }
+    ensures exact { result ≡ term_and_claimer_at nodes reader.entry }
+    ensures real { IsOfBytes result }
 {
     let (term, rest) = reader.read_u64_in(1, MOST)?;
     let (claimer, rest) = read_claimer(rest, nodes)?;
@@ -110,6 +133,7 @@ fn read_claim_fields<'a>(
     config: &Config,
 ) -> Result<((AppId, Claim), ByteReader<'a>), ReadFault>
     ensures exact { result ≡ claim_fields_at config.now reader.entry }
+    ensures real { IsOfBytes result }
     ensures below { IfOk result (λ x. x.0.0.0 < app_count config.now) }
 {
     let (app, rest) = read_app(reader, config.apps())?;
@@ -122,7 +146,8 @@ fn read_listed_claim<'a>(
     reader: ByteReader<'a>,
     config: &Config,
 ) -> Result<((AppId, Claim), ByteReader<'a>), ReadFault>
-    ensures { result ≡ listed_claim_at config.now reader.entry }
+    ensures exact { result ≡ listed_claim_at config.now reader.entry }
+    ensures real { IsOfBytes result }
 {
     let at = reader.at();
     let (entry, rest) = read_claim_fields(reader, config)?;
@@ -144,7 +169,8 @@ fn read_claim<'a>(
     config: &Config,
     before: Option<AppId>,
 ) -> Result<((AppId, Claim), ByteReader<'a>), ReadFault>
-    ensures { result ≡ claim_at config.now before reader.entry }
+    ensures exact { result ≡ claim_at config.now before reader.entry }
+    ensures real { IsOfBytes result }
 {
     let at = reader.at();
     let (entry, rest) = read_listed_claim(reader, config)?;
@@ -181,16 +207,9 @@ fn read_counted_claims<'a>(
     Ok((claims, rest))
 }
 
-/// The claims: how many applications are claimed, and for each in ascending order the application, the
-/// term of its claim, who claims it, and how it came there.
-///
-/// Each field is checked as it is read, so the fault is the first from left to right: an application and a
-/// node that the configuration hasn't are `BadName` at their first byte, a term and an incarnation out of
-/// range `BadNumber`, and the last two fields as in [`read_manner`](crate::read_manner). Then the claim is
-/// `NotInList` at its first byte where the node isn't in the application's list, and `BadOrder` there where
-/// the application isn't above the one before it. `NoMemory` says nothing of the bytes.
+/// The claims.
 #[tactic(auto, unfolding(crate::specs::Reading::all_claims_at, crate::specs::Reading::claims_in_order_at, crate::specs::Reading::counted_at))]
-pub fn read_claims<'a>(
+fn read_all_claims<'a>(
     reader: ByteReader<'a>,
     alloc: Global,
     config: &Config,
@@ -200,4 +219,29 @@ pub fn read_claims<'a>(
     let (count, rest) = reader.read_u16()?;
     let read = read_counted_claims(rest, alloc, config, count)?;
     Ok(read)
+}
+
+/// The claims: how many applications are claimed, and for each in ascending order the application, the
+/// term of its claim, who claims it, and how it came there.
+///
+/// Each field is checked as it is read, so the fault is the first from left to right: an application and a
+/// node that the configuration hasn't are `BadName` at their first byte, a term and an incarnation out of
+/// range `BadNumber`, and the last two fields as in [`read_manner`](crate::read_manner). Then the claim is
+/// `NotInList` at its first byte where the node isn't in the application's list, and `BadOrder` there where
+/// the application isn't above the one before it. `NoMemory` says nothing of the bytes.
+pub fn read_claims<'a>(
+    reader: ByteReader<'a>,
+    alloc: Global,
+    config: &Config,
+) -> Result<(Claims, ByteReader<'a>), ReadFault>
+    ensures exact { Gives (λ x. x) result (all_claims_at config.now reader.entry) }
+    // What is read is spelled so, and in form.
+    ensures found { IsFoundAs (λ x. x) claims_bytes (AreClaimsInForm config.now) reader.entry result }
+    // What is spelled so and in form is read, unless memory runs out.
+    ensures again { IsReadAgain (λ x. x) claims_bytes (AreClaimsInForm config.now) reader.entry result }
+{
+    // Nodes are numbered in one byte, and applications in two.
+    let _nodes = config.nodes();
+    let _apps = config.apps();
+    read_all_claims(reader, alloc, config)
 }

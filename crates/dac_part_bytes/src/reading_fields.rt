@@ -1,6 +1,7 @@
 //! The reading side: keys, dots that stand, and codes.
 ghost use Rattle.std.specs.Prelude.{◌≡◌, ◌<◌, IfOk};
 ghost use Rattle.dac_config.specs.Table.{app_count};
+ghost use Rattle.dac_bytes.specs.Reading.{IsOfBytes};
 ghost use Rattle.dac_part_bytes.specs.Reading.{app_at, fitting_code_at, flag_of, from_at, from_code_at, from_of, how_at, how_of, inc_and_flag_at, is_from_of, is_listed, key_at, key_fields_at, known_dot_at, listed_key_at, manner_at, node_above_at, permit_at, some_at, value_of};
 
 use dac_base::{AppId, NodeId};
@@ -16,6 +17,7 @@ use dac_wishes::Key;
 #[tactic(auto, unfolding(crate::specs::Reading::app_at))]
 pub fn read_app<'a>(reader: ByteReader<'a>, apps: u16) -> Result<(AppId, ByteReader<'a>), ReadFault>
     ensures exact { result ≡ app_at apps reader.entry }
+    ensures real { IsOfBytes result }
     ensures below { IfOk result (λ x. x.0.0 < apps) }
 {
     let at = reader.at();
@@ -44,6 +46,7 @@ fn read_key_fields<'a>(
     config: &Config,
 ) -> Result<(Key, ByteReader<'a>), ReadFault>
     ensures exact { result ≡ key_fields_at config.now reader.entry }
+    ensures real { IsOfBytes result }
     ensures below { IfOk result (λ x. x.0.app.0 < app_count config.now) }
 {
     let (app, rest) = read_app(reader, config.apps())?;
@@ -61,7 +64,8 @@ fn read_listed_key<'a>(
     reader: ByteReader<'a>,
     config: &Config,
 ) -> Result<(Key, ByteReader<'a>), ReadFault>
-    ensures { result ≡ listed_key_at config.now reader.entry }
+    ensures exact { result ≡ listed_key_at config.now reader.entry }
+    ensures real { IsOfBytes result }
 {
     let at = reader.at();
     let (key, rest) = read_key_fields(reader, config)?;
@@ -85,7 +89,8 @@ pub fn read_key<'a>(
     config: &Config,
     before: Option<Key>,
 ) -> Result<(Key, ByteReader<'a>), ReadFault>
-    ensures { result ≡ key_at config.now before reader.entry }
+    ensures exact { result ≡ key_at config.now before reader.entry }
+    ensures real { IsOfBytes result }
 {
     let at = reader.at();
     let (key, rest) = read_listed_key(reader, config)?;
@@ -107,7 +112,8 @@ pub(crate) fn read_known_dot<'a>(
     known: &Context,
     before: Option<Dot>,
 ) -> Result<(Dot, ByteReader<'a>), ReadFault>
-    ensures { result ≡ known_dot_at nodes known.now before reader.entry }
+    ensures exact { result ≡ known_dot_at nodes known.now before reader.entry }
+    ensures real { IsOfBytes result }
 {
     let at = reader.at();
     let (dot, rest) = reader.read_dot_above(nodes, before)?;
@@ -123,7 +129,8 @@ pub(crate) fn read_known_dot<'a>(
 
 /// A number of dots of a key, which is at least one.
 pub(crate) fn read_some<'a>(reader: ByteReader<'a>) -> Result<(u32, ByteReader<'a>), ReadFault>
-    ensures { result ≡ some_at reader.entry }
+    ensures exact { result ≡ some_at reader.entry }
+    ensures real { IsOfBytes result }
 {
     let read = reader.read_u32_in(1, u32::MAX)?;
     Ok(read)
@@ -146,7 +153,8 @@ pub(crate) fn read_permit<'a>(
     known: &Context,
     before: Option<Dot>,
 ) -> Result<((Dot, Flag), ByteReader<'a>), ReadFault>
-    ensures { result ≡ permit_at nodes known.now before reader.entry }
+    ensures exact { result ≡ permit_at nodes known.now before reader.entry }
+    ensures real { IsOfBytes result }
 {
     let (dot, rest) = read_known_dot(reader, nodes, known, before)?;
     let (value, rest) = rest.read_u8_in(0, 1)?;
@@ -160,7 +168,8 @@ pub(crate) fn read_node_above<'a>(
     nodes: u8,
     before: Option<NodeId>,
 ) -> Result<(NodeId, ByteReader<'a>), ReadFault>
-    ensures { result ≡ node_above_at nodes before reader.entry }
+    ensures exact { result ≡ node_above_at nodes before reader.entry }
+    ensures real { IsOfBytes result }
 {
     let at = reader.at();
     let (node, rest) = reader.read_node(nodes)?;
@@ -188,7 +197,8 @@ fn flag_of(code: u8) -> Flag
 pub(crate) fn read_inc_and_flag<'a>(
     reader: ByteReader<'a>,
 ) -> Result<(Life, ByteReader<'a>), ReadFault>
-    ensures { result ≡ inc_and_flag_at reader.entry }
+    ensures exact { result ≡ inc_and_flag_at reader.entry }
+    ensures real { IsOfBytes result }
 {
     let (inc, rest) = reader.read_incarnation()?;
     let (code, rest) = rest.read_u8_in(0, 1)?;
@@ -209,7 +219,8 @@ fn how_of(code: u8) -> How
 
 #[tactic(auto, unfolding(crate::specs::Reading::how_at))]
 fn read_how<'a>(reader: ByteReader<'a>) -> Result<(How, ByteReader<'a>), ReadFault>
-    ensures { result ≡ how_at reader.entry }
+    ensures exact { result ≡ how_at reader.entry }
+    ensures real { IsOfBytes result }
 {
     let (code, rest) = reader.read_u8_in(1, 3)?;
     Ok((how_of(code), rest))
@@ -218,7 +229,8 @@ fn read_how<'a>(reader: ByteReader<'a>) -> Result<(How, ByteReader<'a>), ReadFau
 /// The code of no node, or of a node below the number of nodes.
 #[tactic(auto, unfolding(crate::specs::Reading::from_code_at))]
 fn read_from_code<'a>(reader: ByteReader<'a>, nodes: u8) -> Result<(u8, ByteReader<'a>), ReadFault>
-    ensures { result ≡ from_code_at nodes reader.entry }
+    ensures exact { result ≡ from_code_at nodes reader.entry }
+    ensures real { IsOfBytes result }
 {
     let at = reader.at();
     let (code, rest) = reader.read_u8()?;
@@ -248,7 +260,8 @@ fn read_fitting_code<'a>(
     nodes: u8,
     how: How,
 ) -> Result<(u8, ByteReader<'a>), ReadFault>
-    ensures { result ≡ fitting_code_at nodes how reader.entry }
+    ensures exact { result ≡ fitting_code_at nodes how reader.entry }
+    ensures real { IsOfBytes result }
 {
     let at = reader.at();
     let (code, rest) = read_from_code(reader, nodes)?;
@@ -277,7 +290,8 @@ fn read_from<'a>(
     nodes: u8,
     how: How,
 ) -> Result<(Option<NodeId>, ByteReader<'a>), ReadFault>
-    ensures { result ≡ from_at nodes how reader.entry }
+    ensures exact { result ≡ from_at nodes how reader.entry }
+    ensures real { IsOfBytes result }
 {
     let (code, rest) = read_fitting_code(reader, nodes, how)?;
     Ok((from_of(code), rest))
@@ -291,7 +305,8 @@ pub fn read_manner<'a>(
     reader: ByteReader<'a>,
     nodes: u8,
 ) -> Result<((How, Option<NodeId>), ByteReader<'a>), ReadFault>
-    ensures { result ≡ manner_at nodes reader.entry }
+    ensures exact { result ≡ manner_at nodes reader.entry }
+    ensures real { IsOfBytes result }
 {
     let (how, rest) = read_how(reader)?;
     let (from, rest) = read_from(rest, nodes, how)?;

@@ -1,6 +1,9 @@
 //! The reading side: permits and start wishes.
 ghost use Rattle.std.specs.Prelude.{◌≡◌, None, Some, IfOk};
 ghost use Rattle.dac_bytes.specs.Reading.{Gives, items_at};
+ghost use Rattle.dac_bytes.specs.Takes.{IsFoundAs, IsReadAgain};
+ghost use Rattle.dac_part_bytes.specs.KeyedForm.{ArePermitsInForm, AreStartsInForm};
+ghost use Rattle.dac_part_bytes.specs.Spelling.{permits_bytes, starts_bytes};
 ghost use Rattle.dac_dots.specs.InOrder.{in_order};
 ghost use Rattle.dac_store.specs.DotFuns.{has_dot};
 ghost use Rattle.dac_store.specs.DotMaps.{has_in};
@@ -119,18 +122,9 @@ fn beside<S: DotStore>(store: S, context: Context) -> Causal<S>
     Causal::new(store, context).unwrap()
 }
 
-/// The permits that stand, beside the dots that are known: how many keys have permits, and for each in
-/// ascending order the key, how many permits it has, at least one, and these in the order of their dots,
-/// each a dot and 0 or 1.
-///
-/// Each field is checked as it is read, so the fault is the first from left to right. The fields of a key
-/// are checked as [`read_key`](crate::read_key) does. A number of permits that is 0 is `BadNumber` at its
-/// first byte. A dot's node is `BadName` where the configuration hasn't it, and its incarnation and counter
-/// are `BadNumber` where they are out of range; then the dot is `BadOrder` at its first byte where it isn't
-/// above the one before it, and `NotKnown` there where it isn't known. A value above 1 is `BadNumber`.
-/// `NoMemory` says nothing of the bytes.
+/// The permits that stand, beside the dots that are known.
 #[tactic(auto, unfolding(crate::specs::Reading::all_permits_at))]
-pub fn read_permissions<'a>(
+fn read_all_permits<'a>(
     reader: ByteReader<'a>,
     alloc: Global,
     config: &Config,
@@ -142,6 +136,35 @@ pub fn read_permissions<'a>(
     let (store, rest) = read_permits_by_key(reader, alloc, config, known)?;
     let causal = beside(store, known.copy()?);
     Ok((Permissions::new(causal), rest))
+}
+
+/// The permits that stand, beside the dots that are known: how many keys have permits, and for each in
+/// ascending order the key, how many permits it has, at least one, and these in the order of their dots,
+/// each a dot and 0 or 1.
+///
+/// Each field is checked as it is read, so the fault is the first from left to right. The fields of a key
+/// are checked as [`read_key`](crate::read_key) does. A number of permits that is 0 is `BadNumber` at its
+/// first byte. A dot's node is `BadName` where the configuration hasn't it, and its incarnation and counter
+/// are `BadNumber` where they are out of range; then the dot is `BadOrder` at its first byte where it isn't
+/// above the one before it, and `NotKnown` there where it isn't known. A value above 1 is `BadNumber`.
+/// `NoMemory` says nothing of the bytes.
+pub fn read_permissions<'a>(
+    reader: ByteReader<'a>,
+    alloc: Global,
+    config: &Config,
+    known: &Context,
+) -> Result<(Permissions, ByteReader<'a>), ReadFault>
+    ensures exact { Gives (λ x. (x.0.standing, x.1)) result (all_permits_at config.now known.now reader.entry) }
+    ensures known { IfOk result (λ x. x.0.known ≡ known.now) }
+    // What is read is spelled so, and in form.
+    ensures found { IsFoundAs (λ x. (x.0.standing, x.1)) permits_bytes (ArePermitsInForm config.now known.now) reader.entry result }
+    // What is spelled so and in form is read, unless memory runs out.
+    ensures again { IsReadAgain (λ x. (x.0.standing, x.1)) permits_bytes (ArePermitsInForm config.now known.now) reader.entry result }
+{
+    // Nodes are numbered in one byte, and applications in two.
+    let _nodes = config.nodes();
+    let _apps = config.apps();
+    read_all_permits(reader, alloc, config, known)
 }
 
 /// So many dots of a key.
@@ -236,12 +259,9 @@ fn read_starts_by_key<'a>(
     Ok(read)
 }
 
-/// The start wishes that stand, beside the dots that are known: how many keys have wishes, and for each in
-/// ascending order the key, how many wishes it has, at least one, and their dots in ascending order.
-///
-/// The faults are those of [`read_permissions`], but for those of values.
+/// The start wishes that stand, beside the dots that are known.
 #[tactic(auto, unfolding(crate::specs::Reading::all_starts_at))]
-pub fn read_wishes<'a>(
+fn read_all_starts<'a>(
     reader: ByteReader<'a>,
     alloc: Global,
     config: &Config,
@@ -253,4 +273,27 @@ pub fn read_wishes<'a>(
     let (store, rest) = read_starts_by_key(reader, alloc, config, known)?;
     let causal = beside(store, known.copy()?);
     Ok((Wishes::new(causal), rest))
+}
+
+/// The start wishes that stand, beside the dots that are known: how many keys have wishes, and for each in
+/// ascending order the key, how many wishes it has, at least one, and their dots in ascending order.
+///
+/// The faults are those of [`read_permissions`], but for those of values.
+pub fn read_wishes<'a>(
+    reader: ByteReader<'a>,
+    alloc: Global,
+    config: &Config,
+    known: &Context,
+) -> Result<(Wishes, ByteReader<'a>), ReadFault>
+    ensures exact { Gives (λ x. (x.0.standing, x.1)) result (all_starts_at config.now known.now reader.entry) }
+    ensures known { IfOk result (λ x. x.0.known ≡ known.now) }
+    // What is read is spelled so, and in form.
+    ensures found { IsFoundAs (λ x. (x.0.standing, x.1)) starts_bytes (AreStartsInForm config.now known.now) reader.entry result }
+    // What is spelled so and in form is read, unless memory runs out.
+    ensures again { IsReadAgain (λ x. (x.0.standing, x.1)) starts_bytes (AreStartsInForm config.now known.now) reader.entry result }
+{
+    // Nodes are numbered in one byte, and applications in two.
+    let _nodes = config.nodes();
+    let _apps = config.apps();
+    read_all_starts(reader, alloc, config, known)
 }

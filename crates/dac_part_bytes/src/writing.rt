@@ -7,7 +7,7 @@ ghost use Rattle.dac_part_bytes.specs.Spelling.{claim_bytes, claims_bytes, down_
 use dac_base::{AppId, NoMemory, NodeId};
 use dac_bytes::ByteWriter;
 use dac_chains::{Claim, Claims, How, Life, Lives};
-use dac_dots::Dot;
+use dac_dots::{Dot, Origin};
 use dac_lattice::Flag;
 use dac_wishes::{Key, Permissions, Wishes};
 
@@ -17,10 +17,10 @@ use dac_wishes::{Key, Permissions, Wishes};
 pub fn write_key(writer: ByteWriter, key: Key) -> Result<ByteWriter, NoMemory>
     ensures { IfOk result (λ written. written ≡ writer ++ key_bytes key) }
 {
-    let written = writer
-        .write_u16(key.app.0)?
-        .write_u8(key.node.0)?
-        .write_u32(key.inc)?;
+    let written = writer.write_u16(key.app.0)?.write_origin(Origin {
+        node: key.node,
+        inc: key.inc,
+    })?;
     Ok(written)
 }
 
@@ -118,7 +118,7 @@ fn write_life(writer: ByteWriter, node: NodeId, life: Life) -> Result<ByteWriter
 {
     let written = writer
         .write_u8(node.0)?
-        .write_u32(life.inc)?
+        .write_incarnation(life.inc)?
         .write_u8(down_code(life.flag))?;
     Ok(written)
 }

@@ -1,3 +1,5 @@
+mod EachOther
 mod Playing
+mod ScriptRuns
 mod Shares
 mod Simulating

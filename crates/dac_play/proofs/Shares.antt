@@ -11,13 +11,14 @@ use Rattle.dac_base.specs.declared.NodeId.{NodeId}
 use Rattle.dac_config.specs.Table.{Table}
 use Rattle.dac_events.specs.declared.WorldEvent.{WorldEvent}
 use Rattle.dac_meaning.specs.StateValue.{StateValue}
-use Rattle.dac_core.specs.declared.event.Reply.{Reply}
-use Rattle.dac_core.specs.declared.fault.WorldFault.{WorldFault}
-use Rattle.dac_core.specs.WorldValue.{WorldValue}
-use Rattle.dac_core.specs.ModelWorld.{ModelWorld, Shows, Follows, Done, Lacked, happens, out_of_memory, numbered}
-use Rattle.dac_play.specs.Pairs.{pairs}
-use Rattle.dac_play.specs.Play.{state_at}
+use Rattle.dac_messages.specs.declared.reply.Reply.{Reply}
+use Rattle.dac_worlds.specs.declared.fault.WorldFault.{WorldFault}
+use Rattle.dac_worlds.specs.WorldValue.{WorldValue}
+use Rattle.dac_worlds.specs.ModelWorld.{ModelWorld, Shows, Follows, Done, Lacked, happens, out_of_memory, numbered}
+use Rattle.dac_play.specs.Pairs.{pairs, TellsEachOther}
+use Rattle.dac_play.specs.Play.{state_at, HasState, IsShared}
 use Rattle.dac_play.specs.Sharing.{state_in, having_state, shipping, delivery, told, shared, Leads, IsAnswered}
+use Rattle.dac_play.proofs.EachOther.{tell_each_other}
 use Rattle.dac_play.proofs.Playing.{state_shown}
 
 -- ---- one event
@@ -98,4 +99,13 @@ share_all table old new all i count le is_count is_all leads = record {
   each = λ w shows.
       let all_is = is_all ∙ ap (λ n. pairs (having_state (state_at old) n)) (sym is_count) ∙ ap pairs (runs_shown w old shows) in
       subst (λ l. Shows (fold (told table) w l) new) (take_all i all le ∙ all_is) (leads.each w shows);
+}
+
+-- the pairs are those of the nodes that run
+pub shares_all : (table : Table) (old new : WorldValue) (all : List (NodeId × NodeId)) (i count : ℕ) → length all ≤ i → length old.nodes ≡ count → all ≡ pairs (having_state (state_at old) count)
+    → Leads old (λ w. fold (told table) w (take i all)) new → IsShared table old new
+shares_all table old new all i count le is_count is_all leads = record {
+  pairs = all;
+  each_other = subst (TellsEachOther (HasState (state_at old) (length old.nodes))) (sym (is_all ∙ ap (λ n. pairs (having_state (state_at old) n)) (sym is_count))) (tell_each_other (λ node. is_some (state_at old node)) (length old.nodes));
+  leads = record { each = λ w shows. subst (λ l. Shows (fold (told table) w l) new) (take_all i all le) (leads.each w shows) };
 }

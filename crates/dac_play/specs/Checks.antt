@@ -8,21 +8,24 @@ use Rattle.dac_config.specs.Canonical.{canonical_text}
 use Rattle.dac_script.specs.declared.failure.Failure.{Failure}
 use Rattle.dac_script.specs.declared.failure.Failure.TheVariants as failure
 use Rattle.dac_script.specs.declared.fault.InputFault.TheVariants.{TooLong, NoScript, Read}
+use Rattle.dac_script.specs.Input.{max_input, IsTaken}
 use Rattle.dac_play.specs.declared.ending.Ending.{Ending}
 use Rattle.dac_play.specs.Endings.{Ends}
 
--- the canonical text of the configuration that the bytes say
+-- the canonical text of the configuration that the bytes say, which aren't too long
 pub record IsCanonicalOf (bytes text : List ℕ) : Type 0 where
+  pub taken : IsTaken bytes
   pub table : Table
   pub says : IsConfigOf bytes table
   pub text_is : text ≡ canonical_text table
 
--- why an input isn't checked; of a failed read and of want of memory the input says nothing
+-- Why an input isn't checked. What it says is looked at only where it isn't too long. Of a failed read and of want of
+-- memory the input says nothing.
 abbrev pub IsUnchecked : List ℕ → Failure → Type 0
-IsUnchecked bytes (failure.Input TooLong) = 2097152 < length bytes
+IsUnchecked bytes (failure.Input TooLong) = max_input < length bytes
 IsUnchecked bytes (failure.Input NoScript) = ⊥
 IsUnchecked bytes (failure.Input Read) = Unit {0}
-IsUnchecked bytes (failure.Config fault) = config_at bytes ≡ Err fault
+IsUnchecked bytes (failure.Config fault) = IsTaken bytes × (config_at bytes ≡ Err fault)
 IsUnchecked bytes (failure.Script fault) = ⊥
 IsUnchecked bytes failure.NoMemory = Unit {0}
 

@@ -2,6 +2,8 @@
 use Rattle.std.specs.Prelude.{◌≡◌, ℕ, List, Option, IfSome}
 use Rattle.std.specs.Io.KnownBytes.{Appends}
 use Rattle.dac_script.specs.declared.failure.Failure.{Failure}
+use Rattle.dac_script.specs.declared.source.Progress.TheVariants.{Ended}
+use Rattle.dac_script.specs.Sources.{Sourced, IsLeftBy}
 use Rattle.dac_play.specs.declared.ending.Ending.{Ending}
 use Rattle.dac_play.specs.declared.ending.Ending.TheVariants as ending
 use Rattle.dac_play.specs.Texts.{failure_text}
@@ -23,6 +25,13 @@ abbrev pub Ends : (Option (List ℕ) → Option (List ℕ) → Type 0) → (Fail
 Ends Well Fails ending.Done old new = Well old new
 Ends Well Fails (ending.Refused why) old new = Fails why × Appends old new (failure_text why)
 Ends Well Fails ending.Stopped old new = Unit {0}
+
+-- how a command that ended so leaves its source: read to its end where all was done, and as the failure tells where it
+-- was refused, so `Read` is the failure exactly where the source is given up
+abbrev pub IsLeftAt : Ending → Sourced → Type 0
+IsLeftAt ending.Done source = source.progress ≡ Ended
+IsLeftAt (ending.Refused why) source = IsLeftBy why source
+IsLeftAt ending.Stopped source = Unit {0}
 
 -- what the program answers is the status of such an ending, where the reader tells its bytes
 pub record EndsWith (Ending_of : List ℕ → Ending → Type 0) (had : Option (List ℕ)) (status : ℕ) : Type 0 where

@@ -5,4 +5,5 @@ pub mod Answers
 pub mod Pairs
 pub mod Sharing
 pub mod Play
+pub mod Runs
 pub mod Simulations

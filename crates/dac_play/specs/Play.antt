@@ -1,5 +1,5 @@
 -- What a script does in a world, and what is printed of it.
-use Rattle.std.specs.Prelude.{◌≡◌, ℕ, ◌-◌, List, [], ◌∷◌, ◌++◌, length, Option, None, Some, slice_get}
+use Rattle.std.specs.Prelude.{◌≡◌, ℕ, ◌-◌, ◌<◌, List, [], ◌∷◌, ◌++◌, length, fold, Option, None, Some, is_some, IsTrue, slice_get}
 use Rattle.std.specs.Option.{option_and_then, option_map_or}
 use Rattle.std.specs.Str.{bytes_eq}
 use Rattle.dac_base.specs.declared.NodeId.{NodeId}
@@ -7,9 +7,9 @@ use Rattle.dac_dots.specs.declared.dot.Origin.{Origin}
 use Rattle.dac_config.specs.Table.{Table, node_name}
 use Rattle.dac_meaning.specs.StateValue.{StateValue}
 use Rattle.dac_state.specs.StateSpelling.{spelling_of}
-use Rattle.dac_core.specs.NodeValue.{origin_of, state_of}
-use Rattle.dac_core.specs.WorldValue.{WorldValue}
-use Rattle.dac_core.specs.ModelWorld.{ModelWorld, Shows, happens}
+use Rattle.dac_node.specs.NodeValue.{origin_of, state_of}
+use Rattle.dac_worlds.specs.WorldValue.{WorldValue}
+use Rattle.dac_worlds.specs.ModelWorld.{ModelWorld, Shows, happens}
 use Rattle.dac_status.specs.Summaries.{summary_of}
 use Rattle.dac_status.specs.Texts.{header_text, page_text}
 use Rattle.dac_script.specs.declared.line.ScriptLine.{ScriptLine}
@@ -17,7 +17,8 @@ use Rattle.dac_script.specs.declared.line.ScriptLine.TheVariants as says
 use Rattle.dac_play.specs.declared.answers.Counts.{Counts}
 use Rattle.dac_play.specs.Texts.{shared_text, state_text, same_text}
 use Rattle.dac_play.specs.Answers.{answer_text}
-use Rattle.dac_play.specs.Sharing.{origin_in, state_in, shared}
+use Rattle.dac_play.specs.Pairs.{TellsEachOther}
+use Rattle.dac_play.specs.Sharing.{origin_in, state_in, told, shared, Leads}
 
 -- the state of a node of the program's world, where it runs
 abbrev pub state_at : WorldValue → NodeId → Option StateValue
@@ -26,6 +27,17 @@ state_at v node = option_and_then state_of (slice_get v.nodes node.0)
 -- the present incarnation of a node of the program's world, where it runs
 abbrev pub origin_at : WorldValue → NodeId → Option Origin
 origin_at v node = option_and_then origin_of (slice_get v.nodes node.0)
+
+-- a node of the first so many numbers has a state
+abbrev pub HasState : (NodeId → Option StateValue) → ℕ → NodeId → Type 0
+HasState state count node = (node.0 < count) × IsTrue (is_some (state node))
+
+-- From old, each node of the program's world that runs tells each other one that runs, one pair after another, and it
+-- goes on to new as each of the definition's worlds that shows old does by that.
+pub record IsShared (table : Table) (old new : WorldValue) : Type 0 where
+  pub pairs : List (NodeId × NodeId)
+  pub each_other : TellsEachOther (HasState (state_at old) (length old.nodes)) pairs
+  pub leads : Leads old (λ w. fold (told table) w pairs) new
 
 -- as what a node runs, and the page of its state; a node that is off has none
 abbrev pub shown_text : Table → NodeId → Option Origin → Option StateValue → List ℕ

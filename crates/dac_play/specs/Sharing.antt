@@ -9,10 +9,10 @@ use Rattle.dac_config.specs.Table.{Table}
 use Rattle.dac_events.specs.declared.What.TheVariants as what
 use Rattle.dac_events.specs.declared.WorldEvent.{WorldEvent}
 use Rattle.dac_meaning.specs.StateValue.{StateValue}
-use Rattle.dac_core.specs.NodeValue.{origin_of, state_of}
-use Rattle.dac_core.specs.WorldValue.{WorldValue}
-use Rattle.dac_core.specs.ModelNode.{shown}
-use Rattle.dac_core.specs.ModelWorld.{ModelWorld, WorldStepped, Shows, happens, numbered}
+use Rattle.dac_node.specs.NodeValue.{origin_of, state_of}
+use Rattle.dac_worlds.specs.WorldValue.{WorldValue}
+use Rattle.dac_node.specs.ModelNode.{shown}
+use Rattle.dac_worlds.specs.ModelWorld.{ModelWorld, WorldStepped, Shows, happens, numbered}
 use Rattle.dac_play.specs.Pairs.{pairs}
 
 -- the state of a node of the definition's world, where it runs

@@ -1,31 +1,39 @@
 //! A configuration checked, and printed in its one form.
 
 ghost use Rattle.std.specs.Prelude.{◌≡◌, IfOk, IfErr, IfSome};
+ghost use Rattle.dac_script.specs.Sources.{IsReadBy};
 ghost use Rattle.dac_play.specs.Checks.{IsCanonicalOf, IsUnchecked, EndsCheck};
+ghost use Rattle.dac_play.specs.Endings.{IsLeftAt};
 
 use crate::ending::{Ending, print, refuse};
 use dac_config::read_config;
-use dac_script::{Failure, read_input};
+use dac_script::{Failure, Source, read_input};
 use std::alloc::Global;
 use std::io::{Read, Write};
 
 /// The canonical text of the configuration that an input is, or why it is none. The input as such is looked at
 /// first, and then what it says; `NoMemory` is answered only where memory is refused before a fault is met.
-pub fn canonical<R: Read>(alloc: Global, input: &mut R) -> Result<Vec<u8>, Failure>
-    ensures says { IfOk result (λ text. IfSome (R.remaining input.old) (λ bytes. IsCanonicalOf bytes text.items)) }
-    ensures fails { IfErr result (λ why. IfSome (R.remaining input.old) (λ bytes. IsUnchecked bytes why)) }
+pub fn canonical<R: Read>(alloc: Global, source: &mut Source<R>) -> Result<Vec<u8>, Failure>
+    ensures says { IfOk result (λ text. IfSome source.old.left (λ bytes. IsCanonicalOf bytes text.items)) }
+    ensures fails { IfErr result (λ why. IfSome source.old.left (λ bytes. IsUnchecked bytes why)) }
+    ensures reads { IsReadBy result source.new }
 {
-    let text = read_input(alloc, input)?;
+    let text = read_input(alloc, source)?;
     let config = read_config(alloc, &text)?;
     let canonical = config.canonical_text()?;
     Ok(canonical)
 }
 
 /// Reads a configuration and prints its canonical text, or the line that says what is wrong with it.
-pub fn check<R: Read, W: Write>(alloc: Global, input: &mut R, output: &mut W) -> Ending
-    ensures { IfSome (R.remaining input.old) (λ bytes. EndsCheck bytes result (W.contents output.old) (W.contents output.new)) }
+pub fn check_source<R: Read, W: Write>(
+    alloc: Global,
+    source: &mut Source<R>,
+    output: &mut W,
+) -> Ending
+    ensures ends { IfSome source.old.left (λ bytes. EndsCheck bytes result (W.contents output.old) (W.contents output.new)) }
+    ensures reads { IsLeftAt result source.new }
 {
-    let text = match canonical(alloc, input) {
+    let text = match canonical(alloc, source) {
         Ok(text) => text,
         Err(failure) => return refuse(alloc, failure, output),
     };
@@ -33,4 +41,11 @@ pub fn check<R: Read, W: Write>(alloc: Global, input: &mut R, output: &mut W) ->
         return Ending::Stopped;
     }
     Ending::Done
+}
+
+/// As [`check_source`], of a reader of which nothing was read.
+pub fn check<R: Read, W: Write>(alloc: Global, input: &mut R, output: &mut W) -> Ending
+    ensures { IfSome (R.remaining input.old) (λ bytes. EndsCheck bytes result (W.contents output.old) (W.contents output.new)) }
+{
+    check_source(alloc, &mut Source::new(input), output)
 }

@@ -1,9 +1,10 @@
 //! What `distac check` and `distac sim` do with an input: one prints the configuration in its one form, the other
 //! plays a script in a world of controllers and prints a line for each of its lines.
 //!
-//! The promises are on [`check`] and [`simulate`]. Where [`simulate`] answers 0, what it wrote is, line by line,
-//! what the script that the input says does in the definition's world; each printed line is the text that its
-//! contract names. Where memory, a read or a write fails, the status 1 alone is promised.
+//! The promises are on [`check_source`] and [`simulate_source`]. Where [`simulate_source`] is done, what it wrote is,
+//! line by line, what the script that the input says does in the definition's world; each printed line is the text
+//! that its contract names. A failed read is the failure exactly where the source shows one. Where memory or a write
+//! fails, the status 1 alone is promised.
 #![tactic(auto)]
 
 mod answers;
@@ -13,14 +14,12 @@ mod pairs;
 mod sharing;
 mod sim;
 mod states;
-#[cfg(test)]
-mod tests;
 mod texts;
 
 pub use answers::{Counts, answer_line};
-pub use checking::{canonical, check};
+pub use checking::{canonical, check, check_source};
 pub use ending::{Ending, print, refuse};
-pub use sim::{Stop, play, simulate};
+pub use sim::{Stop, play, simulate, simulate_source};
 pub use texts::{
     OUT_OF_MEMORY, booted_line, config_fault_line, crashed_line, failure_line, heard_line,
     input_fault_line, issued_line, no_message_line, no_operation_line, refused_line, same_line,

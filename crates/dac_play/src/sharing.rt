@@ -4,8 +4,8 @@ ghost use Rattle.std.specs.Prelude.{◌≡◌, ◌≢◌, ◌<◌, IfOk, OnOk, l
 ghost use Rattle.std.specs.Option.{is_some};
 ghost use Rattle.std.specs.Result.{is_ok};
 ghost use Rattle.dac_config.specs.Table.{node_count};
-ghost use Rattle.dac_core.specs.ModelWorld.{out_of_memory};
-ghost use Rattle.dac_play.specs.Play.{state_at};
+ghost use Rattle.dac_worlds.specs.ModelWorld.{out_of_memory};
+ghost use Rattle.dac_play.specs.Play.{state_at, IsShared};
 ghost use Rattle.dac_play.specs.Sharing.{having_state, told, shared, Leads, IsAnswered};
 
 use crate::pairs::all_pairs;
@@ -88,6 +88,7 @@ fn tell(config: &Config, world: &mut World, pair: (NodeId, NodeId)) -> Result<()
 pub fn share(alloc: Global, config: &Config, world: &mut World) -> Result<(), NoMemory>
     requires { length world.old.nodes ≡ node_count config.now }
     ensures count { length world.new.nodes ≡ length world.old.nodes }
+    ensures tells { OnOk result (IsShared config.now world.old world.new) }
     ensures leads { OnOk result (Leads world.old (shared config.now) world.new) }
 {
     let nodes = running(alloc, config, world)?;

@@ -3,10 +3,12 @@
 ghost use Rattle.std.specs.Prelude.{◌≡◌, ◌<◌, ◌-◌, IfOk, IfSome, OnOk, All, length};
 ghost use Rattle.std.specs.Io.KnownBytes.{Appends};
 ghost use Rattle.dac_config.specs.Table.{node_count};
-ghost use Rattle.dac_core.specs.ModelWorld.{start};
+ghost use Rattle.dac_worlds.specs.ModelWorld.{start};
 ghost use Rattle.dac_script.specs.Line.{HasActors};
 ghost use Rattle.dac_script.specs.declared.line.ScriptLine.TheVariants as says;
 ghost use Rattle.dac_play.specs.Play.{script_text, PlaysLine};
+ghost use Rattle.dac_play.specs.Endings.{IsLeftAt};
+ghost use Rattle.dac_play.specs.Runs.{PlaysRuns};
 ghost use Rattle.dac_play.specs.Simulations.{EndsSim};
 
 use crate::answers::{Counts, answer_line};
@@ -17,7 +19,7 @@ use crate::texts::{OUT_OF_MEMORY, shared_line};
 use dac_base::NoMemory;
 use dac_config::Config;
 use dac_core::{World, WorldEvent};
-use dac_script::{ScriptLine, prepare};
+use dac_script::{ScriptLine, Source, prepare};
 use std::alloc::Global;
 use std::io::{Read, Write};
 
@@ -104,7 +106,9 @@ pub fn play<W: Write>(
     output: &mut W,
 ) -> Result<(), Stop>
     requires { All (HasActors (node_count config.now)) script.now }
-    ensures { OnOk result (Appends (W.contents output.old) (W.contents output.new) (script_text config.now (start config.now) script.now)) }
+    ensures prints { OnOk result (Appends (W.contents output.old) (W.contents output.new) (script_text config.now (start config.now) script.now)) }
+    // The worlds that its lines show are those of runs, so what every run leaves holds of them.
+    ensures runs { OnOk result (PlaysRuns config.now script.now) }
 {
     let mut world = World::new(alloc, config)?;
     for line in script {
@@ -121,10 +125,15 @@ pub fn play<W: Write>(
 
 /// Reads a configuration and a script, plays the script and prints what comes of each line. The whole input is
 /// read and checked before anything is played; where it has a fault, a line that says so is all that is printed.
-pub fn simulate<R: Read, W: Write>(alloc: Global, input: &mut R, output: &mut W) -> Ending
-    ensures { IfSome (R.remaining input.old) (λ bytes. EndsSim bytes result (W.contents output.old) (W.contents output.new)) }
+pub fn simulate_source<R: Read, W: Write>(
+    alloc: Global,
+    source: &mut Source<R>,
+    output: &mut W,
+) -> Ending
+    ensures ends { IfSome source.old.left (λ bytes. EndsSim bytes result (W.contents output.old) (W.contents output.new)) }
+    ensures reads { IsLeftAt result source.new }
 {
-    let (config, script) = match prepare(alloc, input) {
+    let (config, script) = match prepare(alloc, source) {
         Ok(both) => both,
         Err(failure) => return refuse(alloc, failure, output),
     };
@@ -136,4 +145,11 @@ pub fn simulate<R: Read, W: Write>(alloc: Global, input: &mut R, output: &mut W)
             Ending::Stopped
         }
     }
+}
+
+/// As [`simulate_source`], of a reader of which nothing was read.
+pub fn simulate<R: Read, W: Write>(alloc: Global, input: &mut R, output: &mut W) -> Ending
+    ensures { IfSome (R.remaining input.old) (λ bytes. EndsSim bytes result (W.contents output.old) (W.contents output.new)) }
+{
+    simulate_source(alloc, &mut Source::new(input), output)
 }

@@ -3,20 +3,17 @@ use Rattle.std.proofs.Common.{◌≡◌, ℕ, ◌+◌, ◌<◌, ◌≤◌, List,
 use Rattle.std.specs.Prelude.{IfSome}
 use Rattle.std.specs.Io.KnownBytes.{Consumes, IsAtEnd}
 use Rattle.std.proofs.KnownBytes.{Consumes-trans, Consumes-whole}
-use Rattle.dac_script.specs.declared.failure.Failure.{Failure}
-use Rattle.dac_script.specs.declared.failure.Failure.TheVariants as failure
-use Rattle.dac_script.specs.declared.fault.InputFault.TheVariants.{TooLong, NoScript, Read}
-use Rattle.dac_script.specs.Input.{Takes, TakesAtMost, IsReadFailure}
+use Rattle.dac_script.specs.Input.{Takes, TakesAtMost}
 
 -- what was read before and what one read gave are what was read
-pub takes_more : {T : Type 0} (a b c : Option (List ℕ)) (room : ℕ) (old new : List ℕ) (x : T) → Consumes a b old → Takes b c room old new (Ok x) → Consumes a c new
+pub takes_more : {T E : Type 0} (a b c : Option (List ℕ)) (room : ℕ) (old new : List ℕ) (x : T) → Consumes a b old → Takes {E = E} b c room old new (Ok x) → Consumes a c new
 takes_more a b c room old new x had t = subst (Consumes a c) (sym t.kept) (Consumes-trans a b c old t.bytes had t.taken)
 
-pub length_taken : {T : Type 0} (b c : Option (List ℕ)) (room : ℕ) (old new : List ℕ) (x : T) → Takes b c room old new (Ok x) → length new ≤ length old + room
+pub length_taken : {T E : Type 0} (b c : Option (List ℕ)) (room : ℕ) (old new : List ℕ) (x : T) → Takes {E = E} b c room old new (Ok x) → length new ≤ length old + room
 length_taken b c room old new x t = omega (arith, ap length t.kept, length-append old t.bytes, t.few)
 
 -- so many bytes at most, a failed read included
-pub takes_few : {T : Type 0} (a b c : Option (List ℕ)) (room most : ℕ) (old new : List ℕ) (r : Result T Failure) → Consumes a b old → Takes b c room old new r → length old + room ≤ most → TakesAtMost a c most
+pub takes_few : {T E : Type 0} (a b c : Option (List ℕ)) (room most : ℕ) (old new : List ℕ) (r : Result T E) → Consumes a b old → Takes b c room old new r → length old + room ≤ most → TakesAtMost a c most
 takes_few a b c room most old new r had t fits = record { bytes = old ++ t.bytes; taken = Consumes-trans a b c old t.bytes had t.taken; few = omega (arith, length-append old t.bytes, t.few, fits) }
 
 -- a reader that gave more than so many bytes had more
@@ -24,17 +21,6 @@ pub had_more : (a c : Option (List ℕ)) (text : List ℕ) (n : ℕ) → Consume
 had_more None c text n taken more = tt
 had_more (Some x) None text n taken more = absurd taken
 had_more (Some x) (Some y) text n taken more = omega (arith, ap length taken, length-append text y, more)
-
--- a failure that came after some bytes were read
-pub failed_after : (a b : Option (List ℕ)) (text : List ℕ) (why : Failure) → Consumes a b text → IsReadFailure b why → IsReadFailure a why
-failed_after None b text (failure.Input TooLong) taken fails = tt
-failed_after (Some x) None text (failure.Input TooLong) taken fails = absurd taken
-failed_after (Some x) (Some y) text (failure.Input TooLong) taken fails = omega (arith, ap length taken, length-append text y, fails)
-failed_after a b text (failure.Input NoScript) taken fails = fails
-failed_after a b text (failure.Input Read) taken fails = fails
-failed_after a b text (failure.Config fault) taken fails = fails
-failed_after a b text (failure.Script fault) taken fails = fails
-failed_after a b text failure.NoMemory taken fails = fails
 
 -- what was read is all where the reader is at its end
 pub read_whole : (a c : Option (List ℕ)) (text : List ℕ) → Consumes a c text → IsAtEnd c → IfSome a (λ bytes. text ≡ bytes)

@@ -7,6 +7,14 @@ use Rattle.dac_script.specs.declared.failure.Failure.TheVariants as failure
 use Rattle.dac_script.specs.declared.fault.InputFault.TheVariants.{TooLong, NoScript, Read}
 use Rattle.dac_script.specs.Script.{lines_of}
 
+-- the most bytes that an input may have
+abbrev pub max_input : ℕ
+max_input = 2097152
+
+-- an input that isn't too long
+abbrev pub IsTaken : List ℕ → Type 0
+IsTaken bytes = length bytes ≤ max_input
+
 -- the line that parts a configuration from a script
 abbrev pub mark : List ℕ
 mark = codes "--"
@@ -31,20 +39,20 @@ pub record IsParted (text config script : List ℕ) : Type 0 where
   pub script_is : script ≡ join_with_byte 10 behind
 
 -- a reader gave at most so many bytes, which stand behind the text unless an error was answered
-pub record Takes {T : Type 0} (had left : Option (List ℕ)) (room : ℕ) (old new : List ℕ) (result : Result T Failure) : Type 0 where
+pub record Takes {T E : Type 0} (had left : Option (List ℕ)) (room : ℕ) (old new : List ℕ) (result : Result T E) : Type 0 where
   pub bytes : List ℕ
   pub taken : Consumes had left bytes
   pub few : length bytes ≤ room
   pub kept : OnOk result (new ≡ old ++ bytes)
 
--- why an input isn't read to its end: it is too long, a read failed, or want of memory
-abbrev pub IsReadFailure : Option (List ℕ) → Failure → Type 0
-IsReadFailure had (failure.Input TooLong) = IfSome had (λ bytes. 2097152 < length bytes)
-IsReadFailure had (failure.Input NoScript) = ⊥
-IsReadFailure had (failure.Input Read) = Unit {0}
-IsReadFailure had (failure.Config fault) = ⊥
-IsReadFailure had (failure.Script fault) = ⊥
-IsReadFailure had failure.NoMemory = Unit {0}
+-- why an input of at most so many bytes isn't read to its end: it is too long, a read failed, or want of memory
+abbrev pub IsReadFailure : ℕ → Option (List ℕ) → Failure → Type 0
+IsReadFailure most had (failure.Input TooLong) = IfSome had (λ bytes. most < length bytes)
+IsReadFailure most had (failure.Input NoScript) = ⊥
+IsReadFailure most had (failure.Input Read) = Unit {0}
+IsReadFailure most had (failure.Config fault) = ⊥
+IsReadFailure most had (failure.Script fault) = ⊥
+IsReadFailure most had failure.NoMemory = Unit {0}
 
 -- a reader gave at most so many bytes
 pub record TakesAtMost (had left : Option (List ℕ)) (most : ℕ) : Type 0 where

@@ -10,37 +10,52 @@ use Rattle.dac_script.specs.declared.fault.InputFault.TheVariants.{TooLong, NoSc
 use Rattle.dac_script.specs.declared.fault.ScriptFault.{ScriptFault}
 use Rattle.dac_script.specs.declared.line.ScriptLine.{ScriptLine}
 use Rattle.dac_script.specs.Script.{lines_of, ReadsAs, IsFirstFault}
-use Rattle.dac_script.specs.Input.{mark, IsParted}
+use Rattle.dac_script.specs.Input.{max_input, IsTaken, mark, IsParted}
 
--- an input has two parts, which say this configuration and this script
-pub record Says (bytes : List ℕ) (table : Table) (lines : List ScriptLine) : Type 0 where
+-- a text has two parts, which say this configuration and this script
+pub record HasParts (text : List ℕ) (table : Table) (lines : List ScriptLine) : Type 0 where
   pub config : List ℕ
   pub script : List ℕ
-  pub parted : IsParted bytes config script
+  pub parted : IsParted text config script
   pub table_is : IsConfigOf config table
   pub lines_are : ReadsAs table (lines_of script) lines
 
--- the configuration of an input has this fault
-pub record HasConfigFault (bytes : List ℕ) (fault : ConfigFault) : Type 0 where
+-- the configuration of a text has this fault
+pub record HasConfigFault (text : List ℕ) (fault : ConfigFault) : Type 0 where
   pub config : List ℕ
   pub script : List ℕ
-  pub parted : IsParted bytes config script
+  pub parted : IsParted text config script
   pub fault_is : config_at config ≡ Err fault
 
--- the configuration of an input has no fault, and its script has this one
-pub record HasScriptFault (bytes : List ℕ) (fault : ScriptFault) : Type 0 where
+-- the configuration of a text has no fault, and its script has this one
+pub record HasScriptFault (text : List ℕ) (fault : ScriptFault) : Type 0 where
   pub config : List ℕ
   pub script : List ℕ
-  pub parted : IsParted bytes config script
+  pub parted : IsParted text config script
   pub table : Table
   pub table_is : IsConfigOf config table
   pub fault_is : IsFirstFault table (lines_of script) fault
 
--- why an input isn't read; of a failed read and of want of memory the input says nothing
+-- why the parts of a text aren't read: it has only one, its configuration or its script has a fault, or want of memory
+abbrev pub IsPartsFailure : List ℕ → Failure → Type 0
+IsPartsFailure text (failure.Input TooLong) = ⊥
+IsPartsFailure text (failure.Input NoScript) = All (λ line. line ≢ mark) (lines_of text)
+IsPartsFailure text (failure.Input Read) = ⊥
+IsPartsFailure text (failure.Config fault) = HasConfigFault text fault
+IsPartsFailure text (failure.Script fault) = HasScriptFault text fault
+IsPartsFailure text failure.NoMemory = Unit {0}
+
+-- an input isn't too long, and says this configuration and this script
+pub record Says (bytes : List ℕ) (table : Table) (lines : List ScriptLine) : Type 0 where
+  pub taken : IsTaken bytes
+  pub parts : HasParts bytes table lines
+
+-- Why an input isn't read. What it says is looked at only where it isn't too long. Of a failed read and of want of
+-- memory the input says nothing.
 abbrev pub IsFailureOf : List ℕ → Failure → Type 0
-IsFailureOf bytes (failure.Input TooLong) = 2097152 < length bytes
-IsFailureOf bytes (failure.Input NoScript) = All (λ line. line ≢ mark) (lines_of bytes)
+IsFailureOf bytes (failure.Input TooLong) = max_input < length bytes
+IsFailureOf bytes (failure.Input NoScript) = IsTaken bytes × All (λ line. line ≢ mark) (lines_of bytes)
 IsFailureOf bytes (failure.Input Read) = Unit {0}
-IsFailureOf bytes (failure.Config fault) = HasConfigFault bytes fault
-IsFailureOf bytes (failure.Script fault) = HasScriptFault bytes fault
+IsFailureOf bytes (failure.Config fault) = IsTaken bytes × HasConfigFault bytes fault
+IsFailureOf bytes (failure.Script fault) = IsTaken bytes × HasScriptFault bytes fault
 IsFailureOf bytes failure.NoMemory = Unit {0}

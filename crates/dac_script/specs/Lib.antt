@@ -1,3 +1,4 @@
+pub mod Sources
 pub mod Words
 pub mod Faults
 pub mod Asked

@@ -1,20 +1,20 @@
 //! The whole input: how it is read, and how a script is parted from its configuration.
 
-ghost use Rattle.std.specs.Prelude.{◌≡◌, ◌≢◌, ℕ, List, [], ◌∷◌, ◌++◌, ◌+◌, ◌<◌, ◌≤◌, length, All, IfOk, IfErr, OnOk, IfSome, IfNone, MatchOption, false, codes};
-ghost use Rattle.std.specs.Io.KnownBytes.{Consumes, IsAtEnd};
+ghost use Rattle.std.specs.Prelude.{◌≡◌, ◌≢◌, ℕ, List, [], ◌∷◌, ◌++◌, ◌+◌, ◌<◌, ◌≤◌, length, All, IfOk, IfErr, OnOk, OnErr, IfSome, IfNone, MatchOption};
 ghost use Rattle.dac_script.specs.Script.{lines_of};
-ghost use Rattle.dac_script.specs.Input.{mark, line_len, IsParted, IsReadFailure, Takes, TakesAtMost};
+ghost use Rattle.dac_script.specs.Input.{max_input, IsTaken, mark, line_len, IsParted, IsReadFailure, Takes, TakesAtMost};
+ghost use Rattle.dac_script.specs.Sources.{IsOpen, IsReadBy};
+ghost use Rattle.dac_script.specs.declared.source.Progress.TheVariants.{Open};
 
 use crate::failure::Failure;
 use crate::fault::InputFault;
+use crate::source::{Progress, Source};
+use dac_base::NoMemory;
 use std::alloc::Global;
-use std::io::{ErrorKind, Read};
+use std::io::Read;
 
 /// The most bytes that an input may have.
 pub const MAX_INPUT: usize = 2_097_152;
-
-/// After so many reads an input that hasn't ended is given up.
-pub const MAX_READS: u32 = 4_194_304;
 
 const MARK: &[u8] = b"--";
 
@@ -55,50 +55,63 @@ pub fn parted(text: &[u8]) -> Option<(&[u8], &[u8])>
     }
 }
 
-/// One read of at most `room` bytes, which go behind the text. Whether the input may go on.
-fn read_on<R: Read>(input: &mut R, room: usize, text: &mut Vec<u8>) -> Result<bool, Failure>
-    requires { 0 < room }
-    ensures taken { Takes (R.remaining input.old) (R.remaining input.new) room text.old.items text.new.items result }
-    ensures end { IfOk result (λ goes_on. goes_on ≡ false → IsAtEnd (R.remaining input.new)) }
-    ensures failed { IfErr result (IsReadFailure (R.remaining input.old)) }
+/// One read of at most `room` bytes, which go behind the text.
+fn read_on<R: Read>(source: &mut Source<R>, room: usize, text: &mut Vec<u8>) -> Result<(), NoMemory>
+    requires is_open { IsOpen source.old }
+    requires room { 0 < room }
+    ensures taken { Takes source.old.left source.new.left room text.old.items text.new.items result }
+    ensures counted { source.new.reads ≡ source.old.reads + 1 }
+    ensures more { length text.old.items < length text.new.items → source.new.progress ≡ Open }
+    ensures lacked { OnErr result (source.new.progress ≡ Open) }
 {
     let mut buffer = [0u8; 4096];
     let room = room.min(buffer.len());
-    match input.read(&mut buffer[..room]) {
-        Ok(0) => Ok(false),
-        Ok(count) => {
-            text.extend_from_slice(&buffer[..count])?;
-            Ok(true)
+    let Ok(count) = source.read(&mut buffer[..room]) else {
+        return Ok(());
+    };
+    if count > 0 {
+        text.extend_from_slice(&buffer[..count])?;
+    }
+    Ok(())
+}
+
+/// Reads an input to its end, of at most so many bytes.
+///
+/// Reading stops at one byte more than that, and where the source was read as often as it may be. A read that
+/// was only interrupted is tried again; any other failed read is answered.
+pub(crate) fn read_within<R: Read>(
+    alloc: Global,
+    source: &mut Source<R>,
+    most: usize,
+) -> Result<Vec<u8>, Failure>
+    requires { most < usize.MAX }
+    ensures whole { IfOk result (λ text. IfSome source.old.left (λ bytes. text.items ≡ bytes)) }
+    ensures short { IfOk result (λ text. length text.items ≤ most) }
+    ensures stops { TakesAtMost source.old.left source.new.left (most + 1) }
+    ensures failed { IfErr result (IsReadFailure most source.old.left) }
+    ensures reads { IsReadBy result source.new }
+{
+    let mut text = Vec::new(alloc);
+    while source.is_open() {
+        let room = most + 1 - text.len();
+        read_on(source, room, &mut text)?;
+        if text.len() > most {
+            return Err(Failure::Input(InputFault::TooLong));
         }
-        Err(error) => {
-            if error.kind() == ErrorKind::Interrupted {
-                return Ok(true);
-            }
-            Err(Failure::Input(InputFault::Read))
-        }
+    }
+    match source.progress() {
+        Progress::Ended => Ok(text),
+        Progress::Open | Progress::Failed => Err(Failure::Input(InputFault::Read)),
     }
 }
 
-/// Reads an input to its end.
-///
-/// Reading stops at one byte more than an input may have, which is too long then, and after so many reads
-/// that haven't ended it. A read that was only interrupted is tried again; any other failed read is answered.
-pub fn read_input<R: Read>(alloc: Global, input: &mut R) -> Result<Vec<u8>, Failure>
-    ensures whole { IfOk result (λ text. IfSome (R.remaining input.old) (λ bytes. text.items ≡ bytes)) }
-    ensures short { IfOk result (λ text. length text.items ≤ 2097152) }
-    ensures stops { TakesAtMost (R.remaining input.old) (R.remaining input.new) 2097153 }
-    ensures failed { IfErr result (IsReadFailure (R.remaining input.old)) }
+/// Reads an input to its end. It is too long where it has more bytes than an input may have.
+pub fn read_input<R: Read>(alloc: Global, source: &mut Source<R>) -> Result<Vec<u8>, Failure>
+    ensures whole { IfOk result (λ text. IfSome source.old.left (λ bytes. text.items ≡ bytes)) }
+    ensures short { IfOk result (λ text. IsTaken text.items) }
+    ensures stops { TakesAtMost source.old.left source.new.left (max_input + 1) }
+    ensures failed { IfErr result (IsReadFailure max_input source.old.left) }
+    ensures reads { IsReadBy result source.new }
 {
-    let mut text = Vec::new(alloc);
-    for _read in 0..MAX_READS {
-        let room = MAX_INPUT + 1 - text.len();
-        let goes_on = read_on(input, room, &mut text)?;
-        if text.len() > MAX_INPUT {
-            return Err(Failure::Input(InputFault::TooLong));
-        }
-        if !goes_on {
-            return Ok(text);
-        }
-    }
-    Err(Failure::Input(InputFault::Read))
+    read_within(alloc, source, MAX_INPUT)
 }

@@ -12,13 +12,13 @@ mod input;
 mod line;
 mod preparing;
 mod script;
-#[cfg(test)]
-mod tests;
+mod source;
 mod words;
 
 pub use failure::Failure;
 pub use fault::{InputFault, ScriptFault, ScriptFaultKind};
-pub use input::{MAX_INPUT, MAX_READS, parted, read_input};
+pub use input::{MAX_INPUT, parted, read_input};
 pub use line::ScriptLine;
 pub use preparing::prepare;
 pub use script::read_script;
+pub use source::{MAX_READS, Progress, Source};

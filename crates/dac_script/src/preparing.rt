@@ -1,24 +1,26 @@
 //! A whole input read: its configuration and its script.
 
-ghost use Rattle.std.specs.Prelude.{IfOk, IfErr, IfSome, All};
+ghost use Rattle.std.specs.Prelude.{◌≡◌, IfOk, IfErr, IfSome, All};
 ghost use Rattle.dac_config.specs.Table.{node_count};
 ghost use Rattle.dac_script.specs.Line.{HasActors};
-ghost use Rattle.dac_script.specs.Inputs.{Says, IsFailureOf};
+ghost use Rattle.dac_script.specs.Inputs.{HasParts, IsPartsFailure, Says, IsFailureOf};
+ghost use Rattle.dac_script.specs.Sources.{IsReadBy};
 
 use crate::failure::Failure;
 use crate::fault::InputFault;
 use crate::input::{parted, read_input};
 use crate::line::ScriptLine;
 use crate::script::read_script;
+use crate::source::Source;
 use dac_config::{Config, read_config};
 use std::alloc::Global;
 use std::io::Read;
 
 /// Reads both parts of an input: its configuration, and then its script.
 fn parts_of(alloc: Global, text: &[u8]) -> Result<(Config, Vec<ScriptLine>), Failure>
-    ensures says { IfOk result (λ both. Says text.now both.0 both.1.items) }
+    ensures says { IfOk result (λ both. HasParts text.now both.0 both.1.items) }
     ensures actors { IfOk result (λ both. All (HasActors (node_count both.0)) both.1.items) }
-    ensures fails { IfErr result (IsFailureOf text.now) }
+    ensures fails { IfErr result (IsPartsFailure text.now) }
 {
     let Some((config, script)) = parted(text) else {
         return Err(Failure::Input(InputFault::NoScript));
@@ -30,12 +32,16 @@ fn parts_of(alloc: Global, text: &[u8]) -> Result<(Config, Vec<ScriptLine>), Fai
 
 /// Reads and checks a whole input: the input as such, its configuration and then its script. The first of these
 /// that has a fault is answered; `NoMemory` only where memory is refused before a fault is met.
-pub fn prepare<R: Read>(alloc: Global, input: &mut R) -> Result<(Config, Vec<ScriptLine>), Failure>
-    ensures says { IfOk result (λ both. IfSome (R.remaining input.old) (λ bytes. Says bytes both.0 both.1.items)) }
+pub fn prepare<R: Read>(
+    alloc: Global,
+    source: &mut Source<R>,
+) -> Result<(Config, Vec<ScriptLine>), Failure>
+    ensures says { IfOk result (λ both. IfSome source.old.left (λ bytes. Says bytes both.0 both.1.items)) }
     ensures actors { IfOk result (λ both. All (HasActors (node_count both.0)) both.1.items) }
-    ensures fails { IfErr result (λ why. IfSome (R.remaining input.old) (λ bytes. IsFailureOf bytes why)) }
+    ensures fails { IfErr result (λ why. IfSome source.old.left (λ bytes. IsFailureOf bytes why)) }
+    ensures reads { IsReadBy result source.new }
 {
-    let text = read_input(alloc, input)?;
+    let text = read_input(alloc, source)?;
     let both = parts_of(alloc, &text)?;
     Ok(both)
 }

@@ -22,8 +22,6 @@ mod permissions;
 mod reading;
 mod sections;
 mod terms;
-#[cfg(test)]
-mod tests;
 
 pub use draft::{Draft, DraftApp, Permission, SyncWait};
 pub use limits::{MAX_APPS, MAX_NAME, MAX_NODES, MAX_TEXT};

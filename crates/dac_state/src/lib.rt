@@ -5,8 +5,8 @@
 //! The state of one operation is what it means alone ([`State::delta_of`]), and the join of what two sets
 //! mean is what both mean together, so nothing is lost. States are a lattice, for every value of the type.
 //!
-//! A state has one spelling in bytes ([`State::encode`]), and is read from it ([`State::decode`]). It takes room for each dot that it has heard of, and
-//! keeps none of the operations.
+//! A state has one spelling in bytes ([`State::encode`]), and is read from it ([`State::decode`]). It keeps none of the
+//! operations.
 #![tactic(auto)]
 
 pub use dac_bytes::{ReadFault as StateFault, ReadFaultKind as StateFaultKind};
@@ -17,8 +17,4 @@ pub use state::State;
 
 mod coding;
 mod decoding;
-#[cfg(test)]
-mod decoding_tests;
 mod state;
-#[cfg(test)]
-mod tests;

@@ -1,5 +1,5 @@
 -- What a controller knows, in short: how much it has heard, the life of each node, and for each application who holds it, what is to become of it, and how each node stands for it. (This project's own.)
-use Rattle.std.specs.Prelude.{◌≡◌, ℕ, ◌-◌, not, List, ◌++◌, length, map as list_map, replicate, Option, None, Some, if◌then◌else◌}
+use Rattle.std.specs.Prelude.{ℕ, ◌-◌, not, List, ◌++◌, length, map as list_map, replicate, Option, None, Some, if◌then◌else◌}
 use Rattle.std.specs.FinSet as set
 use Rattle.std.specs.FinMap as map
 use Rattle.dac_base.specs.declared.NodeId.{NodeId}
@@ -8,8 +8,8 @@ use Rattle.dac_config.specs.Table.{Table}
 use Rattle.dac_chains.specs.declared.lives.Life.{Life}
 use Rattle.dac_chains.specs.Lives.{IsLive, live_at}
 use Rattle.dac_meaning.specs.StateValue.{StateValue}
-use Rattle.dac_decide.specs.declared.verdicts.Verdict.TheVariants.{Nobody}
-use Rattle.dac_decide.specs.Placement.{IsPermittedAt, is_permitted_at, IsStartedAt, is_started_at, key_at, nodes_of, apps_of, verdict_of}
+use Rattle.dac_placement.specs.declared.verdicts.Verdict.TheVariants.{Nobody}
+use Rattle.dac_placement.specs.Placement.{IsPermittedAt, is_permitted_at, IsStartedAt, is_started_at, key_at, nodes_of, apps_of, verdict_of}
 use Rattle.dac_status.specs.declared.marks.Mark.{Mark}
 use Rattle.dac_status.specs.declared.marks.Mark.TheVariants.{Down, Barred, Idle, Ok}
 use Rattle.dac_status.specs.declared.summary.AppSummary.{AppSummary}

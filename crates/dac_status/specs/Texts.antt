@@ -14,9 +14,9 @@ use Rattle.dac_chains.specs.declared.claims.How.TheVariants as how
 use Rattle.dac_chains.specs.declared.claims.Claim.{Claim}
 use Rattle.dac_config.specs.Table.{Table, node_count, node_name, app_name, group_of}
 use Rattle.dac_config.specs.Canonical.{name_text}
-use Rattle.dac_decide.specs.declared.verdicts.Verdict.{Verdict}
-use Rattle.dac_decide.specs.declared.verdicts.Verdict.TheVariants as verdict
-use Rattle.dac_decide.specs.Placement.{nodes_of, apps_of}
+use Rattle.dac_placement.specs.declared.verdicts.Verdict.{Verdict}
+use Rattle.dac_placement.specs.declared.verdicts.Verdict.TheVariants as verdict
+use Rattle.dac_placement.specs.Placement.{nodes_of, apps_of}
 use Rattle.dac_status.specs.declared.marks.Mark.{Mark}
 use Rattle.dac_status.specs.declared.marks.Mark.TheVariants as mark
 use Rattle.dac_status.specs.declared.summary.AppSummary.{AppSummary}

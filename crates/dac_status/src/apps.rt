@@ -11,7 +11,7 @@ use crate::summary::{AppSummary, MAX_APPS, MAX_NODES};
 use dac_base::{AppId, NoMemory, NodeId};
 use dac_chains::{Claim, How};
 use dac_config::{Config, printed_name};
-use dac_decide::Verdict;
+use dac_placement::Verdict;
 use std::alloc::Global;
 
 /// How many groups a list can have: each has a node of its own.

@@ -14,6 +14,3 @@ mod summary;
 pub use marks::{Mark, mark_of};
 pub use pages::{header, page};
 pub use summary::{AppSummary, MAX_APPS, MAX_NODES, Summary};
-
-#[cfg(test)]
-mod tests;

@@ -6,8 +6,8 @@ ghost use Rattle.dac_status.specs.Summaries.{IsMark, mark_of};
 
 use dac_base::{AppId, NodeId};
 use dac_config::Config;
-use dac_state::State;
-use dac_wishes::Key;
+use dac_placement::{is_permitted, is_started};
+use dac_state::{Key, State};
 
 /// How a node stands for an application: the first of these that holds.
 #[derive(Clone, Copy, Debug, PartialEq, Eq)]
@@ -33,13 +33,10 @@ pub fn mark_of(config: &Config, state: &State, app: AppId, node: NodeId) -> Mark
         return Mark::Down;
     };
     let key = Key { app, node, inc };
-    if !state
-        .permissions()
-        .permitted(key, config.default_permission(app))
-    {
+    if !is_permitted(config, state, key) {
         return Mark::Barred;
     }
-    if !state.wishes().wished(key) {
+    if !is_started(state, key) {
         return Mark::Idle;
     }
     Mark::Ok

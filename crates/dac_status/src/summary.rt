@@ -3,14 +3,14 @@
 ghost use Rattle.std.specs.Prelude.{◌≡◌, ◌<◌};
 ghost use Rattle.std.specs.FinMap as map;
 ghost use Rattle.dac_config.specs.Table.{app_count};
-ghost use Rattle.dac_decide.specs.Placement.{verdict_of};
+ghost use Rattle.dac_placement.specs.Placement.{verdict_of};
 ghost use Rattle.dac_status.specs.Summaries.{marks_of, lives_of, no_app, app_summary, app_summaries, summary_of};
 
 use crate::marks::{Mark, mark_of};
 use dac_base::{AppId, NodeId};
 use dac_chains::{Claim, Life};
 use dac_config::Config;
-use dac_decide::{Verdict, verdict};
+use dac_placement::{Verdict, verdict};
 use dac_state::State;
 
 /// How many nodes a summary has a place for: as many as a configuration can have.

@@ -53,6 +53,7 @@ impl<V: Lattice> DotFun<V> {
         ensures ok { IfOk result (λ pushed. pushed ≡ is_above_entries dot_cmp self.old dot) }
         ensures new { IfOk result (λ pushed. self.new ≡ (if pushed then self.old ++ (dot, value) ∷ [] else self.old)) }
         ensures err { OnErr result (self.new ≡ self.old) }
+        ensures last { OnErr result (is_above_entries dot_cmp self.old dot ≡ true) }
     {
         value.known();
         if !ends_below(&self.entries, dot) {

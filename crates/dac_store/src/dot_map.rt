@@ -1,5 +1,5 @@
 //! Stores at keys.
-ghost use Rattle.std.specs.Prelude.{◌≡◌, ◌↔◌, ◌&&◌, [], ◌∷◌, ◌++◌, not, IsTrue, IfOk, OnErr, if◌then◌else◌};
+ghost use Rattle.std.specs.Prelude.{◌≡◌, ◌↔◌, ◌&&◌, [], ◌∷◌, ◌++◌, not, true, IsTrue, IfOk, OnErr, if◌then◌else◌};
 ghost use Rattle.std.specs.Option.{option_copied};
 ghost use Rattle.std.specs.FinMap.{find};
 ghost use Rattle.dac_store.specs.Appending.{is_above_entries};
@@ -59,6 +59,7 @@ impl<K: MapKey, S: DotStore> DotMap<K, S> {
         ensures ok { IfOk result (λ pushed. pushed ≡ (is_above_entries K.cmp self.old key && not (S.is_empty store))) }
         ensures new { IfOk result (λ pushed. self.new ≡ (if pushed then self.old ++ (key, store) ∷ [] else self.old)) }
         ensures err { OnErr result (self.new ≡ self.old) }
+        ensures last { OnErr result ((is_above_entries K.cmp self.old key && not (S.is_empty store)) ≡ true) }
     {
         store.known();
         if !ends_below(&self.entries, key) || store.is_empty() {

@@ -55,6 +55,7 @@ impl DotSet {
         ensures ok { IfOk result (λ pushed. pushed ≡ is_above_dots self.old dot) }
         ensures new { IfOk result (λ pushed. self.new ≡ (if pushed then set.insert self.old dot else self.old)) }
         ensures err { OnErr result (self.new ≡ self.old) }
+        ensures last { OnErr result (is_above_dots self.old dot ≡ true) }
     {
         if !self.ends_below(dot) {
             return Ok(false);

@@ -22,5 +22,3 @@ mod dot_fun;
 mod dot_map;
 mod dot_set;
 mod dot_store;
-#[cfg(test)]
-mod tests;

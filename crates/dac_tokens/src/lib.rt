@@ -9,8 +9,6 @@
 
 mod fault;
 mod scan;
-#[cfg(test)]
-mod tests;
 mod token;
 mod tokens;
 

@@ -11,3 +11,4 @@ pub mod StoredDeltas
 pub mod ByKey
 pub mod StartsByKey
 pub mod PermitsByKey
+pub mod laws

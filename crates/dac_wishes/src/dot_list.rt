@@ -51,24 +51,3 @@ impl DotList {
         Ok(DotList { dots })
     }
 }
-
-#[cfg(test)]
-mod tests {
-    use super::*;
-    use dac_base::NodeId;
-    use dac_dots::Origin;
-    use std::test::Fail;
-
-    #[test]
-    fn gives_its_vector_back(rt: HostRuntime) -> Result<(), Fail> {
-        let origin = Origin {
-            node: NodeId(0),
-            inc: 1,
-        };
-        let dots = [Dot { origin, n: 2 }, Dot { origin, n: 1 }];
-        let list = DotList::new(Vec::from_slice(rt.alloc(), &dots)?);
-        assert_eq!(rt; list.as_slice(), dots.as_slice());
-        assert_eq!(rt; list.copy()?.into_vec().as_slice(), dots.as_slice());
-        Ok(())
-    }
-}

@@ -23,7 +23,5 @@ mod dot_list;
 mod key;
 mod permissions;
 mod permit_act;
-#[cfg(test)]
-mod tests;
 mod wish_act;
 mod wishes;

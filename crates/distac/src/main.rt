@@ -1,15 +1,11 @@
 //! `distac`, a replicated controller for distributed applications of Erlang/OTP.
 //!
-//! `distac sim` reads a configuration and a script, plays the script in a world of controllers, and prints what
-//! comes of each line. This crate is the command line alone: `run` is the whole program over a reader and a
-//! writer, and `main` calls it.
+//! `distac check` reads a configuration and prints its canonical text. `distac sim` reads a configuration and a script,
+//! plays the script in a world of controllers, and prints what comes of each line. This crate is the process alone: `run`
+//! is the whole program over a reader and a writer, and `main` calls it.
 #![tactic(auto)]
 
-mod command_line;
-mod run;
-#[cfg(test)]
-mod tests;
-
+pub use dac_program::run;
 use std::process::ExitCode;
 
 fn main(rt: HostRuntime) -> anyhow::Result<ExitCode> {
@@ -19,6 +15,6 @@ fn main(rt: HostRuntime) -> anyhow::Result<ExitCode> {
     for word in &words {
         texts.push(word.as_str())?;
     }
-    let status = run::run(&rt, alloc, &texts, &mut rt.stdin(), &mut rt.stdout());
+    let status = run(&rt, alloc, &texts, &mut rt.stdin(), &mut rt.stdout());
     Ok(ExitCode::from(status))
 }

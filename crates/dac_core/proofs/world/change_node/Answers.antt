@@ -4,7 +4,7 @@ use Rattle.std.specs.List.{slice_get}
 use Rattle.std.specs.Prelude.{refl}
 use Rattle.std.proofs.lemmas.Option.{slice_get_read}
 use Rattle.dac_core.proofs.Lists.{slice_get-set}
-use Rattle.dac_core.proofs.Follow.{changed_at}
+use Rattle.dac_worlds.specs.laws.Follow.{changed_at}
 use Rattle.dac_core.proofs.world.change_node.Goals as goal
 
 pub returns-clause-nodes : goal.returns-clause-nodes

@@ -1,4 +1,4 @@
-use Rattle.std.proofs.Common.{sym}
+use Rattle.std.proofs.Common.{Result, Ok, Err, OnErr, sym}
 use Rattle.dac_dots.proofs.KeyLemmas.{found, has_key-insert, has_key-again, rising_searched}
 use Rattle.dac_dots.proofs.keys.insert_key.Goals as goal
 
@@ -14,3 +14,13 @@ returns-in_default-clause-ok g c q =
     let facts = c.binary_search.ensures in
     let here = found g.met.K.Ord.total _ c.args.key _ (rw c.deref.ensures.value c.requires) facts.bound facts.position in
     has_key-again g.met.K.Ord.total g.met.K.MapKey.exact _ _ (rw (c.in_default.is, c.deref.ensures.value) at (sym here)) q
+
+fails_so : {T E P : Type 0} (r : Result T E) → P → OnErr r P
+fails_so (Ok x) p = tt
+fails_so (Err e) p = p
+
+pub returns-in_err-insert-clause-first : goal.returns-in_err-insert-clause-first
+returns-in_err-insert-clause-first g c =
+    let facts = c.binary_search.ensures in
+    let here = found g.met.K.Ord.total _ c.args.key _ (rw c.deref.ensures.value c.requires) facts.bound facts.position in
+    fails_so c.from_residual.result (rw (c.in-Err.is, c.deref.ensures.value) at (sym here))

@@ -1,5 +1,5 @@
-use Rattle.std.proofs.Common.{arith, length, subst, sym, ◌-◌, ◌<◌}
-use Rattle.dac_lattice.specs.PieceLaws.{operation_at, step_at}
+use Rattle.std.proofs.Common.{arith}
+use Rattle.dac_lattice.specs.PieceLaws.{step_at}
 use Rattle.dac_lattice.proofs.pieces.join_deltas.Goals as goal
 
 pub loop-i-preserved : goal.loop-i-preserved
@@ -12,8 +12,3 @@ loop-i-preserved g c =
       means = rw (c.in_ok-joined.ensures, c.in_ok-delta.ensures)
           (step_at laws g.met.P.Bottom.bottom_value g.met.P.Bottom.least piece c.args.operations.now c.loop-i.i _ _ c.requires c.loop-i-test.true c.loop-i.invariant.within c.index-operations-i.is c.loop-i.invariant.value c.loop-i.invariant.means);
     }
-
-pub delta-requires : goal.delta-requires
-delta-requires g c =
-    let lt : c.loop-i.i - 1 < length c.args.operations.now = omega arith in
-    subst (λ o. g.P.Piece.fits o.0 o.1) (sym c.index-operations-i.is) (c.requires.fit _ (operation_at c.args.operations.now _ _ lt))

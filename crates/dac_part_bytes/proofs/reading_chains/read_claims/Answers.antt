@@ -1,9 +1,17 @@
-use Rattle.std.proofs.Common.{ap, Ok}
-use Rattle.dac_base.specs.Ids.{apps_total, exact_apps}
-use Rattle.dac_part_bytes.specs.Reading.{all_claims_at, claims_in_order_at, counted_at}
-use Rattle.dac_part_bytes.proofs.ReadLoops.{entries_again}
+use Rattle.std.proofs.Common.{arith}
+use Rattle.dac_bytes.specs.laws.Calls.{found_call, again_call}
+use Rattle.dac_part_bytes.specs.Reading.{all_claims_at}
+use Rattle.dac_part_bytes.specs.Spelling.{claims_bytes}
+use Rattle.dac_part_bytes.specs.ChainForm.{AreClaimsInForm}
+use Rattle.dac_part_bytes.specs.laws.ChainLaws.{claims_takes, claims_again}
 use Rattle.dac_part_bytes.proofs.reading_chains.read_claims.Goals as goal
 
-pub returns : goal.returns
-unfolding all_claims_at claims_in_order_at counted_at
-returns c = rw (← c.in_ok-count.ensures, c.in_ok-read.ensures) (ap (λ m. Ok (m, c.in_ok-read.read.1)) (entries_again apps_total exact_apps c.in_ok-read.read.0))
+pub returns-clause-found : goal.returns-clause-found
+returns-clause-found c =
+    found_call (λ x. x) (all_claims_at c.args.config.now) claims_bytes (AreClaimsInForm c.args.config.now)
+    (claims_takes c.args.config.now) c.args.reader c.read_all_claims.result c.read_all_claims.ensures
+
+pub returns-clause-again : goal.returns-clause-again
+returns-clause-again c =
+    again_call (λ x. x) (all_claims_at c.args.config.now) claims_bytes (AreClaimsInForm c.args.config.now)
+    (claims_again c.args.config.now (omega (arith, c.nodes-nodes.ensures.count, c.nodes-nodes.type_inv)) (omega (arith, c.apps-apps.ensures.count, c.apps-apps.type_inv))) c.args.reader c.read_all_claims.result c.read_all_claims.ensures

@@ -1,9 +1,18 @@
-use Rattle.std.proofs.Common.{ap, Ok}
-use Rattle.dac_base.specs.Ids.{nodes_total, exact_nodes}
-use Rattle.dac_part_bytes.specs.Reading.{all_lives_at, lives_in_order_at, counted_at}
-use Rattle.dac_part_bytes.proofs.ReadLoops.{entries_again}
+use Rattle.std.proofs.Common.{arith}
+use Rattle.dac_config.specs.Table.{node_count}
+use Rattle.dac_bytes.specs.laws.Calls.{found_call, again_call}
+use Rattle.dac_part_bytes.specs.Reading.{all_lives_at}
+use Rattle.dac_part_bytes.specs.Spelling.{lives_bytes}
+use Rattle.dac_part_bytes.specs.ChainForm.{AreLivesInForm}
+use Rattle.dac_part_bytes.specs.laws.ChainLaws.{lives_takes, lives_again}
 use Rattle.dac_part_bytes.proofs.reading_chains.read_lives.Goals as goal
 
-pub returns : goal.returns
-unfolding all_lives_at lives_in_order_at counted_at
-returns c = rw (← c.in_ok-count.ensures, ← c.nodes.ensures.count, c.in_ok-read.ensures) (ap (λ m. Ok (m, c.in_ok-read.read.1)) (entries_again nodes_total exact_nodes c.in_ok-read.read.0))
+pub returns-clause-found : goal.returns-clause-found
+returns-clause-found c =
+    found_call (λ x. x) (all_lives_at (node_count c.args.config.now)) lives_bytes (AreLivesInForm (node_count c.args.config.now))
+    (lives_takes (node_count c.args.config.now)) c.args.reader c.read_all_lives.result c.read_all_lives.ensures
+
+pub returns-clause-again : goal.returns-clause-again
+returns-clause-again c =
+    again_call (λ x. x) (all_lives_at (node_count c.args.config.now)) lives_bytes (AreLivesInForm (node_count c.args.config.now))
+    (lives_again (node_count c.args.config.now) (omega (arith, c.nodes-nodes.ensures.count, c.nodes-nodes.type_inv))) c.args.reader c.read_all_lives.result c.read_all_lives.ensures

@@ -1,6 +1,10 @@
 use Rattle.std.proofs.Common.{refl, sym, ◌∙◌}
 use Rattle.dac_play.proofs.Playing.{played_more, written}
+use Rattle.dac_play.proofs.ScriptRuns.{plays_runs}
 use Rattle.dac_play.proofs.sim.play.Goals as goal
+
+pub returns-clause-runs : goal.returns-clause-runs
+returns-clause-runs g c = plays_runs c.args.config.now c.args.script.now
 
 pub loop-line-preserved : goal.loop-line-preserved
 loop-line-preserved g c =

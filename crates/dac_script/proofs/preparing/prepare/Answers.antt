@@ -1,6 +1,6 @@
 use Rattle.std.proofs.lemmas.Result.{err_from_is_err_and}
 use Rattle.dac_script.specs.Inputs.{Says, IsFailureOf}
-use Rattle.dac_script.proofs.WholeInput.{of_bytes, read_fails}
+use Rattle.dac_script.proofs.WholeInput.{of_bytes, read_fails, parts_fail, left_by_parts}
 use Rattle.dac_script.proofs.preparing.prepare.Goals as goal
 
 pub returns-in_err-text-clause-fails : goal.returns-in_err-text-clause-fails
@@ -11,7 +11,15 @@ returns-in_err-text-clause-fails g c =
 pub returns-in_err-both-clause-fails : goal.returns-in_err-both-clause-fails
 returns-in_err-both-clause-fails g c =
     let p = err_from_is_err_and c.from_residual-in_err-both.result c.from_residual-in_err-both.ensures.1 in
-    rw (p.1, p.2) (of_bytes _ c.in_ok-text.text.items (λ bytes. IsFailureOf bytes c.in_err-both.field-0.0) c.in_ok-text.ensures.whole (rw c.deref.ensures.value at c.in_err-both.ensures.fails))
+    let fails = parts_fail c.in_ok-text.text.items _ c.in_ok-text.ensures.short (rw c.deref.ensures.value at c.in_err-both.ensures.fails) in
+    rw (p.1, p.2) (of_bytes _ c.in_ok-text.text.items (λ bytes. IsFailureOf bytes c.in_err-both.field-0.0) c.in_ok-text.ensures.whole fails)
+
+pub returns-in_err-both-clause-reads : goal.returns-in_err-both-clause-reads
+returns-in_err-both-clause-reads g c =
+    let p = err_from_is_err_and c.from_residual-in_err-both.result c.from_residual-in_err-both.ensures.1 in
+    rw (p.1, p.2) (left_by_parts c.in_ok-text.text.items _ _ c.in_ok-text.ensures.reads (rw c.deref.ensures.value at c.in_err-both.ensures.fails))
 
 pub returns-clause-says : goal.returns-clause-says
-returns-clause-says g c = of_bytes _ c.in_ok-text.text.items (λ bytes. Says bytes c.in_ok-both.both.0 c.in_ok-both.both.1.items) c.in_ok-text.ensures.whole (rw c.deref.ensures.value at c.in_ok-both.ensures.says)
+returns-clause-says g c =
+    let says : Says c.in_ok-text.text.items c.in_ok-both.both.0 c.in_ok-both.both.1.items = record { taken = c.in_ok-text.ensures.short; parts = rw c.deref.ensures.value at c.in_ok-both.ensures.says } in
+    of_bytes _ c.in_ok-text.text.items (λ bytes. Says bytes c.in_ok-both.both.0 c.in_ok-both.both.1.items) c.in_ok-text.ensures.whole says

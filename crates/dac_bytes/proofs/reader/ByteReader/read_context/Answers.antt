@@ -1,9 +1,14 @@
 use Rattle.std.proofs.Common.{arith}
-use Rattle.dac_bytes.proofs.ContextLemmas.{is_found, is_again}
+use Rattle.dac_bytes.specs.laws.Calls.{found_call, again_call}
+use Rattle.dac_bytes.specs.laws.ContextLaws.{context_takes, context_again}
+use Rattle.dac_bytes.specs.Ranges.{IsContext}
+use Rattle.dac_bytes.specs.Reading.{context_at}
+use Rattle.dac_bytes.specs.Spelling.{context_bytes}
 use Rattle.dac_bytes.proofs.reader.ByteReader.read_context.Goals as goal
 
 pub returns-clause-found : goal.returns-clause-found
-returns-clause-found c = λ fits. is_found c.args.nodes c.args.self c.read_set.result fits c.read_set.ensures
+returns-clause-found c = found_call (λ x. x) (context_at c.args.nodes) context_bytes (IsContext c.args.nodes) (context_takes c.args.nodes) c.args.self c.read_set.result c.read_set.ensures
 
 pub returns-clause-again : goal.returns-clause-again
-returns-clause-again c = is_again c.args.nodes c.args.self c.read_set.result (omega (arith, c.ranges.nodes.fits)) c.read_set.ensures
+returns-clause-again c =
+    again_call (λ x. x) (context_at c.args.nodes) context_bytes (IsContext c.args.nodes) (context_again c.args.nodes (omega (arith, c.ranges.nodes.fits))) c.args.self c.read_set.result c.read_set.ensures

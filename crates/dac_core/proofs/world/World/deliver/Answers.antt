@@ -1,10 +1,10 @@
 use Rattle.std.proofs.Common.{◌≡◌, ◌<◌, ◌-◌, length, get_or, rules, ap, sym, subst, Ok, Err, Some}
-use Rattle.dac_core.specs.declared.event.Message.{Message}
-use Rattle.dac_core.specs.declared.event.Event.TheVariants.{Crash, Hear}
-use Rattle.dac_core.specs.declared.fault.WorldFault.TheVariants.{Refused}
-use Rattle.dac_core.specs.WorldValue.{WorldValue}
-use Rattle.dac_core.specs.ModelWorld.{happens_by, heard_by, counted}
-use Rattle.dac_core.proofs.Follow.{node_at, counted_there, gone_follows, err_follows, follows_by}
+use Rattle.dac_messages.specs.declared.message.Message.{Message}
+use Rattle.dac_messages.specs.declared.event.Event.TheVariants.{Crash, Hear}
+use Rattle.dac_worlds.specs.declared.fault.WorldFault.TheVariants.{Refused}
+use Rattle.dac_worlds.specs.WorldValue.{WorldValue}
+use Rattle.dac_worlds.specs.ModelWorld.{happens_by, heard_by, counted}
+use Rattle.dac_worlds.specs.laws.Follow.{node_at, counted_there, gone_follows, err_follows, follows_by}
 use Rattle.dac_core.proofs.world.World.deliver.Goals as goal
 
 no_crash : {m : Message} {P : Type 0} → Hear m ≡ Crash → P

@@ -1,12 +1,11 @@
 use Rattle.std.proofs.Common.{◌≡◌, ◌++◌, List, [], ap, sym, subst, ◌∙◌, append-nil}
 use Rattle.std.specs.Prelude.{refl}
-use Rattle.dac_core.specs.declared.event.Reply.{Reply}
-use Rattle.dac_core.specs.declared.event.Reply.TheVariants.{Crashed}
-use Rattle.dac_core.specs.declared.change.Change.{Change}
-use Rattle.dac_core.specs.NodeValue.{NodeValue}
-use Rattle.dac_core.specs.WorldValue.{WorldValue}
-use Rattle.dac_core.specs.WorldChanges.{NodeChanges}
-use Rattle.dac_core.specs.ModelWorld.{issued_by, shipped_by}
+use Rattle.dac_messages.specs.declared.reply.Reply.{Reply}
+use Rattle.dac_messages.specs.declared.reply.Reply.TheVariants.{Crashed}
+use Rattle.dac_node.specs.NodeValue.{NodeValue}
+use Rattle.dac_worlds.specs.WorldValue.{WorldValue}
+use Rattle.dac_worlds.specs.WorldChanges.{NodeChanges}
+use Rattle.dac_worlds.specs.ModelWorld.{issued_by, shipped_by}
 use Rattle.dac_core.proofs.world.World.go_on.Goals as goal
 
 nothing_noted : {X : Type 0} (xs ys : List X) (more : Reply → List X) (reply : Reply) → ys ≡ xs → reply ≡ Crashed → more Crashed ≡ [] → ys ≡ xs ++ more reply
@@ -27,6 +26,6 @@ pub returns-in-Ok-clause-ok : goal.returns-in-Ok-clause-ok
 returns-in-Ok-clause-ok c = record {
   reply = c.change_node-reply.ensures.reply;
   nodes = subst (λ (nodes : List NodeValue). NodeChanges nodes c.args.node c.args.change c.change_node-reply.new.nodes.items) (ap (λ (x : WorldValue). x.nodes) c.self.view_is) c.change_node-reply.ensures.nodes;
-  operations = c.note.ensures.operations ∙ (λ i. (c.make_room.ensures.operations ∙ ap (λ (x : WorldValue). x.operations) c.self.view_is) i ++ issued_by (c.in-Ok.ensures.copied i));
-  messages = c.note.ensures.messages ∙ (λ i. (c.make_room.ensures.messages ∙ ap (λ (x : WorldValue). x.messages) c.self.view_is) i ++ shipped_by (c.in-Ok.ensures.copied i));
+  operations = c.note.ensures.operations ∙ (λ i. (c.make_room.ensures.operations ∙ ap (λ (x : WorldValue). x.operations) c.self.view_is) i ++ issued_by ((c.in-Ok.ensures.copied ∙ c.reply.ensures) i));
+  messages = c.note.ensures.messages ∙ (λ i. (c.make_room.ensures.messages ∙ ap (λ (x : WorldValue). x.messages) c.self.view_is) i ++ shipped_by ((c.in-Ok.ensures.copied ∙ c.reply.ensures) i));
 }

@@ -1,10 +1,10 @@
 use Rattle.std.proofs.Common.{◌≡◌, ◌<◌, ◌-◌, length, get_or, rules, ap, sym, subst, Ok, Err, Some}
 use Rattle.dac_operations.specs.Operations.{Operation}
-use Rattle.dac_core.specs.declared.event.Event.TheVariants.{Crash, HearOp}
-use Rattle.dac_core.specs.declared.fault.WorldFault.TheVariants.{Refused}
-use Rattle.dac_core.specs.WorldValue.{WorldValue}
-use Rattle.dac_core.specs.ModelWorld.{happens_by, handed_by, counted}
-use Rattle.dac_core.proofs.Follow.{node_at, counted_there, gone_follows, err_follows, follows_by}
+use Rattle.dac_messages.specs.declared.event.Event.TheVariants.{Crash, HearOp}
+use Rattle.dac_worlds.specs.declared.fault.WorldFault.TheVariants.{Refused}
+use Rattle.dac_worlds.specs.WorldValue.{WorldValue}
+use Rattle.dac_worlds.specs.ModelWorld.{happens_by, handed_by, counted}
+use Rattle.dac_worlds.specs.laws.Follow.{node_at, counted_there, gone_follows, err_follows, follows_by}
 use Rattle.dac_core.proofs.world.World.hand.Goals as goal
 
 no_crash : {m : Operation} {P : Type 0} → HearOp m ≡ Crash → P

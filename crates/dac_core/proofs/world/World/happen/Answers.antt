@@ -1,6 +1,6 @@
 use Rattle.std.proofs.Common.{◌≡◌, get_or, subst}
-use Rattle.dac_core.specs.WorldValue.{WorldValue}
-use Rattle.dac_core.proofs.Follow.{node_at, gone_follows, err_follows}
+use Rattle.dac_worlds.specs.WorldValue.{WorldValue}
+use Rattle.dac_worlds.specs.laws.Follow.{node_at, gone_follows, err_follows}
 use Rattle.dac_core.proofs.world.World.happen.Goals as goal
 
 pub returns-in-Ok-clause-follows : goal.returns-in-Ok-clause-follows

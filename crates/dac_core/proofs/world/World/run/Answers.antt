@@ -1,14 +1,14 @@
-use Rattle.std.proofs.Common.{◌≡◌, ℕ, ◌+◌, ◌≤◌, List, cond, true, ap, ◌∙◌, rules, take, take_all, get_or, length, vec_len}
+use Rattle.std.proofs.Common.{◌≡◌, ℕ, ◌+◌, ◌≤◌, List, Result, cond, true, ap, ◌∙◌, rules, take, take_all, get_or, length, vec_len}
 use Rattle.std.specs.Prelude.{is_ok}
 use Rattle.std.proofs.lemmas.List.{get_or_default}
 use Rattle.dac_config.specs.Table.{Table}
 use Rattle.dac_events.specs.declared.WorldEvent.{WorldEvent}
 use Rattle.dac_events.specs.declared.What.TheVariants.{Boot}
-use Rattle.dac_core.specs.WorldValue.{WorldValue}
-use Rattle.dac_core.specs.ModelWorld.{RanAs}
-use Rattle.dac_core.proofs.Runs.{ran_turn}
-use Rattle.dac_core.proofs.Sound.{Answer}
-use Rattle.dac_core.proofs.Headline.{headline}
+use Rattle.dac_messages.specs.declared.reply.Reply.{Reply}
+use Rattle.dac_worlds.specs.declared.fault.WorldFault.{WorldFault}
+use Rattle.dac_worlds.specs.WorldValue.{WorldValue}
+use Rattle.dac_worlds.specs.ModelWorld.{RanAs}
+use Rattle.dac_worlds.specs.laws.Runs.{ran_turn}
 use Rattle.dac_core.proofs.world.World.run.Goals as goal
 
 pub loop-event-preserved : goal.loop-event-preserved
@@ -23,23 +23,36 @@ loop-event-preserved c =
       room = search rules;
     }
 
-whole : (t : Table) (events : List WorldEvent) (answers : List Answer) (v : WorldValue) (i : ℕ) → length events ≤ i → RanAs t (take i events) answers v → RanAs t events answers v
+-- the run of all events, once the loop has taken each
+whole : (t : Table) (events : List WorldEvent) (answers : List (Result Reply WorldFault)) (v : WorldValue) (i : ℕ) → length events ≤ i → RanAs t (take i events) answers v → RanAs t events answers v
 whole t events answers v i h r = rw take_all at r
 
 pub returns-clause-headline : goal.returns-clause-headline
-returns-clause-headline c = (headline c.args.config.now c.args.events.now c.loop-event.answers.items c.loop-event.world (whole c.args.config.now c.args.events.now c.loop-event.answers.items c.loop-event.world c.loop-event.event-index c.loop-event-test.false c.loop-event.invariant.ran)).meanings
+returns-clause-headline c =
+    let l = c.loop-event in
+    c.runs_converge.ensures.headline c.args.config.now c.args.events.now l.answers.items l.world (whole c.args.config.now c.args.events.now l.answers.items l.world l.event-index c.loop-event-test.false l.invariant.ran)
 
 pub returns-clause-agree : goal.returns-clause-agree
-returns-clause-agree c = (headline c.args.config.now c.args.events.now c.loop-event.answers.items c.loop-event.world (whole c.args.config.now c.args.events.now c.loop-event.answers.items c.loop-event.world c.loop-event.event-index c.loop-event-test.false c.loop-event.invariant.ran)).agree
+returns-clause-agree c =
+    let l = c.loop-event in
+    c.runs_converge.ensures.agree c.args.config.now c.args.events.now l.answers.items l.world (whole c.args.config.now c.args.events.now l.answers.items l.world l.event-index c.loop-event-test.false l.invariant.ran)
 
 pub returns-clause-distinct : goal.returns-clause-distinct
-returns-clause-distinct c = (headline c.args.config.now c.args.events.now c.loop-event.answers.items c.loop-event.world (whole c.args.config.now c.args.events.now c.loop-event.answers.items c.loop-event.world c.loop-event.event-index c.loop-event-test.false c.loop-event.invariant.ran)).distinct
+returns-clause-distinct c =
+    let l = c.loop-event in
+    c.runs_converge.ensures.distinct c.args.config.now c.args.events.now l.answers.items l.world (whole c.args.config.now c.args.events.now l.answers.items l.world l.event-index c.loop-event-test.false l.invariant.ran)
 
 pub returns-clause-sets : goal.returns-clause-sets
-returns-clause-sets c = (headline c.args.config.now c.args.events.now c.loop-event.answers.items c.loop-event.world (whole c.args.config.now c.args.events.now c.loop-event.answers.items c.loop-event.world c.loop-event.event-index c.loop-event-test.false c.loop-event.invariant.ran)).sets
+returns-clause-sets c =
+    let l = c.loop-event in
+    c.runs_converge.ensures.sets c.args.config.now c.args.events.now l.answers.items l.world (whole c.args.config.now c.args.events.now l.answers.items l.world l.event-index c.loop-event-test.false l.invariant.ran)
 
 pub returns-clause-bodies : goal.returns-clause-bodies
-returns-clause-bodies c = (headline c.args.config.now c.args.events.now c.loop-event.answers.items c.loop-event.world (whole c.args.config.now c.args.events.now c.loop-event.answers.items c.loop-event.world c.loop-event.event-index c.loop-event-test.false c.loop-event.invariant.ran)).bodies
+returns-clause-bodies c =
+    let l = c.loop-event in
+    c.runs_converge.ensures.bodies c.args.config.now c.args.events.now l.answers.items l.world (whole c.args.config.now c.args.events.now l.answers.items l.world l.event-index c.loop-event-test.false l.invariant.ran)
 
 pub returns-clause-news : goal.returns-clause-news
-returns-clause-news c = (headline c.args.config.now c.args.events.now c.loop-event.answers.items c.loop-event.world (whole c.args.config.now c.args.events.now c.loop-event.answers.items c.loop-event.world c.loop-event.event-index c.loop-event-test.false c.loop-event.invariant.ran)).news
+returns-clause-news c =
+    let l = c.loop-event in
+    c.runs_converge.ensures.news c.args.config.now c.args.events.now l.answers.items l.world (whole c.args.config.now c.args.events.now l.answers.items l.world l.event-index c.loop-event-test.false l.invariant.ran)

@@ -1,7 +1,7 @@
 use Rattle.std.proofs.Common.{◌<◌, length, rules, subst}
 use Rattle.dac_events.specs.declared.What.TheVariants.{Boot, Crash, Command, Ship, Deliver, Hand}
-use Rattle.dac_core.specs.WorldValue.{WorldValue}
-use Rattle.dac_core.proofs.Follow.{world_follows}
+use Rattle.dac_worlds.specs.WorldValue.{WorldValue}
+use Rattle.dac_worlds.specs.laws.Follow.{world_follows}
 use Rattle.dac_core.proofs.world.World.step.Goals as goal
 
 pub returns-in-Boot-clause-follows : goal.returns-in-Boot-clause-follows

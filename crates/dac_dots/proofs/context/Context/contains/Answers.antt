@@ -1,7 +1,11 @@
-use Rattle.std.proofs.Common.{◌∙◌}
-use Rattle.dac_dots.specs.Dots.{dots_total}
-use Rattle.dac_dots.specs.KeyLaws.{has_is}
+use Rattle.std.proofs.Common.{◌∙◌, sym}
+use Rattle.dac_dots.proofs.PlaceLemmas.{found_has, none_has}
 use Rattle.dac_dots.proofs.context.Context.contains.Goals as goal
 
-pub returns : goal.returns
-returns c = rw c.deref.ensures.value at c.holds_key.ensures ∙ has_is dots_total c.self.inside.dots.items c.args.self.now c.self.view_is c.args.dot
+pub returns-in-Ok : goal.returns-in-Ok
+returns-in-Ok c =
+    c.holds.ensures ∙ sym (found_has c.self.inside.rows.items c.deref.result.now c.args.self.now c.self.view_is c.self.invariant c.deref.ensures.value c.args.dot.origin c.in-Ok.place c.in-Ok.ensures c.index.result.now c.index.ensures c.args.dot.n)
+
+pub returns-in-Err : goal.returns-in-Err
+returns-in-Err c =
+    sym (none_has c.self.inside.rows.items c.deref.result.now c.args.self.now c.self.view_is c.self.invariant c.deref.ensures.value c.args.dot.origin c.in-Err.field-0 c.in-Err.ensures c.args.dot.n)

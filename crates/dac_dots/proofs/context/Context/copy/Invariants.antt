@@ -1,5 +1,5 @@
 use Rattle.std.proofs.Common.{◌≡◌, take}
 use Rattle.dac_dots.proofs.context.Context.copy.Given as goal
 
-abbrev pub invariant-loop-dot : goal.invariant-loop-dot
-invariant-loop-dot l = l.dots.items ≡ take l.dot-index l.dot-items
+abbrev pub invariant-loop-row : goal.invariant-loop-row
+invariant-loop-row l = l.rows.items ≡ take l.row-index l.row-items

@@ -1,10 +1,5 @@
-use Rattle.std.proofs.Common.{◌≡◌, ◌∙◌, ap, length, vec_len, rules}
-use Rattle.std.specs.FinSet as set
-use Rattle.dac_dots.specs.Dots.{dots_total}
-use Rattle.dac_dots.specs.KeyLaws.{len_rising}
+use Rattle.dac_dots.proofs.LenLemmas.{len_is}
 use Rattle.dac_dots.proofs.context.Context.len.Goals as goal
 
 pub returns : goal.returns
-returns c =
-    let all : vec_len c.self.inside.dots ≡ length c.self.inside.dots.items = search rules in
-    c.len.ensures ∙ all ∙ len_rising dots_total c.self.inside.dots.items c.self.invariant ∙ ap (λ s. set.len s) c.self.view_is
+returns c = len_is c.self.inside.rows.items c.deref-row-items.result.now c.args.self.now c.self.view_is c.self.invariant c.deref-row-items.ensures.value c.loop-row.row-index c.loop-row.len c.loop-row-test.false c.loop-row.invariant.so_far

@@ -1,21 +1,22 @@
-use Rattle.std.proofs.Common.{◌≡◌, ◌≤◌, sym}
-use Rattle.dac_dots.specs.Dots.{dots_total, exact_dots}
-use Rattle.dac_dots.specs.KeyLaws.{each_member, equal_origins, other_origins}
-use Rattle.dac_dots.proofs.ContextLemmas.{greatest_more, greatest_same, next_is, used_up}
+use Rattle.dac_dots.proofs.PlaceLemmas.{found_has, none_has}
+use Rattle.dac_dots.proofs.ContextLemmas.{last_found, last_none, next_is, used_up}
 use Rattle.dac_dots.proofs.context.Context.next.Goals as goal
-use Rattle.dac_dots.proofs.context.Context.next.Goals.{then-eq, else-eq}
+use Rattle.dac_dots.proofs.context.Context.next.Goals.{in-Ok, in-Err}
 
-pub loop-dot-preserved : goal.loop-dot-preserved
-loop-dot-preserved c =
-    elim c.if-eq.branch [
-      | then-eq w ↦ rw (w.greatest-is, w.max-greatest.ensures) (greatest_more c.deref-dot-items.result.now c.args.self.now (rw c.deref-dot-items.ensures.value c.self.view_is) c.args.origin c.loop-dot.greatest _ _ c.loop-dot-test.true c.loop-dot.invariant (equal_origins _ _ (sym w.if-eq.ensures)))
-      | else-eq w ↦ rw w.greatest-is (greatest_same c.deref-dot-items.result.now c.args.self.now (rw c.deref-dot-items.ensures.value c.self.view_is) c.args.origin c.loop-dot.greatest _ _ c.loop-dot-test.true c.loop-dot.invariant (other_origins _ _ (sym w.if-eq.ensures)))
-    ]
+pub returns-then-last-lt-MOST : goal.returns-then-last-lt-MOST
+returns-then-last-lt-MOST c =
+    next_is c.args.self.now c.args.origin c.match-place_of.last
+    (elim c.match-place_of.branch [
+      | in-Ok w ↦ last_found c.args.self.now c.args.origin c.match-place_of.last w.index.result.now (found_has c.self.inside.rows.items c.deref.result.now c.args.self.now c.self.view_is c.self.invariant c.deref.ensures.value c.args.origin w.in-Ok.place w.in-Ok.ensures w.index.result.now w.index.ensures) _ w.last-is w.last-last.ensures
+      | in-Err w ↦ last_none c.args.self.now c.args.origin c.match-place_of.last (none_has c.self.inside.rows.items c.deref.result.now c.args.self.now c.self.view_is c.self.invariant c.deref.ensures.value c.args.origin w.in-Err.field-0 w.in-Err.ensures) w.last-is
+    ])
+    c.if-last-lt-MOST.true
 
-pub returns-then-greatest-lt-MOST : goal.returns-then-greatest-lt-MOST
-returns-then-greatest-lt-MOST c =
-    next_is c.args.self.now c.args.origin _ (each_member dots_total exact_dots c.deref-dot-items.result.now c.args.self.now (rw c.deref-dot-items.ensures.value c.self.view_is) (λ d. d.origin ≡ c.args.origin → d.n ≤ c.loop-dot.greatest) _ c.loop-dot-test.false c.loop-dot.invariant.above)
-    c.loop-dot.invariant.there c.if-greatest-lt-MOST.true
-
-pub returns-else-greatest-lt-MOST : goal.returns-else-greatest-lt-MOST
-returns-else-greatest-lt-MOST c = used_up c.args.self.now c.args.origin _ c.loop-dot.invariant.there c.if-greatest-lt-MOST.false
+pub returns-else-last-lt-MOST : goal.returns-else-last-lt-MOST
+returns-else-last-lt-MOST c =
+    used_up c.args.self.now c.args.origin c.match-place_of.last
+    (elim c.match-place_of.branch [
+      | in-Ok w ↦ last_found c.args.self.now c.args.origin c.match-place_of.last w.index.result.now (found_has c.self.inside.rows.items c.deref.result.now c.args.self.now c.self.view_is c.self.invariant c.deref.ensures.value c.args.origin w.in-Ok.place w.in-Ok.ensures w.index.result.now w.index.ensures) _ w.last-is w.last-last.ensures
+      | in-Err w ↦ last_none c.args.self.now c.args.origin c.match-place_of.last (none_has c.self.inside.rows.items c.deref.result.now c.args.self.now c.self.view_is c.self.invariant c.deref.ensures.value c.args.origin w.in-Err.field-0 w.in-Err.ensures) w.last-is
+    ])
+    c.if-last-lt-MOST.false

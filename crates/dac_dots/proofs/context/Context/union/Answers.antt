@@ -1,19 +1,14 @@
-use Rattle.std.proofs.Common.{◌∙◌, ap, ◌||◌, false, Bool, true, refl, ◌≡◌}
-use Rattle.std.specs.FinSet as set
-use Rattle.dac_dots.proofs.ContextLemmas.{union_more, union_done}
+use Rattle.dac_dots.proofs.ContextLemmas.{union_start, union_more, union_done, row_kept}
 use Rattle.dac_dots.proofs.context.Context.union.Goals as goal
 
-or_false : (b : Bool) → b ≡ (b || false)
-or_false true = refl
-or_false false = refl
+pub loop-row-init : goal.loop-row-init
+loop-row-init c q = union_start c.args.self.now _ c.in_ok-both.ensures q
 
-pub loop-dot-init : goal.loop-dot-init
-loop-dot-init c q = ap (λ s. set.contains s q) c.in_ok-both.ensures ∙ or_false (set.contains c.args.self.now q)
+pub unite_row-requires : goal.unite_row-requires
+unite_row-requires c = let is = row_kept c.other.inside.rows.items c.deref-row-items.result.now c.args.other.now c.other.view_is c.other.invariant c.deref-row-items.ensures.value c.loop-row.row-index c.row-item.result c.loop-row-test.true c.row-item.is in record { kept = is.0; some = is.1 }
 
-pub loop-dot-preserved : goal.loop-dot-preserved
-loop-dot-preserved c q =
-    ap (λ s. set.contains s q) c.in_ok-insert.ensures.ok
-    ∙ union_more c.deref-dot-items.result.now c.args.other.now (rw c.deref-dot-items.ensures.value c.other.view_is) c.args.self.now c.loop-dot.both _ _ c.loop-dot-test.true c.loop-dot.invariant q
+pub loop-row-preserved : goal.loop-row-preserved
+loop-row-preserved c = union_more c.deref-row-items.result.now c.args.self.now c.loop-row.both c.unite_row.new.self c.loop-row.row-index c.row-item.result c.loop-row-test.true c.row-item.is c.loop-row.invariant c.in_ok-unite_row.ensures
 
 pub returns : goal.returns
-returns c = union_done c.deref-dot-items.result.now c.args.other.now (rw c.deref-dot-items.ensures.value c.other.view_is) c.args.self.now c.loop-dot.both _ c.loop-dot-test.false c.loop-dot.invariant
+returns c = union_done c.other.inside.rows.items c.deref-row-items.result.now c.args.other.now c.other.view_is c.deref-row-items.ensures.value c.args.self.now c.loop-row.both _ c.loop-row-test.false c.loop-row.invariant

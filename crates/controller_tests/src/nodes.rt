@@ -1,0 +1,258 @@
+//! Nodes: their incarnations, and what they refuse of those who heard too much or are down.
+use crate::steps::dot;
+use dac_base::{AppId, NoMemory, NodeId};
+use dac_config::{Config, read_config};
+use dac_core::{Command, Event, Message, Node, Refusal, Reply};
+use dac_dots::Dot;
+use dac_lattice::Lattice;
+use dac_state::{Act, DotList, Key, Op, State};
+use std::alloc::Global;
+
+/// One application at two nodes.
+const ONE: &[u8] = b"[{kernel,[{distributed,[{a,[c1@h,c2@h]}]}]}].";
+
+const APP: AppId = AppId(0);
+
+/// The node whose operations are handed.
+const FIRST: NodeId = NodeId(0);
+
+/// The node that they are handed to.
+const SECOND: NodeId = NodeId(1);
+
+const DOWN: Command = Command::Down { node: FIRST };
+
+const PERMIT: Command = Command::Permit {
+    app: APP,
+    node: SECOND,
+    value: true,
+};
+
+const START: Command = Command::Start {
+    app: APP,
+    node: SECOND,
+};
+
+const STOP: Command = Command::Stop {
+    app: APP,
+    node: SECOND,
+};
+
+/// The application at the second node.
+const KEY: Key = Key {
+    app: APP,
+    node: SECOND,
+    inc: 1,
+};
+
+/// A start that replaces nothing.
+fn start(alloc: Global) -> Act {
+    let over = DotList::new(Vec::new(alloc));
+    Act::Start { key: KEY, over }
+}
+
+/// A permit that replaces nothing.
+fn permit(alloc: Global) -> Act {
+    let over = DotList::new(Vec::new(alloc));
+    Act::Permit {
+        key: KEY,
+        value: true,
+        over,
+    }
+}
+
+/// What comes of an event at the second node.
+fn step(config: &Config, node: &mut Node, event: Event) -> Result<Reply, Refusal> {
+    node.step(config, SECOND, event)
+}
+
+/// Hands an operation to the node, and says whether it hears it.
+fn hears(config: &Config, node: &mut Node, dot: Dot, act: Act) -> bool {
+    match Op::new(dot, act) {
+        Ok(op) => step(config, node, Event::HearOp(op)).is_ok(),
+        Err(_) => false,
+    }
+}
+
+/// Whether this is why a copy of the node refuses a command.
+fn refuses(config: &Config, node: &Node, command: Command, why: Refusal) -> bool {
+    match node.copy() {
+        Ok(mut copied) => step(config, &mut copied, Event::Command(command)).err() == Some(why),
+        Err(_) => false,
+    }
+}
+
+/// Whether a copy of the node accepts a command.
+fn accepts(config: &Config, node: &Node, command: Command) -> bool {
+    match node.copy() {
+        Ok(mut copied) => step(config, &mut copied, Event::Command(command)).is_ok(),
+        Err(_) => false,
+    }
+}
+
+/// Whether this is why the node refuses each command.
+fn refuses_all(config: &Config, node: &Node, why: Refusal) -> bool {
+    [DOWN, PERMIT, START, STOP]
+        .iter()
+        .all(|command| refuses(config, node, *command, why))
+}
+
+/// The second node in its first incarnation.
+fn booted(alloc: Global, config: &Config) -> Option<Node> {
+    let mut node = Node::off(alloc, 0);
+    let _reply = step(config, &mut node, Event::Boot { now: 0 }).ok()?;
+    Some(node)
+}
+
+/// Whether the node hears a start by each of 1,024 operations of the first node.
+fn hears_starts(alloc: Global, config: &Config, node: &mut Node) -> bool {
+    for n in 2..1_026 {
+        if !hears(config, node, dot(0, 1, n), start(alloc)) {
+            return false;
+        }
+    }
+    true
+}
+
+/// Whether the node hears a permit by each of 1,025 operations of the first node.
+fn hears_permits(alloc: Global, config: &Config, node: &mut Node) -> bool {
+    for n in 2..1_027 {
+        if !hears(config, node, dot(0, 1, n), permit(alloc)) {
+            return false;
+        }
+    }
+    true
+}
+
+/// Whether 1,024 starts are replaced by a stop, and one more is too many.
+fn starts_are_too_many(alloc: Global) -> Option<bool> {
+    let config = read_config(alloc, ONE).ok()?;
+    let mut node = booted(alloc, &config)?;
+    let most = hears_starts(alloc, &config, &mut node) && accepts(&config, &node, STOP);
+    let more = hears(&config, &mut node, dot(0, 1, 1_026), start(alloc));
+    Some(
+        most && more
+            && refuses(&config, &node, START, Refusal::TooManyDots)
+            && refuses(&config, &node, STOP, Refusal::TooManyDots)
+            && accepts(&config, &node, PERMIT),
+    )
+}
+
+#[test]
+fn too_many_starts(rt: HostRuntime) {
+    assert!(rt; starts_are_too_many(rt.alloc()) == Some(true));
+}
+
+/// Whether 1,025 permits are too many to be replaced.
+fn permits_are_too_many(alloc: Global) -> Option<bool> {
+    let config = read_config(alloc, ONE).ok()?;
+    let mut node = booted(alloc, &config)?;
+    let more = hears_permits(alloc, &config, &mut node);
+    Some(
+        more && refuses(&config, &node, PERMIT, Refusal::TooManyDots)
+            && accepts(&config, &node, START),
+    )
+}
+
+#[test]
+fn too_many_permits(rt: HostRuntime) {
+    assert!(rt; permits_are_too_many(rt.alloc()) == Some(true));
+}
+
+/// Whether a node that heard of an operation of its own with the last counter refuses each command.
+fn is_used_up(alloc: Global) -> Option<bool> {
+    let config = read_config(alloc, ONE).ok()?;
+    let mut node = booted(alloc, &config)?;
+    let up = hears(&config, &mut node, dot(0, 1, 1), Act::Up);
+    let last = hears(&config, &mut node, dot(1, 1, 1 << 62), start(alloc));
+    Some(up && last && refuses_all(&config, &node, Refusal::DotsUsedUp))
+}
+
+#[test]
+fn no_counter_is_left(rt: HostRuntime) {
+    assert!(rt; is_used_up(rt.alloc()) == Some(true));
+}
+
+/// Whether a node that the first node declared down refuses each command.
+fn is_declared_down(alloc: Global) -> Option<bool> {
+    let config = read_config(alloc, ONE).ok()?;
+    let mut node = booted(alloc, &config)?;
+    let down = Act::Down {
+        node: SECOND,
+        inc: 1,
+    };
+    let told = hears(&config, &mut node, dot(0, 1, 2), down);
+    Some(told && refuses_all(&config, &node, Refusal::DeclaredDown))
+}
+
+#[test]
+fn declared_down_by_another(rt: HostRuntime) {
+    assert!(rt; is_declared_down(rt.alloc()) == Some(true));
+}
+
+/// What comes of a boot after this last incarnation: the next one, or why there is none.
+fn next(alloc: Global, config: &Config, last: u32) -> Result<Option<u32>, Refusal> {
+    let mut node = Node::off(alloc, last);
+    let _reply = step(config, &mut node, Event::Boot { now: 0 })?;
+    match node.origin() {
+        Some(origin) => Ok(Some(origin.inc)),
+        None => Ok(None),
+    }
+}
+
+/// Whether incarnations go on by one, and end.
+fn go_on_and_end(alloc: Global) -> Option<bool> {
+    let config = read_config(alloc, ONE).ok()?;
+    let ended = next(alloc, &config, u32::MAX) == Err(Refusal::IncarnationsUsedUp);
+    Some(ended && next(alloc, &config, 4) == Ok(Some(5)))
+}
+
+#[test]
+fn incarnations_go_on_and_end(rt: HostRuntime) {
+    assert!(rt; go_on_and_end(rt.alloc()) == Some(true));
+}
+
+/// A message of the first node to the second, which tells that the first came up.
+fn message(alloc: Global) -> Option<Message> {
+    let up = Op::new(dot(0, 1, 1), Act::Up).ok()?;
+    Some(Message {
+        from: up.dot().origin,
+        to: SECOND,
+        body: State::delta_of(alloc, &up).ok()?,
+    })
+}
+
+/// Whether two messages are equal.
+fn are_equal(one: &Message, other: &Message) -> bool {
+    one.from == other.from && one.to == other.to && one.body.equal(&other.body)
+}
+
+/// Whether the copy of an event is the hearing of an equal message.
+fn is_heard(event: &Event, message: &Message) -> Result<bool, NoMemory> {
+    match event.copy()? {
+        Event::Hear(heard) => Ok(are_equal(&heard, message)),
+        _ => Ok(false),
+    }
+}
+
+/// Whether a message, its copy and the copy of its hearing are equal.
+fn is_copied(alloc: Global) -> Option<bool> {
+    let message = message(alloc)?;
+    let copied = message.copy().ok()?;
+    is_heard(&Event::Hear(message), &copied).ok()
+}
+
+#[test]
+fn messages_are_copied(rt: HostRuntime) {
+    assert!(rt; is_copied(rt.alloc()) == Some(true));
+}
+
+/// Whether a refusal has this number and this name, by which it is also shown.
+fn is_shown(alloc: Global, why: Refusal, number: u8, name: &str) -> Option<bool> {
+    let shown = format!(in alloc; "{why}").ok()?;
+    Some(why.number() == number && why.name() == name && shown.as_str() == name)
+}
+
+#[test]
+fn refusals_are_shown_by_their_names(rt: HostRuntime) {
+    assert!(rt; is_shown(rt.alloc(), Refusal::NotForMe, 15, "NotForMe") == Some(true));
+}

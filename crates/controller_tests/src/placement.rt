@@ -1,0 +1,215 @@
+//! Verdicts and loads: an application at c1@h, or else at c2@h or c3@h, and one at c2@h alone.
+use crate::steps::{Kind, Step, TWO, state_after};
+use dac_base::{AppId, NodeId};
+use dac_config::{Config, read_config};
+use dac_decide::{Verdict, eligible, load, verdict};
+use dac_dots::Origin;
+use dac_placement::{holder, is_permitted, is_started, is_up, runs_at};
+use dac_state::{How, Key, State};
+use std::alloc::Global;
+
+const C1: NodeId = NodeId(0);
+
+const C2: NodeId = NodeId(1);
+
+const C3: NodeId = NodeId(2);
+
+/// All three nodes are up, and the first application is started at each.
+const STARTED: &[Step] = &[
+    (0, 1, Kind::Up),
+    (1, 1, Kind::Up),
+    (2, 1, Kind::Up),
+    (0, 1, Kind::Start(0)),
+    (1, 1, Kind::Start(0)),
+    (2, 1, Kind::Start(0)),
+];
+
+/// The same, and c2@h runs the second one.
+const RUNNING: &[Step] = &[
+    (0, 1, Kind::Up),
+    (1, 1, Kind::Up),
+    (2, 1, Kind::Up),
+    (0, 1, Kind::Start(0)),
+    (1, 1, Kind::Start(0)),
+    (2, 1, Kind::Start(0)),
+    (1, 1, Kind::Start(1)),
+    (1, 1, Kind::Claim(1, 1, How::Normal, None)),
+];
+
+const FIRST_DOWN: Step = (2, 1, Kind::Down(0, 1));
+
+/// What was done before and then; the verdicts on both applications, and the load of c2@h for the first.
+const VERDICTS: &[(&[Step], &[Step], Verdict, Verdict, u32)] = &[
+    // Started at the first node.
+    (RUNNING, &[], Verdict::Start(C1), Verdict::Kept(C2), 1),
+    // Started, and restarted, where fewest run.
+    (
+        RUNNING,
+        &[FIRST_DOWN],
+        Verdict::Start(C3),
+        Verdict::Kept(C2),
+        1,
+    ),
+    (
+        RUNNING,
+        &[FIRST_DOWN, (0, 1, Kind::Claim(0, 1, How::Normal, None))],
+        Verdict::Failover(C3),
+        Verdict::Kept(C2),
+        1,
+    ),
+    // Claims of who went down are no load.
+    (
+        RUNNING,
+        &[FIRST_DOWN, (2, 1, Kind::Down(1, 1))],
+        Verdict::Start(C3),
+        Verdict::Nobody,
+        0,
+    ),
+    // A tie goes by name.
+    (
+        STARTED,
+        &[FIRST_DOWN],
+        Verdict::Start(C2),
+        Verdict::Nobody,
+        0,
+    ),
+    // An earlier group takes over.
+    (
+        RUNNING,
+        &[(1, 1, Kind::Claim(0, 1, How::Normal, None))],
+        Verdict::Takeover(C1),
+        Verdict::Kept(C2),
+        1,
+    ),
+    // A tuple keeps its application.
+    (
+        RUNNING,
+        &[FIRST_DOWN, (1, 1, Kind::Claim(0, 1, How::Normal, None))],
+        Verdict::Kept(C2),
+        Verdict::Kept(C2),
+        1,
+    ),
+    // What is stopped stays where it was.
+    (
+        RUNNING,
+        &[
+            (0, 1, Kind::Claim(0, 1, How::Normal, None)),
+            (0, 1, Kind::Stop(0)),
+        ],
+        Verdict::Halted(C1),
+        Verdict::Kept(C2),
+        1,
+    ),
+    // What is forbidden is moved.
+    (
+        RUNNING,
+        &[
+            (0, 1, Kind::Claim(0, 1, How::Normal, None)),
+            (0, 1, Kind::Forbid(0)),
+        ],
+        Verdict::Move(C3),
+        Verdict::Kept(C2),
+        1,
+    ),
+];
+
+/// Whether this is the verdict on an application of the configuration.
+fn is_verdict(config: &Config, state: &State, app: u16, wanted: Verdict) -> bool {
+    app < config.apps() && verdict(config, state, AppId(app)) == wanted
+}
+
+/// Whether these are the verdicts and the load.
+fn are_judged(
+    alloc: Global,
+    before: &[Step],
+    then: &[Step],
+    verdicts: (Verdict, Verdict),
+    wanted: u32,
+) -> Option<bool> {
+    let config = read_config(alloc, TWO).ok()?;
+    let state = state_after(alloc, before, then)?;
+    Some(
+        is_verdict(&config, &state, 0, verdicts.0)
+            && is_verdict(&config, &state, 1, verdicts.1)
+            && load(&config, &state, AppId(0), C2) == wanted,
+    )
+}
+
+#[test]
+fn verdicts_of_worked_cases(rt: HostRuntime) {
+    for (before, then, a, b, load) in VERDICTS {
+        let answer = are_judged(rt.alloc(), before, then, (*a, *b), *load);
+        assert!(rt; answer == Some(true), "{a:?} and {b:?}");
+    }
+}
+
+/// Whether a node is eligible for the second application and runs it, or neither.
+fn is_at(config: &Config, state: &State, node: NodeId, wanted: bool) -> bool {
+    let app = AppId(1);
+    app.0 < config.apps()
+        && eligible(config, state, app, node) == wanted
+        && runs_at(config, state, app, node) == wanted
+}
+
+/// Whether c2@h alone is eligible for the second application and runs it.
+fn is_at_second(alloc: Global) -> Option<bool> {
+    let config = read_config(alloc, TWO).ok()?;
+    let state = state_after(alloc, RUNNING, &[])?;
+    Some(
+        is_at(&config, &state, C1, false)
+            && is_at(&config, &state, C2, true)
+            && is_at(&config, &state, C3, false),
+    )
+}
+
+#[test]
+fn listed_live_and_started_is_eligible(rt: HostRuntime) {
+    assert!(rt; is_at_second(rt.alloc()) == Some(true));
+}
+
+/// Whether the second application is started and permitted at c2@h.
+fn is_wished(config: &Config, state: &State) -> bool {
+    let key = Key {
+        app: AppId(1),
+        node: C2,
+        inc: 1,
+    };
+    key.app.0 < config.apps() && is_permitted(config, state, key) && is_started(state, key)
+}
+
+/// Whether it is held by c2@h, which is up.
+fn is_held(alloc: Global) -> Option<bool> {
+    let config = read_config(alloc, TWO).ok()?;
+    let state = state_after(alloc, RUNNING, &[])?;
+    let origin = Origin { node: C2, inc: 1 };
+    let is_held = holder(&state, AppId(1)) == Some(origin) && is_up(&state, origin);
+    Some(is_held && is_wished(&config, &state))
+}
+
+#[test]
+fn holder_is_up_started_and_permitted(rt: HostRuntime) {
+    assert!(rt; is_held(rt.alloc()) == Some(true));
+}
+
+/// Verdicts, each with who is to claim.
+const CANDIDATES: &[(Verdict, Option<NodeId>)] = &[
+    (Verdict::Start(C1), Some(C1)),
+    (Verdict::Failover(C2), Some(C2)),
+    (Verdict::Move(C3), Some(C3)),
+    (Verdict::Takeover(C1), Some(C1)),
+    (Verdict::Halted(C1), None),
+    (Verdict::Kept(C1), None),
+    (Verdict::Nobody, None),
+];
+
+#[test]
+fn who_is_to_claim(rt: HostRuntime) {
+    for (verdict, candidate) in CANDIDATES {
+        assert!(rt; verdict.candidate() == *candidate, "{verdict:?}");
+    }
+}
+
+#[test]
+fn laws_are_told() {
+    dac_placement::laws::placement_in_words();
+}

@@ -1,0 +1,128 @@
+//! States of a few operations, which are said as plain steps.
+use dac_base::{AppId, NoMemory, NodeId};
+use dac_dots::{Dot, Origin};
+use dac_lattice::{Bottom, Lattice};
+use dac_state::{Act, DotList, How, Key, Op, State};
+use std::alloc::Global;
+
+/// Three nodes and two applications, the second at the second node alone.
+pub const TWO: &[u8] = b"[{kernel,[{distributed,[{a,5000,[c1@h,{c2@h,c3@h}]},{b,[c2@h]}]}]}].";
+
+/// What an incarnation of a node does.
+#[derive(Clone, Copy)]
+pub enum Kind {
+    /// It comes up.
+    Up,
+    /// It declares this incarnation of a node down.
+    Down(u8, u32),
+    /// The application is to be started there.
+    Start(u16),
+    /// It is to be stopped there.
+    Stop(u16),
+    /// It isn't permitted there.
+    Forbid(u16),
+    /// It claims the application at a term.
+    Claim(u16, u64, How, Option<NodeId>),
+}
+
+/// A step at an incarnation of a node.
+pub type Step = (u8, u32, Kind);
+
+/// A dot of an incarnation of a node.
+pub fn dot(node: u8, inc: u32, n: u64) -> Dot {
+    let node = NodeId(node);
+    Dot {
+        origin: Origin { node, inc },
+        n,
+    }
+}
+
+/// The counter of a start of an application.
+fn start_of(app: u16) -> u64 {
+    10 + u64::from(app)
+}
+
+/// The counter of a step, which no other step of its incarnation has.
+fn counter_of(kind: Kind) -> u64 {
+    match kind {
+        Kind::Up => 1,
+        Kind::Start(app) => start_of(app),
+        Kind::Stop(app) => 20 + u64::from(app),
+        Kind::Forbid(app) => 30 + u64::from(app),
+        Kind::Claim(app, _, _, _) => 40 + u64::from(app),
+        Kind::Down(node, inc) => 50 + 4 * u64::from(node) + u64::from(inc),
+    }
+}
+
+/// The dots that a step replaces: a stop that of the start there.
+fn over(alloc: Global, step: Step) -> Result<DotList, NoMemory> {
+    let (node, inc, kind) = step;
+    let mut dots = Vec::new(alloc);
+    if let Kind::Stop(app) = kind {
+        dots.push(dot(node, inc, start_of(app)))?;
+    }
+    Ok(DotList::new(dots))
+}
+
+/// An application at an incarnation of a node.
+fn key(app: u16, node: u8, inc: u32) -> Key {
+    Key {
+        app: AppId(app),
+        node: NodeId(node),
+        inc,
+    }
+}
+
+/// The act of a step that replaces these dots.
+fn act(step: Step, over: DotList) -> Act {
+    let (node, inc, kind) = step;
+    match kind {
+        Kind::Up => Act::Up,
+        Kind::Down(node, inc) => Act::Down {
+            node: NodeId(node),
+            inc,
+        },
+        Kind::Start(app) => Act::Start {
+            key: key(app, node, inc),
+            over,
+        },
+        Kind::Stop(app) => Act::Stop {
+            key: key(app, node, inc),
+            over,
+        },
+        Kind::Forbid(app) => Act::Permit {
+            key: key(app, node, inc),
+            value: false,
+            over,
+        },
+        Kind::Claim(app, term, how, from) => Act::Claim {
+            app: AppId(app),
+            term,
+            how,
+            from,
+        },
+    }
+}
+
+/// What a step means alone.
+fn delta_of(alloc: Global, step: Step) -> Option<State> {
+    let (node, inc, kind) = step;
+    let over = over(alloc, step).ok()?;
+    let op = Op::new(dot(node, inc, counter_of(kind)), act(step, over)).ok()?;
+    State::delta_of(alloc, &op).ok()
+}
+
+/// What these steps mean joined to a state.
+fn with(alloc: Global, state: State, steps: &[Step]) -> Option<State> {
+    let mut state = state;
+    for step in steps {
+        state = state.join(&delta_of(alloc, *step)?).ok()?;
+    }
+    Some(state)
+}
+
+/// What these steps mean, and then these.
+pub fn state_after(alloc: Global, before: &[Step], then: &[Step]) -> Option<State> {
+    let state = with(alloc, State::bottom(alloc), before)?;
+    with(alloc, state, then)
+}

@@ -1,0 +1,154 @@
+-- Why what a running node issues is an operation: its dot is new, and what it replaces is a short rising list.
+use Rattle.std.proofs.Common.{◌≡◌, ℕ, ◌≤◌, ◌+◌, Bool, true, false, not, ◌||◌, List, [], ◌∷◌, ◌++◌, length, Option, Some, None, refl, sym, subst, ◌∙◌, arith, true≢false}
+use Rattle.std.specs.Prelude.{◌==◌, if◌then◌else◌, MatchOption, is_some, nat_eq}
+use Rattle.std.specs.Option.{is_none}
+use Rattle.std.specs.FinSet as set
+use Rattle.std.proofs.lemmas.Map.Views.{exact_unsigned_eq}
+use Rattle.dac_base.specs.declared.AppId.{AppId}
+use Rattle.dac_base.specs.declared.NodeId.{NodeId}
+use Rattle.dac_dots.specs.declared.dot.Origin.{Origin}
+use Rattle.dac_dots.specs.declared.dot.Dot.{Dot}
+use Rattle.dac_dots.specs.Dots.{Dots, dot, dot_cmp, dots_total, exact_dots, IsNext, IsUsedUp}
+use Rattle.dac_dots.specs.Keys.{IsRising, has_key}
+use Rattle.dac_dots.specs.InOrder.{in_order-rising, has_key-in_order}
+use Rattle.dac_wishes.specs.declared.key.Key.{Key}
+use Rattle.dac_wishes.specs.Writes.{write, dots_at, contains-dots_at}
+use Rattle.dac_operations.specs.declared.act.Act.{Act}
+use Rattle.dac_operations.specs.declared.act.Act.TheVariants.{Down as Downs, Permit as Permits, Start as Starts, Stop as Stops}
+use Rattle.dac_operations.specs.declared.op.OpFault.TheVariants.{OwnDot, BadOver, BadCounter, OnSelf as AboutItself}
+use Rattle.dac_operations.specs.Operations.{fault_of, replaces_itself, has_bad_over, has_bad_counter, is_on_self, over_list}
+use Rattle.dac_meaning.specs.StateValue.{StateValue, IsState}
+use Rattle.dac_config.specs.Table.{Table}
+use Rattle.dac_events.specs.declared.Command.{Command}
+use Rattle.dac_events.specs.declared.Command.TheVariants.{Down, Permit, Start, Stop}
+use Rattle.dac_commands.specs.declared.refusal.Refusal.{Refusal}
+use Rattle.dac_commands.specs.declared.refusal.Refusal.TheVariants.{DeclaredDown, UnknownNode, OnSelf, NotLive, NotStarted, TooManyDots, DotsUsedUp}
+use Rattle.dac_commands.specs.Commands.{KnowsItself, standing_starts, standing_permits, greatest_counter, next_operation, live_or_none, key_at, act_of}
+use Rattle.dac_commands.specs.Causes.{first, causes_of, causes_to_name, causes_to_issue, refusal_of_command, declared_down, no_node, not_live, too_many, used_up, not_wished}
+use Rattle.std.proofs.lemmas.Bool.{false_from_ne_true}
+use Rattle.dac_commands.specs.laws.Counters.{counter-greatest, next_none, next-is}
+use Rattle.dac_commands.proofs.Permits.{permits_at-rising, permits_at-has}
+
+-- ---- causes that don't hold
+pub first-none : (b : Bool) (why : Refusal) (cs : List (Bool × Refusal)) → first ((b, why) ∷ cs) ≡ None → (b ≡ false) × (first cs ≡ None)
+first-none true why cs e = cc
+first-none false why cs e = (refl, e)
+
+pub first-rest : (xs ys : List (Bool × Refusal)) → first (xs ++ ys) ≡ None → first ys ≡ None
+first-rest [] ys e = e
+first-rest (x ∷ xs) ys e = first-rest xs ys (first-none x.0 x.1 (xs ++ ys) e).1
+
+-- an operation may be issued that replaces these dots
+pub record MayIssue (own : Origin) (s : StateValue) (over : List Dot) : Type 0 where
+  pub few : too_many (length over) ≡ false
+  pub left : used_up s own ≡ false
+
+may_issue : (own : Origin) (s : StateValue) (over : List Dot) → first (causes_to_issue own s (length over)) ≡ None → MayIssue own s over
+may_issue own s over e =
+    let rest = first-none (too_many (length over)) TooManyDots ((used_up s own, DotsUsedUp) ∷ []) e in
+    record { few = rest.0; left = (first-none (used_up s own) DotsUsedUp [] rest.1).0 }
+
+-- the node of an accepted Down is another one, and a counter is left
+pub record MayDeclare (own : Origin) (s : StateValue) (node : NodeId) : Type 0 where
+  pub other : nat_eq node.0 own.node.0 ≡ false
+  pub left : used_up s own ≡ false
+
+may_declare : (t : Table) (own : Origin) (s : StateValue) (node : NodeId) → first (causes_of t own s (Down node)) ≡ None → MayDeclare own s node
+may_declare t own s node e =
+    let a = first-none (no_node t node) UnknownNode ((nat_eq node.0 own.node.0, OnSelf) ∷ (not_live s node, NotLive) ∷ (used_up s own, DotsUsedUp) ∷ []) e in
+    let b = first-none (nat_eq node.0 own.node.0) OnSelf ((not_live s node, NotLive) ∷ (used_up s own, DotsUsedUp) ∷ []) a.1 in
+    let c = first-none (not_live s node) NotLive ((used_up s own, DotsUsedUp) ∷ []) b.1 in
+    record { other = b.0; left = (first-none (used_up s own) DotsUsedUp [] c.1).0 }
+
+may_permit : (t : Table) (own : Origin) (s : StateValue) (app : AppId) (node : NodeId) (value : Bool) → first (causes_of t own s (Permit app node value)) ≡ None → MayIssue own s (standing_permits s (key_at s app node))
+may_permit t own s app node value e =
+    let over = standing_permits s (key_at s app node) in
+    may_issue own s over (first-rest (causes_to_name t s app node) (causes_to_issue own s (length over)) e)
+
+may_start : (t : Table) (own : Origin) (s : StateValue) (app : AppId) (node : NodeId) → first (causes_of t own s (Start app node)) ≡ None → MayIssue own s (standing_starts s (key_at s app node))
+may_start t own s app node e =
+    let over = standing_starts s (key_at s app node) in
+    may_issue own s over (first-rest (causes_to_name t s app node) (causes_to_issue own s (length over)) e)
+
+may_stop : (t : Table) (own : Origin) (s : StateValue) (app : AppId) (node : NodeId) → first (causes_of t own s (Stop app node)) ≡ None → MayIssue own s (standing_starts s (key_at s app node))
+may_stop t own s app node e =
+    let key = key_at s app node in
+    let causes = causes_to_issue own s (length (standing_starts s key)) in
+    may_issue own s (standing_starts s key) (first-none (not_wished s key) NotStarted causes (first-rest (causes_to_name t s app node) ((not_wished s key, NotStarted) ∷ causes) e)).1
+
+-- ---- what the code reads of these causes
+pub used_up-is : (s : StateValue) (own : Origin) (known : Dots) (next : Option Dot) → known ≡ s.known → MatchOption next (IsUsedUp known own) (IsNext known own) → used_up s own ≡ is_none next
+used_up-is s own known next is h = sym (next_none s.known own next (subst (λ k. MatchOption next (IsUsedUp k own) (IsNext k own)) is h))
+
+turned : (b : Bool) → not b ≡ false → b ≡ true
+turned true e = refl
+turned false e = absurd (true≢false e)
+
+pub next_there : (s : StateValue) (own : Origin) (known : Dots) (next : Option Dot) → known ≡ s.known → MatchOption next (IsUsedUp known own) (IsNext known own) → used_up s own ≡ false → is_some next ≡ true
+next_there s own known next is h left = turned (is_some next) (sym (used_up-is s own known next is h) ∙ left)
+
+pub next_dot : (s : StateValue) (own : Origin) (known : Dots) (next : Option Dot) (d : Dot) → known ≡ s.known → MatchOption next (IsUsedUp known own) (IsNext known own) → next ≡ Some d → d ≡ dot own (greatest_counter own s.known + 1)
+next_dot s own known next d is h some = next-is s.known own d (subst (λ k. IsNext k own d) is (subst (λ o. MatchOption o (IsUsedUp known own) (IsNext known own)) some h))
+
+-- ---- operations
+fault_none : (d : Dot) (a : Act) → replaces_itself d a ≡ false → has_bad_over (over_list a) ≡ false → has_bad_counter d a ≡ false → is_on_self d a ≡ false → fault_of d a ≡ None
+fault_none d a p q r s = λ i. if p i then Some OwnDot else if q i then Some BadOver else if r i then Some BadCounter else if s i then Some AboutItself else None
+
+-- the dot of the next operation
+abbrev next_of : Origin → StateValue → Dot
+next_of own s = dot own (greatest_counter own s.known + 1)
+
+-- it isn't known
+next_unknown : (own : Origin) (s : StateValue) → set.contains s.known (next_of own s) ≡ true → ⊥
+next_unknown own s h = above (greatest_counter own s.known) (counter-greatest s.known (next_of own s) h)
+  where
+    above : (g : ℕ) → g + 1 ≤ g → ⊥
+    above g h = omega arith
+
+-- its counter isn't that of a boot
+next_later : (own : Origin) (s : StateValue) → KnowsItself own s → (greatest_counter own s.known + 1 == 1) ≡ false
+next_later own s knows = false_from_ne_true _ (λ t. first_only (greatest_counter own s.known) (counter-greatest s.known (dot own 1) knows) (exact_unsigned_eq (greatest_counter own s.known + 1) 1 t))
+  where
+    first_only : (g : ℕ) → 1 ≤ g → g + 1 ≡ 1 → ⊥
+    first_only g h e = omega arith
+
+-- a short rising list is no bad list to replace
+good_over : (own : Origin) (s : StateValue) (over : List Dot) → IsRising dot_cmp over → MayIssue own s over → has_bad_over over ≡ false
+good_over own s over rising may = λ i. not (rising i) || may.few i
+
+-- what stands at a key doesn't have the next dot among it
+starts_apart : (own : Origin) (s : StateValue) (key : Key) → IsState s → has_key dot_cmp (standing_starts s key) (next_of own s) ≡ false
+starts_apart own s key is = false_from_ne_true _ (λ t.
+    let there : set.contains (dots_at key s.starts) (next_of own s) ≡ true = sym (has_key-in_order dots_total exact_dots (dots_at key s.starts) (next_of own s)) ∙ t in
+    next_unknown own s (is.starts (write key (next_of own s)) (sym (contains-dots_at key s.starts (next_of own s)) ∙ there)))
+
+permits_apart : (own : Origin) (s : StateValue) (key : Key) → IsState s → has_key dot_cmp (standing_permits s key) (next_of own s) ≡ false
+permits_apart own s key is = false_from_ne_true _ (λ t. next_unknown own s (is.permits (write key (next_of own s)) (sym (permits_at-has key s.permits (next_of own s)) ∙ t)))
+
+starts_rising : (s : StateValue) (key : Key) → IsRising dot_cmp (standing_starts s key)
+starts_rising s key = in_order-rising dots_total exact_dots (dots_at key s.starts)
+
+-- what an accepted command issues is an operation, and a counter is left for it
+pub record Issues (own : Origin) (s : StateValue) (a : Act) : Type 0 where
+  pub left : used_up s own ≡ false
+  pub sound : fault_of (next_operation s own a).dot a ≡ None
+
+issues_by : (t : Table) (own : Origin) (s : StateValue) (c : Command) → IsState s → KnowsItself own s → first (causes_of t own s c) ≡ None → Issues own s (act_of s c)
+issues_by t own s (Down node) is knows e =
+    let may = may_declare t own s node e in
+    record { left = may.left; sound = fault_none (next_of own s) (Downs node (live_or_none s node)) refl refl (next_later own s knows) may.other }
+issues_by t own s (Permit app node value) is knows e =
+    let key = key_at s app node in
+    let may = may_permit t own s app node value e in
+    record { left = may.left; sound = fault_none (next_of own s) (Permits key value (standing_permits s key)) (permits_apart own s key is) (good_over own s _ (permits_at-rising key s.permits) may) (next_later own s knows) refl }
+issues_by t own s (Start app node) is knows e =
+    let key = key_at s app node in
+    let may = may_start t own s app node e in
+    record { left = may.left; sound = fault_none (next_of own s) (Starts key (standing_starts s key)) (starts_apart own s key is) (good_over own s _ (starts_rising s key) may) (next_later own s knows) refl }
+issues_by t own s (Stop app node) is knows e =
+    let key = key_at s app node in
+    let may = may_stop t own s app node e in
+    record { left = may.left; sound = fault_none (next_of own s) (Stops key (standing_starts s key)) (starts_apart own s key is) (good_over own s _ (starts_rising s key) may) (next_later own s knows) refl }
+
+pub issues : (t : Table) (own : Origin) (s : StateValue) (c : Command) → IsState s → KnowsItself own s → refusal_of_command t own s c ≡ None → Issues own s (act_of s c)
+issues t own s c is knows e = issues_by t own s c is knows (first-none (declared_down own s) DeclaredDown (causes_of t own s c) e).1

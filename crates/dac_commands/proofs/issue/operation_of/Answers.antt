@@ -1,0 +1,17 @@
+use Rattle.std.proofs.Common.{ap, ◌∙◌}
+use Rattle.dac_operations.specs.declared.act.Act.{Act}
+use Rattle.dac_operations.specs.Operations.{fault_of}
+use Rattle.dac_commands.specs.Commands.{next_operation}
+use Rattle.dac_commands.proofs.Issues.{issues}
+use Rattle.dac_commands.proofs.issue.operation_of.Goals as goal
+
+pub issue-requires-clause-left : goal.issue-requires-clause-left
+issue-requires-clause-left c =
+    let s = c.args.state.now in
+    (issues c.requires.accepted.0 c.args.own s c.args.command c.known.ensures c.requires.knows c.requires.accepted.1).left
+
+pub issue-requires-clause-sound : goal.issue-requires-clause-sound
+issue-requires-clause-sound c =
+    let s = c.args.state.now in
+    ap (λ (a : Act). fault_of (next_operation s c.args.own a).dot a) c.in_ok-act.ensures
+    ∙ (issues c.requires.accepted.0 c.args.own s c.args.command c.known.ensures c.requires.knows c.requires.accepted.1).sound

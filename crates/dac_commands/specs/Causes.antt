@@ -1,0 +1,77 @@
+-- Why a running node refuses a command.
+use Rattle.std.specs.Prelude.{ℕ, ◌^◌, Bool, false, not, cond, nat_eq, nat_le, nat_lt, List, [], ◌∷◌, ◌++◌, length, Option, Some, None, is_some}
+use Rattle.dac_base.specs.declared.NodeId.{NodeId}
+use Rattle.dac_base.specs.declared.AppId.{AppId}
+use Rattle.dac_dots.specs.declared.dot.Origin.{Origin}
+use Rattle.dac_wishes.specs.declared.key.Key.{Key}
+use Rattle.dac_wishes.specs.WishesValue.{is_wished}
+use Rattle.dac_meaning.specs.StateValue.{StateValue, wishes_of}
+use Rattle.dac_config.specs.Table.{Table, node_count, app_count, group_of}
+use Rattle.dac_events.specs.declared.Command.{Command}
+use Rattle.dac_events.specs.declared.Command.TheVariants.{Down, Permit, Start, Stop}
+use Rattle.dac_commands.specs.declared.refusal.Refusal.{Refusal}
+use Rattle.dac_commands.specs.declared.refusal.Refusal.TheVariants.{DeclaredDown, UnknownApp, UnknownNode, OnSelf, NotInList, NotLive, NotStarted, TooManyDots, DotsUsedUp}
+use Rattle.dac_commands.specs.Commands.{live, key_at, standing_starts, standing_permits, greatest_counter}
+
+-- the first of these causes that holds
+abbrev pub first : List (Bool × Refusal) → Option Refusal
+first [] = None
+first (c ∷ cs) = cond c.0 (Some c.1) (first cs)
+
+abbrev pub no_node : Table → NodeId → Bool
+no_node t node = nat_le (node_count t) node.0
+
+abbrev pub no_app : Table → AppId → Bool
+no_app t app = nat_le (app_count t) app.0
+
+-- the application's list lacks the node
+abbrev pub unlisted : Table → AppId → NodeId → Bool
+unlisted t app node = not (is_some (group_of t app node))
+
+abbrev pub not_live : StateValue → NodeId → Bool
+not_live s node = not (is_some (live s node))
+
+abbrev pub not_wished : StateValue → Key → Bool
+not_wished s key = not (is_wished key (wishes_of s))
+
+-- these are more dots than an operation may replace
+abbrev pub too_many : ℕ → Bool
+too_many count = nat_lt 1024 count
+
+-- the counters of the origin are used up
+abbrev pub used_up : StateValue → Origin → Bool
+used_up s own = nat_le (2 ^ 62) (greatest_counter own s.known)
+
+-- there is such an incarnation, and it has this number
+abbrev pub is_inc : ℕ → Option ℕ → Bool
+is_inc i None = false
+is_inc i (Some j) = nat_eq j i
+
+-- the incarnation isn't the live one of its own node
+abbrev pub declared_down : Origin → StateValue → Bool
+declared_down own s = not (is_inc own.inc (live s own.node))
+
+-- why a command about an application and a node isn't taken up
+abbrev pub causes_to_name : Table → StateValue → AppId → NodeId → List (Bool × Refusal)
+causes_to_name t s app node = (no_app t app, UnknownApp) ∷ (no_node t node, UnknownNode) ∷ (unlisted t app node, NotInList) ∷ (not_live s node, NotLive) ∷ []
+
+-- why no operation is issued that replaces so many dots
+abbrev pub causes_to_issue : Origin → StateValue → ℕ → List (Bool × Refusal)
+causes_to_issue own s count = (too_many count, TooManyDots) ∷ (used_up s own, DotsUsedUp) ∷ []
+
+-- why nothing is said of whether an application may run at a node
+abbrev pub causes_to_permit : Table → Origin → StateValue → AppId → NodeId → List (Bool × Refusal)
+causes_to_permit t own s app node = causes_to_name t s app node ++ causes_to_issue own s (length (standing_permits s (key_at s app node)))
+
+-- why an incarnation that wasn't declared down doesn't take up a command
+abbrev pub causes_of : Table → Origin → StateValue → Command → List (Bool × Refusal)
+causes_of t own s (Down node) = (no_node t node, UnknownNode) ∷ (nat_eq node.0 own.node.0, OnSelf) ∷ (not_live s node, NotLive) ∷ (used_up s own, DotsUsedUp) ∷ []
+causes_of t own s (Permit app node value) = causes_to_permit t own s app node
+causes_of t own s (Start app node) = causes_to_name t s app node ++ causes_to_issue own s (length (standing_starts s (key_at s app node)))
+causes_of t own s (Stop app node) =
+    let key = key_at s app node in
+    causes_to_name t s app node ++ (not_wished s key, NotStarted) ∷ causes_to_issue own s (length (standing_starts s key))
+
+-- why a running node refuses a command, if it does
+abbrev pub refusal_of_command : Table → Origin → StateValue → Command → Option Refusal
+refusal_of_command t own s c = first ((declared_down own s, DeclaredDown) ∷ causes_of t own s c)

@@ -1,0 +1,66 @@
+-- What a state tells of an application and a node, and the operation that a command issues.
+use Rattle.std.specs.Prelude.{◌≡◌, ℕ, ◌+◌, true, cond, List, [], ◌∷◌, map as list_map, max, Option, unwrap_or}
+use Rattle.std.specs.FinSet as set
+use Rattle.std.specs.Ordering.{eq_by_cmp}
+use Rattle.dac_base.specs.declared.NodeId.{NodeId}
+use Rattle.dac_base.specs.declared.AppId.{AppId}
+use Rattle.dac_dots.specs.declared.dot.Origin.{Origin}
+use Rattle.dac_dots.specs.declared.dot.Dot.{Dot}
+use Rattle.dac_dots.specs.Dots.{Dots, dot, origin_cmp}
+use Rattle.dac_dots.specs.InOrder.{in_order}
+use Rattle.dac_lattice.specs.declared.flags.Flag.{Flag}
+use Rattle.dac_chains.specs.Lives.{live_at}
+use Rattle.dac_wishes.specs.declared.key.Key.{Key}
+use Rattle.dac_wishes.specs.Writes.{dots_at}
+use Rattle.dac_wishes.specs.PermissionsValue.{permits_at}
+use Rattle.dac_operations.specs.declared.act.Act.{Act}
+use Rattle.dac_operations.specs.declared.act.Act.TheVariants.{Down as Downs, Permit as Permits, Start as Starts, Stop as Stops}
+use Rattle.dac_operations.specs.Operations.{Operation, operation}
+use Rattle.dac_meaning.specs.StateValue.{StateValue}
+use Rattle.dac_events.specs.declared.Command.{Command}
+use Rattle.dac_events.specs.declared.Command.TheVariants.{Down, Permit, Start, Stop}
+
+-- ---- what a state tells
+-- the state knows the operation of the incarnation's own boot
+abbrev pub KnowsItself : Origin → StateValue → Type 0
+KnowsItself origin s = set.contains s.known (dot origin 1) ≡ true
+
+-- the live incarnation of a node
+abbrev pub live : StateValue → NodeId → Option ℕ
+live s node = live_at s.lives node
+
+-- the same as a number, 0 where none is live
+abbrev pub live_or_none : StateValue → NodeId → ℕ
+live_or_none s node = unwrap_or (live s node) 0
+
+-- an application at the live incarnation of a node
+abbrev pub key_at : StateValue → AppId → NodeId → Key
+key_at s app node = record { app = app; node = node; inc = live_or_none s node }
+
+-- the dots of the start wishes that stand at a key, in rising order
+abbrev pub standing_starts : StateValue → Key → List Dot
+standing_starts s key = in_order (dots_at key s.starts)
+
+-- the dots of the permits that stand at a key, in rising order
+abbrev pub standing_permits : StateValue → Key → List Dot
+standing_permits s key = list_map (λ (p : Dot × Flag). p.0) (permits_at key s.permits)
+
+-- the greatest counter among those dots that are of an origin, 0 where there are none
+abbrev pub greatest_among : Origin → List Dot → ℕ
+greatest_among o [] = 0
+greatest_among o (d ∷ ds) = max (cond (eq_by_cmp origin_cmp d.origin o) d.n 0) (greatest_among o ds)
+
+abbrev pub greatest_counter : Origin → Dots → ℕ
+greatest_counter o dots = greatest_among o (set.items dots)
+
+-- ---- what a command issues
+-- the next operation of an origin
+abbrev pub next_operation : StateValue → Origin → Act → Operation
+next_operation s own act = operation (dot own (greatest_counter own s.known + 1)) act
+
+-- What a command issues. A Down is of the live incarnation, and the others replace exactly what stands of their kind at the key.
+abbrev pub act_of : StateValue → Command → Act
+act_of s (Down node) = Downs node (live_or_none s node)
+act_of s (Permit app node value) = let key = key_at s app node in Permits key value (standing_permits s key)
+act_of s (Start app node) = let key = key_at s app node in Starts key (standing_starts s key)
+act_of s (Stop app node) = let key = key_at s app node in Stops key (standing_starts s key)

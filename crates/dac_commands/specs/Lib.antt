@@ -1,0 +1,4 @@
+pub mod Refusals
+pub mod Commands
+pub mod Causes
+pub mod laws

@@ -1,0 +1,144 @@
+//! Why a running controller refuses a command.
+
+ghost use Rattle.std.specs.Prelude.{◌≡◌};
+ghost use Rattle.dac_commands.specs.Causes.{first, causes_of, causes_to_permit, causes_to_issue, too_many, declared_down, refusal_of_command, used_up};
+
+use crate::keys::{key_of, refusal_to_name};
+use crate::refusal::Refusal;
+use dac_base::{AppId, NodeId};
+use dac_config::Config;
+use dac_dots::Origin;
+use dac_events::Command;
+use dac_state::State;
+
+/// How many dots an operation may replace.
+const MOST_REPLACED: usize = 1_024;
+
+/// Why a controller that runs as this incarnation with this state refuses a command, if it does.
+pub fn refusal_of(config: &Config, own: Origin, state: &State, command: Command) -> Option<Refusal>
+    ensures { result ≡ refusal_of_command config.now own state.now command }
+{
+    if is_declared_down(own, state) {
+        return Some(Refusal::DeclaredDown);
+    }
+    match command {
+        Command::Down { node } => refusal_to_declare(config, own, state, node),
+        Command::Permit {
+            app,
+            node,
+            value: _,
+        } => refusal_to_permit(config, own, state, app, node),
+        Command::Start { app, node } => refusal_to_start(config, own, state, app, node),
+        Command::Stop { app, node } => refusal_to_stop(config, own, state, app, node),
+    }
+}
+
+/// Whether an incarnation isn't the live one of its own node.
+fn is_declared_down(own: Origin, state: &State) -> bool
+    ensures { result ≡ declared_down own state.now }
+{
+    match state.lives().live(own.node) {
+        Some(inc) => inc != own.inc,
+        None => true,
+    }
+}
+
+/// Why a node isn't declared down, if it isn't.
+fn refusal_to_declare(config: &Config, own: Origin, state: &State, node: NodeId) -> Option<Refusal>
+    ensures { result ≡ first (causes_of config.now own state.now (Command.Down node)) }
+{
+    if node.0 >= config.nodes() {
+        return Some(Refusal::UnknownNode);
+    }
+    if node == own.node {
+        return Some(Refusal::OnSelf);
+    }
+    if state.lives().live(node).is_none() {
+        return Some(Refusal::NotLive);
+    }
+    if is_used_up(own, state) {
+        return Some(Refusal::DotsUsedUp);
+    }
+    None
+}
+
+/// Why nothing is said of whether an application may run at a node, if nothing is.
+fn refusal_to_permit(
+    config: &Config,
+    own: Origin,
+    state: &State,
+    app: AppId,
+    node: NodeId,
+) -> Option<Refusal>
+    ensures { result ≡ first (causes_to_permit config.now own state.now app node) }
+{
+    if let Some(why) = refusal_to_name(config, state, app, node) {
+        return Some(why);
+    }
+    let key = key_of(state, app, node);
+    refusal_to_issue(own, state, state.permissions().dots(key).len())
+}
+
+/// Why no start is wished, if none is.
+fn refusal_to_start(
+    config: &Config,
+    own: Origin,
+    state: &State,
+    app: AppId,
+    node: NodeId,
+) -> Option<Refusal>
+    ensures { result ≡ first (causes_of config.now own state.now (Command.Start app node)) }
+{
+    if let Some(why) = refusal_to_name(config, state, app, node) {
+        return Some(why);
+    }
+    let key = key_of(state, app, node);
+    refusal_to_issue(own, state, state.wishes().dots(key).len())
+}
+
+/// Why no start wish is ended, if none is.
+fn refusal_to_stop(
+    config: &Config,
+    own: Origin,
+    state: &State,
+    app: AppId,
+    node: NodeId,
+) -> Option<Refusal>
+    ensures { result ≡ first (causes_of config.now own state.now (Command.Stop app node)) }
+{
+    if let Some(why) = refusal_to_name(config, state, app, node) {
+        return Some(why);
+    }
+    let key = key_of(state, app, node);
+    if !state.wishes().wished(key) {
+        return Some(Refusal::NotStarted);
+    }
+    refusal_to_issue(own, state, state.wishes().dots(key).len())
+}
+
+/// Why no operation is issued that replaces so many dots, if none is.
+fn refusal_to_issue(own: Origin, state: &State, count: usize) -> Option<Refusal>
+    ensures { result ≡ first (causes_to_issue own state.now count) }
+{
+    if is_too_many(count) {
+        return Some(Refusal::TooManyDots);
+    }
+    if is_used_up(own, state) {
+        return Some(Refusal::DotsUsedUp);
+    }
+    None
+}
+
+/// Whether these are more dots than an operation may replace.
+fn is_too_many(count: usize) -> bool
+    ensures { result ≡ too_many count }
+{
+    count > MOST_REPLACED
+}
+
+/// Whether the counters of an incarnation's operations are used up.
+fn is_used_up(own: Origin, state: &State) -> bool
+    ensures { result ≡ used_up state.now own }
+{
+    state.known().next(own).is_none()
+}

@@ -1,0 +1,52 @@
+//! An application at a node: its key at the live incarnation, and why it isn't taken up.
+
+ghost use Rattle.std.specs.Prelude.{◌≡◌};
+ghost use Rattle.dac_commands.specs.Commands.{live_or_none, key_at};
+ghost use Rattle.dac_commands.specs.Causes.{first, causes_to_name};
+
+use crate::refusal::Refusal;
+use dac_base::{AppId, NodeId};
+use dac_config::Config;
+use dac_state::{Key, State};
+
+/// The live incarnation of a node, 0 where none is live.
+pub(crate) fn live_of(state: &State, node: NodeId) -> u32
+    ensures { result ≡ live_or_none state.now node }
+{
+    state.lives().live(node).unwrap_or(0)
+}
+
+/// An application at the live incarnation of a node.
+pub(crate) fn key_of(state: &State, app: AppId, node: NodeId) -> Key
+    ensures { result ≡ key_at state.now app node }
+{
+    Key {
+        app,
+        node,
+        inc: live_of(state, node),
+    }
+}
+
+/// Why a command about an application and a node isn't taken up, if it isn't.
+pub(crate) fn refusal_to_name(
+    config: &Config,
+    state: &State,
+    app: AppId,
+    node: NodeId,
+) -> Option<Refusal>
+    ensures { result ≡ first (causes_to_name config.now state.now app node) }
+{
+    if app.0 >= config.apps() {
+        return Some(Refusal::UnknownApp);
+    }
+    if node.0 >= config.nodes() {
+        return Some(Refusal::UnknownNode);
+    }
+    if config.group_of(app, node).is_none() {
+        return Some(Refusal::NotInList);
+    }
+    if state.lives().live(node).is_none() {
+        return Some(Refusal::NotLive);
+    }
+    None
+}

@@ -1,0 +1,16 @@
+//! Commands of an operator at a controller, as pure functions of a configuration, the controller's incarnation and its
+//! state.
+//!
+//! [`refusal_of`] tells why a command is refused, and [`operation_of`] gives the operation that an accepted one issues.
+//! A [`Refusal`] is the cause why an event does nothing, for commands and for all other events of a controller. Nothing
+//! here keeps or changes a state.
+#![tactic(auto)]
+
+pub use causes::refusal_of;
+pub use issue::operation_of;
+pub use refusal::Refusal;
+
+mod causes;
+mod issue;
+mod keys;
+mod refusal;

@@ -1,7 +1,0 @@
-use Rattle.std.proofs.Common.{sym, subst}
-use Rattle.dac_core.specs.NodeValue.{KnowsItself}
-use Rattle.dac_core.proofs.Issues.{knows-join}
-use Rattle.dac_core.proofs.running.Running.joined.Goals as goal
-
-pub invariant_of-result : goal.invariant_of-result
-invariant_of-result c = subst (KnowsItself c.self.inside.origin) (sym c.in_ok-state.ensures) (knows-join c.self.inside.origin c.self.inside.state c.args.other.now c.self.invariant)

@@ -1,0 +1,13 @@
+use Rattle.dac_decide.specs.laws.Lost.{lost_to, to_lost}
+use Rattle.dac_decide.specs.laws.Rows.{noted, noted_to, to_noted}
+use Rattle.dac_decide.specs.laws.Due.{due_to_words}
+use Rattle.dac_decide.proofs.laws.waits_in_words.Goals as goal
+
+pub returns-clause-lost : goal.returns-clause-lost
+returns-clause-lost c = λ s app claim. (lost_to s app claim, to_lost s app claim)
+
+pub returns-clause-rows : goal.returns-clause-rows
+returns-clause-rows c = λ app notes claim since. (noted_to app notes (noted claim since), to_noted app notes claim since)
+
+pub returns-clause-due : goal.returns-clause-due
+returns-clause-due c = due_to_words

@@ -1,0 +1,168 @@
+//! The waits of failovers.
+ghost use Rattle.std.specs.Prelude.{◌≡◌, ◌↔◌, ◌<◌, ◌∷◌, [], List, length, IsTrue, IfOk};
+ghost use Rattle.dac_config.specs.Table.{app_count};
+ghost use Rattle.dac_decide.specs.FailoverWait.{Note, waits_of, IsDue, is_due, is_due_with, noted_at};
+ghost use Rattle.dac_decide.specs.FailoverWait.{lost_in, noted_next, is_held_at, is_wait_over};
+
+use dac_base::{AppId, NoMemory, NodeId};
+use dac_chains::Claim;
+use dac_config::Config;
+use dac_placement::{Verdict, holder, is_up, verdict};
+use dac_state::State;
+use std::alloc::Global;
+use std::marker::Model;
+
+/// A claim that was found lost, and since when, in milliseconds.
+#[derive(Clone, Copy, Debug, PartialEq, Eq)]
+pub(crate) struct Noted {
+    /// The claim.
+    pub claim: Claim,
+    /// The moment of the first note of the row in which each found it lost.
+    pub since: u64,
+}
+
+/// How long each application's failover has been waiting at this controller.
+///
+/// A claim is lost where it is its application's greatest and the incarnation that made it isn't live.
+/// A controller notes at its ticks which claims are lost. Contracts see, for each application of the
+/// configuration in turn, the lost claim that the last note found, if any, with the moment at which the
+/// unbroken row of notes of it began.
+#[derive(Drop)]
+pub struct Waits {
+    noted: Vec<Option<Noted>>,
+}
+
+impl Model for Waits {
+    ghost use Rattle.std.specs.Prelude.{List, Option};
+    ghost use Rattle.std.specs.Coded.{coded_list, coded_option};
+    ghost use Rattle.dac_decide.specs.FailoverWait.{coded_noted};
+    ghost use Rattle.dac_decide.specs.declared.waits.Noted.{Noted};
+
+    ghost Value = { List (Option Noted) };
+
+    ghost coded = { coded_list (coded_option coded_noted) };
+
+    ghost view = { λ w. w.noted.items };
+}
+
+impl Waits {
+    /// Nothing was noted yet. [`NoMemory`] is the only error.
+    pub fn new(alloc: Global, config: &Config) -> Result<Self, NoMemory>
+        ensures { IfOk result (λ waits. waits ≡ waits_of config.now []) }
+    {
+        let mut noted = Vec::new(alloc);
+        for _ in 0..config.apps() {
+            noted.push(None)?;
+        }
+        Ok(Waits { noted })
+    }
+
+    /// Notes which claims are lost at this moment. Waits that were made for another configuration stay as
+    /// many as they are. It takes no memory.
+    pub fn note(&mut self, config: &Config, state: &State, now: u64)
+        ensures value { (notes : List Note) → self.old ≡ waits_of config.now notes
+            → self.new ≡ waits_of config.now (record { state = state.now; moment = now } ∷ notes) }
+        ensures number { length self.new ≡ length self.old }
+    {
+        let places = self.noted.len().min(config.apps() as usize);
+        for place in 0..places {
+            let lost = lost_claim(state, AppId(place as u16));
+            self.noted[place] = noted_next(self.noted[place], lost, now);
+        }
+    }
+
+    /// Whether an application's verdict is to be carried out at this moment. After OTP's kernel manual, parameter
+    /// `distributed`: a failover waits for the application's time, unless the node that was lost is back and is
+    /// to have it again; whatever else there is to do isn't put off. It takes no memory.
+    pub fn due(&self, config: &Config, state: &State, app: AppId, now: u64) -> bool
+        requires { app.0 < app_count config.now }
+        ensures value { (notes : List Note) → self.now ≡ waits_of config.now notes
+            → result ≡ is_due config.now notes state.now app now }
+        ensures cases { (notes : List Note) → self.now ≡ waits_of config.now notes
+            → IsTrue result ↔ IsDue config.now notes state.now app now }
+    {
+        is_due_with(config, state, app, self.noted_of(app), now)
+    }
+
+    /// What is noted of an application.
+    fn noted_of(&self, app: AppId) -> Option<Noted>
+        ensures { result ≡ noted_at self.now app }
+    {
+        match self.noted.get(app.0 as usize) {
+            Some(noted) => *noted,
+            None => None,
+        }
+    }
+
+    /// Equal waits, with memory of their own. [`NoMemory`] is the only error.
+    pub fn copy(&self) -> Result<Self, NoMemory>
+        ensures { IfOk result (λ copied. copied ≡ self.now) }
+    {
+        Ok(Waits {
+            noted: self.noted.clone()?,
+        })
+    }
+}
+
+/// The lost claim of an application, if its greatest claim is lost.
+fn lost_claim(state: &State, app: AppId) -> Option<Claim>
+    ensures { result ≡ lost_in state.now app }
+{
+    let claim = state.claims().greatest(app)?;
+    if is_up(state, claim.origin) {
+        None
+    } else {
+        Some(claim)
+    }
+}
+
+/// What is noted of an application, after so much was noted before and this claim, if any, is found lost.
+fn noted_next(before: Option<Noted>, lost: Option<Claim>, now: u64) -> Option<Noted>
+    ensures { result ≡ noted_next before lost now }
+{
+    match (lost, before) {
+        (None, _) => None,
+        (Some(claim), Some(noted)) if noted.claim == claim => Some(noted),
+        (Some(claim), _) => Some(Noted { claim, since: now }),
+    }
+}
+
+/// Whether an application's verdict is to be carried out now, where so much is noted of it.
+fn is_due_with(config: &Config, state: &State, app: AppId, noted: Option<Noted>, now: u64) -> bool
+    requires { app.0 < app_count config.now }
+    ensures { result ≡ is_due_with config.now noted state.now app now }
+{
+    match verdict(config, state, app) {
+        Verdict::Start(_) | Verdict::Move(_) | Verdict::Takeover(_) => true,
+        Verdict::Failover(node) => {
+            let held = is_held_at(state, app, node);
+            let over = is_wait_over(config, state, app, noted, now);
+            held || over
+        }
+        Verdict::Halted(_) | Verdict::Kept(_) | Verdict::Nobody => false,
+    }
+}
+
+/// Whether the application's greatest claim is of this node.
+fn is_held_at(state: &State, app: AppId, node: NodeId) -> bool
+    ensures { result ≡ is_held_at state.now app node }
+{
+    match holder(state, app) {
+        Some(origin) => origin.node == node,
+        None => false,
+    }
+}
+
+/// Whether the application's lost claim is the one that is noted, and its failover has waited long enough.
+fn is_wait_over(config: &Config, state: &State, app: AppId, noted: Option<Noted>, now: u64) -> bool
+    requires { app.0 < app_count config.now }
+    ensures { result ≡ is_wait_over config.now state.now app noted now }
+{
+    match (lost_claim(state, app), noted) {
+        (Some(claim), Some(noted)) if noted.claim == claim => {
+            let wait = u64::from(config.timeout(app));
+            now >= noted.since && now - noted.since >= wait
+        }
+        _ => false,
+    }
+}

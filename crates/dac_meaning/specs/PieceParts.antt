@@ -1,0 +1,33 @@
+-- The parts of a meaning are what its pieces make of the operations: the joined deltas of each piece. So a piece's own definition of what operations mean is that part of their meaning.
+use Rattle.std.specs.Prelude.{◌≡◌, List, map as list_map}
+use Rattle.std.specs.FinMap as map
+use Rattle.dac_dots.specs.declared.dot.Dot.{Dot}
+use Rattle.dac_lattice.specs.Pieces.{joined}
+use Rattle.dac_chains.specs.Greatest.{alone, greater}
+use Rattle.dac_chains.specs.Lives.{life_cmp, said_life}
+use Rattle.dac_chains.specs.Claims.{claim_cmp, said_claim}
+use Rattle.dac_wishes.specs.WishesValue.{join_wishes, no_wishes}
+use Rattle.dac_wishes.specs.WishMeaning.{wish_delta}
+use Rattle.dac_wishes.specs.PermissionsValue.{join_permissions, no_permissions}
+use Rattle.dac_wishes.specs.PermitMeaning.{permit_delta}
+use Rattle.dac_operations.specs.declared.act.Act.{Act}
+use Rattle.dac_operations.specs.Operations.{Operation}
+use Rattle.dac_operations.specs.Seen.{seen_wish, seen_permit, seen_life, seen_claim}
+use Rattle.dac_meaning.specs.StateValue.{permissions_of, wishes_of}
+use Rattle.dac_meaning.specs.Meaning.{Agree, meaning_of}
+
+-- what a piece sees of the operations
+abbrev pub as_seen : {A : Type 0} → (Dot → Act → A) → List Operation → List (Dot × A)
+as_seen sees os = list_map (λ (o : Operation). (o.dot, sees o.dot o.act)) os
+
+abbrev pub PermitsAreJoined : Type 0
+PermitsAreJoined = (os : List Operation) → Agree os → joined join_permissions no_permissions permit_delta (as_seen seen_permit os) ≡ permissions_of (meaning_of os)
+
+abbrev pub WishesAreJoined : Type 0
+WishesAreJoined = (os : List Operation) → Agree os → joined join_wishes no_wishes wish_delta (as_seen seen_wish os) ≡ wishes_of (meaning_of os)
+
+abbrev pub LivesAreJoined : Type 0
+LivesAreJoined = (os : List Operation) → Agree os → joined (greater life_cmp) map.empty (λ d a. alone (said_life d a)) (as_seen (λ _ a. seen_life a) os) ≡ (meaning_of os).lives
+
+abbrev pub ClaimsAreJoined : Type 0
+ClaimsAreJoined = (os : List Operation) → Agree os → joined (greater claim_cmp) map.empty (λ d a. alone (said_claim d a)) (as_seen (λ _ a. seen_claim a) os) ≡ (meaning_of os).claims

@@ -1,0 +1,53 @@
+//! What happens at a node.
+
+ghost use Rattle.std.specs.Prelude.{◌≡◌, IfOk};
+
+use crate::message::Message;
+use dac_base::{NoMemory, NodeId};
+use dac_events::Command;
+use dac_state::Op;
+
+/// What happens at a node.
+#[derive(Drop)]
+pub enum Event {
+    /// The node comes up, under the next incarnation number.
+    Boot {
+        /// The present moment, in milliseconds.
+        now: u64,
+    },
+    /// The node goes down and loses all but the number of its incarnation.
+    Crash,
+    /// An operator's command.
+    Command(Command),
+    /// The node's state is to be shipped.
+    Ship {
+        /// The node that it is shipped to.
+        to: NodeId,
+    },
+    /// A message comes.
+    Hear(Message),
+    /// One operation comes by itself, whether or not those came that its issuer had heard.
+    HearOp(Op),
+}
+
+impl Event {
+    /// An equal event.
+    pub fn copy(&self) -> Result<Self, NoMemory>
+        ensures { IfOk result (λ event. event ≡ self.now) }
+    {
+        match self {
+            Event::Boot { now } => Ok(Event::Boot { now: *now }),
+            Event::Crash => Ok(Event::Crash),
+            Event::Command(command) => Ok(Event::Command(*command)),
+            Event::Ship { to } => Ok(Event::Ship { to: *to }),
+            Event::Hear(message) => {
+                let message = message.copy()?;
+                Ok(Event::Hear(message))
+            }
+            Event::HearOp(operation) => {
+                let operation = operation.copy()?;
+                Ok(Event::HearOp(operation))
+            }
+        }
+    }
+}

@@ -1,0 +1,27 @@
+-- A state that knows the operation of its own boot.
+use Rattle.std.proofs.Common.{◌≡◌, Bool, true, false, ◌||◌, [], ◌∷◌, refl, ap, ◌∙◌}
+use Rattle.std.specs.FinSet as set
+use Rattle.dac_dots.specs.declared.dot.Origin.{Origin}
+use Rattle.dac_dots.specs.Dots.{dot, dots_total}
+use Rattle.dac_wishes.specs.Writes.{same_dot_itself}
+use Rattle.dac_meaning.specs.StateValue.{StateValue, bottom, join}
+use Rattle.dac_meaning.specs.StateLaws.{known-join}
+use Rattle.dac_meaning.specs.Meaning.{meaning_of}
+use Rattle.dac_meaning.specs.Readers.{known-meaning}
+use Rattle.dac_commands.specs.Commands.{KnowsItself}
+use Rattle.dac_node.specs.Step.{up}
+
+-- what is joined is known still
+pub knows-join : (o : Origin) (s t : StateValue) → KnowsItself o s → KnowsItself o (join s t)
+knows-join o s t h = ap (λ k. set.contains k (dot o 1)) (known-join s t) ∙ (set.contains-union dots_total s.known t.known (dot o 1) ∙ ap (λ b. b || set.contains t.known (dot o 1)) h)
+
+pub knows-boot : (o : Origin) → KnowsItself o (join bottom (meaning_of (up o ∷ [])))
+knows-boot o =
+    ap (λ k. set.contains k (dot o 1)) (known-join bottom (meaning_of (up o ∷ [])))
+    ∙ set.contains-union dots_total bottom.known (meaning_of (up o ∷ [])).known (dot o 1)
+    ∙ ap (λ b. set.contains bottom.known (dot o 1) || b) (known-meaning (up o ∷ []) (dot o 1) ∙ ap (λ b. (b || false) || false) (same_dot_itself (dot o 1)))
+    ∙ or-right (set.contains bottom.known (dot o 1))
+  where
+    or-right : (a : Bool) → (a || true) ≡ true
+    or-right true = refl
+    or-right false = refl

@@ -1,0 +1,32 @@
+use Rattle.std.proofs.Common.{Ok, sym, subst, ◌∙◌}
+use Rattle.std.proofs.lemmas.Result.{err_from_is_err_and}
+use Rattle.dac_messages.specs.declared.reply.Reply.{Reply}
+use Rattle.dac_node.specs.NodeValue.{NodeValue}
+use Rattle.dac_node.specs.Step.{Steps}
+use Rattle.dac_node.specs.Hearing.{HearsExactly}
+use Rattle.dac_node.specs.laws.Steps.{steps}
+use Rattle.dac_node.specs.laws.Heard.{hears_exactly}
+use Rattle.dac_node.specs.laws.Refused.{answered_is, free_is}
+use Rattle.dac_node.proofs.node.Node.step.Goals as goal
+
+pub returns-clause-ok : goal.returns-clause-ok
+returns-clause-ok c =
+    let t = c.args.config.now in
+    let old = c.args.self.now in
+    subst (λ (x : NodeValue × Reply). Steps t c.args.self_id old c.args.event x.0 (Ok x.1)) (λ i. (sym c.apply.ensures.new i, sym c.apply.ensures.reply i))
+    (steps t c.args.self_id old c.args.event c.in_ok-change.change c.in_ok-change.ensures.ok)
+
+pub returns-clause-heard : goal.returns-clause-heard
+returns-clause-heard c =
+    let old = c.args.self.now in
+    let p = c.in_ok-change.ensures.ok in
+    subst (λ (x : NodeValue × Reply). HearsExactly old c.args.event x.1 x.0) (λ i. (sym (c.apply.ensures.new ∙ p.left) i, sym (c.apply.ensures.reply ∙ p.reply) i))
+    (hears_exactly c.args.config.now c.args.self_id old.last old.run c.args.event p.accepted)
+
+pub returns-clause-cases : goal.returns-clause-cases
+returns-clause-cases c = free_is c.args.config.now c.args.self.now c.args.event c.in_ok-change.ensures.ok.accepted
+
+pub returns-in_err-change-clause-cases : goal.returns-in_err-change-clause-cases
+returns-in_err-change-clause-cases c =
+    let p = err_from_is_err_and c.from_residual.result c.from_residual.ensures.1 in
+    rw (p.1, p.2) (answered_is c.args.config.now c.args.self.now c.args.event c.in_err-change.field-0.0 c.in_err-change.ensures.err)

@@ -1,0 +1,9 @@
+pub mod NodeValue
+pub mod ModelNode
+pub mod EventRefusals
+pub mod Step
+pub mod Changes
+pub mod After
+pub mod Hearing
+pub mod Refused
+pub mod laws

@@ -1,0 +1,4 @@
+pub mod Options
+pub mod Steps
+pub mod Heard
+pub mod Refused

@@ -1,0 +1,14 @@
+//! One controller: a node that is off or runs with a state.
+//!
+//! A [`Node`] changes by [`Node::step`] alone, one event at a time. A step has two halves. [`Node::prepare`] finds why
+//! the event is refused, or makes all that it does, as a [`Change`]; only this half may want memory. [`Node::apply`]
+//! does the change. So a caller that keeps more than a node can make room for all of it before anything changes.
+#![tactic(auto)]
+
+pub use change::Change;
+pub use node::Node;
+
+mod change;
+pub mod laws;
+mod node;
+mod running;

@@ -1,0 +1,197 @@
+//! One controller.
+
+ghost use Rattle.std.specs.Prelude.{◌≡◌, IfOk, IfErr, MatchResult, OnErr, unwrap_or};
+ghost use Rattle.dac_config.specs.Table.{Table};
+ghost use Rattle.dac_node.specs.EventRefusals.{refusal_off as refused_off};
+
+use crate::change::{After, Change};
+use crate::running::Running;
+use dac_base::{NoMemory, NodeId};
+use dac_commands::Refusal;
+use dac_config::Config;
+use dac_dots::Origin;
+use dac_messages::{Event, Message, Reply};
+use dac_state::{Op, State};
+use std::alloc::Global;
+use std::marker::Model;
+
+/// A controller: off, where it keeps the number of its last incarnation alone, or running.
+///
+/// An incarnation number is used once. A controller that boots again has lost all that it knew and goes by
+/// the next number, so an operation's dot never comes twice.
+#[derive(Drop)]
+pub struct Node {
+    alloc: Global,
+    last: u32,
+    run: Option<Running>,
+}
+
+impl Model for Node {
+    ghost use Rattle.dac_node.specs.NodeValue.{NodeValue, coded_node_value};
+
+    ghost Value = { NodeValue };
+
+    ghost coded = { coded_node_value };
+
+    ghost view = { λ a. record { last = a.last; run = a.run } };
+}
+
+impl Node {
+    ghost use Rattle.std.specs.Option.{option_copied};
+    ghost use Rattle.dac_node.specs.NodeValue.{off, origin_of, state_of};
+    ghost use Rattle.dac_node.specs.EventRefusals.{refusal_of};
+    ghost use Rattle.dac_node.specs.Step.{Steps};
+    ghost use Rattle.dac_node.specs.Changes.{changed, Prepared};
+    ghost use Rattle.dac_node.specs.Hearing.{HearsExactly};
+    ghost use Rattle.dac_node.specs.Refused.{IsAnsweredBy, IsFree};
+
+    /// A controller that is off and whose last incarnation had this number; 0 for one that never booted.
+    pub fn off(alloc: Global, last: u32) -> Self
+        ensures { result ≡ off last }
+    {
+        Node {
+            alloc,
+            last,
+            run: None,
+        }
+    }
+
+    /// The state, where the controller runs.
+    pub fn state(&self) -> Option<&State>
+        ensures { option_copied result ≡ state_of self.now }
+    {
+        match &self.run {
+            None => None,
+            Some(run) => Some(run.state()),
+        }
+    }
+
+    /// The present incarnation, where the controller runs: what issues its operations.
+    pub fn origin(&self) -> Option<Origin>
+        ensures { result ≡ origin_of self.now }
+    {
+        match &self.run {
+            None => None,
+            Some(run) => Some(run.origin()),
+        }
+    }
+
+    /// An equal controller.
+    pub fn copy(&self) -> Result<Self, NoMemory>
+        ensures { IfOk result (λ copied. copied ≡ self.now) }
+    {
+        let run = match &self.run {
+            None => None,
+            Some(run) => {
+                let run = run.copy()?;
+                Some(run)
+            }
+        };
+        Ok(Node {
+            alloc: self.alloc,
+            last: self.last,
+            run,
+        })
+    }
+
+    /// One event. It is refused with the first cause that holds, and with `NoMemory` only where there is no
+    /// other; the controller is then as before. A crash takes no memory: a running controller always goes
+    /// down. A controller that boots is node `self_id` until it is off again.
+    pub fn step(&mut self, config: &Config, self_id: NodeId, event: Event) -> Result<Reply, Refusal>
+        ensures err { IfErr result (λ why. why ≡ unwrap_or (refusal_of config.now self.old event) Refusal.NoMemory) }
+        // Of the causes that the event can have and that hold, the least is answered; none holds of an accepted one.
+        ensures cases { MatchResult result (λ _. IsFree config.now self.old event) (IsAnsweredBy config.now self.old event) }
+        ensures crash { IfErr result (λ why. event ≡ Event.Crash → why ≡ Refusal.Off) }
+        ensures unchanged { OnErr result (self.new ≡ self.old) }
+        ensures ok { IfOk result (λ reply. Steps config.now self_id self.old event self.new (Ok reply)) }
+        // What it has heard grows by the dots that the event brings, and by no more.
+        ensures heard { IfOk result (λ reply. HearsExactly self.old event reply self.new) }
+    {
+        let change = self.prepare(config, self_id, &event)?;
+        Ok(self.apply(change))
+    }
+
+    /// Why an event is refused, if it is.
+    fn refusal(&self, config: &Config, event: &Event) -> Option<Refusal>
+        ensures { result ≡ refusal_of config.now self.now event.now }
+    {
+        match &self.run {
+            None => refusal_off(self.last, event),
+            Some(run) => run.refusal(config, event),
+        }
+    }
+
+    /// What an event would do at node `self_id`, or why it is refused. Nothing changes yet. All that may want memory is
+    /// done here; a crash wants none.
+    pub fn prepare(
+        &self,
+        config: &Config,
+        self_id: NodeId,
+        event: &Event,
+    ) -> Result<Change, Refusal>
+        ensures ok { IfOk result (λ change. Prepared config.now self_id self.now event.now change) }
+        ensures err { IfErr result (λ why. why ≡ unwrap_or (refusal_of config.now self.now event.now) Refusal.NoMemory) }
+        ensures crash { IfErr result (λ why. event.now ≡ Event.Crash → why ≡ Refusal.Off) }
+    {
+        if let Some(why) = self.refusal(config, event) {
+            return Err(why);
+        }
+        match &self.run {
+            None => Ok(Change::boot(self.alloc, self_id, self.last)?),
+            Some(run) => Ok(Change::of(self.last, run, event)?),
+        }
+    }
+
+    /// What a message that comes would do, as [`Node::prepare`] of that event, without a copy of the message.
+    pub fn prepare_hear(&self, message: &Message) -> Result<Change, Refusal>
+        ensures ok { IfOk result (λ change. (t : Table) (me : NodeId) → Prepared t me self.now (Event.Hear message.now) change) }
+        ensures err { IfErr result (λ why. (t : Table) → why ≡ unwrap_or (refusal_of t self.now (Event.Hear message.now)) Refusal.NoMemory) }
+    {
+        let Some(run) = &self.run else {
+            return Err(Refusal::Off);
+        };
+        if let Some(why) = run.refusal_to_hear(message) {
+            return Err(why);
+        }
+        Ok(Change::hear(self.last, run, message)?)
+    }
+
+    /// What an operation that comes by itself would do, as [`Node::prepare`] of that event, without a copy of the
+    /// operation.
+    pub fn prepare_hear_op(&self, operation: &Op) -> Result<Change, Refusal>
+        ensures ok { IfOk result (λ change. (t : Table) (me : NodeId) → Prepared t me self.now (Event.HearOp operation.now) change) }
+        ensures err { IfErr result (λ why. (t : Table) → why ≡ unwrap_or (refusal_of t self.now (Event.HearOp operation.now)) Refusal.NoMemory) }
+    {
+        let Some(run) = &self.run else {
+            return Err(Refusal::Off);
+        };
+        Ok(Change::hear_op(self.last, run, operation)?)
+    }
+
+    /// Does what was prepared, and gives the reply. It is a step of the event where this node prepared the change, and has
+    /// been as it is since then.
+    pub fn apply(&mut self, change: Change) -> Reply
+        ensures new { self.new ≡ changed self.old change }
+        ensures reply { result ≡ change.reply }
+    {
+        let Change { last, after, reply } = change;
+        self.last = last;
+        match after {
+            After::Same => {}
+            After::Off => self.run = None,
+            After::Runs(run) => self.run = Some(run),
+        }
+        reply
+    }
+}
+
+/// Why a controller that is off refuses the event, if it does.
+fn refusal_off(last: u32, event: &Event) -> Option<Refusal>
+    ensures { result ≡ refused_off last event.now }
+{
+    match event {
+        Event::Boot { now: _ } if last == u32::MAX => Some(Refusal::IncarnationsUsedUp),
+        Event::Boot { now: _ } => None,
+        _ => Some(Refusal::Off),
+    }
+}

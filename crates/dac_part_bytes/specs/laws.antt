@@ -1,0 +1,13 @@
+pub mod Apps
+pub mod Ascending
+pub mod ChainClaims
+pub mod ChainEntries
+pub mod ChainLaws
+pub mod ChainLives
+pub mod Entries
+pub mod InOrder
+pub mod KeyFields
+pub mod KeyedLaws
+pub mod KeyedLists
+pub mod KeyedPermits
+pub mod KeyedStarts

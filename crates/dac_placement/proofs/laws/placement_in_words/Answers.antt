@@ -1,0 +1,20 @@
+use Rattle.dac_placement.specs.laws.Tests.{eligible_is, runs_is}
+use Rattle.dac_placement.specs.laws.Standing.{standing_is}
+use Rattle.dac_placement.specs.laws.FirstChoice.{first_is}
+use Rattle.dac_placement.specs.laws.Judged.{verdict_in_words}
+use Rattle.dac_placement.proofs.laws.placement_in_words.Goals as goal
+
+pub returns-clause-eligible : goal.returns-clause-eligible
+returns-clause-eligible c = eligible_is
+
+pub returns-clause-runs : goal.returns-clause-runs
+returns-clause-runs c = runs_is
+
+pub returns-clause-first : goal.returns-clause-first
+returns-clause-first c = first_is
+
+pub returns-clause-standing : goal.returns-clause-standing
+returns-clause-standing c = standing_is
+
+pub returns-clause-verdict : goal.returns-clause-verdict
+returns-clause-verdict c = verdict_in_words

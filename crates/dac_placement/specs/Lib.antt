@@ -1,0 +1,4 @@
+pub mod Ranks
+pub mod Placement
+pub mod InWords
+pub mod laws

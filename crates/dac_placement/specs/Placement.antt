@@ -1,0 +1,197 @@
+-- Where an application runs and where it belongs, read off a configuration and a state. After OTP's Design Principles, chapter Distributed Applications, and application(3): an application is started at the first node of its list that is up, and within a tuple at the one that runs the fewest; when its node goes down it fails over, a stopped one isn't moved, a forbidden one is, and a node of an earlier group takes it over from a later one. (That wishes and permissions are of one incarnation, and that a tie goes by name, is this project's own.)
+use Rattle.std.specs.Prelude.{◌≡◌, ◌⊎◌, ℕ, ◌<◌, ◌≤◌, Bool, false, not, ◌&&◌, ◌==◌, nat_lt, List, length, map as list_map, filter, Option, None, Some, IsSome, is_some, if◌then◌else◌}
+use Rattle.std.specs.List.{range_with_len, filter_map, reduce}
+use Rattle.std.specs.Option.{option_map, option_map_or}
+use Rattle.std.specs.Ordering.{ord_min}
+use Rattle.std.specs.FinMap as map
+use Rattle.dac_base.specs.declared.NodeId.{NodeId}
+use Rattle.dac_base.specs.declared.AppId.{AppId}
+use Rattle.dac_dots.specs.declared.dot.Origin.{Origin}
+use Rattle.dac_config.specs.Table.{Table, node_count, app_count, group_of, default_permission}
+use Rattle.dac_chains.specs.declared.claims.Claim.{Claim}
+use Rattle.dac_chains.specs.Lives.{IsLive, live_at}
+use Rattle.dac_wishes.specs.declared.key.Key.{Key}
+use Rattle.dac_wishes.specs.PermissionsValue.{IsPermitted, is_permitted}
+use Rattle.dac_wishes.specs.WishesValue.{SomeStands, is_wished}
+use Rattle.dac_meaning.specs.StateValue.{StateValue, permissions_of, wishes_of}
+use Rattle.dac_placement.specs.declared.standing.Standing.{Standing}
+use Rattle.dac_placement.specs.declared.standing.Standing.TheVariants.{Unclaimed, Lost, Stopped, Barred, Upheld}
+use Rattle.dac_placement.specs.declared.verdicts.Verdict.{Verdict}
+use Rattle.dac_placement.specs.declared.verdicts.Verdict.TheVariants.{Start, Failover, Halted, Move, Takeover, Kept, Nobody}
+use Rattle.dac_placement.specs.Ranks.{Rank, rank_cmp}
+
+-- ---- who may run an application
+
+-- an application at an incarnation of a node
+abbrev pub key_at : AppId → NodeId → ℕ → Key
+key_at app node inc = record { app = app; node = node; inc = inc }
+
+-- the permits that stand there say so, or the configuration does where there is none (application(3), `permit`)
+abbrev pub IsPermittedAt : Table → StateValue → Key → Type 0
+IsPermittedAt table s key = IsPermitted key (default_permission table key.app) (permissions_of s)
+
+abbrev pub is_permitted_at : Table → StateValue → Key → Bool
+is_permitted_at table s key = is_permitted key (default_permission table key.app) (permissions_of s)
+
+-- it was started there and not stopped
+abbrev pub IsStartedAt : StateValue → Key → Type 0
+IsStartedAt s key = SomeStands key (wishes_of s)
+
+abbrev pub is_started_at : StateValue → Key → Bool
+is_started_at s key = is_wished key (wishes_of s)
+
+-- the node may run the application: the application's list names it, and it is live at an incarnation at which the application is permitted and started
+pub record IsEligible (table : Table) (s : StateValue) (app : AppId) (node : NodeId) : Type 0 where
+  pub listed : IsSome (group_of table app node)
+  pub inc : ℕ
+  pub live : IsLive s.lives node inc
+  pub permitted : IsPermittedAt table s (key_at app node inc)
+  pub started : IsStartedAt s (key_at app node inc)
+
+abbrev pub is_eligible : Table → StateValue → AppId → NodeId → Bool
+is_eligible table s app node =
+    is_some (group_of table app node)
+    && option_map_or (λ inc. is_permitted_at table s (key_at app node inc) && is_started_at s (key_at app node inc)) (live_at s.lives node) false
+
+-- P holds of each node of the configuration that is eligible
+abbrev pub EachEligible : Table → StateValue → AppId → (NodeId → Type 0) → Type 0
+EachEligible table s app P = (node : NodeId) → node.0 < node_count table → IsEligible table s app node → P node
+
+-- ---- who runs it
+
+-- the holder of an application: the origin of its greatest claim
+abbrev pub holder_of : StateValue → AppId → Option Origin
+holder_of s app = option_map (λ (claim : Claim). claim.origin) (map.get s.claims app)
+
+-- the incarnation is live
+abbrev pub IsUp : StateValue → Origin → Type 0
+IsUp s o = IsLive s.lives o.node o.inc
+
+abbrev pub is_up : StateValue → Origin → Bool
+is_up s o = option_map_or (λ inc. inc == o.inc) (live_at s.lives o.node) false
+
+-- the application runs at the node: its holder is the node's live incarnation, and the node is eligible
+pub record RunsAt (table : Table) (s : StateValue) (app : AppId) (node : NodeId) : Type 0 where
+  pub inc : ℕ
+  pub holder : holder_of s app ≡ Some (record { node = node; inc = inc })
+  pub up : IsLive s.lives node inc
+  pub eligible : IsEligible table s app node
+
+abbrev pub runs_at : Table → StateValue → AppId → NodeId → Bool
+runs_at table s app node = option_map_or (λ (o : Origin). (o.node.0 == node.0) && is_up s o) (holder_of s app) false && is_eligible table s app node
+
+-- the applications of the configuration
+abbrev pub apps_of : Table → List AppId
+apps_of table = list_map (λ n. record { 0 = n }) (range_with_len 0 (app_count table))
+
+-- how many other applications run at the node
+abbrev pub load_of : Table → StateValue → AppId → NodeId → ℕ
+load_of table s app node = length (filter (λ other. not (other.0 == app.0) && runs_at table s other node) (apps_of table))
+
+-- ---- who is first
+
+-- m's group is earlier in the application's list than n's; a node outside the list has none
+pub record IsEarlier (table : Table) (app : AppId) (m n : NodeId) : Type 0 where
+  pub early : ℕ
+  pub late : ℕ
+  pub first : group_of table app m ≡ Some early
+  pub second : group_of table app n ≡ Some late
+  pub less : early < late
+
+-- the group that is there comes before the other that is there
+abbrev pub is_less : Option ℕ → Option ℕ → Bool
+is_less (Some early) (Some late) = nat_lt early late
+is_less None late = false
+is_less (Some early) None = false
+
+abbrev pub is_earlier : Table → AppId → NodeId → NodeId → Bool
+is_earlier table app m n = is_less (group_of table app m) (group_of table app n)
+
+-- n has less load than m, or the same and no later name
+abbrev pub IsPreferred : Table → StateValue → AppId → NodeId → NodeId → Type 0
+IsPreferred table s app n m = (load_of table s app n < load_of table s app m) ⊎ ((load_of table s app n ≡ load_of table s app m) × (n.0 ≤ m.0))
+
+-- The first choice is an eligible node. No eligible node is of an earlier group, and of its own group it is preferred to each (OTP: within a tuple, the node with the fewest applications; the tie by name is this project's own).
+pub record IsFirst (table : Table) (s : StateValue) (app : AppId) (n : NodeId) : Type 0 where
+  pub node : n.0 < node_count table
+  pub eligible : IsEligible table s app n
+  pub earliest : EachEligible table s app (λ m. ¬ IsEarlier table app m n)
+  pub preferred : EachEligible table s app (λ m. group_of table app m ≡ group_of table app n → IsPreferred table s app n m)
+
+-- where an eligible node stands: by group, by load, and by name
+abbrev pub rank_of : Table → StateValue → AppId → NodeId → Option Rank
+rank_of table s app node =
+    if is_eligible table s app node then option_map (λ group. record { group = group; load = load_of table s app node; node = node }) (group_of table app node)
+    else None
+
+-- the nodes of the configuration, in the order of their names
+abbrev pub nodes_of : Table → List NodeId
+nodes_of table = list_map (λ n. record { 0 = n }) (range_with_len 0 (node_count table))
+
+-- the eligible node of the least rank
+abbrev pub first_choice : Table → StateValue → AppId → Option NodeId
+first_choice table s app = option_map (λ (rank : Rank). rank.node) (reduce (ord_min rank_cmp) (filter_map (rank_of table s app) (nodes_of table)))
+
+-- ---- the verdict
+
+-- the application has a holder, of which P holds
+abbrev pub HeldBy : StateValue → AppId → (Origin → Type 0) → Type 0
+HeldBy s app P = (o : Origin) × (holder_of s app ≡ Some o) × P o
+
+-- the application at its holder
+abbrev pub key_of : AppId → Origin → Key
+key_of app o = key_at app o.node o.inc
+
+-- How an application stands at its holder, by what is the matter there first: it has none, this one isn't live, it was stopped there, or it isn't permitted there; otherwise all is well.
+abbrev pub IsStanding : Table → StateValue → AppId → Standing → Type 0
+IsStanding table s app Unclaimed = holder_of s app ≡ None
+IsStanding table s app Lost = HeldBy s app (λ o. ¬ IsUp s o)
+IsStanding table s app (Stopped n) = HeldBy s app (λ o. (o.node ≡ n) × IsUp s o × ¬ IsStartedAt s (key_of app o))
+IsStanding table s app Barred = HeldBy s app (λ o. IsUp s o × IsStartedAt s (key_of app o) × ¬ IsPermittedAt table s (key_of app o))
+IsStanding table s app (Upheld n) = HeldBy s app (λ o. (o.node ≡ n) × IsUp s o × IsStartedAt s (key_of app o) × IsPermittedAt table s (key_of app o))
+
+-- What is to become of the application. It is to be started, to fail over or to be moved at the first choice, where there is one. A stopped one is left alone. Where all is well it is taken over, exactly where an eligible node's group is earlier than the holder's.
+abbrev pub IsVerdict : Table → StateValue → AppId → Verdict → Type 0
+IsVerdict table s app (Start n) = IsStanding table s app Unclaimed × IsFirst table s app n
+IsVerdict table s app (Failover n) = IsStanding table s app Lost × IsFirst table s app n
+IsVerdict table s app (Halted n) = IsStanding table s app (Stopped n)
+IsVerdict table s app (Move n) = IsStanding table s app Barred × IsFirst table s app n
+IsVerdict table s app (Takeover n) = (holder : NodeId) × IsStanding table s app (Upheld holder) × IsFirst table s app n × IsEarlier table app n holder
+IsVerdict table s app (Kept n) = IsStanding table s app (Upheld n) × EachEligible table s app (λ m. ¬ IsEarlier table app m n)
+IsVerdict table s app Nobody = EachEligible table s app (λ _. ⊥) × (IsStanding table s app Unclaimed ⊎ (IsStanding table s app Lost ⊎ IsStanding table s app Barred))
+
+-- how the application stands at this holder
+abbrev pub standing_at : Table → StateValue → AppId → Origin → Standing
+standing_at table s app o =
+    if not (is_up s o) then Lost
+    else if not (is_started_at s (key_of app o)) then Stopped o.node
+    else if not (is_permitted_at table s (key_of app o)) then Barred
+    else Upheld o.node
+
+abbrev pub standing_of : Table → StateValue → AppId → Standing
+standing_of table s app = option_map_or (standing_at table s app) (holder_of s app) Unclaimed
+
+-- the verdict, where the application stands so and this is the first choice
+abbrev pub verdict_by : Table → AppId → Standing → Option NodeId → Verdict
+verdict_by table app (Stopped holder) first = Halted holder
+verdict_by table app (Upheld holder) None = Kept holder
+verdict_by table app (Upheld holder) (Some n) = if is_earlier table app n holder then Takeover n else Kept holder
+verdict_by table app Unclaimed (Some n) = Start n
+verdict_by table app Lost (Some n) = Failover n
+verdict_by table app Barred (Some n) = Move n
+verdict_by table app Unclaimed None = Nobody
+verdict_by table app Lost None = Nobody
+verdict_by table app Barred None = Nobody
+
+abbrev pub verdict_of : Table → StateValue → AppId → Verdict
+verdict_of table s app = verdict_by table app (standing_of table s app) (first_choice table s app)
+
+-- the node that is to claim the application
+abbrev pub candidate_of : Verdict → Option NodeId
+candidate_of (Start n) = Some n
+candidate_of (Failover n) = Some n
+candidate_of (Halted n) = None
+candidate_of (Move n) = Some n
+candidate_of (Takeover n) = Some n
+candidate_of (Kept n) = None
+candidate_of Nobody = None

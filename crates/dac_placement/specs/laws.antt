@@ -1,0 +1,5 @@
+pub mod Tests
+pub mod Standing
+pub mod Least
+pub mod FirstChoice
+pub mod Judged

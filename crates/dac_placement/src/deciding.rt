@@ -1,0 +1,65 @@
+//! The verdict.
+ghost use Rattle.std.specs.Prelude.{◌≡◌, ◌<◌};
+ghost use Rattle.dac_config.specs.Table.{app_count};
+ghost use Rattle.dac_placement.specs.Placement.{IsVerdict, verdict_of, verdict_by, is_earlier};
+
+use crate::ranking::first_choice;
+use crate::standing::{Standing, standing_of};
+use crate::verdicts::Verdict;
+use dac_base::{AppId, NodeId};
+use dac_config::Config;
+use dac_state::State;
+
+/// What is to become of an application, after OTP's Design Principles, chapter Distributed Applications: it is
+/// started at the first node of its list that is eligible, fails over when its node goes down, stays
+/// stopped where it was stopped, is moved when it isn't permitted any more, and is taken over by an earlier
+/// group, but never within a tuple. It takes no memory. (A failover has its wait, which is no part of the
+/// verdict.)
+pub fn verdict(config: &Config, state: &State, app: AppId) -> Verdict
+    requires { app.0 < app_count config.now }
+    ensures value { result ≡ verdict_of config.now state.now app }
+    ensures cases { IsVerdict config.now state.now app result }
+{
+    let standing = standing_of(config, state, app);
+    let first = first_choice(config, state, app);
+    verdict_by(config, app, standing, first)
+}
+
+/// The verdict, where the application stands so and this is the first choice for it.
+fn verdict_by(config: &Config, app: AppId, standing: Standing, first: Option<NodeId>) -> Verdict
+    requires { app.0 < app_count config.now }
+    ensures { result ≡ verdict_by config.now app standing first }
+{
+    match (standing, first) {
+        (Standing::Stopped(holder), _) => Verdict::Halted(holder),
+        (Standing::Upheld(holder), None) => Verdict::Kept(holder),
+        (Standing::Upheld(holder), Some(node)) => upheld(config, app, holder, node),
+        (Standing::Unclaimed, Some(node)) => Verdict::Start(node),
+        (Standing::Lost, Some(node)) => Verdict::Failover(node),
+        (Standing::Barred, Some(node)) => Verdict::Move(node),
+        (_, None) => Verdict::Nobody,
+    }
+}
+
+/// The verdict, where all is well at the holder and this is the first choice.
+fn upheld(config: &Config, app: AppId, holder: NodeId, first: NodeId) -> Verdict
+    requires { app.0 < app_count config.now }
+    ensures { result ≡ verdict_by config.now app (Standing.Upheld holder) (Some first) }
+{
+    if is_earlier(config, app, first, holder) {
+        Verdict::Takeover(first)
+    } else {
+        Verdict::Kept(holder)
+    }
+}
+
+/// Whether a node's group is earlier than another node's. A node outside the application's list has none.
+fn is_earlier(config: &Config, app: AppId, node: NodeId, other: NodeId) -> bool
+    requires { app.0 < app_count config.now }
+    ensures { result ≡ is_earlier config.now app node other }
+{
+    match (config.group_of(app, node), config.group_of(app, other)) {
+        (Some(early), Some(late)) => early < late,
+        _ => false,
+    }
+}

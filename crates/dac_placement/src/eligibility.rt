@@ -1,0 +1,55 @@
+//! Who may run an application.
+ghost use Rattle.std.specs.Prelude.{◌≡◌, ◌↔◌, ◌<◌, ◌&&◌, IsTrue};
+ghost use Rattle.dac_config.specs.Table.{app_count};
+ghost use Rattle.dac_placement.specs.Placement.{IsEligible, is_eligible, IsPermittedAt, is_permitted_at, IsStartedAt, is_started_at};
+
+use dac_base::{AppId, NodeId};
+use dac_config::Config;
+use dac_state::{Key, State};
+
+/// Whether a node may run an application: the application's list names it, and it is live at an incarnation
+/// at which the application is permitted and started. After OTP's kernel manual, parameters `distributed` and
+/// `permissions`, and application(3), `permit` and `start`. It takes no memory.
+pub fn eligible(config: &Config, state: &State, app: AppId, node: NodeId) -> bool
+    requires { app.0 < app_count config.now }
+    ensures value { result ≡ is_eligible config.now state.now app node }
+    ensures cases { IsTrue result ↔ IsEligible config.now state.now app node }
+{
+    if config.group_of(app, node).is_none() {
+        return false;
+    }
+    match state.lives().live(node) {
+        Some(inc) => is_wanted(config, state, Key { app, node, inc }),
+        None => false,
+    }
+}
+
+/// Whether the application is permitted and started at this incarnation.
+fn is_wanted(config: &Config, state: &State, key: Key) -> bool
+    requires { key.app.0 < app_count config.now }
+    ensures value { result ≡ (is_permitted_at config.now state.now key && is_started_at state.now key) }
+    ensures cases { IsTrue result ↔ (IsPermittedAt config.now state.now key × IsStartedAt state.now key) }
+{
+    let permitted = is_permitted(config, state, key);
+    let started = is_started(state, key);
+    permitted && started
+}
+
+/// Whether the application is permitted at this incarnation: by the permits that stand there, and by the configuration
+/// where there is none. It takes no memory.
+pub fn is_permitted(config: &Config, state: &State, key: Key) -> bool
+    requires { key.app.0 < app_count config.now }
+    ensures value { result ≡ is_permitted_at config.now state.now key }
+    ensures cases { IsTrue result ↔ IsPermittedAt config.now state.now key }
+{
+    let default = config.default_permission(key.app);
+    state.permissions().permitted(key, default)
+}
+
+/// Whether a start of the application stands at this incarnation. It takes no memory.
+pub fn is_started(state: &State, key: Key) -> bool
+    ensures value { result ≡ is_started_at state.now key }
+    ensures cases { IsTrue result ↔ IsStartedAt state.now key }
+{
+    state.wishes().wished(key)
+}

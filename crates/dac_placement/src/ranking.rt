@@ -1,0 +1,63 @@
+//! Who is the first choice for an application.
+ghost use Rattle.std.specs.Prelude.{◌≡◌, ◌<◌};
+ghost use Rattle.std.specs.Ordering.{ord_min};
+ghost use Rattle.dac_lattice.specs.Laws.{join_options};
+ghost use Rattle.dac_config.specs.Table.{app_count};
+ghost use Rattle.dac_placement.specs.Placement.{rank_of, first_choice};
+ghost use Rattle.dac_placement.specs.Ranks.{rank_cmp};
+
+use crate::eligibility::eligible;
+use crate::running::load;
+use dac_base::{AppId, NodeId};
+use dac_config::Config;
+use dac_state::State;
+
+/// Where a node stands among those that may run an application. The fields stand in the order in which they
+/// decide, and the least rank comes first.
+#[derive(Clone, Copy, Debug, PartialEq, Eq, PartialOrd, Ord)]
+pub(crate) struct Rank {
+    /// Its group in the application's list.
+    pub group: u16,
+    /// How many other applications run there.
+    pub load: u32,
+    /// Its number, which goes by its name in byte order.
+    pub node: NodeId,
+}
+
+/// The first choice for an application, if any node is eligible.
+pub(crate) fn first_choice(config: &Config, state: &State, app: AppId) -> Option<NodeId>
+    requires { app.0 < app_count config.now }
+    ensures { result ≡ first_choice config.now state.now app }
+{
+    let mut first = None;
+    for number in 0..config.nodes() {
+        let rank = rank_of(config, state, app, NodeId(number));
+        first = lesser(first, rank);
+    }
+    let first = first?;
+    Some(first.node)
+}
+
+/// The rank of a node, if it is eligible.
+fn rank_of(config: &Config, state: &State, app: AppId, node: NodeId) -> Option<Rank>
+    requires { app.0 < app_count config.now }
+    ensures { result ≡ rank_of config.now state.now app node }
+{
+    if !eligible(config, state, app, node) {
+        return None;
+    }
+    let group = config.group_of(app, node)?;
+    let load = load(config, state, app, node);
+    Some(Rank { group, load, node })
+}
+
+/// The lesser rank, where there are two.
+fn lesser(first: Option<Rank>, other: Option<Rank>) -> Option<Rank>
+    ensures { result ≡ join_options (ord_min rank_cmp) first other }
+{
+    match (first, other) {
+        (Some(first), Some(other)) => Some(first.min(other)),
+        (None, other) => other,
+        (first, None) => first,
+    }
+}

@@ -1,0 +1,67 @@
+//! Who holds an application, and where it runs.
+ghost use Rattle.std.specs.Prelude.{◌≡◌, ◌↔◌, ◌<◌, IsTrue};
+ghost use Rattle.dac_base.specs.declared.AppId.{AppId as App};
+ghost use Rattle.dac_config.specs.Table.{app_count};
+ghost use Rattle.dac_placement.specs.Placement.{holder_of, IsUp, is_up, RunsAt, runs_at, load_of};
+
+use crate::eligibility::eligible;
+use dac_base::{AppId, NodeId};
+use dac_config::Config;
+use dac_dots::Origin;
+use dac_state::State;
+
+/// How many other applications run at a node. An application runs at a node where its greatest claim is
+/// of the node's live incarnation and the node is eligible for it; claims of who went down don't count.
+/// After OTP's Design Principles, chapter Distributed Applications: of a tuple's nodes, the one with the
+/// fewest applications is taken. It takes no memory.
+pub fn load(config: &Config, state: &State, app: AppId, node: NodeId) -> u32
+    ensures value { result ≡ load_of config.now state.now app node }
+    // what is counted
+    ensures runs { (other : App) → other.0 < app_count config.now
+        → IsTrue (runs_at config.now state.now other node) ↔ RunsAt config.now state.now other node }
+{
+    let mut load = 0;
+    for number in 0..config.apps() {
+        let other = AppId(number);
+        let runs = runs_at(config, state, other, node);
+        if other != app && runs {
+            load += 1;
+        }
+    }
+    load
+}
+
+/// Whether an application runs at a node: the node's live incarnation holds it, and the node is eligible for it.
+/// It takes no memory.
+pub fn runs_at(config: &Config, state: &State, app: AppId, node: NodeId) -> bool
+    requires { app.0 < app_count config.now }
+    ensures value { result ≡ runs_at config.now state.now app node }
+    ensures cases { IsTrue result ↔ RunsAt config.now state.now app node }
+{
+    match holder(state, app) {
+        Some(origin) => origin.node == node
+            && is_up(state, origin)
+            && eligible(config, state, app, node),
+        None => false,
+    }
+}
+
+/// Who holds an application: the origin of its greatest claim. In a state that no operation made, this may be
+/// no node of the configuration. It takes no memory.
+pub fn holder(state: &State, app: AppId) -> Option<Origin>
+    ensures { result ≡ holder_of state.now app }
+{
+    let claim = state.claims().greatest(app)?;
+    Some(claim.origin)
+}
+
+/// Whether an incarnation is live. It takes no memory.
+pub fn is_up(state: &State, origin: Origin) -> bool
+    ensures value { result ≡ is_up state.now origin }
+    ensures cases { IsTrue result ↔ IsUp state.now origin }
+{
+    match state.lives().live(origin.node) {
+        Some(inc) => inc == origin.inc,
+        None => false,
+    }
+}

@@ -1,0 +1,50 @@
+//! How an application stands at its holder.
+ghost use Rattle.std.specs.Prelude.{◌≡◌, ◌<◌};
+ghost use Rattle.dac_config.specs.Table.{app_count};
+ghost use Rattle.dac_placement.specs.Placement.{standing_of};
+
+use crate::eligibility::{is_permitted, is_started};
+use crate::running::{holder, is_up};
+use dac_base::{AppId, NodeId};
+use dac_config::Config;
+use dac_state::{Key, State};
+
+/// How an application stands at its holder, by what is the matter there first.
+#[derive(Clone, Copy, Debug, PartialEq, Eq)]
+pub(crate) enum Standing {
+    /// It has no holder.
+    Unclaimed,
+    /// Its holder's incarnation isn't live.
+    Lost,
+    /// It was stopped at this node, its holder.
+    Stopped(NodeId),
+    /// It isn't permitted at its holder.
+    Barred,
+    /// All is well at this node, its holder.
+    Upheld(NodeId),
+}
+
+/// How an application stands at its holder.
+pub(crate) fn standing_of(config: &Config, state: &State, app: AppId) -> Standing
+    requires { app.0 < app_count config.now }
+    ensures { result ≡ standing_of config.now state.now app }
+{
+    let Some(holder) = holder(state, app) else {
+        return Standing::Unclaimed;
+    };
+    if !is_up(state, holder) {
+        return Standing::Lost;
+    }
+    let key = Key {
+        app,
+        node: holder.node,
+        inc: holder.inc,
+    };
+    if !is_started(state, key) {
+        Standing::Stopped(holder.node)
+    } else if !is_permitted(config, state, key) {
+        Standing::Barred
+    } else {
+        Standing::Upheld(holder.node)
+    }
+}

@@ -1,0 +1,34 @@
+-- The command line.
+use Rattle.std.specs.Prelude.{ℕ, List, [], ◌∷◌, Option, Some, None, option_map, true, codes, if◌then◌else◌}
+use Rattle.std.specs.Str.{bytes_eq}
+use Rattle.clap.specs.Words.{App, Text, new_app, with_subcommand, subcommand_of}
+use Rattle.dac_program.specs.declared.command_line.Request.{Request}
+use Rattle.dac_program.specs.declared.command_line.Request.TheVariants.{Check, Sim}
+
+-- one of the subcommands has to be there
+abbrev pub required : App → App
+required app = record { top = record app.top { subcommand_required = true }; subs = app.subs }
+
+-- the program, with its subcommands
+abbrev pub distac : App
+distac = with_subcommand (with_subcommand (required (new_app (codes "distac"))) (new_app (codes "check")).top) (new_app (codes "sim")).top
+
+-- the words that ask for a configuration to be checked
+abbrev pub check_words : Text → List Text
+check_words name = name ∷ codes "check" ∷ []
+
+-- the words that ask for a script to be played
+abbrev pub sim_words : Text → List Text
+sim_words name = name ∷ codes "sim" ∷ []
+
+-- the subcommand that the words name
+abbrev pub subcommand_in : List Text → Option Text
+subcommand_in words = option_map (λ p. p.0) (subcommand_of distac words)
+
+-- what the name of a subcommand asks for
+abbrev pub request_in : Option Text → Option Request
+request_in None = None
+request_in (Some name) =
+    if bytes_eq name (codes "check") then Some Check
+    else (if bytes_eq name (codes "sim") then Some Sim
+    else None)

@@ -1,0 +1,56 @@
+//! The whole program over a reader and a writer.
+
+ghost use Rattle.std.specs.Prelude.{◌≡◌, ◌≤◌, map};
+ghost use Rattle.clap.specs.Words.{Text, kind_of};
+ghost use Rattle.dac_play.specs.Checks.{EndsCheck};
+ghost use Rattle.dac_play.specs.Endings.{EndsWith};
+ghost use Rattle.dac_play.specs.Simulations.{EndsSim};
+ghost use Rattle.dac_program.specs.CommandLine.{check_words, sim_words};
+
+use crate::command_line::{Request, asked};
+use clap::Error;
+use clap::error::ErrorKind;
+use dac_play::{OUT_OF_MEMORY, check, simulate};
+use std::alloc::Global;
+use std::io::{Eprint, Print, Read, Write};
+
+/// Prints why the words are no command line, or the help that they ask for, and answers the status.
+fn refuse<T: Print + Eprint, W: Write>(rt: &T, error: &Error, output: &mut W) -> u8
+    ensures status { result ≤ 2 }
+    ensures memory { kind_of error.now ≡ ErrorKind.OutOfMemory → result ≡ 1 }
+{
+    if error.kind() == ErrorKind::OutOfMemory {
+        let _printed = output.write_all(OUT_OF_MEMORY.as_bytes());
+        return 1;
+    }
+    if error.print(rt).is_err() {
+        return 1;
+    }
+    if error.use_stderr() { 2 } else { 0 }
+}
+
+/// Runs the program on the words of a command line, the program's name first, and answers its status: 2 where
+/// the words are no command line, 1 where an input has a fault, memory was refused or a write failed, and else 0.
+///
+/// `distac check` and `distac sim` write to the output alone. Help goes to the standard output, and the text about words that are
+/// no command line to the standard error.
+pub fn run<'a, T: Print + Eprint, R: Read, W: Write>(
+    rt: &T,
+    alloc: Global,
+    words: &'a [&'a str],
+    input: &mut R,
+    output: &mut W,
+) -> u8
+    ensures status { result ≤ 2 }
+    // What `distac check` prints is the canonical text of its input, or the line of the input's failure.
+    ensures check { (name : Text) → map (λ word. word.now) words.entry.now ≡ check_words name → EndsWith (λ bytes ending. EndsCheck bytes ending (W.contents output.old) (W.contents output.new)) (R.remaining input.old) result }
+    // What `distac sim` prints is what the script of its input does, or the line of the input's failure.
+    ensures sim { (name : Text) → map (λ word. word.now) words.entry.now ≡ sim_words name → EndsWith (λ bytes ending. EndsSim bytes ending (W.contents output.old) (W.contents output.new)) (R.remaining input.old) result }
+{
+    match asked(alloc, words) {
+        Ok(Some(Request::Check)) => check(alloc, input, output).status(),
+        Ok(Some(Request::Sim)) => simulate(alloc, input, output).status(),
+        Ok(None) => 2,
+        Err(error) => refuse(rt, &error, output),
+    }
+}

@@ -1,0 +1,13 @@
+use Rattle.std.proofs.Common.{◌≤◌, ◌-◌, length}
+use Rattle.std.specs.Io.KnownBytes.{Consumes}
+use Rattle.dac_script.specs.Sources.{max_reads}
+use Rattle.dac_script.proofs.input.read_within.Given as goal
+
+abbrev pub invariant-loop-text : goal.invariant-loop-text
+invariant-loop-text g l = record {
+  taken : Consumes l.fn.source.left l.source.left l.text.items;
+  short : length l.text.items ≤ l.most;
+}
+
+abbrev pub decreases-loop-text : goal.decreases-loop-text
+decreases-loop-text g l = max_reads - l.source.reads

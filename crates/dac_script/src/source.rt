@@ -1,0 +1,108 @@
+//! A reader in use: how often it was read, and how that went.
+
+ghost use Rattle.std.specs.Prelude.{◌≡◌, ◌≢◌, ◌+◌, ◌<◌, ◌≤◌, length, IfOk, IfErr, IsTrue, ◌↔◌};
+ghost use Rattle.std.specs.IoError.{error_kind};
+ghost use Rattle.std.specs.Io.{ReadsAtMost};
+ghost use Rattle.std.specs.Io.KnownBytes.{ReadConsumes, IsAtEnd};
+ghost use Rattle.dac_script.specs.Sources.{max_reads, unread, IsOpen};
+
+use std::io;
+use std::io::{ErrorKind, Read};
+use std::marker::Model;
+
+/// After so many reads an input that hasn't ended is given up.
+pub const MAX_READS: u32 = 4_194_304;
+
+/// How the reads of a source went so far.
+#[derive(Clone, Copy, Debug, PartialEq, Eq)]
+pub enum Progress {
+    /// Each gave bytes or was only interrupted.
+    Open,
+    /// The last one met the end.
+    Ended,
+    /// The last one failed.
+    Failed,
+}
+
+/// A reader that counts its reads and remembers how they went.
+#[derive(Drop)]
+pub struct Source<R: Read> {
+    reader: R,
+    reads: u32,
+    progress: Progress,
+}
+
+impl<R: Read> Model for Source<R> {
+    ghost use Rattle.std.specs.Prelude.{◌≡◌, ◌≤◌};
+    ghost use Rattle.std.specs.Io.KnownBytes.{IsAtEnd};
+    ghost use Rattle.dac_script.specs.Sources.{Sourced, max_reads};
+    ghost use Rattle.dac_script.specs.declared.source.Progress.TheVariants.{Ended};
+
+    ghost Value = { Sourced };
+
+    ghost view = { λ s. record { left = R.remaining s.reader; reads = s.reads; progress = s.progress } };
+
+    ghost invariant = { λ s. (s.reads ≤ max_reads) × (s.progress ≡ Ended → IsAtEnd (R.remaining s.reader)) };
+}
+
+impl<R: Read> Source<R> {
+    /// A source of which nothing was read.
+    pub fn new(reader: R) -> Self
+        ensures { result ≡ unread (R.remaining reader) }
+    {
+        Source {
+            reader,
+            reads: 0,
+            progress: Progress::Open,
+        }
+    }
+
+    /// Whether it may be read on: its end wasn't met, no read failed, and there were fewer reads than there may be.
+    pub(crate) fn is_open(&self) -> bool
+        ensures value { IsTrue result ↔ IsOpen self.now }
+        ensures most { self.now.reads ≤ max_reads }
+    {
+        self.progress == Progress::Open && self.reads < MAX_READS
+    }
+
+    /// How its reads went so far.
+    pub fn progress(&self) -> Progress
+        ensures value { result ≡ self.now.progress }
+        ensures end { self.now.progress ≡ Progress.Ended → IsAtEnd self.now.left }
+    {
+        self.progress
+    }
+
+    /// One read, which is counted. One that is only interrupted leaves the source open.
+    pub(crate) fn read(&mut self, buffer: &mut [u8]) -> io::Result<usize>
+        requires is_open { IsOpen self.old }
+        requires room { 0 < length buffer.old }
+        ensures bound { ReadsAtMost result buffer.new }
+        ensures bytes { ReadConsumes self.old.left self.new.left result buffer.new }
+        ensures counted { self.new.reads ≡ self.old.reads + 1 }
+        ensures ended { IfOk result (λ n. n ≡ 0 → self.new.progress ≡ Progress.Ended) }
+        ensures more { IfOk result (λ n. 0 < n → self.new.progress ≡ Progress.Open) }
+        ensures interrupted { IfErr result (λ e. error_kind e ≡ ErrorKind.Interrupted → self.new.progress ≡ Progress.Open) }
+        ensures failed { IfErr result (λ e. error_kind e ≢ ErrorKind.Interrupted → self.new.progress ≡ Progress.Failed) }
+    {
+        let result = self.reader.read(buffer);
+        self.reads += 1;
+        self.progress = match &result {
+            Ok(0) => Progress::Ended,
+            Ok(_) => Progress::Open,
+            Err(error) => progress_after(error.kind()),
+        };
+        result
+    }
+}
+
+/// How it goes on after a read with this error.
+fn progress_after(kind: ErrorKind) -> Progress
+    ensures interrupted { kind ≡ ErrorKind.Interrupted → result ≡ Progress.Open }
+    ensures failed { kind ≢ ErrorKind.Interrupted → result ≡ Progress.Failed }
+{
+    match kind {
+        ErrorKind::Interrupted => Progress::Open,
+        _ => Progress::Failed,
+    }
+}

@@ -1,5 +1,0 @@
-mod AllUp
-mod Lost
-mod Rows
-mod Due
-mod Places

@@ -1,6 +1,0 @@
-use Rattle.std.proofs.Common.{◌≡◌, []}
-use Rattle.dac_waits.proofs.Places.{kept_of}
-use Rattle.dac_waits.proofs.waits.Waits.new.Given as goal
-
-abbrev pub invariant-loop : goal.invariant-loop
-invariant-loop l = l.noted.items ≡ kept_of [] 0 l.counter

@@ -1,2 +1,0 @@
-pub mod FailoverWait
-pub mod StartGate

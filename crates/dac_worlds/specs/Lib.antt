@@ -1,0 +1,7 @@
+pub mod WorldValue
+pub mod ModelWorld
+pub mod WorldChanges
+pub mod SetWorld
+pub mod News
+pub mod Convergence
+pub mod laws

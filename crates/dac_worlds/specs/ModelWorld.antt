@@ -1,0 +1,150 @@
+-- The definition's world: each node, what was issued and what was shipped, and its runs.
+use Rattle.std.specs.Prelude.{◌≡◌, ℕ, ◌-◌, cond, nat_eq, nat_lt, List, [], ◌∷◌, ◌++◌, length, Option, Some, None, Result, Ok, Err, IsOk, ◌⊎◌}
+use Rattle.std.specs.List.{slice_get}
+use Rattle.dac_base.specs.declared.NodeId.{NodeId}
+use Rattle.dac_config.specs.Table.{Table, node_count}
+use Rattle.dac_operations.specs.Operations.{Operation}
+use Rattle.dac_events.specs.declared.WorldEvent.{WorldEvent}
+use Rattle.dac_events.specs.declared.What.{What}
+use Rattle.dac_events.specs.declared.What.TheVariants.{Boot as Boots, Crash as Crashes, Command as Tells, Ship as Ships, Deliver, Hand}
+use Rattle.dac_messages.specs.declared.message.Message.{Message}
+use Rattle.dac_messages.specs.declared.event.Event.{Event}
+use Rattle.dac_messages.specs.declared.event.Event.TheVariants.{Boot, Crash, Command as Told, Ship, Hear, HearOp}
+use Rattle.dac_messages.specs.declared.reply.Reply.{Reply}
+use Rattle.dac_messages.specs.declared.reply.Reply.TheVariants.{Booted, Crashed, Issued, Shipped, Heard}
+use Rattle.dac_commands.specs.declared.refusal.Refusal.{Refusal}
+use Rattle.dac_commands.specs.declared.refusal.Refusal.TheVariants.{NoMemory}
+use Rattle.dac_worlds.specs.declared.fault.WorldFault.{WorldFault}
+use Rattle.dac_worlds.specs.declared.fault.WorldFault.TheVariants.{NoSuchNode, NoSuchMessage, NoSuchOperation, Refused}
+use Rattle.dac_node.specs.ModelNode.{ModelNode, shown}
+use Rattle.dac_node.specs.Step.{model_step}
+use Rattle.dac_worlds.specs.WorldValue.{WorldValue}
+
+-- How many nodes there are, each node, and, the oldest first, what was issued and what was shipped. (Nodes
+-- past the count stay off.)
+pub record ModelWorld : Type 0 where
+  pub count : ℕ
+  pub node : NodeId → ModelNode
+  pub operations : List Operation
+  pub messages : List Message
+
+-- the node of a number
+abbrev pub numbered : ℕ → NodeId
+numbered n = record { 0 = n }
+
+-- what the program's world shows of it
+pub record Shows (w : ModelWorld) (v : WorldValue) : Type 0 where
+  pub count : length v.nodes ≡ w.count
+  pub nodes : (n : ℕ) → slice_get v.nodes n ≡ cond (nat_lt n w.count) (Some (shown (w.node (numbered n)))) None
+  pub operations : v.operations ≡ w.operations
+  pub messages : v.messages ≡ w.messages
+
+-- all nodes of the configuration off, none booted ever
+abbrev pub start : Table → ModelWorld
+start t = record { count = node_count t; node = λ _. record { last = 0; run = None }; operations = []; messages = [] }
+
+-- ---- one event
+-- the k-th of a list, counted from 1
+abbrev pub counted : {X : Type 0} → List X → ℕ → Option X
+counted xs k = cond (nat_eq k 0) None (slice_get xs (k - 1))
+
+-- the node's event where a message comes
+abbrev pub heard_by : Option Message → Result Event WorldFault
+heard_by None = Err NoSuchMessage
+heard_by (Some m) = Ok (Hear m)
+
+-- the node's event where an operation comes by itself
+abbrev pub handed_by : Option Operation → Result Event WorldFault
+handed_by None = Err NoSuchOperation
+handed_by (Some o) = Ok (HearOp o)
+
+-- the node's event, from what was issued and what was shipped
+abbrev pub event_of : List Operation → List Message → What → Result Event WorldFault
+event_of os ms (Boots now) = Ok (Boot now)
+event_of os ms Crashes = Ok Crash
+event_of os ms (Tells c) = Ok (Told c)
+event_of os ms (Ships to) = Ok (Ship to)
+event_of os ms (Deliver k) = heard_by (counted ms k)
+event_of os ms (Hand k) = handed_by (counted os k)
+
+-- the operations that a reply issues
+abbrev pub issued_by : Reply → List Operation
+issued_by (Booted o) = o ∷ []
+issued_by Crashed = []
+issued_by (Issued o) = o ∷ []
+issued_by (Shipped m) = []
+issued_by (Heard fresh) = []
+
+-- the messages that a reply ships
+abbrev pub shipped_by : Reply → List Message
+shipped_by (Booted o) = []
+shipped_by Crashed = []
+shipped_by (Issued o) = []
+shipped_by (Shipped m) = m ∷ []
+shipped_by (Heard fresh) = []
+
+-- node n put in place of the one there
+abbrev pub with_node : (NodeId → ModelNode) → NodeId → ModelNode → NodeId → ModelNode
+with_node node n d m = cond (nat_eq m.0 n.0) d (node m)
+
+pub record WorldStepped : Type 0 where
+  pub world : ModelWorld
+  pub answer : Result Reply WorldFault
+
+abbrev pub answered_by : ModelWorld → NodeId → ModelNode → Result Reply Refusal → WorldStepped
+answered_by w n d (Err why) = record { world = w; answer = Err (Refused why) }
+answered_by w n d (Ok reply) = record {
+  world = record { count = w.count; node = with_node w.node n d; operations = w.operations ++ issued_by reply; messages = w.messages ++ shipped_by reply };
+  answer = Ok reply;
+}
+
+abbrev pub happens_by : Table → ModelWorld → NodeId → Result Event WorldFault → WorldStepped
+happens_by t w n (Err fault) = record { world = w; answer = Err fault }
+happens_by t w n (Ok e) = answered_by w n (model_step t n (w.node n) e).node (model_step t n (w.node n) e).answer
+
+-- one event of the world
+abbrev pub happens : Table → ModelWorld → WorldEvent → WorldStepped
+happens t w e = cond (nat_lt e.node.0 w.count) (happens_by t w e.node (event_of w.operations w.messages e.what)) (record { world = w; answer = Err NoSuchNode })
+
+-- ---- runs
+-- the answer for want of memory
+abbrev pub out_of_memory : Result Reply WorldFault
+out_of_memory = Err (Refused NoMemory)
+
+-- the world answers as the rules say, and goes on as they say
+pub record Done (by : WorldStepped) (answer : Result Reply WorldFault) (next : ModelWorld) : Type 0 where
+  pub answered : answer ≡ by.answer
+  pub went_on : next ≡ by.world
+
+-- memory was wanting for an event that would have been accepted: it is no event. A crash wants none.
+pub record Lacked (w : ModelWorld) (by : WorldStepped) (answer : Result Reply WorldFault) (next : ModelWorld) : Type 0 where
+  pub answered : answer ≡ out_of_memory
+  pub accepted : IsOk by.answer
+  pub wants : by.answer ≡ Ok Crashed → ⊥
+  pub stayed : next ≡ w
+
+-- an event, its answer, and the world after it
+abbrev pub Step : ModelWorld → WorldStepped → Result Reply WorldFault → ModelWorld → Type 0
+Step w by answer next = Done by answer next ⊎ Lacked w by answer next
+
+-- the world answers these events so, one after another, and goes on to final
+abbrev pub Run : Table → ModelWorld → List WorldEvent → List (Result Reply WorldFault) → ModelWorld → Type 0
+Run t w [] [] final = final ≡ w
+Run t w [] (a ∷ answers) final = ⊥
+Run t w (e ∷ es) [] final = ⊥
+Run t w (e ∷ es) (a ∷ answers) final = (next : ModelWorld) × (Step w (happens t w e) a next × Run t next es answers final)
+
+-- From old, the program's world answers and goes on to new as each of the definition's worlds that shows old may.
+pub record Follows (old : WorldValue) (by : ModelWorld → WorldStepped) (answer : Result Reply WorldFault) (new : WorldValue) : Type 0 where
+  pub each : (w : ModelWorld) → Shows w old → (next : ModelWorld) × (Step w (by w) answer next × Shows next new)
+
+-- The program's world answered these events so, one after another from the start, and is where the
+-- definition's world comes to by them.
+pub record RanAs (t : Table) (events : List WorldEvent) (answers : List (Result Reply WorldFault)) (v : WorldValue) : Type 0 where
+  pub final : ModelWorld
+  pub run : Run t (start t) events answers final
+  pub shows : Shows final v
+
+-- of each run from the start this holds: of its events, its answers and where the program's world is after it
+abbrev pub InEachRun : (List WorldEvent → List (Result Reply WorldFault) → WorldValue → Type 0) → Type 0
+InEachRun P = (t : Table) (events : List WorldEvent) (answers : List (Result Reply WorldFault)) (v : WorldValue) → RanAs t events answers v → P events answers v

@@ -1,0 +1,196 @@
+-- How the program's world follows the definition's worlds that it shows.
+use Rattle.std.proofs.Common.{◌≡◌, ℕ, ◌<◌, ◌-◌, Bool, true, false, cond, inl, inr, List, ◌++◌, Option, Some, None, Result, Ok, Err, length, nat_eq, refl, sym, ap, subst, ◌∙◌, lt-ltb, get_or, true≢false}
+use Rattle.std.specs.Prelude.{nat_lt, unwrap_or, IsOk, IfOk, IfErr, OnErr}
+use Rattle.std.specs.Option.{option_map}
+use Rattle.std.specs.List.{slice_get}
+use Rattle.std.proofs.lemmas.Option.{slice_get_read}
+use Rattle.std.proofs.lemmas.Map.Views.{exact_unsigned_eq}
+use Rattle.std.proofs.lemmas.Bool.{false_from_ne_true}
+use Rattle.dac_base.specs.declared.NodeId.{NodeId}
+use Rattle.dac_config.specs.Table.{Table}
+use Rattle.dac_events.specs.declared.WorldEvent.{WorldEvent}
+use Rattle.dac_events.specs.declared.What.{What}
+use Rattle.dac_messages.specs.declared.event.Event.{Event}
+use Rattle.dac_messages.specs.declared.event.Event.TheVariants.{Boot, Crash, Command as Told, Ship, Hear, HearOp}
+use Rattle.dac_messages.specs.declared.reply.Reply.{Reply}
+use Rattle.dac_messages.specs.declared.reply.Reply.TheVariants.{Crashed}
+use Rattle.dac_commands.specs.declared.refusal.Refusal.{Refusal}
+use Rattle.dac_commands.specs.declared.refusal.Refusal.TheVariants.{Off, NoMemory}
+use Rattle.dac_worlds.specs.declared.fault.WorldFault.{WorldFault}
+use Rattle.dac_worlds.specs.declared.fault.WorldFault.TheVariants.{NoSuchNode, Refused}
+use Rattle.dac_node.specs.NodeValue.{NodeValue, RunValue}
+use Rattle.dac_node.specs.ModelNode.{ModelNode, ModelRun, joined, shown}
+use Rattle.dac_node.specs.EventRefusals.{refusal_of, refusal_by}
+use Rattle.dac_node.specs.Step.{reply_on, model_step, step_by, accepted, Stepped}
+use Rattle.dac_node.specs.Changes.{ChangeValue, Prepared, changed, left_by, reply_by}
+use Rattle.dac_worlds.specs.WorldValue.{WorldValue}
+use Rattle.dac_worlds.specs.ModelWorld.{ModelWorld, Shows, WorldStepped, happens, happens_by, answered_by, event_of, counted, numbered, with_node, issued_by, shipped_by, out_of_memory, Step, Follows}
+use Rattle.dac_worlds.specs.WorldChanges.{Goes}
+use Rattle.dac_node.specs.laws.Steps.{shown_accepted, answer_accepted, step_accepted}
+use Rattle.dac_node.specs.laws.Options.{some_same}
+
+-- the node of a world that shows v
+node_shown : (w : ModelWorld) (v : WorldValue) → Shows w v → (me : NodeId) (old : NodeValue) → me.0 < length v.nodes → slice_get v.nodes me.0 ≡ Some old → shown (w.node me) ≡ old
+node_shown w v h me old lt is =
+    let inside : nat_lt me.0 w.count ≡ true = ap (nat_lt me.0) (sym h.count) ∙ lt-ltb me.0 (length v.nodes) lt in
+    some_same (shown (w.node me)) old (sym (ap (λ b. cond b (Some (shown (w.node me))) None) inside) ∙ (sym (h.nodes me.0) ∙ is))
+
+-- a step of the world where the node's step is known
+by_step : (t : Table) (w : ModelWorld) (me : NodeId) (e : Event) (s : Stepped) → model_step t me (w.node me) e ≡ s → happens_by t w me (Ok e) ≡ answered_by w me s.node s.answer
+by_step t w me e s is = ap (λ (x : Stepped). answered_by w me x.node x.answer) is
+
+is_ok_accepted : (w : ModelWorld) (me : NodeId) (last : ℕ) (run : Option ModelRun) (e : Event) → IsOk (answered_by w me (accepted me last run e).node (accepted me last run e).answer).answer
+is_ok_accepted w me last None e = refl
+is_ok_accepted w me last (Some r) e = refl
+
+-- what the program knows of the node where an event happens
+pub record Here (v : WorldValue) (me : NodeId) (old : NodeValue) : Type 0 where
+  pub inside : me.0 < length v.nodes
+  pub there : slice_get v.nodes me.0 ≡ Some old
+
+refusal_same : (t : Table) (w : ModelWorld) (v : WorldValue) → Shows w v → (me : NodeId) (e : Event) (old : NodeValue) → Here v me old → refusal_of t (shown (w.node me)) e ≡ refusal_of t old e
+refusal_same t w v h me e old here = ap (λ x. refusal_of t x e) (node_shown w v h me old here.inside here.there)
+
+-- only a crash is answered so
+only_crash : (me : NodeId) (last : ℕ) (run : Option ModelRun) (e : Event) → (accepted me last run e).answer ≡ Ok Crashed → e ≡ Crash
+only_crash me last None e h = cc
+only_crash me last (Some r) (Boot now) h = cc
+only_crash me last (Some r) Crash h = refl
+only_crash me last (Some r) (Told c) h = cc
+only_crash me last (Some r) (Ship to) h = cc
+only_crash me last (Some r) (Hear m) h = cc
+only_crash me last (Some r) (HearOp o) h = cc
+
+crash_at_node : (w : ModelWorld) (me : NodeId) (last : ℕ) (run : Option ModelRun) (e : Event) → (answered_by w me (accepted me last run e).node (accepted me last run e).answer).answer ≡ Ok Crashed → (accepted me last run e).answer ≡ Ok Crashed
+crash_at_node w me last None e h = cc
+crash_at_node w me last (Some r) e h = same (reply_on r.origin (joined r.log) e) h
+  where
+    same : (reply : Reply) → ◌≡◌ {A = Result Reply WorldFault} (Ok reply) (Ok Crashed) → ◌≡◌ {A = Result Reply Refusal} (Ok reply) (Ok Crashed)
+    same reply p = cc
+
+-- memory was wanting for an event that isn't refused and is no crash
+pub lacked_follows : (t : Table) (v : WorldValue) (me : NodeId) (e : Event) (old : NodeValue) → Here v me old → refusal_of t old e ≡ None → (e ≡ Crash → ⊥) → Follows v (λ w. happens_by t w me (Ok e)) out_of_memory v
+lacked_follows t v me e old here none stays = record {
+  each = λ w h.
+      let st = step_accepted t me (w.node me) e (refusal_same t w v h me e old here ∙ none) in (
+        w,
+        (
+          inr (record {
+            answered = λ _. out_of_memory;
+            accepted = subst (λ (s : WorldStepped). IsOk s.answer) (sym (by_step t w me e _ st)) (is_ok_accepted w me (w.node me).last (w.node me).run e);
+            wants = λ is. stays (only_crash me (w.node me).last (w.node me).run e (crash_at_node w me (w.node me).last (w.node me).run e (sym (ap (λ (s : WorldStepped). s.answer) (by_step t w me e _ st)) ∙ is)));
+            stayed = refl;
+          }),
+          h,
+        ),
+      );
+}
+
+refused_follows : (t : Table) (v : WorldValue) (me : NodeId) (e : Event) (old : NodeValue) (why : Refusal) → Here v me old → refusal_of t old e ≡ Some why → Follows v (λ w. happens_by t w me (Ok e)) (Err (Refused why)) v
+refused_follows t v me e old why here some = record {
+  each = λ w h.
+      let st : model_step t me (w.node me) e ≡ record { node = w.node me; answer = Err why } = ap (λ r. step_by r me (w.node me) e) (refusal_same t w v h me e old here ∙ some) in
+      let all = by_step t w me e (record { node = w.node me; answer = Err why }) st in
+      (w, (inl (record { answered = ap (λ (s : WorldStepped). s.answer) (sym all); went_on = ap (λ (s : WorldStepped). s.world) (sym all) }), h));
+}
+
+-- what a node refuses, or lacks memory for; at a crash it only says that it is off
+pub err_follows : (t : Table) (v : WorldValue) (me : NodeId) (e : Event) (old : NodeValue) (why : Refusal) → Here v me old → why ≡ unwrap_or (refusal_of t old e) NoMemory → (e ≡ Crash → why ≡ Off) →
+    Follows v (λ w. happens_by t w me (Ok e)) (Err (Refused why)) v
+err_follows t v me e old why here is crash =
+    elim (refusal_of t old e) as (λ r. refusal_of t old e ≡ r → why ≡ unwrap_or r NoMemory → Follows v (λ w. happens_by t w me (Ok e)) (Err (Refused why)) v) [
+      | None ↦ λ none f. subst (λ x. Follows v (λ w. happens_by t w me (Ok e)) (Err (Refused x)) v) (sym f) (lacked_follows t v me e old here none (λ c. not_off (sym f ∙ crash c)))
+      | Some r ↦ λ some f. subst (λ x. Follows v (λ w. happens_by t w me (Ok e)) (Err (Refused x)) v) (sym f) (refused_follows t v me e old r here some)
+    ] refl is
+  where
+    not_off : NoMemory ≡ Off → ⊥
+    not_off p = cc
+
+-- the node's place after a change
+pub changed_at : (nodes : List NodeValue) (me : NodeId) (old : NodeValue) (change : ChangeValue) → slice_get nodes me.0 ≡ Some old → (x : NodeValue) → x ≡ changed old change → (n : ℕ) →
+    cond (nat_eq n me.0) (option_map (λ (y : NodeValue). changed y change) (slice_get nodes n)) (slice_get nodes n) ≡ cond (nat_eq n me.0) (Some x) (slice_get nodes n)
+changed_at nodes me old change there x is n =
+    elim (nat_eq n me.0) as (λ b. nat_eq n me.0 ≡ b → cond b (option_map (λ (y : NodeValue). changed y change) (slice_get nodes n)) (slice_get nodes n) ≡ cond b (Some x) (slice_get nodes n)) [
+      | true ↦ λ e. ap (λ k. option_map (λ (y : NodeValue). changed y change) (slice_get nodes k)) (exact_unsigned_eq n me.0 e) ∙ (ap (option_map (λ (y : NodeValue). changed y change)) there ∙ ap (λ y. Some y) (sym is))
+      | false ↦ λ e. refl
+    ] refl
+
+-- what an accepted event leaves
+pub ok_follows : (t : Table) (v u : WorldValue) (me : NodeId) (e : Event) (old : NodeValue) (change : ChangeValue) (reply : Reply) → Here v me old → Prepared t me old e change → Goes v me change reply u → Follows v (λ w. happens_by t w me (Ok e)) (Ok reply) u
+ok_follows t v u me e old change reply here p goes = record {
+  each = λ w h.
+      let d = w.node me in
+      let same = node_shown w v h me old here.inside here.there in
+      let st = step_accepted t me d e (refusal_same t w v h me e old here ∙ p.accepted) in
+      let answer : (accepted me d.last d.run e).answer ≡ Ok reply = answer_accepted me d.last d.run e ∙ ap (λ r. Ok r) (ap (λ (x : NodeValue). reply_by me x.last x.run e) same ∙ sym p.reply ∙ sym goes.reply) in
+      let new : ModelNode = (accepted me d.last d.run e).node in
+      let shows : shown new ≡ changed old change = shown_accepted me d.last d.run e ∙ (ap (λ (x : NodeValue). left_by me x.last x.run e) same ∙ sym p.left) in
+      let all : happens_by t w me (Ok e) ≡ answered_by w me new (Ok reply) = by_step t w me e _ st ∙ ap (answered_by w me new) answer in
+      let next : ModelWorld = record { count = w.count; node = with_node w.node me new; operations = w.operations ++ issued_by reply; messages = w.messages ++ shipped_by reply } in (
+        next,
+        (
+          inl (record { answered = ap (λ (s : WorldStepped). s.answer) (sym all); went_on = ap (λ (s : WorldStepped). s.world) (sym all) }),
+          record {
+            count = goes.nodes.count ∙ h.count;
+            nodes = λ n. goes.nodes.each n ∙ (changed_at v.nodes me old change here.there (shown new) shows n ∙ (ap (cond (nat_eq n me.0) (Some (shown new))) (h.nodes n) ∙ at w new n (ap (nat_lt me.0) (sym h.count) ∙ lt-ltb me.0 (length v.nodes) here.inside)));
+            operations = goes.operations ∙ (λ i. h.operations i ++ issued_by (sym goes.reply i));
+            messages = goes.messages ∙ (λ i. h.messages i ++ shipped_by (sym goes.reply i));
+          },
+        ),
+      );
+}
+  where
+    pick : (w : ModelWorld) (new : ModelNode) (n : NodeId) (b c : Bool) → (b ≡ true → c ≡ true) → cond b (Some (shown new)) (cond c (Some (shown (w.node n))) None) ≡ cond c (Some (shown (cond b new (w.node n)))) None
+    pick w new n true true f = refl
+    pick w new n true false f = absurd (true≢false (sym (f refl)))
+    pick w new n false c f = refl
+
+    at : (w : ModelWorld) (new : ModelNode) (n : ℕ) → nat_lt me.0 w.count ≡ true → cond (nat_eq n me.0) (Some (shown new)) (cond (nat_lt n w.count) (Some (shown (w.node (numbered n)))) None) ≡ cond (nat_lt n w.count) (Some (shown (with_node w.node me new (numbered n)))) None
+    at w new n inside = pick w new (numbered n) (nat_eq n me.0) (nat_lt n w.count) (λ x. ap (λ k. nat_lt k w.count) (exact_unsigned_eq n me.0 x) ∙ inside)
+
+-- ---- from a node's event to the world's
+-- the same step, said of the world that shows v
+pub follows_by : (v u : WorldValue) (answer : Result Reply WorldFault) (f g : ModelWorld → WorldStepped) → ((w : ModelWorld) → Shows w v → f w ≡ g w) → Follows v f answer u → Follows v g answer u
+follows_by v u answer f g same h = record {
+  each = λ w s. let r = h.each w s in (r.0, (subst (λ x. Step w x answer r.0) (same w s) r.1.0, r.1.1));
+}
+
+-- an event at a node that there is
+pub happens_at : (t : Table) (v : WorldValue) (e : WorldEvent) → e.node.0 < length v.nodes → (w : ModelWorld) → Shows w v → happens_by t w e.node (event_of v.operations v.messages e.what) ≡ happens t w e
+happens_at t v e lt w h =
+    let inside : nat_lt e.node.0 w.count ≡ true = ap (nat_lt e.node.0) (sym h.count) ∙ lt-ltb e.node.0 (length v.nodes) lt in
+    (λ i. happens_by t w e.node (event_of (h.operations i) (h.messages i) e.what))
+    ∙ ap (λ b. cond b (happens_by t w e.node (event_of w.operations w.messages e.what)) (record { world = w; answer = Err NoSuchNode })) (sym inside)
+
+-- what follows for a node's event follows for the world's
+pub world_follows : (t : Table) (v u : WorldValue) (e : WorldEvent) (what : What) (answer : Result Reply WorldFault) → e.node.0 < length v.nodes → e.what ≡ what →
+    Follows v (λ w. happens_by t w e.node (event_of v.operations v.messages what)) answer u → Follows v (λ w. happens t w e) answer u
+world_follows t v u e what answer lt is =
+    follows_by v u answer (λ w. happens_by t w e.node (event_of v.operations v.messages what)) (λ w. happens t w e)
+    (λ w s. ap (λ x. happens_by t w e.node (event_of v.operations v.messages x)) (sym is) ∙ happens_at t v e lt w s)
+
+-- the node that the code reads
+pub node_at : (v : WorldValue) (me : NodeId) (x : NodeValue) → me.0 < length v.nodes → x ≡ get_or v.nodes me.0 x → Here v me x
+node_at v me x lt read = record { inside = lt; there = slice_get_read v.nodes (length v.nodes) me.0 x refl lt read }
+
+-- the item of a number that the code reads
+pub counted_there : {X : Type 0} (xs : List X) (k : ℕ) (x : X) → (k ≡ 0 → ⊥) → k - 1 < length xs → x ≡ get_or xs (k - 1) x → counted xs k ≡ Some x
+counted_there xs k x some lt read =
+    ap (λ b. cond b None (slice_get xs (k - 1))) (false_from_ne_true (nat_eq k 0) (λ e. some (exact_unsigned_eq k 0 e)))
+    ∙ slice_get_read xs (length xs) (k - 1) x refl lt read
+
+-- what comes of a prepared change: all of it, or want of memory and nothing
+pub gone_follows : (t : Table) (v u : WorldValue) (me : NodeId) (e : Event) (old : NodeValue) (change : ChangeValue) (answer : Result Reply WorldFault) → Here v me old → Prepared t me old e change →
+    IfOk answer (λ reply. Goes v me change reply u) → IfErr answer (λ fault. Err fault ≡ out_of_memory) → IfErr answer (λ _. change.reply ≡ Crashed → ⊥) → OnErr answer (u ≡ v) → Follows v (λ w. happens_by t w me (Ok e)) answer u
+gone_follows t v u me e old change (Ok reply) here p goes lacked stays same = ok_follows t v u me e old change reply here p goes
+gone_follows t v u me e old change (Err fault) here p goes lacked stays same =
+    subst (λ x. Follows v (λ w. happens_by t w me (Ok e)) x u) (sym lacked)
+    (subst (λ x. Follows v (λ w. happens_by t w me (Ok e)) out_of_memory x) (sym same) (lacked_follows t v me e old here p.accepted (λ c. stays (p.reply ∙ crashes c))))
+  where
+    -- an accepted crash is at a running node
+    at_run : (last : ℕ) (run : Option RunValue) → refusal_by t last run Crash ≡ None → reply_by me last run Crash ≡ Crashed
+    at_run last None none = cc
+    at_run last (Some r) none = refl
+
+    crashes : e ≡ Crash → reply_by me old.last old.run e ≡ Crashed
+    crashes c = ap (reply_by me old.last old.run) c ∙ at_run old.last old.run (ap (refusal_by t old.last old.run) (sym c) ∙ p.accepted)

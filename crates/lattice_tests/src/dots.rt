@@ -1,0 +1,97 @@
+//! Contexts, and sorted lists of keys.
+use crate::sample::{dot, heard, origin};
+use dac_base::{AppId, NoMemory};
+use dac_dots::Context;
+use dac_dots::keys::{MapKey, holds_key, insert_key, merge_keys};
+use std::alloc::Global;
+
+/// Whether the next dot of node 0 has this counter, and the context is a vector or not.
+fn goes_on(context: &Context, next: u64, is_vector: bool) -> bool {
+    context.next(origin(0)) == Some(dot(0, next)) && context.is_vector() == is_vector
+}
+
+/// Whether the context is the one row of node 0 with these counters.
+fn is_row(context: &Context, upto: u64, further: &[u64]) -> bool {
+    context.row(0) == Some((origin(0), upto, further)) && context.row(1).is_none()
+}
+
+/// Whether a context that these counters were put into goes on so, and has this one row.
+fn is_kept(
+    alloc: Global,
+    counters: &[u64],
+    next: u64,
+    is_vector: bool,
+    upto: u64,
+    further: &[u64],
+) -> Result<bool, NoMemory> {
+    let context = heard(alloc, counters)?;
+    Ok(goes_on(&context, next, is_vector) && is_row(&context, upto, further))
+}
+
+/// Counters of dots of node 0; the counter that comes next, whether they are a vector, and their row.
+const COUNTERS: &[(&[u64], u64, bool, u64, &[u64])] = &[
+    (&[1, 2, 4], 5, false, 2, &[4]),
+    (&[1, 2, 4, 3], 5, true, 4, &[]),
+    (&[9, 0, 3, 1, 5], 10, false, 1, &[0, 3, 5, 9]),
+];
+
+#[test]
+fn a_gap_is_closed(rt: HostRuntime) {
+    for (counters, next, is_vector, upto, further) in COUNTERS {
+        let answer = is_kept(rt.alloc(), counters, *next, *is_vector, *upto, further);
+        assert!(rt; matches!(answer, Ok(true)), "with {upto} in a row");
+    }
+}
+
+/// Whether the context and its union with itself have the same dots.
+fn is_its_union(context: &Context) -> Result<bool, NoMemory> {
+    let both = context.union(context)?;
+    Ok(both.is_subset(context) && context.copy()?.is_subset(&both))
+}
+
+/// Whether a context of four dots has them in order, and is its union with itself.
+fn has_its_dots(alloc: Global) -> Result<bool, NoMemory> {
+    let context = heard(alloc, &[1, 2, 4, 3])?;
+    let dots = [dot(0, 1), dot(0, 2), dot(0, 3), dot(0, 4)];
+    Ok(
+        context.contains(dot(0, 4))
+            && context.dots()?.as_slice() == dots.as_slice()
+            && is_its_union(&context)?,
+    )
+}
+
+#[test]
+fn dots_of_a_vector(rt: HostRuntime) {
+    assert!(rt; matches!(has_its_dots(rt.alloc()), Ok(true)));
+}
+
+/// How many dots a context of one row has, if the row is taken.
+fn pushed(alloc: Global, upto: u64, further: &[u64]) -> Result<Option<u128>, NoMemory> {
+    let mut context = Context::empty(alloc);
+    if !context.push_row(origin(0), upto, further)? {
+        return Ok(None);
+    }
+    Ok(Some(context.len()))
+}
+
+#[test]
+fn rows_are_appended(rt: HostRuntime) {
+    let most = 1 << 62;
+    assert!(rt; pushed(rt.alloc(), most, &[]) == Ok(Some(1 << 62)));
+    assert!(rt; pushed(rt.alloc(), 1, &[2]) == Ok(None));
+}
+
+/// Whether two keys are listed, the greater one first, and three are in the list that goes with others.
+fn are_merged<K: MapKey>(alloc: Global, low: K, high: K, others: &[K]) -> Result<bool, NoMemory> {
+    let mut keys = Vec::new(alloc);
+    insert_key(&mut keys, high)?;
+    insert_key(&mut keys, low)?;
+    let found = holds_key(&keys, low);
+    Ok(found && merge_keys(alloc, &keys, others)?.len() == 3)
+}
+
+#[test]
+fn keys_are_merged(rt: HostRuntime) {
+    let answer = are_merged(rt.alloc(), AppId(2), AppId(7), &[AppId(2), AppId(5)]);
+    assert!(rt; matches!(answer, Ok(true)));
+}

@@ -1,0 +1,41 @@
+//! Dots that the tests share, and what is asked of every lattice.
+use dac_base::{NoMemory, NodeId};
+use dac_dots::{Context, Dot, Origin};
+use dac_lattice::{Bottom, Lattice};
+use std::alloc::Global;
+
+/// The first incarnation of a node.
+pub fn origin(node: u8) -> Origin {
+    Origin {
+        node: NodeId(node),
+        inc: 1,
+    }
+}
+
+/// A dot of a node's first incarnation.
+pub fn dot(node: u8, n: u64) -> Dot {
+    Dot {
+        origin: origin(node),
+        n,
+    }
+}
+
+/// A context that has these dots of node 0, put into it in this order.
+pub fn heard(alloc: Global, counters: &[u64]) -> Result<Context, NoMemory> {
+    let mut context = Context::empty(alloc);
+    for n in counters {
+        context.insert(dot(0, *n))?;
+    }
+    Ok(context)
+}
+
+/// Whether the order agrees with the join, and both with the least value and the copy, through the bound.
+pub fn is_joined_above<L: Bottom>(alloc: Global, low: &L, high: &L) -> Result<bool, NoMemory> {
+    Ok(low.leq(high) && is_join(low, high, high)? && is_join(&L::bottom(alloc), low, low)?)
+}
+
+/// Whether a copy of the third value is the join of the first two, through the bound.
+pub fn is_join<L: Lattice>(one: &L, other: &L, joined: &L) -> Result<bool, NoMemory> {
+    one.known();
+    Ok(one.join(other)?.equal(&joined.copy()?))
+}

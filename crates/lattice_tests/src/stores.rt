@@ -1,0 +1,127 @@
+//! Joins of stores.
+use crate::sample::{dot, heard, is_joined_above};
+use dac_base::NoMemory;
+use dac_dots::Context;
+use dac_lattice::{Flag, Lattice};
+use dac_store::{Causal, DotFun, DotMap, DotSet, DotStore};
+use std::alloc::Global;
+
+/// A set of one dot beside the dots that were heard.
+fn one(alloc: Global, n: u64, counters: &[u64]) -> Option<Causal<DotSet>> {
+    let set = DotSet::one(alloc, dot(0, n)).ok()?;
+    Causal::new(set, heard(alloc, counters).ok()?).ok()
+}
+
+/// Whether a set has the second dot alone, beside two dots that were heard.
+fn is_second(causal: &Causal<DotSet>) -> bool {
+    causal.store().dots() == [dot(0, 2)].as_slice() && causal.context().len() == 2
+}
+
+/// Whether the second dot alone is left of the first one and the second, and of that and the first one again.
+fn is_left(
+    alloc: Global,
+    first: &Causal<DotSet>,
+    second: &Causal<DotSet>,
+) -> Result<bool, NoMemory> {
+    let joined = first.join(second)?;
+    let again = joined.join(first)?;
+    Ok(is_second(&joined) && is_second(&again) && is_joined_above(alloc, first, &again)?)
+}
+
+/// Whether that is so of the first dot and the second, where the second side heard of both.
+fn is_second_left(alloc: Global) -> Option<bool> {
+    let first = one(alloc, 1, &[1])?;
+    let second = one(alloc, 2, &[1, 2])?;
+    is_left(alloc, &first, &second).ok()
+}
+
+#[test]
+fn a_dot_heard_and_dropped_goes(rt: HostRuntime) {
+    assert!(rt; is_second_left(rt.alloc()) == Some(true));
+}
+
+/// Whether a store is handed back since its context hasn't its dot.
+fn is_refused(alloc: Global) -> Result<bool, NoMemory> {
+    match Causal::new(DotSet::one(alloc, dot(0, 2))?, Context::empty(alloc)) {
+        Ok(_) => Ok(false),
+        Err((store, context)) => Ok(!store.within(&context)),
+    }
+}
+
+#[test]
+fn a_dot_outside_the_context_is_handed_back(rt: HostRuntime) {
+    assert!(rt; matches!(is_refused(rt.alloc()), Ok(true)));
+}
+
+/// Whether nothing is left of a store where the other side has heard of its dots and dropped them, through
+/// the bound.
+fn is_cleared<S: DotStore>(alloc: Global, store: &S, context: &Context) -> Result<bool, NoMemory> {
+    store.known();
+    let left = store.join_in(context, &S::empty(alloc), context)?;
+    Ok(left.is_empty() && store.leq_in(context, &left, context) && left.within(context))
+}
+
+/// Whether a store of the first dot keeps it where the other side hasn't heard of it, through the bound.
+fn is_kept<S: DotStore>(alloc: Global, store: &S, context: &Context) -> Result<bool, NoMemory> {
+    let unheard = Context::empty(alloc);
+    let kept = store.copy()?.join_in(context, &S::empty(alloc), &unheard)?;
+    Ok(kept.has(dot(0, 1)))
+}
+
+/// Whether a store of the first dot is kept and cleared.
+fn is_kept_and_cleared<S: DotStore>(alloc: Global, store: &S) -> Result<bool, NoMemory> {
+    let context = heard(alloc, &[1])?;
+    Ok(is_kept(alloc, store, &context)? && is_cleared(alloc, store, &context)?)
+}
+
+/// The first dot, denied.
+fn denied(alloc: Global) -> Result<DotFun<Flag>, NoMemory> {
+    DotFun::one(alloc, dot(0, 1), Flag::Down)
+}
+
+/// The first dot, denied, at a key.
+fn denied_at(alloc: Global, key: u64) -> Result<DotMap<u64, DotFun<Flag>>, NoMemory> {
+    DotMap::one(alloc, key, denied(alloc)?)
+}
+
+/// Whether there was memory, and the store of the first dot is kept and cleared.
+fn is_store<S: DotStore>(alloc: Global, store: Result<S, NoMemory>) -> bool {
+    match store {
+        Ok(store) => matches!(is_kept_and_cleared(alloc, &store), Ok(true)),
+        Err(_) => false,
+    }
+}
+
+#[test]
+fn stores_of_all_kinds(rt: HostRuntime) {
+    assert!(rt; is_store(rt.alloc(), DotSet::one(rt.alloc(), dot(0, 1))));
+    assert!(rt; is_store(rt.alloc(), denied(rt.alloc())));
+    assert!(rt; is_store(rt.alloc(), denied_at(rt.alloc(), 7)));
+}
+
+/// Whether a second dot is appended to values at dots.
+fn a_value_is_appended(alloc: Global) -> Result<bool, NoMemory> {
+    let mut denied = denied(alloc)?;
+    let pushed = denied.push(dot(0, 3), Flag::Up)?;
+    Ok(pushed && denied.get(dot(0, 3)) == Some(&Flag::Up) && denied.entries().len() == 2)
+}
+
+/// Whether a second dot is appended to a set, and one that isn't above it isn't.
+fn a_dot_is_appended(alloc: Global) -> Result<bool, NoMemory> {
+    let mut dots = DotSet::one(alloc, dot(0, 1))?;
+    Ok(dots.push(dot(0, 2))? && !dots.push(dot(0, 2))?)
+}
+
+/// Whether a second key is appended.
+fn a_key_is_appended(alloc: Global) -> Result<bool, NoMemory> {
+    let mut map = denied_at(alloc, 7)?;
+    let pushed = map.push(9, denied(alloc)?)?;
+    Ok(pushed && map.get(9).is_some() && map.entries().len() == 2)
+}
+
+#[test]
+fn what_is_above_is_appended(rt: HostRuntime) {
+    assert!(rt; matches!(a_dot_is_appended(rt.alloc()), Ok(true)));
+    assert!(rt; matches!(a_value_is_appended(rt.alloc()), Ok(true)));
+    assert!(rt; matches!(a_key_is_appended(rt.alloc()), Ok(true)));
+}

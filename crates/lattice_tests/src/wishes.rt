@@ -1,0 +1,145 @@
+//! Permits and start wishes of a few operations.
+use crate::sample::{dot, heard, is_joined_above};
+use dac_base::{AppId, NoMemory, NodeId};
+use dac_dots::Dot;
+use dac_lattice::{Bottom, Flag, Lattice, Piece};
+use dac_store::{Causal, DotFun, DotMap, DotSet};
+use dac_wishes::{DotList, Key, Permissions, PermitAct, WishAct, Wishes};
+use std::alloc::Global;
+
+/// Application 0 at node 1, incarnation 1.
+const KEY: Key = Key {
+    app: AppId(0),
+    node: NodeId(1),
+    inc: 1,
+};
+
+/// What an operation adds, through the bound.
+fn delta_of<P: Piece>(alloc: Global, dot: Dot, act: &P::Act) -> Result<P, NoMemory> {
+    P::delta(alloc, dot, act)
+}
+
+/// A start by an operation of this dot.
+fn started(alloc: Global, dot: Dot) -> Result<Wishes, NoMemory> {
+    let over = DotList::new(Vec::new(alloc));
+    delta_of(alloc, dot, &WishAct::Start { key: KEY, over })
+}
+
+/// A stop of the start of a dot.
+fn stopped(alloc: Global, dot: Dot, start: Dot) -> Result<Wishes, NoMemory> {
+    let over = DotList::new(Vec::from_slice(alloc, &[start])?);
+    delta_of(alloc, dot, &WishAct::Other { over })
+}
+
+/// A permit by an operation of this dot.
+fn permitted(alloc: Global, dot: Dot, value: bool) -> Result<Permissions, NoMemory> {
+    let over = DotList::new(Vec::new(alloc));
+    let key = KEY;
+    delta_of(alloc, dot, &PermitAct::Permit { key, value, over })
+}
+
+/// Whether the starts of these dots stand, and so many dots are known.
+fn has(wishes: &Wishes, dots: &[Dot], known: u128) -> bool {
+    wishes.dots(KEY) == dots
+        && wishes.wished(KEY) != dots.is_empty()
+        && wishes.context().len() == known
+}
+
+/// Whether these dots are left where the start of a dot is joined with a stop of the dot (0, 2).
+fn is_left(alloc: Global, start: Dot, dots: &[Dot], known: u128) -> Result<bool, NoMemory> {
+    let started = started(alloc, start)?;
+    let joined = stopped(alloc, dot(0, 3), dot(0, 2))?.join(&started)?;
+    Ok(has(&joined, dots, known) && is_joined_above(alloc, &started, &joined)?)
+}
+
+#[test]
+fn a_stop_ends_what_it_names(rt: HostRuntime) {
+    let answer = is_left(rt.alloc(), dot(0, 2), &[], 2);
+    assert!(rt; matches!(answer, Ok(true)));
+    let answer = is_left(rt.alloc(), dot(1, 2), &[dot(1, 2)], 3);
+    assert!(rt; matches!(answer, Ok(true)));
+}
+
+/// Whether a permit that says true is joined with one that says false, and false wins.
+fn false_wins(alloc: Global) -> Result<bool, NoMemory> {
+    let granted = permitted(alloc, dot(0, 2), true)?;
+    let joined = granted.join(&permitted(alloc, dot(1, 2), false)?)?;
+    Ok(
+        !joined.permitted(KEY, true)
+            && has_two(&joined)
+            && is_joined_above(alloc, &granted, &joined)?,
+    )
+}
+
+/// Whether two permits stand and two dots are known.
+fn has_two(permissions: &Permissions) -> bool {
+    permissions.dots(KEY).len() == 2 && permissions.context().len() == 2
+}
+
+#[test]
+fn false_wins_among_permits(rt: HostRuntime) {
+    assert!(rt; matches!(false_wins(rt.alloc()), Ok(true)));
+}
+
+/// Whether one permit that says true overrules the default, which holds where nothing is said.
+fn is_overruled(alloc: Global) -> Result<bool, NoMemory> {
+    let nothing = Permissions::bottom(alloc);
+    let granted = permitted(alloc, dot(0, 2), true)?;
+    Ok(
+        granted.permitted(KEY, false)
+            && nothing.permitted(KEY, true)
+            && !nothing.permitted(KEY, false),
+    )
+}
+
+#[test]
+fn a_permit_overrules_the_default(rt: HostRuntime) {
+    assert!(rt; matches!(is_overruled(rt.alloc()), Ok(true)));
+}
+
+/// The start of the dot (0, 2), kept by its key.
+fn kept_start(alloc: Global) -> Option<Wishes> {
+    let starts = DotSet::one(alloc, dot(0, 2)).ok()?;
+    let store = DotMap::one(alloc, KEY, starts).ok()?;
+    let causal = Causal::new(store, heard(alloc, &[2]).ok()?).ok()?;
+    Some(Wishes::new(causal))
+}
+
+/// The permit of the dot (0, 2), kept by its key.
+fn kept_permit(alloc: Global) -> Option<Permissions> {
+    let permits = DotFun::one(alloc, dot(0, 2), Flag::Up).ok()?;
+    let store = DotMap::one(alloc, KEY, permits).ok()?;
+    let causal = Causal::new(store, heard(alloc, &[2]).ok()?).ok()?;
+    Some(Permissions::new(causal))
+}
+
+/// Whether a start that is kept is one that was wished.
+fn is_start(alloc: Global) -> Option<bool> {
+    let kept = kept_start(alloc)?;
+    Some(kept.entries().len() == 1 && kept.equal(&started(alloc, dot(0, 2)).ok()?))
+}
+
+/// Whether a permit that is kept is one that was given.
+fn is_permit(alloc: Global) -> Option<bool> {
+    let kept = kept_permit(alloc)?;
+    Some(kept.entries().len() == 1 && kept.equal(&permitted(alloc, dot(0, 2), true).ok()?))
+}
+
+#[test]
+fn starts_and_permits_by_key(rt: HostRuntime) {
+    assert!(rt; is_start(rt.alloc()) == Some(true));
+    assert!(rt; is_permit(rt.alloc()) == Some(true));
+}
+
+/// Whether a list gives its dots back.
+fn gives_back(alloc: Global, dots: &[Dot]) -> Result<bool, NoMemory> {
+    let list = DotList::new(Vec::from_slice(alloc, dots)?);
+    let copied = list.copy()?;
+    Ok(list.as_slice() == dots && copied.into_vec().as_slice() == dots)
+}
+
+#[test]
+fn a_list_gives_its_dots_back(rt: HostRuntime) {
+    let answer = gives_back(rt.alloc(), &[dot(0, 2), dot(0, 1)]);
+    assert!(rt; matches!(answer, Ok(true)));
+}

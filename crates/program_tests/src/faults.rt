@@ -1,0 +1,98 @@
+//! Inputs with a fault, each with what is printed for it.
+
+/// Configurations, and what is printed for them.
+pub const CONFIG_FAULTS: &[(&str, &str)] = &[
+    (
+        "[{kernel,[{distributed,[{a,[b@h,{c@h,b@h}]}]}]}].",
+        "config fault 7 TwiceInList at 37\n",
+    ),
+    (
+        "[{kernel,[{distributed,[{a,[b@h,{}]}]}]}].",
+        "config fault 9 EmptyTuple at 32\n",
+    ),
+    (
+        "[{kernel,[{distributed,[{a,[]}]}]}].",
+        "config fault 8 EmptyList at 27\n",
+    ),
+    (
+        "[{kernel,[{distributed,[{a,5.0,[b@h]}]}]}].",
+        "config fault 3 Unsupported at 27\n",
+    ),
+    ("[{kernel,[", "config fault 4 BadShape at 10\n"),
+    ("[].", "config fault 5 NoDistributed at 3\n"),
+    ("[{kernel,[;", "config fault 2 BadToken at 10\n"),
+    (
+        "[{kernel,[{distributed,[{a,[b@h]},{a,[b@h]}]}]}].",
+        "config fault 6 TwiceApp at 35\n",
+    ),
+    (
+        "[{kernel,[{distributed,[{a,4294967296,[b@h]}]}]}].",
+        "config fault 12 NumberTooLarge at 27\n",
+    ),
+    (
+        "[{kernel,[{distributed,[{a,-1,[b@h]}]}]}].",
+        "config fault 4 BadShape at 27\n",
+    ),
+    (
+        "[{kernel,[{f,fun a:b/1}]}].",
+        "config fault 3 Unsupported at 13\n",
+    ),
+    (
+        "[{kernel,[{f,~\"a\"}]}].",
+        "config fault 3 Unsupported at 13\n",
+    ),
+    ("[\"a", "config fault 2 BadToken at 1\n"),
+    ("[\"a\" \"b", "config fault 3 Unsupported at 1\n"),
+];
+
+/// Scripts behind the example of the manual, and what is printed for them.
+pub const SCRIPT_FAULTS: &[(&str, &str)] = &[
+    ("jump cp1@cave 0", "script fault 1 1 BadWord\n"),
+    ("shares", "script fault 1 1 BadWord\n"),
+    ("\n% boot\n ", "script fault 3 1 BadWord\n"),
+    (
+        "boot cp1@cave 0\nboot cp1@cave",
+        "script fault 2 2 BadCount\n",
+    ),
+    (
+        "boot cp1@cave 0\nship cp1@cave",
+        "script fault 2 2 BadCount\n",
+    ),
+    ("boot cp1@cave 0 0", "script fault 1 2 BadCount\n"),
+    ("boot Cp1 01", "script fault 1 3 BadName\n"),
+    ("boot fun 0", "script fault 1 3 BadName\n"),
+    ("boot nobody 01", "script fault 1 4 BadNumber\n"),
+    ("hand nobody 01", "script fault 1 4 BadNumber\n"),
+    (
+        "boot cp1@cave 4611686018427387905",
+        "script fault 1 4 BadNumber\n",
+    ),
+    ("boot cp1@cave 0x", "script fault 1 4 BadNumber\n"),
+    (
+        "permit cp1@cave myapp cp1@cave",
+        "script fault 1 2 BadCount\n",
+    ),
+    (
+        "permit nobody myapp cp1@cave 'true'",
+        "script fault 1 3 BadName\n",
+    ),
+    ("share cp1@cave", "script fault 1 2 BadCount\n"),
+    ("same cp1@cave nobody", "script fault 1 5 UnknownActor\n"),
+    ("crash nobody", "script fault 1 5 UnknownActor\n"),
+    (
+        "boot nobody 4611686018427387904\njump",
+        "script fault 1 5 UnknownActor\n",
+    ),
+];
+
+/// Inputs of `distac sim` that no script is read of, and what is printed for them.
+pub const INPUT_FAULTS: &[(&str, &str)] = &[
+    ("", "input fault 2 NoScript\n"),
+    ("[].\n--x\n --\n", "input fault 2 NoScript\n"),
+    ("[].\n--\njump", "config fault 5 NoDistributed at 4\n"),
+    ("--", "config fault 4 BadShape at 0\n"),
+    (
+        "[{kernel,[{distributed,[{a,[]}]}]}].\n--\n",
+        "config fault 8 EmptyList at 27\n",
+    ),
+];

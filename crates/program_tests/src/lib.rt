@@ -1,0 +1,18 @@
+//! Tests of the program `distac` over readers and writers in memory: what each command line, configuration and script
+//! prints, and what comes of readers and writers that fail.
+//!
+//! The crates below are proved. The configurations and the scripts are tables, which one loop each goes through.
+#![tactic(auto)]
+
+#[cfg(test)]
+mod command_lines;
+#[cfg(test)]
+mod configs;
+#[cfg(test)]
+mod faults;
+#[cfg(test)]
+mod readers;
+#[cfg(test)]
+mod running;
+#[cfg(test)]
+mod scripts;

@@ -1,0 +1,130 @@
+//! Runs of the program.
+use crate::configs::CASES;
+use crate::faults::{CONFIG_FAULTS, INPUT_FAULTS, SCRIPT_FAULTS};
+use crate::scripts::{EXAMPLE, SCRIPTS};
+use dac_program::run;
+use std::alloc::{AllocError, Global};
+use std::io::{Read, Write};
+
+/// The status of `distac` with one word more, on what a reader gives.
+pub fn status_of<R: Read, W: Write>(
+    rt: &HostRuntime,
+    word: &str,
+    input: &mut R,
+    output: &mut W,
+) -> u8 {
+    run(rt, rt.alloc(), &["distac", word], input, output)
+}
+
+/// The status and the output of `distac` with one word more, on an input.
+fn ran(rt: &HostRuntime, word: &str, input: &[u8]) -> (u8, Vec<u8>) {
+    let mut output = Vec::new(rt.alloc());
+    let mut input = input;
+    let status = status_of(rt, word, &mut input, &mut output);
+    (status, output)
+}
+
+/// Whether `distac` with one word more prints this on an input, and answers this status.
+fn prints(rt: &HostRuntime, word: &str, input: &[u8], status: u8, printed: &str) -> bool {
+    let (answered, output) = ran(rt, word, input);
+    answered == status && output.as_slice() == printed.as_bytes()
+}
+
+/// A configuration, the line `--`, and a script.
+pub fn input_of(alloc: Global, config: &str, script: &str) -> Result<String, AllocError> {
+    let mut text = String::from_str(alloc, config)?;
+    text.push_str("--\n")?;
+    text.push_str(script)?;
+    Ok(text)
+}
+
+/// Whether `distac sim` prints this for a configuration and a script, and answers this status.
+fn plays(rt: &HostRuntime, config: &str, script: &str, status: u8, printed: &str) -> bool {
+    match input_of(rt.alloc(), config, script) {
+        Ok(text) => prints(rt, "sim", text.as_bytes(), status, printed),
+        Err(_) => false,
+    }
+}
+
+#[test]
+fn checks_configurations_of_all_kinds(rt: HostRuntime) {
+    for case in CASES {
+        let printed = prints(
+            &rt,
+            "check",
+            case.text.as_bytes(),
+            case.status,
+            case.printed,
+        );
+        assert!(rt; printed, "{}", case.text);
+    }
+}
+
+#[test]
+fn plays_scripts(rt: HostRuntime) {
+    for (config, script, printed) in SCRIPTS {
+        assert!(rt; plays(&rt, config, script, 0, printed), "{script}");
+    }
+}
+
+#[test]
+fn names_faults_of_configurations(rt: HostRuntime) {
+    for (text, printed) in CONFIG_FAULTS {
+        assert!(rt; prints(&rt, "check", text.as_bytes(), 1, printed), "{text}");
+    }
+}
+
+#[test]
+fn names_faults_of_scripts(rt: HostRuntime) {
+    for (script, printed) in SCRIPT_FAULTS {
+        assert!(rt; plays(&rt, EXAMPLE, script, 1, printed), "{script}");
+    }
+}
+
+#[test]
+fn names_faults_of_inputs(rt: HostRuntime) {
+    for (input, printed) in INPUT_FAULTS {
+        assert!(rt; prints(&rt, "sim", input.as_bytes(), 1, printed), "{input}");
+    }
+}
+
+/// A configuration behind others of these bytes: so many opening brackets and as many closing ones in a section, and so
+/// many spaces in front.
+fn large(alloc: Global, lists: usize, spaces: usize) -> Result<Vec<u8>, AllocError> {
+    let mut text = vec![in alloc; b' '; spaces]?;
+    text.extend_from_slice(b"[{x,[")?;
+    text.extend_from_slice(&vec![in alloc; b'['; lists]?)?;
+    text.extend_from_slice(&vec![in alloc; b']'; lists]?)?;
+    text.extend_from_slice(b"]},{kernel,[{distributed,[{a,[b@h]}]}]}].")?;
+    Ok(text)
+}
+
+/// Whether `distac check` prints this for such a configuration, and answers this status.
+fn checks(rt: &HostRuntime, lists: usize, spaces: usize, status: u8, printed: &str) -> bool {
+    match large(rt.alloc(), lists, spaces) {
+        Ok(text) => prints(rt, "check", &text, status, printed),
+        Err(_) => false,
+    }
+}
+
+/// Lists and spaces of large configurations, the status and what is printed: brackets that are 64 deep and 65, and texts
+/// of 65,536 bytes and 65,537.
+const LARGE: &[(usize, usize, u8, &str)] = &[
+    (61, 0, 0, PRINTED),
+    (62, 0, 1, "config fault 3 Unsupported at 66\n"),
+    (0, 65_490, 0, PRINTED),
+    (0, 65_491, 1, "config fault 1 TooLong at 65536\n"),
+];
+
+const PRINTED: &str =
+    "[{kernel,[{distributed,[{a,0,[b@h]}]},{permissions,[]},{sync_nodes_mandatory,[]},{sync_nodes_optional,[]}]}].\n";
+
+#[test]
+fn takes_what_is_large(rt: HostRuntime) {
+    for (lists, spaces, status, printed) in LARGE {
+        assert!(rt;
+            checks(&rt, *lists, *spaces, *status, printed),
+            "{lists} lists, {spaces} spaces"
+        );
+    }
+}

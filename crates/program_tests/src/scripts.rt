@@ -1,0 +1,155 @@
+//! Scripts, each with its configuration and with what is printed.
+
+/// The example of OTP's manual on distributed applications.
+pub const EXAMPLE: &str =
+    "[{kernel,\n[{distributed, [{myapp, 5000, [cp1@cave, {cp2@cave, cp3@cave}]}]},\n{sync_nodes_mandatory, [cp2@cave, cp3@cave]},\n{sync_nodes_timeout, 5000}\n]\n}\n].\n";
+
+/// Three nodes and one application, which waits for no node.
+const PLAIN: &str = "[{kernel,[{distributed,[{a,[c1@h,{c2@h,c3@h}]}]}]}].\n";
+
+/// Two applications, the second at the second node alone.
+const TWO: &str = "[{kernel,[{distributed,[{a,5000,[c1@h,{c2@h,c3@h}]},{b,[c2@h]}]}]}].\n";
+
+/// All of them.
+pub const SCRIPTS: &[(&str, &str, &str)] = &[
+    // The first path: a start is told both ways.
+    (
+        EXAMPLE,
+        "boot cp1@cave 0\nboot cp2@cave 0\nstart cp1@cave myapp cp1@cave\nship cp1@cave cp2@cave\nhear cp2@cave 1\nship cp2@cave cp1@cave\nhear cp1@cave 2\nsame cp1@cave cp2@cave\n",
+        "booted 1 op 1\nbooted 1 op 2\nissued 3 cp1@cave 1 2\nshipped 1 whole 2\nheard new\nshipped 2 whole 3\nheard new\nsame\n",
+    ),
+    // Then a stop makes the states differ.
+    (
+        EXAMPLE,
+        "boot cp1@cave 0\nboot cp2@cave 0\nstart cp1@cave myapp cp1@cave\nship cp1@cave cp2@cave\nhear cp2@cave 1\nship cp2@cave cp1@cave\nhear cp1@cave 2\nsame cp1@cave cp2@cave\nstop cp2@cave myapp cp1@cave\nsame cp1@cave cp2@cave",
+        "booted 1 op 1\nbooted 1 op 2\nissued 3 cp1@cave 1 2\nshipped 1 whole 2\nheard new\nshipped 2 whole 3\nheard new\nsame\nissued 4 cp2@cave 1 2\ndiffer\n",
+    ),
+    // Permits are told, and then stand together.
+    (
+        PLAIN,
+        "boot c1@h 0\nboot c2@h 0\npermit c1@h a c1@h false\npermit c2@h a c2@h true\nshare\npermit c2@h a c1@h true\nsame c1@h c2@h\nshare\nsame c1@h c2@h\n",
+        "booted 1 op 1\nbooted 1 op 2\nissued 3 c1@h 1 2\nissued 4 c2@h 1 2\nshared 2\nissued 5 c2@h 1 3\ndiffer\nshared 2\nsame\n",
+    ),
+    // Three permits are handed third, first, second.
+    (
+        EXAMPLE,
+        "boot cp1@cave 0\nboot cp2@cave 0\npermit cp1@cave myapp cp1@cave false\npermit cp1@cave myapp cp1@cave true\npermit cp1@cave myapp cp1@cave true\nstart cp1@cave myapp cp1@cave\nhand cp2@cave 1\nhand cp2@cave 6\nhand cp2@cave 5\nhand cp2@cave 3\npage cp2@cave\nhand cp2@cave 4\npage cp2@cave\nhand cp2@cave 4\nship cp2@cave cp1@cave\nhear cp1@cave 1\nsame cp1@cave cp2@cave\n",
+        "booted 1 op 1\nbooted 1 op 2\nissued 3 cp1@cave 1 2\nissued 4 cp1@cave 1 3\nissued 5 cp1@cave 1 4\nissued 6 cp1@cave 1 5\nheard new\nheard new\nheard new\nheard new\nnode cp2@cave 1\nheard 5 known 6\nnode cp1@cave up 1\nnode cp2@cave up 1\nnode cp3@cave unknown\napp myapp holder none verdict nobody\nlist cp1@cave=barred cp2@cave=idle cp3@cave=down\nheard new\nnode cp2@cave 1\nheard 6 known 6\nnode cp1@cave up 1\nnode cp2@cave up 1\nnode cp3@cave unknown\napp myapp holder none verdict start cp1@cave\nlist cp1@cave=ok cp2@cave=idle cp3@cave=down\nheard nothing new\nshipped 1 whole 6\nheard new\nsame\n",
+    ),
+    // A node is declared down, and boots again.
+    (
+        PLAIN,
+        "boot c2@h 0\nboot c3@h 0\nshare\ndown c2@h c3@h\nshare\nstart c3@h a c3@h\ncrash c3@h\nboot c3@h 6\nboot c3@h 6\ncrash c1@h\n",
+        "booted 1 op 1\nbooted 1 op 2\nshared 2\nissued 3 c2@h 1 2\nshared 2\nrefused 3 DeclaredDown\ncrashed\nbooted 2 op 4\nrefused 2 AlreadyOn\nrefused 1 Off\n",
+    ),
+    // The page of a node, and of one that is off.
+    (
+        EXAMPLE,
+        "boot cp2@cave 0\npage cp2@cave\npage cp1@cave\n",
+        "booted 1 op 1\nnode cp2@cave 1\nheard 1 known 1\nnode cp1@cave unknown\nnode cp2@cave up 1\nnode cp3@cave unknown\napp myapp holder none verdict nobody\nlist cp1@cave=down cp2@cave=idle cp3@cave=down\nnode cp1@cave off\n",
+    ),
+    // Heard and known: one incarnation's first dot. No permit and no start; one node that is up; no claim.
+    (
+        EXAMPLE,
+        "boot cp2@cave 0\nstate cp2@cave\nstate cp1@cave\n",
+        "booted 1 op 1\n00010100000001000000000000000100000000000101000000010000000000000001000000000000000000000000010100000001000000\nnode cp1@cave off\n",
+    ),
+    (EXAMPLE, "start cp1@cave myapp cp1@cave", "refused 1 Off\n"),
+    (
+        EXAMPLE,
+        "boot cp1@cave 0\nboot cp1@cave 1",
+        "booted 1 op 1\nrefused 2 AlreadyOn\n",
+    ),
+    (
+        EXAMPLE,
+        "boot cp1@cave 0\nstart cp1@cave other cp1@cave",
+        "booted 1 op 1\nrefused 4 UnknownApp\n",
+    ),
+    (
+        EXAMPLE,
+        "boot cp1@cave 0\nship cp1@cave nobody",
+        "booted 1 op 1\nrefused 5 UnknownNode\n",
+    ),
+    (
+        EXAMPLE,
+        "boot cp1@cave 0\nship cp1@cave cp1@cave",
+        "booted 1 op 1\nrefused 6 OnSelf\n",
+    ),
+    (
+        EXAMPLE,
+        "boot cp1@cave 0\nstart cp1@cave myapp cp2@cave",
+        "booted 1 op 1\nrefused 9 NotLive\n",
+    ),
+    (
+        EXAMPLE,
+        "boot cp1@cave 0\nstop cp1@cave myapp cp1@cave",
+        "booted 1 op 1\nrefused 10 NotStarted\n",
+    ),
+    (
+        EXAMPLE,
+        "hear cp1@cave 0\nhear cp1@cave 7",
+        "no message 0\nno message 7\n",
+    ),
+    (
+        EXAMPLE,
+        "hand cp1@cave 3\nboot cp1@cave 0\nhand cp1@cave 0\nhear cp1@cave 1",
+        "no operation 3\nbooted 1 op 1\nno operation 0\nno message 1\n",
+    ),
+    (
+        EXAMPLE,
+        "boot cp2@cave 0\nsame cp2@cave cp1@cave",
+        "booted 1 op 1\nnode cp1@cave off\n",
+    ),
+    (EXAMPLE, "same cp2@cave cp1@cave", "node cp2@cave off\n"),
+    (
+        EXAMPLE,
+        "% nothing\n\n  boot   'cp1@cave'  0 ",
+        "booted 1 op 1\n",
+    ),
+    // A message comes late, and again.
+    (
+        EXAMPLE,
+        "boot cp1@cave 0\nship cp1@cave cp2@cave\nhear cp2@cave 1\nboot cp2@cave 0\nhear cp2@cave 1\nhear cp2@cave 1\nhear cp2@cave 2\nhear cp2@cave 0\nhear cp1@cave 1\n",
+        "booted 1 op 1\nshipped 1 whole 1\nrefused 1 Off\nbooted 1 op 2\nheard new\nheard nothing new\nno message 2\nno message 0\nrefused 6 OnSelf\n",
+    ),
+    // Refusals in their order.
+    (
+        TWO,
+        "start c1@h zz zz@h\nboot c1@h 0\nboot c1@h 0\nstart c1@h zz zz@h\nstart c1@h b zz@h\nstart c1@h b c1@h\nstart c1@h b c2@h\nstop c1@h a c1@h\nship c1@h zz@h\nship c1@h c1@h\nship c1@h c2@h\nboot c3@h 0\nhear c3@h 1\n",
+        "refused 1 Off\nbooted 1 op 1\nrefused 2 AlreadyOn\nrefused 4 UnknownApp\nrefused 5 UnknownNode\nrefused 7 NotInList\nrefused 9 NotLive\nrefused 10 NotStarted\nrefused 5 UnknownNode\nrefused 6 OnSelf\nshipped 1 whole 1\nbooted 1 op 2\nrefused 15 NotForMe\n",
+    ),
+    // Refusals of a down in their order.
+    (
+        TWO,
+        "down c1@h zz@h\ncrash c1@h\nhand c1@h 4611686018427387904\nboot c1@h 0\ndown c1@h zz@h\ndown c1@h c1@h\ndown c1@h c2@h\n",
+        "refused 1 Off\nrefused 1 Off\nno operation 4611686018427387904\nbooted 1 op 1\nrefused 5 UnknownNode\nrefused 6 OnSelf\nrefused 9 NotLive\n",
+    ),
+    // Declared down until it boots.
+    (
+        TWO,
+        "boot c1@h 0\nboot c2@h 0\nhand c2@h 1\ndown c2@h c1@h\nhand c1@h 3\nstart c1@h zz zz@h\ncrash c1@h\nboot c1@h 0\nstart c1@h a c1@h\n",
+        "booted 1 op 1\nbooted 1 op 2\nheard new\nissued 3 c2@h 1 2\nheard new\nrefused 3 DeclaredDown\ncrashed\nbooted 2 op 4\nissued 5 c1@h 2 2\n",
+    ),
+    // Of two permits of one key that stand, false wins.
+    (
+        EXAMPLE,
+        "boot cp1@cave 0\nboot cp2@cave 0\nhand cp2@cave 1\npermit cp1@cave myapp cp1@cave false\npermit cp2@cave myapp cp1@cave true\nship cp1@cave cp2@cave\nship cp2@cave cp1@cave\nhear cp2@cave 1\nhear cp1@cave 2\nsame cp1@cave cp2@cave\npage cp1@cave\n",
+        "booted 1 op 1\nbooted 1 op 2\nheard new\nissued 3 cp1@cave 1 2\nissued 4 cp2@cave 1 2\nshipped 1 whole 2\nshipped 2 whole 3\nheard new\nheard new\nsame\nnode cp1@cave 1\nheard 4 known 4\nnode cp1@cave up 1\nnode cp2@cave up 1\nnode cp3@cave unknown\napp myapp holder none verdict nobody\nlist cp1@cave=barred cp2@cave=idle cp3@cave=down\n",
+    ),
+    // A permit replaces all that stand.
+    (
+        EXAMPLE,
+        "boot cp1@cave 0\nboot cp2@cave 0\nhand cp2@cave 1\npermit cp2@cave myapp cp1@cave false\npermit cp1@cave myapp cp1@cave false\nhand cp1@cave 3\npermit cp1@cave myapp cp1@cave true\npage cp1@cave\n",
+        "booted 1 op 1\nbooted 1 op 2\nheard new\nissued 3 cp2@cave 1 2\nissued 4 cp1@cave 1 2\nheard new\nissued 5 cp1@cave 1 3\nnode cp1@cave 1\nheard 4 known 4\nnode cp1@cave up 1\nnode cp2@cave unknown\nnode cp3@cave unknown\napp myapp holder none verdict nobody\nlist cp1@cave=idle cp2@cave=down cp3@cave=down\n",
+    ),
+    // Operations are handed out of order.
+    (
+        EXAMPLE,
+        "boot cp1@cave 0\nstart cp1@cave myapp cp1@cave\nstart cp1@cave myapp cp1@cave\nboot cp2@cave 0\nhand cp2@cave 3\nhand cp2@cave 2\nhand cp2@cave 2\nhand cp2@cave 1\nship cp2@cave cp1@cave\nhear cp1@cave 1\nsame cp1@cave cp2@cave\n",
+        "booted 1 op 1\nissued 2 cp1@cave 1 2\nissued 3 cp1@cave 1 3\nbooted 1 op 4\nheard new\nheard new\nheard nothing new\nheard new\nshipped 1 whole 4\nheard new\nsame\n",
+    ),
+    // Nothing is played.
+    (TWO, "", ""),
+    // Nobody runs who could share.
+    (TWO, "share", "shared 0\n"),
+];

@@ -1,0 +1,366 @@
+//! States from bytes: the state of a node that booted, one with every part, and bytes that spell none.
+use crate::sample::{EXAMPLE, config, dot, origin};
+use dac_base::{AppId, NoMemory, NodeId};
+use dac_config::Config;
+use dac_dots::Dot;
+use dac_lattice::{Flag, Lattice};
+use dac_state::{Claim, How, Key, State, StateFault, StateFaultKind};
+use std::alloc::Global;
+
+/// The second node booted, and has heard of nothing else.
+const BOOTED: &[u8] =
+    b"\x00\x01\x01\x00\x00\x00\x01\x00\x00\x00\x00\x00\x00\x00\x01\x00\x00\x00\x00\
+    \x00\x01\x01\x00\x00\x00\x01\x00\x00\x00\x00\x00\x00\x00\x01\x00\x00\x00\x00\
+    \x00\x00\x00\x00\x00\x00\x00\x00\
+    \x01\x01\x00\x00\x00\x01\x00\
+    \x00\x00";
+
+/// Three nodes and three applications.
+const LISTS: &[u8] = b"[{kernel,[{distributed,[{p,[a@h,b@h]},{q,[c@h]},{r,[a@h]}]}]}].";
+
+/// A state with every part, under the configuration of three applications.
+const FULL: &[u8] = b"\
+    \x00\x02\
+    \x00\x00\x00\x00\x01\x00\x00\x00\x00\x00\x00\x00\x05\x00\x00\x00\x00\
+    \x01\x00\x00\x00\x01\x00\x00\x00\x00\x00\x00\x00\x03\x00\x00\x00\x00\
+    \x00\x02\
+    \x00\x00\x00\x00\x01\x00\x00\x00\x00\x00\x00\x00\x05\x00\x00\x00\x00\
+    \x01\x00\x00\x00\x01\x00\x00\x00\x00\x00\x00\x00\x03\x00\x00\x00\x01\
+    \x00\x00\x00\x00\x00\x00\x00\x05\
+    \x00\x00\x00\x02\
+    \x00\x00\x01\x00\x00\x00\x01\x00\x00\x00\x02\
+    \x00\x00\x00\x00\x01\x00\x00\x00\x00\x00\x00\x00\x02\x01\
+    \x01\x00\x00\x00\x01\x00\x00\x00\x00\x00\x00\x00\x02\x00\
+    \x00\x02\x00\x00\x00\x01\x02\x00\x00\x00\x01\
+    \x00\x00\x00\x00\x01\x00\x00\x00\x00\x00\x00\x00\x03\x00\
+    \x00\x00\x00\x02\
+    \x00\x00\x01\x00\x00\x00\x01\x00\x00\x00\x02\
+    \x00\x00\x00\x00\x01\x00\x00\x00\x00\x00\x00\x00\x04\
+    \x01\x00\x00\x00\x01\x00\x00\x00\x00\x00\x00\x00\x03\
+    \x00\x02\x00\x00\x00\x01\x02\x00\x00\x00\x01\
+    \x00\x00\x00\x00\x01\x00\x00\x00\x00\x00\x00\x00\x05\
+    \x02\x00\x00\x00\x00\x01\x01\x02\x00\x00\x01\x02\x00\
+    \x00\x02\
+    \x00\x00\x00\x00\x00\x00\x00\x00\x00\x01\x00\x00\x00\x00\x01\x01\x00\
+    \x00\x01\x00\x00\x00\x00\x00\x00\x01\x02\x02\x00\x00\x00\x01\x03\x01";
+
+/// Whether the bytes spell a state whose bytes they are.
+fn is_spelled(alloc: Global, text: &[u8], bytes: &[u8]) -> Option<bool> {
+    let state = State::decode(alloc, &config(alloc, text)?, bytes).ok()?;
+    let again = state.encode().ok()?;
+    Some(again.as_slice() == bytes)
+}
+
+#[test]
+fn what_is_spelled_is_read(rt: HostRuntime) {
+    assert!(rt; is_spelled(rt.alloc(), EXAMPLE, BOOTED) == Some(true));
+    assert!(rt; is_spelled(rt.alloc(), LISTS, FULL) == Some(true));
+}
+
+/// The first application at the second node, incarnation 1.
+const FIRST: Key = Key {
+    app: AppId(0),
+    node: NodeId(1),
+    inc: 1,
+};
+
+/// The third application at the first node, incarnation 258.
+const THIRD: Key = Key {
+    app: AppId(2),
+    node: NodeId(0),
+    inc: 258,
+};
+
+/// Whether the permits of a key are of these dots, with these values.
+fn are_permits(state: &State, key: Key, permits: &[(Dot, Flag)]) -> bool {
+    state.permissions().dots(key) == permits
+}
+
+/// Whether the starts of a key are of these dots.
+fn are_starts(state: &State, key: Key, starts: &[Dot]) -> bool {
+    state.wishes().dots(key) == starts
+}
+
+/// Whether the state has the permits of the bytes with every part.
+fn has_permits(state: &State) -> bool {
+    let both = [(dot(0, 1, 2), Flag::Up), (dot(1, 1, 2), Flag::Down)];
+    let denied = [(dot(0, 1, 3), Flag::Down)];
+    are_permits(state, FIRST, &both) && are_permits(state, THIRD, &denied)
+}
+
+/// Whether the state has the starts of the bytes with every part.
+fn has_starts(state: &State) -> bool {
+    let both = [dot(0, 1, 4), dot(1, 1, 3)];
+    are_starts(state, FIRST, &both) && are_starts(state, THIRD, &[dot(0, 1, 5)])
+}
+
+/// Whether a node has this life.
+fn lives(state: &State, node: u8, life: Option<(u32, Flag)>) -> bool {
+    state.lives().life(NodeId(node)) == life
+}
+
+/// Whether the state has the lives of the bytes with every part.
+fn has_lives(state: &State) -> bool {
+    lives(state, 0, Some((1, Flag::Down)))
+        && lives(state, 1, None)
+        && lives(state, 2, Some((258, Flag::Up)))
+}
+
+/// Whether an application has this claim.
+fn is_claimed(state: &State, app: u16, claim: Claim) -> bool {
+    state.claims().greatest(AppId(app)) == Some(claim)
+}
+
+/// Whether the state has the claims of the bytes with every part.
+fn has_claims(state: &State) -> bool {
+    let normal = Claim {
+        term: 1,
+        origin: origin(0, 1),
+        how: How::Normal,
+        from: None,
+    };
+    let takeover = Claim {
+        term: 258,
+        origin: origin(2, 1),
+        how: How::Takeover,
+        from: Some(NodeId(0)),
+    };
+    is_claimed(state, 0, normal) && is_claimed(state, 1, takeover)
+}
+
+/// Whether eight dots are heard and nine known.
+fn has_dots(state: &State) -> bool {
+    state.heard().len() == 8 && state.known().len() == 9
+}
+
+/// The state with every part.
+fn full(alloc: Global) -> Option<State> {
+    State::decode(alloc, &config(alloc, LISTS)?, FULL).ok()
+}
+
+/// Whether each part is what the bytes say, and the state is its own join.
+fn is_full(state: &State) -> Result<bool, NoMemory> {
+    Ok(
+        has_dots(state)
+            && has_permits(state)
+            && has_starts(state)
+            && has_lives(state)
+            && has_claims(state)
+            && state.join(state)?.equal(state),
+    )
+}
+
+#[test]
+fn every_part_is_read(rt: HostRuntime) {
+    match full(rt.alloc()) {
+        Some(state) => assert!(rt; matches!(is_full(&state), Ok(true))),
+        None => assert!(rt; false),
+    }
+}
+
+/// Why the bytes are refused under the example, if they are.
+fn refused(alloc: Global, config: &Config, bytes: &[u8]) -> Option<StateFault> {
+    State::decode(alloc, config, bytes).err()
+}
+
+/// Whether the bytes, with others in place of those between two places, have this fault.
+fn has_fault(
+    alloc: Global,
+    from: usize,
+    others: &[u8],
+    to: usize,
+    fault: StateFault,
+) -> Option<bool> {
+    let bytes = replaced(alloc, from, others, to).ok()?;
+    Some(refused(alloc, &config(alloc, EXAMPLE)?, &bytes) == Some(fault))
+}
+
+/// The bytes of the node that booted, with others in place of those between two places.
+fn replaced(alloc: Global, from: usize, others: &[u8], to: usize) -> Result<Vec<u8>, NoMemory> {
+    let mut bytes = Vec::from_slice(alloc, BOOTED)?;
+    bytes.truncate(from);
+    bytes.extend_from_slice(others)?;
+    if let Some(rest) = BOOTED.get(to..) {
+        bytes.extend_from_slice(rest)?;
+    }
+    Ok(bytes)
+}
+
+/// From which place to which the bytes are replaced, by what, and the fault at its place.
+const REPLACED: &[(usize, &[u8], usize, StateFaultKind, usize)] = &[
+    (54, &[], 55, StateFaultKind::Short, 53),
+    (55, &[0], 55, StateFaultKind::Trailing, 55),
+    (52, &[2], 53, StateFaultKind::BadNumber, 52),
+    (47, &[3], 48, StateFaultKind::BadName, 47),
+    (19, &[0, 0], 38, StateFaultKind::NotKnown, 21),
+];
+
+#[test]
+fn faults_of_a_node_that_booted(rt: HostRuntime) {
+    for (from, others, to, kind, at) in REPLACED {
+        let fault = StateFault {
+            kind: *kind,
+            at: *at,
+        };
+        let answer = has_fault(rt.alloc(), *from, others, *to, fault);
+        assert!(rt; answer == Some(true), "from {from}");
+    }
+}
+
+/// These bytes with another one at a place.
+fn changed(alloc: Global, bytes: &[u8], at: usize, byte: u8) -> Result<Vec<u8>, NoMemory> {
+    let mut changed = Vec::from_slice(alloc, bytes)?;
+    if let Some(there) = changed.get_mut(at) {
+        *there = byte;
+    }
+    Ok(changed)
+}
+
+/// A place, the byte that is put there, and the fault of the state with every part at its place then.
+const CHANGES: &[(usize, u8, StateFaultKind, usize)] = &[
+    // What was heard: an origin without dots, of no node, and one that doesn't ascend.
+    (14, 0, StateFaultKind::BadNumber, 15),
+    (19, 3, StateFaultKind::BadName, 19),
+    (19, 0, StateFaultKind::BadOrder, 19),
+    (7, 0x41, StateFaultKind::BadNumber, 7),
+    // What is known: a counter that continues, and a dot too few.
+    (79, 4, StateFaultKind::BadOrder, 72),
+    (67, 2, StateFaultKind::NotKnown, 80),
+    // Permits.
+    (84, 1, StateFaultKind::BadName, 84),
+    (86, 3, StateFaultKind::BadName, 86),
+    (90, 0, StateFaultKind::BadNumber, 87),
+    (86, 2, StateFaultKind::NotInList, 84),
+    (94, 0, StateFaultKind::BadNumber, 91),
+    (109, 0, StateFaultKind::BadOrder, 109),
+    (107, 9, StateFaultKind::NotKnown, 95),
+    (108, 2, StateFaultKind::BadNumber, 108),
+    (124, 0, StateFaultKind::BadOrder, 123),
+    (83, 3, StateFaultKind::BadOrder, 148),
+    // Starts.
+    (152, 1, StateFaultKind::BadName, 152),
+    (154, 2, StateFaultKind::NotInList, 152),
+    (162, 0, StateFaultKind::BadNumber, 159),
+    (175, 9, StateFaultKind::NotKnown, 163),
+    (175, 0, StateFaultKind::BadNumber, 168),
+    (176, 0, StateFaultKind::BadOrder, 176),
+    // Lives.
+    (214, 3, StateFaultKind::BadName, 214),
+    (218, 0, StateFaultKind::BadNumber, 215),
+    (219, 2, StateFaultKind::BadNumber, 219),
+    (220, 0, StateFaultKind::BadOrder, 220),
+    // Claims.
+    (237, 0, StateFaultKind::BadNumber, 230),
+    (243, 0, StateFaultKind::BadNumber, 243),
+    (244, 1, StateFaultKind::BadNumber, 244),
+    (244, 4, StateFaultKind::BadName, 244),
+    (246, 0, StateFaultKind::NotInList, 245),
+    (261, 0, StateFaultKind::BadNumber, 261),
+    (227, 3, StateFaultKind::Short, 262),
+    (227, 1, StateFaultKind::Trailing, 245),
+];
+
+/// The fault of the state with every part where one byte is another.
+fn fault_of_change(alloc: Global, place: usize, byte: u8) -> Option<StateFault> {
+    let bytes = changed(alloc, FULL, place, byte).ok()?;
+    refused(alloc, &config(alloc, LISTS)?, &bytes)
+}
+
+#[test]
+fn faults_of_every_part(rt: HostRuntime) {
+    for (place, byte, kind, at) in CHANGES {
+        let fault = StateFault {
+            kind: *kind,
+            at: *at,
+        };
+        let answer = fault_of_change(rt.alloc(), *place, *byte);
+        assert!(rt; answer == Some(fault), "byte {place}");
+    }
+}
+
+/// Whether a front of the bytes is short.
+fn is_short(alloc: Global, config: &Config, bytes: &[u8], length: usize) -> bool {
+    let (front, _) = bytes.split_at(length.min(bytes.len()));
+    match refused(alloc, config, front) {
+        Some(fault) => fault.kind == StateFaultKind::Short,
+        None => false,
+    }
+}
+
+/// Whether each front of the bytes is short.
+fn all_are_short(alloc: Global, text: &[u8], bytes: &[u8]) -> Option<bool> {
+    let config = config(alloc, text)?;
+    for length in 0..bytes.len() {
+        if !is_short(alloc, &config, bytes, length) {
+            return Some(false);
+        }
+    }
+    Some(true)
+}
+
+#[test]
+fn a_front_is_short(rt: HostRuntime) {
+    assert!(rt; all_are_short(rt.alloc(), EXAMPLE, BOOTED) == Some(true));
+    assert!(rt; all_are_short(rt.alloc(), LISTS, FULL) == Some(true));
+}
+
+/// Whether the bytes are refused, or spell a state whose bytes they are.
+fn is_refused_or_spelled(alloc: Global, config: &Config, bytes: &[u8]) -> Result<bool, NoMemory> {
+    match State::decode(alloc, config, bytes) {
+        Ok(state) => Ok(state.encode()?.as_slice() == bytes),
+        Err(_) => Ok(true),
+    }
+}
+
+/// Whether the bytes with another one at a place are refused or spelled, for each place.
+fn all_are_refused_or_spelled(alloc: Global, text: &[u8], bytes: &[u8], byte: u8) -> Option<bool> {
+    let config = config(alloc, text)?;
+    for at in 0..bytes.len() {
+        let bytes = changed(alloc, bytes, at, byte).ok()?;
+        if !is_refused_or_spelled(alloc, &config, &bytes).ok()? {
+            return Some(false);
+        }
+    }
+    Some(true)
+}
+
+#[test]
+fn one_byte_changed(rt: HostRuntime) {
+    for byte in 0..=255 {
+        let answer = all_are_refused_or_spelled(rt.alloc(), EXAMPLE, BOOTED, byte);
+        assert!(rt; answer == Some(true), "{byte}");
+    }
+}
+
+#[test]
+fn one_byte_changed_in_every_part(rt: HostRuntime) {
+    for byte in &[0, 1, 2, 3, 4, 64, 255] {
+        let answer = all_are_refused_or_spelled(rt.alloc(), LISTS, FULL, *byte);
+        assert!(rt; answer == Some(true), "{byte}");
+    }
+}
+
+/// The second node booted, and its counters go to the greatest that is issued.
+const MOST: &[u8] = b"\x00\x01\x01\x00\x00\x00\x01\x40\x00\x00\x00\x00\x00\x00\x00\x00\x00\x00\x00\
+    \x00\x01\x01\x00\x00\x00\x01\x40\x00\x00\x00\x00\x00\x00\x00\x00\x00\x00\x00\
+    \x00\x00\x00\x00\x00\x00\x00\x00\
+    \x01\x01\x00\x00\x00\x01\x00\
+    \x00\x00";
+
+/// Whether as many counters as there can be are heard.
+fn are_used_up(state: &State) -> bool {
+    state.heard().len() == 1 << 62 && state.heard().next(origin(1, 1)).is_none()
+}
+
+/// Whether that is so of the bytes, whose state is its own join.
+fn is_read(alloc: Global) -> Option<bool> {
+    let state = State::decode(alloc, &config(alloc, EXAMPLE)?, MOST).ok()?;
+    let joined = state.join(&state).ok()?;
+    Some(are_used_up(&state) && joined.equal(&state))
+}
+
+#[test]
+fn as_many_counters_as_there_can_be(rt: HostRuntime) {
+    assert!(rt; is_read(rt.alloc()) == Some(true));
+    assert!(rt; is_spelled(rt.alloc(), EXAMPLE, MOST) == Some(true));
+}

@@ -1,0 +1,134 @@
+//! States of a few operations.
+use crate::sample::dot;
+use dac_base::{AppId, NoMemory, NodeId};
+use dac_dots::Dot;
+use dac_lattice::{Bottom, Flag, Lattice};
+use dac_state::{Act, DotList, How, Key, Op, State};
+use std::alloc::Global;
+
+/// Application 0 at node 1, incarnation 1.
+const KEY: Key = Key {
+    app: AppId(0),
+    node: NodeId(1),
+    inc: 1,
+};
+
+/// What node 0 does.
+#[derive(Clone, Copy)]
+enum Kind {
+    Up,
+    Down,
+    Permit(bool),
+    Start,
+    /// Of the start by its second operation.
+    Stop,
+    Claim,
+}
+
+/// The dots that node 0 replaces so.
+fn over(alloc: Global, kind: Kind) -> Result<DotList, NoMemory> {
+    let mut dots = Vec::new(alloc);
+    if matches!(kind, Kind::Stop) {
+        dots.push(dot(0, 1, 2))?;
+    }
+    Ok(DotList::new(dots))
+}
+
+/// The act of a kind that replaces these dots.
+fn act(kind: Kind, over: DotList) -> Act {
+    let key = KEY;
+    match kind {
+        Kind::Up => Act::Up,
+        Kind::Down => Act::Down {
+            node: NodeId(1),
+            inc: 1,
+        },
+        Kind::Permit(value) => Act::Permit { key, value, over },
+        Kind::Start => Act::Start { key, over },
+        Kind::Stop => Act::Stop { key, over },
+        Kind::Claim => Act::Claim {
+            app: AppId(0),
+            term: 1,
+            how: How::Normal,
+            from: None,
+        },
+    }
+}
+
+/// What an act of node 0 means alone.
+fn delta(alloc: Global, n: u64, kind: Kind) -> Option<State> {
+    let over = over(alloc, kind).ok()?;
+    let op = Op::new(dot(0, 1, n), act(kind, over)).ok()?;
+    State::delta_of(alloc, &op).ok()
+}
+
+/// What acts of node 0 mean together.
+fn meaning(alloc: Global, acts: &[(u64, Kind)]) -> Option<State> {
+    let mut state = State::bottom(alloc);
+    for (n, kind) in acts {
+        state = state.join(&delta(alloc, *n, *kind)?).ok()?;
+    }
+    Some(state)
+}
+
+/// Whether these dots are heard and known.
+fn has_dots(state: &State, heard: &[Dot], known: &[Dot]) -> Result<bool, NoMemory> {
+    Ok(state.heard().dots()?.as_slice() == heard && state.known().dots()?.as_slice() == known)
+}
+
+/// Whether of an act by this counter its dot is heard, and these dots are known.
+fn knows(alloc: Global, n: u64, kind: Kind, known: &[Dot]) -> Option<bool> {
+    has_dots(&delta(alloc, n, kind)?, &[dot(0, 1, n)], known).ok()
+}
+
+#[test]
+fn what_is_named_is_known(rt: HostRuntime) {
+    let up = knows(rt.alloc(), 1, Kind::Up, &[dot(0, 1, 1)]);
+    assert!(rt; up == Some(true));
+    let stop = knows(rt.alloc(), 4, Kind::Stop, &[dot(0, 1, 2), dot(0, 1, 4)]);
+    assert!(rt; stop == Some(true));
+}
+
+/// Two starts and two permits of one key, a claim, a down, and a stop of the first start.
+const ACTS: &[(u64, Kind)] = &[
+    (2, Kind::Start),
+    (3, Kind::Start),
+    (5, Kind::Permit(true)),
+    (6, Kind::Permit(false)),
+    (7, Kind::Claim),
+    (8, Kind::Down),
+    (4, Kind::Stop),
+];
+
+/// The starts alone.
+const STARTS: &[(u64, Kind)] = &[(2, Kind::Start), (3, Kind::Start)];
+
+/// Whether two permits and the second start stand.
+fn has_writes(state: &State) -> bool {
+    state.wishes().dots(KEY) == [dot(0, 1, 3)].as_slice()
+        && state.permissions().dots(KEY).len() == 2
+}
+
+/// Whether node 1 is down, and the application claimed.
+fn has_chains(state: &State) -> bool {
+    state.lives().life(NodeId(1)) == Some((1, Flag::Down))
+        && state.claims().greatest(AppId(0)).is_some()
+}
+
+/// Whether the second value has all that the first has, and a copy of it their join, through the bound.
+fn is_joined_above<L: Lattice>(low: &L, high: &L) -> Result<bool, NoMemory> {
+    low.known();
+    Ok(low.leq(high) && !high.leq(low) && low.join(high)?.equal(&high.copy()?))
+}
+
+/// Whether the acts mean what they say, above what the starts mean.
+fn is_meaning(alloc: Global) -> Option<bool> {
+    let state = meaning(alloc, ACTS)?;
+    let is_above = is_joined_above(&meaning(alloc, STARTS)?, &state).ok()?;
+    Some(is_above && has_writes(&state) && has_chains(&state))
+}
+
+#[test]
+fn parts_of_a_state(rt: HostRuntime) {
+    assert!(rt; is_meaning(rt.alloc()) == Some(true));
+}
