@@ -55,7 +55,7 @@ pub record IsState (s : StateValue) : Type 0 where
   pub permits : ArePermissions (permissions_of s)
   pub starts : AreWishes (wishes_of s)
 
--- x is below y: y has heard all that x has, what stands in x and is known to it is so ordered in y, and no life and no claim is greater in x. Written without join.
+-- x is below y: y has heard all that x has, what stands in y and is known to x stands in x with a value that isn't above, and no life and no claim is greater in x. Written without join.
 pub record IsBelow (x y : StateValue) : Type 0 where
   pub heard : IsSubset x.heard y.heard
   pub permits : IsPermissionsBelow (permissions_of x) (permissions_of y)
