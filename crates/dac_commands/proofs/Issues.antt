@@ -26,14 +26,11 @@ use Rattle.dac_commands.specs.declared.refusal.Refusal.TheVariants.{DeclaredDown
 use Rattle.dac_commands.specs.Commands.{KnowsItself, standing_starts, standing_permits, greatest_counter, next_operation, live_or_none, key_at, act_of}
 use Rattle.dac_commands.specs.Causes.{first, causes_of, causes_to_name, causes_to_issue, refusal_of_command, declared_down, no_node, not_live, too_many, used_up, not_wished}
 use Rattle.std.proofs.lemmas.Bool.{false_from_ne_true}
+use Rattle.dac_commands.specs.laws.Written.{first-none}
 use Rattle.dac_commands.specs.laws.Counters.{counter-greatest, next_none, next-is}
-use Rattle.dac_commands.proofs.Permits.{permits_at-rising, permits_at-has}
+use Rattle.dac_commands.specs.laws.Standing.{permits_at-rising, permits_at-has}
 
 -- ---- causes that don't hold
-pub first-none : (b : Bool) (why : Refusal) (cs : List (Bool × Refusal)) → first ((b, why) ∷ cs) ≡ None → (b ≡ false) × (first cs ≡ None)
-first-none true why cs e = cc
-first-none false why cs e = (refl, e)
-
 pub first-rest : (xs ys : List (Bool × Refusal)) → first (xs ++ ys) ≡ None → first ys ≡ None
 first-rest [] ys e = e
 first-rest (x ∷ xs) ys e = first-rest xs ys (first-none x.0 x.1 (xs ++ ys) e).1

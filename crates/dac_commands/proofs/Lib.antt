@@ -1,2 +1,1 @@
-pub mod Permits
 pub mod Issues

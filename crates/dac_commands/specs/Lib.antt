@@ -1,4 +1,5 @@
 pub mod Refusals
 pub mod Commands
 pub mod Causes
+pub mod Written
 pub mod laws

@@ -1,1 +1,3 @@
 pub mod Counters
+pub mod Standing
+pub mod Written

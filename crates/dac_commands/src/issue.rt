@@ -5,6 +5,7 @@ ghost use Rattle.dac_config.specs.Table.{Table};
 ghost use Rattle.dac_operations.specs.Operations.{operation, fault_of};
 ghost use Rattle.dac_commands.specs.Commands.{KnowsItself, next_operation, standing_starts as starts_standing, standing_permits as permits_standing, act_of as said_by};
 ghost use Rattle.dac_commands.specs.Causes.{refusal_of_command, used_up};
+ghost use Rattle.dac_commands.specs.Written.{IsWritten};
 
 use crate::keys::{key_of, live_of};
 use dac_base::NoMemory;
@@ -24,7 +25,9 @@ pub fn operation_of(
 ) -> Result<Op, NoMemory>
     requires knows { KnowsItself own state.now }
     requires accepted { (t : Table) × (refusal_of_command t own state.now command ≡ None) }
-    ensures { IfOk result (λ operation. operation ≡ next_operation state.now own (said_by state.now command)) }
+    ensures next { IfOk result (λ operation. operation ≡ next_operation state.now own (said_by state.now command)) }
+    // It has the next dot, and says the command: its key is at the live incarnation, and it replaces what stands there.
+    ensures written { IfOk result (IsWritten own state.now command) }
 {
     // What stands in a state is known there, so it doesn't have the next dot.
     Lattice::known(state);

@@ -39,12 +39,14 @@ impl Model for World {
 }
 
 impl World {
-    ghost use Rattle.std.specs.Prelude.{◌≡◌, ◌<◌, IfOk, IfErr, OnErr, Some, Ok, length, slice_get};
+    ghost use Rattle.std.specs.Prelude.{◌≡◌, ◌<◌, IfOk, IfErr, OnErr, Some, Ok, Err, length, slice_get};
     ghost use Rattle.dac_config.specs.Table.{node_count};
-    ghost use Rattle.dac_worlds.specs.ModelWorld.{Shows, start, Follows, RanAs, happens, happens_by, heard_by, handed_by, counted, out_of_memory};
+    ghost use Rattle.dac_worlds.specs.ModelWorld.{Shows, start, Follows, RanAs, happens, event_of, heard_by, handed_by, counted, out_of_memory};
     ghost use Rattle.dac_worlds.specs.SetWorld.{set_run, no_sets};
     ghost use Rattle.dac_worlds.specs.Convergence.{EachIsMeaning, Agrees, DistinctDots, HoldsSets, CarryMeanings};
     ghost use Rattle.dac_worlds.specs.News.{AnswersNews};
+    ghost use Rattle.dac_worlds.specs.Fits.{HearsAllThatFits};
+    ghost use Rattle.dac_worlds.specs.AtNode.{HearsIn, HappensAt};
     ghost use Rattle.dac_worlds.specs.WorldChanges.{Goes};
 
     /// All controllers of the configuration, off and never booted.
@@ -86,6 +88,8 @@ impl World {
         ensures bodies { IfOk result (λ both. CarryMeanings both.0) }
         // Each answer to what was heard tells whether it brought a dot that the controller hadn't heard.
         ensures news { IfOk result (λ both. AnswersNews no_sets events.now both.1.items) }
+        // What comes to a running controller is heard, unless memory is wanting: a message shipped to it, an issued operation.
+        ensures heard { IfOk result (λ both. HearsAllThatFits no_sets events.now both.1.items) }
     {
         let mut world = World::new(alloc, config)?;
         let mut answers = Vec::with_capacity(alloc, events.len())?;
@@ -101,21 +105,15 @@ impl World {
     /// One event of the world. After a fault all is as before.
     pub fn step(&mut self, config: &Config, event: &WorldEvent) -> Result<Reply, WorldFault>
         ensures follows { Follows self.old (λ w. happens config.now w event.now) result self.new }
+        // What the node has heard grows by the dots that its event brings, and by no more; no other node changes.
+        ensures heard { IfOk result (λ reply. HearsIn self.old event.now reply self.new) }
         ensures unchanged { OnErr result (self.new ≡ self.old) }
         ensures count { length self.new.nodes ≡ length self.old.nodes }
     {
-        let node = event.node;
-        if node.0 as usize >= self.nodes.len() {
+        if event.node.0 as usize >= self.nodes.len() {
             return Err(WorldFault::NoSuchNode);
         }
-        match event.what {
-            What::Boot { now } => self.happen(config, node, &Event::Boot { now }),
-            What::Crash => self.happen(config, node, &Event::Crash),
-            What::Command(command) => self.happen(config, node, &Event::Command(command)),
-            What::Ship { to } => self.happen(config, node, &Event::Ship { to }),
-            What::Deliver(number) => self.deliver(config, node, number),
-            What::Hand(number) => self.hand(config, node, number),
-        }
+        self.happen_at(config, event.node, event.what)
     }
 
     /// The controller of a node.
@@ -140,10 +138,27 @@ impl World {
         self.messages.as_slice()
     }
 
+    /// What happens at a node.
+    fn happen_at(&mut self, config: &Config, node: NodeId, what: What) -> Result<Reply, WorldFault>
+        requires { node.0 < length self.old.nodes }
+        ensures happens { HappensAt config.now self.old node (event_of self.old.operations self.old.messages what) result self.new }
+        ensures unchanged { OnErr result (self.new ≡ self.old) }
+        ensures count { length self.new.nodes ≡ length self.old.nodes }
+    {
+        match what {
+            What::Boot { now } => self.happen(config, node, &Event::Boot { now }),
+            What::Crash => self.happen(config, node, &Event::Crash),
+            What::Command(command) => self.happen(config, node, &Event::Command(command)),
+            What::Ship { to } => self.happen(config, node, &Event::Ship { to }),
+            What::Deliver(number) => self.deliver(config, node, number),
+            What::Hand(number) => self.hand(config, node, number),
+        }
+    }
+
     /// An event at a node.
     fn happen(&mut self, config: &Config, node: NodeId, event: &Event) -> Result<Reply, WorldFault>
         requires { node.0 < length self.old.nodes }
-        ensures follows { Follows self.old (λ w. happens_by config.now w node (Ok event.now)) result self.new }
+        ensures happens { HappensAt config.now self.old node (Ok event.now) result self.new }
         ensures unchanged { OnErr result (self.new ≡ self.old) }
         ensures count { length self.new.nodes ≡ length self.old.nodes }
     {
@@ -156,7 +171,7 @@ impl World {
     /// The message of this number comes to a node.
     fn deliver(&mut self, config: &Config, node: NodeId, number: u64) -> Result<Reply, WorldFault>
         requires { node.0 < length self.old.nodes }
-        ensures follows { Follows self.old (λ w. happens_by config.now w node (heard_by (counted self.old.messages number))) result self.new }
+        ensures happens { HappensAt config.now self.old node (heard_by (counted self.old.messages number)) result self.new }
         ensures unchanged { OnErr result (self.new ≡ self.old) }
         ensures count { length self.new.nodes ≡ length self.old.nodes }
     {
@@ -173,7 +188,7 @@ impl World {
     /// The operation of this number comes to a node by itself.
     fn hand(&mut self, config: &Config, node: NodeId, number: u64) -> Result<Reply, WorldFault>
         requires { node.0 < length self.old.nodes }
-        ensures follows { Follows self.old (λ w. happens_by config.now w node (handed_by (counted self.old.operations number))) result self.new }
+        ensures happens { HappensAt config.now self.old node (handed_by (counted self.old.operations number)) result self.new }
         ensures unchanged { OnErr result (self.new ≡ self.old) }
         ensures count { length self.new.nodes ≡ length self.old.nodes }
     {

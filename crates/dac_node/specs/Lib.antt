@@ -6,4 +6,5 @@ pub mod Changes
 pub mod After
 pub mod Hearing
 pub mod Refused
+pub mod Writing
 pub mod laws

@@ -7,7 +7,6 @@ use Rattle.dac_dots.specs.declared.dot.Dot.{Dot}
 use Rattle.dac_dots.specs.Dots.{IsUsedUp}
 use Rattle.dac_config.specs.Table.{Table, node_count, app_count, group_of}
 use Rattle.dac_chains.specs.Lives.{IsLive}
-use Rattle.dac_wishes.specs.declared.key.Key.{Key}
 use Rattle.dac_wishes.specs.WishesValue.{SomeStands}
 use Rattle.dac_meaning.specs.StateValue.{StateValue, wishes_of}
 use Rattle.dac_events.specs.declared.Command.{Command}
@@ -138,3 +137,7 @@ AnswersTheLeast = (t : Table) (v : NodeValue) (e : Event) (why : Refusal) → re
 
 abbrev pub RefusesNoOther : Type 0
 RefusesNoOther = (t : Table) (v : NodeValue) (e : Event) → refusal_of t v e ≡ None → IsFree t v e
+
+-- want of memory is no cause of the table
+abbrev pub NeverWantsMemory : Type 0
+NeverWantsMemory = (t : Table) (v : NodeValue) (e : Event) → ¬ (refusal_of t v e ≡ Some NoMemory)

@@ -83,3 +83,7 @@ model_step t me d e = step_by (refusal_of t (shown d) e) me d e
 -- From old, the program's node answers and goes on to new as each of the definition's nodes that shows old.
 pub record Steps (t : Table) (me : NodeId) (old : NodeValue) (e : Event) (new : NodeValue) (answer : Result Reply Refusal) : Type 0 where
   pub by : (d : ModelNode) → shown d ≡ old → (shown (model_step t me d e).node ≡ new) × ((model_step t me d e).answer ≡ answer)
+
+-- some node of the definition shows the value
+abbrev pub IsShown : NodeValue → Type 0
+IsShown v = (d : ModelNode) × (shown d ≡ v)

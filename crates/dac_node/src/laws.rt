@@ -1,9 +1,10 @@
 //! The laws of refusals, each as a clause of a function that does nothing.
-ghost use Rattle.dac_node.specs.Refused.{AnswersTheLeast, RefusesNoOther};
+ghost use Rattle.dac_node.specs.Refused.{AnswersTheLeast, RefusesNoOther, NeverWantsMemory};
 
 /// The table of causes answers, of the causes that the event can have and that hold in words, the one with the
-/// least number; and it lets an event through only where none of them holds.
+/// least number; it lets an event through only where none of them holds; and it never answers want of memory.
 pub fn refusals_in_words()
     ensures least { AnswersTheLeast }
     ensures free { RefusesNoOther }
+    ensures memory { NeverWantsMemory }
 {}

@@ -10,6 +10,7 @@ use dac_base::{NoMemory, NodeId};
 use dac_commands::Refusal;
 use dac_config::Config;
 use dac_dots::Origin;
+use dac_lattice::Lattice;
 use dac_messages::{Event, Message, Reply};
 use dac_state::{Op, State};
 use std::alloc::Global;
@@ -40,7 +41,8 @@ impl Node {
     ghost use Rattle.std.specs.Option.{option_copied};
     ghost use Rattle.dac_node.specs.NodeValue.{off, origin_of, state_of};
     ghost use Rattle.dac_node.specs.EventRefusals.{refusal_of};
-    ghost use Rattle.dac_node.specs.Step.{Steps};
+    ghost use Rattle.dac_node.specs.Step.{Steps, IsShown};
+    ghost use Rattle.dac_node.specs.Writing.{Writes};
     ghost use Rattle.dac_node.specs.Changes.{changed, Prepared};
     ghost use Rattle.dac_node.specs.Hearing.{HearsExactly};
     ghost use Rattle.dac_node.specs.Refused.{IsAnsweredBy, IsFree};
@@ -76,6 +78,15 @@ impl Node {
         }
     }
 
+    /// Some node of the definition shows this one, so what a step promises of each such node says something.
+    pub fn known(&self)
+        ensures { IsShown self.now }
+    {
+        if let Some(run) = &self.run {
+            Lattice::known(run.state());
+        }
+    }
+
     /// An equal controller.
     pub fn copy(&self) -> Result<Self, NoMemory>
         ensures { IfOk result (λ copied. copied ≡ self.now) }
@@ -104,6 +115,11 @@ impl Node {
         ensures crash { IfErr result (λ why. event ≡ Event.Crash → why ≡ Refusal.Off) }
         ensures unchanged { OnErr result (self.new ≡ self.old) }
         ensures ok { IfOk result (λ reply. Steps config.now self_id self.old event self.new (Ok reply)) }
+        // A refusal, other than want of memory, is a step too, which changes nothing.
+        ensures refused { IfErr result (λ why. (why ≡ Refusal.NoMemory → ⊥) → Steps config.now self_id self.old event self.new (Err why)) }
+        // A command is answered by the operation that says it: under the next dot, at the key of the live incarnation, in
+        // the place of exactly what stands there.
+        ensures writes { IfOk result (λ reply. Writes self_id self.old event reply) }
         // What it has heard grows by the dots that the event brings, and by no more.
         ensures heard { IfOk result (λ reply. HearsExactly self.old event reply self.new) }
     {

@@ -1,13 +1,17 @@
 -- The world of a script is that of a run.
-use Rattle.std.proofs.Common.{◌≡◌, Bool, true, false, List, [], ◌∷◌, ◌++◌, take, refl, ap, subst, ◌∙◌, inl}
+use Rattle.std.proofs.Common.{◌≡◌, Bool, true, false, List, [], ◌∷◌, ◌++◌, Result, take, refl, ap, subst, ◌∙◌, inl}
 use Rattle.std.specs.Prelude.{fold, is_some}
 use Rattle.std.specs.Result.{is_ok}
+use Rattle.std.specs.List.{AllByRecursion}
 use Rattle.dac_base.specs.declared.NodeId.{NodeId}
 use Rattle.dac_config.specs.Table.{Table}
 use Rattle.dac_events.specs.declared.WorldEvent.{WorldEvent}
+use Rattle.dac_messages.specs.declared.reply.Reply.{Reply}
 use Rattle.dac_worlds.specs.WorldValue.{WorldValue}
-use Rattle.dac_worlds.specs.ModelWorld.{ModelWorld, WorldStepped, Shows, Run, RanAs, start, happens}
+use Rattle.dac_worlds.specs.ModelWorld.{ModelWorld, WorldStepped, Shows, Run, RanAs, start, happens, out_of_memory}
+use Rattle.dac_worlds.specs.declared.fault.WorldFault.{WorldFault}
 use Rattle.dac_worlds.specs.laws.Headline.{headline}
+use Rattle.dac_worlds.specs.laws.Memory.{enough_memory}
 use Rattle.dac_script.specs.declared.line.ScriptLine.{ScriptLine}
 use Rattle.dac_script.specs.declared.line.ScriptLine.TheVariants as says
 use Rattle.dac_play.specs.Sharing.{state_in, shipping, delivered, told}
@@ -27,6 +31,11 @@ runs_by t w (e ∷ es) = ((happens t w e).world, (inl (record { answered = refl;
 world_by-append : (t : Table) (w : ModelWorld) (es fs : List WorldEvent) → world_by t w (es ++ fs) ≡ world_by t (world_by t w es) fs
 world_by-append t w [] fs = refl
 world_by-append t w (e ∷ es) fs = world_by-append t (happens t w e).world es fs
+
+-- no event is answered by want of memory
+enough_by : (t : Table) (w : ModelWorld) (es : List WorldEvent) → AllByRecursion (λ (answer : Result Reply WorldFault). answer ≡ out_of_memory → ⊥) (answers_to t w es)
+enough_by t w [] = tt
+enough_by t w (e ∷ es) = (enough_memory t w e, enough_by t (happens t w e).world es)
 
 -- ---- a share
 delivers : (t : Table) (to : NodeId) (shipped : WorldStepped) (b : Bool) → is_ok shipped.answer ≡ b → world_by t shipped.world (deliveries to shipped) ≡ delivered t to shipped
@@ -67,7 +76,7 @@ is_run : (t : Table) (lines : List ScriptLine) (v : WorldValue) → Shows (world
 is_run t lines v shows =
     let ran = script_ran t lines v shows in
     let leaves = headline t (events_in t lines) (answers_in t lines) v ran in
-    record { ran = ran; meanings = leaves.meanings; agree = leaves.agree; sets = leaves.sets }
+    record { ran = ran; meanings = leaves.meanings; agree = leaves.agree; sets = leaves.sets; enough = enough_by t (start t) (events_in t lines); heard = leaves.heard }
 
 pub plays_runs : (t : Table) (script : List ScriptLine) → PlaysRuns t script
 plays_runs t script = record {

@@ -1,15 +1,17 @@
 -- A script in the words of runs: the events that its lines are.
-use Rattle.std.specs.Prelude.{ℕ, take, List, [], ◌∷◌, ◌++◌, Result, length, if◌then◌else◌}
+use Rattle.std.specs.Prelude.{◌≡◌, ℕ, take, List, [], ◌∷◌, ◌++◌, Result, length, if◌then◌else◌}
 use Rattle.std.specs.Result.{is_ok}
+use Rattle.std.specs.List.{AllByRecursion}
 use Rattle.dac_base.specs.declared.NodeId.{NodeId}
 use Rattle.dac_config.specs.Table.{Table}
 use Rattle.dac_events.specs.declared.WorldEvent.{WorldEvent}
 use Rattle.dac_messages.specs.declared.reply.Reply.{Reply}
 use Rattle.dac_worlds.specs.declared.fault.WorldFault.{WorldFault}
 use Rattle.dac_worlds.specs.WorldValue.{WorldValue}
-use Rattle.dac_worlds.specs.ModelWorld.{ModelWorld, WorldStepped, Shows, RanAs, start, happens}
+use Rattle.dac_worlds.specs.ModelWorld.{ModelWorld, WorldStepped, Shows, RanAs, start, happens, out_of_memory}
 use Rattle.dac_worlds.specs.SetWorld.{set_run, no_sets}
 use Rattle.dac_worlds.specs.Convergence.{EachIsMeaning, Agrees, HoldsSets}
+use Rattle.dac_worlds.specs.Fits.{HearsAllThatFits}
 use Rattle.dac_script.specs.declared.line.ScriptLine.{ScriptLine}
 use Rattle.dac_script.specs.declared.line.ScriptLine.TheVariants as says
 use Rattle.dac_play.specs.Pairs.{pairs, TellsEachOther}
@@ -61,12 +63,14 @@ abbrev pub answers_in : Table → List ScriptLine → List (Result Reply WorldFa
 answers_in t lines = answers_to t (start t) (events_in t lines)
 
 -- The program's world after these lines is where a run from the start comes to by their events, and what every run
--- leaves holds of it.
+-- leaves holds of it. No event is answered by want of memory, so what comes to a running node is heard.
 pub record IsRunOf (t : Table) (lines : List ScriptLine) (v : WorldValue) : Type 0 where
   pub ran : RanAs t (events_in t lines) (answers_in t lines) v
   pub meanings : EachIsMeaning v
   pub agree : Agrees v
   pub sets : HoldsSets v (set_run no_sets (events_in t lines) (answers_in t lines))
+  pub enough : AllByRecursion (λ (answer : Result Reply WorldFault). ¬ (answer ≡ out_of_memory)) (answers_in t lines)
+  pub heard : HearsAllThatFits no_sets (events_in t lines) (answers_in t lines)
 
 -- After each number of lines of a script its world is that of a run from the start, by the events that these lines
 -- are; a share is told from each node that runs to each other one.

@@ -1,7 +1,9 @@
 pub mod WorldValue
 pub mod ModelWorld
 pub mod WorldChanges
+pub mod AtNode
 pub mod SetWorld
 pub mod News
+pub mod Fits
 pub mod Convergence
 pub mod laws

@@ -2,6 +2,8 @@ pub mod Operations
 pub mod Meanings
 pub mod Sound
 pub mod NewsOfRuns
+pub mod HeardInRuns
+pub mod Memory
 pub mod Headline
 pub mod Runs
 pub mod Follow

@@ -117,3 +117,27 @@ used_up_is dots o = (
     by_greatest : 2 ^ 62 ≤ greatest_counter o dots → (greatest_counter o dots ≡ 0) ⊎ (list_any (same_dot (dot o (greatest_counter o dots))) (set.items dots) ≡ true) → IsUsedUp dots o
     by_greatest high (inl none) = absurd (below_none (2 ^ 62) (greatest_counter o dots) high none (ltb-true 0 (2 ^ 62) refl))
     by_greatest high (inr there) = record { n = greatest_counter o dots; there = set.contains-items dots (dot o (greatest_counter o dots)) ∙ there; high = high }
+
+-- where a counter is left, the one after the greatest is the next
+pub next_of_is : (dots : Dots) (o : Origin) → nat_le (2 ^ 62) (greatest_counter o dots) ≡ false → IsNext dots o (dot o (greatest_counter o dots + 1))
+next_of_is dots o left = record {
+  same_origin = refl;
+  above = λ n h. up n (greatest_counter o dots) (counter-greatest dots (dot o n) h);
+  tight = elim (greatest-there o (set.items dots)) [
+    | inl none ↦ inl (one (greatest_counter o dots) none)
+    | inr there ↦ inr (subst (λ n. set.contains dots (dot o n) ≡ true) (before (greatest_counter o dots)) (set.contains-items dots (dot o (greatest_counter o dots)) ∙ there))
+  ];
+  at_most = most (2 ^ 62) (greatest_counter o dots) (λ h. true≢false (sym (le-leb (2 ^ 62) (greatest_counter o dots) h) ∙ left));
+}
+  where
+    up : (n g : ℕ) → n ≤ g → n < g + 1
+    up n g h = omega arith
+
+    one : (g : ℕ) → g ≡ 0 → g + 1 ≡ 1
+    one g h = omega arith
+
+    before : (g : ℕ) → g ≡ g + 1 - 1
+    before g = omega arith
+
+    most : (m g : ℕ) → (m ≤ g → ⊥) → g + 1 ≤ m
+    most m g h = omega arith

@@ -1,16 +1,14 @@
 -- The table of causes answers the least cause that holds: each test is its cause in words, and the causes stand in the order of their numbers.
-use Rattle.std.specs.Prelude.{◌≡◌, ◌↔◌, ◌⊎◌, ℕ, ◌-◌, ◌^◌, ◌<◌, ◌≤◌, Bool, true, false, not, ◌&&◌, cond, nat_eq, nat_le, nat_lt, List, [], ◌∷◌, length, Option, None, Some, is_some, unwrap_or, refl}
+use Rattle.std.specs.Prelude.{◌≡◌, ◌↔◌, ℕ, ◌-◌, ◌^◌, ◌<◌, ◌≤◌, Bool, true, false, not, ◌&&◌, cond, nat_eq, nat_le, nat_lt, List, [], ◌∷◌, length, Option, None, Some, is_some, unwrap_or, refl}
 use Rattle.std.proofs.Common.{sym, ap, subst, ◌∙◌, inl, inr, arith}
 use Rattle.std.proofs.lemmas.Bool.{true≢false, false≢true, and_parts, le-leb, leb-true, lt-ltb, ltb-true, eqb-true, eq-eqb}
 use Rattle.dac_base.specs.declared.NodeId.{NodeId}
-use Rattle.dac_base.specs.declared.AppId.{AppId}
 use Rattle.dac_dots.specs.declared.dot.Origin.{Origin}
 use Rattle.dac_dots.specs.Dots.{IsUsedUp}
 use Rattle.dac_config.specs.Table.{Table, node_count, app_count, group_of}
 use Rattle.dac_chains.specs.Lives.{IsLive, live_at}
 use Rattle.dac_chains.specs.laws.Live.{live_is}
-use Rattle.dac_wishes.specs.declared.key.Key.{Key}
-use Rattle.dac_wishes.specs.WishesValue.{is_wished, SomeStands}
+use Rattle.dac_wishes.specs.WishesValue.{is_wished}
 use Rattle.dac_wishes.specs.laws.Wished.{is_wished-some}
 use Rattle.dac_meaning.specs.StateValue.{StateValue, wishes_of}
 use Rattle.dac_events.specs.declared.Command.{Command}
@@ -25,7 +23,7 @@ use Rattle.dac_commands.specs.Commands.{live, key_at, standing_starts, standing_
 use Rattle.dac_commands.specs.laws.Counters.{used_up_is}
 use Rattle.dac_node.specs.NodeValue.{NodeValue, RunValue}
 use Rattle.dac_node.specs.EventRefusals.{refusal_by, refusal_of}
-use Rattle.dac_node.specs.Refused.{causes_of_event, Holds, IsOneOf, NoneHolds, IsLeastOf, IsFree, IsRefused, IsAnsweredBy}
+use Rattle.dac_node.specs.Refused.{causes_of_event, Holds, IsOneOf, NoneHolds, IsLeastOf, IsFree, IsRefused, IsAnsweredBy, NeverWantsMemory}
 
 -- ---- the first test that holds is that of the least cause
 
@@ -213,3 +211,7 @@ answered_by t v e why (Some least) some is = inl (subst (IsRefused t v e) (sym i
 -- what is answered where the table is asked first, and memory last
 pub answered_is : (t : Table) (v : NodeValue) (e : Event) (why : Refusal) → why ≡ unwrap_or (refusal_of t v e) NoMemory → IsAnsweredBy t v e why
 answered_is t v e why is = answered_by t v e why (refusal_of t v e) refl is
+
+-- the table never answers want of memory
+pub never_memory : NeverWantsMemory
+never_memory t v e is = (refused_is t v e NoMemory is).holds

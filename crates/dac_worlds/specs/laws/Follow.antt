@@ -1,5 +1,5 @@
 -- How the program's world follows the definition's worlds that it shows.
-use Rattle.std.proofs.Common.{◌≡◌, ℕ, ◌<◌, ◌-◌, Bool, true, false, cond, inl, inr, List, ◌++◌, Option, Some, None, Result, Ok, Err, length, nat_eq, refl, sym, ap, subst, ◌∙◌, lt-ltb, get_or, true≢false}
+use Rattle.std.proofs.Common.{◌≡◌, ℕ, ◌<◌, ◌-◌, Bool, true, false, cond, inl, inr, List, ◌++◌, Option, Some, None, Result, Ok, Err, length, nat_eq, refl, sym, ap, subst, ◌∙◌, lt-ltb, eq-eqb, get_or, true≢false}
 use Rattle.std.specs.Prelude.{nat_lt, unwrap_or, IsOk, IfOk, IfErr, OnErr}
 use Rattle.std.specs.Option.{option_map}
 use Rattle.std.specs.List.{slice_get}
@@ -22,10 +22,13 @@ use Rattle.dac_node.specs.NodeValue.{NodeValue, RunValue}
 use Rattle.dac_node.specs.ModelNode.{ModelNode, ModelRun, joined, shown}
 use Rattle.dac_node.specs.EventRefusals.{refusal_of, refusal_by}
 use Rattle.dac_node.specs.Step.{reply_on, model_step, step_by, accepted, Stepped}
+use Rattle.dac_node.specs.Hearing.{HearsExactly}
 use Rattle.dac_node.specs.Changes.{ChangeValue, Prepared, changed, left_by, reply_by}
 use Rattle.dac_worlds.specs.WorldValue.{WorldValue}
 use Rattle.dac_worlds.specs.ModelWorld.{ModelWorld, Shows, WorldStepped, happens, happens_by, answered_by, event_of, counted, numbered, with_node, issued_by, shipped_by, out_of_memory, Step, Follows}
 use Rattle.dac_worlds.specs.WorldChanges.{Goes}
+use Rattle.dac_worlds.specs.AtNode.{HearsAt, HearsIn, HappensAt}
+use Rattle.dac_node.specs.laws.Heard.{hears_exactly}
 use Rattle.dac_node.specs.laws.Steps.{shown_accepted, answer_accepted, step_accepted}
 use Rattle.dac_node.specs.laws.Options.{some_same}
 
@@ -194,3 +197,59 @@ gone_follows t v u me e old change (Err fault) here p goes lacked stays same =
 
     crashes : e ≡ Crash → reply_by me old.last old.run e ≡ Crashed
     crashes c = ap (reply_by me old.last old.run) c ∙ at_run old.last old.run (ap (refusal_by t old.last old.run) (sym c) ∙ p.accepted)
+
+-- ---- what an event at a node does
+-- what the event brings is what the node has heard from then on, beside what it had
+goes_hears : (t : Table) (v u : WorldValue) (me : NodeId) (e : Event) (old : NodeValue) (change : ChangeValue) (reply : Reply) → Here v me old → Prepared t me old e change → Goes v me change reply u → HearsAt v me e reply u
+goes_hears t v u me e old change reply here p goes = record {
+  hears = λ x y was is.
+      let before : old ≡ x = some_same old x (sym here.there ∙ was) in
+      let after : changed old change ≡ y = some_same (changed old change) y (sym (goes.nodes.each me.0 ∙ (changed_at v.nodes me old change here.there (changed old change) refl me.0 ∙ ap (λ b. cond b (Some (changed old change)) (slice_get v.nodes me.0)) (eq-eqb me.0 me.0 refl))) ∙ is) in
+      subst (λ (z : NodeValue × (Reply × NodeValue)). HearsExactly z.0 e z.1.0 z.1.1) (λ i. (before i, ((sym p.reply ∙ sym goes.reply) i, (sym p.left ∙ after) i)))
+      (hears_exactly t me old.last old.run e p.accepted);
+  others = λ n other. goes.nodes.each n ∙ ap (λ b. cond b (option_map (λ (y : NodeValue). changed y change) (slice_get v.nodes n)) (slice_get v.nodes n)) (false_from_ne_true (nat_eq n me.0) (λ e. other (exact_unsigned_eq n me.0 e)));
+}
+
+same_ok : {X Y : Type 0} (x y : X) → ◌≡◌ {A = Result X Y} (Ok x) (Ok y) → x ≡ y
+same_ok {X} {Y} x y e = ap (ok_or x) e
+  where
+    ok_or : X → Result X Y → X
+    ok_or d (Ok z) = z
+    ok_or d (Err w) = d
+
+no_ok : {X Y P : Type 0} (y : Y) (x : X) → ◌≡◌ {A = Result X Y} (Err y) (Ok x) → P
+no_ok y x e = cc
+
+-- what comes of a prepared change
+pub happens_gone : (t : Table) (v u : WorldValue) (me : NodeId) (e : Event) (old : NodeValue) (change : ChangeValue) (answer : Result Reply WorldFault) → Here v me old → Prepared t me old e change →
+    IfOk answer (λ reply. Goes v me change reply u) → IfErr answer (λ fault. Err fault ≡ out_of_memory) → IfErr answer (λ _. change.reply ≡ Crashed → ⊥) → OnErr answer (u ≡ v) → HappensAt t v me (Ok e) answer u
+happens_gone t v u me e old change answer here p goes lacked stays same = record {
+  follows = gone_follows t v u me e old change answer here p goes lacked stays same;
+  hears = λ reply is x at. subst (λ y. HearsAt v me y reply u) (same_ok e x at) (goes_hears t v u me e old change reply here p (subst (λ a. IfOk a (λ r. Goes v me change r u)) is goes));
+}
+
+-- what comes of a refusal by the node
+pub happens_refused : (t : Table) (v : WorldValue) (me : NodeId) (e : Event) (old : NodeValue) (why : Refusal) → Here v me old → why ≡ unwrap_or (refusal_of t old e) NoMemory → (e ≡ Crash → why ≡ Off) → HappensAt t v me (Ok e) (Err (Refused why)) v
+happens_refused t v me e old why here is crash = record {
+  follows = err_follows t v me e old why here is crash;
+  hears = λ reply no. no_ok (Refused why) reply no;
+}
+
+-- what comes of an event of the world that is none of a node
+pub happens_fault : (t : Table) (v : WorldValue) (me : NodeId) (fault : WorldFault) → HappensAt t v me (Err fault) (Err fault) v
+happens_fault t v me fault = record {
+  follows = record { each = λ w h. (w, (inl (record { answered = refl; went_on = refl }), h)) };
+  hears = λ reply no. no_ok fault reply no;
+}
+
+-- ---- from the node to the world
+-- the event of the world says what happens at its node
+pub follows_in : (t : Table) (v u : WorldValue) (e : WorldEvent) (answer : Result Reply WorldFault) → e.node.0 < length v.nodes → HappensAt t v e.node (event_of v.operations v.messages e.what) answer u → Follows v (λ w. happens t w e) answer u
+follows_in t v u e answer lt h = world_follows t v u e e.what answer lt refl h.follows
+
+pub hears_in : (t : Table) (v u : WorldValue) (e : WorldEvent) (answer : Result Reply WorldFault) → HappensAt t v e.node (event_of v.operations v.messages e.what) answer u → IfOk answer (λ reply. HearsIn v e reply u)
+hears_in t v u e answer h = by_answer answer refl
+  where
+    by_answer : (a : Result Reply WorldFault) → answer ≡ a → IfOk a (λ reply. HearsIn v e reply u)
+    by_answer (Ok reply) is = h.hears reply is
+    by_answer (Err fault) is = tt

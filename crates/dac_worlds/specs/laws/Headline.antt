@@ -14,11 +14,13 @@ use Rattle.dac_node.specs.laws.Options.{some_same}
 use Rattle.dac_worlds.specs.ModelWorld.{ModelWorld, Shows, RanAs, start, numbered}
 use Rattle.dac_worlds.specs.SetWorld.{SetWorld, set_run, no_sets}
 use Rattle.dac_worlds.specs.News.{AnswersNews}
+use Rattle.dac_worlds.specs.Fits.{HearsAllThatFits}
 use Rattle.dac_worlds.specs.Convergence.{EachIsMeaning, Agrees, DistinctDots, HoldsSets, CarryMeanings, heard_among}
 use Rattle.dac_worlds.specs.laws.Operations.{DistinctDots-agree}
 use Rattle.dac_worlds.specs.laws.Meanings.{meaning-heard_among}
 use Rattle.dac_worlds.specs.laws.Sound.{Answer, Sound, CopiesOk-get, sound_run, sound_start, state_in}
 use Rattle.dac_worlds.specs.laws.NewsOfRuns.{news_run}
+use Rattle.dac_worlds.specs.laws.HeardInRuns.{heard_run}
 
 -- the node that a place of the program's world shows
 node_there : (w : ModelWorld) (v : WorldValue) → Shows w v → (n : ℕ) (x : NodeValue) → slice_get v.nodes n ≡ Some x → x ≡ shown (w.node (numbered n))
@@ -76,6 +78,7 @@ pub record Headline (events : List WorldEvent) (answers : List Answer) (v : Worl
   pub sets : HoldsSets v (set_run no_sets events answers)
   pub bodies : CarryMeanings v
   pub news : AnswersNews no_sets events answers
+  pub heard : HearsAllThatFits no_sets events answers
 
 pub headline : (t : Table) (events : List WorldEvent) (answers : List Answer) (v : WorldValue) → RanAs t events answers v → Headline events answers v
 headline t events answers v r =
@@ -88,4 +91,5 @@ headline t events answers v r =
       sets = holds_sets r.final v (set_run no_sets events answers) r.shows h;
       bodies = carry_meanings r.final v (set_run no_sets events answers) r.shows h;
       news = news_run t (start t) no_sets events answers r.final (sound_start t) r.run;
+      heard = heard_run t events answers r.final r.run;
     }

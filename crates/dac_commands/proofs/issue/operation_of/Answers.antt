@@ -1,7 +1,9 @@
-use Rattle.std.proofs.Common.{ap, ◌∙◌}
+use Rattle.std.proofs.Common.{ap, sym, subst, ◌∙◌}
 use Rattle.dac_operations.specs.declared.act.Act.{Act}
 use Rattle.dac_operations.specs.Operations.{fault_of}
 use Rattle.dac_commands.specs.Commands.{next_operation}
+use Rattle.dac_commands.specs.Written.{IsWritten}
+use Rattle.dac_commands.specs.laws.Written.{writes_what_is_said}
 use Rattle.dac_commands.proofs.Issues.{issues}
 use Rattle.dac_commands.proofs.issue.operation_of.Goals as goal
 
@@ -15,3 +17,9 @@ issue-requires-clause-sound c =
     let s = c.args.state.now in
     ap (λ (a : Act). fault_of (next_operation s c.args.own a).dot a) c.in_ok-act.ensures
     ∙ (issues c.requires.accepted.0 c.args.own s c.args.command c.known.ensures c.requires.knows c.requires.accepted.1).sound
+
+pub returns-clause-written : goal.returns-clause-written
+returns-clause-written c =
+    let s = c.args.state.now in
+    let is = c.issue.ensures ∙ ap (next_operation s c.args.own) c.in_ok-act.ensures in
+    subst (IsWritten c.args.own s c.args.command) (sym is) (writes_what_is_said c.requires.accepted.0 c.args.own s c.args.command c.requires.accepted.1)

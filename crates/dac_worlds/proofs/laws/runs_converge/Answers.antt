@@ -18,3 +18,6 @@ returns-clause-bodies c = λ t events answers v ran. (headline t events answers 
 
 pub returns-clause-news : goal.returns-clause-news
 returns-clause-news c = λ t events answers v ran. (headline t events answers v ran).news
+
+pub returns-clause-heard : goal.returns-clause-heard
+returns-clause-heard c = λ t events answers v ran. (headline t events answers v ran).heard

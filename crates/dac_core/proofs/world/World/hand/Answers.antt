@@ -1,33 +1,32 @@
-use Rattle.std.proofs.Common.{◌≡◌, ◌<◌, ◌-◌, length, get_or, rules, ap, sym, subst, Ok, Err, Some}
+use Rattle.std.proofs.Common.{◌≡◌, ◌<◌, ◌-◌, length, get_or, rules, sym, subst, Err, Some}
 use Rattle.dac_operations.specs.Operations.{Operation}
 use Rattle.dac_messages.specs.declared.event.Event.TheVariants.{Crash, HearOp}
 use Rattle.dac_worlds.specs.declared.fault.WorldFault.TheVariants.{Refused}
 use Rattle.dac_worlds.specs.WorldValue.{WorldValue}
-use Rattle.dac_worlds.specs.ModelWorld.{happens_by, handed_by, counted}
-use Rattle.dac_worlds.specs.laws.Follow.{node_at, counted_there, gone_follows, err_follows, follows_by}
+use Rattle.dac_worlds.specs.ModelWorld.{handed_by, counted}
+use Rattle.dac_worlds.specs.AtNode.{HappensAt}
+use Rattle.dac_worlds.specs.laws.Follow.{node_at, counted_there, happens_gone, happens_refused}
 use Rattle.dac_core.proofs.world.World.hand.Goals as goal
 
 no_crash : {m : Operation} {P : Type 0} → HearOp m ≡ Crash → P
 no_crash e = cc
 
-pub returns-in-Ok-clause-follows : goal.returns-in-Ok-clause-follows
-returns-in-Ok-clause-follows c =
+pub returns-in-Ok-clause-happens : goal.returns-in-Ok-clause-happens
+returns-in-Ok-clause-happens c =
     let v = c.args.self.now in
     let m = c.index-operation.result.now in
     let few : c.args.number - 1 < length c.self.inside.operations.items = search rules in
     let there : counted v.operations c.args.number ≡ Some m = subst (λ (x : WorldValue). counted x.operations c.args.number ≡ Some m) c.self.view_is (counted_there c.self.inside.operations.items c.args.number m c.if-number-eq0.false few c.index-operation.ensures) in
     let here = node_at v c.args.node c.index.result.now c.requires (subst (λ (x : WorldValue). c.index.result.now ≡ get_or x.nodes c.args.node.0 c.index.result.now) c.self.view_is c.index.ensures) in
-    follows_by v c.go_on.new.self c.go_on.result (λ w. happens_by c.args.config.now w c.args.node (Ok (HearOp m))) (λ w. happens_by c.args.config.now w c.args.node (handed_by (counted v.operations c.args.number)))
-    (λ w s. ap (λ o. happens_by c.args.config.now w c.args.node (handed_by o)) (sym there))
-    (gone_follows c.args.config.now v c.go_on.new.self c.args.node (HearOp m) c.index.result.now c.in-Ok.change c.go_on.result here (c.in-Ok.ensures.ok c.args.config.now c.args.node) c.go_on.ensures.ok c.go_on.ensures.err c.go_on.ensures.crash c.go_on.ensures.unchanged)
+    subst (λ o. HappensAt c.args.config.now v c.args.node (handed_by o) c.go_on.result c.go_on.new.self) (sym there)
+    (happens_gone c.args.config.now v c.go_on.new.self c.args.node (HearOp m) c.index.result.now c.in-Ok.change c.go_on.result here (c.in-Ok.ensures.ok c.args.config.now c.args.node) c.go_on.ensures.ok c.go_on.ensures.err c.go_on.ensures.crash c.go_on.ensures.unchanged)
 
-pub returns-in-Err-clause-follows : goal.returns-in-Err-clause-follows
-returns-in-Err-clause-follows c =
+pub returns-in-Err-clause-happens : goal.returns-in-Err-clause-happens
+returns-in-Err-clause-happens c =
     let v = c.args.self.now in
     let m = c.index-operation.result.now in
     let few : c.args.number - 1 < length c.self.inside.operations.items = search rules in
     let there : counted v.operations c.args.number ≡ Some m = subst (λ (x : WorldValue). counted x.operations c.args.number ≡ Some m) c.self.view_is (counted_there c.self.inside.operations.items c.args.number m c.if-number-eq0.false few c.index-operation.ensures) in
     let here = node_at v c.args.node c.index.result.now c.requires (subst (λ (x : WorldValue). c.index.result.now ≡ get_or x.nodes c.args.node.0 c.index.result.now) c.self.view_is c.index.ensures) in
-    follows_by v v (Err (Refused c.in-Err.why)) (λ w. happens_by c.args.config.now w c.args.node (Ok (HearOp m))) (λ w. happens_by c.args.config.now w c.args.node (handed_by (counted v.operations c.args.number)))
-    (λ w s. ap (λ o. happens_by c.args.config.now w c.args.node (handed_by o)) (sym there))
-    (err_follows c.args.config.now v c.args.node (HearOp m) c.index.result.now c.in-Err.why here (c.in-Err.ensures.err c.args.config.now) no_crash)
+    subst (λ o. HappensAt c.args.config.now v c.args.node (handed_by o) (Err (Refused c.in-Err.why)) v) (sym there)
+    (happens_refused c.args.config.now v c.args.node (HearOp m) c.index.result.now c.in-Err.why here (c.in-Err.ensures.err c.args.config.now) no_crash)

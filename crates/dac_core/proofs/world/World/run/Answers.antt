@@ -56,3 +56,8 @@ pub returns-clause-news : goal.returns-clause-news
 returns-clause-news c =
     let l = c.loop-event in
     c.runs_converge.ensures.news c.args.config.now c.args.events.now l.answers.items l.world (whole c.args.config.now c.args.events.now l.answers.items l.world l.event-index c.loop-event-test.false l.invariant.ran)
+
+pub returns-clause-heard : goal.returns-clause-heard
+returns-clause-heard c =
+    let l = c.loop-event in
+    c.runs_converge.ensures.heard c.args.config.now c.args.events.now l.answers.items l.world (whole c.args.config.now c.args.events.now l.answers.items l.world l.event-index c.loop-event-test.false l.invariant.ran)

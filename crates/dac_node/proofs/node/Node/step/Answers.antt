@@ -4,7 +4,9 @@ use Rattle.dac_messages.specs.declared.reply.Reply.{Reply}
 use Rattle.dac_node.specs.NodeValue.{NodeValue}
 use Rattle.dac_node.specs.Step.{Steps}
 use Rattle.dac_node.specs.Hearing.{HearsExactly}
-use Rattle.dac_node.specs.laws.Steps.{steps}
+use Rattle.dac_node.specs.laws.Steps.{steps, answered_steps}
+use Rattle.dac_node.specs.Writing.{Writes}
+use Rattle.dac_node.specs.laws.Writing.{writes}
 use Rattle.dac_node.specs.laws.Heard.{hears_exactly}
 use Rattle.dac_node.specs.laws.Refused.{answered_is, free_is}
 use Rattle.dac_node.proofs.node.Node.step.Goals as goal
@@ -30,3 +32,14 @@ pub returns-in_err-change-clause-cases : goal.returns-in_err-change-clause-cases
 returns-in_err-change-clause-cases c =
     let p = err_from_is_err_and c.from_residual.result c.from_residual.ensures.1 in
     rw (p.1, p.2) (answered_is c.args.config.now c.args.self.now c.args.event c.in_err-change.field-0.0 c.in_err-change.ensures.err)
+
+pub returns-clause-writes : goal.returns-clause-writes
+returns-clause-writes c =
+    let old = c.args.self.now in
+    let p = c.in_ok-change.ensures.ok in
+    subst (Writes c.args.self_id old c.args.event) (sym (c.apply.ensures.reply ∙ p.reply)) (writes c.args.config.now c.args.self_id old.last old.run c.args.event p.accepted)
+
+pub returns-in_err-change-clause-refused : goal.returns-in_err-change-clause-refused
+returns-in_err-change-clause-refused c =
+    let p = err_from_is_err_and c.from_residual.result c.from_residual.ensures.1 in
+    rw (p.1, p.2) (answered_steps c.args.config.now c.args.self_id c.args.self.now c.args.event c.in_err-change.field-0.0 c.in_err-change.ensures.err)

@@ -1,0 +1,64 @@
+-- What the operation of an accepted command is, in words.
+use Rattle.std.specs.Prelude.{◌≡◌, ◌↔◌, ℕ, true, List, None, is_some}
+use Rattle.std.specs.FinSet as set
+use Rattle.std.specs.FinMap as map
+use Rattle.dac_base.specs.declared.NodeId.{NodeId}
+use Rattle.dac_base.specs.declared.AppId.{AppId}
+use Rattle.dac_dots.specs.declared.dot.Origin.{Origin}
+use Rattle.dac_dots.specs.declared.dot.Dot.{Dot}
+use Rattle.dac_dots.specs.Dots.{dot_cmp, IsNext}
+use Rattle.dac_dots.specs.Keys.{has_key}
+use Rattle.dac_chains.specs.Lives.{IsLive}
+use Rattle.dac_wishes.specs.declared.key.Key.{Key}
+use Rattle.dac_wishes.specs.Writes.{write}
+use Rattle.dac_operations.specs.declared.act.Act.{Act}
+use Rattle.dac_operations.specs.declared.act.Act.TheVariants.{Down as Downs, Permit as Permits, Start as Starts, Stop as Stops}
+use Rattle.dac_operations.specs.Operations.{Operation}
+use Rattle.dac_meaning.specs.StateValue.{StateValue}
+use Rattle.dac_config.specs.Table.{Table}
+use Rattle.dac_events.specs.declared.Command.{Command}
+use Rattle.dac_events.specs.declared.Command.TheVariants.{Down, Permit, Start, Stop}
+use Rattle.dac_commands.specs.Commands.{next_operation, act_of}
+use Rattle.dac_commands.specs.Causes.{refusal_of_command}
+
+-- the key of the application at the live incarnation of the node
+pub record IsKeyAt (s : StateValue) (app : AppId) (node : NodeId) (key : Key) : Type 0 where
+  pub same_app : key.app ≡ app
+  pub same_node : key.node ≡ node
+  pub live : IsLive s.lives node key.inc
+
+-- a start wish of the key with this dot stands
+abbrev pub StartStands : StateValue → Key → Dot → Type 0
+StartStands s key d = set.contains s.starts (write key d) ≡ true
+
+-- a permit of the key with this dot stands
+abbrev pub PermitStands : StateValue → Key → Dot → Type 0
+PermitStands s key d = is_some (map.get s.permits (write key d)) ≡ true
+
+-- exactly those dots are listed that stand
+abbrev pub AreThose : (Dot → Type 0) → List Dot → Type 0
+AreThose Stands over = (d : Dot) → (has_key dot_cmp over d ≡ true) ↔ Stands d
+
+-- a command's key, and the dots that it replaces
+pub record WritesAt (s : StateValue) (app : AppId) (node : NodeId) (Stands : Key → Dot → Type 0) (made : Key → List Dot → Act) (act : Act) : Type 0 where
+  pub key : Key
+  pub over : List Dot
+  pub is : act ≡ made key over
+  pub at : IsKeyAt s app node key
+  pub replaces : AreThose (Stands key) over
+
+-- The act says the command. A Down names the live incarnation of the node. The others write at the key of the application at the node's live incarnation, and replace exactly what stands there of their kind.
+abbrev pub Says : StateValue → Command → Act → Type 0
+Says s (Down node) act = (inc : ℕ) × ((act ≡ Downs node inc) × IsLive s.lives node inc)
+Says s (Permit app node value) act = WritesAt s app node (PermitStands s) (λ key over. Permits key value over) act
+Says s (Start app node) act = WritesAt s app node (StartStands s) Starts act
+Says s (Stop app node) act = WritesAt s app node (StartStands s) Stops act
+
+-- an operation of this incarnation under its next dot that says the command
+pub record IsWritten (own : Origin) (s : StateValue) (c : Command) (o : Operation) : Type 0 where
+  pub dot : IsNext s.known own o.dot
+  pub says : Says s c o.act
+
+-- what an accepted command issues is so
+abbrev pub WritesWhatIsSaid : Type 0
+WritesWhatIsSaid = (t : Table) (own : Origin) (s : StateValue) (c : Command) → refusal_of_command t own s c ≡ None → IsWritten own s c (next_operation s own (act_of s c))

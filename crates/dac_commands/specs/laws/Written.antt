@@ -1,0 +1,87 @@
+-- What an accepted command issues is the operation that it says.
+use Rattle.std.proofs.Common.{◌≡◌, ℕ, Bool, true, false, not, List, [], ◌∷◌, Option, Some, None, refl, sym, ◌∙◌, true≢false}
+use Rattle.std.specs.Prelude.{is_some, unwrap_or}
+use Rattle.dac_base.specs.declared.NodeId.{NodeId}
+use Rattle.dac_base.specs.declared.AppId.{AppId}
+use Rattle.dac_dots.specs.declared.dot.Origin.{Origin}
+use Rattle.dac_dots.specs.Dots.{dots_total, exact_dots}
+use Rattle.dac_dots.specs.InOrder.{has_key-in_order}
+use Rattle.dac_chains.specs.Lives.{IsLive}
+use Rattle.dac_chains.specs.laws.Live.{live_is}
+use Rattle.dac_wishes.specs.declared.key.Key.{Key}
+use Rattle.dac_wishes.specs.Writes.{dots_at, contains-dots_at}
+use Rattle.dac_meaning.specs.StateValue.{StateValue}
+use Rattle.dac_config.specs.Table.{Table}
+use Rattle.dac_events.specs.declared.Command.{Command}
+use Rattle.dac_events.specs.declared.Command.TheVariants.{Down, Permit, Start, Stop}
+use Rattle.dac_commands.specs.declared.refusal.Refusal.{Refusal}
+use Rattle.dac_commands.specs.declared.refusal.Refusal.TheVariants.{DeclaredDown}
+use Rattle.dac_commands.specs.Commands.{live, live_or_none, key_at, standing_starts, standing_permits, act_of}
+use Rattle.dac_commands.specs.Causes.{first, causes_of, refusal_of_command, declared_down, not_live, used_up}
+use Rattle.dac_commands.specs.Written.{IsKeyAt, StartStands, PermitStands, AreThose, Says, WritesWhatIsSaid}
+use Rattle.dac_commands.specs.laws.Counters.{next_of_is}
+use Rattle.dac_commands.specs.laws.Standing.{permits_at-has}
+
+-- ---- causes that don't hold
+-- none of the causes holds
+abbrev NoneIs : List (Bool × Refusal) → Type 0
+NoneIs [] = Unit {0}
+NoneIs (c ∷ cs) = (c.0 ≡ false) × NoneIs cs
+
+-- where none of the causes holds, the first doesn't, nor one after it
+pub first-none : (b : Bool) (why : Refusal) (cs : List (Bool × Refusal)) → first ((b, why) ∷ cs) ≡ None → (b ≡ false) × (first cs ≡ None)
+first-none true why cs e = cc
+first-none false why cs e = (refl, e)
+
+none_is : (cs : List (Bool × Refusal)) → first cs ≡ None → NoneIs cs
+none_is [] e = tt
+none_is (c ∷ cs) e = let h = first-none c.0 c.1 cs e in (h.0, none_is cs h.1)
+
+-- all causes why a command is refused
+abbrev all_causes : Table → Origin → StateValue → Command → List (Bool × Refusal)
+all_causes t own s c = (declared_down own s, DeclaredDown) ∷ causes_of t own s c
+
+module _ (t : Table) (own : Origin) (s : StateValue) where
+  -- a counter is left for an accepted command
+  left : (c : Command) → refusal_of_command t own s c ≡ None → used_up s own ≡ false
+  left (Down node) e = (none_is (all_causes t own s (Down node)) e).1.1.1.1.0
+  left (Permit app node value) e = (none_is (all_causes t own s (Permit app node value)) e).1.1.1.1.1.1.0
+  left (Start app node) e = (none_is (all_causes t own s (Start app node)) e).1.1.1.1.1.1.0
+  left (Stop app node) e = (none_is (all_causes t own s (Stop app node)) e).1.1.1.1.1.1.1.0
+
+  -- ---- what is said
+  -- the number of a live incarnation
+  live_there : (node : NodeId) → not_live s node ≡ false → IsLive s.lives node (live_or_none s node)
+  live_there node h = by_live (live s node) refl h
+    where
+      by_live : (o : Option ℕ) → live s node ≡ o → not (is_some o) ≡ false → IsLive s.lives node (unwrap_or o 0)
+      by_live None e p = absurd (true≢false p)
+      by_live (Some i) e p = (live_is s.lives node i).0 e
+
+  key_is : (app : AppId) (node : NodeId) → not_live s node ≡ false → IsKeyAt s app node (key_at s app node)
+  key_is app node h = record { same_app = refl; same_node = refl; live = live_there node h }
+
+  starts_are : (key : Key) → AreThose (StartStands s key) (standing_starts s key)
+  starts_are key d =
+      let e = has_key-in_order dots_total exact_dots (dots_at key s.starts) d ∙ contains-dots_at key s.starts d in
+      (λ h. sym e ∙ h, λ h. e ∙ h)
+
+  permits_are : (key : Key) → AreThose (PermitStands s key) (standing_permits s key)
+  permits_are key d =
+      let e = permits_at-has key s.permits d in
+      (λ h. sym e ∙ h, λ h. e ∙ h)
+
+  says : (c : Command) → refusal_of_command t own s c ≡ None → Says s c (act_of s c)
+  says (Down node) e = (live_or_none s node, (refl, live_there node (none_is (all_causes t own s (Down node)) e).1.1.1.0))
+  says (Permit app node value) e =
+      let live = (none_is (all_causes t own s (Permit app node value)) e).1.1.1.1.0 in
+      record { key = key_at s app node; over = standing_permits s (key_at s app node); is = refl; at = key_is app node live; replaces = permits_are (key_at s app node) }
+  says (Start app node) e =
+      let live = (none_is (all_causes t own s (Start app node)) e).1.1.1.1.0 in
+      record { key = key_at s app node; over = standing_starts s (key_at s app node); is = refl; at = key_is app node live; replaces = starts_are (key_at s app node) }
+  says (Stop app node) e =
+      let live = (none_is (all_causes t own s (Stop app node)) e).1.1.1.1.0 in
+      record { key = key_at s app node; over = standing_starts s (key_at s app node); is = refl; at = key_is app node live; replaces = starts_are (key_at s app node) }
+
+pub writes_what_is_said : WritesWhatIsSaid
+writes_what_is_said t own s c e = record { dot = next_of_is s.known own (left t own s c e); says = says t own s c e }

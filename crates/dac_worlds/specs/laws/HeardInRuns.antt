@@ -1,0 +1,154 @@
+-- What fits a running node is heard.
+use Rattle.std.proofs.Common.{◌≡◌, ℕ, zero, suc, ◌-◌, Bool, true, false, not, cond, List, [], ◌∷◌, ◌++◌, Option, Some, None, Result, Ok, Err, inl, inr, nat_eq, refl, sym, ap, subst, ◌∙◌, eq-eqb}
+use Rattle.std.specs.Prelude.{nat_lt}
+use Rattle.std.specs.Option.{option_map}
+use Rattle.std.specs.List.{slice_get}
+use Rattle.std.proofs.lemmas.Map.Views.{exact_unsigned_eq}
+use Rattle.std.proofs.lemmas.Bool.{false_from_ne_true}
+use Rattle.dac_base.specs.declared.NodeId.{NodeId}
+use Rattle.dac_operations.specs.Operations.{Operation}
+use Rattle.dac_meaning.specs.Meaning.{meaning_of}
+use Rattle.dac_meaning.specs.Below.{is_below}
+use Rattle.dac_config.specs.Table.{Table}
+use Rattle.dac_events.specs.declared.WorldEvent.{WorldEvent}
+use Rattle.dac_events.specs.declared.What.{What}
+use Rattle.dac_events.specs.declared.What.TheVariants.{Boot as Boots, Crash as Crashes, Command as Tells, Ship as Ships, Deliver, Hand}
+use Rattle.dac_messages.specs.declared.message.Message.{Message}
+use Rattle.dac_messages.specs.declared.event.Event.{Event}
+use Rattle.dac_messages.specs.declared.event.Event.TheVariants.{Hear, HearOp}
+use Rattle.dac_messages.specs.declared.reply.Reply.{Reply}
+use Rattle.dac_messages.specs.declared.reply.Reply.TheVariants.{Booted, Crashed, Issued, Shipped, Heard}
+use Rattle.dac_commands.specs.Causes.{first}
+use Rattle.dac_commands.specs.declared.refusal.Refusal.{Refusal}
+use Rattle.dac_commands.specs.declared.refusal.Refusal.TheVariants.{OnSelf, NotForMe}
+use Rattle.dac_worlds.specs.declared.fault.WorldFault.{WorldFault}
+use Rattle.dac_worlds.specs.declared.fault.WorldFault.TheVariants.{NoSuchNode}
+use Rattle.dac_node.specs.ModelNode.{ModelNode, ModelRun, joined, shown, run_shown}
+use Rattle.dac_node.specs.EventRefusals.{refusal_of, refusal_by, refusal_to_hear}
+use Rattle.dac_node.specs.Step.{Stepped, model_step, accepted, reply_on}
+use Rattle.dac_node.specs.laws.Steps.{step_accepted}
+use Rattle.dac_node.specs.laws.Options.{some_same}
+use Rattle.dac_worlds.specs.ModelWorld.{ModelWorld, happens, happens_by, answered_by, event_of, heard_by, handed_by, counted, Step, Run, start}
+use Rattle.dac_worlds.specs.SetWorld.{SetWorld, Copy, with_set, united, brought_to, set_step, no_sets}
+use Rattle.dac_worlds.specs.Fits.{RunsIn, Fits, IsHeard, HearsWhatFits, HearsAllThatFits}
+use Rattle.dac_worlds.specs.laws.Sound.{Answer, Sound, CopyOk, CopiesOk, state_in, sound_step, sound_start}
+
+none_some : {X P : Type 0} {x : X} → None ≡ Some x → P
+none_some e = cc
+
+-- ---- only nodes of the configuration run
+-- whether a number is a node's
+abbrev pub Inside : ℕ → SetWorld → Type 0
+Inside count s = (n : NodeId) → RunsIn s n → nat_lt n.0 count ≡ true
+
+-- node n's set is replaced
+inside_with : (count : ℕ) (n : NodeId) (held : Option (List Operation)) (s : SetWorld) (issued : List Operation) (copies : List Copy) → nat_lt n.0 count ≡ true → Inside count s → Inside count (record { node = with_set s.node n held; issued = issued; copies = copies })
+inside_with count n held s issued copies here h m =
+    elim (nat_eq m.0 n.0) as (λ b. nat_eq m.0 n.0 ≡ b → (os : List Operation) × (cond b held (s.node m) ≡ Some os) → nat_lt m.0 count ≡ true) [
+      | true ↦ λ t _. ap (λ k. nat_lt k count) (exact_unsigned_eq m.0 n.0 t) ∙ here
+      | false ↦ λ _ runs. h m runs
+    ] refl
+
+inside_reply : (count : ℕ) (s : SetWorld) (n : NodeId) (what : What) (reply : Reply) → nat_lt n.0 count ≡ true → Inside count s → Inside count (set_step s n what (Ok reply))
+inside_reply count s n what (Booted o) here h = inside_with count n (Some (o ∷ [])) s (s.issued ++ o ∷ []) s.copies here h
+inside_reply count s n what Crashed here h = inside_with count n None s s.issued s.copies here h
+inside_reply count s n what (Issued o) here h = inside_with count n (united (s.node n) (o ∷ [])) s (s.issued ++ o ∷ []) s.copies here h
+inside_reply count s n what (Shipped m) here h = h
+inside_reply count s n what (Heard fresh) here h = inside_with count n (united (s.node n) (brought_to s n what)) s s.issued s.copies here h
+
+module _ (t : Table) (w : ModelWorld) (s : SetWorld) (h : Inside w.count s) where
+  inside_answered : (n : NodeId) (what : What) (d : ModelNode) (a : Result Reply Refusal) → nat_lt n.0 w.count ≡ true → Inside (answered_by w n d a).world.count (set_step s n what (answered_by w n d a).answer)
+  inside_answered n what d (Err why) here = h
+  inside_answered n what d (Ok reply) here = inside_reply w.count s n what reply here h
+
+  inside_by : (n : NodeId) (what : What) (r : Result Event WorldFault) → nat_lt n.0 w.count ≡ true → Inside (happens_by t w n r).world.count (set_step s n what (happens_by t w n r).answer)
+  inside_by n what (Err fault) here = h
+  inside_by n what (Ok e) here = inside_answered n what (model_step t n (w.node n) e).node (model_step t n (w.node n) e).answer here
+
+  inside_happens : (e : WorldEvent) → Inside (happens t w e).world.count (set_step s e.node e.what (happens t w e).answer)
+  inside_happens e =
+      elim (nat_lt e.node.0 w.count) as (λ b. nat_lt e.node.0 w.count ≡ b → let by = cond b (happens_by t w e.node (event_of w.operations w.messages e.what)) (record { world = w; answer = Err NoSuchNode }) in Inside by.world.count (set_step s e.node e.what by.answer)) [
+        | true ↦ λ here. inside_by e.node e.what (event_of w.operations w.messages e.what) here
+        | false ↦ λ _. h
+      ] refl
+
+inside_step : (t : Table) (w : ModelWorld) (s : SetWorld) (e : WorldEvent) (a : Answer) (next : ModelWorld) → Inside w.count s → Step w (happens t w e) a next → Inside next.count (set_step s e.node e.what a)
+inside_step t w s e a next h (inl d) = subst (λ (p : ModelWorld × Answer). Inside p.0.count (set_step s e.node e.what p.1)) (λ i. (sym d.went_on i, sym d.answered i)) (inside_happens t w s h e)
+inside_step t w s e a next h (inr l) = subst (λ (p : ModelWorld × Answer). Inside p.0.count (set_step s e.node e.what p.1)) (λ i. (sym l.stayed i, sym l.answered i)) h
+
+-- ---- a running node and what comes to it
+-- the message of a copy
+copy_there : (ops : List Operation) (ms : List Message) (cs : List Copy) (k : ℕ) (c : Copy) → CopiesOk ops ms cs → slice_get cs k ≡ Some c → (m : Message) × ((slice_get ms k ≡ Some m) × CopyOk ops m c)
+copy_there ops ms [] k c h e = none_some e
+copy_there ops [] (d ∷ cs) k c h e = absurd h
+copy_there ops (m ∷ ms) (d ∷ cs) zero c h e = (m, (refl, subst (CopyOk ops m) (some_same d c e) h.0))
+copy_there ops (m ∷ ms) (d ∷ cs) (suc k) c h e = copy_there ops ms cs k c h.1 e
+
+copy_counted : (ops : List Operation) (ms : List Message) (cs : List Copy) (k : ℕ) (c : Copy) → CopiesOk ops ms cs → counted cs k ≡ Some c → (m : Message) × ((counted ms k ≡ Some m) × CopyOk ops m c)
+copy_counted ops ms cs k c h e =
+    elim (nat_eq k 0) as (λ b. cond b None (slice_get cs (k - 1)) ≡ Some c → (m : Message) × ((cond b None (slice_get ms (k - 1)) ≡ Some m) × CopyOk ops m c)) [
+      | true ↦ λ p. none_some p
+      | false ↦ λ p. copy_there ops ms cs (k - 1) c h p
+    ] e
+
+for_it : (a b : Bool) → a ≡ false → b ≡ true → first ((a, OnSelf) ∷ (not b, NotForMe) ∷ []) ≡ None
+for_it a b p q = λ i. first ((p i, OnSelf) ∷ (not (q i), NotForMe) ∷ [])
+
+module _ (t : Table) (w : ModelWorld) (s : SetWorld) (h : Sound w s) (n : NodeId) where
+  run_there : RunsIn s n → (r : ModelRun) × ((w.node n).run ≡ Some r)
+  run_there runs = by_run (w.node n).run refl ((h.nodes n).state ∙ ap (option_map meaning_of) runs.1)
+    where
+      by_run : (run : Option ModelRun) → (w.node n).run ≡ run → option_map state_in run ≡ Some (meaning_of runs.0) → (r : ModelRun) × ((w.node n).run ≡ Some r)
+      by_run None on e = none_some e
+      by_run (Some r) on e = (r, on)
+
+  -- what isn't refused and is answered as heard
+  heard_free : (e : Event) (r : ModelRun) (fresh : Bool) → (w.node n).run ≡ Some r → refusal_of t (shown (w.node n)) e ≡ None → reply_on r.origin (joined r.log) e ≡ Heard fresh → IsHeard (happens_by t w n (Ok e)).answer
+  heard_free e r fresh on none is = (fresh, ap (λ (st : Stepped). (answered_by w n st.node st.answer).answer) (step_accepted t n (w.node n) e none ∙ ap (λ run. accepted n (w.node n).last run e) on) ∙ ap (λ reply. Ok reply) is)
+
+  -- a message for the node isn't refused
+  message_free : (m : Message) (c : Copy) (r : ModelRun) → (w.node n).run ≡ Some r → CopyOk w.operations m c → c.to ≡ n → (c.from ≡ n → ⊥) → refusal_of t (shown (w.node n)) (Hear m) ≡ None
+  message_free m c r on copy to far =
+      ap (λ run. refusal_by t (w.node n).last (option_map run_shown run) (Hear m)) on
+      ∙ (ap (λ q. refusal_to_hear q m) ((h.nodes n).origin r on)
+      ∙ for_it (nat_eq m.from.node.0 n.0) (nat_eq m.to.0 n.0)
+      (false_from_ne_true (nat_eq m.from.node.0 n.0) (λ e. far (sym copy.from ∙ same_node m.from.node (exact_unsigned_eq m.from.node.0 n.0 e))))
+      (eq-eqb m.to.0 n.0 (ap (λ (k : NodeId). k.0) (copy.to ∙ to))))
+    where
+      same_node : (m : NodeId) → m.0 ≡ n.0 → m ≡ n
+      same_node m e = ap (λ k. record { 0 = k }) e
+
+  heard_by_node : (what : What) → RunsIn s n → Fits s n what → IsHeard (happens_by t w n (event_of w.operations w.messages what)).answer
+  heard_by_node (Boots now) runs fits = absurd fits
+  heard_by_node Crashes runs fits = absurd fits
+  heard_by_node (Tells c) runs fits = absurd fits
+  heard_by_node (Ships to) runs fits = absurd fits
+  heard_by_node (Deliver k) runs fits =
+      let run = run_there runs in
+      let m = copy_counted w.operations w.messages s.copies k fits.copy h.copies fits.there in
+      subst (λ o. IsHeard (happens_by t w n (heard_by o)).answer) (sym m.1.0)
+      (heard_free (Hear m.0) run.0 (not (is_below m.0.body (joined run.0.log))) run.1 (message_free m.0 fits.copy run.0 run.1 m.1.1 fits.to fits.from) refl)
+  heard_by_node (Hand k) runs fits =
+      let run = run_there runs in
+      subst (λ o. IsHeard (happens_by t w n (handed_by o)).answer) (sym (ap (λ os. counted os k) (sym h.issued) ∙ fits.1))
+      (heard_free (HearOp fits.0) run.0 (not (is_below (meaning_of (fits.0 ∷ [])) (joined run.0.log))) run.1 (ap (λ r. refusal_by t (w.node n).last (option_map run_shown r) (HearOp fits.0)) run.1) refl)
+
+-- ---- one event of the world, and every run
+heard_happens : (t : Table) (w : ModelWorld) (s : SetWorld) (e : WorldEvent) → Sound w s → Inside w.count s → RunsIn s e.node → Fits s e.node e.what → IsHeard (happens t w e).answer
+heard_happens t w s e h inside runs fits =
+    subst (λ b. IsHeard (cond b (happens_by t w e.node (event_of w.operations w.messages e.what)) (record { world = w; answer = Err NoSuchNode })).answer) (sym (inside e.node runs))
+    (heard_by_node t w s h e.node e.what runs fits)
+
+heard_step : (t : Table) (w : ModelWorld) (s : SetWorld) (e : WorldEvent) (a : Answer) (next : ModelWorld) → Sound w s → Inside w.count s → Step w (happens t w e) a next → HearsWhatFits s e a
+heard_step t w s e a next h inside (inl d) runs fits = inl (subst IsHeard (sym d.answered) (heard_happens t w s e h inside runs fits))
+heard_step t w s e a next h inside (inr l) runs fits = inr l.answered
+
+heard_along : (t : Table) (w : ModelWorld) (s : SetWorld) (es : List WorldEvent) (answers : List Answer) (final : ModelWorld) → Sound w s → Inside w.count s → Run t w es answers final → HearsAllThatFits s es answers
+heard_along t w s [] answers final h inside r = tt
+heard_along t w s (e ∷ es) [] final h inside r = tt
+heard_along t w s (e ∷ es) (a ∷ answers) final h inside r =
+    (heard_step t w s e a r.0 h inside r.1.0, heard_along t r.0 (set_step s e.node e.what a) es answers final (sound_step t w s e a r.0 h r.1.0) (inside_step t w s e a r.0 inside r.1.0) r.1.1)
+
+-- in every run of the definition's world, from the start
+pub heard_run : (t : Table) (es : List WorldEvent) (answers : List Answer) (final : ModelWorld) → Run t (start t) es answers final → HearsAllThatFits no_sets es answers
+heard_run t es answers final r = heard_along t (start t) no_sets es answers final (sound_start t) (λ n runs. none_some runs.1) r
