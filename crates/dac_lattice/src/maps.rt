@@ -136,7 +136,7 @@ impl<K: MapKey, L: Lattice> Lattice for MapOf<K, L> {
     }
 
     fn copy(&self) -> Result<Self, NoMemory> {
-        let mut entries = Vec::new(*self.entries.allocator());
+        let mut entries = Vec::with_capacity(*self.entries.allocator(), self.entries.len())?;
         for (key, value) in &self.entries {
             entries.push((*key, value.copy()?))?;
         }

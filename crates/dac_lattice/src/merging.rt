@@ -54,7 +54,7 @@ pub fn merge<K: MapKey, X: Drop, C: Combine<K, X>>(
 ) -> Result<Vec<(K, X)>, NoMemory>
     ensures { IfOk result (λ merged. merged.items ≡ merge_entries K.cmp (C.combined how.now) mine.now theirs.now) }
 {
-    let mut merged = Vec::new(alloc);
+    let mut merged = Vec::with_capacity(alloc, mine.len().max(theirs.len()))?;
     let mut i = 0;
     let mut j = 0;
     'both: while i < mine.len() && j < theirs.len() {

@@ -157,7 +157,7 @@ impl<V: Lattice> DotStore for DotFun<V> {
     }
 
     fn copy(&self) -> Result<Self, NoMemory> {
-        let mut entries = Vec::new(*self.entries.allocator());
+        let mut entries = Vec::with_capacity(*self.entries.allocator(), self.entries.len())?;
         for (dot, value) in &self.entries {
             entries.push((*dot, value.copy()?))?;
         }

@@ -151,7 +151,7 @@ impl<K: MapKey, S: DotStore> DotStore for DotMap<K, S> {
     }
 
     fn copy(&self) -> Result<Self, NoMemory> {
-        let mut entries = Vec::new(*self.entries.allocator());
+        let mut entries = Vec::with_capacity(*self.entries.allocator(), self.entries.len())?;
         for (key, store) in &self.entries {
             entries.push((*key, store.copy()?))?;
         }

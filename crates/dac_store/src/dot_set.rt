@@ -64,6 +64,14 @@ impl DotSet {
         Ok(true)
     }
 
+    /// No dots, with room for so many.
+    fn with_room(alloc: Global, most: usize) -> Result<Self, NoMemory>
+        ensures { IfOk result (λ made. made ≡ set.empty) }
+    {
+        let dots = Vec::with_capacity(alloc, most)?;
+        Ok(DotSet { dots })
+    }
+
     /// Whether each dot of the set is below this one.
     fn ends_below(&self, dot: Dot) -> bool
         ensures { result ≡ is_above_dots self.now dot }
@@ -140,7 +148,8 @@ impl DotStore for DotSet {
         other: &Self,
         other_heard: &Context,
     ) -> Result<Self, NoMemory> {
-        let mut joined = DotSet::empty(*self.dots.allocator());
+        let most = self.dots.len().max(other.dots.len());
+        let mut joined = DotSet::with_room(*self.dots.allocator(), most)?;
         joined.add_staying(self, other, other_heard)?;
         joined.add_staying(other, self, heard)?;
         Ok(joined)

@@ -10,5 +10,5 @@ returns c = set.same_set dots_total exact_dots c.add_staying-2.new.self (join_se
     let second = set.contains c.args.other.now q && may_stay c.args.self.now c.args.heard.now q in
     c.in_ok-add_staying-2.ensures q
     ∙ (ap (λ b. b || second) (c.in_ok-add_staying.ensures q
-    ∙ ap (λ b. b || first) (ap (λ s. set.contains s q) c.empty-joined.ensures ∙ set.contains-empty dot_cmp q))
+    ∙ ap (λ b. b || first) (ap (λ s. set.contains s q) c.in_ok-joined.ensures ∙ set.contains-empty dot_cmp q))
     ∙ sym (contains_join c.args.self.now c.args.heard.now c.args.other.now c.args.other_heard.now q)))
