@@ -62,13 +62,30 @@ fn delta(alloc: Global, n: u64, kind: Kind) -> Option<State> {
     State::delta_of(alloc, &op).ok()
 }
 
-/// What acts of node 0 mean together.
-fn meaning(alloc: Global, acts: &[(u64, Kind)]) -> Option<State> {
-    let mut state = State::bottom(alloc);
-    for (n, kind) in acts {
-        state = state.join(&delta(alloc, *n, *kind)?).ok()?;
+/// What has a meaning alone.
+trait Means: Copy {
+    /// Where meanings are joined.
+    type All: Bottom;
+
+    /// What it means alone, where there is memory.
+    fn alone(self, alloc: Global) -> Option<Self::All>;
+}
+
+/// What such things mean together.
+fn meaning<M: Means>(alloc: Global, parts: &[M]) -> Option<M::All> {
+    let mut all = M::All::bottom(alloc);
+    for part in parts {
+        all = all.join(&part.alone(alloc)?).ok()?;
     }
-    Some(state)
+    Some(all)
+}
+
+impl Means for (u64, Kind) {
+    type All = State;
+
+    fn alone(self, alloc: Global) -> Option<State> {
+        delta(alloc, self.0, self.1)
+    }
 }
 
 /// Whether these dots are heard and known.
