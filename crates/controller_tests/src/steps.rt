@@ -112,13 +112,30 @@ fn delta_of(alloc: Global, step: Step) -> Option<State> {
     State::delta_of(alloc, &op).ok()
 }
 
-/// What these steps mean joined to a state.
-fn with(alloc: Global, state: State, steps: &[Step]) -> Option<State> {
-    let mut state = state;
-    for step in steps {
-        state = state.join(&delta_of(alloc, *step)?).ok()?;
+/// What has a meaning alone.
+trait Means: Copy {
+    /// Where meanings are joined.
+    type All: Lattice;
+
+    /// What it means alone, where there is memory.
+    fn alone(self, alloc: Global) -> Option<Self::All>;
+}
+
+impl Means for Step {
+    type All = State;
+
+    fn alone(self, alloc: Global) -> Option<State> {
+        delta_of(alloc, self)
     }
-    Some(state)
+}
+
+/// What these mean joined to what there is.
+fn with<M: Means>(alloc: Global, before: M::All, parts: &[M]) -> Option<M::All> {
+    let mut all = before;
+    for part in parts {
+        all = all.join(&part.alone(alloc)?).ok()?;
+    }
+    Some(all)
 }
 
 /// What these steps mean, and then these.
