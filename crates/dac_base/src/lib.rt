@@ -1,11 +1,14 @@
-//! What every crate of the controller speaks of: numbers of nodes and applications, and want of memory.
+//! What every crate of the controller speaks of: numbers of nodes and applications, limits, and want of memory.
 //!
 //! A configuration numbers its nodes in the byte order of their names and its applications in the order
 //! of the file, both from 0. These numbers are small types of their own, so that neither can stand for
 //! the other.
 #![tactic(auto)]
 
+pub use limits::{MAX_APPS, MAX_COUNTER, MAX_NODES, MAX_REPLACED};
 use std::alloc::{AllocError, AllocFailed};
+
+mod limits;
 
 /// Memory was refused. Whatever answers this has left all as it was.
 #[derive(Clone, Copy, Debug, PartialEq, Eq, Hash)]

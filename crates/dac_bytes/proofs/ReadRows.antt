@@ -6,6 +6,7 @@ use Rattle.std.specs.declared.cmp.Ordering.TheVariants.{Less}
 use Rattle.std.specs.Ordering.{eq_by_cmp}
 use Rattle.std.proofs.Common.{inl, inr, sym, ap, subst, ◌∙◌, arith}
 use Rattle.std.proofs.lemmas.Bool.{and_from, or_cases, or_parts, or_left, or_right, ltb-false, cases_lt, false≢true}
+use Rattle.dac_base.specs.declared.limits.TheConstants.{MAX_COUNTER}
 use Rattle.dac_dots.specs.Keys.{has_key}
 use Rattle.dac_dots.specs.InOrder.{less, tie}
 use Rattle.dac_dots.specs.Dots.{Dots, origin_cmp, origins_total, exact_origins}
@@ -61,8 +62,8 @@ pub row_comes : (nodes : ℕ) (before : Option Origin) (r : Rest) (x : Row × Re
 unfolding row_at
 row_comes nodes before r x e =
     let made = λ (o : Origin) (v : ℕ) (ns : List ℕ). let row : Row = record { origin = o; upto = v; further = ns } in row in
-    let a = bind_ok (origin_above_at nodes before r) (λ origin. range_at w64 0 (2 ^ 62) origin.1 >>= λ upto. further_count_at upto.0 upto.1 >>= λ count. items_at further_at (λ n. n) count.0 (upto.0 + 1) count.1 >>= λ further. Ok (made origin.0 upto.0 further.0, further.1)) x e in
-    let b = bind_ok (range_at w64 0 (2 ^ 62) a.0.1) (λ upto. further_count_at upto.0 upto.1 >>= λ count. items_at further_at (λ n. n) count.0 (upto.0 + 1) count.1 >>= λ further. Ok (made a.0.0 upto.0 further.0, further.1)) x a.2 in
+    let a = bind_ok (origin_above_at nodes before r) (λ origin. range_at w64 0 MAX_COUNTER origin.1 >>= λ upto. further_count_at upto.0 upto.1 >>= λ count. items_at further_at (λ n. n) count.0 (upto.0 + 1) count.1 >>= λ further. Ok (made origin.0 upto.0 further.0, further.1)) x e in
+    let b = bind_ok (range_at w64 0 MAX_COUNTER a.0.1) (λ upto. further_count_at upto.0 upto.1 >>= λ count. items_at further_at (λ n. n) count.0 (upto.0 + 1) count.1 >>= λ further. Ok (made a.0.0 upto.0 further.0, further.1)) x a.2 in
     let c = bind_ok (further_count_at b.0.0 b.0.1) (λ count. items_at further_at (λ n. n) count.0 (b.0.0 + 1) count.1 >>= λ further. Ok (made a.0.0 b.0.0 further.0, further.1)) x b.2 in
     let d = bind_ok (items_at further_at (λ n. n) c.0.0 (b.0.0 + 1) c.0.1) (λ further. Ok (made a.0.0 b.0.0 further.0, further.1)) x c.2 in
     let rise = further_rise c.0.0 (b.0.0 + 1) c.0.1 d.0 d.1 in

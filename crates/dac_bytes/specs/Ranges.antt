@@ -2,6 +2,7 @@
 use Rattle.std.specs.Prelude.{◌≡◌, ℕ, ◌+◌, ◌<◌, ◌≤◌, ◌^◌, true, length}
 use Rattle.std.specs.List.{AllByRecursion}
 use Rattle.std.specs.FinSet as set
+use Rattle.dac_base.specs.declared.limits.TheConstants.{MAX_COUNTER}
 use Rattle.dac_dots.specs.Dots.{Dots}
 use Rattle.dac_dots.specs.declared.dot.Origin.{Origin}
 use Rattle.dac_dots.specs.declared.dot.Dot.{Dot}
@@ -21,18 +22,18 @@ pub record IsOrigin (nodes : ℕ) (o : Origin) : Type 0 where
 pub record IsDot (nodes : ℕ) (d : Dot) : Type 0 where
   pub origin : IsOrigin nodes d.origin
   pub first : 1 ≤ d.n
-  pub last : d.n ≤ 2 ^ 62
+  pub last : d.n ≤ MAX_COUNTER
 
 -- a further counter above a lower number
 pub record IsFurther (low n : ℕ) : Type 0 where
   pub first : 1 ≤ n
-  pub last : n ≤ 2 ^ 62
+  pub last : n ≤ MAX_COUNTER
   pub above : low < n
 
 -- the dots of an origin as they can be written: 1 to upto, and further ones that don't continue these; there is one at least
 pub record IsRow (nodes : ℕ) (row : Row) : Type 0 where
   pub origin : IsOrigin nodes row.origin
-  pub upto : row.upto ≤ 2 ^ 62
+  pub upto : row.upto ≤ MAX_COUNTER
   pub further : Chain IsFurther (λ n. n) (row.upto + 1) row.further
   pub count : length row.further < 2 ^ 32
   pub some : row.upto ≡ 0 → 1 ≤ length row.further

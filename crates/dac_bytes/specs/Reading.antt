@@ -4,6 +4,7 @@ use Rattle.std.specs.Int.{Width, w8, w16, w32, w64, byte_len, from_be_bytes}
 use Rattle.std.specs.declared.cmp.Ordering.{Ordering}
 use Rattle.std.specs.Ordering.{is_lt}
 use Rattle.dac_base.specs.declared.NodeId.{NodeId}
+use Rattle.dac_base.specs.declared.limits.TheConstants.{MAX_COUNTER}
 use Rattle.dac_dots.specs.declared.dot.Origin.{Origin}
 use Rattle.dac_dots.specs.declared.dot.Dot.{Dot}
 use Rattle.dac_dots.specs.Dots.{Dots, dot_cmp, origin_cmp}
@@ -87,7 +88,7 @@ incarnation_at r = range_at w32 1 (2 ^ 32 - 1) r
 
 -- a counter of a dot, 1 to 2^62
 abbrev pub counter_at : Rest → Field ℕ
-counter_at r = range_at w64 1 (2 ^ 62) r
+counter_at r = range_at w64 1 MAX_COUNTER r
 
 -- node and incarnation
 unfoldable pub origin_at : ℕ → Rest → Field Origin
@@ -146,7 +147,7 @@ further_count_at upto r = range_at w32 (if upto == 0 then 1 else 0) (2 ^ 32 - 1)
 unfoldable pub row_at : ℕ → Option Origin → Rest → Field Row
 row_at nodes before r = do
   origin ← origin_above_at nodes before r
-  upto ← range_at w64 0 (2 ^ 62) origin.1
+  upto ← range_at w64 0 MAX_COUNTER origin.1
   count ← further_count_at upto.0 upto.1
   further ← items_at further_at (λ n. n) count.0 (upto.0 + 1) count.1
   Ok (record { origin = origin.0; upto = upto.0; further = further.0 }, further.1)

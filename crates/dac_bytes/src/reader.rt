@@ -4,12 +4,9 @@ ghost use Rattle.std.specs.Int.{w8, w16, w32, w64};
 ghost use Rattle.dac_bytes.specs.Reading.{IsOfBytes, Reads, taken, number_at, range_at, node_at, incarnation_at, counter_at, origin_at, dot_at, origin_above_at, dot_above_at, whole};
 
 use crate::fault::{ReadFault, ReadFaultKind};
-use dac_base::NodeId;
+use dac_base::{MAX_COUNTER, NodeId};
 use dac_dots::{Dot, Origin};
 use std::marker::Model;
-
-/// The greatest counter of a dot.
-pub(crate) const MOST: u64 = 1 << 62;
 
 /// The rest of some bytes that are being read, and the place of its first byte. Contracts see these two.
 ///
@@ -184,7 +181,7 @@ impl<'a> ByteReader<'a> {
         ensures exact { result ≡ counter_at self.entry }
         ensures real { IsOfBytes result }
     {
-        let read = self.read_u64_in(1, MOST)?;
+        let read = self.read_u64_in(1, MAX_COUNTER)?;
         Ok(read)
     }
 

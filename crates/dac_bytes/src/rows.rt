@@ -8,8 +8,8 @@ ghost use Rattle.dac_bytes.specs.Spelling.{context_bytes};
 ghost use Rattle.dac_bytes.specs.Takes.{IsBytes, Takes};
 
 use crate::fault::{ReadFault, ReadFaultKind};
-use crate::reader::{ByteReader, MOST};
-use dac_base::NoMemory;
+use crate::reader::ByteReader;
+use dac_base::{MAX_COUNTER, NoMemory};
 use dac_dots::{Context, Origin};
 use std::alloc::Global;
 
@@ -67,7 +67,7 @@ fn read_row<'a>(
     ensures { Gives (λ x. (record { origin = x.0.origin; upto = x.0.upto; further = x.0.further.items }, x.1)) result (row_at nodes before reader.entry) }
 {
     let (origin, rest) = reader.read_origin_above(nodes, before)?;
-    let (upto, rest) = rest.read_u64_in(0, MOST)?;
+    let (upto, rest) = rest.read_u64_in(0, MAX_COUNTER)?;
     let least = if upto == 0 { 1 } else { 0 };
     let (count, rest) = rest.read_u32_in(least, u32::MAX)?;
     let (further, rest) = read_counters(rest, alloc, count, upto + 1)?;

@@ -1,5 +1,6 @@
 -- Why a running node refuses a command.
-use Rattle.std.specs.Prelude.{ℕ, ◌^◌, Bool, false, not, cond, nat_eq, nat_le, nat_lt, List, [], ◌∷◌, ◌++◌, length, Option, Some, None, is_some}
+use Rattle.std.specs.Prelude.{ℕ, Bool, false, not, cond, nat_eq, nat_le, nat_lt, List, [], ◌∷◌, ◌++◌, length, Option, Some, None, is_some}
+use Rattle.dac_base.specs.declared.limits.TheConstants.{MAX_COUNTER, MAX_REPLACED}
 use Rattle.dac_base.specs.declared.NodeId.{NodeId}
 use Rattle.dac_base.specs.declared.AppId.{AppId}
 use Rattle.dac_dots.specs.declared.dot.Origin.{Origin}
@@ -36,11 +37,11 @@ not_wished s key = not (is_wished key (wishes_of s))
 
 -- these are more dots than an operation may replace
 abbrev pub too_many : ℕ → Bool
-too_many count = nat_lt 1024 count
+too_many count = nat_lt MAX_REPLACED count
 
 -- the counters of the origin are used up
 abbrev pub used_up : StateValue → Origin → Bool
-used_up s own = nat_le (2 ^ 62) (greatest_counter own s.known)
+used_up s own = nat_le MAX_COUNTER (greatest_counter own s.known)
 
 -- there is such an incarnation, and it has this number
 abbrev pub is_inc : ℕ → Option ℕ → Bool

@@ -5,14 +5,11 @@ ghost use Rattle.dac_commands.specs.Causes.{first, causes_of, causes_to_permit, 
 
 use crate::keys::{key_of, refusal_to_name};
 use crate::refusal::Refusal;
-use dac_base::{AppId, NodeId};
+use dac_base::{AppId, MAX_REPLACED, NodeId};
 use dac_config::Config;
 use dac_dots::Origin;
 use dac_events::Command;
 use dac_state::State;
-
-/// How many dots an operation may replace.
-const MOST_REPLACED: usize = 1_024;
 
 /// Why a controller that runs as this incarnation with this state refuses a command, if it does.
 pub fn refusal_of(config: &Config, own: Origin, state: &State, command: Command) -> Option<Refusal>
@@ -133,7 +130,7 @@ fn refusal_to_issue(own: Origin, state: &State, count: usize) -> Option<Refusal>
 fn is_too_many(count: usize) -> bool
     ensures { result ≡ too_many count }
 {
-    count > MOST_REPLACED
+    count > MAX_REPLACED
 }
 
 /// Whether the counters of an incarnation's operations are used up.

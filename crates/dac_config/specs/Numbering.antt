@@ -5,6 +5,7 @@ use Rattle.std.specs.Ordering.{nat_cmp}
 use Rattle.std.specs.Cmp.Lexicographic.{slice_cmp}
 use Rattle.std.specs.Str.{bytes_eq}
 use Rattle.std.specs.BTreeSet.{insert_key}
+use Rattle.dac_base.specs.declared.limits.TheConstants.{MAX_APPS, MAX_NODES}
 use Rattle.dac_shapes.specs.Written.{App, Permission, Written}
 use Rattle.dac_shapes.specs.Limits.{is_among}
 use Rattle.dac_config.specs.Table.{NodeRow, AppRow, Table}
@@ -51,7 +52,7 @@ AllNew before (name ∷ names) = (is_among name before ≡ false) × AllNew (bef
 
 -- what holds of each text that is read: the limits, and that no application stands twice
 pub record IsNumberable (w : Written) : Type 0 where
-  pub nodes : length w.nodes ≤ 16
-  pub apps : length w.apps ≤ 64
-  pub groups : All (λ app. length app.groups ≤ 16) w.apps
+  pub nodes : length w.nodes ≤ MAX_NODES
+  pub apps : length w.apps ≤ MAX_APPS
+  pub groups : All (λ app. length app.groups ≤ MAX_NODES) w.apps
   pub once : AllNew [] (map (λ app. app.name) w.apps)

@@ -3,6 +3,7 @@ use Rattle.std.specs.Prelude.{◌≡◌, ◌⊎◌, ℕ, ◌<◌, ◌≤◌, Boo
 use Rattle.std.specs.Ordering.{nat_cmp}
 use Rattle.std.specs.List.{list_any, AllZip}
 use Rattle.std.specs.List.Sorted.{IsStrictlySortedBy}
+use Rattle.dac_base.specs.declared.limits.TheConstants.{MAX_APPS, MAX_NODES}
 use Rattle.dac_shapes.specs.Written.{App, Permission, Written}
 use Rattle.dac_shapes.specs.Limits.{is_among}
 use Rattle.dac_shapes.specs.Grammar.{IsTextOf}
@@ -58,8 +59,8 @@ pub data IsSaid (table : Table) : Type 0 where
 
 -- what holds of each configuration: its limits, that its groups are of nodes that there are, and that some text says it
 pub record IsTable (table : Table) : Type 0 where
-  pub nodes : node_count table ≤ 16
-  pub apps : app_count table ≤ 64
-  pub groups : All (λ app. length app.groups ≤ 16) table.apps
+  pub nodes : node_count table ≤ MAX_NODES
+  pub apps : app_count table ≤ MAX_APPS
+  pub groups : All (λ app. length app.groups ≤ MAX_NODES) table.apps
   pub members : All (λ app. All (λ group. All (λ number. number < node_count table) group) app.groups) table.apps
   pub said : IsSaid table

@@ -9,7 +9,8 @@ mod text;
 
 use crate::SyncWait;
 use crate::mark::Mark;
-use dac_base::{AppId, NoMemory, NodeId};
+use dac_base::{AppId, MAX_APPS, MAX_NODES, NoMemory, NodeId};
+use dac_shapes::MAX_TEXT;
 use dac_shapes::laws::limits_in_text_order;
 use indexmap::IndexMap;
 use std::marker::Model;
@@ -77,7 +78,7 @@ impl Config {
     /// How many nodes there are.
     pub fn nodes(&self) -> u8
         ensures count { result ≡ node_count self.now }
-        ensures few { result ≤ 16 }
+        ensures few { result ≤ MAX_NODES }
     {
         self.nodes.len() as u8
     }
@@ -85,9 +86,9 @@ impl Config {
     /// How many applications there are.
     pub fn apps(&self) -> u16
         ensures count { result ≡ app_count self.now }
-        ensures few { result ≤ 64 }
+        ensures few { result ≤ MAX_APPS }
         // Each has few groups, and they are of nodes that there are.
-        ensures groups { All (λ app. length app.groups ≤ 16) self.now.apps }
+        ensures groups { All (λ app. length app.groups ≤ MAX_NODES) self.now.apps }
         ensures members { All (λ app. All (λ group. All (λ node. node < node_count self.now) group) app.groups) self.now.apps }
     {
         self.apps.len() as u16
@@ -186,7 +187,7 @@ impl Config {
     pub fn canonical_text(&self) -> Result<Vec<u8>, NoMemory>
         ensures bytes { IfOk result (λ text. text.items ≡ canonical_text self.now) }
         // What is written is read again as an equal configuration, where it isn't too long to be read.
-        ensures read_again { IfOk result (λ text. length text.items ≤ 65536 → IsConfigOf text.items self.now) }
+        ensures read_again { IfOk result (λ text. length text.items ≤ MAX_TEXT → IsConfigOf text.items self.now) }
     {
         limits_in_text_order();
         let mut text = Vec::new(*self.nodes.allocator());

@@ -1,2 +1,1 @@
-mod AllUp
 mod Places

@@ -1,10 +1,11 @@
--- Waits compute what they say in words, for every list of notes and every state, also one that no operation made.
+-- Waits and the start gate compute what they say in words, for every list of notes and every state, also one that no operation made.
 use Rattle.std.specs.Prelude.{◌≡◌, ◌↔◌, ℕ, true, List, Some}
 use Rattle.dac_base.specs.declared.AppId.{AppId}
 use Rattle.dac_config.specs.Table.{Table}
 use Rattle.dac_chains.specs.declared.claims.Claim.{Claim}
 use Rattle.dac_meaning.specs.StateValue.{StateValue}
 use Rattle.dac_decide.specs.FailoverWait.{Note, IsLost, lost_in, IsNotedSince, noted_of, IsDue, is_due}
+use Rattle.dac_decide.specs.StartGate.{IsOpening, opening_of}
 
 abbrev pub LostInWords : Type 0
 LostInWords = (s : StateValue) (app : AppId) (claim : Claim) → (lost_in s app ≡ Some claim) ↔ IsLost s app claim
@@ -14,3 +15,6 @@ RowsInWords = (app : AppId) (notes : List Note) (claim : Claim) (since : ℕ) �
 
 abbrev pub DueInWords : Type 0
 DueInWords = (table : Table) (notes : List Note) (s : StateValue) (app : AppId) (now : ℕ) → (is_due table notes s app now ≡ true) ↔ IsDue table notes s app now
+
+abbrev pub OpeningInWords : Type 0
+OpeningInWords = (table : Table) (s : StateValue) (elapsed : ℕ) → IsOpening table s elapsed (opening_of table s elapsed)

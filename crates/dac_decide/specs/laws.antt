@@ -1,3 +1,4 @@
 pub mod Lost
 pub mod Rows
 pub mod Due
+pub mod AllUp

@@ -1,13 +1,14 @@
 -- Lists of kept deltas after one more came and after the oldest went.
-use Rattle.std.proofs.Common.{◌≡◌, ◌+◌, ◌<◌, ◌^◌, ℕ, List, [], ◌∷◌, ◌++◌, drop, fold, length, sym, ap, subst, ◌∙◌, arith}
+use Rattle.std.proofs.Common.{◌≡◌, ◌+◌, ◌<◌, ℕ, List, [], ◌∷◌, ◌++◌, drop, fold, length, sym, ap, subst, ◌∙◌, arith}
 use Rattle.std.proofs.lemmas.List.{length-drop, length-append}
 use Rattle.std.proofs.lemmas.List.Elements.{All-drop, All-push}
 use Rattle.std.specs.List.{All}
+use Rattle.dac_base.specs.declared.limits.TheConstants.{MAX_COUNTER}
 use Rattle.dac_deltas.specs.Kept.{IsBuffer, newest}
 
 module _ {L : Type 0} (is_value : L → Type 0) (count : ℕ) (xs : List L) (h : IsBuffer is_value (newest count xs)) where
   -- one more came, and the oldest went
-  pub pushed_over : (ys zs : List L) (x : L) → count < 2 ^ 62 → is_value x → ys ≡ xs ++ x ∷ [] → zs ≡ drop 1 ys → IsBuffer is_value (newest (count + 1) zs)
+  pub pushed_over : (ys zs : List L) (x : L) → count < MAX_COUNTER → is_value x → ys ≡ xs ++ x ∷ [] → zs ≡ drop 1 ys → IsBuffer is_value (newest (count + 1) zs)
   pushed_over ys zs x room v pushed dropped =
       let all = ap length dropped ∙ length-drop 1 ys in
       let one = ap length pushed ∙ length-append xs (x ∷ []) in

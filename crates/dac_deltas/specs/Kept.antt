@@ -1,6 +1,7 @@
 -- What a buffer keeps of a log of deltas, which are numbered from 0. (Delta intervals are after delta-state replicated data types; that 256 are kept is this project's own.)
-use Rattle.std.specs.Prelude.{◌≡◌, ℕ, ◌+◌, ◌-◌, ◌≤◌, ◌^◌, List, [], ◌∷◌, ◌++◌, length, drop, fold, min, cond, nat_lt, Option, Some, None}
+use Rattle.std.specs.Prelude.{◌≡◌, ℕ, ◌+◌, ◌-◌, ◌≤◌, List, [], ◌∷◌, ◌++◌, length, drop, fold, min, cond, nat_lt, Option, Some, None}
 use Rattle.std.specs.List.{All}
+use Rattle.dac_base.specs.declared.limits.TheConstants.{MAX_COUNTER}
 
 -- how many deltas there were ever, the least number that is kept, and the deltas kept, the oldest first
 pub record Kept (L : Type 0) : Type 0 where
@@ -12,7 +13,7 @@ pub record Kept (L : Type 0) : Type 0 where
 pub record IsBuffer {L : Type 0} (is_value : L → Type 0) (k : Kept L) : Type 0 where
   pub numbered : k.base + length k.deltas ≡ k.count
   pub few : length k.deltas ≤ 256
-  pub countable : k.count ≤ 2 ^ 62
+  pub countable : k.count ≤ MAX_COUNTER
   pub values : All is_value k.deltas
 
 -- these deltas are the newest of so many

@@ -1,8 +1,8 @@
 //! The newest deltas, by number.
-ghost use Rattle.std.specs.Prelude.{◌≡◌, ◌<◌, ◌≤◌, ◌^◌, Ok, None, OnOk, OnErr, IfOk, IfSome};
+ghost use Rattle.std.specs.Prelude.{◌≡◌, ◌<◌, ◌≤◌, Ok, None, OnOk, OnErr, IfOk, IfSome};
 ghost use Rattle.dac_deltas.specs.Kept.{IsBuffer, empty, pushed, trimmed, numbered_from, interval_of, IsJoinOf};
 
-use dac_base::NoMemory;
+use dac_base::{MAX_COUNTER, NoMemory};
 use dac_lattice::Bottom;
 use std::alloc::Global;
 use std::collections::VecDeque;
@@ -68,7 +68,7 @@ impl<L: Bottom> Buffer<L> {
     /// One more delta, whose number is the count. With 256 kept, the oldest is dropped. The caller owes a
     /// count below 2^62. [`NoMemory`] is the only error, and leaves all as it was.
     pub fn push(&mut self, delta: L) -> Result<(), NoMemory>
-        requires { self.old.count < 2 ^ 62 }
+        requires { self.old.count < MAX_COUNTER }
         ensures ok { OnOk result (self.new ≡ pushed self.old delta) }
         ensures err { OnErr result (self.new ≡ self.old) }
     {

@@ -9,6 +9,7 @@ use Rattle.std.proofs.lemmas.Cmp.{tied_itself}
 use Rattle.std.proofs.lemmas.List.{take_all}
 use Rattle.std.proofs.lemmas.List.Elements.{All-head, All-tail, All-from_recursion}
 use Rattle.std.proofs.lemmas.List.Folds.{list_any_more, list_any_at}
+use Rattle.dac_base.specs.declared.limits.TheConstants.{MAX_COUNTER}
 use Rattle.dac_dots.specs.Keys.{is_below_all, is_rising, IsRising, has_key}
 use Rattle.dac_dots.specs.InOrder.{tie, less}
 use Rattle.dac_dots.specs.Dots.{Dots, dot, dots_total, exact_dots, origin_cmp, origins_total, exact_origins, IsSubset, IsNext, IsUsedUp, IsVector}
@@ -103,7 +104,7 @@ module _ (dots : Dots) (o : Origin) (last : ℕ) where
   pub last_none : ((n : ℕ) → set.contains dots (dot o n) ≡ false) → last ≡ 0 → IsLastIn dots o last
   last_none there at = record { above = λ n e. absurd (false≢true (sym (there n) ∙ e)); there = inl at }
 
-  pub next_is : IsLastIn dots o last → last < 2 ^ 62 → IsNext dots o (dot o (last + 1))
+  pub next_is : IsLastIn dots o last → last < MAX_COUNTER → IsNext dots o (dot o (last + 1))
   next_is is low = record {
     same_origin = refl;
     above = λ n e. let h = is.above n e in omega arith;
@@ -111,7 +112,7 @@ module _ (dots : Dots) (o : Origin) (last : ℕ) where
     at_most = omega arith;
   }
 
-  pub used_up : IsLastIn dots o last → 2 ^ 62 ≤ last → IsUsedUp dots o
+  pub used_up : IsLastIn dots o last → MAX_COUNTER ≤ last → IsUsedUp dots o
   used_up is high = elim is.there [ inl none ↦ absurd (omega arith) | inr at ↦ record { n = last; there = at; high = high } ]
 
 -- ---- vectors

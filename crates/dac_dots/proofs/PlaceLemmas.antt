@@ -5,7 +5,7 @@ use Rattle.std.specs.Ordering.{nat_cmp, eq_by_cmp, is_eq, is_lt, ordering_index,
 use Rattle.std.specs.FinSet as set
 use Rattle.std.specs.List.{AllWithin, AllByRecursion, insert}
 use Rattle.std.specs.List.Sorted.{IsSearchInRange, IsBinarySearchResult, IsNonDecreasingBy}
-use Rattle.std.proofs.lemmas.Bool.{and_parts, and_from, or_cases, or_left, cases_lt, leb-true}
+use Rattle.std.proofs.lemmas.Bool.{and_parts, and_from, or_cases, or_left, or_right, cases_lt, leb-true}
 use Rattle.std.proofs.lemmas.Cmp.{tied_itself}
 use Rattle.std.proofs.lemmas.List.{length-map}
 use Rattle.std.proofs.lemmas.List.Elements.{All-from_recursion}
@@ -18,7 +18,7 @@ use Rattle.dac_dots.specs.declared.dot.Origin.{Origin}
 use Rattle.dac_dots.specs.declared.dot.Dot.{Dot}
 use Rattle.dac_dots.specs.CounterLaws.{is_eq-then, is_same}
 use Rattle.dac_dots.specs.RowSets.{alone, IsAlone, contains-dots_in, distribute, some_length, some_counter}
-use Rattle.dac_dots.specs.Rows.{Row, dots_in, has_counter, row_has, any_row, origins, IsKept, HasSome, AreKept, IsPlaceOf, HasAlso, HasBoth, IsOne}
+use Rattle.dac_dots.specs.Rows.{Row, dots_in, has_counter, row_has, any_row, origins, IsKept, HasSome, AreKept, IsPlaceOf, HasAlso, HasBoth, HasMore, IsOne}
 use Rattle.dac_dots.proofs.KeyLemmas.{greater, neighbours, rising_insert}
 
 -- ---- the origins of rows
@@ -156,6 +156,10 @@ both_has q a b row at h =
     ∙ sym (distribute (eq_by_cmp origin_cmp q.origin a.origin) (has_counter b q.n) (has_counter a q.n))
     ∙ ap (λ o. (eq_by_cmp origin_cmp q.origin o && has_counter b q.n) || row_has q a) at
 
+-- a row with the counters of another too
+pub both_grow : (a b row : Row) → HasBoth a b row → HasMore a row
+both_grow a b row h = record { origin = h.origin; kept = h.kept; more = λ n e. h.exact n ∙ or_right _ _ e }
+
 -- the rows of a set with one dot more
 pub inserted : (rows more : List Row) (s : Dots) (d : Dot) → dots_in rows ≡ s → ((q : Dot) → any_row more q ≡ (eq_by_cmp dot_cmp q d || any_row rows q)) → dots_in more ≡ set.insert s d
 inserted rows more s d is h = set.same_set dots_total exact_dots _ _ (λ q.
@@ -206,20 +210,21 @@ module _ (rows s : List Row) (dots : Dots) (view : dots_in rows ≡ dots) (kept 
         inserted rows (put_at rows i new) dots (dot o n) view (λ q. any_set (eq_by_cmp dot_cmp q (dot o n)) q rows i new r at.0
         (also_has (dot o n) q r new at_r h ∙ ap (λ (row : Row). eq_by_cmp dot_cmp q (dot o n) || row_has q row) is))
 
-    module _ (row new : Row) (at_o : row.origin ≡ o) (h : HasBoth r row new) where
-      pub united_kept : HasSome row → AreKept (put_at rows i new)
-      united_kept some =
-          let at = subst FoundIn same found in
-          let counter = some_counter row some in
-          kept_set rows i new r at.0 (h.origin ∙ ap (λ (row : Row). row.origin) is) h.kept (some_from new counter.0 (h.exact counter.0 ∙ or_left _ _ counter.1)) kept
+    pub grown_kept : (new : Row) → HasMore r new → AreKept (put_at rows i new)
+    grown_kept new h =
+        let at = subst FoundIn same found in
+        let P = λ (row : Row). IsKept row × HasSome row in
+        let some : HasSome r = subst HasSome (sym is) (All-from_recursion P rows kept.each i r at.0).1 in
+        let counter = some_counter r some in
+        kept_set rows i new r at.0 (h.origin ∙ ap (λ (row : Row). row.origin) is) h.kept (some_from new counter.0 (h.more counter.0 counter.1)) kept
 
-      pub united_is : (q : Dot) → set.contains (dots_in (put_at rows i new)) q ≡ (row_has q row || set.contains dots q)
-      united_is q =
-          let at = subst FoundIn same found in
-          let at_r : r.origin ≡ o = ap (λ (row : Row). row.origin) is ∙ at.1 r in
-          contains-dots_in (put_at rows i new) q
-          ∙ any_set (row_has q row) q rows i new r at.0 (both_has q r row new (at_r ∙ sym at_o) h ∙ ap (λ (x : Row). row_has q row || row_has q x) is)
-          ∙ ap (λ b. row_has q row || b) (sym (contains_is rows dots view q))
+    pub united_is : (row new : Row) → row.origin ≡ o → HasBoth r row new → (q : Dot) → set.contains (dots_in (put_at rows i new)) q ≡ (row_has q row || set.contains dots q)
+    united_is row new at_o h q =
+        let at = subst FoundIn same found in
+        let at_r : r.origin ≡ o = ap (λ (row : Row). row.origin) is ∙ at.1 r in
+        contains-dots_in (put_at rows i new) q
+        ∙ any_set (row_has q row) q rows i new r at.0 (both_has q r row new (at_r ∙ sym at_o) h ∙ ap (λ (x : Row). row_has q row || row_has q x) is)
+        ∙ ap (λ b. row_has q row || b) (sym (contains_is rows dots view q))
 
   module _ (between : Between) (items : List Row) (row : Row) (is : items ≡ insert rows i row) (at_o : row.origin ≡ o) (row_kept : IsKept row) where
     pub new_kept : HasSome row → AreKept items

@@ -9,13 +9,14 @@ use Rattle.std.proofs.lemmas.Map.Lookups.{exact_unsigned}
 use Rattle.dac_dots.specs.Keys.{IsRising, has_key, merged}
 use Rattle.std.proofs.lemmas.List.{take_all}
 use Rattle.std.proofs.lemmas.List.Elements.{All-weaker}
+use Rattle.std.proofs.lemmas.List.Folds.{list_any_more}
 use Rattle.dac_dots.specs.KeyLaws.{each_key, has_at}
 use Rattle.dac_dots.proofs.KeyLemmas.{below_at}
 use Rattle.dac_dots.specs.CounterLaws.{grows, on_the_way, ends_there, has_key-filter, rising_filter, same, is_same, less as number_less}
 use Rattle.dac_dots.specs.MergeLaws.{rising_merged, has_key-merged}
 use Rattle.dac_dots.specs.RowLaws.{splits}
 use Rattle.dac_dots.specs.RowSets.{kept_ends, some_length}
-use Rattle.dac_dots.specs.Rows.{Row, reach_from, further_of, has_counter, HasAlso, HasBoth, IsKept, IsLastOf, IsWithinRow}
+use Rattle.dac_dots.specs.Rows.{Row, reach_from, further_of, has_counter, HasAlso, HasBoth, HasThese, IsKept, IsLastOf, IsWithinRow}
 use Rattle.dac_dots.specs.declared.dot.Origin.{Origin}
 
 -- ---- what is settled
@@ -102,6 +103,26 @@ not_inside u n (inr p) = grind (arith, nat_tests)
 
 pub not_there : (old : Row) (n : ℕ) → (n ≡ 0) ⊎ (old.upto < n) → has_key nat_cmp old.further n ≡ false → has_counter old n ≡ false
 not_there old n at e = or_from _ _ (not_inside old.upto n at) e
+
+-- ---- counters put in one by one
+
+one_of_these : (a b c : Bool) → (a || (b || c)) ≡ ((b || a) || c)
+one_of_these true true c = refl
+one_of_these true false c = refl
+one_of_these false true c = refl
+one_of_these false false c = refl
+
+pub these_more : (old mid new : Row) (ns : List ℕ) (i : ℕ) → i < length ns → HasThese old (take i ns) mid → HasAlso mid (get_or ns i 0) new → HasThese old (take (i + 1) ns) new
+these_more old mid new ns i p these also = record {
+  origin = also.origin ∙ these.origin;
+  kept = also.kept;
+  exact = λ n.
+      let one = eq_by_cmp nat_cmp n (get_or ns i 0) in
+      also.exact n
+      ∙ ap (λ b. one || b) (these.exact n)
+      ∙ one_of_these one (has_key nat_cmp (take i ns) n) (has_counter old n)
+      ∙ ap (λ b. b || has_counter old n) (sym (list_any_more (eq_by_cmp nat_cmp n) ns i 0 p));
+}
 
 -- ---- two rows
 

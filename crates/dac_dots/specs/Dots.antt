@@ -1,5 +1,5 @@
 -- The order of dots, their code, and sets of dots.
-use Rattle.std.specs.Prelude.{◌≡◌, ℕ, ◌-◌, ◌<◌, ◌≤◌, ◌^◌, ◌⊎◌, true, refl}
+use Rattle.std.specs.Prelude.{◌≡◌, ℕ, ◌-◌, ◌<◌, ◌≤◌, ◌⊎◌, true, refl}
 use Rattle.std.proofs.Common.{ap}
 use Rattle.std.specs.declared.cmp.Ordering.{Ordering}
 use Rattle.std.specs.Ordering.{nat_cmp, ordering_then}
@@ -10,6 +10,7 @@ use Rattle.std.proofs.lemmas.Cmp.{nat_cmp_total, on_total, then_total}
 use Rattle.std.proofs.lemmas.Map.Lookups.{CmpEqualImpliesEq, exact_pairs, exact_unsigned}
 use Rattle.dac_base.specs.Ids.{node_cmp, nodes_total, exact_nodes}
 use Rattle.dac_base.specs.declared.NodeId.{NodeId}
+use Rattle.dac_base.specs.declared.limits.TheConstants.{MAX_COUNTER}
 use Rattle.dac_dots.specs.declared.dot.Origin.{Origin}
 use Rattle.dac_dots.specs.declared.dot.Dot.{Dot}
 
@@ -58,18 +59,14 @@ pub record IsNext (dots : Dots) (origin : Origin) (d : Dot) : Type 0 where
   pub same_origin : d.origin ≡ origin
   pub above : (n : ℕ) → set.contains dots (dot origin n) ≡ true → n < d.n
   pub tight : (d.n ≡ 1) ⊎ (set.contains dots (dot origin (d.n - 1)) ≡ true)
-  pub at_most : d.n ≤ 2 ^ 62
+  pub at_most : d.n ≤ MAX_COUNTER
 
 -- a dot of the origin has the greatest counter, so none is left
 pub record IsUsedUp (dots : Dots) (origin : Origin) : Type 0 where
   pub n : ℕ
   pub there : set.contains dots (dot origin n) ≡ true
-  pub high : 2 ^ 62 ≤ n
+  pub high : MAX_COUNTER ≤ n
 
 -- the dots of each origin are 1 to some number
 abbrev pub IsVector : Dots → Type 0
 IsVector dots = (origin : Origin) (n : ℕ) → set.contains dots (dot origin n) ≡ true → (1 ≤ n) × ((m : ℕ) → 1 ≤ m → m ≤ n → set.contains dots (dot origin m) ≡ true)
-
--- the dot is the first of its origin, or the one before it is there too
-abbrev pub HasPrevious : Dots → Dot → Type 0
-HasPrevious dots d = (1 ≤ d.n) × ((d.n ≡ 1) ⊎ (set.contains dots (dot d.origin (d.n - 1)) ≡ true))

@@ -1,12 +1,12 @@
 -- Laws of lists of keys and of the sets that they are, and what `==` says of two origins.
-use Rattle.std.specs.Prelude.{◌≡◌, ℕ, ◌+◌, ◌<◌, ◌≤◌, true, false, ◌&&◌, ◌||◌, cond, nat_eq, List, [], ◌∷◌, length}
+use Rattle.std.specs.Prelude.{◌≡◌, ℕ, ◌+◌, ◌<◌, ◌≤◌, true, ◌&&◌, ◌||◌, cond, nat_eq, List, [], ◌∷◌, length}
 use Rattle.std.proofs.Common.{inl, inr, take, get_or, sym, ap, subst, ◌∙◌, add-one}
 use Rattle.std.specs.declared.cmp.Ordering.{Ordering}
 use Rattle.std.specs.Ordering.{eq_by_cmp, is_eq}
 use Rattle.std.specs.Cmp.{IsTotalOrder}
 use Rattle.std.specs.List.{All}
 use Rattle.std.specs.FinSet as set
-use Rattle.std.proofs.lemmas.Bool.{and_parts, and_cases, or_cases, false≢true, eqb-true, eqb-false}
+use Rattle.std.proofs.lemmas.Bool.{and_parts, or_cases, false≢true, eqb-true}
 use Rattle.std.proofs.lemmas.Cmp.{tied_itself}
 use Rattle.std.proofs.lemmas.List.{take_all}
 use Rattle.std.proofs.lemmas.List.Elements.{All-head, All-tail}
@@ -67,10 +67,3 @@ equal_origins a b e =
     let nodes = eqb-true a.node.0 b.node.0 parts.0 in
     let incs = eqb-true a.inc b.inc parts.1 in
     λ i. record { node = record { 0 = nodes i }; inc = incs i }
-
--- and others are not
-pub other_origins : (a b : Origin) → (nat_eq a.node.0 b.node.0 && nat_eq a.inc b.inc) ≡ false → a ≡ b → ⊥
-other_origins a b e same = elim (and_cases _ _ e) [
-  | inl nodes ↦ eqb-false _ _ nodes (ap (λ o. o.node.0) same)
-  | inr incs ↦ eqb-false _ _ incs (ap (λ o. o.inc) same)
-]

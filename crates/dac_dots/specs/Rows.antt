@@ -140,6 +140,12 @@ pub record HasBoth (a b new : Row) : Type 0 where
   pub exact : (n : ℕ) → has_counter new n ≡ (has_counter b n || has_counter a n)
   pub kept : IsKept new
 
+-- the new row has these counters too
+pub record HasThese (old : Row) (ns : List ℕ) (new : Row) : Type 0 where
+  pub origin : new.origin ≡ old.origin
+  pub exact : (n : ℕ) → has_counter new n ≡ (has_key nat_cmp ns n || has_counter old n)
+  pub kept : IsKept new
+
 -- the row has this counter alone
 pub record IsOne (d : Dot) (row : Row) : Type 0 where
   pub origin : row.origin ≡ d.origin
@@ -154,6 +160,12 @@ pub record IsLastOf (row : Row) (last : ℕ) : Type 0 where
 -- each counter of the first row is one of the second
 abbrev pub IsWithinRow : Row → Row → Type 0
 IsWithinRow a b = (n : ℕ) → has_counter a n ≡ true → has_counter b n ≡ true
+
+-- the new row has each counter of the old one
+pub record HasMore (old new : Row) : Type 0 where
+  pub origin : new.origin ≡ old.origin
+  pub more : IsWithinRow old new
+  pub kept : IsKept new
 
 -- each origin of the rows is below
 abbrev pub IsBelow : List Row → Origin → Type 0

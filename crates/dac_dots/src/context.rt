@@ -9,12 +9,9 @@ ghost use Rattle.dac_dots.specs.declared.dot.Dot.{Dot};
 
 use crate::dot::{Dot, Origin};
 use crate::row::{OriginRow, has_no_dots, place_of, rises_from};
-use dac_base::NoMemory;
+use dac_base::{MAX_COUNTER, NoMemory};
 use std::alloc::Global;
 use std::marker::Model;
-
-/// The greatest counter that a dot is issued with.
-const MOST: u64 = 1 << 62;
 
 /// A causal context: the set of the dots that a replica has heard of. Contracts see it as a finite set.
 ///
@@ -100,8 +97,8 @@ impl Context {
         let alloc = *self.rows.allocator();
         match place_of(&self.rows, row.origin) {
             Ok(place) => {
-                let both = self.rows[place].unite(alloc, row)?;
-                self.rows[place] = both;
+                let own = &mut self.rows[place];
+                own.absorb(alloc, row)?;
             }
             Err(place) => {
                 let copied = row.copy(alloc)?;
@@ -153,7 +150,7 @@ impl Context {
             Ok(place) => self.rows[place].last(),
             Err(_) => 0,
         };
-        if last < MOST {
+        if last < MAX_COUNTER {
             Some(Dot {
                 origin,
                 n: last + 1,

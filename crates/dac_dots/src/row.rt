@@ -1,6 +1,6 @@
 //! The dots of one origin: how far its counters go without a gap, and the further ones.
 ghost use Rattle.std.specs.Prelude.{◌≡◌, ◌↔◌, ◌+◌, ◌^◌, ◌<◌, ◌≤◌, ◌||◌, length, false, IfOk, IsTrue, OnErr, OnOk};
-ghost use Rattle.dac_dots.specs.Rows.{further_of, has_counter, HasAlso, HasBoth, HasSome, IsLastOf, IsOne, IsPlaceOf, IsWithinRow, origins, reach_from, rises_on, row_has};
+ghost use Rattle.dac_dots.specs.Rows.{further_of, has_counter, HasAlso, HasBoth, HasMore, HasSome, IsLastOf, IsOne, IsPlaceOf, IsWithinRow, origins, reach_from, rises_on, row_has};
 ghost use Rattle.dac_dots.specs.declared.dot.Dot.{Dot};
 ghost use Rattle.dac_dots.specs.Dots.{dot_cmp, origin_cmp};
 ghost use Rattle.dac_dots.specs.Keys.{IsRising, has_key};
@@ -10,6 +10,9 @@ use crate::keys::{holds_key, insert_key, merge_keys};
 use dac_base::NoMemory;
 use std::alloc::Global;
 use std::marker::Model;
+
+/// How many further counters are put into a row one by one. Where there are more, both rows are merged.
+const FEW: usize = 8;
 
 /// The counters of an origin: 1 to `upto`, which is as great as it can be, and the further ones in rising
 /// order. A counter 0 is a further one.
@@ -117,6 +120,24 @@ impl OriginRow {
             upto,
             further,
         })
+    }
+
+    /// Puts the counters of the other row into this one. [`NoMemory`] is the only error, and may leave some
+    /// of them there.
+    ///
+    /// A row of many counters takes a few more by a search for each, with no list made anew.
+    pub(crate) fn absorb(&mut self, alloc: Global, other: &Self) -> Result<(), NoMemory>
+        ensures ok { OnOk result (HasBoth self.old other.now self.new) }
+        ensures err { OnErr result (HasMore self.old self.new) }
+    {
+        if other.upto <= self.upto && other.further.len() <= FEW {
+            for n in &other.further {
+                self.insert(*n)?;
+            }
+        } else {
+            *self = self.unite(alloc, other)?;
+        }
+        Ok(())
     }
 
     /// Whether each counter of this row is one of the other.

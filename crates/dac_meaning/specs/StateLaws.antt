@@ -140,3 +140,10 @@ bottom_least x u = record {
   lives = empty_is_least nodes_total exact_nodes lives_total (exact_lives flag_cmp flags_exact) x.lives;
   claims = empty_is_least apps_total exact_apps claims_total (exact_claims how_cmp exact_hows) x.claims;
 }
+
+-- nothing joined to a state leaves it
+pub bottom-join : (s : StateValue) → IsState s → join bottom s ≡ s
+bottom-join s is =
+    state_laws.antisymm (join bottom s) s (state_laws.closed bottom s bottom_value is) is
+    (state_laws.least bottom s s bottom_value is is (bottom_least s is) (state_laws.refl s is))
+    (state_laws.right bottom s bottom_value is)

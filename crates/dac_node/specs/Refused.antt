@@ -1,5 +1,6 @@
 -- Why an event is refused, in words: which causes an event can have, when each holds, and that the least of those that hold is answered. (The causes and their order are this project's own.)
 use Rattle.std.specs.Prelude.{◌≡◌, ◌⊎◌, ℕ, ◌-◌, ◌^◌, ◌<◌, ◌≤◌, List, [], ◌∷◌, length, Option, None, Some}
+use Rattle.dac_base.specs.declared.limits.TheConstants.{MAX_REPLACED}
 use Rattle.dac_base.specs.declared.NodeId.{NodeId}
 use Rattle.dac_base.specs.declared.AppId.{AppId}
 use Rattle.dac_dots.specs.declared.dot.Origin.{Origin}
@@ -96,7 +97,7 @@ Holds t v e NotInList = Some! (app_in e) (λ app. Some! (node_in e) (λ node. gr
 Holds t v e NotLive = Running v (λ own s. Some! (node_in e) (λ node. (inc : ℕ) → ¬ IsLive s.lives node inc))
 Holds t v e NotStarted = Running v (λ own s. Some! (app_in e) (λ app. Some! (node_in e) (λ node. ¬ SomeStands (key_at s app node) (wishes_of s))))
 Holds t v e NotForMe = Running v (λ own s. Some! (addressee_in e) (λ to. ¬ (to ≡ own.node)))
-Holds t v e TooManyDots = Running v (λ own s. 1024 < length (replaced_in s e))
+Holds t v e TooManyDots = Running v (λ own s. MAX_REPLACED < length (replaced_in s e))
 Holds t v e DotsUsedUp = Running v (λ own s. IsUsedUp s.known own)
 Holds t v e IncarnationsUsedUp = 2 ^ 32 - 1 ≤ v.last
 Holds t v e NoMemory = ⊥

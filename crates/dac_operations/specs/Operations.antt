@@ -1,5 +1,6 @@
 -- Operations: a dot, which names the operation, and an act.
 use Rattle.std.specs.Prelude.{◌≡◌, ◌≤◌, Bool, true, false, not, ◌||◌, List, [], length, Option, Some, None, nat_lt, ◌==◌, if◌then◌else◌}
+use Rattle.dac_base.specs.declared.limits.TheConstants.{MAX_REPLACED}
 use Rattle.dac_dots.specs.declared.dot.Dot.{Dot}
 use Rattle.dac_dots.specs.Dots.{dot_cmp}
 use Rattle.dac_dots.specs.Keys.{is_rising, IsRising, has_key}
@@ -35,7 +36,7 @@ replaces_itself d a = has_key dot_cmp (over_list a) d
 
 -- the replaced dots don't ascend, one stands twice, or they are more than 1,024
 abbrev pub has_bad_over : List Dot → Bool
-has_bad_over over = not (is_rising dot_cmp over) || nat_lt 1024 (length over)
+has_bad_over over = not (is_rising dot_cmp over) || nat_lt MAX_REPLACED (length over)
 
 -- the counter is 1 and it is no Up, or it is an Up under another counter
 abbrev pub has_bad_counter : Dot → Act → Bool
@@ -62,7 +63,7 @@ pub record IsSound (o : Operation) : Type 0 where
   -- the replaced dots ascend
   pub rising : IsRising dot_cmp (over_list o.act)
   -- and are at most 1,024
-  pub few : length (over_list o.act) ≤ 1024
+  pub few : length (over_list o.act) ≤ MAX_REPLACED
   -- 1 is the counter of an Up alone
   pub counter : is_up o.act ≡ (o.dot.n == 1)
   -- no node declares itself down

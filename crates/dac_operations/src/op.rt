@@ -6,13 +6,10 @@ ghost use Rattle.dac_dots.specs.Keys.{is_rising, has_key};
 ghost use Rattle.dac_operations.specs.Operations.{fault_of, has_bad_over, is_on_self, operation, IsSound};
 
 use crate::act::Act;
-use dac_base::NoMemory;
+use dac_base::{MAX_REPLACED, NoMemory};
 use dac_dots::Dot;
 use std::marker::Model;
 use thiserror::Error;
-
-/// How many dots an operation may replace.
-const MOST_REPLACED: usize = 1_024;
 
 /// Why a dot and an act make no operation.
 #[derive(Clone, Copy, Debug, PartialEq, Eq, Error)]
@@ -126,7 +123,7 @@ fn names(dots: &[Dot], dot: Dot) -> bool
 fn is_bad_over(dots: &[Dot]) -> bool
     ensures { result ≡ has_bad_over dots.now }
 {
-    !ascends(dots) || dots.len() > MOST_REPLACED
+    !ascends(dots) || dots.len() > MAX_REPLACED
 }
 
 /// Whether each dot is below the next.

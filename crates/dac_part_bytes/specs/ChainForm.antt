@@ -4,6 +4,7 @@ use Rattle.std.specs.List.{AllByRecursion}
 use Rattle.std.specs.FinMap as map
 use Rattle.dac_base.specs.declared.NodeId.{NodeId}
 use Rattle.dac_base.specs.declared.AppId.{AppId}
+use Rattle.dac_base.specs.declared.limits.TheConstants.{MAX_COUNTER}
 use Rattle.dac_chains.specs.declared.lives.Life.{Life}
 use Rattle.dac_chains.specs.declared.claims.Claim.{Claim}
 use Rattle.dac_chains.specs.declared.claims.How.{How}
@@ -44,7 +45,7 @@ pub record IsClaimInForm (t : Table) (e : AppId × Claim) : Type 0 where
   pub app : e.0.0 < app_count t
   -- its term is one that can be issued
   pub first : 1 ≤ e.1.term
-  pub last : e.1.term ≤ 2 ^ 62
+  pub last : e.1.term ≤ MAX_COUNTER
   -- who claims it is an incarnation of a node that there is
   pub origin : IsOrigin (node_count t) e.1.origin
   -- and that node is in the application's list

@@ -9,16 +9,13 @@ ghost use Rattle.dac_part_bytes.specs.Spelling.{claims_bytes, lives_bytes};
 ghost use Rattle.dac_part_bytes.specs.Reading.{all_claims_at, all_lives_at, claim_at, claim_fields_at, claimer_at, claims_in_order_at, life_at, listed_claim_at, lives_in_order_at, term_and_claimer_at};
 
 use crate::reading_fields::{is_listed, read_app, read_inc_and_flag, read_manner, read_node_above};
-use dac_base::{AppId, NodeId};
+use dac_base::{AppId, MAX_COUNTER, NodeId};
 use dac_bytes::{ByteReader, ReadFault, ReadFaultKind};
 use dac_chains::{Claim, Claims, How, Life, Lives};
 use dac_config::Config;
 use dac_dots::Origin;
 use dac_lattice::{Bottom, Lattice};
 use std::alloc::Global;
-
-/// The greatest term of a claim.
-const MOST: u64 = 1 << 62;
 
 /// The life of a node above the one before it.
 #[tactic(auto, unfolding(crate::specs::Reading::life_at))]
@@ -115,7 +112,7 @@ fn read_term_and_claimer<'a>(
     ensures exact { result ≡ term_and_claimer_at nodes reader.entry }
     ensures real { IsOfBytes result }
 {
-    let (term, rest) = reader.read_u64_in(1, MOST)?;
+    let (term, rest) = reader.read_u64_in(1, MAX_COUNTER)?;
     let (claimer, rest) = read_claimer(rest, nodes)?;
     let (origin, (how, from)) = claimer;
     let claim = Claim {

@@ -1,16 +1,20 @@
 -- Placement computes what it says in words, for every configuration and every state, also one that no operation made.
-use Rattle.std.specs.Prelude.{◌≡◌, ◌↔◌, true, MatchOption}
+use Rattle.std.specs.Prelude.{◌≡◌, ◌↔◌, true, None, Some, MatchOption}
 use Rattle.dac_base.specs.declared.NodeId.{NodeId}
 use Rattle.dac_base.specs.declared.AppId.{AppId}
 use Rattle.dac_config.specs.Table.{Table}
 use Rattle.dac_meaning.specs.StateValue.{StateValue}
-use Rattle.dac_placement.specs.Placement.{IsEligible, is_eligible, EachEligible, RunsAt, runs_at, IsFirst, first_choice, IsStanding, standing_of, IsVerdict, verdict_of}
+use Rattle.dac_placement.specs.Placement.{IsEligible, is_eligible, EachEligible, RunsAt, runs_at, runner_of, IsFirst, first_choice, IsStanding, standing_of, IsVerdict, verdict_of, candidate_of}
+use Rattle.dac_placement.specs.laws.Rests.{Rests}
 
 abbrev pub EligibleInWords : Type 0
 EligibleInWords = (table : Table) (s : StateValue) (app : AppId) (node : NodeId) → (is_eligible table s app node ≡ true) ↔ IsEligible table s app node
 
 abbrev pub RunsInWords : Type 0
 RunsInWords = (table : Table) (s : StateValue) (app : AppId) (node : NodeId) → (runs_at table s app node ≡ true) ↔ RunsAt table s app node
+
+abbrev pub RunnerInWords : Type 0
+RunnerInWords = (table : Table) (s : StateValue) (app : AppId) (node : NodeId) → (runner_of table s app ≡ Some node) ↔ RunsAt table s app node
 
 abbrev pub FirstInWords : Type 0
 FirstInWords = (table : Table) (s : StateValue) (app : AppId) → MatchOption (first_choice table s app) (EachEligible table s app (λ _. ⊥)) (λ node. IsFirst table s app node)
@@ -20,3 +24,10 @@ StandingInWords = (table : Table) (s : StateValue) (app : AppId) → IsStanding 
 
 abbrev pub VerdictInWords : Type 0
 VerdictInWords = (table : Table) (s : StateValue) (app : AppId) → IsVerdict table s app (verdict_of table s app)
+
+-- who is to claim an application is its first choice, and nobody is exactly where it is left alone by how it stands and by who is eligible, and by no load
+abbrev pub CandidateInWords : Type 0
+CandidateInWords = (table : Table) (s : StateValue) (app : AppId) (node : NodeId) → candidate_of (verdict_of table s app) ≡ Some node → IsFirst table s app node
+
+abbrev pub RestsInWords : Type 0
+RestsInWords = (table : Table) (s : StateValue) (app : AppId) → (candidate_of (verdict_of table s app) ≡ None) ↔ Rests table s app (standing_of table s app)

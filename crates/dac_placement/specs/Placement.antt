@@ -1,7 +1,7 @@
 -- Where an application runs and where it belongs, read off a configuration and a state. After OTP's Design Principles, chapter Distributed Applications, and application(3): an application is started at the first node of its list that is up, and within a tuple at the one that runs the fewest; when its node goes down it fails over, a stopped one isn't moved, a forbidden one is, and a node of an earlier group takes it over from a later one. (That wishes and permissions are of one incarnation, and that a tie goes by name, is this project's own.)
 use Rattle.std.specs.Prelude.{◌≡◌, ◌⊎◌, ℕ, ◌<◌, ◌≤◌, Bool, false, not, ◌&&◌, ◌==◌, nat_lt, List, length, map as list_map, filter, Option, None, Some, IsSome, is_some, if◌then◌else◌}
 use Rattle.std.specs.List.{range_with_len, filter_map, reduce}
-use Rattle.std.specs.Option.{option_map, option_map_or}
+use Rattle.std.specs.Option.{option_map, option_map_or, option_and_then}
 use Rattle.std.specs.Ordering.{ord_min}
 use Rattle.std.specs.FinMap as map
 use Rattle.dac_base.specs.declared.NodeId.{NodeId}
@@ -79,6 +79,10 @@ pub record RunsAt (table : Table) (s : StateValue) (app : AppId) (node : NodeId)
 
 abbrev pub runs_at : Table → StateValue → AppId → NodeId → Bool
 runs_at table s app node = option_map_or (λ (o : Origin). (o.node.0 == node.0) && is_up s o) (holder_of s app) false && is_eligible table s app node
+
+-- the node at which the application runs, if it runs at any: its holder's, where it runs there
+abbrev pub runner_of : Table → StateValue → AppId → Option NodeId
+runner_of table s app = option_and_then (λ (o : Origin). if runs_at table s app o.node then Some o.node else None) (holder_of s app)
 
 -- the applications of the configuration
 abbrev pub apps_of : Table → List AppId

@@ -3,3 +3,4 @@ pub mod Standing
 pub mod Least
 pub mod FirstChoice
 pub mod Judged
+pub mod Rests

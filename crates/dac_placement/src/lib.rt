@@ -20,5 +20,5 @@ mod verdicts;
 
 pub use deciding::verdict;
 pub use eligibility::{eligible, is_permitted, is_started};
-pub use running::{holder, is_up, load, runs_at};
+pub use running::{holder, is_up, load, runner, runs_at};
 pub use verdicts::Verdict;

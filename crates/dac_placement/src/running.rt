@@ -1,8 +1,9 @@
 //! Who holds an application, and where it runs.
 ghost use Rattle.std.specs.Prelude.{◌≡◌, ◌↔◌, ◌<◌, IsTrue};
 ghost use Rattle.dac_base.specs.declared.AppId.{AppId as App};
+ghost use Rattle.dac_base.specs.declared.NodeId.{NodeId as Node};
 ghost use Rattle.dac_config.specs.Table.{app_count};
-ghost use Rattle.dac_placement.specs.Placement.{holder_of, IsUp, is_up, RunsAt, runs_at, load_of};
+ghost use Rattle.dac_placement.specs.Placement.{holder_of, IsUp, is_up, RunsAt, runs_at, runner_of, load_of};
 
 use crate::eligibility::eligible;
 use dac_base::{AppId, NodeId};
@@ -43,6 +44,20 @@ pub fn runs_at(config: &Config, state: &State, app: AppId, node: NodeId) -> bool
             && is_up(state, origin)
             && eligible(config, state, app, node),
         None => false,
+    }
+}
+
+/// The node at which an application runs, if it runs at any: its holder's, where it runs there. It takes no memory.
+pub fn runner(config: &Config, state: &State, app: AppId) -> Option<NodeId>
+    requires { app.0 < app_count config.now }
+    ensures value { result ≡ runner_of config.now state.now app }
+    ensures cases { (node : Node) → (result ≡ Some node) ↔ RunsAt config.now state.now app node }
+{
+    let origin = holder(state, app)?;
+    if runs_at(config, state, app, origin.node) {
+        Some(origin.node)
+    } else {
+        None
     }
 }
 

@@ -5,11 +5,12 @@ use Rattle.std.specs.Io.KnownBytes.{Consumes}
 use Rattle.dac_script.specs.declared.failure.Failure.{Failure}
 use Rattle.dac_script.specs.declared.failure.Failure.TheVariants as failure
 use Rattle.dac_script.specs.declared.fault.InputFault.TheVariants.{TooLong, NoScript, Read}
+use Rattle.dac_script.specs.declared.input.TheConstants.{MAX_INPUT}
 use Rattle.dac_script.specs.Script.{lines_of}
 
 -- the most bytes that an input may have
 abbrev pub max_input : ℕ
-max_input = 2097152
+max_input = MAX_INPUT
 
 -- an input that isn't too long
 abbrev pub IsTaken : List ℕ → Type 0

@@ -3,12 +3,13 @@ use Rattle.std.specs.Prelude.{◌≡◌, ◌≢◌, ◌⊎◌, ℕ, ◌<◌, Lis
 use Rattle.dac_script.specs.declared.failure.Failure.{Failure}
 use Rattle.dac_script.specs.declared.failure.Failure.TheVariants as failure
 use Rattle.dac_script.specs.declared.fault.InputFault.TheVariants.{TooLong, NoScript, Read}
+use Rattle.dac_script.specs.declared.source.TheConstants.{MAX_READS}
 use Rattle.dac_script.specs.declared.source.Progress.{Progress}
 use Rattle.dac_script.specs.declared.source.Progress.TheVariants.{Open, Ended, Failed}
 
 -- the most reads that an input may need
 abbrev pub max_reads : ℕ
-max_reads = 4194304
+max_reads = MAX_READS
 
 -- a reader in use: what it has left, where that is known, how often it was read, and how that went
 pub record Sourced : Type 0 where

@@ -1,9 +1,10 @@
 -- The words of a line, and what a word says.
-use Rattle.std.specs.Prelude.{ℕ, ◌+◌, ◌-◌, ◌*◌, ◌^◌, Bool, false, not, ◌&&◌, List, [], ◌∷◌, length, take, filter, nat_le, ◌==◌, slice_index, if◌then◌else◌, Option, Some, None}
+use Rattle.std.specs.Prelude.{ℕ, ◌+◌, ◌-◌, ◌*◌, Bool, false, not, ◌&&◌, List, [], ◌∷◌, length, take, filter, nat_le, ◌==◌, slice_index, if◌then◌else◌, Option, Some, None}
 use Rattle.std.specs.List.{slice_split, list_all}
 use Rattle.std.specs.Char.{is_ascii_digit}
 use Rattle.dac_tokens.specs.Scan.{is_quotable}
 use Rattle.dac_config.specs.Canonical.{is_bare}
+use Rattle.dac_script.specs.declared.words.TheConstants.{MAX_NUMBER}
 
 -- the words of a line stand between its spaces
 abbrev pub words_of : List ℕ → List (List ℕ)
@@ -34,6 +35,6 @@ abbrev pub value_from : ℕ → List ℕ → ℕ
 value_from n [] = n
 value_from n (d ∷ ds) = value_from (10 * n + (d - 48)) ds
 
--- the number that the word is, at most 2 ^ 62
+-- the number that the word is, at most MAX_NUMBER
 abbrev pub number_in : List ℕ → Option ℕ
-number_in word = if is_digits word && nat_le (value_from 0 word) (2 ^ 62) then Some (value_from 0 word) else None
+number_in word = if is_digits word && nat_le (value_from 0 word) MAX_NUMBER then Some (value_from 0 word) else None

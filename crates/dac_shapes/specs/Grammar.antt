@@ -4,6 +4,7 @@ use Rattle.dac_tokens.specs.declared.token.Symbol.{Symbol}
 use Rattle.dac_tokens.specs.declared.token.Symbol.TheVariants.{OpenList, CloseList, OpenTuple, CloseTuple, Comma, FullStop}
 use Rattle.dac_tokens.specs.TokenGrammar.{AreTokensOf}
 use Rattle.dac_tokens.specs.Words.{Word, Mark, Name, Number, Text, Located}
+use Rattle.dac_shapes.specs.declared.limits.TheConstants.{MAX_TEXT}
 use Rattle.dac_shapes.specs.declared.param.ParamName.{ParamName}
 use Rattle.dac_shapes.specs.declared.param.ParamName.TheVariants as named
 use Rattle.dac_shapes.specs.declared.draft.SyncWait.{SyncWait}
@@ -114,10 +115,10 @@ IsSection words Section.Other = (name : List ℕ) × (name ≢ codes "kernel") �
 abbrev pub IsFile : List Word → List Section → Type 0
 IsFile words sections = (list : List Word) × (words ≡ list ++ Mark FullStop ∷ []) × IsListOf IsSection list sections
 
--- A text of at most 65,536 bytes says this: its tokens are a file, which keeps the limits, and which lists one
+-- A text of at most MAX_TEXT bytes says this: its tokens are a file, which keeps the limits, and which lists one
 -- application at least.
 pub record IsTextOf (text : List ℕ) (draft : Written) : Type 0 where
-  pub short : length text ≤ 65536
+  pub short : length text ≤ MAX_TEXT
   pub tokens : List Located
   pub sections : List Section
   pub spelled : AreTokensOf text tokens

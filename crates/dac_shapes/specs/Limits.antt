@@ -2,6 +2,8 @@
 use Rattle.std.specs.Prelude.{◌≡◌, ℕ, ◌<◌, ◌≤◌, ◌==◌, Bool, true, false, List, [], ◌∷◌, ◌++◌, length, map, Option, None, Some, if◌then◌else◌}
 use Rattle.std.specs.Str.{bytes_eq}
 use Rattle.std.specs.List.{list_any}
+use Rattle.dac_base.specs.declared.limits.TheConstants.{MAX_APPS, MAX_NODES}
+use Rattle.dac_shapes.specs.declared.limits.TheConstants.{MAX_NAME}
 use Rattle.dac_shapes.specs.declared.param.ParamName.{ParamName}
 use Rattle.dac_shapes.specs.declared.param.ParamName.TheVariants as named
 use Rattle.dac_shapes.specs.Written.{App, Permission, Param, Distributed, Permissions, Mandatory, Optional, Timeout, Section, Kernel, name_of}
@@ -60,12 +62,12 @@ with_name names name = if is_among name names then names else names ++ name ∷ 
 abbrev pub with_node : Seen → List ℕ → Seen
 with_node seen name = record { met = with_name seen.met name; listed = seen.listed ++ name ∷ [] }
 
--- A node may come: its name has at most 255 bytes, it stands in its list once unless repeats are taken there, and
--- it is known or fewer than 16 are.
+-- A node may come: its name has at most MAX_NAME bytes, it stands in its list once unless repeats are taken there, and
+-- it is known or fewer than MAX_NODES are.
 pub record MayNode (repeats : Bool) (seen : Seen) (name : List ℕ) : Type 0 where
-  pub short : length name ≤ 255
+  pub short : length name ≤ MAX_NAME
   pub once : repeats ≡ false → is_among name seen.listed ≡ false
-  pub few : is_among name seen.met ≡ false → length seen.met < 16
+  pub few : is_among name seen.met ≡ false → length seen.met < MAX_NODES
 
 abbrev pub with_nodes : Seen → List (List ℕ) → Seen
 with_nodes seen names = steps with_node seen names
@@ -88,12 +90,12 @@ listing seen = record seen { listed = [] }
 abbrev pub with_app : Seen → App → Seen
 with_app seen app = with_groups (listing seen) app.groups
 
--- An application may come after these: its name has at most 255 bytes and is new, fewer than 64 came, and its nodes
--- may come.
+-- An application may come after these: its name has at most MAX_NAME bytes and is new, fewer than MAX_APPS came, and
+-- its nodes may come.
 pub record MayApp (before : List App) (seen : Seen) (app : App) : Type 0 where
-  pub short : length app.name ≤ 255
+  pub short : length app.name ≤ MAX_NAME
   pub once : is_among app.name (map (λ a. a.name) before) ≡ false
-  pub few : length before < 64
+  pub few : length before < MAX_APPS
   pub nodes : MayGroups (listing seen) app.groups
 
 abbrev pub with_apps : Seen → List App → Seen
@@ -105,9 +107,9 @@ with_apps seen apps = steps with_app seen apps
 abbrev pub with_permission : Seen → Permission → Seen
 with_permission seen permission = seen
 
--- a permission may come: its name has at most 255 bytes, whether an application has it or not
+-- a permission may come: its name has at most MAX_NAME bytes, whether an application has it or not
 abbrev pub MayPermission : List Permission → Seen → Permission → Type 0
-MayPermission before seen permission = length permission.name ≤ 255
+MayPermission before seen permission = length permission.name ≤ MAX_NAME
 
 -- ---- parameters and sections
 

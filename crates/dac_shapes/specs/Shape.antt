@@ -1,6 +1,7 @@
 -- The shapes of a configuration, read from left to right with the first fault that is met.
 use Rattle.std.specs.Prelude.{◌≡◌, ◌<◌, ℕ, zero, suc, ◌+◌, ◌-◌, ◌*◌, Bool, true, false, not, ◌&&◌, List, [], ◌∷◌, ◌++◌, length, map, fold, Option, None, Some, Result, Ok, Err, nat_lt, nat_le, ◌==◌, if◌then◌else◌, codes}
 use Rattle.std.specs.Str.{bytes_eq}
+use Rattle.dac_base.specs.declared.limits.TheConstants.{MAX_APPS, MAX_NODES}
 use Rattle.dac_tokens.specs.declared.fault.FaultKind.{FaultKind}
 use Rattle.dac_tokens.specs.declared.fault.FaultKind.TheVariants.{TooLong, Unsupported, BadShape, NoDistributed, TwiceApp, TwiceInList, EmptyList, EmptyTuple, TooManyNodes, TooManyApps, NumberTooLarge, NameTooLong}
 use Rattle.dac_tokens.specs.declared.fault.ConfigFault.{ConfigFault}
@@ -11,6 +12,7 @@ use Rattle.dac_tokens.specs.Words.{Word, Mark, Name, Number, Text, End, Located,
 use Rattle.dac_tokens.specs.Stream.{Stream, tokens_of, taken}
 use Rattle.dac_shapes.specs.declared.draft.SyncWait.{SyncWait}
 use Rattle.dac_shapes.specs.declared.draft.SyncWait.TheVariants.{Forever, Ms}
+use Rattle.dac_shapes.specs.declared.limits.TheConstants.{MAX_NAME, MAX_TEXT}
 use Rattle.dac_shapes.specs.declared.param.ParamName.{ParamName}
 use Rattle.dac_shapes.specs.declared.param.ParamName.TheVariants as named
 use Rattle.dac_shapes.specs.Written.{App, Permission, Param, Distributed, Permissions, Mandatory, Optional, Timeout, Section, Kernel, Written, written}
@@ -79,11 +81,11 @@ atom_of t = named t.word
     named Text = fails BadShape t.at
     named End = fails BadShape t.at
 
--- the name, of at most 255 bytes, that a token is
+-- the name, of at most MAX_NAME bytes, that a token is
 unfoldable pub short_name_of : Located → Result (List ℕ) ConfigFault
 short_name_of t = do
   name ← atom_of t
-  if nat_lt 255 (length name) then fails NameTooLong t.at else Ok name
+  if nat_lt MAX_NAME (length name) then fails NameTooLong t.at else Ok name
 
 -- the number that digits are, behind n
 abbrev pub value_from : ℕ → List ℕ → ℕ
@@ -149,7 +151,7 @@ unfoldable pub app_name_of : List App → Located → Result (List ℕ) ConfigFa
 app_name_of before t = do
   name ← short_name_of t
   if is_among name (map (λ app. app.name) before) then fails TwiceApp t.at
-      else (if nat_le 64 (length before) then fails TooManyApps t.at
+      else (if nat_le MAX_APPS (length before) then fails TooManyApps t.at
       else Ok name)
 
 -- the node that a token is, in the list that is being read
@@ -157,7 +159,7 @@ unfoldable pub node_of : Bool → Located → State → Result (List ℕ × Stat
 node_of repeats t s = do
   name ← short_name_of t
   if not repeats && is_among name s.seen.listed then fails TwiceInList t.at
-      else (if not (is_among name s.seen.met) && nat_le 16 (length s.seen.met) then fails TooManyNodes t.at
+      else (if not (is_among name s.seen.met) && nat_le MAX_NODES (length s.seen.met) then fails TooManyNodes t.at
       else Ok (name, record s { seen = with_node s.seen name }))
 
 -- ---- lists and pairs of any things
@@ -415,8 +417,8 @@ file_at s = do
   let draft = written sections.0 end.1.seen.met
   if length draft.apps == 0 then fails NoDistributed end.0 else Ok draft
 
--- a whole text, of at most 65,536 bytes
+-- a whole text, of at most MAX_TEXT bytes
 unfoldable pub draft_at : List ℕ → Result Written ConfigFault
 draft_at text =
-    if nat_lt 65536 (length text) then fails TooLong 65536
+    if nat_lt MAX_TEXT (length text) then fails TooLong MAX_TEXT
     else file_at (record { left = tokens_of (length text) 0 text; seen = nothing })

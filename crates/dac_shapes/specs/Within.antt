@@ -2,6 +2,8 @@
 use Rattle.std.specs.Prelude.{◌≡◌, ℕ, ◌<◌, ◌≤◌, true, List, [], ◌∷◌, ◌++◌, length, map, fold, All, count_by}
 use Rattle.std.specs.List.{IsDistinct}
 use Rattle.std.specs.Str.{bytes_eq}
+use Rattle.dac_base.specs.declared.limits.TheConstants.{MAX_APPS, MAX_NODES}
+use Rattle.dac_shapes.specs.declared.limits.TheConstants.{MAX_NAME}
 use Rattle.dac_shapes.specs.declared.param.ParamName.{ParamName}
 use Rattle.dac_shapes.specs.Written.{App, Permission, Param, Distributed, Permissions, Mandatory, Optional, Timeout, Section, Kernel, Written, name_of}
 use Rattle.dac_shapes.specs.Limits.{is_among, is_named, is_kernel, with_name}
@@ -41,15 +43,15 @@ firsts names = fold with_name [] names
 abbrev pub nodes_in : List Section → List (List ℕ)
 nodes_in sections = firsts (names_in sections)
 
--- at most 64 applications with different names of at most 255 bytes, and in none's list a node twice
+-- at most MAX_APPS applications with different names of at most MAX_NAME bytes, and in none's list a node twice
 pub record AreAppsWithin (apps : List App) : Type 0 where
-  pub few : length apps ≤ 64
-  pub short : All (λ app. length app.name ≤ 255) apps
+  pub few : length apps ≤ MAX_APPS
+  pub short : All (λ app. length app.name ≤ MAX_NAME) apps
   pub different : IsDistinct bytes_eq (map (λ app. app.name) apps)
   pub once : All (λ app. IsDistinct bytes_eq (names_of_app app)) apps
 
 abbrev pub ArePermissionsWithin : List Permission → Type 0
-ArePermissionsWithin permissions = All (λ permission. length permission.name ≤ 255) permissions
+ArePermissionsWithin permissions = All (λ permission. length permission.name ≤ MAX_NAME) permissions
 
 abbrev pub IsValueWithin : Param → Type 0
 IsValueWithin (Distributed apps) = AreAppsWithin apps
@@ -60,23 +62,23 @@ IsValueWithin (Timeout wait) = Unit {0}
 IsValueWithin Param.Other = Unit {0}
 
 -- Sections keep the limits: `kernel` stands once at most, and so does each parameter that is read; the applications
--- and permissions keep theirs; and there are at most 16 different names of nodes, of at most 255 bytes each.
+-- and permissions keep theirs; and there are at most MAX_NODES different names of nodes, of at most MAX_NAME bytes each.
 pub record AreWithinLimits (sections : List Section) : Type 0 where
   pub kernel : count_by is_kernel sections ≤ 1
   pub params : (name : ParamName) → count_by (λ param. is_named name (name_of param)) (params_in sections) ≤ 1
   pub values : All IsValueWithin (params_in sections)
-  pub short : All (λ name. length name ≤ 255) (names_in sections)
-  pub few : length (nodes_in sections) ≤ 16
+  pub short : All (λ name. length name ≤ MAX_NAME) (names_in sections)
+  pub few : length (nodes_in sections) ≤ MAX_NODES
 
--- What is written keeps the limits: the applications and permissions theirs; the nodes are at most 16 different
--- names of at most 255 bytes, among which are all that are written; and an application has at most 16 groups, none of
--- them empty.
+-- What is written keeps the limits: the applications and permissions theirs; the nodes are at most MAX_NODES
+-- different names of at most MAX_NAME bytes, among which are all that are written; and an application has at most
+-- MAX_NODES groups, none of them empty.
 pub record IsWithinLimits (w : Written) : Type 0 where
   pub apps : AreAppsWithin w.apps
   pub permissions : ArePermissionsWithin w.permissions
-  pub few : length w.nodes ≤ 16
-  pub short : All (λ name. length name ≤ 255) w.nodes
+  pub few : length w.nodes ≤ MAX_NODES
+  pub short : All (λ name. length name ≤ MAX_NAME) w.nodes
   pub different : IsDistinct bytes_eq w.nodes
-  pub groups : All (λ app. length app.groups ≤ 16) w.apps
+  pub groups : All (λ app. length app.groups ≤ MAX_NODES) w.apps
   pub some : All (λ app. All (λ group. 0 < length group) app.groups) w.apps
   pub all : All (λ name. is_among name w.nodes ≡ true) (joined (map names_of_app w.apps) ++ w.mandatory ++ w.optional)

@@ -9,6 +9,7 @@ ghost use Rattle.dac_state.specs.StatePieces.{AreChains, AreDots, ArePieces, Are
 ghost use Rattle.dac_state.specs.StateSpelling.{spelling_of};
 ghost use Rattle.dac_state.specs.StateReading.{dots_at, standing_at, chains_at, pieces_at, parts_at, state_at};
 
+use crate::parts::Parts;
 use crate::state::State;
 use dac_bytes::{ByteReader, ReadFault, ReadFaultKind};
 use dac_chains::{Claims, Lives};
@@ -99,13 +100,13 @@ fn read_pieces<'a>(
     Ok(((standing, chains), rest))
 }
 
-/// The state of its parts.
+/// The parts of a state.
 #[tactic(auto, unfolding(crate::specs::StateReading::parts_at))]
 fn read_parts<'a>(
     reader: ByteReader<'a>,
     alloc: Global,
     config: &Config,
-) -> Result<(State, ByteReader<'a>), ReadFault>
+) -> Result<(Parts, ByteReader<'a>), ReadFault>
     ensures exact { Gives (λ x. x) result (parts_at config.now reader.entry) }
     ensures found { IsFoundAs (λ x. x) spelling_of (IsInForm config.now) reader.entry result }
     ensures again { IsReadAgain (λ x. x) spelling_of (IsInForm config.now) reader.entry result }
@@ -115,8 +116,8 @@ fn read_parts<'a>(
     let ((permissions, wishes), (lives, claims)) = pieces;
     Lattice::known(&permissions);
     Lattice::known(&wishes);
-    let state = State::of(alloc, heard, permissions, wishes, lives, claims);
-    Ok((state, rest))
+    let parts = Parts::new(alloc, heard, permissions, wishes, lives, claims);
+    Ok((parts, rest))
 }
 
 /// A state, and no byte after it.
@@ -126,8 +127,9 @@ fn read_state(alloc: Global, config: &Config, bytes: &[u8]) -> Result<State, Rea
     ensures found { IsBytes bytes.now → IfOk result (λ s. IsInForm config.now s × (bytes.now ≡ spelling_of s)) }
     ensures again { (s : StateValue) → IsInForm config.now s → bytes.now ≡ spelling_of s → Gives (λ s. s) result (Ok s) }
 {
-    let (state, rest) = read_parts(ByteReader::new(bytes), alloc, config)?;
+    let (parts, rest) = read_parts(ByteReader::new(bytes), alloc, config)?;
     if rest.is_at_end() {
+        let state = State::of(parts)?;
         return Ok(state);
     }
     Err(ReadFault {

@@ -17,4 +17,5 @@ pub use state::State;
 
 mod coding;
 mod decoding;
+mod parts;
 mod state;

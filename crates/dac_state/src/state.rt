@@ -2,8 +2,8 @@
 ghost use Rattle.std.specs.Prelude.{◌≡◌, ◌∷◌, [], IfOk};
 ghost use Rattle.dac_meaning.specs.StateValue.{permissions_of, wishes_of};
 ghost use Rattle.dac_meaning.specs.Meaning.{meaning_of};
-ghost use Rattle.dac_state.specs.Parts.{AreParts, state_of};
 
+use crate::parts::Parts;
 use dac_base::NoMemory;
 use dac_chains::{Claims, Lives};
 use dac_dots::Context;
@@ -13,6 +13,7 @@ use dac_operations::Op;
 use dac_wishes::{Permissions, Wishes};
 use std::alloc::Global;
 use std::marker::Model;
+use std::sync::Arc;
 
 /// What a controller keeps of the operations that it has heard: their dots, the permits and the start
 /// wishes that none of them replaces, each beside the dots that they name, the life of each node and the
@@ -21,28 +22,31 @@ use std::marker::Model;
 /// States are a lattice. A join knows what either side knows, and a permit or wish that one side has
 /// stands in it unless the other side knows its dot and has it no more. Contracts see a state as a record
 /// of finite sets and maps, so states with equal parts are equal.
+///
+/// Copies of a state share its parts, since no part ever changes: a copy costs as much as a pointer.
 #[derive(Drop)]
 pub struct State {
-    alloc: Global,
-    heard: Context,
-    permissions: Permissions,
-    wishes: Wishes,
-    lives: Lives,
-    claims: Claims,
+    kept: Kept,
+}
+
+/// Where the parts of a state are kept.
+#[derive(Drop)]
+pub(crate) enum Kept {
+    /// In the state itself, as those of the least one, which takes no memory.
+    Here(Parts),
+    /// Together with its copies.
+    Shared(Arc<Parts, Global>),
 }
 
 impl Model for State {
     ghost use Rattle.dac_meaning.specs.StateValue.{StateValue, coded_state};
-    ghost use Rattle.dac_state.specs.Parts.{AreParts, state_of};
+    ghost use Rattle.dac_state.specs.Keeping.{kept_in};
 
     ghost Value = { StateValue };
 
     ghost coded = { coded_state };
 
-    ghost view = { λ a. state_of a.heard a.permissions a.wishes a.lives a.claims };
-
-    // permissions and wishes know the same dots
-    ghost invariant = { λ a. AreParts a.heard a.permissions a.wishes a.lives a.claims };
+    ghost view = { λ a. kept_in a.kept };
 }
 
 impl State {
@@ -56,76 +60,75 @@ impl State {
         let wishes = wishes_by(alloc, op)?;
         let lives = lives_by(alloc, op)?;
         let claims = claims_by(alloc, op)?;
-        Ok(State::of(alloc, heard, permissions, wishes, lives, claims))
+        let state = State::of(Parts::new(alloc, heard, permissions, wishes, lives, claims))?;
+        Ok(state)
     }
 
-    /// The state of these parts. It takes no memory.
-    pub(crate) fn of(
-        alloc: Global,
-        heard: Context,
-        permissions: Permissions,
-        wishes: Wishes,
-        lives: Lives,
-        claims: Claims,
-    ) -> Self
-        requires { AreParts heard permissions wishes lives claims }
-        ensures { result ≡ state_of heard permissions wishes lives claims }
+    /// The state of these parts, which its copies will share.
+    pub(crate) fn of(parts: Parts) -> Result<Self, NoMemory>
+        ensures { IfOk result (λ state. state ≡ parts) }
     {
-        State {
-            alloc,
-            heard,
-            permissions,
-            wishes,
-            lives,
-            claims,
+        let shared = Arc::new(parts.allocator(), parts)?;
+        Ok(State {
+            kept: Kept::Shared(shared),
+        })
+    }
+
+    /// Its parts.
+    fn parts(&self) -> &Parts
+        ensures { result.now ≡ self.now }
+    {
+        match &self.kept {
+            Kept::Here(parts) => parts,
+            Kept::Shared(parts) => parts,
         }
     }
 
     /// Where its memory comes from.
     pub(crate) fn allocator(&self) -> Global {
-        self.alloc
+        self.parts().allocator()
     }
 
     /// The dots of the operations heard.
     pub fn heard(&self) -> &Context
         ensures { result.now ≡ self.now.heard }
     {
-        &self.heard
+        self.parts().heard()
     }
 
     /// The dots of the operations heard, and those that one of them replaces.
     pub fn known(&self) -> &Context
         ensures { result.now ≡ self.now.known }
     {
-        self.wishes.context()
+        self.parts().known()
     }
 
     /// The permits that stand.
     pub fn permissions(&self) -> &Permissions
         ensures { result.now ≡ permissions_of self.now }
     {
-        &self.permissions
+        self.parts().permissions()
     }
 
     /// The start wishes that stand.
     pub fn wishes(&self) -> &Wishes
         ensures { result.now ≡ wishes_of self.now }
     {
-        &self.wishes
+        self.parts().wishes()
     }
 
     /// The life of each node.
     pub fn lives(&self) -> &Lives
         ensures { result.now ≡ self.now.lives }
     {
-        &self.lives
+        self.parts().lives()
     }
 
     /// The greatest claim of each application.
     pub fn claims(&self) -> &Claims
         ensures { result.now ≡ self.now.claims }
     {
-        &self.claims
+        self.parts().claims()
     }
 }
 
@@ -142,29 +145,17 @@ impl Lattice for State {
     ghost laws = { state_laws };
 
     fn known(&self) {
-        let _heard = &self.heard;
+        self.parts().are_of_state();
     }
 
     fn join(&self, other: &Self) -> Result<Self, NoMemory> {
-        let heard = self.heard.union(&other.heard)?;
-        let permissions = self.permissions.join(&other.permissions)?;
-        let wishes = self.wishes.join(&other.wishes)?;
-        let lives = self.lives.join(&other.lives)?;
-        let claims = self.claims.join(&other.claims)?;
-        Ok(State::of(self.alloc, heard, permissions, wishes, lives, claims))
+        let joined = self.parts().join(other.parts())?;
+        let state = State::of(joined)?;
+        Ok(state)
     }
 
     fn leq(&self, other: &Self) -> bool {
-        if !self.heard.is_subset(&other.heard) {
-            return false;
-        }
-        if !self.permissions.leq(&other.permissions) {
-            return false;
-        }
-        if !self.wishes.leq(&other.wishes) {
-            return false;
-        }
-        self.lives.leq(&other.lives) && self.claims.leq(&other.claims)
+        self.parts().leq(other.parts())
     }
 
     fn equal(&self, other: &Self) -> bool {
@@ -174,12 +165,15 @@ impl Lattice for State {
     }
 
     fn copy(&self) -> Result<Self, NoMemory> {
-        let heard = self.heard.copy()?;
-        let permissions = self.permissions.copy()?;
-        let wishes = self.wishes.copy()?;
-        let lives = self.lives.copy()?;
-        let claims = self.claims.copy()?;
-        Ok(State::of(self.alloc, heard, permissions, wishes, lives, claims))
+        match &self.kept {
+            Kept::Here(parts) => {
+                let state = State::of(parts.copy()?)?;
+                Ok(state)
+            }
+            Kept::Shared(parts) => Ok(State {
+                kept: Kept::Shared(Arc::try_clone(parts)?),
+            }),
+        }
     }
 }
 
@@ -194,14 +188,17 @@ impl Bottom for State {
     ghost bottom_value = { bottom_value };
 
     fn bottom(alloc: Global) -> Self {
-        State::of(
+        let parts = Parts::new(
             alloc,
             Context::empty(alloc),
             Permissions::bottom(alloc),
             Wishes::bottom(alloc),
             Lives::bottom(alloc),
             Claims::bottom(alloc),
-        )
+        );
+        State {
+            kept: Kept::Here(parts),
+        }
     }
 }
 

@@ -2,6 +2,7 @@
 use Rattle.std.specs.Prelude.{ℕ, ◌-◌, not, List, ◌++◌, length, map as list_map, replicate, Option, None, Some, if◌then◌else◌}
 use Rattle.std.specs.FinSet as set
 use Rattle.std.specs.FinMap as map
+use Rattle.dac_base.specs.declared.limits.TheConstants.{MAX_APPS, MAX_NODES}
 use Rattle.dac_base.specs.declared.NodeId.{NodeId}
 use Rattle.dac_base.specs.declared.AppId.{AppId}
 use Rattle.dac_config.specs.Table.{Table}
@@ -41,13 +42,13 @@ mark_of table s app node = mark_at table s app node (live_at s.lives node)
 
 -- the marks of the nodes by their numbers
 abbrev pub marks_of : Table → StateValue → AppId → List Mark
-marks_of table s app = placed 16 Down (list_map (mark_of table s app) (nodes_of table))
+marks_of table s app = placed MAX_NODES Down (list_map (mark_of table s app) (nodes_of table))
 
 -- ---- summaries
 
 -- the lives of the nodes by their numbers
 abbrev pub lives_of : Table → StateValue → List (Option Life)
-lives_of table s = placed 16 None (list_map (map.get s.lives) (nodes_of table))
+lives_of table s = placed MAX_NODES None (list_map (map.get s.lives) (nodes_of table))
 
 -- the greatest claim of an application, what is to become of it, and the mark of each node
 abbrev pub app_summary : Table → StateValue → AppId → AppSummary
@@ -55,11 +56,11 @@ app_summary table s app = record { claim = map.get s.claims app; verdict = verdi
 
 -- in the place of an application that isn't there
 abbrev pub no_app : AppSummary
-no_app = record { claim = None; verdict = Nobody; marks = replicate 16 Down }
+no_app = record { claim = None; verdict = Nobody; marks = replicate MAX_NODES Down }
 
 -- the applications by their numbers
 abbrev pub app_summaries : Table → StateValue → List AppSummary
-app_summaries table s = placed 64 no_app (list_map (app_summary table s) (apps_of table))
+app_summaries table s = placed MAX_APPS no_app (list_map (app_summary table s) (apps_of table))
 
 -- what a state says, in short: how many dots it has heard and knows, the life of each node of the configuration, and where each of its applications stands
 abbrev pub summary_of : Table → StateValue → Summary

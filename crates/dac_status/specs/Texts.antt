@@ -3,6 +3,7 @@ use Rattle.std.specs.Prelude.{ℕ, false, nat_lt, ◌==◌, List, [], ◌++◌, 
 use Rattle.std.specs.List.{flat_map, range_with_len}
 use Rattle.std.specs.Option.{option_map_or}
 use Rattle.std.specs.Fmt.{decimal}
+use Rattle.dac_base.specs.declared.limits.TheConstants.{MAX_NODES}
 use Rattle.dac_base.specs.declared.NodeId.{NodeId}
 use Rattle.dac_base.specs.declared.AppId.{AppId}
 use Rattle.dac_dots.specs.declared.dot.Origin.{Origin}
@@ -103,9 +104,9 @@ member_text table app marks group node = if option_map_or (λ other. other == gr
 abbrev pub group_text : Table → AppId → List Mark → ℕ → List ℕ
 group_text table app marks group = flat_map (member_text table app marks group) (nodes_of table)
 
--- the nodes of the application's list, group by group; there are no more groups than nodes, and so at most 16
+-- the nodes of the application's list, group by group; there are no more groups than nodes
 abbrev pub list_text : Table → AppId → List Mark → List ℕ
-list_text table app marks = codes "list" ++ (flat_map (group_text table app marks) (range_with_len 0 16) ++ codes "\n")
+list_text table app marks = codes "list" ++ (flat_map (group_text table app marks) (range_with_len 0 MAX_NODES) ++ codes "\n")
 
 -- ---- the page
 

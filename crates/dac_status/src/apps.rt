@@ -7,15 +7,15 @@ ghost use Rattle.dac_status.specs.Texts.{node_text, how_text, from_text, claim_t
 
 use crate::marks::Mark;
 use crate::nodes::node_text;
-use crate::summary::{AppSummary, MAX_APPS, MAX_NODES};
-use dac_base::{AppId, NoMemory, NodeId};
+use crate::summary::AppSummary;
+use dac_base::{AppId, MAX_APPS, MAX_NODES, NoMemory, NodeId};
 use dac_chains::{Claim, How};
 use dac_config::{Config, printed_name};
 use dac_placement::Verdict;
 use std::alloc::Global;
 
 /// How many groups a list can have: each has a node of its own.
-const MAX_GROUPS: u16 = 16;
+const MAX_GROUPS: u16 = MAX_NODES as u16;
 
 fn how_text(how: How) -> &'static str
     ensures { result.now ≡ how_text how }

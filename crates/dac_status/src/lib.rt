@@ -11,6 +11,7 @@ mod nodes;
 mod pages;
 mod summary;
 
+pub use dac_base::{MAX_APPS, MAX_NODES};
 pub use marks::{Mark, mark_of};
 pub use pages::{header, page};
-pub use summary::{AppSummary, MAX_APPS, MAX_NODES, Summary};
+pub use summary::{AppSummary, Summary};

@@ -4,8 +4,7 @@ ghost use Rattle.std.specs.Prelude.{◌≡◌, ◌<◌, IfOk};
 ghost use Rattle.dac_config.specs.Table.{node_count};
 ghost use Rattle.dac_status.specs.Texts.{node_text, flag_text, life_text, node_line};
 
-use crate::summary::MAX_NODES;
-use dac_base::{NoMemory, NodeId};
+use dac_base::{MAX_NODES, NoMemory, NodeId};
 use dac_chains::Life;
 use dac_config::{Config, printed_name};
 use dac_lattice::Flag;

@@ -7,17 +7,11 @@ ghost use Rattle.dac_placement.specs.Placement.{verdict_of};
 ghost use Rattle.dac_status.specs.Summaries.{marks_of, lives_of, no_app, app_summary, app_summaries, summary_of};
 
 use crate::marks::{Mark, mark_of};
-use dac_base::{AppId, NodeId};
+use dac_base::{AppId, MAX_APPS, MAX_NODES, NodeId};
 use dac_chains::{Claim, Life};
 use dac_config::Config;
 use dac_placement::{Verdict, verdict};
 use dac_state::State;
-
-/// How many nodes a summary has a place for: as many as a configuration can have.
-pub const MAX_NODES: usize = 16;
-
-/// How many applications a summary has a place for: as many as a configuration can have.
-pub const MAX_APPS: usize = 64;
 
 /// Where an application stands.
 #[derive(Clone, Copy, Debug, PartialEq, Eq)]

@@ -2,13 +2,14 @@
 use Rattle.std.specs.Prelude.{ℕ, zero, suc, ◌+◌, ◌-◌, false, List, [], ◌∷◌, length, Result, Ok, Err, nat_le, if◌then◌else◌}
 use Rattle.dac_tokens.specs.declared.fault.ConfigFault.{ConfigFault}
 use Rattle.dac_tokens.specs.declared.token.Symbol.TheVariants.{OpenList, CloseList, OpenTuple, CloseTuple, Comma, FullStop}
+use Rattle.dac_tokens.specs.declared.token.TheConstants.{MAX_DEPTH}
 use Rattle.dac_tokens.specs.Words.{Word, Mark, Name, Number, Text, End, is_end, Located}
 use Rattle.dac_tokens.specs.Gives.{◌>>=◌}
 use Rattle.dac_tokens.specs.Scan.{after_gap, word_at, unsupported}
 
--- how many brackets are open after a token at `at`, where `depth` were before it: at most 64
+-- how many brackets are open after a token at `at`, where `depth` were before it: at most MAX_DEPTH
 abbrev pub opened : ℕ → ℕ → Result ℕ ConfigFault
-opened at depth = if nat_le 64 depth then unsupported at else Ok (depth + 1)
+opened at depth = if nat_le MAX_DEPTH depth then unsupported at else Ok (depth + 1)
 
 abbrev pub depth_after : ℕ → ℕ → Word → Result ℕ ConfigFault
 depth_after at depth (Mark OpenList) = opened at depth

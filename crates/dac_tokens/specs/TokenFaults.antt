@@ -5,6 +5,7 @@ use Rattle.dac_tokens.specs.declared.fault.FaultKind.{FaultKind}
 use Rattle.dac_tokens.specs.declared.fault.FaultKind.TheVariants.{BadToken, Unsupported}
 use Rattle.dac_tokens.specs.declared.fault.ConfigFault.{ConfigFault}
 use Rattle.dac_tokens.specs.declared.token.Symbol.{Symbol}
+use Rattle.dac_tokens.specs.declared.token.TheConstants.{MAX_DEPTH}
 use Rattle.dac_tokens.specs.Words.{Located}
 use Rattle.dac_tokens.specs.TokenGrammar.{StartsGap, IsGap, IsNameByte, IsQuotable, IsUnquotable, Begins, bytes_of, IsNumber, GoesOnAsNumber, EndsTerm, IsStringText, IsNextToken, depth_behind}
 
@@ -42,7 +43,7 @@ pub data NoToken (depth : ℕ) (bytes : List ℕ) : ℕ → FaultKind → Type 0
   ControlEscape : (inner rest : List ℕ) → bytes ≡ 34 ∷ (inner ++ 92 ∷ 94 ∷ rest) → IsStringText inner → NoToken depth bytes (1 + length inner) Unsupported
   NoDoubleQuote : (inner last : List ℕ) → bytes ≡ 34 ∷ (inner ++ last) → IsStringText inner → (last ≡ []) ⊎ (last ≡ 92 ∷ []) → NoToken depth bytes 0 BadToken
   Refused : Begins IsRefused bytes → NoToken depth bytes 0 Unsupported
-  TooDeep : 64 ≤ depth → Begins IsOpening bytes → NoToken depth bytes 0 Unsupported
+  TooDeep : MAX_DEPTH ≤ depth → Begins IsOpening bytes → NoToken depth bytes 0 Unsupported
 
 -- Bytes that begin at the offset `at` have this fault behind a gap.
 pub record IsFaultAt (at depth : ℕ) (bytes : List ℕ) (e : ConfigFault) : Type 0 where
@@ -57,4 +58,4 @@ pub record IsFaultAt (at depth : ℕ) (bytes : List ℕ) (e : ConfigFault) : Typ
 -- bytes that begin at the offset `at`, with so many brackets open, are these tokens up to this fault
 abbrev pub StopAt : ℕ → ℕ → List ℕ → List Located → ConfigFault → Type 0
 StopAt at depth bytes [] e = IsFaultAt at depth bytes e
-StopAt at depth bytes (t ∷ ts) e = (own rest : List ℕ) × IsNextToken at bytes t own rest × (depth_behind depth t.word ≤ 64) × StopAt (t.at + length own) (depth_behind depth t.word) rest ts e
+StopAt at depth bytes (t ∷ ts) e = (own rest : List ℕ) × IsNextToken at bytes t own rest × (depth_behind depth t.word ≤ MAX_DEPTH) × StopAt (t.at + length own) (depth_behind depth t.word) rest ts e

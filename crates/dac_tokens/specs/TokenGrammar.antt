@@ -3,6 +3,7 @@ use Rattle.std.specs.Prelude.{◌≡◌, ◌≢◌, ◌⊎◌, ℕ, ◌+◌, ◌
 use Rattle.std.specs.Char.{IsAsciiDigit, IsAsciiLowercase, IsAsciiAlphanumeric}
 use Rattle.dac_tokens.specs.declared.token.Symbol.{Symbol}
 use Rattle.dac_tokens.specs.declared.token.Symbol.TheVariants.{OpenList, CloseList, OpenTuple, CloseTuple, Comma, FullStop}
+use Rattle.dac_tokens.specs.declared.token.TheConstants.{MAX_DEPTH}
 use Rattle.dac_tokens.specs.Words.{Word, Mark, Name, Number, Text, End, Located}
 
 -- a space, or a control character below it
@@ -131,10 +132,10 @@ depth_behind depth (Mark CloseList) = depth - 1
 depth_behind depth (Mark CloseTuple) = depth - 1
 depth_behind depth _ = depth
 
--- behind no token are more than 64 brackets open
+-- behind no token are more than MAX_DEPTH brackets open
 abbrev pub NestWell : ℕ → List Located → Type 0
 NestWell depth [] = Unit {0}
-NestWell depth (t ∷ ts) = (depth_behind depth t.word ≤ 64) × NestWell (depth_behind depth t.word) ts
+NestWell depth (t ∷ ts) = (depth_behind depth t.word ≤ MAX_DEPTH) × NestWell (depth_behind depth t.word) ts
 
 -- the whole text is these tokens
 pub record AreTokensOf (text : List ℕ) (tokens : List Located) : Type 0 where

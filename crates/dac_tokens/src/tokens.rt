@@ -15,9 +15,9 @@ use std::marker::Model;
 
 /// How many brackets are open behind a token at `at`, with `depth` open before it.
 fn depth_after(at: usize, depth: usize, token: &Token<'_>) -> Result<usize, ConfigFault>
-    requires { depth ≤ 64 }
+    requires { depth ≤ MAX_DEPTH }
     ensures after { Reads (λ x. x) result (depth_after at depth (word_of token.now)) }
-    ensures within { IfOk result (λ x. x ≤ 64) }
+    ensures within { IfOk result (λ x. x ≤ MAX_DEPTH) }
 {
     match token {
         Token::Symbol(Symbol::OpenList | Symbol::OpenTuple) => {
@@ -38,10 +38,10 @@ fn token_from(
     depth: usize,
     bytes: &[u8],
 ) -> Result<(Located<'_>, usize, &[u8]), ConfigFault>
-    requires depth { depth ≤ 64 }
+    requires depth { depth ≤ MAX_DEPTH }
     requires within { length bytes.now ≤ end }
     ensures first { Reads (λ x. (located_of x.0, x.1, x.2.now)) result (token_from end depth bytes.now) }
-    ensures depth { IfOk result (λ x. x.1 ≤ 64) }
+    ensures depth { IfOk result (λ x. x.1 ≤ MAX_DEPTH) }
     ensures within { IfOk result (λ x. length x.2.now ≤ end) }
 {
     let bytes = after_gap(bytes);
@@ -62,13 +62,14 @@ pub struct Tokens<'a> {
 
 impl<'a> Model for Tokens<'a> {
     ghost use Rattle.std.specs.Prelude.{◌≤◌, length};
+    ghost use Rattle.dac_tokens.specs.declared.token.TheConstants.{MAX_DEPTH};
     ghost use Rattle.dac_tokens.specs.Stream.{Stream, tokens_of};
 
     ghost Value = { Stream };
 
     ghost view = { λ t. tokens_of t.end t.depth t.rest.now };
 
-    ghost invariant = { λ t. (length t.rest.now ≤ t.end) × (t.depth ≤ 64) };
+    ghost invariant = { λ t. (length t.rest.now ≤ t.end) × (t.depth ≤ MAX_DEPTH) };
 }
 
 impl<'a> Tokens<'a> {

@@ -4,6 +4,7 @@ use Rattle.std.specs.List.{flat_map, AllByRecursion}
 use Rattle.std.specs.Int.{w16, w64}
 use Rattle.std.proofs.Common.{sym, subst, arith, append_assoc}
 use Rattle.std.proofs.lemmas.Bool.{ltb-true, lt-ltb, eqb-true, eqb-false}
+use Rattle.dac_base.specs.declared.limits.TheConstants.{MAX_COUNTER}
 use Rattle.dac_dots.specs.Dots.{Dots, origin_cmp, origins_total}
 use Rattle.dac_dots.specs.declared.dot.Origin.{Origin}
 use Rattle.dac_bytes.specs.declared.fault.ReadFaultKind.TheVariants.{BadOrder}
@@ -26,8 +27,8 @@ further_takes : (low : ℕ) → TakesAs (further_at low) u64_bytes (IsFurther lo
 unfolding further_at
 further_takes low =
     let read = λ (r : Rest). counter_at r >>= λ n. cond (nat_lt low n.0) (Ok n) (fault BadOrder r) in
-    TakesAs-more read u64_bytes (λ n. ((1 ≤ n) × (n ≤ 2 ^ 62)) × (nat_lt low n ≡ true)) (IsFurther low)
-    (TakesAs-wanted counter_at u64_bytes (λ n. (1 ≤ n) × (n ≤ 2 ^ 62)) (λ n. nat_lt low n) BadOrder counter_takes)
+    TakesAs-more read u64_bytes (λ n. ((1 ≤ n) × (n ≤ MAX_COUNTER)) × (nat_lt low n ≡ true)) (IsFurther low)
+    (TakesAs-wanted counter_at u64_bytes (λ n. (1 ≤ n) × (n ≤ MAX_COUNTER)) (λ n. nat_lt low n) BadOrder counter_takes)
     (λ n is. record { first = is.0.0; last = is.0.1; above = ltb-true low n is.1 })
 
 further_again : (low n : ℕ) → IsFurther low n → Again (further_at low) (u64_bytes n) n
@@ -71,7 +72,7 @@ module _ (nodes : ℕ) where
       let abc = Takes-then r (origin_bytes origin ++ u64_bytes upto) b (u32_bytes (length further)) c ab s in
       Takes-then r (origin_bytes origin ++ u64_bytes upto ++ u32_bytes (length further)) c (flat_map u64_bytes further) end abc t
 
-  row_is : (origin : Origin) (upto count : ℕ) (further : List ℕ) → IsOrigin nodes origin → upto ≤ 2 ^ 62 → (least_count upto ≤ count) × (count ≤ 2 ^ 32 - 1)
+  row_is : (origin : Origin) (upto count : ℕ) (further : List ℕ) → IsOrigin nodes origin → upto ≤ MAX_COUNTER → (least_count upto ≤ count) × (count ≤ 2 ^ 32 - 1)
       → (length further ≡ count) × Chain IsFurther (λ n. n) (upto + 1) further → IsRow nodes (made origin upto further)
   row_is origin upto count further is most counts chain =
       record {
@@ -83,7 +84,7 @@ module _ (nodes : ℕ) where
       }
 
   row_further : (before : Option Origin) (origin : Origin) (upto count : ℕ) (r a b c : Rest) (x : Row × Rest)
-      → Takes r (origin_bytes origin) a × (IsOrigin nodes origin × (is_above origin_cmp before origin ≡ true)) → Takes a (u64_bytes upto) b × ((0 ≤ upto) × (upto ≤ 2 ^ 62))
+      → Takes r (origin_bytes origin) a × (IsOrigin nodes origin × (is_above origin_cmp before origin ≡ true)) → Takes a (u64_bytes upto) b × ((0 ≤ upto) × (upto ≤ MAX_COUNTER))
       → Takes b (u32_bytes count) c × ((least_count upto ≤ count) × (count ≤ 2 ^ 32 - 1))
       → (items_at further_at (λ n. n) count (upto + 1) c >>= λ further. Ok (made origin upto further.0, further.1)) ≡ Ok x → Takes r (row_bytes x.0) x.1 × IsNext before x.0
   row_further before origin upto count r a b c x ta tb tc e =
@@ -98,13 +99,13 @@ module _ (nodes : ℕ) where
 
   row_rest : (before : Option Origin) (r : Rest) (origin : Origin × Rest) (x : Row × Rest)
       → Takes r (origin_bytes origin.0) origin.1 × (IsOrigin nodes origin.0 × (is_above origin_cmp before origin.0 ≡ true))
-      → (range_at w64 0 (2 ^ 62) origin.1 >>= λ upto. further_count_at upto.0 upto.1 >>= λ count. items_at further_at (λ n. n) count.0 (upto.0 + 1) count.1 >>= λ further. Ok (made origin.0 upto.0 further.0, further.1)) ≡ Ok x
+      → (range_at w64 0 MAX_COUNTER origin.1 >>= λ upto. further_count_at upto.0 upto.1 >>= λ count. items_at further_at (λ n. n) count.0 (upto.0 + 1) count.1 >>= λ further. Ok (made origin.0 upto.0 further.0, further.1)) ≡ Ok x
       → Takes r (row_bytes x.0) x.1 × IsNext before x.0
   unfolding least_count
   row_rest before r origin x ta e =
-      let b = bind_ok (range_at w64 0 (2 ^ 62) origin.1) (λ upto. further_count_at upto.0 upto.1 >>= λ count. items_at further_at (λ n. n) count.0 (upto.0 + 1) count.1 >>= λ further. Ok (made origin.0 upto.0 further.0, further.1)) x e in
+      let b = bind_ok (range_at w64 0 MAX_COUNTER origin.1) (λ upto. further_count_at upto.0 upto.1 >>= λ count. items_at further_at (λ n. n) count.0 (upto.0 + 1) count.1 >>= λ further. Ok (made origin.0 upto.0 further.0, further.1)) x e in
       let upto = b.0.0 in
-      let tb = u64_in_takes 0 (2 ^ 62) origin.1 b.0 ta.0.fits b.1 in
+      let tb = u64_in_takes 0 MAX_COUNTER origin.1 b.0 ta.0.fits b.1 in
       let c = bind_ok (further_count_at upto b.0.1) (λ count. items_at further_at (λ n. n) count.0 (upto + 1) count.1 >>= λ further. Ok (made origin.0 upto further.0, further.1)) x b.2 in
       let tc = u32_in_takes (least_count upto) (2 ^ 32 - 1) b.0.1 c.0 tb.0.fits c.1 in
       row_further before origin.0 upto c.0.0 r origin.1 b.0.1 c.0.1 x ta tb tc c.2
@@ -112,7 +113,7 @@ module _ (nodes : ℕ) where
   row_takes : (before : Option Origin) → TakesAs (row_at nodes before) row_bytes (IsNext before)
   unfolding row_at least_count
   row_takes before r x fits e =
-      let a = bind_ok (origin_above_at nodes before r) (λ origin. range_at w64 0 (2 ^ 62) origin.1 >>= λ upto. further_count_at upto.0 upto.1 >>= λ count. items_at further_at (λ n. n) count.0 (upto.0 + 1) count.1 >>= λ further. Ok (made origin.0 upto.0 further.0, further.1)) x e in
+      let a = bind_ok (origin_above_at nodes before r) (λ origin. range_at w64 0 MAX_COUNTER origin.1 >>= λ upto. further_count_at upto.0 upto.1 >>= λ count. items_at further_at (λ n. n) count.0 (upto.0 + 1) count.1 >>= λ further. Ok (made origin.0 upto.0 further.0, further.1)) x e in
       row_rest before r a.0 x (origin_above_takes nodes before r a.0 fits a.1) a.2
 
   -- the set of rows that were read is spelled by them
@@ -160,9 +161,9 @@ module _ (nodes : ℕ) where
         let further = Again-made (items_at further_at (λ n. n) count (v + 1)) (made o v) (flat_map u64_bytes ns) ns (items_again further_at (λ n. n) u64_bytes IsFurther further_again ns (v + 1) is.further) in
         let counted = Again-then (further_count_at v) (λ count. items_at further_at (λ n. n) count.0 (v + 1) count.1 >>= λ further. Ok (made o v further.0, further.1)) (u32_bytes count) (flat_map u64_bytes ns) count row
         (u32_in_again (least_count v) (2 ^ 32 - 1) (omega arith) count (count_least v count is.some) few) further in
-        let upto = Again-then (range_at w64 0 (2 ^ 62)) (λ upto. further_count_at upto.0 upto.1 >>= λ count. items_at further_at (λ n. n) count.0 (upto.0 + 1) count.1 >>= λ further. Ok (made o upto.0 further.0, further.1)) (u64_bytes v) (u32_bytes count ++ flat_map u64_bytes ns) v row
-        (u64_in_again 0 (2 ^ 62) (omega arith) v (omega arith) is.upto) counted in
-        let read = Again-then (origin_above_at nodes before) (λ origin. range_at w64 0 (2 ^ 62) origin.1 >>= λ upto. further_count_at upto.0 upto.1 >>= λ count. items_at further_at (λ n. n) count.0 (upto.0 + 1) count.1 >>= λ further. Ok (made origin.0 upto.0 further.0, further.1)) (origin_bytes o) (u64_bytes v ++ (u32_bytes count ++ flat_map u64_bytes ns)) o row
+        let upto = Again-then (range_at w64 0 MAX_COUNTER) (λ upto. further_count_at upto.0 upto.1 >>= λ count. items_at further_at (λ n. n) count.0 (upto.0 + 1) count.1 >>= λ further. Ok (made o upto.0 further.0, further.1)) (u64_bytes v) (u32_bytes count ++ flat_map u64_bytes ns) v row
+        (u64_in_again 0 MAX_COUNTER (omega arith) v (omega arith) is.upto) counted in
+        let read = Again-then (origin_above_at nodes before) (λ origin. range_at w64 0 MAX_COUNTER origin.1 >>= λ upto. further_count_at upto.0 upto.1 >>= λ count. items_at further_at (λ n. n) count.0 (upto.0 + 1) count.1 >>= λ further. Ok (made origin.0 upto.0 further.0, further.1)) (origin_bytes o) (u64_bytes v ++ (u32_bytes count ++ flat_map u64_bytes ns)) o row
         (origin_above_again nodes one_byte_each before o is.origin h.1) upto in
         subst (λ (t : List ℕ). Again (row_at nodes before) t row) (regroup (origin_bytes o) (u64_bytes v) (u32_bytes count) (flat_map u64_bytes ns)) read
 

@@ -6,6 +6,7 @@ use Rattle.std.proofs.lemmas.Bool.{or_parts, or_from, ltb-true, ltb-false, lt-lt
 use Rattle.std.proofs.lemmas.List.{take_at, drop_at, length-append, length-take}
 use Rattle.std.proofs.lemmas.Nat.{be_bytes_2, be_bytes_4, be_bytes_8, from_be_bytes-to_be_bytes_2, from_be_bytes-to_be_bytes_4, from_be_bytes-to_be_bytes_8}
 use Rattle.dac_base.specs.declared.NodeId.{NodeId}
+use Rattle.dac_base.specs.declared.limits.TheConstants.{MAX_COUNTER}
 use Rattle.dac_dots.specs.declared.dot.Origin.{Origin}
 use Rattle.dac_dots.specs.declared.dot.Dot.{Dot}
 use Rattle.dac_dots.specs.Dots.{dot_cmp, origin_cmp}
@@ -163,11 +164,11 @@ pub incarnation_again : (n : ℕ) → IsIncarnation n → Again incarnation_at (
 unfolding incarnation_bytes
 incarnation_again n is = u32_in_again 1 (2 ^ 32 - 1) (omega arith) n is.0 (omega (arith, is.1))
 
-pub counter_takes : TakesAs counter_at u64_bytes (λ n. (1 ≤ n) × (n ≤ 2 ^ 62))
-counter_takes = u64_in_takes 1 (2 ^ 62)
+pub counter_takes : TakesAs counter_at u64_bytes (λ n. (1 ≤ n) × (n ≤ MAX_COUNTER))
+counter_takes = u64_in_takes 1 MAX_COUNTER
 
-pub counter_again : (n : ℕ) → 1 ≤ n → n ≤ 2 ^ 62 → Again counter_at (u64_bytes n) n
-counter_again = u64_in_again 1 (2 ^ 62) (omega arith)
+pub counter_again : (n : ℕ) → 1 ≤ n → n ≤ MAX_COUNTER → Again counter_at (u64_bytes n) n
+counter_again = u64_in_again 1 MAX_COUNTER (omega arith)
 
 module _ (nodes : ℕ) where
   pub node_takes : TakesAs (node_at nodes) (λ (node : NodeId). u8_bytes node.0) (λ node. node.0 < nodes)
@@ -188,7 +189,7 @@ module _ (nodes : ℕ) where
   pub dot_takes : TakesAs (dot_at nodes) dot_bytes (IsDot nodes)
   unfolding dot_at dot_bytes
   dot_takes =
-      TakesAs-both (origin_at nodes) origin_bytes (IsOrigin nodes) (λ _ r. counter_at r) (λ _. u64_bytes) (λ _ n. (1 ≤ n) × (n ≤ 2 ^ 62))
+      TakesAs-both (origin_at nodes) origin_bytes (IsOrigin nodes) (λ _ r. counter_at r) (λ _. u64_bytes) (λ _ n. (1 ≤ n) × (n ≤ MAX_COUNTER))
       (λ origin n. record { origin = origin; n = n }) dot_bytes (IsDot nodes)
       origin_takes (λ _ _. counter_takes) (λ origin n p q. (refl, record { origin = p; first = q.0; last = q.1 }))
 

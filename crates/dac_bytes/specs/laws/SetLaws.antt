@@ -4,6 +4,7 @@ use Rattle.std.specs.List.{AllByRecursion}
 use Rattle.std.specs.Ordering.{nat_cmp, eq_by_cmp}
 use Rattle.std.proofs.Common.{inl, inr, sym, subst, ◌∙◌, arith}
 use Rattle.std.proofs.lemmas.Bool.{and_parts, and_from, or_cases, or_left, or_right, false≢true, leb-true, le-leb, cases_lt}
+use Rattle.dac_base.specs.declared.limits.TheConstants.{MAX_COUNTER}
 use Rattle.dac_dots.specs.Keys.{IsRising, has_key}
 use Rattle.dac_dots.specs.InOrder.{tie}
 use Rattle.dac_dots.specs.Dots.{Dots, dot, origin_cmp, exact_origins}
@@ -64,11 +65,11 @@ module _ (dots : Dots) where
     is_further row h n e =
         let there = range (dot row.origin n) (h.exact n ∙ or_right _ _ e) in
         let first : 1 ≤ n = there.first in
-        let last : n ≤ 2 ^ 62 = there.last in
+        let last : n ≤ MAX_COUNTER = there.last in
         let above : row.upto + 1 < n = elim (h.apart n e) [ inl none ↦ absurd (omega arith) | inr past ↦ past ] in
         record { first = first; last = last; above = above }
 
-    upto_in_range : (row : Row) → IsRowOf dots row → row.upto ≤ 2 ^ 62
+    upto_in_range : (row : Row) → IsRowOf dots row → row.upto ≤ MAX_COUNTER
     upto_in_range row h = elim (cases_lt 0 row.upto) [
       | inl more ↦ (range (dot row.origin row.upto) (h.exact row.upto ∙ or_left _ _ (and_from _ _ (le-leb 1 row.upto (omega arith)) (le-leb row.upto row.upto (omega arith))))).last
       | inr none ↦ omega arith

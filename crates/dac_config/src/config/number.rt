@@ -7,7 +7,7 @@ ghost use Rattle.dac_config.specs.Numbering.{in_byte_order, numbers_from, number
 ghost use Rattle.dac_config.specs.ConfigView.{node_row, app_row};
 
 use super::{App, Config, Node};
-use dac_base::NoMemory;
+use dac_base::{MAX_NODES, NoMemory};
 use dac_shapes::{Draft, DraftApp, Permission};
 use indexmap::IndexMap;
 use std::alloc::Global;
@@ -61,7 +61,7 @@ fn nodes_of(alloc: Global, draft: &Draft<'_>) -> Result<Vec<Node>, NoMemory>
 
 /// The numbers of the nodes that the group names.
 fn numbers_of(alloc: Global, nodes: &[Node], group: &[&[u8]]) -> Result<Vec<u8>, NoMemory>
-    requires { length nodes.now ≤ 16 }
+    requires { length nodes.now ≤ MAX_NODES }
     ensures { IfOk result (λ numbers. numbers.items ≡ numbers_from 0 (map node_row nodes.now) (names_of group.now)) }
 {
     let mut numbers = Vec::new(alloc);
@@ -75,7 +75,7 @@ fn numbers_of(alloc: Global, nodes: &[Node], group: &[&[u8]]) -> Result<Vec<u8>,
 
 /// The groups by the numbers of their nodes.
 fn groups_of(alloc: Global, nodes: &[Node], groups: &[Vec<&[u8]>]) -> Result<Vec<Vec<u8>>, NoMemory>
-    requires { length nodes.now ≤ 16 }
+    requires { length nodes.now ≤ MAX_NODES }
     ensures { IfOk result (λ numbered. map (λ group. group.items) numbered.items ≡ map (numbers_from 0 (map node_row nodes.now)) (groups_of groups.now)) }
 {
     let mut numbered = Vec::new(alloc);
@@ -105,7 +105,7 @@ fn app_of(
     nodes: &[Node],
     app: &DraftApp<'_>,
 ) -> Result<(Vec<u8>, App), NoMemory>
-    requires { length nodes.now ≤ 16 }
+    requires { length nodes.now ≤ MAX_NODES }
     ensures { IfOk result (λ entry. app_row entry ≡ numbered_app (permissions_of permissions.now) (map node_row nodes.now) (app_of app.now)) }
 {
     let permission = is_permitted(permissions, app.name);
@@ -129,7 +129,7 @@ fn apps_of(
     nodes: &[Node],
     apps: &[DraftApp<'_>],
 ) -> Result<IndexMap<Vec<u8>, App>, NoMemory>
-    requires few { length nodes.now ≤ 16 }
+    requires few { length nodes.now ≤ MAX_NODES }
     requires once { AllNew [] (map (λ app. app.name) (apps_of apps.now)) }
     ensures { IfOk result (λ numbered. map app_row numbered.entries ≡ map (numbered_app (permissions_of permissions.now) (map node_row nodes.now)) (apps_of apps.now)) }
 {

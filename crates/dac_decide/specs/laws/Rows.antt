@@ -33,11 +33,11 @@ module _ (app : AppId) where
   next_claim before (Some claim) now n e = ap (λ c. Some c) (sym (since_claim before now claim) ∙ ap (λ (x : Noted). x.claim) (one e))
 
   -- what is noted is lost by the newest note, and what that finds lost is noted
-  newest_lost : (notes : List Note) (n : Noted) → noted_of app notes ≡ Some n → IsLostByNewest notes app n.claim
+  pub newest_lost : (notes : List Note) (n : Noted) → noted_of app notes ≡ Some n → IsLostByNewest notes app n.claim
   newest_lost [] n e = false≢true (ap is_some e)
   newest_lost (note ∷ older) n e = lost_to note.state app n.claim (next_claim (noted_of app older) (lost_in note.state app) note.moment n e)
 
-  lost_newest : (notes : List Note) (claim : Claim) → IsLostByNewest notes app claim → (n : Noted) × (noted_of app notes ≡ Some n) × (n.claim ≡ claim)
+  pub lost_newest : (notes : List Note) (claim : Claim) → IsLostByNewest notes app claim → (n : Noted) × (noted_of app notes ≡ Some n) × (n.claim ≡ claim)
   lost_newest [] claim h = absurd h
   lost_newest (note ∷ older) claim h =
       let n = since_of (noted_of app older) note.moment claim in

@@ -6,7 +6,7 @@ use Rattle.std.proofs.lemmas.List.Sums.{fold-append}
 use Rattle.dac_base.specs.declared.NodeId.{NodeId}
 use Rattle.dac_config.specs.Table.{Table}
 use Rattle.dac_meaning.specs.StateValue.{StateValue, IsState, join, bottom}
-use Rattle.dac_meaning.specs.StateLaws.{state_laws, bottom_value, bottom_least}
+use Rattle.dac_meaning.specs.StateLaws.{bottom-join}
 use Rattle.dac_messages.specs.declared.event.Event.{Event}
 use Rattle.dac_messages.specs.declared.reply.Reply.{Reply}
 use Rattle.dac_messages.specs.declared.reply.Reply.TheVariants.{Booted, Crashed, Issued, Shipped, Heard}
@@ -71,13 +71,6 @@ answered_steps t me v e why is other = by_refusal (refusal_of t v e) refl is
     by_refusal : (r : Option Refusal) → refusal_of t v e ≡ r → why ≡ unwrap_or r NoMemory → Steps t me v e v (Err why)
     by_refusal None none p = absurd (other p)
     by_refusal (Some least) some p = refused_steps t me v e why (some ∙ ap (λ r. Some r) (sym p))
-
--- nothing joined to a state leaves it
-bottom-join : (s : StateValue) → IsState s → join bottom s ≡ s
-bottom-join s is =
-    state_laws.antisymm (join bottom s) s (state_laws.closed bottom s bottom_value is) is
-    (state_laws.least bottom s s bottom_value is is (bottom_least s is) (state_laws.refl s is))
-    (state_laws.right bottom s bottom_value is)
 
 -- A value is shown where its state is one: by the node whose log is this state alone.
 pub shown_by : (last : ℕ) (run : Option RunValue) → IfSome run (λ (r : RunValue). IsState r.state) → IsShown (record { last = last; run = run })

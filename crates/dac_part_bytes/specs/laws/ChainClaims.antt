@@ -1,23 +1,24 @@
 -- The laws of a claim's fields.
-use Rattle.std.specs.Prelude.{◌≡◌, ℕ, zero, suc, ◌+◌, ◌^◌, ◌<◌, ◌≤◌, Bool, true, false, cond, nat_lt, List, ◌++◌, length, Option, None, Some, Ok, refl}
-use Rattle.std.specs.Int.{w8, w16}
-use Rattle.std.proofs.Common.{sym, ap, subst, ◌∙◌, arith, append_assoc}
+use Rattle.std.specs.Prelude.{◌≡◌, ℕ, zero, suc, ◌+◌, ◌^◌, ◌<◌, ◌≤◌, Bool, true, false, cond, nat_lt, List, ◌++◌, Option, None, Some, Ok, refl}
+use Rattle.std.specs.Int.{w8}
+use Rattle.std.proofs.Common.{sym, ap, subst, arith, append_assoc}
 use Rattle.std.proofs.lemmas.Bool.{ltb-true, ltb-false, lt-ltb, le-ltb, eqb-true}
 use Rattle.dac_base.specs.declared.NodeId.{NodeId}
 use Rattle.dac_base.specs.declared.AppId.{AppId}
 use Rattle.dac_base.specs.Ids.{app_cmp}
+use Rattle.dac_base.specs.declared.limits.TheConstants.{MAX_COUNTER}
 use Rattle.dac_dots.specs.declared.dot.Origin.{Origin}
 use Rattle.dac_chains.specs.declared.claims.Claim.{Claim}
 use Rattle.dac_chains.specs.declared.claims.How.{How}
 use Rattle.dac_chains.specs.declared.claims.How.TheVariants.{Normal, Failover, Takeover}
 use Rattle.dac_config.specs.Table.{Table, node_count, app_count}
 use Rattle.dac_bytes.specs.declared.fault.ReadFaultKind.TheVariants.{BadNumber, BadOrder, BadName, NotInList}
-use Rattle.dac_bytes.specs.laws.Fields.{u8_takes, u8_again, u16_takes, u16_again, u8_in_takes, u8_in_again, counter_takes, counter_again, origin_takes, origin_again}
+use Rattle.dac_bytes.specs.laws.Fields.{u8_takes, u8_again, u8_in_takes, u8_in_again, counter_takes, counter_again, origin_takes, origin_again}
 use Rattle.dac_bytes.specs.Numbers.{u8_bytes, u16_bytes, u64_bytes}
 use Rattle.dac_bytes.specs.Ranges.{IsOrigin}
-use Rattle.dac_bytes.specs.Reading.{Rest, Field, fault, ◌>>=◌, number_at, range_at, counter_at, origin_at, is_above}
+use Rattle.dac_bytes.specs.Reading.{Rest, fault, ◌>>=◌, number_at, range_at, counter_at, origin_at, is_above}
 use Rattle.dac_bytes.specs.Spelling.{origin_bytes}
-use Rattle.dac_bytes.specs.Takes.{Takes, TakesAs, TakesAs-more, TakesAs-made, TakesAs-both, TakesAs-guard, TakesAs-wanted, Again, Again-made, Again-both, Again-guard, Again-wanted, bind_ok, wanted_ok}
+use Rattle.dac_bytes.specs.Takes.{TakesAs, TakesAs-more, TakesAs-made, TakesAs-both, TakesAs-guard, TakesAs-wanted, Again, Again-made, Again-both, Again-guard, Again-wanted}
 use Rattle.dac_part_bytes.specs.laws.Ascending.{IsNext}
 use Rattle.dac_part_bytes.specs.ChainForm.{IsFromFor, IsClaimInForm}
 use Rattle.dac_part_bytes.specs.Reading.{app_at, is_listed, how_of, how_at, from_code_at, is_from_of, fitting_code_at, from_of, from_at, manner_at, claimer_at, claim_of, term_and_claimer_at, claim_fields_at, listed_claim_at, claim_at}
@@ -166,7 +167,7 @@ abbrev IsClaimer : ℕ → Origin × (How × Option NodeId) → Type 0
 IsClaimer nodes c = IsOrigin nodes c.0 × IsFromFor nodes c.1.0 c.1.1
 
 abbrev IsTermAndClaimer : ℕ → Claim → Type 0
-IsTermAndClaimer nodes c = ((1 ≤ c.term) × (c.term ≤ 2 ^ 62)) × (IsOrigin nodes c.origin × IsFromFor nodes c.how c.from)
+IsTermAndClaimer nodes c = ((1 ≤ c.term) × (c.term ≤ MAX_COUNTER)) × (IsOrigin nodes c.origin × IsFromFor nodes c.how c.from)
 
 module _ (nodes : ℕ) where
   claimer_takes : TakesAs (claimer_at nodes) claimer_bytes (IsClaimer nodes)
@@ -179,7 +180,7 @@ module _ (nodes : ℕ) where
   term_and_claimer_takes : TakesAs (term_and_claimer_at nodes) term_and_claimer_bytes (IsTermAndClaimer nodes)
   unfolding term_and_claimer_at
   term_and_claimer_takes =
-      TakesAs-both counter_at u64_bytes (λ n. (1 ≤ n) × (n ≤ 2 ^ 62)) (λ _ r. claimer_at nodes r) (λ _. claimer_bytes) (λ _. IsClaimer nodes)
+      TakesAs-both counter_at u64_bytes (λ n. (1 ≤ n) × (n ≤ MAX_COUNTER)) (λ _ r. claimer_at nodes r) (λ _. claimer_bytes) (λ _. IsClaimer nodes)
       claim_of term_and_claimer_bytes (IsTermAndClaimer nodes)
       counter_takes (λ _ _. claimer_takes) (λ term c p q. (refl, (p, q)))
 

@@ -1,5 +1,5 @@
 -- Finite maps that are read and spelled by their entries in order.
-use Rattle.std.specs.Prelude.{◌≡◌, ℕ, List, ◌++◌, length, map as list_map, Option, Ok}
+use Rattle.std.specs.Prelude.{ℕ, List, ◌++◌, length, map as list_map, Option, Ok}
 use Rattle.std.specs.List.{flat_map, AllByRecursion}
 use Rattle.std.proofs.Common.{ap, subst}
 use Rattle.std.specs.declared.cmp.Ordering.{Ordering}

@@ -3,7 +3,7 @@ use Rattle.std.specs.Prelude.{ℕ, ◌<◌, ◌≤◌, ◌^◌, length}
 use Rattle.std.specs.List.{AllByRecursion}
 use Rattle.std.specs.Int.{w8, w16}
 use Rattle.std.specs.FinMap as map
-use Rattle.dac_base.specs.Ids.{node_cmp, app_cmp, nodes_total, apps_total, exact_nodes, exact_apps}
+use Rattle.dac_base.specs.Ids.{nodes_total, apps_total, exact_nodes, exact_apps}
 use Rattle.dac_chains.specs.Lives.{Lives}
 use Rattle.dac_chains.specs.Claims.{Claims}
 use Rattle.dac_config.specs.Table.{Table, node_count, app_count}
@@ -12,7 +12,7 @@ use Rattle.dac_bytes.specs.Numbers.{u8_bytes, u16_bytes}
 use Rattle.dac_bytes.specs.Reading.{number_at}
 use Rattle.dac_bytes.specs.Takes.{TakesAs, TakesAs-more, Again}
 use Rattle.dac_part_bytes.specs.laws.ChainClaims.{claim_takes, claim_again}
-use Rattle.dac_part_bytes.specs.laws.ChainEntries.{map_at, AreEntries, map_takes, map_again}
+use Rattle.dac_part_bytes.specs.laws.ChainEntries.{map_takes, map_again}
 use Rattle.dac_part_bytes.specs.ChainForm.{IsLifeInForm, AreLivesInForm, IsClaimInForm, AreClaimsInForm}
 use Rattle.dac_part_bytes.specs.laws.ChainLives.{life_takes, life_again}
 use Rattle.dac_part_bytes.specs.Reading.{life_at, lives_in_order_at, all_lives_at, claim_at, claims_in_order_at, all_claims_at}

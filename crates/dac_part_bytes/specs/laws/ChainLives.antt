@@ -1,21 +1,19 @@
 -- The laws of the fields of a life.
-use Rattle.std.specs.Prelude.{◌≡◌, ℕ, zero, suc, ◌+◌, ◌-◌, ◌^◌, ◌<◌, ◌≤◌, true, cond, nat_lt, List, ◌++◌, length, Option, None, Some, Ok, refl}
-use Rattle.std.specs.Int.{w8, w16}
-use Rattle.std.proofs.Common.{sym, ap, subst, ◌∙◌, arith, append_assoc}
-use Rattle.std.proofs.lemmas.Bool.{ltb-true, lt-ltb}
+use Rattle.std.specs.Prelude.{◌≡◌, ℕ, zero, suc, ◌^◌, ◌<◌, ◌≤◌, true, List, ◌++◌, Option, refl}
+use Rattle.std.specs.Int.{w8}
+use Rattle.std.proofs.Common.{sym, ap, subst, arith, append_assoc}
 use Rattle.dac_base.specs.declared.NodeId.{NodeId}
-use Rattle.dac_base.specs.declared.AppId.{AppId}
 use Rattle.dac_base.specs.Ids.{node_cmp}
 use Rattle.dac_lattice.specs.declared.flags.Flag.{Flag}
 use Rattle.dac_lattice.specs.declared.flags.Flag.TheVariants.{Up, Down}
 use Rattle.dac_chains.specs.declared.lives.Life.{Life}
-use Rattle.dac_bytes.specs.declared.fault.ReadFaultKind.TheVariants.{BadNumber, BadOrder, BadName}
-use Rattle.dac_bytes.specs.laws.Fields.{u8_takes, u8_again, u16_takes, u16_again, u8_in_takes, u8_in_again, incarnation_takes, incarnation_again, node_takes, node_again}
-use Rattle.dac_bytes.specs.Numbers.{u8_bytes, u16_bytes, u32_bytes, u64_bytes}
+use Rattle.dac_bytes.specs.declared.fault.ReadFaultKind.TheVariants.{BadOrder}
+use Rattle.dac_bytes.specs.laws.Fields.{u8_in_takes, u8_in_again, incarnation_takes, incarnation_again, node_takes, node_again}
+use Rattle.dac_bytes.specs.Numbers.{u8_bytes}
 use Rattle.dac_bytes.specs.Ranges.{IsIncarnation}
 use Rattle.dac_bytes.specs.Spelling.{incarnation_bytes}
-use Rattle.dac_bytes.specs.Reading.{Rest, Field, fault, ◌>>=◌, number_at, range_at, node_at, incarnation_at, is_above}
-use Rattle.dac_bytes.specs.Takes.{Takes, TakesAs, TakesAs-made, TakesAs-both, TakesAs-wanted, Again, Again-made, Again-both, Again-wanted, bind_ok, wanted_ok}
+use Rattle.dac_bytes.specs.Reading.{range_at, node_at, incarnation_at, is_above}
+use Rattle.dac_bytes.specs.Takes.{TakesAs, TakesAs-both, TakesAs-wanted, Again, Again-both, Again-wanted}
 use Rattle.dac_part_bytes.specs.laws.Ascending.{IsNext}
 use Rattle.dac_part_bytes.specs.ChainForm.{IsLifeInForm}
 use Rattle.dac_part_bytes.specs.Reading.{node_above_at, flag_of, inc_and_flag_at, life_at}

@@ -1,5 +1,5 @@
 -- Lists and sets that aren't empty, and the dots of sets in order.
-use Rattle.std.specs.Prelude.{◌≡◌, ◌≤◌, false, ◌++◌, List, [], ◌∷◌, length, map as list_map, refl}
+use Rattle.std.specs.Prelude.{◌≡◌, ◌≤◌, false, List, [], ◌∷◌, length, map as list_map, refl}
 use Rattle.std.proofs.Common.{sym, ap, ◌∙◌, arith}
 use Rattle.std.specs.Ordering.{is_eq}
 use Rattle.std.specs.Cmp.{tied_itself}

@@ -1,11 +1,8 @@
 -- The laws of the fields of permits and start wishes: keys, dots that are known, and permits. What is read is spelled so and in form, and what is in form is read from its spelling.
-use Rattle.std.specs.Prelude.{◌≡◌, ℕ, zero, suc, ◌+◌, ◌-◌, ◌^◌, ◌<◌, ◌≤◌, Bool, true, false, cond, List, ◌++◌, length, Option, Result, Ok, nat_lt, refl}
-use Rattle.std.specs.Int.{w8, w16}
+use Rattle.std.specs.Prelude.{◌≡◌, ℕ, zero, suc, ◌^◌, ◌<◌, ◌≤◌, true, ◌++◌, Option, refl}
+use Rattle.std.specs.Int.{w8}
 use Rattle.std.specs.FinSet as set
-use Rattle.std.proofs.Common.{sym, ap, subst, ◌∙◌, arith, append_assoc}
-use Rattle.std.proofs.lemmas.Bool.{ltb-true, lt-ltb}
-use Rattle.dac_base.specs.declared.AppId.{AppId}
-use Rattle.dac_dots.specs.declared.dot.Origin.{Origin}
+use Rattle.std.proofs.Common.{ap, subst, arith}
 use Rattle.dac_dots.specs.declared.dot.Dot.{Dot}
 use Rattle.dac_dots.specs.Dots.{Dots, dot_cmp}
 use Rattle.dac_lattice.specs.declared.flags.Flag.{Flag}
@@ -13,13 +10,13 @@ use Rattle.dac_lattice.specs.declared.flags.Flag.TheVariants.{Up, Down}
 use Rattle.dac_wishes.specs.declared.key.Key.{Key}
 use Rattle.dac_wishes.specs.Keys.{key_cmp}
 use Rattle.dac_config.specs.Table.{Table, node_count, app_count}
-use Rattle.dac_bytes.specs.declared.fault.ReadFaultKind.TheVariants.{BadOrder, BadName, NotInList, NotKnown}
-use Rattle.dac_bytes.specs.Numbers.{u8_bytes, u16_bytes, u32_bytes}
+use Rattle.dac_bytes.specs.declared.fault.ReadFaultKind.TheVariants.{BadOrder, NotInList, NotKnown}
+use Rattle.dac_bytes.specs.Numbers.{u8_bytes}
 use Rattle.dac_bytes.specs.Ranges.{IsOrigin, IsDot}
-use Rattle.dac_bytes.specs.Reading.{Rest, Field, ◌>>=◌, fault, number_at, range_at, origin_at, dot_above_at, is_above}
+use Rattle.dac_bytes.specs.Reading.{range_at, origin_at, dot_above_at, is_above}
 use Rattle.dac_bytes.specs.Spelling.{origin_bytes, dot_bytes}
-use Rattle.dac_bytes.specs.Takes.{Takes, TakesAs, Again, bind_ok, wanted_ok, TakesAs-more, TakesAs-wanted, TakesAs-both, Again-wanted, Again-both}
-use Rattle.dac_bytes.specs.laws.Fields.{u8_in_takes, u8_in_again, u16_takes, u16_again, origin_takes, origin_again, dot_above_takes, dot_above_again}
+use Rattle.dac_bytes.specs.Takes.{TakesAs, Again, TakesAs-more, TakesAs-wanted, TakesAs-both, Again-wanted, Again-both}
+use Rattle.dac_bytes.specs.laws.Fields.{u8_in_takes, u8_in_again, origin_takes, origin_again, dot_above_takes, dot_above_again}
 use Rattle.dac_part_bytes.specs.laws.Ascending.{IsNext}
 use Rattle.dac_part_bytes.specs.Reading.{app_at, key_of, is_listed, key_fields_at, listed_key_at, key_at, known_dot_at, value_of, permit_at}
 use Rattle.dac_part_bytes.specs.Spelling.{app_bytes, origin_of, key_bytes, value_code, permit_bytes}

@@ -1,16 +1,14 @@
 -- The laws of permits and start wishes: what is read is spelled so and in form, and what is in form is read from its spelling.
-use Rattle.std.specs.Prelude.{◌≡◌, ℕ, ◌^◌, ◌≤◌, List, refl}
+use Rattle.std.specs.Prelude.{◌^◌, ◌≤◌}
 use Rattle.std.proofs.Common.{sym, ap, subst}
 use Rattle.dac_dots.specs.Dots.{Dots}
-use Rattle.dac_wishes.specs.declared.key.Key.{Key}
 use Rattle.dac_wishes.specs.Writes.{Writes}
 use Rattle.dac_wishes.specs.PermissionsValue.{Permits}
-use Rattle.dac_wishes.specs.StoredPermits.{DotFlags, permits_of}
+use Rattle.dac_wishes.specs.StoredPermits.{permits_of}
 use Rattle.dac_wishes.specs.StoredWishes.{writes_of}
 use Rattle.dac_wishes.specs.PermitsByKey.{permits_by_key, by_key_again}
 use Rattle.dac_wishes.specs.StartsByKey.{starts_by_key, writes_again}
 use Rattle.dac_config.specs.Table.{Table, node_count, app_count}
-use Rattle.dac_bytes.specs.Reading.{◌>>=◌}
 use Rattle.dac_bytes.specs.Takes.{TakesAs, TakesAs-made, Again, Again-made}
 use Rattle.dac_part_bytes.specs.Reading.{permits_by_key_at, all_permits_at, starts_by_key_at, all_starts_at}
 use Rattle.dac_part_bytes.specs.Spelling.{permits_bytes, starts_bytes}

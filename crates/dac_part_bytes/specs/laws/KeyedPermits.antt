@@ -1,11 +1,9 @@
 -- Permits that are in form, and their lists by key: what holds of the one holds of the other.
-use Rattle.std.specs.Prelude.{◌≡◌, ℕ, ◌-◌, ◌^◌, ◌<◌, ◌≤◌, Bool, true, false, cond, T, List, [], ◌∷◌, length, map as list_map, Option, None, Some, is_some, refl}
+use Rattle.std.specs.Prelude.{◌≡◌, ◌^◌, ◌<◌, ◌≤◌, true, false, cond, List, [], ◌∷◌, length, Option, None, Some, is_some, refl}
 use Rattle.std.proofs.Common.{sym, ap, subst, ◌∙◌, arith}
-use Rattle.std.specs.List.{AllByRecursion}
 use Rattle.std.specs.Ordering.{is_eq}
 use Rattle.std.specs.Cmp.{tied_itself}
-use Rattle.std.specs.FinMap as map
-use Rattle.std.specs.FinMap.{find, is_sorted}
+use Rattle.std.specs.FinMap.{find}
 use Rattle.std.proofs.lemmas.Bool.{false≢true, true≢false}
 use Rattle.dac_dots.specs.declared.dot.Dot.{Dot}
 use Rattle.dac_dots.specs.Dots.{Dots, dot_cmp, dots_total, exact_dots}
@@ -22,9 +20,9 @@ use Rattle.dac_wishes.specs.PermissionsValue.{Permits, permits_at}
 use Rattle.dac_wishes.specs.StoredPermits.{DotFlags, permits_of}
 use Rattle.dac_wishes.specs.PermitsByKey.{permits_by_key, ArePermits, get-permits_of, find-permits_at, permits_stored, are_permits, permits_again, by_key_again}
 use Rattle.dac_config.specs.Table.{Table}
-use Rattle.dac_part_bytes.specs.KeyedForm.{IsKey, IsKnownDot, IsKnownWrite, ArePermitsInForm}
+use Rattle.dac_part_bytes.specs.KeyedForm.{IsKnownDot, IsKnownWrite, ArePermitsInForm}
 use Rattle.dac_part_bytes.specs.laws.Entries.{sorted_of, rising_keys, found, found_key, all_found}
-use Rattle.dac_part_bytes.specs.laws.KeyedLists.{IsSome, ArePermitsOfKey, IsKeyedPermits, ArePermitsByKey}
+use Rattle.dac_part_bytes.specs.laws.KeyedLists.{IsKeyedPermits, ArePermitsByKey}
 use Rattle.dac_part_bytes.specs.laws.InOrder.{not_empty}
 
 not_none : {X : Type 0} (xs : List X) → is_empty_list xs ≡ false → 1 ≤ length xs

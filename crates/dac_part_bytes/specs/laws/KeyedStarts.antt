@@ -1,16 +1,15 @@
 -- Start wishes that are in form, and their lists by key: what holds of the one holds of the other.
-use Rattle.std.specs.Prelude.{◌≡◌, ℕ, ◌-◌, ◌^◌, ◌<◌, ◌≤◌, Bool, true, false, T, List, [], ◌∷◌, length, nat_eq, Option, None, Some, refl}
+use Rattle.std.specs.Prelude.{◌≡◌, ◌^◌, ◌<◌, ◌≤◌, true, false, List, [], ◌∷◌, length, nat_eq, Option, None, Some, refl}
 use Rattle.std.proofs.Common.{sym, ap, subst, ◌∙◌, arith}
-use Rattle.std.specs.List.{AllByRecursion}
 use Rattle.std.specs.Ordering.{is_eq}
 use Rattle.std.specs.Cmp.{tied_itself}
 use Rattle.std.specs.FinSet as set
 use Rattle.std.specs.FinMap.{find}
-use Rattle.std.proofs.lemmas.Bool.{false≢true, true≢false, or_left, eqb-true, false_from_ne_true}
+use Rattle.std.proofs.lemmas.Bool.{false≢true, true≢false, or_left}
 use Rattle.dac_dots.specs.declared.dot.Dot.{Dot}
 use Rattle.dac_dots.specs.Dots.{Dots, dot_cmp, dots_total, exact_dots}
 use Rattle.dac_dots.specs.Keys.{IsRising, has_key}
-use Rattle.dac_dots.specs.InOrder.{in_order, in_order-one, in_order-same, in_order-rising, has_key-in_order}
+use Rattle.dac_dots.specs.InOrder.{in_order, in_order-same, in_order-rising, has_key-in_order}
 use Rattle.dac_lattice.specs.Chains.{IsAny}
 use Rattle.dac_store.specs.DotSets.{is_empty_set}
 use Rattle.dac_store.specs.DotMaps.{store_at, IsKept}
@@ -20,9 +19,9 @@ use Rattle.dac_wishes.specs.Writes.{Write, Writes, write, dots_at, contains-dots
 use Rattle.dac_wishes.specs.StoredWishes.{writes_of}
 use Rattle.dac_wishes.specs.StartsByKey.{starts_by_key, AreStarts, contains-writes_of, dots_stored, are_starts, starts_again, writes_again}
 use Rattle.dac_config.specs.Table.{Table}
-use Rattle.dac_part_bytes.specs.KeyedForm.{IsKey, IsKnownDot, IsKnownWrite, AreStartsInForm}
+use Rattle.dac_part_bytes.specs.KeyedForm.{IsKnownDot, IsKnownWrite, AreStartsInForm}
 use Rattle.dac_part_bytes.specs.laws.Entries.{sorted_of, rising_keys, all_has, has_all, found, all_found}
-use Rattle.dac_part_bytes.specs.laws.KeyedLists.{IsSome, AreDotsOfKey, IsKeyedDots, AreStartsByKey}
+use Rattle.dac_part_bytes.specs.laws.KeyedLists.{IsKeyedDots, AreStartsByKey}
 use Rattle.dac_part_bytes.specs.laws.InOrder.{each_itself, no_dots, not_empty_set}
 
 -- ---- sets and their dots in order

@@ -24,14 +24,14 @@ module _ (table : Table) (app : AppId) (m n : NodeId) where
   by_groups (Some g) (Some h) of_m of_n e = record { early = g; late = h; first = of_m; second = of_n; less = ltb-true g h e }
 
   -- the test of the groups
-  earlier_if : is_earlier table app m n ≡ true → IsEarlier table app m n
+  pub earlier_if : is_earlier table app m n ≡ true → IsEarlier table app m n
   earlier_if e = by_groups (group_of table app m) (group_of table app n) refl refl e
 
-  if_earlier : IsEarlier table app m n → is_earlier table app m n ≡ true
+  pub if_earlier : IsEarlier table app m n → is_earlier table app m n ≡ true
   if_earlier e = (λ i. is_less (e.first i) (e.second i)) ∙ lt-ltb e.early e.late e.less
 
 -- where the first choice is of no earlier group than the holder, no eligible node is
-none_earlier : (table : Table) (s : StateValue) (app : AppId) (n holder : NodeId) → IsFirst table s app n → is_earlier table app n holder ≡ false → EachEligible table s app (λ m. ¬ IsEarlier table app m holder)
+pub none_earlier : (table : Table) (s : StateValue) (app : AppId) (n holder : NodeId) → IsFirst table s app n → is_earlier table app n holder ≡ false → EachEligible table s app (λ m. ¬ IsEarlier table app m holder)
 none_earlier table s app n holder first level m lt may before = by_group (group_of table app n) refl first.eligible.listed
   where
     between : (a g b : ℕ) → g ≤ a → a < b → g < b

@@ -1,7 +1,7 @@
 -- The tests of who may run an application and where one runs, in words, for every configuration and every state.
-use Rattle.std.specs.Prelude.{◌≡◌, ◌↔◌, ℕ, true, false, ◌&&◌, ◌==◌, Option, None, Some, refl}
+use Rattle.std.specs.Prelude.{◌≡◌, ◌↔◌, ℕ, true, false, cond, ◌&&◌, ◌==◌, Option, None, Some, refl}
 use Rattle.std.proofs.Common.{Bool, ap, subst, ◌∙◌}
-use Rattle.std.specs.Option.{is_some, option_map_or}
+use Rattle.std.specs.Option.{is_some, option_map_or, option_and_then}
 use Rattle.std.proofs.lemmas.Bool.{false≢true, and_parts, and_from, eqb-true, eq-eqb}
 use Rattle.dac_base.specs.declared.NodeId.{NodeId}
 use Rattle.dac_base.specs.declared.AppId.{AppId}
@@ -12,7 +12,7 @@ use Rattle.dac_chains.specs.laws.Live.{live_is}
 use Rattle.dac_wishes.specs.laws.Wished.{is_wished-some}
 use Rattle.dac_wishes.specs.laws.Permitted.{is_permitted-is}
 use Rattle.dac_meaning.specs.StateValue.{StateValue, permissions_of, wishes_of}
-use Rattle.dac_placement.specs.Placement.{IsPermittedAt, is_permitted_at, IsStartedAt, is_started_at, IsEligible, is_eligible, holder_of, key_at, IsUp, is_up, RunsAt, runs_at}
+use Rattle.dac_placement.specs.Placement.{IsPermittedAt, is_permitted_at, IsStartedAt, is_started_at, IsEligible, is_eligible, holder_of, key_at, IsUp, is_up, RunsAt, runs_at, runner_of}
 
 itself : (n : ℕ) → (n == n) ≡ true
 itself n = eq-eqb n n refl
@@ -76,4 +76,26 @@ module _ (table : Table) (s : StateValue) where
     runs_is = (
       λ h. let both = and_parts _ _ h in runs_if (holder_of s app) refl both.0 (eligible_is.0 both.1),
       λ r. and_from _ _ (ap held_here r.holder ∙ and_from _ _ (itself node.0) ((up_is s (record { node = node; inc = r.inc })).1 r.up)) (eligible_is.1 r.eligible),
+    )
+
+  -- ---- the node at which it runs
+
+  module _ (app : AppId) (node : NodeId) where
+    abbrev at_holder : Option Origin → Option NodeId
+    at_holder holder = option_and_then (λ (o : Origin). cond (runs_at table s app o.node) (Some o.node) None) holder
+
+    one : {a b : NodeId} → ◌≡◌ {A = Option NodeId} (Some a) (Some b) → a ≡ b
+    one e = cc
+
+    runner_if : (holder : Option Origin) → at_holder holder ≡ Some node → RunsAt table s app node
+    runner_if None h = absurd (false≢true (ap is_some h))
+    runner_if (Some o) h = elim (runs_at table s app o.node) as (λ b. runs_at table s app o.node ≡ b → cond b (Some o.node) None ≡ Some node → RunsAt table s app node) [
+      | true ↦ λ runs h. subst (RunsAt table s app) (one h) ((runs_is app o.node).0 runs)
+      | false ↦ λ idle h. absurd (false≢true (ap is_some h))
+    ] refl h
+
+    pub runner_is : (runner_of table s app ≡ Some node) ↔ RunsAt table s app node
+    runner_is = (
+      runner_if (holder_of s app),
+      λ r. ap at_holder r.holder ∙ ap (λ b. cond b (Some node) None) ((runs_is app node).1 r),
     )

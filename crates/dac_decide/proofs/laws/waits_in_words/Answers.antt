@@ -1,6 +1,7 @@
 use Rattle.dac_decide.specs.laws.Lost.{lost_to, to_lost}
 use Rattle.dac_decide.specs.laws.Rows.{noted, noted_to, to_noted}
 use Rattle.dac_decide.specs.laws.Due.{due_to_words}
+use Rattle.dac_decide.specs.laws.AllUp.{opening_is}
 use Rattle.dac_decide.proofs.laws.waits_in_words.Goals as goal
 
 pub returns-clause-lost : goal.returns-clause-lost
@@ -11,3 +12,6 @@ returns-clause-rows c = λ app notes claim since. (noted_to app notes (noted cla
 
 pub returns-clause-due : goal.returns-clause-due
 returns-clause-due c = due_to_words
+
+pub returns-clause-opening : goal.returns-clause-opening
+returns-clause-opening c = opening_is

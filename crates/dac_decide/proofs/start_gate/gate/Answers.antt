@@ -1,6 +1,6 @@
 use Rattle.std.proofs.Common.{◌≡◌, ◌-◌, sym, ap₂, subst, ◌∙◌}
 use Rattle.dac_decide.specs.StartGate.{IsOpening, opening_by, opening_of}
-use Rattle.dac_decide.proofs.AllUp.{opening_is}
+use Rattle.dac_decide.specs.laws.AllUp.{opening_is}
 use Rattle.dac_decide.proofs.start_gate.gate.Goals as goal
 
 pub returns-clause-cases : goal.returns-clause-cases

@@ -3,7 +3,7 @@ use Rattle.dac_base.specs.declared.NodeId.{NodeId}
 use Rattle.dac_config.specs.Table.{is_mandatory, is_optional}
 use Rattle.dac_decide.specs.declared.start_gate.Present.{Present}
 use Rattle.dac_decide.specs.StartGate.{is_live_if, both}
-use Rattle.dac_decide.proofs.AllUp.{numbered, all_more}
+use Rattle.dac_decide.specs.laws.AllUp.{numbered, all_more}
 use Rattle.dac_decide.proofs.start_gate.present_of.Goals as goal
 
 pub loop-number-preserved : goal.loop-number-preserved

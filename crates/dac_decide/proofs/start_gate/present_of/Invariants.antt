@@ -1,7 +1,7 @@
 use Rattle.std.proofs.Common.{◌≡◌}
 use Rattle.dac_config.specs.Table.{is_mandatory, is_optional}
 use Rattle.dac_decide.specs.StartGate.{is_live_if}
-use Rattle.dac_decide.proofs.AllUp.{all_first}
+use Rattle.dac_decide.specs.laws.AllUp.{all_first}
 use Rattle.dac_decide.proofs.start_gate.present_of.Given as goal
 
 abbrev pub invariant-loop-number : goal.invariant-loop-number

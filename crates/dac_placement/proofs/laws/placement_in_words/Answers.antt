@@ -1,7 +1,8 @@
-use Rattle.dac_placement.specs.laws.Tests.{eligible_is, runs_is}
+use Rattle.dac_placement.specs.laws.Tests.{eligible_is, runs_is, runner_is}
 use Rattle.dac_placement.specs.laws.Standing.{standing_is}
 use Rattle.dac_placement.specs.laws.FirstChoice.{first_is}
 use Rattle.dac_placement.specs.laws.Judged.{verdict_in_words}
+use Rattle.dac_placement.specs.laws.Rests.{candidate_is, rests_is}
 use Rattle.dac_placement.proofs.laws.placement_in_words.Goals as goal
 
 pub returns-clause-eligible : goal.returns-clause-eligible
@@ -9,6 +10,9 @@ returns-clause-eligible c = eligible_is
 
 pub returns-clause-runs : goal.returns-clause-runs
 returns-clause-runs c = runs_is
+
+pub returns-clause-runner : goal.returns-clause-runner
+returns-clause-runner c = runner_is
 
 pub returns-clause-first : goal.returns-clause-first
 returns-clause-first c = first_is
@@ -18,3 +22,9 @@ returns-clause-standing c = standing_is
 
 pub returns-clause-verdict : goal.returns-clause-verdict
 returns-clause-verdict c = verdict_in_words
+
+pub returns-clause-candidate : goal.returns-clause-candidate
+returns-clause-candidate c = candidate_is
+
+pub returns-clause-rests : goal.returns-clause-rests
+returns-clause-rests c = rests_is

@@ -27,10 +27,10 @@ returns-in_err-pieces-clause-again c =
 
 pub returns-clause-found : goal.returns-clause-found
 returns-clause-found c =
-    parts_found c.args.config.now c.args.reader (((c.in_ok-heard.heard, c.in_ok-heard.known), ((c.in_ok-pieces.pieces.0.0.standing, c.in_ok-pieces.pieces.0.1.standing), c.in_ok-pieces.pieces.1)), c.in_ok-pieces.rest) c.of-state.result (c.of-state.ensures ∙ ap (λ (k : Dots). state_from (c.in_ok-heard.heard, k) ((c.in_ok-pieces.pieces.0.0.standing, c.in_ok-pieces.pieces.0.1.standing), c.in_ok-pieces.pieces.1)) c.in_ok-pieces.ensures.wished)
+    parts_found c.args.config.now c.args.reader (((c.in_ok-heard.heard, c.in_ok-heard.known), ((c.in_ok-pieces.pieces.0.0.standing, c.in_ok-pieces.pieces.0.1.standing), c.in_ok-pieces.pieces.1)), c.in_ok-pieces.rest) c.new-parts.result (c.new-parts.ensures ∙ ap (λ (k : Dots). state_from (c.in_ok-heard.heard, k) ((c.in_ok-pieces.pieces.0.0.standing, c.in_ok-pieces.pieces.0.1.standing), c.in_ok-pieces.pieces.1)) c.in_ok-pieces.ensures.wished)
     (both_found (λ (x : (Dots × Dots) × Rest). x) (λ (x : ((PermissionsValue × WishesValue) × (Lives × Claims)) × Rest). (((x.0.0.0.standing, x.0.0.1.standing), x.0.1), x.1)) dots_bytes pieces_bytes (AreDots (node_count c.args.config.now)) (λ (d : Dots × Dots). ArePieces c.args.config.now d.1) (λ (x : Parts × Rest). x) c.args.reader ((c.in_ok-heard.heard, c.in_ok-heard.known), c.in_ok-heard.rest) (c.in_ok-pieces.pieces, c.in_ok-pieces.rest) (rw c.nodes.ensures.count at c.in_ok-heard.ensures.found) c.in_ok-pieces.ensures.found (((c.in_ok-heard.heard, c.in_ok-heard.known), ((c.in_ok-pieces.pieces.0.0.standing, c.in_ok-pieces.pieces.0.1.standing), c.in_ok-pieces.pieces.1)), c.in_ok-pieces.rest) refl)
 
 pub returns-clause-again : goal.returns-clause-again
 returns-clause-again c =
-    parts_again c.args.config.now c.args.reader (((c.in_ok-heard.heard, c.in_ok-heard.known), ((c.in_ok-pieces.pieces.0.0.standing, c.in_ok-pieces.pieces.0.1.standing), c.in_ok-pieces.pieces.1)), c.in_ok-pieces.rest) c.of-state.result (c.of-state.ensures ∙ ap (λ (k : Dots). state_from (c.in_ok-heard.heard, k) ((c.in_ok-pieces.pieces.0.0.standing, c.in_ok-pieces.pieces.0.1.standing), c.in_ok-pieces.pieces.1)) c.in_ok-pieces.ensures.wished)
+    parts_again c.args.config.now c.args.reader (((c.in_ok-heard.heard, c.in_ok-heard.known), ((c.in_ok-pieces.pieces.0.0.standing, c.in_ok-pieces.pieces.0.1.standing), c.in_ok-pieces.pieces.1)), c.in_ok-pieces.rest) c.new-parts.result (c.new-parts.ensures ∙ ap (λ (k : Dots). state_from (c.in_ok-heard.heard, k) ((c.in_ok-pieces.pieces.0.0.standing, c.in_ok-pieces.pieces.0.1.standing), c.in_ok-pieces.pieces.1)) c.in_ok-pieces.ensures.wished)
     (both_read (λ (x : (Dots × Dots) × Rest). x) (λ (x : ((PermissionsValue × WishesValue) × (Lives × Claims)) × Rest). (((x.0.0.0.standing, x.0.0.1.standing), x.0.1), x.1)) dots_bytes pieces_bytes (AreDots (node_count c.args.config.now)) (λ (d : Dots × Dots). ArePieces c.args.config.now d.1) (λ (x : Parts × Rest). x) c.args.reader ((c.in_ok-heard.heard, c.in_ok-heard.known), c.in_ok-heard.rest) (rw c.nodes.ensures.count at c.in_ok-heard.ensures.again) (c.in_ok-pieces.pieces, c.in_ok-pieces.rest) c.in_ok-pieces.ensures.again (((c.in_ok-heard.heard, c.in_ok-heard.known), ((c.in_ok-pieces.pieces.0.0.standing, c.in_ok-pieces.pieces.0.1.standing), c.in_ok-pieces.pieces.1)), c.in_ok-pieces.rest) refl)

@@ -2,5 +2,5 @@ use Rattle.dac_meaning.specs.StateLaws.{bottom_value}
 use Rattle.dac_state.proofs.Making.{are_parts}
 use Rattle.dac_state.proofs.state.StateBottom.bottom.Goals as goal
 
-pub of-requires : goal.of-requires
-of-requires c = are_parts (record { heard = c.empty.ensures; permissions = c.bottom.ensures; wishes = c.bottom-2.ensures; lives = c.bottom-3.ensures; claims = c.bottom-4.ensures }) bottom_value
+pub new-parts-requires : goal.new-parts-requires
+new-parts-requires c = are_parts (record { heard = c.empty.ensures; permissions = c.bottom.ensures; wishes = c.bottom-2.ensures; lives = c.bottom-3.ensures; claims = c.bottom-4.ensures }) bottom_value

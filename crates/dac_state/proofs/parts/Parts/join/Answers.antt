@@ -2,15 +2,15 @@ use Rattle.std.proofs.Common.{◌∙◌}
 use Rattle.dac_meaning.specs.StateValue.{join}
 use Rattle.dac_meaning.specs.StateLaws.{state_laws}
 use Rattle.dac_state.proofs.Making.{state_is, are_parts, show_joined}
-use Rattle.dac_state.proofs.state.StateLattice.join.Goals as goal
+use Rattle.dac_state.proofs.parts.Parts.join.Goals as goal
 
-pub of-requires : goal.of-requires
-of-requires c = are_parts
+pub new-requires : goal.new-requires
+new-requires c = are_parts
     (show_joined c.self.invariant c.other.invariant c.in_ok-heard.ensures c.in_ok-permissions.ensures c.in_ok-wishes.ensures c.in_ok-lives.ensures c.in_ok-claims.ensures)
     (state_laws.closed _ _ c.self.invariant.state c.other.invariant.state)
 
 pub returns : goal.returns
 returns c =
-    c.of.ensures
+    c.new.ensures
     ∙ state_is (show_joined c.self.invariant c.other.invariant c.in_ok-heard.ensures c.in_ok-permissions.ensures c.in_ok-wishes.ensures c.in_ok-lives.ensures c.in_ok-claims.ensures)
     ∙ (λ i. join (c.self.view_is i) (c.other.view_is i))

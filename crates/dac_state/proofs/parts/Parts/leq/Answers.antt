@@ -1,7 +1,7 @@
 use Rattle.std.proofs.Common.{◌∙◌, sym}
 use Rattle.std.proofs.lemmas.Bool.{false≢true, iff_false}
 use Rattle.dac_state.proofs.Making.{shown_below}
-use Rattle.dac_state.proofs.state.StateLattice.leq.Goals as goal
+use Rattle.dac_state.proofs.parts.Parts.leq.Goals as goal
 
 pub returns-then-not-is_subset : goal.returns-then-not-is_subset
 returns-then-not-is_subset c =

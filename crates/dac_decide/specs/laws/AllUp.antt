@@ -1,4 +1,4 @@
--- Whether the nodes that a starting node waits for are live, by the tests of them all.
+-- Whether the nodes that a starting node waits for are live, by the tests of them all, and what becomes of it, in words.
 use Rattle.std.proofs.Common.{◌≡◌, ℕ, ◌+◌, ◌<◌, Bool, true, false, cond, not, ◌&&◌, ◌||◌, [], ◌∷◌, Option, Some, None, get_or, refl, sym, ap, subst, ◌∙◌, arith, inl, inr}
 use Rattle.std.specs.Prelude.{nat_lt, map as list_map}
 use Rattle.std.specs.Option.{is_some, option_and_then}

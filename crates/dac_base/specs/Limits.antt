@@ -1,0 +1,6 @@
+-- What the limits are, so that none of them can change unseen.
+use Rattle.std.specs.Prelude.{◌≡◌, ◌^◌, refl}
+use Rattle.dac_base.specs.declared.limits.TheConstants.{MAX_NODES, MAX_APPS, MAX_REPLACED, MAX_COUNTER}
+
+pub the_limits : (MAX_NODES ≡ 16) × ((MAX_APPS ≡ 64) × ((MAX_REPLACED ≡ 1024) × (MAX_COUNTER ≡ 2 ^ 62)))
+the_limits = (refl, (refl, (refl, refl)))

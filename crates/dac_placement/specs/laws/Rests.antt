@@ -1,0 +1,103 @@
+-- What a verdict leaves alone is said by how the application stands and by which nodes are eligible, and by no load: for every configuration and every state.
+use Rattle.std.specs.Prelude.{◌≡◌, ◌↔◌, ℕ, Bool, true, false, not, cond, Option, None, Some, refl}
+use Rattle.std.proofs.Common.{sym, ap, subst, ◌∙◌}
+use Rattle.std.specs.Option.{option_map_or}
+use Rattle.std.proofs.lemmas.Bool.{false_from_ne_true}
+use Rattle.dac_base.specs.declared.NodeId.{NodeId}
+use Rattle.dac_base.specs.declared.AppId.{AppId}
+use Rattle.dac_dots.specs.declared.dot.Origin.{Origin}
+use Rattle.dac_config.specs.Table.{Table}
+use Rattle.dac_chains.specs.laws.Live.{live_is}
+use Rattle.dac_meaning.specs.StateValue.{StateValue}
+use Rattle.dac_placement.specs.declared.standing.Standing.{Standing}
+use Rattle.dac_placement.specs.declared.standing.Standing.TheVariants.{Unclaimed, Lost, Stopped, Barred, Upheld}
+use Rattle.dac_placement.specs.declared.verdicts.Verdict.TheVariants.{Takeover, Kept}
+use Rattle.dac_placement.specs.Placement.{IsPermittedAt, is_permitted_at, IsStartedAt, is_started_at, EachEligible, key_at, key_of, is_up, RunsAt, IsEarlier, is_earlier, IsFirst, first_choice, standing_at, standing_of, verdict_by, verdict_of, candidate_of}
+use Rattle.dac_placement.specs.laws.Tests.{up_is, permitted_is, started_is}
+use Rattle.dac_placement.specs.laws.FirstChoice.{first_is}
+use Rattle.dac_placement.specs.laws.Judged.{IsChoice, earlier_if, none_earlier}
+
+-- where it stands so, it is left alone
+abbrev pub Rests : Table → StateValue → AppId → Standing → Type 0
+Rests table s app Unclaimed = EachEligible table s app (λ _. ⊥)
+Rests table s app Lost = EachEligible table s app (λ _. ⊥)
+Rests table s app (Stopped n) = Unit {0}
+Rests table s app Barred = EachEligible table s app (λ _. ⊥)
+Rests table s app (Upheld n) = EachEligible table s app (λ m. ¬ IsEarlier table app m n)
+
+some_none : {X : Type 0} {v : X} {Y : Type 0} → ◌≡◌ {A = Option X} (Some v) None → Y
+some_none e = cc
+
+module _ (table : Table) (s : StateValue) (app : AppId) where
+  -- ---- what has no candidate
+
+  rests_by : (standing : Standing) (first : Option NodeId) → IsChoice table s app first → candidate_of (verdict_by table app standing first) ≡ None → Rests table s app standing
+  rests_by (Stopped n) first is none = tt
+  rests_by (Upheld n) None is none = λ m lt may before. is m lt may
+  rests_by (Upheld n) (Some m) is none = elim (is_earlier table app m n) as (λ b. is_earlier table app m n ≡ b → candidate_of (cond b (Takeover m) (Kept n)) ≡ None → Rests table s app (Upheld n)) [
+    | true ↦ λ e none. some_none none
+    | false ↦ λ e none. none_earlier table s app m n is e
+  ] refl none
+  rests_by Unclaimed None is none = is
+  rests_by Lost None is none = is
+  rests_by Barred None is none = is
+  rests_by Unclaimed (Some m) is none = some_none none
+  rests_by Lost (Some m) is none = some_none none
+  rests_by Barred (Some m) is none = some_none none
+
+  if_rests_by : (standing : Standing) (first : Option NodeId) → IsChoice table s app first → Rests table s app standing → candidate_of (verdict_by table app standing first) ≡ None
+  if_rests_by (Stopped n) first is rests = refl
+  if_rests_by (Upheld n) None is rests = refl
+  if_rests_by (Upheld n) (Some m) is rests = ap (λ b. candidate_of (cond b (Takeover m) (Kept n))) (false_from_ne_true (is_earlier table app m n) (λ e. rests m is.node is.eligible (earlier_if table app m n e)))
+  if_rests_by Unclaimed None is rests = refl
+  if_rests_by Lost None is rests = refl
+  if_rests_by Barred None is rests = refl
+  if_rests_by Unclaimed (Some m) is rests = absurd (rests m is.node is.eligible)
+  if_rests_by Lost (Some m) is rests = absurd (rests m is.node is.eligible)
+  if_rests_by Barred (Some m) is rests = absurd (rests m is.node is.eligible)
+
+  pub rests_is : (candidate_of (verdict_of table s app) ≡ None) ↔ Rests table s app (standing_of table s app)
+  rests_is = (
+    rests_by (standing_of table s app) (first_choice table s app) (first_is table s app),
+    if_rests_by (standing_of table s app) (first_choice table s app) (first_is table s app),
+  )
+
+  -- ---- who is a candidate
+
+  candidate_by : (standing : Standing) (first : Option NodeId) (n : NodeId) → candidate_of (verdict_by table app standing first) ≡ Some n → first ≡ Some n
+  candidate_by (Stopped m) first n e = some_none (sym e)
+  candidate_by (Upheld m) None n e = some_none (sym e)
+  candidate_by (Upheld m) (Some k) n e = elim (is_earlier table app k m) as (λ b. candidate_of (cond b (Takeover k) (Kept m)) ≡ Some n → ◌≡◌ {A = Option NodeId} (Some k) (Some n)) [
+    | true ↦ λ e. e
+    | false ↦ λ e. some_none (sym e)
+  ] e
+  candidate_by Unclaimed None n e = some_none (sym e)
+  candidate_by Lost None n e = some_none (sym e)
+  candidate_by Barred None n e = some_none (sym e)
+  candidate_by Unclaimed (Some k) n e = e
+  candidate_by Lost (Some k) n e = e
+  candidate_by Barred (Some k) n e = e
+
+  pub candidate_is : (n : NodeId) → candidate_of (verdict_of table s app) ≡ Some n → IsFirst table s app n
+  candidate_is n e = subst (IsChoice table s app) (candidate_by (standing_of table s app) (first_choice table s app) n e) (first_is table s app)
+
+  -- ---- where it runs
+
+  same_inc : (a b : ℕ) (live : Option ℕ) → live ≡ Some a → live ≡ Some b → a ≡ b
+  same_inc a b live e f = one (sym e ∙ f)
+    where
+      one : {x y : ℕ} → ◌≡◌ {A = Option ℕ} (Some x) (Some y) → x ≡ y
+      one e = cc
+
+  upheld_by : (n : NodeId) (up started permitted : Bool) → up ≡ true → started ≡ true → permitted ≡ true → cond (not up) Lost (cond (not started) (Stopped n) (cond (not permitted) Barred (Upheld n))) ≡ Upheld n
+  upheld_by n up started permitted a b c = λ i. cond (not (a i)) Lost (cond (not (b i)) (Stopped n) (cond (not (c i)) Barred (Upheld n)))
+
+  -- where it runs, all is well
+  pub runs_upheld : (n : NodeId) → RunsAt table s app n → standing_of table s app ≡ Upheld n
+  runs_upheld n r =
+      let o : Origin = record { node = n; inc = r.inc } in
+      let same = same_inc r.eligible.inc r.inc _ ((live_is s.lives n r.eligible.inc).1 r.eligible.live) ((live_is s.lives n r.inc).1 r.up) in
+      let started : IsStartedAt s (key_at app n r.inc) = subst (λ i. IsStartedAt s (key_at app n i)) same r.eligible.started in
+      let permitted : IsPermittedAt table s (key_at app n r.inc) = subst (λ i. IsPermittedAt table s (key_at app n i)) same r.eligible.permitted in
+      ap (λ h. option_map_or (standing_at table s app) h Unclaimed) r.holder
+      ∙ upheld_by n (is_up s o) (is_started_at s (key_of app o)) (is_permitted_at table s (key_of app o)) ((up_is s o).1 r.up) ((started_is table s app n r.inc).1 started) ((permitted_is table s app n r.inc).1 permitted)

@@ -1,0 +1,154 @@
+//! The parts of a state.
+ghost use Rattle.std.specs.Prelude.{◌≡◌, ◌↔◌, IsTrue, IfOk};
+ghost use Rattle.dac_meaning.specs.StateValue.{IsState, IsBelow, join, permissions_of, wishes_of};
+ghost use Rattle.dac_state.specs.Parts.{AreParts, state_of};
+
+use dac_base::NoMemory;
+use dac_chains::{Claims, Lives};
+use dac_dots::Context;
+use dac_lattice::Lattice;
+use dac_wishes::{Permissions, Wishes};
+use std::alloc::Global;
+use std::marker::Model;
+
+/// The parts of a state. Permissions and wishes know the same dots.
+#[derive(Drop)]
+pub(crate) struct Parts {
+    alloc: Global,
+    heard: Context,
+    permissions: Permissions,
+    wishes: Wishes,
+    lives: Lives,
+    claims: Claims,
+}
+
+impl Model for Parts {
+    ghost use Rattle.dac_meaning.specs.StateValue.{StateValue, coded_state};
+    ghost use Rattle.dac_state.specs.Parts.{AreParts, state_of};
+
+    ghost Value = { StateValue };
+
+    ghost coded = { coded_state };
+
+    ghost view = { λ a. state_of a.heard a.permissions a.wishes a.lives a.claims };
+
+    ghost invariant = { λ a. AreParts a.heard a.permissions a.wishes a.lives a.claims };
+}
+
+impl Parts {
+    /// These parts. It takes no memory.
+    pub(crate) fn new(
+        alloc: Global,
+        heard: Context,
+        permissions: Permissions,
+        wishes: Wishes,
+        lives: Lives,
+        claims: Claims,
+    ) -> Self
+        requires { AreParts heard permissions wishes lives claims }
+        ensures { result ≡ state_of heard permissions wishes lives claims }
+    {
+        Parts {
+            alloc,
+            heard,
+            permissions,
+            wishes,
+            lives,
+            claims,
+        }
+    }
+
+    /// Where their memory comes from.
+    pub(crate) fn allocator(&self) -> Global {
+        self.alloc
+    }
+
+    /// The dots of the operations heard.
+    pub(crate) fn heard(&self) -> &Context
+        ensures { result.now ≡ self.now.heard }
+    {
+        &self.heard
+    }
+
+    /// The dots of the operations heard, and those that one of them replaces.
+    pub(crate) fn known(&self) -> &Context
+        ensures { result.now ≡ self.now.known }
+    {
+        self.wishes.context()
+    }
+
+    /// The permits that stand.
+    pub(crate) fn permissions(&self) -> &Permissions
+        ensures { result.now ≡ permissions_of self.now }
+    {
+        &self.permissions
+    }
+
+    /// The start wishes that stand.
+    pub(crate) fn wishes(&self) -> &Wishes
+        ensures { result.now ≡ wishes_of self.now }
+    {
+        &self.wishes
+    }
+
+    /// The life of each node.
+    pub(crate) fn lives(&self) -> &Lives
+        ensures { result.now ≡ self.now.lives }
+    {
+        &self.lives
+    }
+
+    /// The greatest claim of each application.
+    pub(crate) fn claims(&self) -> &Claims
+        ensures { result.now ≡ self.now.claims }
+    {
+        &self.claims
+    }
+
+    /// They are those of a state.
+    pub(crate) fn are_of_state(&self)
+        ensures { IsState self.now }
+    {
+        let _heard = &self.heard;
+    }
+
+    /// The parts joined with others.
+    pub(crate) fn join(&self, other: &Self) -> Result<Self, NoMemory>
+        ensures { IfOk result (λ joined. joined ≡ join self.now other.now) }
+    {
+        let heard = self.heard.union(&other.heard)?;
+        let permissions = self.permissions.join(&other.permissions)?;
+        let wishes = self.wishes.join(&other.wishes)?;
+        let lives = self.lives.join(&other.lives)?;
+        let claims = self.claims.join(&other.claims)?;
+        Ok(Parts::new(self.alloc, heard, permissions, wishes, lives, claims))
+    }
+
+    /// Whether each is below the other's.
+    pub(crate) fn leq(&self, other: &Self) -> bool
+        ensures { IsTrue result ↔ IsBelow self.now other.now }
+    {
+        if !self.heard.is_subset(&other.heard) {
+            return false;
+        }
+        if !self.permissions.leq(&other.permissions) {
+            return false;
+        }
+        if !self.wishes.leq(&other.wishes) {
+            return false;
+        }
+        self.lives.leq(&other.lives) && self.claims.leq(&other.claims)
+    }
+
+    /// Equal parts, with memory of their own.
+    pub(crate) fn copy(&self) -> Result<Self, NoMemory>
+        ensures { IfOk result (λ copied. copied ≡ self.now) }
+    {
+        let heard = self.heard.copy()?;
+        let permissions = self.permissions.copy()?;
+        let wishes = self.wishes.copy()?;
+        let lives = self.lives.copy()?;
+        let claims = self.claims.copy()?;
+        Ok(Parts::new(self.alloc, heard, permissions, wishes, lives, claims))
+    }
+}
