@@ -1,5 +1,6 @@
 pub mod Operations
 pub mod Meanings
+pub mod OneNode
 pub mod Sound
 pub mod NewsOfRuns
 pub mod HeardInRuns
