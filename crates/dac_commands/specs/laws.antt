@@ -1,4 +1,3 @@
 pub mod Counters
 pub mod Standing
-pub mod Terms
 pub mod Written

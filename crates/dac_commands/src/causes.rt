@@ -1,25 +1,17 @@
 //! Why a running controller refuses a command.
 
 ghost use Rattle.std.specs.Prelude.{◌≡◌};
-ghost use Rattle.dac_commands.specs.Causes.{first, causes_of, causes_to_permit, causes_to_issue, too_many, declared_down, refusal_of_command};
+ghost use Rattle.dac_commands.specs.Causes.{first, causes_of, causes_to_permit, causes_to_issue, too_many, declared_down, refusal_of_command, used_up};
 
-use crate::counters::dots_used_up;
 use crate::keys::{key_of, refusal_to_name};
 use crate::refusal::Refusal;
-use crate::taking::refusal_to_take;
-use dac_base::{AppId, NodeId};
+use dac_base::{AppId, MAX_REPLACED, NodeId};
 use dac_config::Config;
 use dac_dots::Origin;
 use dac_events::Command;
 use dac_state::State;
 
-/// How many dots an operation may replace.
-const MOST_REPLACED: usize = 1_024;
-
-/// Why a controller that runs as this incarnation with this state refuses a command, if it does: the cause of the
-/// least number that holds. A takeover is by the controller's own node, which is to be eligible, from where the
-/// application runs, which is to be at another node and at none of an earlier group (after `application:takeover/2`
-/// of Erlang/OTP). It takes no memory.
+/// Why a controller that runs as this incarnation with this state refuses a command, if it does.
 pub fn refusal_of(config: &Config, own: Origin, state: &State, command: Command) -> Option<Refusal>
     ensures { result ≡ refusal_of_command config.now own state.now command }
 {
@@ -35,7 +27,6 @@ pub fn refusal_of(config: &Config, own: Origin, state: &State, command: Command)
         } => refusal_to_permit(config, own, state, app, node),
         Command::Start { app, node } => refusal_to_start(config, own, state, app, node),
         Command::Stop { app, node } => refusal_to_stop(config, own, state, app, node),
-        Command::Takeover { app } => refusal_to_take(config, own, state, app),
     }
 }
 
@@ -62,7 +53,7 @@ fn refusal_to_declare(config: &Config, own: Origin, state: &State, node: NodeId)
     if state.lives().live(node).is_none() {
         return Some(Refusal::NotLive);
     }
-    if dots_used_up(state, own) {
+    if is_used_up(own, state) {
         return Some(Refusal::DotsUsedUp);
     }
     None
@@ -129,7 +120,7 @@ fn refusal_to_issue(own: Origin, state: &State, count: usize) -> Option<Refusal>
     if is_too_many(count) {
         return Some(Refusal::TooManyDots);
     }
-    if dots_used_up(state, own) {
+    if is_used_up(own, state) {
         return Some(Refusal::DotsUsedUp);
     }
     None
@@ -139,5 +130,12 @@ fn refusal_to_issue(own: Origin, state: &State, count: usize) -> Option<Refusal>
 fn is_too_many(count: usize) -> bool
     ensures { result ≡ too_many count }
 {
-    count > MOST_REPLACED
+    count > MAX_REPLACED
+}
+
+/// Whether the counters of an incarnation's operations are used up.
+fn is_used_up(own: Origin, state: &State) -> bool
+    ensures { result ≡ used_up state.now own }
+{
+    state.known().next(own).is_none()
 }

@@ -1,6 +1,6 @@
 //! All controllers of a configuration, with what they issued and shipped.
 
-ghost use Rattle.std.specs.Prelude.{◌≡◌, ◌<◌, ◌≤◌, ◌+◌, ◌++◌, ◌↔◌, IsTrue, IfOk, OnOk, length, vec_len, vec_capacity};
+ghost use Rattle.std.specs.Prelude.{◌≡◌, ◌<◌, ◌++◌, ◌↔◌, IsTrue, IfOk, OnOk, length, vec_len, vec_capacity};
 ghost use Rattle.dac_worlds.specs.ModelWorld.{issued_by, shipped_by};
 ghost use Rattle.dac_worlds.specs.WorldChanges.{NodeChanges};
 
@@ -51,7 +51,7 @@ impl World {
 
     /// All controllers of the configuration, off and never booted.
     pub fn new(alloc: Global, config: &Config) -> Result<Self, NoMemory>
-        ensures { IfOk result (Shows config.now (start config.now)) }
+        ensures { IfOk result (Shows (start config.now)) }
     {
         let mut nodes = Vec::new(alloc);
         for _node in 0..config.nodes() {
@@ -104,7 +104,7 @@ impl World {
 
     /// One event of the world. After a fault all is as before.
     pub fn step(&mut self, config: &Config, event: &WorldEvent) -> Result<Reply, WorldFault>
-        ensures follows { Follows config.now self.old (λ w. happens config.now w event.now) result self.new }
+        ensures follows { Follows self.old (λ w. happens config.now w event.now) result self.new }
         // What the node has heard grows by the dots that its event brings, and by no more; no other node changes.
         ensures heard { IfOk result (λ reply. HearsIn self.old event.now reply self.new) }
         ensures unchanged { OnErr result (self.new ≡ self.old) }
@@ -149,7 +149,6 @@ impl World {
             What::Boot { now } => self.happen(config, node, &Event::Boot { now }),
             What::Crash => self.happen(config, node, &Event::Crash),
             What::Command(command) => self.happen(config, node, &Event::Command(command)),
-            What::Tick { now } => self.happen(config, node, &Event::Tick { now }),
             What::Ship { to } => self.happen(config, node, &Event::Ship { to }),
             What::Deliver(number) => self.deliver(config, node, number),
             What::Hand(number) => self.hand(config, node, number),
@@ -242,17 +241,6 @@ fn change_node(nodes: &mut Vec<Node>, node: NodeId, change: Change) -> Reply
     nodes[node.0 as usize].apply(change)
 }
 
-/// How many operations a reply issues.
-fn issued_count(reply: &Reply) -> usize
-    ensures { result ≡ length (issued_by reply.now) }
-{
-    match reply {
-        Reply::Booted(_) | Reply::Issued(_) => 1,
-        Reply::Ticked { ops, passed: _ } => ops.as_slice().len(),
-        _ => 0,
-    }
-}
-
 /// Makes room for what a reply issues and ships, and copies the reply.
 fn make_room(
     operations: &mut Vec<Op>,
@@ -261,11 +249,11 @@ fn make_room(
 ) -> Result<Reply, NoMemory>
     ensures operations { operations.new.items ≡ operations.old.items }
     ensures messages { messages.new.items ≡ messages.old.items }
-    ensures operations_room { OnOk result (vec_len operations.new + length (issued_by reply.now) ≤ vec_capacity operations.new) }
+    ensures operations_room { OnOk result (vec_len operations.new < vec_capacity operations.new) }
     ensures messages_room { OnOk result (vec_len messages.new < vec_capacity messages.new) }
     ensures copied { IfOk result (λ copied. copied ≡ reply.now) }
 {
-    operations.reserve(issued_count(reply))?;
+    operations.reserve(1)?;
     messages.reserve(1)?;
     let copied = reply.copy()?;
     Ok(copied)
@@ -273,7 +261,7 @@ fn make_room(
 
 /// Notes what a reply issues and ships, where there is room.
 fn note(operations: &mut Vec<Op>, messages: &mut Vec<Message>, reply: Reply)
-    requires operations_room { vec_len operations.old + length (issued_by reply) ≤ vec_capacity operations.old }
+    requires operations_room { vec_len operations.old < vec_capacity operations.old }
     requires messages_room { vec_len messages.old < vec_capacity messages.old }
     ensures operations { operations.new.items ≡ operations.old.items ++ issued_by reply }
     ensures messages { messages.new.items ≡ messages.old.items ++ shipped_by reply }
@@ -285,13 +273,9 @@ fn note(operations: &mut Vec<Op>, messages: &mut Vec<Message>, reply: Reply)
         Reply::Issued(operation) => {
             let _ = operations.push(operation);
         }
-        Reply::Ticked { ops, passed: _ } => {
-            let mut claims = ops.into_vec();
-            let _ = operations.append(&mut claims);
-        }
         Reply::Shipped(message) => {
             let _ = messages.push(message);
         }
-        _ => {}
+        Reply::Crashed | Reply::Heard(_) => {}
     }
 }

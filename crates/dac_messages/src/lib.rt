@@ -6,11 +6,9 @@
 #![tactic(auto)]
 
 pub use event::Event;
-pub use lists::{AppList, OpList};
 pub use message::Message;
 pub use reply::Reply;
 
 mod event;
-mod lists;
 mod message;
 mod reply;

@@ -1,3 +1,1 @@
 pub mod Knows
-pub mod Effects
-pub mod Gates

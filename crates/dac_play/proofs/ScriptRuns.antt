@@ -65,14 +65,14 @@ lines_lead t w (line ∷ lines) =
     ∙ ap (λ v. world_by t v (events_from t (world_after t w line) lines)) (line_leads t w line)
     ∙ lines_lead t (world_after t w line) lines
 
-script_ran : (t : Table) (lines : List ScriptLine) (v : WorldValue) → Shows t (world_from t (start t) lines) v → RanAs t (events_in t lines) (answers_in t lines) v
+script_ran : (t : Table) (lines : List ScriptLine) (v : WorldValue) → Shows (world_from t (start t) lines) v → RanAs t (events_in t lines) (answers_in t lines) v
 script_ran t lines v shows = record {
   final = world_from t (start t) lines;
   run = subst (Run t (start t) (events_in t lines) (answers_in t lines)) (lines_lead t (start t) lines) (runs_by t (start t) (events_in t lines));
   shows = shows;
 }
 
-is_run : (t : Table) (lines : List ScriptLine) (v : WorldValue) → Shows t (world_from t (start t) lines) v → IsRunOf t lines v
+is_run : (t : Table) (lines : List ScriptLine) (v : WorldValue) → Shows (world_from t (start t) lines) v → IsRunOf t lines v
 is_run t lines v shows =
     let ran = script_ran t lines v shows in
     let leaves = headline t (events_in t lines) (answers_in t lines) v ran in

@@ -1,5 +1,4 @@
 pub mod Texts
-pub mod Ticks
 pub mod Endings
 pub mod Checks
 pub mod Answers

@@ -37,7 +37,7 @@ HasState state count node = (node.0 < count) × IsTrue (is_some (state node))
 pub record IsShared (table : Table) (old new : WorldValue) : Type 0 where
   pub pairs : List (NodeId × NodeId)
   pub each_other : TellsEachOther (HasState (state_at old) (length old.nodes)) pairs
-  pub leads : Leads table old (λ w. fold (told table) w pairs) new
+  pub leads : Leads old (λ w. fold (told table) w pairs) new
 
 -- as what a node runs, and the page of its state; a node that is off has none
 abbrev pub shown_text : Table → NodeId → Option Origin → Option StateValue → List ℕ
@@ -81,4 +81,4 @@ script_text table w (line ∷ lines) = line_text table w line ++ script_text tab
 
 -- From old, a line prints this text and leads to new, as in each of the definition's worlds that shows old.
 pub record PlaysLine (table : Table) (old : WorldValue) (line : ScriptLine) (text : List ℕ) (new : WorldValue) : Type 0 where
-  pub each : (w : ModelWorld) → Shows table w old → (text ≡ line_text table w line) × Shows table (world_after table w line) new
+  pub each : (w : ModelWorld) → Shows w old → (text ≡ line_text table w line) × Shows (world_after table w line) new

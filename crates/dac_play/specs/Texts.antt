@@ -31,14 +31,6 @@ shared_text messages = codes "shared " ++ (decimal messages ++ codes "\n")
 abbrev pub crashed_text : List ℕ
 crashed_text = codes "crashed\n"
 
--- a tick that the start gate holds back
-abbrev pub held_text : List ℕ
-held_text = codes "held\n"
-
--- a node that waited in vain for a mandatory one, and went down
-abbrev pub gave_up_text : List ℕ
-gave_up_text = codes "gave up\n"
-
 abbrev pub heard_text : Bool → List ℕ
 heard_text true = codes "heard new\n"
 heard_text false = codes "heard nothing new\n"

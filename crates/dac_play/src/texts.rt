@@ -1,7 +1,7 @@
 //! The lines that the program prints, each ended by a line feed.
 
 ghost use Rattle.std.specs.Prelude.{◌≡◌, IfOk};
-ghost use Rattle.dac_play.specs.Texts.{booted_text, crashed_text, held_text, gave_up_text, issued_text, shipped_text, shared_text, heard_text, no_message_text, no_operation_text, refused_text, same_text, state_text, input_fault_text, script_fault_text, config_fault_text, failure_text};
+ghost use Rattle.dac_play.specs.Texts.{booted_text, crashed_text, issued_text, shipped_text, shared_text, heard_text, no_message_text, no_operation_text, refused_text, same_text, state_text, input_fault_text, script_fault_text, config_fault_text, failure_text};
 
 use dac_base::NoMemory;
 use dac_config::printed_name;
@@ -43,20 +43,6 @@ pub fn crashed_line() -> &'static str
     ensures { result.now ≡ crashed_text }
 {
     "crashed\n"
-}
-
-/// A node still waits for others, and did nothing.
-pub fn held_line() -> &'static str
-    ensures { result.now ≡ held_text }
-{
-    "held\n"
-}
-
-/// A node waited in vain for a mandatory one, and went down.
-pub fn gave_up_line() -> &'static str
-    ensures { result.now ≡ gave_up_text }
-{
-    "gave up\n"
 }
 
 /// The message of this number was shipped; its body is a whole state that heard this many dots.

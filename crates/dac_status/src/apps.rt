@@ -17,8 +17,7 @@ use std::alloc::Global;
 /// How many groups a list can have: each has a node of its own.
 const MAX_GROUPS: u16 = MAX_NODES as u16;
 
-/// How an application came to the node that claims it, behind a space.
-pub fn how_text(how: How) -> &'static str
+fn how_text(how: How) -> &'static str
     ensures { result.now ≡ how_text how }
 {
     match how {
@@ -29,7 +28,7 @@ pub fn how_text(how: How) -> &'static str
 }
 
 /// Puts behind a text the node that an application was taken from, if any.
-pub fn put_from(
+fn put_from(
     alloc: Global,
     text: &mut Vec<u8>,
     config: &Config,

@@ -12,7 +12,6 @@ mod pages;
 mod summary;
 
 pub use dac_base::{MAX_APPS, MAX_NODES};
-pub use apps::{how_text, put_from};
 pub use marks::{Mark, mark_of};
 pub use pages::{header, page};
 pub use summary::{AppSummary, Summary};

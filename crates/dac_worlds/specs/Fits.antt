@@ -4,7 +4,7 @@ use Rattle.dac_base.specs.declared.NodeId.{NodeId}
 use Rattle.dac_operations.specs.Operations.{Operation}
 use Rattle.dac_events.specs.declared.WorldEvent.{WorldEvent}
 use Rattle.dac_events.specs.declared.What.{What}
-use Rattle.dac_events.specs.declared.What.TheVariants.{Deliver, Hand}
+use Rattle.dac_events.specs.declared.What.TheVariants.{Boot as Boots, Crash as Crashes, Command as Tells, Ship as Ships, Deliver, Hand}
 use Rattle.dac_messages.specs.declared.reply.Reply.{Reply}
 use Rattle.dac_messages.specs.declared.reply.Reply.TheVariants.{Heard}
 use Rattle.dac_worlds.specs.declared.fault.WorldFault.{WorldFault}
@@ -24,9 +24,12 @@ pub record IsCopyFor (w : SetWorld) (n : NodeId) (number : ℕ) : Type 0 where
 
 -- the event brings the node such a copy, or an operation that was issued
 abbrev pub Fits : SetWorld → NodeId → What → Type 0
+Fits w n (Boots now) = ⊥
+Fits w n Crashes = ⊥
+Fits w n (Tells c) = ⊥
+Fits w n (Ships to) = ⊥
 Fits w n (Deliver k) = IsCopyFor w n k
 Fits w n (Hand k) = (o : Operation) × (counted w.issued k ≡ Some o)
-Fits w n _ = ⊥
 
 -- the answer says that it was heard
 abbrev pub IsHeard : Result Reply WorldFault → Type 0

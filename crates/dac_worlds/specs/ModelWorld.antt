@@ -6,12 +6,12 @@ use Rattle.dac_config.specs.Table.{Table, node_count}
 use Rattle.dac_operations.specs.Operations.{Operation}
 use Rattle.dac_events.specs.declared.WorldEvent.{WorldEvent}
 use Rattle.dac_events.specs.declared.What.{What}
-use Rattle.dac_events.specs.declared.What.TheVariants.{Boot as Boots, Crash as Crashes, Command as Tells, Tick as Ticks, Ship as Ships, Deliver, Hand}
+use Rattle.dac_events.specs.declared.What.TheVariants.{Boot as Boots, Crash as Crashes, Command as Tells, Ship as Ships, Deliver, Hand}
 use Rattle.dac_messages.specs.declared.message.Message.{Message}
 use Rattle.dac_messages.specs.declared.event.Event.{Event}
-use Rattle.dac_messages.specs.declared.event.Event.TheVariants.{Boot, Crash, Command as Told, Tick, Ship, Hear, HearOp}
+use Rattle.dac_messages.specs.declared.event.Event.TheVariants.{Boot, Crash, Command as Told, Ship, Hear, HearOp}
 use Rattle.dac_messages.specs.declared.reply.Reply.{Reply}
-use Rattle.dac_messages.specs.declared.reply.Reply.TheVariants.{Booted, Crashed, Issued, Ticked, Shipped}
+use Rattle.dac_messages.specs.declared.reply.Reply.TheVariants.{Booted, Crashed, Issued, Shipped, Heard}
 use Rattle.dac_commands.specs.declared.refusal.Refusal.{Refusal}
 use Rattle.dac_commands.specs.declared.refusal.Refusal.TheVariants.{NoMemory}
 use Rattle.dac_worlds.specs.declared.fault.WorldFault.{WorldFault}
@@ -32,10 +32,10 @@ pub record ModelWorld : Type 0 where
 abbrev pub numbered : ℕ → NodeId
 numbered n = record { 0 = n }
 
--- what the program's world shows of it, under a configuration
-pub record Shows (t : Table) (w : ModelWorld) (v : WorldValue) : Type 0 where
+-- what the program's world shows of it
+pub record Shows (w : ModelWorld) (v : WorldValue) : Type 0 where
   pub count : length v.nodes ≡ w.count
-  pub nodes : (n : ℕ) → slice_get v.nodes n ≡ cond (nat_lt n w.count) (Some (shown t (w.node (numbered n)))) None
+  pub nodes : (n : ℕ) → slice_get v.nodes n ≡ cond (nat_lt n w.count) (Some (shown (w.node (numbered n)))) None
   pub operations : v.operations ≡ w.operations
   pub messages : v.messages ≡ w.messages
 
@@ -63,7 +63,6 @@ abbrev pub event_of : List Operation → List Message → What → Result Event 
 event_of os ms (Boots now) = Ok (Boot now)
 event_of os ms Crashes = Ok Crash
 event_of os ms (Tells c) = Ok (Told c)
-event_of os ms (Ticks now) = Ok (Tick now)
 event_of os ms (Ships to) = Ok (Ship to)
 event_of os ms (Deliver k) = heard_by (counted ms k)
 event_of os ms (Hand k) = handed_by (counted os k)
@@ -71,14 +70,18 @@ event_of os ms (Hand k) = handed_by (counted os k)
 -- the operations that a reply issues
 abbrev pub issued_by : Reply → List Operation
 issued_by (Booted o) = o ∷ []
+issued_by Crashed = []
 issued_by (Issued o) = o ∷ []
-issued_by (Ticked ops passed) = ops
-issued_by _ = []
+issued_by (Shipped m) = []
+issued_by (Heard fresh) = []
 
 -- the messages that a reply ships
 abbrev pub shipped_by : Reply → List Message
+shipped_by (Booted o) = []
+shipped_by Crashed = []
+shipped_by (Issued o) = []
 shipped_by (Shipped m) = m ∷ []
-shipped_by _ = []
+shipped_by (Heard fresh) = []
 
 -- node n put in place of the one there
 abbrev pub with_node : (NodeId → ModelNode) → NodeId → ModelNode → NodeId → ModelNode
@@ -132,15 +135,15 @@ Run t w (e ∷ es) [] final = ⊥
 Run t w (e ∷ es) (a ∷ answers) final = (next : ModelWorld) × (Step w (happens t w e) a next × Run t next es answers final)
 
 -- From old, the program's world answers and goes on to new as each of the definition's worlds that shows old may.
-pub record Follows (t : Table) (old : WorldValue) (by : ModelWorld → WorldStepped) (answer : Result Reply WorldFault) (new : WorldValue) : Type 0 where
-  pub each : (w : ModelWorld) → Shows t w old → (next : ModelWorld) × (Step w (by w) answer next × Shows t next new)
+pub record Follows (old : WorldValue) (by : ModelWorld → WorldStepped) (answer : Result Reply WorldFault) (new : WorldValue) : Type 0 where
+  pub each : (w : ModelWorld) → Shows w old → (next : ModelWorld) × (Step w (by w) answer next × Shows next new)
 
 -- The program's world answered these events so, one after another from the start, and is where the
 -- definition's world comes to by them.
 pub record RanAs (t : Table) (events : List WorldEvent) (answers : List (Result Reply WorldFault)) (v : WorldValue) : Type 0 where
   pub final : ModelWorld
   pub run : Run t (start t) events answers final
-  pub shows : Shows t final v
+  pub shows : Shows final v
 
 -- of each run from the start this holds: of its events, its answers and where the program's world is after it
 abbrev pub InEachRun : (List WorldEvent → List (Result Reply WorldFault) → WorldValue → Type 0) → Type 0

@@ -5,9 +5,9 @@ use Rattle.dac_base.specs.declared.NodeId.{NodeId}
 use Rattle.dac_operations.specs.Operations.{Operation}
 use Rattle.dac_events.specs.declared.WorldEvent.{WorldEvent}
 use Rattle.dac_events.specs.declared.What.{What}
-use Rattle.dac_events.specs.declared.What.TheVariants.{Ship as Ships, Deliver, Hand}
+use Rattle.dac_events.specs.declared.What.TheVariants.{Boot as Boots, Crash as Crashes, Command as Tells, Ship as Ships, Deliver, Hand}
 use Rattle.dac_messages.specs.declared.reply.Reply.{Reply}
-use Rattle.dac_messages.specs.declared.reply.Reply.TheVariants.{Booted, Crashed, Issued, Ticked, Held, GaveUp, Shipped, Heard}
+use Rattle.dac_messages.specs.declared.reply.Reply.TheVariants.{Booted, Crashed, Issued, Shipped, Heard}
 use Rattle.dac_worlds.specs.declared.fault.WorldFault.{WorldFault}
 use Rattle.dac_worlds.specs.ModelWorld.{counted}
 
@@ -54,35 +54,30 @@ alone (Some o) = o ∷ []
 
 -- the operations that an event brings to node n: a delivery those of the copy, and a handing the one that it names
 abbrev pub brought_to : SetWorld → NodeId → What → List Operation
+brought_to w n (Boots now) = []
+brought_to w n Crashes = []
+brought_to w n (Tells c) = []
+brought_to w n (Ships to) = []
 brought_to w n (Deliver k) = copied_to n (counted w.copies k)
 brought_to w n (Hand k) = alone (counted w.issued k)
-brought_to w n _ = []
 
 -- where an event ships to
 abbrev pub to_of : What → NodeId
+to_of (Boots now) = record { 0 = 0 }
+to_of Crashes = record { 0 = 0 }
+to_of (Tells c) = record { 0 = 0 }
 to_of (Ships to) = to
-to_of _ = record { 0 = 0 }
-
--- the operations are issued at node n, which adds them to its set
-abbrev pub issuing : SetWorld → NodeId → List Operation → SetWorld
-issuing w n os = record { node = with_set w.node n (united (w.node n) os); issued = w.issued ++ os; copies = w.copies }
-
--- node n is off from then on
-abbrev pub going_off : SetWorld → NodeId → SetWorld
-going_off w n = record { node = with_set w.node n None; issued = w.issued; copies = w.copies }
+to_of (Deliver k) = record { 0 = 0 }
+to_of (Hand k) = record { 0 = 0 }
 
 -- One event at node n with its answer, which brings the operations that are issued. A boot gives the set of
--- one Up, a crash or a tick that gives up takes the node's set away, a command or a tick adds what it issues,
--- a ship puts a copy of the whole set on its way, what is delivered or handed is united with the set, and a
--- refused event changes nothing.
+-- one Up, a crash takes the node's set away, a command adds what it issues, a ship puts a copy of the whole
+-- set on its way, what is delivered or handed is united with the set, and a refused event changes nothing.
 abbrev pub set_step : SetWorld → NodeId → What → Result Reply WorldFault → SetWorld
 set_step w n what (Err fault) = w
 set_step w n what (Ok (Booted o)) = record { node = with_set w.node n (Some (o ∷ [])); issued = w.issued ++ o ∷ []; copies = w.copies }
-set_step w n what (Ok Crashed) = going_off w n
-set_step w n what (Ok GaveUp) = going_off w n
-set_step w n what (Ok Held) = w
-set_step w n what (Ok (Issued o)) = issuing w n (o ∷ [])
-set_step w n what (Ok (Ticked ops passed)) = issuing w n ops
+set_step w n what (Ok Crashed) = record { node = with_set w.node n None; issued = w.issued; copies = w.copies }
+set_step w n what (Ok (Issued o)) = record { node = with_set w.node n (united (w.node n) (o ∷ [])); issued = w.issued ++ o ∷ []; copies = w.copies }
 set_step w n what (Ok (Shipped m)) = record { node = w.node; issued = w.issued; copies = w.copies ++ ship_from (w.node n) n (to_of what) }
 set_step w n what (Ok (Heard fresh)) = record { node = with_set w.node n (united (w.node n) (brought_to w n what)); issued = w.issued; copies = w.copies }
 

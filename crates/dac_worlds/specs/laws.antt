@@ -1,6 +1,5 @@
 pub mod Operations
 pub mod Meanings
-pub mod OneNode
 pub mod Sound
 pub mod NewsOfRuns
 pub mod HeardInRuns

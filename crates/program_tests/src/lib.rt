@@ -9,11 +9,7 @@ mod command_lines;
 #[cfg(test)]
 mod configs;
 #[cfg(test)]
-mod examples;
-#[cfg(test)]
 mod faults;
-#[cfg(test)]
-mod placements;
 #[cfg(test)]
 mod readers;
 #[cfg(test)]

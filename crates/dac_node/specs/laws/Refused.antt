@@ -11,22 +11,18 @@ use Rattle.dac_chains.specs.laws.Live.{live_is}
 use Rattle.dac_wishes.specs.WishesValue.{is_wished}
 use Rattle.dac_wishes.specs.laws.Wished.{is_wished-some}
 use Rattle.dac_meaning.specs.StateValue.{StateValue, wishes_of}
-use Rattle.dac_placement.specs.Placement.{is_eligible, runs_at, runner_of}
-use Rattle.dac_placement.specs.laws.Tests.{eligible_is, runs_is}
 use Rattle.dac_events.specs.declared.Command.{Command}
-use Rattle.dac_events.specs.declared.Command.TheVariants.{Down, Permit, Start, Stop, Takeover}
+use Rattle.dac_events.specs.declared.Command.TheVariants.{Down, Permit, Start, Stop}
 use Rattle.dac_messages.specs.declared.event.Event.{Event}
-use Rattle.dac_messages.specs.declared.event.Event.TheVariants.{Boot, Crash, Command as Told, Tick, Ship, Hear, HearOp}
+use Rattle.dac_messages.specs.declared.event.Event.TheVariants.{Boot, Crash, Command as Told, Ship, Hear, HearOp}
 use Rattle.dac_commands.specs.declared.refusal.Refusal.{Refusal}
-use Rattle.dac_commands.specs.declared.refusal.Refusal.TheVariants.{Off, AlreadyOn, DeclaredDown, UnknownApp, UnknownNode, OnSelf, NotInList, MomentBack, NotLive, NotStarted, NotEligible, NotRunning, AlreadyHolder, LowerPriority, NotForMe, TooManyDots, TermsUsedUp, DotsUsedUp, IncarnationsUsedUp, NoMemory}
+use Rattle.dac_commands.specs.declared.refusal.Refusal.TheVariants.{Off, AlreadyOn, DeclaredDown, UnknownApp, UnknownNode, OnSelf, NotInList, NotLive, NotStarted, NotForMe, TooManyDots, DotsUsedUp, IncarnationsUsedUp, NoMemory}
 use Rattle.dac_commands.specs.Refusals.{number_of}
-use Rattle.dac_commands.specs.Causes.{first, no_node, no_app, unlisted, not_live, not_wished, too_many, used_up, is_inc, declared_down, terms_used_up, runs_earlier}
+use Rattle.dac_commands.specs.Causes.{first, no_node, no_app, unlisted, not_live, not_wished, too_many, used_up, is_inc, declared_down}
 use Rattle.dac_commands.specs.Commands.{live, key_at, standing_starts, standing_permits}
 use Rattle.dac_commands.specs.laws.Counters.{used_up_is}
-use Rattle.dac_commands.specs.laws.Terms.{terms_used_up_is}
 use Rattle.dac_node.specs.NodeValue.{NodeValue, RunValue}
-use Rattle.dac_node.specs.EventRefusals.{too_few_left, refusal_by, refusal_of}
-use Rattle.dac_node.specs.laws.Tests.{not_running_is, runs_earlier_is, too_few_is}
+use Rattle.dac_node.specs.EventRefusals.{refusal_by, refusal_of}
 use Rattle.dac_node.specs.Refused.{causes_of_event, Holds, IsOneOf, NoneHolds, IsLeastOf, IsFree, IsRefused, IsAnsweredBy, NeverWantsMemory}
 
 -- ---- the first test that holds is that of the least cause
@@ -165,18 +161,12 @@ module _ (t : Table) (last : ℕ) (r : RunValue) where
       ((false, Off) ∷ (declared_down own s, DeclaredDown) ∷ (no_app t app, UnknownApp) ∷ (no_node t node, UnknownNode) ∷ (unlisted t app node, NotInList) ∷ (not_live s node, NotLive) ∷ (not_wished s (key_at s app node), NotStarted) ∷ (too_many (length (standing_starts s (key_at s app node))), TooManyDots) ∷ (used_up s own, DotsUsedUp) ∷ [])
       (causes_of_event (Told (Stop app node))) refl
       (refl, (is_on r, λ _. (refl, (declared_down_is own s, λ _. (refl, (at_least (app_count t) app.0, λ _. (refl, (at_least (node_count t) node.0, λ _. (refl, (is_missing (group_of t app node), λ _. (refl, (not_live_is s node, λ _. (refl, (fails (is_wished (key_at s app node) (wishes_of s)) (is_wished-some (key_at s app node) (wishes_of s)), λ _. (refl, (less 1024 (length (standing_starts s (key_at s app node))), λ _. (refl, (used, λ _. tt))))))))))))))))))
-  on_command (Takeover app) = first_is (Holds t here (Told (Takeover app))) 0
-      ((false, Off) ∷ (declared_down own s, DeclaredDown) ∷ (no_app t app, UnknownApp) ∷ (unlisted t app own.node, NotInList) ∷ (not (is_eligible t s app own.node), NotEligible) ∷ (not (is_some (runner_of t s app)), NotRunning) ∷ (runs_at t s app own.node, AlreadyHolder) ∷ (runs_earlier t s app own.node, LowerPriority) ∷ (terms_used_up s app, TermsUsedUp) ∷ (used_up s own, DotsUsedUp) ∷ [])
-      (causes_of_event (Told (Takeover app))) refl
-      (refl, (is_on r, λ _. (refl, (declared_down_is own s, λ _. (refl, (at_least (app_count t) app.0, λ _. (refl, (is_missing (group_of t app own.node), λ _. (refl, (fails (is_eligible t s app own.node) (eligible_is t s app own.node), λ _. (refl, (not_running_is t s app, λ _. (refl, (runs_is t s app own.node, λ _. (refl, (runs_earlier_is t s app own.node, λ _. (refl, (terms_used_up_is s app, λ _. (refl, (used, λ _. tt))))))))))))))))))))
 
   on_event : (e : Event) → IsRight (Holds t here e) (causes_of_event e) (refusal_by t last (Some r) e)
   on_event (Boot now) = first_is (Holds t here (Boot now)) 0 ((true, AlreadyOn) ∷ (false, IncarnationsUsedUp) ∷ []) (causes_of_event (Boot now)) refl
       (refl, ((λ _. tt, λ _. refl), λ off. absurd (true≢false off)))
   on_event Crash = first_is (Holds t here Crash) 0 ((false, Off) ∷ []) (causes_of_event Crash) refl (refl, (is_on r, λ _. tt))
   on_event (Told c) = on_command c
-  on_event (Tick now) = first_is (Holds t here (Tick now)) 0 ((false, Off) ∷ (declared_down own s, DeclaredDown) ∷ (nat_lt now r.moments.last, MomentBack) ∷ (too_few_left t s own, DotsUsedUp) ∷ []) (causes_of_event (Tick now)) refl
-      (refl, (is_on r, λ _. (refl, (declared_down_is own s, λ _. (refl, (less now r.moments.last, λ _. (refl, (too_few_is t s own, λ _. tt))))))))
   on_event (Ship to) = first_is (Holds t here (Ship to)) 0 ((false, Off) ∷ (no_node t to, UnknownNode) ∷ (nat_eq to.0 own.node.0, OnSelf) ∷ []) (causes_of_event (Ship to)) refl
       (refl, (is_on r, λ _. (refl, (at_least (node_count t) to.0, λ _. (refl, (same_node to own.node, λ _. tt))))))
   on_event (Hear m) = first_is (Holds t here (Hear m)) 0 ((false, Off) ∷ (nat_eq m.from.node.0 own.node.0, OnSelf) ∷ (not (nat_eq m.to.0 own.node.0), NotForMe) ∷ []) (causes_of_event (Hear m)) refl
@@ -198,8 +188,6 @@ module _ (t : Table) (last : ℕ) where
   off_event (Told (Permit app node value)) = off_first (Told (Permit app node value)) (DeclaredDown ∷ UnknownApp ∷ UnknownNode ∷ NotInList ∷ NotLive ∷ TooManyDots ∷ DotsUsedUp ∷ []) refl
   off_event (Told (Start app node)) = off_first (Told (Start app node)) (DeclaredDown ∷ UnknownApp ∷ UnknownNode ∷ NotInList ∷ NotLive ∷ TooManyDots ∷ DotsUsedUp ∷ []) refl
   off_event (Told (Stop app node)) = off_first (Told (Stop app node)) (DeclaredDown ∷ UnknownApp ∷ UnknownNode ∷ NotInList ∷ NotLive ∷ NotStarted ∷ TooManyDots ∷ DotsUsedUp ∷ []) refl
-  off_event (Told (Takeover app)) = off_first (Told (Takeover app)) (DeclaredDown ∷ UnknownApp ∷ NotInList ∷ NotEligible ∷ NotRunning ∷ AlreadyHolder ∷ LowerPriority ∷ TermsUsedUp ∷ DotsUsedUp ∷ []) refl
-  off_event (Tick now) = off_first (Tick now) (DeclaredDown ∷ MomentBack ∷ DotsUsedUp ∷ []) refl
   off_event (Ship to) = off_first (Ship to) (UnknownNode ∷ OnSelf ∷ []) refl
   off_event (Hear m) = off_first (Hear m) (OnSelf ∷ NotForMe ∷ []) refl
   off_event (HearOp o) = off_first (HearOp o) [] refl

@@ -12,12 +12,12 @@ use Rattle.dac_meaning.specs.Below.{is_below}
 use Rattle.dac_config.specs.Table.{Table}
 use Rattle.dac_events.specs.declared.WorldEvent.{WorldEvent}
 use Rattle.dac_events.specs.declared.What.{What}
-use Rattle.dac_events.specs.declared.What.TheVariants.{Deliver, Hand}
+use Rattle.dac_events.specs.declared.What.TheVariants.{Boot as Boots, Crash as Crashes, Command as Tells, Ship as Ships, Deliver, Hand}
 use Rattle.dac_messages.specs.declared.message.Message.{Message}
 use Rattle.dac_messages.specs.declared.event.Event.{Event}
 use Rattle.dac_messages.specs.declared.event.Event.TheVariants.{Hear, HearOp}
 use Rattle.dac_messages.specs.declared.reply.Reply.{Reply}
-use Rattle.dac_messages.specs.declared.reply.Reply.TheVariants.{Booted, Crashed, Issued, Ticked, Held, GaveUp, Shipped, Heard}
+use Rattle.dac_messages.specs.declared.reply.Reply.TheVariants.{Booted, Crashed, Issued, Shipped, Heard}
 use Rattle.dac_commands.specs.Causes.{first}
 use Rattle.dac_commands.specs.declared.refusal.Refusal.{Refusal}
 use Rattle.dac_commands.specs.declared.refusal.Refusal.TheVariants.{OnSelf, NotForMe}
@@ -25,14 +25,13 @@ use Rattle.dac_worlds.specs.declared.fault.WorldFault.{WorldFault}
 use Rattle.dac_worlds.specs.declared.fault.WorldFault.TheVariants.{NoSuchNode}
 use Rattle.dac_node.specs.ModelNode.{ModelNode, ModelRun, joined, shown, run_shown}
 use Rattle.dac_node.specs.EventRefusals.{refusal_of, refusal_by, refusal_to_hear}
-use Rattle.dac_node.specs.Step.{Stepped, model_step, accepted, deed_on}
+use Rattle.dac_node.specs.Step.{Stepped, model_step, accepted, reply_on}
 use Rattle.dac_node.specs.laws.Steps.{step_accepted}
 use Rattle.dac_node.specs.laws.Options.{some_same}
 use Rattle.dac_worlds.specs.ModelWorld.{ModelWorld, happens, happens_by, answered_by, event_of, heard_by, handed_by, counted, Step, Run, start}
 use Rattle.dac_worlds.specs.SetWorld.{SetWorld, Copy, with_set, united, brought_to, set_step, no_sets}
 use Rattle.dac_worlds.specs.Fits.{RunsIn, Fits, IsHeard, HearsWhatFits, HearsAllThatFits}
-use Rattle.dac_worlds.specs.laws.OneNode.{state_in}
-use Rattle.dac_worlds.specs.laws.Sound.{Answer, Sound, CopyOk, CopiesOk, sound_step, sound_start}
+use Rattle.dac_worlds.specs.laws.Sound.{Answer, Sound, CopyOk, CopiesOk, state_in, sound_step, sound_start}
 
 none_some : {X P : Type 0} {x : X} → None ≡ Some x → P
 none_some e = cc
@@ -54,9 +53,6 @@ inside_reply : (count : ℕ) (s : SetWorld) (n : NodeId) (what : What) (reply : 
 inside_reply count s n what (Booted o) here h = inside_with count n (Some (o ∷ [])) s (s.issued ++ o ∷ []) s.copies here h
 inside_reply count s n what Crashed here h = inside_with count n None s s.issued s.copies here h
 inside_reply count s n what (Issued o) here h = inside_with count n (united (s.node n) (o ∷ [])) s (s.issued ++ o ∷ []) s.copies here h
-inside_reply count s n what (Ticked ops passed) here h = inside_with count n (united (s.node n) ops) s (s.issued ++ ops) s.copies here h
-inside_reply count s n what Held here h = h
-inside_reply count s n what GaveUp here h = inside_with count n None s s.issued s.copies here h
 inside_reply count s n what (Shipped m) here h = h
 inside_reply count s n what (Heard fresh) here h = inside_with count n (united (s.node n) (brought_to s n what)) s s.issued s.copies here h
 
@@ -107,13 +103,13 @@ module _ (t : Table) (w : ModelWorld) (s : SetWorld) (h : Sound w s) (n : NodeId
       by_run (Some r) on e = (r, on)
 
   -- what isn't refused and is answered as heard
-  heard_free : (e : Event) (r : ModelRun) (fresh : Bool) → (w.node n).run ≡ Some r → refusal_of t (shown t (w.node n)) e ≡ None → (deed_on t r e).reply ≡ Heard fresh → IsHeard (happens_by t w n (Ok e)).answer
-  heard_free e r fresh on none is = (fresh, ap (λ (st : Stepped). (answered_by w n st.node st.answer).answer) (step_accepted t n (w.node n) e none ∙ ap (λ run. accepted t n (w.node n).last run e) on) ∙ ap (λ reply. Ok reply) is)
+  heard_free : (e : Event) (r : ModelRun) (fresh : Bool) → (w.node n).run ≡ Some r → refusal_of t (shown (w.node n)) e ≡ None → reply_on r.origin (joined r.log) e ≡ Heard fresh → IsHeard (happens_by t w n (Ok e)).answer
+  heard_free e r fresh on none is = (fresh, ap (λ (st : Stepped). (answered_by w n st.node st.answer).answer) (step_accepted t n (w.node n) e none ∙ ap (λ run. accepted n (w.node n).last run e) on) ∙ ap (λ reply. Ok reply) is)
 
   -- a message for the node isn't refused
-  message_free : (m : Message) (c : Copy) (r : ModelRun) → (w.node n).run ≡ Some r → CopyOk w.operations m c → c.to ≡ n → (c.from ≡ n → ⊥) → refusal_of t (shown t (w.node n)) (Hear m) ≡ None
+  message_free : (m : Message) (c : Copy) (r : ModelRun) → (w.node n).run ≡ Some r → CopyOk w.operations m c → c.to ≡ n → (c.from ≡ n → ⊥) → refusal_of t (shown (w.node n)) (Hear m) ≡ None
   message_free m c r on copy to far =
-      ap (λ run. refusal_by t (w.node n).last (option_map (run_shown t) run) (Hear m)) on
+      ap (λ run. refusal_by t (w.node n).last (option_map run_shown run) (Hear m)) on
       ∙ (ap (λ q. refusal_to_hear q m) ((h.nodes n).origin r on)
       ∙ for_it (nat_eq m.from.node.0 n.0) (nat_eq m.to.0 n.0)
       (false_from_ne_true (nat_eq m.from.node.0 n.0) (λ e. far (sym copy.from ∙ same_node m.from.node (exact_unsigned_eq m.from.node.0 n.0 e))))
@@ -123,6 +119,10 @@ module _ (t : Table) (w : ModelWorld) (s : SetWorld) (h : Sound w s) (n : NodeId
       same_node m e = ap (λ k. record { 0 = k }) e
 
   heard_by_node : (what : What) → RunsIn s n → Fits s n what → IsHeard (happens_by t w n (event_of w.operations w.messages what)).answer
+  heard_by_node (Boots now) runs fits = absurd fits
+  heard_by_node Crashes runs fits = absurd fits
+  heard_by_node (Tells c) runs fits = absurd fits
+  heard_by_node (Ships to) runs fits = absurd fits
   heard_by_node (Deliver k) runs fits =
       let run = run_there runs in
       let m = copy_counted w.operations w.messages s.copies k fits.copy h.copies fits.there in
@@ -131,8 +131,7 @@ module _ (t : Table) (w : ModelWorld) (s : SetWorld) (h : Sound w s) (n : NodeId
   heard_by_node (Hand k) runs fits =
       let run = run_there runs in
       subst (λ o. IsHeard (happens_by t w n (handed_by o)).answer) (sym (ap (λ os. counted os k) (sym h.issued) ∙ fits.1))
-      (heard_free (HearOp fits.0) run.0 (not (is_below (meaning_of (fits.0 ∷ [])) (joined run.0.log))) run.1 (ap (λ r. refusal_by t (w.node n).last (option_map (run_shown t) r) (HearOp fits.0)) run.1) refl)
-  heard_by_node _ runs fits = absurd fits
+      (heard_free (HearOp fits.0) run.0 (not (is_below (meaning_of (fits.0 ∷ [])) (joined run.0.log))) run.1 (ap (λ r. refusal_by t (w.node n).last (option_map run_shown r) (HearOp fits.0)) run.1) refl)
 
 -- ---- one event of the world, and every run
 heard_happens : (t : Table) (w : ModelWorld) (s : SetWorld) (e : WorldEvent) → Sound w s → Inside w.count s → RunsIn s e.node → Fits s e.node e.what → IsHeard (happens t w e).answer

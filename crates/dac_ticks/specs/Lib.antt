@@ -1,5 +1,0 @@
-pub mod Ticks
-pub mod Progress
-pub mod InWords
-pub mod Issued
-pub mod laws
