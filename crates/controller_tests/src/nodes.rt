@@ -1,11 +1,11 @@
-//! Nodes: their incarnations, and what they refuse of those who heard too much or are down.
+//! Nodes: their incarnations, and what they refuse and pass of those who heard too much or are down.
 use crate::steps::dot;
 use dac_base::{AppId, NoMemory, NodeId};
 use dac_config::{Config, read_config};
-use dac_core::{Command, Event, Message, Node, Refusal, Reply};
+use dac_core::{Body, Command, Event, Message, Node, Refusal, Reply};
 use dac_dots::Dot;
 use dac_lattice::Lattice;
-use dac_state::{Act, DotList, Key, Op, State};
+use dac_state::{Act, DotList, How, Key, Op, State};
 use std::alloc::Global;
 
 /// One application at two nodes.
@@ -37,6 +37,14 @@ const STOP: Command = Command::Stop {
     node: SECOND,
 };
 
+const TAKEOVER: Command = Command::Takeover { app: APP };
+
+/// One application at either of two nodes.
+const PEERS: &[u8] = b"[{kernel,[{distributed,[{a,[{c1@h,c2@h}]}]}]}].";
+
+/// The greatest term of a claim.
+const LAST_TERM: u64 = 1 << 62;
+
 /// The application at the second node.
 const KEY: Key = Key {
     app: APP,
@@ -44,10 +52,22 @@ const KEY: Key = Key {
     inc: 1,
 };
 
+/// The application at the first node.
+const OTHER_KEY: Key = Key {
+    app: APP,
+    node: FIRST,
+    inc: 1,
+};
+
 /// A start that replaces nothing.
-fn start(alloc: Global) -> Act {
+fn start_at(alloc: Global, key: Key) -> Act {
     let over = DotList::new(Vec::new(alloc));
-    Act::Start { key: KEY, over }
+    Act::Start { key, over }
+}
+
+/// A start at the second node that replaces nothing.
+fn start(alloc: Global) -> Act {
+    start_at(alloc, KEY)
 }
 
 /// A permit that replaces nothing.
@@ -172,6 +192,83 @@ fn no_counter_is_left(rt: HostRuntime) {
     assert!(rt; is_used_up(rt.alloc()) == Some(true));
 }
 
+/// Whether a node ticks that heard of an operation of its own with this counter, or else has no counter left.
+fn ticks_after(alloc: Global, counter: u64) -> Option<bool> {
+    let config = read_config(alloc, ONE).ok()?;
+    let mut node = booted(alloc, &config)?;
+    if !hears(&config, &mut node, dot(1, 1, counter), start(alloc)) {
+        return None;
+    }
+    match step(&config, &mut node, Event::Tick { now: 0 }) {
+        Ok(_reply) => Some(true),
+        Err(Refusal::DotsUsedUp) => Some(false),
+        Err(_why) => None,
+    }
+}
+
+#[test]
+fn a_tick_needs_a_counter_for_each_application(rt: HostRuntime) {
+    assert!(rt; ticks_after(rt.alloc(), (1 << 62) - 1) == Some(true));
+    assert!(rt; ticks_after(rt.alloc(), 1 << 62) == Some(false));
+}
+
+/// The second node, started, after it heard that the first is up and started and claims the application under this term.
+fn with_claim(alloc: Global, config: &Config, term: u64) -> Option<Node> {
+    let mut node = booted(alloc, config)?;
+    let claim = Act::Claim {
+        app: APP,
+        term,
+        how: How::Normal,
+        from: None,
+    };
+    let up = hears(config, &mut node, dot(0, 1, 1), Act::Up);
+    let started = hears(config, &mut node, dot(0, 1, 2), start_at(alloc, OTHER_KEY));
+    let claimed = hears(config, &mut node, dot(0, 1, 3), claim);
+    let _reply = step(config, &mut node, Event::Command(START)).ok()?;
+    if up && started && claimed {
+        Some(node)
+    } else {
+        None
+    }
+}
+
+/// Whether a takeover is refused under the last term, and accepted under the one before.
+fn terms_end(alloc: Global) -> Option<bool> {
+    let config = read_config(alloc, PEERS).ok()?;
+    let last = with_claim(alloc, &config, LAST_TERM)?;
+    let before = with_claim(alloc, &config, LAST_TERM - 1)?;
+    let refused = refuses(&config, &last, TAKEOVER, Refusal::TermsUsedUp);
+    Some(refused && accepts(&config, &before, TAKEOVER))
+}
+
+#[test]
+fn no_term_is_left(rt: HostRuntime) {
+    assert!(rt; terms_end(rt.alloc()) == Some(true));
+}
+
+/// How many applications a tick claims and how many it passes, after the first node claimed the application under this
+/// term and went down.
+fn ticked(alloc: Global, config: &Config, term: u64) -> Option<(usize, usize)> {
+    let mut node = with_claim(alloc, config, term)?;
+    let _down = step(config, &mut node, Event::Command(DOWN)).ok()?;
+    match step(config, &mut node, Event::Tick { now: 0 }).ok()? {
+        Reply::Ticked { ops, passed } => Some((ops.as_slice().len(), passed.as_slice().len())),
+        _ => None,
+    }
+}
+
+/// Whether the application is passed under the last term, and claimed under the one before.
+fn ticks_pass(alloc: Global) -> Option<bool> {
+    let config = read_config(alloc, PEERS).ok()?;
+    let passed = ticked(alloc, &config, LAST_TERM) == Some((0, 1));
+    Some(passed && ticked(alloc, &config, LAST_TERM - 1) == Some((1, 0)))
+}
+
+#[test]
+fn ticks_pass_what_has_no_term_left(rt: HostRuntime) {
+    assert!(rt; ticks_pass(rt.alloc()) == Some(true));
+}
+
 /// Whether a node that the first node declared down refuses each command.
 fn is_declared_down(alloc: Global) -> Option<bool> {
     let config = read_config(alloc, ONE).ok()?;
@@ -217,13 +314,20 @@ fn message(alloc: Global) -> Option<Message> {
     Some(Message {
         from: up.dot().origin,
         to: SECOND,
-        body: State::delta_of(alloc, &up).ok()?,
+        only: None,
+        up_to: 0,
+        body: Body::Whole(State::delta_of(alloc, &up).ok()?),
+        ack: None,
     })
 }
 
 /// Whether two messages are equal.
 fn are_equal(one: &Message, other: &Message) -> bool {
-    one.from == other.from && one.to == other.to && one.body.equal(&other.body)
+    let same_body = match (&one.body, &other.body) {
+        (Body::Whole(one), Body::Whole(other)) => one.equal(other),
+        _ => false,
+    };
+    one.from == other.from && one.to == other.to && same_body
 }
 
 /// Whether the copy of an event is the hearing of an equal message.
@@ -252,7 +356,18 @@ fn is_shown(alloc: Global, why: Refusal, number: u8, name: &str) -> Option<bool>
     Some(why.number() == number && why.name() == name && shown.as_str() == name)
 }
 
+const SHOWN: &[(Refusal, u8, &str)] = &[
+    (Refusal::MomentBack, 8, "MomentBack"),
+    (Refusal::NotForMe, 15, "NotForMe"),
+    (Refusal::TermsUsedUp, 18, "TermsUsedUp"),
+];
+
 #[test]
 fn refusals_are_shown_by_their_names(rt: HostRuntime) {
-    assert!(rt; is_shown(rt.alloc(), Refusal::NotForMe, 15, "NotForMe") == Some(true));
+    for (why, number, name) in SHOWN {
+        assert!(rt;
+            is_shown(rt.alloc(), *why, *number, name) == Some(true),
+            "{name}"
+        );
+    }
 }

@@ -1,4 +1,4 @@
-//! A whole run of a world.
+//! Whole runs of a world.
 use dac_base::{AppId, NodeId};
 use dac_config::{Config, read_config};
 use dac_core::{Command, Refusal, Reply, What, World, WorldEvent, WorldFault};
@@ -12,17 +12,38 @@ const P: NodeId = NodeId(0);
 
 const Q: NodeId = NodeId(1);
 
-const START: Command = Command::Start {
+const R: NodeId = NodeId(2);
+
+const BOOT: What = What::Boot { now: 0 };
+
+const TICK: What = What::Tick { now: 0 };
+
+/// A wish that the application be started at the first node.
+const START: What = What::Command(Command::Start {
     app: AppId(0),
     node: P,
-};
+});
 
-/// An answer, but that of an operation its counter is said alone, and of a message its addressee.
+const START_AT_Q: What = What::Command(Command::Start {
+    app: AppId(0),
+    node: Q,
+});
+
+const START_AT_R: What = What::Command(Command::Start {
+    app: AppId(0),
+    node: R,
+});
+
+/// An answer, but that of an operation its counter is said alone, of a message its addressee, and of a tick how much it
+/// claimed and how much it passed.
 #[derive(Clone, Copy, PartialEq, Eq)]
 enum Answer {
     Booted(u64),
     Crashed,
     Issued(u64),
+    Ticked(usize, usize),
+    Held,
+    GaveUp,
     Shipped(NodeId),
     Heard(bool),
     NoSuchNode,
@@ -31,107 +52,81 @@ enum Answer {
     Refused(Refusal),
 }
 
-/// Events, each with its answer.
-const EVENTS: &[(WorldEvent, Answer)] = &[
-    (
-        WorldEvent {
-            node: P,
-            what: What::Crash,
-        },
-        Answer::Refused(Refusal::Off),
-    ),
-    (
-        WorldEvent {
-            node: P,
-            what: What::Boot { now: 0 },
-        },
-        Answer::Booted(1),
-    ),
-    (
-        WorldEvent {
-            node: Q,
-            what: What::Boot { now: 0 },
-        },
-        Answer::Booted(1),
-    ),
-    (
-        WorldEvent {
-            node: NodeId(3),
-            what: What::Boot { now: 0 },
-        },
-        Answer::NoSuchNode,
-    ),
-    (
-        WorldEvent {
-            node: P,
-            what: What::Command(START),
-        },
-        Answer::Issued(2),
-    ),
-    (
-        WorldEvent {
-            node: P,
-            what: What::Ship { to: Q },
-        },
-        Answer::Shipped(Q),
-    ),
-    (
-        WorldEvent {
-            node: Q,
-            what: What::Deliver(1),
-        },
-        Answer::Heard(true),
-    ),
-    (
-        WorldEvent {
-            node: Q,
-            what: What::Deliver(2),
-        },
-        Answer::NoSuchMessage,
-    ),
-    (
-        WorldEvent {
-            node: Q,
-            what: What::Ship { to: P },
-        },
-        Answer::Shipped(P),
-    ),
-    (
-        WorldEvent {
-            node: P,
-            what: What::Deliver(2),
-        },
-        Answer::Heard(true),
-    ),
-    (
-        WorldEvent {
-            node: P,
-            what: What::Hand(2),
-        },
-        Answer::Heard(false),
-    ),
-    (
-        WorldEvent {
-            node: P,
-            what: What::Hand(4),
-        },
-        Answer::NoSuchOperation,
-    ),
-    (
-        WorldEvent {
-            node: NodeId(2),
-            what: What::Boot { now: 0 },
-        },
-        Answer::Booted(1),
-    ),
-    (
-        WorldEvent {
-            node: NodeId(2),
-            what: What::Crash,
-        },
-        Answer::Crashed,
-    ),
+/// What happens at a node, and the answer.
+type Case = (NodeId, What, Answer);
+
+/// Messages and operations that come, and some that aren't there.
+const TELLING: &[Case] = &[
+    (P, What::Crash, Answer::Refused(Refusal::Off)),
+    (P, BOOT, Answer::Booted(1)),
+    (Q, BOOT, Answer::Booted(1)),
+    (NodeId(3), BOOT, Answer::NoSuchNode),
+    (P, START, Answer::Issued(2)),
+    (P, What::Ship { to: Q }, Answer::Shipped(Q)),
+    (Q, What::Deliver(1), Answer::Heard(true)),
+    (Q, What::Deliver(2), Answer::NoSuchMessage),
+    (Q, What::Ship { to: P }, Answer::Shipped(P)),
+    (P, What::Deliver(2), Answer::Heard(true)),
+    (P, What::Hand(2), Answer::Heard(false)),
+    (P, What::Hand(4), Answer::NoSuchOperation),
+    (R, BOOT, Answer::Booted(1)),
+    (R, What::Crash, Answer::Crashed),
 ];
+
+/// All nodes are started and tell each other, and the first ticks: before it heard of the others, and then twice at one
+/// moment.
+const STARTING: &[Case] = &[
+    (P, BOOT, Answer::Booted(1)),
+    (Q, BOOT, Answer::Booted(1)),
+    (R, BOOT, Answer::Booted(1)),
+    (P, START, Answer::Issued(2)),
+    (Q, START_AT_Q, Answer::Issued(2)),
+    (R, START_AT_R, Answer::Issued(2)),
+    (P, TICK, Answer::Held),
+    (P, What::Ship { to: Q }, Answer::Shipped(Q)),
+    (Q, What::Deliver(1), Answer::Heard(true)),
+    (P, What::Ship { to: R }, Answer::Shipped(R)),
+    (R, What::Deliver(2), Answer::Heard(true)),
+    (Q, What::Ship { to: P }, Answer::Shipped(P)),
+    (P, What::Deliver(3), Answer::Heard(true)),
+    (Q, What::Ship { to: R }, Answer::Shipped(R)),
+    (R, What::Deliver(4), Answer::Heard(true)),
+    (R, What::Ship { to: P }, Answer::Shipped(P)),
+    (P, What::Deliver(5), Answer::Heard(true)),
+    (R, What::Ship { to: Q }, Answer::Shipped(Q)),
+    (Q, What::Deliver(6), Answer::Heard(true)),
+    (P, TICK, Answer::Ticked(1, 0)),
+    (P, TICK, Answer::Ticked(0, 0)),
+    (P, What::Ship { to: Q }, Answer::Shipped(Q)),
+    (Q, What::Deliver(7), Answer::Heard(true)),
+    (P, What::Ship { to: R }, Answer::Shipped(R)),
+    (R, What::Deliver(8), Answer::Heard(true)),
+    (Q, What::Ship { to: P }, Answer::Shipped(P)),
+    (P, What::Deliver(9), Answer::Heard(false)),
+    (Q, What::Ship { to: R }, Answer::Shipped(R)),
+    (R, What::Deliver(10), Answer::Heard(false)),
+    (R, What::Ship { to: P }, Answer::Shipped(P)),
+    (P, What::Deliver(11), Answer::Heard(false)),
+    (R, What::Ship { to: Q }, Answer::Shipped(Q)),
+    (Q, What::Deliver(12), Answer::Heard(false)),
+];
+
+/// The start gate gives up, and the node is off.
+const GIVING_UP: &[Case] = &[
+    (P, BOOT, Answer::Booted(1)),
+    (P, What::Tick { now: 4999 }, Answer::Held),
+    (
+        P,
+        What::Tick { now: 4998 },
+        Answer::Refused(Refusal::MomentBack),
+    ),
+    (P, What::Tick { now: 5000 }, Answer::GaveUp),
+    (P, What::Tick { now: 5000 }, Answer::Refused(Refusal::Off)),
+    (P, What::Boot { now: 6000 }, Answer::Booted(1)),
+];
+
+/// Runs, and how many operations and messages each leaves.
+const RUNS: &[(&[Case], usize, usize)] = &[(TELLING, 4, 2), (STARTING, 7, 12), (GIVING_UP, 2, 0)];
 
 /// What an answer says.
 fn said(answer: &Result<Reply, WorldFault>) -> Answer {
@@ -147,6 +142,11 @@ fn said_by(reply: &Reply) -> Answer {
         Reply::Booted(operation) => Answer::Booted(operation.dot().n),
         Reply::Crashed => Answer::Crashed,
         Reply::Issued(operation) => Answer::Issued(operation.dot().n),
+        Reply::Ticked { ops, passed } => {
+            Answer::Ticked(ops.as_slice().len(), passed.as_slice().len())
+        }
+        Reply::Held => Answer::Held,
+        Reply::GaveUp => Answer::GaveUp,
         Reply::Shipped(message) => Answer::Shipped(message.to),
         Reply::Heard(is_new) => Answer::Heard(*is_new),
     }
@@ -163,17 +163,22 @@ fn said_of(fault: WorldFault) -> Answer {
 }
 
 /// The events alone.
-fn events(alloc: Global) -> Option<Vec<WorldEvent>> {
+fn events(alloc: Global, cases: &[Case]) -> Option<Vec<WorldEvent>> {
     let mut events = Vec::new(alloc);
-    for (event, _) in EVENTS {
-        events.push(*event).ok()?;
+    for (node, what, _) in cases {
+        events
+            .push(WorldEvent {
+                node: *node,
+                what: *what,
+            })
+            .ok()?;
     }
     Some(events)
 }
 
 /// Whether these are the answers to the events.
-fn are_answered(answers: &[Result<Reply, WorldFault>]) -> bool {
-    for (i, (_, wanted)) in EVENTS.iter().enumerate() {
+fn are_answered(cases: &[Case], answers: &[Result<Reply, WorldFault>]) -> bool {
+    for (i, (_, _, wanted)) in cases.iter().enumerate() {
         match answers.get(i) {
             Some(answer) => {
                 if said(answer) != *wanted {
@@ -183,20 +188,34 @@ fn are_answered(answers: &[Result<Reply, WorldFault>]) -> bool {
             None => return false,
         }
     }
-    answers.len() == EVENTS.len()
+    answers.len() == cases.len()
 }
 
 /// Whether a run of the events answers each, and has issued and shipped so many.
-fn runs(alloc: Global, config: &Config) -> Option<bool> {
-    let (world, answers) = World::run(alloc, config, &events(alloc)?).ok()?;
-    let kept = world.operations().len() == 4 && world.messages().len() == 2;
-    Some(kept && are_answered(&answers))
+fn runs(
+    alloc: Global,
+    config: &Config,
+    cases: &[Case],
+    operations: usize,
+    messages: usize,
+) -> Option<bool> {
+    let (world, answers) = World::run(alloc, config, &events(alloc, cases)?).ok()?;
+    let kept = world.operations().len() == operations && world.messages().len() == messages;
+    Some(kept && are_answered(cases, &answers))
+}
+
+/// Whether each run goes so.
+fn all_run(alloc: Global) -> Option<bool> {
+    let config = read_config(alloc, EXAMPLE).ok()?;
+    for (cases, operations, messages) in RUNS {
+        if runs(alloc, &config, cases, *operations, *messages) != Some(true) {
+            return Some(false);
+        }
+    }
+    Some(true)
 }
 
 #[test]
-fn a_run_answers_each_event(rt: HostRuntime) {
-    match read_config(rt.alloc(), EXAMPLE) {
-        Ok(config) => assert!(rt; runs(rt.alloc(), &config) == Some(true)),
-        Err(_) => assert!(rt; false),
-    }
+fn runs_answer_each_event(rt: HostRuntime) {
+    assert!(rt; all_run(rt.alloc()) == Some(true));
 }

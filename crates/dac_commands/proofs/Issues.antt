@@ -1,9 +1,10 @@
 -- Why what a running node issues is an operation: its dot is new, and what it replaces is a short rising list.
-use Rattle.std.proofs.Common.{◌≡◌, ℕ, ◌≤◌, ◌+◌, Bool, true, false, not, ◌||◌, List, [], ◌∷◌, ◌++◌, length, Option, Some, None, refl, sym, subst, ◌∙◌, arith, true≢false}
+use Rattle.std.proofs.Common.{◌≡◌, ℕ, ◌<◌, ◌≤◌, ◌+◌, Bool, true, false, not, ◌||◌, List, length, Option, Some, None, refl, sym, subst, ◌∙◌, arith, true≢false}
 use Rattle.std.specs.Prelude.{◌==◌, if◌then◌else◌, MatchOption, is_some, nat_eq}
 use Rattle.std.specs.Option.{is_none}
 use Rattle.std.specs.FinSet as set
 use Rattle.std.proofs.lemmas.Map.Views.{exact_unsigned_eq}
+use Rattle.std.proofs.lemmas.Bool.{false_from_ne_true, leb-false}
 use Rattle.dac_base.specs.declared.AppId.{AppId}
 use Rattle.dac_base.specs.declared.NodeId.{NodeId}
 use Rattle.dac_dots.specs.declared.dot.Origin.{Origin}
@@ -11,67 +12,66 @@ use Rattle.dac_dots.specs.declared.dot.Dot.{Dot}
 use Rattle.dac_dots.specs.Dots.{Dots, dot, dot_cmp, dots_total, exact_dots, IsNext, IsUsedUp}
 use Rattle.dac_dots.specs.Keys.{IsRising, has_key}
 use Rattle.dac_dots.specs.InOrder.{in_order-rising, has_key-in_order}
+use Rattle.dac_chains.specs.declared.claims.How.{How}
+use Rattle.dac_chains.specs.declared.claims.How.TheVariants.{Takeover as TakenOver}
 use Rattle.dac_wishes.specs.declared.key.Key.{Key}
 use Rattle.dac_wishes.specs.Writes.{write, dots_at, contains-dots_at}
 use Rattle.dac_operations.specs.declared.act.Act.{Act}
-use Rattle.dac_operations.specs.declared.act.Act.TheVariants.{Down as Downs, Permit as Permits, Start as Starts, Stop as Stops}
+use Rattle.dac_operations.specs.declared.act.Act.TheVariants.{Down as Downs, Permit as Permits, Start as Starts, Stop as Stops, Claim as Claims}
 use Rattle.dac_operations.specs.declared.op.OpFault.TheVariants.{OwnDot, BadOver, BadCounter, OnSelf as AboutItself}
 use Rattle.dac_operations.specs.Operations.{fault_of, replaces_itself, has_bad_over, has_bad_counter, is_on_self, over_list}
 use Rattle.dac_meaning.specs.StateValue.{StateValue, IsState}
-use Rattle.dac_config.specs.Table.{Table}
+use Rattle.dac_config.specs.Table.{Table, app_count}
+use Rattle.dac_placement.specs.Placement.{runner_of}
 use Rattle.dac_events.specs.declared.Command.{Command}
-use Rattle.dac_events.specs.declared.Command.TheVariants.{Down, Permit, Start, Stop}
-use Rattle.dac_commands.specs.declared.refusal.Refusal.{Refusal}
-use Rattle.dac_commands.specs.declared.refusal.Refusal.TheVariants.{DeclaredDown, UnknownNode, OnSelf, NotLive, NotStarted, TooManyDots, DotsUsedUp}
-use Rattle.dac_commands.specs.Commands.{KnowsItself, standing_starts, standing_permits, greatest_counter, next_operation, live_or_none, key_at, act_of}
-use Rattle.dac_commands.specs.Causes.{first, causes_of, causes_to_name, causes_to_issue, refusal_of_command, declared_down, no_node, not_live, too_many, used_up, not_wished}
-use Rattle.std.proofs.lemmas.Bool.{false_from_ne_true}
-use Rattle.dac_commands.specs.laws.Written.{first-none}
+use Rattle.dac_events.specs.declared.Command.TheVariants.{Down, Permit, Start, Stop, Takeover}
+use Rattle.dac_commands.specs.Commands.{KnowsItself, standing_starts, standing_permits, greatest_counter, next_term, claim_act, next_operation, live_or_none, key_at, act_of}
+use Rattle.dac_commands.specs.Causes.{refusal_of_command, too_many, terms_used_up, used_up}
+use Rattle.dac_commands.specs.laws.Written.{none_is, all_causes}
 use Rattle.dac_commands.specs.laws.Counters.{counter-greatest, next_none, next-is}
 use Rattle.dac_commands.specs.laws.Standing.{permits_at-rising, permits_at-has}
 
 -- ---- causes that don't hold
-pub first-rest : (xs ys : List (Bool × Refusal)) → first (xs ++ ys) ≡ None → first ys ≡ None
-first-rest [] ys e = e
-first-rest (x ∷ xs) ys e = first-rest xs ys (first-none x.0 x.1 (xs ++ ys) e).1
-
 -- an operation may be issued that replaces these dots
 pub record MayIssue (own : Origin) (s : StateValue) (over : List Dot) : Type 0 where
   pub few : too_many (length over) ≡ false
   pub left : used_up s own ≡ false
-
-may_issue : (own : Origin) (s : StateValue) (over : List Dot) → first (causes_to_issue own s (length over)) ≡ None → MayIssue own s over
-may_issue own s over e =
-    let rest = first-none (too_many (length over)) TooManyDots ((used_up s own, DotsUsedUp) ∷ []) e in
-    record { few = rest.0; left = (first-none (used_up s own) DotsUsedUp [] rest.1).0 }
 
 -- the node of an accepted Down is another one, and a counter is left
 pub record MayDeclare (own : Origin) (s : StateValue) (node : NodeId) : Type 0 where
   pub other : nat_eq node.0 own.node.0 ≡ false
   pub left : used_up s own ≡ false
 
-may_declare : (t : Table) (own : Origin) (s : StateValue) (node : NodeId) → first (causes_of t own s (Down node)) ≡ None → MayDeclare own s node
+may_declare : (t : Table) (own : Origin) (s : StateValue) (node : NodeId) → refusal_of_command t own s (Down node) ≡ None → MayDeclare own s node
 may_declare t own s node e =
-    let a = first-none (no_node t node) UnknownNode ((nat_eq node.0 own.node.0, OnSelf) ∷ (not_live s node, NotLive) ∷ (used_up s own, DotsUsedUp) ∷ []) e in
-    let b = first-none (nat_eq node.0 own.node.0) OnSelf ((not_live s node, NotLive) ∷ (used_up s own, DotsUsedUp) ∷ []) a.1 in
-    let c = first-none (not_live s node) NotLive ((used_up s own, DotsUsedUp) ∷ []) b.1 in
-    record { other = b.0; left = (first-none (used_up s own) DotsUsedUp [] c.1).0 }
+    let none = none_is (all_causes t own s (Down node)) e in
+    record { other = none.1.1.0; left = none.1.1.1.1.0 }
 
-may_permit : (t : Table) (own : Origin) (s : StateValue) (app : AppId) (node : NodeId) (value : Bool) → first (causes_of t own s (Permit app node value)) ≡ None → MayIssue own s (standing_permits s (key_at s app node))
+may_permit : (t : Table) (own : Origin) (s : StateValue) (app : AppId) (node : NodeId) (value : Bool) → refusal_of_command t own s (Permit app node value) ≡ None → MayIssue own s (standing_permits s (key_at s app node))
 may_permit t own s app node value e =
-    let over = standing_permits s (key_at s app node) in
-    may_issue own s over (first-rest (causes_to_name t s app node) (causes_to_issue own s (length over)) e)
+    let none = none_is (all_causes t own s (Permit app node value)) e in
+    record { few = none.1.1.1.1.1.0; left = none.1.1.1.1.1.1.0 }
 
-may_start : (t : Table) (own : Origin) (s : StateValue) (app : AppId) (node : NodeId) → first (causes_of t own s (Start app node)) ≡ None → MayIssue own s (standing_starts s (key_at s app node))
+may_start : (t : Table) (own : Origin) (s : StateValue) (app : AppId) (node : NodeId) → refusal_of_command t own s (Start app node) ≡ None → MayIssue own s (standing_starts s (key_at s app node))
 may_start t own s app node e =
-    let over = standing_starts s (key_at s app node) in
-    may_issue own s over (first-rest (causes_to_name t s app node) (causes_to_issue own s (length over)) e)
+    let none = none_is (all_causes t own s (Start app node)) e in
+    record { few = none.1.1.1.1.1.0; left = none.1.1.1.1.1.1.0 }
 
-may_stop : (t : Table) (own : Origin) (s : StateValue) (app : AppId) (node : NodeId) → first (causes_of t own s (Stop app node)) ≡ None → MayIssue own s (standing_starts s (key_at s app node))
+may_stop : (t : Table) (own : Origin) (s : StateValue) (app : AppId) (node : NodeId) → refusal_of_command t own s (Stop app node) ≡ None → MayIssue own s (standing_starts s (key_at s app node))
 may_stop t own s app node e =
-    let key = key_at s app node in
-    let causes = causes_to_issue own s (length (standing_starts s key)) in
-    may_issue own s (standing_starts s key) (first-none (not_wished s key) NotStarted causes (first-rest (causes_to_name t s app node) ((not_wished s key, NotStarted) ∷ causes) e)).1
+    let none = none_is (all_causes t own s (Stop app node)) e in
+    record { few = none.1.1.1.1.1.1.0; left = none.1.1.1.1.1.1.1.0 }
+
+-- the application of an accepted takeover is in the configuration, and a term and a counter are left
+pub record MayTake (t : Table) (own : Origin) (s : StateValue) (app : AppId) : Type 0 where
+  pub named : app.0 < app_count t
+  pub terms : terms_used_up s app ≡ false
+  pub left : used_up s own ≡ false
+
+pub may_take : (t : Table) (own : Origin) (s : StateValue) (app : AppId) → refusal_of_command t own s (Takeover app) ≡ None → MayTake t own s app
+may_take t own s app e =
+    let none = none_is (all_causes t own s (Takeover app)) e in
+    record { named = leb-false (app_count t) app.0 none.1.0; terms = none.1.1.1.1.1.1.1.0; left = none.1.1.1.1.1.1.1.1.0 }
 
 -- ---- what the code reads of these causes
 pub used_up-is : (s : StateValue) (own : Origin) (known : Dots) (next : Option Dot) → known ≡ s.known → MatchOption next (IsUsedUp known own) (IsNext known own) → used_up s own ≡ is_none next
@@ -125,27 +125,30 @@ permits_apart own s key is = false_from_ne_true _ (λ t. next_unknown own s (is.
 starts_rising : (s : StateValue) (key : Key) → IsRising dot_cmp (standing_starts s key)
 starts_rising s key = in_order-rising dots_total exact_dots (dots_at key s.starts)
 
+-- a claim replaces nothing
+pub claims_soundly : (own : Origin) (s : StateValue) (app : AppId) (how : How) (from : Option NodeId) → KnowsItself own s → fault_of (next_of own s) (claim_act s app how from) ≡ None
+claims_soundly own s app how from knows = fault_none (next_of own s) (Claims app (next_term s app) how from) refl refl (next_later own s knows) refl
+
 -- what an accepted command issues is an operation, and a counter is left for it
 pub record Issues (own : Origin) (s : StateValue) (a : Act) : Type 0 where
   pub left : used_up s own ≡ false
   pub sound : fault_of (next_operation s own a).dot a ≡ None
 
-issues_by : (t : Table) (own : Origin) (s : StateValue) (c : Command) → IsState s → KnowsItself own s → first (causes_of t own s c) ≡ None → Issues own s (act_of s c)
-issues_by t own s (Down node) is knows e =
+pub issues : (t : Table) (own : Origin) (s : StateValue) (c : Command) → IsState s → KnowsItself own s → refusal_of_command t own s c ≡ None → Issues own s (act_of t s c)
+issues t own s (Down node) is knows e =
     let may = may_declare t own s node e in
     record { left = may.left; sound = fault_none (next_of own s) (Downs node (live_or_none s node)) refl refl (next_later own s knows) may.other }
-issues_by t own s (Permit app node value) is knows e =
+issues t own s (Permit app node value) is knows e =
     let key = key_at s app node in
     let may = may_permit t own s app node value e in
     record { left = may.left; sound = fault_none (next_of own s) (Permits key value (standing_permits s key)) (permits_apart own s key is) (good_over own s _ (permits_at-rising key s.permits) may) (next_later own s knows) refl }
-issues_by t own s (Start app node) is knows e =
+issues t own s (Start app node) is knows e =
     let key = key_at s app node in
     let may = may_start t own s app node e in
     record { left = may.left; sound = fault_none (next_of own s) (Starts key (standing_starts s key)) (starts_apart own s key is) (good_over own s _ (starts_rising s key) may) (next_later own s knows) refl }
-issues_by t own s (Stop app node) is knows e =
+issues t own s (Stop app node) is knows e =
     let key = key_at s app node in
     let may = may_stop t own s app node e in
     record { left = may.left; sound = fault_none (next_of own s) (Stops key (standing_starts s key)) (starts_apart own s key is) (good_over own s _ (starts_rising s key) may) (next_later own s knows) refl }
-
-pub issues : (t : Table) (own : Origin) (s : StateValue) (c : Command) → IsState s → KnowsItself own s → refusal_of_command t own s c ≡ None → Issues own s (act_of s c)
-issues t own s c is knows e = issues_by t own s c is knows (first-none (declared_down own s) DeclaredDown (causes_of t own s c) e).1
+issues t own s (Takeover app) is knows e =
+    record { left = (may_take t own s app e).left; sound = claims_soundly own s app TakenOver (runner_of t s app) knows }

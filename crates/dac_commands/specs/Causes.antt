@@ -1,5 +1,6 @@
 -- Why a running node refuses a command.
 use Rattle.std.specs.Prelude.{ℕ, Bool, false, not, cond, nat_eq, nat_le, nat_lt, List, [], ◌∷◌, ◌++◌, length, Option, Some, None, is_some}
+use Rattle.std.specs.Option.{option_map_or}
 use Rattle.dac_base.specs.declared.limits.TheConstants.{MAX_COUNTER, MAX_REPLACED}
 use Rattle.dac_base.specs.declared.NodeId.{NodeId}
 use Rattle.dac_base.specs.declared.AppId.{AppId}
@@ -8,11 +9,12 @@ use Rattle.dac_wishes.specs.declared.key.Key.{Key}
 use Rattle.dac_wishes.specs.WishesValue.{is_wished}
 use Rattle.dac_meaning.specs.StateValue.{StateValue, wishes_of}
 use Rattle.dac_config.specs.Table.{Table, node_count, app_count, group_of}
+use Rattle.dac_placement.specs.Placement.{is_up, is_eligible, is_earlier, runs_at, runner_of}
 use Rattle.dac_events.specs.declared.Command.{Command}
-use Rattle.dac_events.specs.declared.Command.TheVariants.{Down, Permit, Start, Stop}
+use Rattle.dac_events.specs.declared.Command.TheVariants.{Down, Permit, Start, Stop, Takeover}
 use Rattle.dac_commands.specs.declared.refusal.Refusal.{Refusal}
-use Rattle.dac_commands.specs.declared.refusal.Refusal.TheVariants.{DeclaredDown, UnknownApp, UnknownNode, OnSelf, NotInList, NotLive, NotStarted, TooManyDots, DotsUsedUp}
-use Rattle.dac_commands.specs.Commands.{live, key_at, standing_starts, standing_permits, greatest_counter}
+use Rattle.dac_commands.specs.declared.refusal.Refusal.TheVariants.{DeclaredDown, UnknownApp, UnknownNode, OnSelf, NotInList, NotLive, NotStarted, NotEligible, NotRunning, AlreadyHolder, LowerPriority, TooManyDots, TermsUsedUp, DotsUsedUp}
+use Rattle.dac_commands.specs.Commands.{live, key_at, standing_starts, standing_permits, greatest_counter, next_term}
 
 -- the first of these causes that holds
 abbrev pub first : List (Bool × Refusal) → Option Refusal
@@ -43,14 +45,17 @@ too_many count = nat_lt MAX_REPLACED count
 abbrev pub used_up : StateValue → Origin → Bool
 used_up s own = nat_le MAX_COUNTER (greatest_counter own s.known)
 
--- there is such an incarnation, and it has this number
-abbrev pub is_inc : ℕ → Option ℕ → Bool
-is_inc i None = false
-is_inc i (Some j) = nat_eq j i
+-- the terms of the application's claims are used up
+abbrev pub terms_used_up : StateValue → AppId → Bool
+terms_used_up s app = nat_lt MAX_COUNTER (next_term s app)
+
+-- the application runs at a node whose group is earlier than the node's
+abbrev pub runs_earlier : Table → StateValue → AppId → NodeId → Bool
+runs_earlier t s app node = option_map_or (λ runner. is_earlier t app runner node) (runner_of t s app) false
 
 -- the incarnation isn't the live one of its own node
 abbrev pub declared_down : Origin → StateValue → Bool
-declared_down own s = not (is_inc own.inc (live s own.node))
+declared_down own s = not (is_up s own)
 
 -- why a command about an application and a node isn't taken up
 abbrev pub causes_to_name : Table → StateValue → AppId → NodeId → List (Bool × Refusal)
@@ -64,6 +69,16 @@ causes_to_issue own s count = (too_many count, TooManyDots) ∷ (used_up s own, 
 abbrev pub causes_to_permit : Table → Origin → StateValue → AppId → NodeId → List (Bool × Refusal)
 causes_to_permit t own s app node = causes_to_name t s app node ++ causes_to_issue own s (length (standing_permits s (key_at s app node)))
 
+-- why no claim is issued
+abbrev pub causes_to_claim : Origin → StateValue → AppId → List (Bool × Refusal)
+causes_to_claim own s app = (terms_used_up s app, TermsUsedUp) ∷ (used_up s own, DotsUsedUp) ∷ []
+
+-- why a node doesn't take an application over
+abbrev pub causes_to_take : Table → Origin → StateValue → AppId → List (Bool × Refusal)
+causes_to_take t own s app =
+    (no_app t app, UnknownApp) ∷ (unlisted t app own.node, NotInList) ∷ (not (is_eligible t s app own.node), NotEligible) ∷ (not (is_some (runner_of t s app)), NotRunning)
+    ∷ (runs_at t s app own.node, AlreadyHolder) ∷ (runs_earlier t s app own.node, LowerPriority) ∷ causes_to_claim own s app
+
 -- why an incarnation that wasn't declared down doesn't take up a command
 abbrev pub causes_of : Table → Origin → StateValue → Command → List (Bool × Refusal)
 causes_of t own s (Down node) = (no_node t node, UnknownNode) ∷ (nat_eq node.0 own.node.0, OnSelf) ∷ (not_live s node, NotLive) ∷ (used_up s own, DotsUsedUp) ∷ []
@@ -72,6 +87,7 @@ causes_of t own s (Start app node) = causes_to_name t s app node ++ causes_to_is
 causes_of t own s (Stop app node) =
     let key = key_at s app node in
     causes_to_name t s app node ++ (not_wished s key, NotStarted) ∷ causes_to_issue own s (length (standing_starts s key))
+causes_of t own s (Takeover app) = causes_to_take t own s app
 
 -- why a running node refuses a command, if it does
 abbrev pub refusal_of_command : Table → Origin → StateValue → Command → Option Refusal

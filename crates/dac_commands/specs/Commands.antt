@@ -1,6 +1,8 @@
 -- What a state tells of an application and a node, and the operation that a command issues.
 use Rattle.std.specs.Prelude.{◌≡◌, ℕ, ◌+◌, true, cond, List, [], ◌∷◌, map as list_map, max, Option, unwrap_or}
+use Rattle.std.specs.Option.{option_map_or}
 use Rattle.std.specs.FinSet as set
+use Rattle.std.specs.FinMap as map
 use Rattle.std.specs.Ordering.{eq_by_cmp}
 use Rattle.dac_base.specs.declared.NodeId.{NodeId}
 use Rattle.dac_base.specs.declared.AppId.{AppId}
@@ -10,15 +12,20 @@ use Rattle.dac_dots.specs.Dots.{Dots, dot, origin_cmp}
 use Rattle.dac_dots.specs.InOrder.{in_order}
 use Rattle.dac_lattice.specs.declared.flags.Flag.{Flag}
 use Rattle.dac_chains.specs.Lives.{live_at}
+use Rattle.dac_chains.specs.declared.claims.Claim.{Claim}
+use Rattle.dac_chains.specs.declared.claims.How.{How}
+use Rattle.dac_chains.specs.declared.claims.How.TheVariants.{Takeover as TakenOver}
 use Rattle.dac_wishes.specs.declared.key.Key.{Key}
 use Rattle.dac_wishes.specs.Writes.{dots_at}
 use Rattle.dac_wishes.specs.PermissionsValue.{permits_at}
 use Rattle.dac_operations.specs.declared.act.Act.{Act}
-use Rattle.dac_operations.specs.declared.act.Act.TheVariants.{Down as Downs, Permit as Permits, Start as Starts, Stop as Stops}
+use Rattle.dac_operations.specs.declared.act.Act.TheVariants.{Down as Downs, Permit as Permits, Start as Starts, Stop as Stops, Claim as Claims}
 use Rattle.dac_operations.specs.Operations.{Operation, operation}
 use Rattle.dac_meaning.specs.StateValue.{StateValue}
+use Rattle.dac_config.specs.Table.{Table}
+use Rattle.dac_placement.specs.Placement.{runner_of}
 use Rattle.dac_events.specs.declared.Command.{Command}
-use Rattle.dac_events.specs.declared.Command.TheVariants.{Down, Permit, Start, Stop}
+use Rattle.dac_events.specs.declared.Command.TheVariants.{Down, Permit, Start, Stop, Takeover}
 
 -- ---- what a state tells
 -- the state knows the operation of the incarnation's own boot
@@ -53,14 +60,23 @@ greatest_among o (d ∷ ds) = max (cond (eq_by_cmp origin_cmp d.origin o) d.n 0)
 abbrev pub greatest_counter : Origin → Dots → ℕ
 greatest_counter o dots = greatest_among o (set.items dots)
 
+-- the term of the application's next claim: the greatest one's and one, 1 where there is none
+abbrev pub next_term : StateValue → AppId → ℕ
+next_term s app = option_map_or (λ (c : Claim). c.term) (map.get s.claims app) 0 + 1
+
 -- ---- what a command issues
+-- the act that claims an application under its next term
+abbrev pub claim_act : StateValue → AppId → How → Option NodeId → Act
+claim_act s app how from = Claims app (next_term s app) how from
+
 -- the next operation of an origin
 abbrev pub next_operation : StateValue → Origin → Act → Operation
 next_operation s own act = operation (dot own (greatest_counter own s.known + 1)) act
 
--- What a command issues. A Down is of the live incarnation, and the others replace exactly what stands of their kind at the key.
-abbrev pub act_of : StateValue → Command → Act
-act_of s (Down node) = Downs node (live_or_none s node)
-act_of s (Permit app node value) = let key = key_at s app node in Permits key value (standing_permits s key)
-act_of s (Start app node) = let key = key_at s app node in Starts key (standing_starts s key)
-act_of s (Stop app node) = let key = key_at s app node in Stops key (standing_starts s key)
+-- What a command issues. A Down is of the live incarnation, a takeover claims from where the application runs, and the others replace exactly what stands of their kind at the key.
+abbrev pub act_of : Table → StateValue → Command → Act
+act_of t s (Down node) = Downs node (live_or_none s node)
+act_of t s (Permit app node value) = let key = key_at s app node in Permits key value (standing_permits s key)
+act_of t s (Start app node) = let key = key_at s app node in Starts key (standing_starts s key)
+act_of t s (Stop app node) = let key = key_at s app node in Stops key (standing_starts s key)
+act_of t s (Takeover app) = claim_act s app TakenOver (runner_of t s app)

@@ -1,7 +1,8 @@
 -- What the operation of an accepted command is, in words.
-use Rattle.std.specs.Prelude.{◌≡◌, ◌↔◌, ℕ, true, List, None, is_some}
+use Rattle.std.specs.Prelude.{◌≡◌, ◌↔◌, ℕ, ◌+◌, ◌≤◌, true, List, Option, None, Some, MatchOption, is_some}
 use Rattle.std.specs.FinSet as set
 use Rattle.std.specs.FinMap as map
+use Rattle.dac_base.specs.declared.limits.TheConstants.{MAX_COUNTER}
 use Rattle.dac_base.specs.declared.NodeId.{NodeId}
 use Rattle.dac_base.specs.declared.AppId.{AppId}
 use Rattle.dac_dots.specs.declared.dot.Origin.{Origin}
@@ -9,15 +10,19 @@ use Rattle.dac_dots.specs.declared.dot.Dot.{Dot}
 use Rattle.dac_dots.specs.Dots.{dot_cmp, IsNext}
 use Rattle.dac_dots.specs.Keys.{has_key}
 use Rattle.dac_chains.specs.Lives.{IsLive}
+use Rattle.dac_chains.specs.declared.claims.Claim.{Claim}
+use Rattle.dac_chains.specs.declared.claims.How.{How}
+use Rattle.dac_chains.specs.declared.claims.How.TheVariants.{Takeover as TakenOver}
 use Rattle.dac_wishes.specs.declared.key.Key.{Key}
 use Rattle.dac_wishes.specs.Writes.{write}
 use Rattle.dac_operations.specs.declared.act.Act.{Act}
-use Rattle.dac_operations.specs.declared.act.Act.TheVariants.{Down as Downs, Permit as Permits, Start as Starts, Stop as Stops}
+use Rattle.dac_operations.specs.declared.act.Act.TheVariants.{Down as Downs, Permit as Permits, Start as Starts, Stop as Stops, Claim as Claims}
 use Rattle.dac_operations.specs.Operations.{Operation}
 use Rattle.dac_meaning.specs.StateValue.{StateValue}
 use Rattle.dac_config.specs.Table.{Table}
+use Rattle.dac_placement.specs.Placement.{RunsAt}
 use Rattle.dac_events.specs.declared.Command.{Command}
-use Rattle.dac_events.specs.declared.Command.TheVariants.{Down, Permit, Start, Stop}
+use Rattle.dac_events.specs.declared.Command.TheVariants.{Down, Permit, Start, Stop, Takeover}
 use Rattle.dac_commands.specs.Commands.{next_operation, act_of}
 use Rattle.dac_commands.specs.Causes.{refusal_of_command}
 
@@ -47,18 +52,40 @@ pub record WritesAt (s : StateValue) (app : AppId) (node : NodeId) (Stands : Key
   pub at : IsKeyAt s app node key
   pub replaces : AreThose (Stands key) over
 
--- The act says the command. A Down names the live incarnation of the node. The others write at the key of the application at the node's live incarnation, and replace exactly what stands there of their kind.
-abbrev pub Says : StateValue → Command → Act → Type 0
-Says s (Down node) act = (inc : ℕ) × ((act ≡ Downs node inc) × IsLive s.lives node inc)
-Says s (Permit app node value) act = WritesAt s app node (PermitStands s) (λ key over. Permits key value over) act
-Says s (Start app node) act = WritesAt s app node (StartStands s) Starts act
-Says s (Stop app node) act = WritesAt s app node (StartStands s) Stops act
+-- the term is the next of the application's claims: 1 where there is none, and else the greatest one's and one
+abbrev pub IsNextTerm : StateValue → AppId → ℕ → Type 0
+IsNextTerm s app term = MatchOption (map.get s.claims app) (term ≡ 1) (λ (claim : Claim). term ≡ claim.term + 1)
+
+-- the application's greatest claim has the last term, or a later one
+abbrev pub HasLastTerm : StateValue → AppId → Type 0
+HasLastTerm s app = (claim : Claim) × ((map.get s.claims app ≡ Some claim) × (MAX_COUNTER ≤ claim.term))
+
+-- the act claims the application under its next term
+pub record IsNextClaim (s : StateValue) (app : AppId) (how : How) (from : Option NodeId) (act : Act) : Type 0 where
+  pub term : ℕ
+  pub next : IsNextTerm s app term
+  pub at_most : term ≤ MAX_COUNTER
+  pub is : act ≡ Claims app term how from
+
+-- the act claims the application from the node at which it runs
+pub record TakesOver (t : Table) (s : StateValue) (app : AppId) (act : Act) : Type 0 where
+  pub runner : NodeId
+  pub runs : RunsAt t s app runner
+  pub claims : IsNextClaim s app TakenOver (Some runner) act
+
+-- The act says the command. A Down names the live incarnation of the node, and a takeover claims the application from where it runs. The others write at the key of the application at the node's live incarnation, and replace exactly what stands there of their kind.
+abbrev pub Says : Table → StateValue → Command → Act → Type 0
+Says t s (Down node) act = (inc : ℕ) × ((act ≡ Downs node inc) × IsLive s.lives node inc)
+Says t s (Permit app node value) act = WritesAt s app node (PermitStands s) (λ key over. Permits key value over) act
+Says t s (Start app node) act = WritesAt s app node (StartStands s) Starts act
+Says t s (Stop app node) act = WritesAt s app node (StartStands s) Stops act
+Says t s (Takeover app) act = TakesOver t s app act
 
 -- an operation of this incarnation under its next dot that says the command
-pub record IsWritten (own : Origin) (s : StateValue) (c : Command) (o : Operation) : Type 0 where
+pub record IsWritten (t : Table) (own : Origin) (s : StateValue) (c : Command) (o : Operation) : Type 0 where
   pub dot : IsNext s.known own o.dot
-  pub says : Says s c o.act
+  pub says : Says t s c o.act
 
 -- what an accepted command issues is so
 abbrev pub WritesWhatIsSaid : Type 0
-WritesWhatIsSaid = (t : Table) (own : Origin) (s : StateValue) (c : Command) → refusal_of_command t own s c ≡ None → IsWritten own s c (next_operation s own (act_of s c))
+WritesWhatIsSaid = (t : Table) (own : Origin) (s : StateValue) (c : Command) → refusal_of_command t own s c ≡ None → IsWritten t own s c (next_operation s own (act_of t s c))

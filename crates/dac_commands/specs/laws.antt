@@ -1,3 +1,4 @@
 pub mod Counters
 pub mod Standing
+pub mod Terms
 pub mod Written

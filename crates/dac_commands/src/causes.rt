@@ -1,21 +1,27 @@
 //! Why a running controller refuses a command.
 
 ghost use Rattle.std.specs.Prelude.{◌≡◌};
-ghost use Rattle.dac_commands.specs.Causes.{first, causes_of, causes_to_permit, causes_to_issue, too_many, declared_down, refusal_of_command, used_up};
+ghost use Rattle.dac_commands.specs.Causes.{first, causes_of, causes_to_permit, causes_to_issue, too_many, declared_down, refusal_of_command};
 
+use crate::counters::dots_used_up;
 use crate::keys::{key_of, refusal_to_name};
 use crate::refusal::Refusal;
+use crate::taking::refusal_to_take;
 use dac_base::{AppId, MAX_REPLACED, NodeId};
 use dac_config::Config;
 use dac_dots::Origin;
 use dac_events::Command;
+use dac_placement::is_up;
 use dac_state::State;
 
-/// Why a controller that runs as this incarnation with this state refuses a command, if it does.
+/// Why a controller that runs as this incarnation with this state refuses a command, if it does: the cause of the
+/// least number that holds. A takeover is by the controller's own node, which is to be eligible, from where the
+/// application runs, which is to be at another node and at none of an earlier group (after `application:takeover/2`
+/// of Erlang/OTP). It takes no memory.
 pub fn refusal_of(config: &Config, own: Origin, state: &State, command: Command) -> Option<Refusal>
     ensures { result ≡ refusal_of_command config.now own state.now command }
 {
-    if is_declared_down(own, state) {
+    if !is_up(state, own) {
         return Some(Refusal::DeclaredDown);
     }
     match command {
@@ -27,16 +33,7 @@ pub fn refusal_of(config: &Config, own: Origin, state: &State, command: Command)
         } => refusal_to_permit(config, own, state, app, node),
         Command::Start { app, node } => refusal_to_start(config, own, state, app, node),
         Command::Stop { app, node } => refusal_to_stop(config, own, state, app, node),
-    }
-}
-
-/// Whether an incarnation isn't the live one of its own node.
-fn is_declared_down(own: Origin, state: &State) -> bool
-    ensures { result ≡ declared_down own state.now }
-{
-    match state.lives().live(own.node) {
-        Some(inc) => inc != own.inc,
-        None => true,
+        Command::Takeover { app } => refusal_to_take(config, own, state, app),
     }
 }
 
@@ -53,7 +50,7 @@ fn refusal_to_declare(config: &Config, own: Origin, state: &State, node: NodeId)
     if state.lives().live(node).is_none() {
         return Some(Refusal::NotLive);
     }
-    if is_used_up(own, state) {
+    if dots_used_up(state, own) {
         return Some(Refusal::DotsUsedUp);
     }
     None
@@ -120,7 +117,7 @@ fn refusal_to_issue(own: Origin, state: &State, count: usize) -> Option<Refusal>
     if is_too_many(count) {
         return Some(Refusal::TooManyDots);
     }
-    if is_used_up(own, state) {
+    if dots_used_up(state, own) {
         return Some(Refusal::DotsUsedUp);
     }
     None
@@ -131,11 +128,4 @@ fn is_too_many(count: usize) -> bool
     ensures { result ≡ too_many count }
 {
     count > MAX_REPLACED
-}
-
-/// Whether the counters of an incarnation's operations are used up.
-fn is_used_up(own: Origin, state: &State) -> bool
-    ensures { result ≡ used_up state.now own }
-{
-    state.known().next(own).is_none()
 }

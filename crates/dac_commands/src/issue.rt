@@ -1,38 +1,59 @@
-//! The operation that an accepted command issues.
+//! The operations that a controller issues: for an accepted command, and to claim an application.
 
 ghost use Rattle.std.specs.Prelude.{◌≡◌, IfOk, map, false, None};
-ghost use Rattle.dac_config.specs.Table.{Table};
+ghost use Rattle.dac_dots.specs.declared.dot.Origin.{Origin as Incarnation};
 ghost use Rattle.dac_operations.specs.Operations.{operation, fault_of};
-ghost use Rattle.dac_commands.specs.Commands.{KnowsItself, next_operation, standing_starts as starts_standing, standing_permits as permits_standing, act_of as said_by};
-ghost use Rattle.dac_commands.specs.Causes.{refusal_of_command, used_up};
+ghost use Rattle.dac_commands.specs.Commands.{KnowsItself, next_operation, standing_starts as starts_standing, standing_permits as permits_standing, claim_act, act_of as said_by};
+ghost use Rattle.dac_commands.specs.Causes.{refusal_of_command, terms_used_up, used_up};
 ghost use Rattle.dac_commands.specs.Written.{IsWritten};
 
+use crate::counters::next_term;
 use crate::keys::{key_of, live_of};
-use dac_base::NoMemory;
+use dac_base::{AppId, NoMemory, NodeId};
+use dac_config::Config;
 use dac_dots::{Dot, Origin};
 use dac_events::Command;
 use dac_lattice::{Flag, Lattice};
-use dac_state::{Act, DotList, Key, Op, State};
+use dac_placement::runner;
+use dac_state::{Act, DotList, How, Key, Op, State};
 use std::alloc::{AllocError, Global};
 
 /// The operation that a command issues at a controller that runs as this incarnation with this state, and doesn't
-/// refuse it: what the command says, under the next counter.
+/// refuse it: what the command says, under the next counter. A takeover claims the application for the controller's own
+/// node, under the next term, from the node at which it runs (after `application:takeover/2` of Erlang/OTP).
+/// [`NoMemory`] is the only error.
 pub fn operation_of(
     alloc: Global,
+    config: &Config,
     own: Origin,
     state: &State,
     command: Command,
 ) -> Result<Op, NoMemory>
     requires knows { KnowsItself own state.now }
-    requires accepted { (t : Table) × (refusal_of_command t own state.now command ≡ None) }
-    ensures next { IfOk result (λ operation. operation ≡ next_operation state.now own (said_by state.now command)) }
-    // It has the next dot, and says the command: its key is at the live incarnation, and it replaces what stands there.
-    ensures written { IfOk result (IsWritten own state.now command) }
+    requires accepted { refusal_of_command config.now own state.now command ≡ None }
+    ensures next { IfOk result (λ operation. operation ≡ next_operation state.now own (said_by config.now state.now command)) }
+    // It has the next dot, and says the command: its key is at the live incarnation, and it replaces what stands there;
+    // or it claims the application from where it runs.
+    ensures written { IfOk result (IsWritten config.now own state.now command) }
 {
     // What stands in a state is known there, so it doesn't have the next dot.
     Lattice::known(state);
-    let act = act_of(alloc, state, command)?;
+    let act = act_of(alloc, config, state, command)?;
     Ok(issue(own, state, act))
+}
+
+/// The operation by which an incarnation claims an application, under the application's next term and its own next
+/// counter: how the application comes to it, and the node that it is taken from, unless it is started or moved. Whether
+/// a term and a counter are left, [`terms_used_up`](crate::terms_used_up) and [`dots_used_up`](crate::dots_used_up)
+/// tell. It takes no memory.
+pub fn claim(own: Origin, state: &State, app: AppId, how: How, from: Option<NodeId>) -> Op
+    requires knows { KnowsItself own state.now }
+    requires left { used_up state.now own ≡ false }
+    requires term { terms_used_up state.now app ≡ false }
+    ensures { result ≡ next_operation state.now own (claim_act state.now app how from) }
+{
+    let act = claim_act(state, app, how, from);
+    issue(own, state, act)
 }
 
 /// An act under the next counter.
@@ -53,9 +74,10 @@ fn made_of(dot: Dot, act: Act) -> Op
     Op::new(dot, act).unwrap()
 }
 
-/// What a command says.
-fn act_of(alloc: Global, state: &State, command: Command) -> Result<Act, NoMemory>
-    ensures { IfOk result (λ act. act ≡ said_by state.now command) }
+/// What an accepted command says.
+fn act_of(alloc: Global, config: &Config, state: &State, command: Command) -> Result<Act, NoMemory>
+    requires { (own : Incarnation) × (refusal_of_command config.now own state.now command ≡ None) }
+    ensures { IfOk result (λ act. act ≡ said_by config.now state.now command) }
 {
     match command {
         Command::Down { node } => Ok(Act::Down {
@@ -77,6 +99,24 @@ fn act_of(alloc: Global, state: &State, command: Command) -> Result<Act, NoMemor
             let over = standing_starts(alloc, state, key)?;
             Ok(Act::Stop { key, over })
         }
+        Command::Takeover { app } => {
+            let from = runner(config, state, app);
+            Ok(claim_act(state, app, How::Takeover, from))
+        }
+    }
+}
+
+/// What a claim of an application under its next term says.
+fn claim_act(state: &State, app: AppId, how: How, from: Option<NodeId>) -> Act
+    requires { terms_used_up state.now app ≡ false }
+    ensures { result ≡ claim_act state.now app how from }
+{
+    let term = next_term(state, app);
+    Act::Claim {
+        app,
+        term,
+        how,
+        from,
     }
 }
 

@@ -23,14 +23,26 @@ pub enum Refusal {
     OnSelf,
     /// The node isn't in the application's list.
     NotInList,
+    /// The moment lies before one at which the node was booted or ticked.
+    MomentBack,
     /// No live incarnation of the node is known here.
     NotLive,
     /// No start wish stands for the application at the node.
     NotStarted,
+    /// The node isn't eligible for the application that it is to take over.
+    NotEligible,
+    /// The application that is to be taken over runs nowhere.
+    NotRunning,
+    /// The application runs here already.
+    AlreadyHolder,
+    /// The application runs at a node of an earlier group.
+    LowerPriority,
     /// The message is for another node.
     NotForMe,
     /// The operation would replace more than 1,024 dots.
     TooManyDots,
+    /// The terms of the application's claims are used up.
+    TermsUsedUp,
     /// The counters of this incarnation's operations are used up.
     DotsUsedUp,
     /// The numbers of this node's incarnations are used up.
@@ -54,10 +66,16 @@ impl Refusal {
             Refusal::UnknownNode => 5,
             Refusal::OnSelf => 6,
             Refusal::NotInList => 7,
+            Refusal::MomentBack => 8,
             Refusal::NotLive => 9,
             Refusal::NotStarted => 10,
+            Refusal::NotEligible => 11,
+            Refusal::NotRunning => 12,
+            Refusal::AlreadyHolder => 13,
+            Refusal::LowerPriority => 14,
             Refusal::NotForMe => 15,
             Refusal::TooManyDots => 17,
+            Refusal::TermsUsedUp => 18,
             Refusal::DotsUsedUp => 19,
             Refusal::IncarnationsUsedUp => 20,
             Refusal::NoMemory => 21,
@@ -76,10 +94,16 @@ impl Refusal {
             Refusal::UnknownNode => "UnknownNode",
             Refusal::OnSelf => "OnSelf",
             Refusal::NotInList => "NotInList",
+            Refusal::MomentBack => "MomentBack",
             Refusal::NotLive => "NotLive",
             Refusal::NotStarted => "NotStarted",
+            Refusal::NotEligible => "NotEligible",
+            Refusal::NotRunning => "NotRunning",
+            Refusal::AlreadyHolder => "AlreadyHolder",
+            Refusal::LowerPriority => "LowerPriority",
             Refusal::NotForMe => "NotForMe",
             Refusal::TooManyDots => "TooManyDots",
+            Refusal::TermsUsedUp => "TermsUsedUp",
             Refusal::DotsUsedUp => "DotsUsedUp",
             Refusal::IncarnationsUsedUp => "IncarnationsUsedUp",
             Refusal::NoMemory => "NoMemory",

@@ -12,7 +12,7 @@
 
 pub use dac_commands::Refusal;
 pub use dac_events::{Command, What, WorldEvent};
-pub use dac_messages::{Event, Message, Reply};
+pub use dac_messages::{AppList, Body, Event, Message, OpList, Reply};
 pub use dac_node::Node;
 pub use dac_worlds::WorldFault;
 pub use world::World;

@@ -1,6 +1,6 @@
 //! All controllers of a configuration, with what they issued and shipped.
 
-ghost use Rattle.std.specs.Prelude.{◌≡◌, ◌<◌, ◌++◌, ◌↔◌, IsTrue, IfOk, OnOk, length, vec_len, vec_capacity};
+ghost use Rattle.std.specs.Prelude.{◌≡◌, ◌<◌, ◌≤◌, ◌+◌, ◌++◌, ◌↔◌, IsTrue, IfOk, OnOk, length, vec_len, vec_capacity};
 ghost use Rattle.dac_worlds.specs.ModelWorld.{issued_by, shipped_by};
 ghost use Rattle.dac_worlds.specs.WorldChanges.{NodeChanges};
 
@@ -42,16 +42,13 @@ impl World {
     ghost use Rattle.std.specs.Prelude.{◌≡◌, ◌<◌, IfOk, IfErr, OnErr, Some, Ok, Err, length, slice_get};
     ghost use Rattle.dac_config.specs.Table.{node_count};
     ghost use Rattle.dac_worlds.specs.ModelWorld.{Shows, start, Follows, RanAs, happens, event_of, heard_by, handed_by, counted, out_of_memory};
-    ghost use Rattle.dac_worlds.specs.SetWorld.{set_run, no_sets};
-    ghost use Rattle.dac_worlds.specs.Convergence.{EachIsMeaning, Agrees, DistinctDots, HoldsSets, CarryMeanings};
-    ghost use Rattle.dac_worlds.specs.News.{AnswersNews};
-    ghost use Rattle.dac_worlds.specs.Fits.{HearsAllThatFits};
+    ghost use Rattle.dac_worlds.specs.Converges.{Converges};
     ghost use Rattle.dac_worlds.specs.AtNode.{HearsIn, HappensAt};
     ghost use Rattle.dac_worlds.specs.WorldChanges.{Goes};
 
     /// All controllers of the configuration, off and never booted.
     pub fn new(alloc: Global, config: &Config) -> Result<Self, NoMemory>
-        ensures { IfOk result (Shows (start config.now)) }
+        ensures { IfOk result (Shows config.now (start config.now)) }
     {
         let mut nodes = Vec::new(alloc);
         for _node in 0..config.nodes() {
@@ -75,21 +72,10 @@ impl World {
         ensures run { IfOk result (λ both. RanAs config.now events.now both.1.items both.0) }
         ensures answers { IfOk result (λ both. length both.1.items ≡ length events.now) }
         ensures count { IfOk result (λ both. length both.0.nodes ≡ node_count config.now) }
-
-        // Each running controller's state is the meaning of the issued operations whose dots it has heard.
-        ensures headline { IfOk result (λ both. EachIsMeaning both.0) }
-        // Controllers that heard the same set hold equal states.
-        ensures agree { IfOk result (λ both. Agrees both.0) }
-        // No two issued operations have one dot.
-        ensures distinct { IfOk result (λ both. DistinctDots both.0.operations) }
-        // Each controller holds the set that the world of sets has at its node.
-        ensures sets { IfOk result (λ both. HoldsSets both.0 (set_run no_sets events.now both.1.items)) }
-        // Each shipped message's body is the meaning of a set of issued operations.
-        ensures bodies { IfOk result (λ both. CarryMeanings both.0) }
-        // Each answer to what was heard tells whether it brought a dot that the controller hadn't heard.
-        ensures news { IfOk result (λ both. AnswersNews no_sets events.now both.1.items) }
-        // What comes to a running controller is heard, unless memory is wanting: a message shipped to it, an issued operation.
-        ensures heard { IfOk result (λ both. HearsAllThatFits no_sets events.now both.1.items) }
+        // Convergence. Each running controller's state is the meaning of the issued operations whose dots it has heard. So
+        // controllers that heard the same set hold equal states and bytes, and name the same holder and the same next
+        // candidate. The record says more: of what was issued and shipped, of answers, of causes and of histories.
+        ensures converges { IfOk result (λ both. Converges config.now events.now both.1.items both.0) }
     {
         let mut world = World::new(alloc, config)?;
         let mut answers = Vec::with_capacity(alloc, events.len())?;
@@ -104,7 +90,7 @@ impl World {
 
     /// One event of the world. After a fault all is as before.
     pub fn step(&mut self, config: &Config, event: &WorldEvent) -> Result<Reply, WorldFault>
-        ensures follows { Follows self.old (λ w. happens config.now w event.now) result self.new }
+        ensures follows { Follows config.now self.old (λ w. happens config.now w event.now) result self.new }
         // What the node has heard grows by the dots that its event brings, and by no more; no other node changes.
         ensures heard { IfOk result (λ reply. HearsIn self.old event.now reply self.new) }
         ensures unchanged { OnErr result (self.new ≡ self.old) }
@@ -149,6 +135,7 @@ impl World {
             What::Boot { now } => self.happen(config, node, &Event::Boot { now }),
             What::Crash => self.happen(config, node, &Event::Crash),
             What::Command(command) => self.happen(config, node, &Event::Command(command)),
+            What::Tick { now } => self.happen(config, node, &Event::Tick { now }),
             What::Ship { to } => self.happen(config, node, &Event::Ship { to }),
             What::Deliver(number) => self.deliver(config, node, number),
             What::Hand(number) => self.hand(config, node, number),
@@ -241,6 +228,17 @@ fn change_node(nodes: &mut Vec<Node>, node: NodeId, change: Change) -> Reply
     nodes[node.0 as usize].apply(change)
 }
 
+/// How many operations a reply issues.
+fn issued_count(reply: &Reply) -> usize
+    ensures { result ≡ length (issued_by reply.now) }
+{
+    match reply {
+        Reply::Booted(_) | Reply::Issued(_) => 1,
+        Reply::Ticked { ops, passed: _ } => ops.as_slice().len(),
+        _ => 0,
+    }
+}
+
 /// Makes room for what a reply issues and ships, and copies the reply.
 fn make_room(
     operations: &mut Vec<Op>,
@@ -249,11 +247,11 @@ fn make_room(
 ) -> Result<Reply, NoMemory>
     ensures operations { operations.new.items ≡ operations.old.items }
     ensures messages { messages.new.items ≡ messages.old.items }
-    ensures operations_room { OnOk result (vec_len operations.new < vec_capacity operations.new) }
+    ensures operations_room { OnOk result (vec_len operations.new + length (issued_by reply.now) ≤ vec_capacity operations.new) }
     ensures messages_room { OnOk result (vec_len messages.new < vec_capacity messages.new) }
     ensures copied { IfOk result (λ copied. copied ≡ reply.now) }
 {
-    operations.reserve(1)?;
+    operations.reserve(issued_count(reply))?;
     messages.reserve(1)?;
     let copied = reply.copy()?;
     Ok(copied)
@@ -261,7 +259,7 @@ fn make_room(
 
 /// Notes what a reply issues and ships, where there is room.
 fn note(operations: &mut Vec<Op>, messages: &mut Vec<Message>, reply: Reply)
-    requires operations_room { vec_len operations.old < vec_capacity operations.old }
+    requires operations_room { vec_len operations.old + length (issued_by reply) ≤ vec_capacity operations.old }
     requires messages_room { vec_len messages.old < vec_capacity messages.old }
     ensures operations { operations.new.items ≡ operations.old.items ++ issued_by reply }
     ensures messages { messages.new.items ≡ messages.old.items ++ shipped_by reply }
@@ -273,9 +271,13 @@ fn note(operations: &mut Vec<Op>, messages: &mut Vec<Message>, reply: Reply)
         Reply::Issued(operation) => {
             let _ = operations.push(operation);
         }
+        Reply::Ticked { ops, passed: _ } => {
+            let mut claims = ops.into_vec();
+            let _ = operations.append(&mut claims);
+        }
         Reply::Shipped(message) => {
             let _ = messages.push(message);
         }
-        Reply::Crashed | Reply::Heard(_) => {}
+        _ => {}
     }
 }

@@ -1,10 +1,10 @@
 -- Waits and the start gate compute what they say in words, for every list of notes and every state, also one that no operation made.
-use Rattle.std.specs.Prelude.{◌≡◌, ◌↔◌, ℕ, true, List, Some}
+use Rattle.std.specs.Prelude.{◌≡◌, ◌↔◌, ℕ, ◌<◌, true, List, length, Some}
 use Rattle.dac_base.specs.declared.AppId.{AppId}
-use Rattle.dac_config.specs.Table.{Table}
+use Rattle.dac_config.specs.Table.{Table, app_count}
 use Rattle.dac_chains.specs.declared.claims.Claim.{Claim}
 use Rattle.dac_meaning.specs.StateValue.{StateValue}
-use Rattle.dac_decide.specs.FailoverWait.{Note, IsLost, lost_in, IsNotedSince, noted_of, IsDue, is_due}
+use Rattle.dac_decide.specs.FailoverWait.{Note, IsLost, lost_in, IsNotedSince, noted_of, noted_at, waits_of, IsDue, is_due}
 use Rattle.dac_decide.specs.StartGate.{IsOpening, opening_of}
 
 abbrev pub LostInWords : Type 0
@@ -18,3 +18,7 @@ DueInWords = (table : Table) (notes : List Note) (s : StateValue) (app : AppId) 
 
 abbrev pub OpeningInWords : Type 0
 OpeningInWords = (table : Table) (s : StateValue) (elapsed : ℕ) → IsOpening table s elapsed (opening_of table s elapsed)
+
+-- waits keep what the notes say of each application, and of as many as there are
+abbrev pub NotesAreKept : Type 0
+NotesAreKept = (table : Table) (notes : List Note) → (length (waits_of table notes) ≡ app_count table) × ((app : AppId) → app.0 < app_count table → noted_at (waits_of table notes) app ≡ noted_of app notes)

@@ -2,3 +2,4 @@ pub mod Lost
 pub mod Rows
 pub mod Due
 pub mod AllUp
+pub mod Kept

@@ -1,7 +1,7 @@
 //! The waits of failovers.
 ghost use Rattle.std.specs.Prelude.{◌≡◌, ◌↔◌, ◌<◌, ◌∷◌, [], List, length, IsTrue, IfOk};
 ghost use Rattle.dac_config.specs.Table.{app_count};
-ghost use Rattle.dac_decide.specs.FailoverWait.{Note, waits_of, IsDue, is_due, is_due_with, noted_at};
+ghost use Rattle.dac_decide.specs.FailoverWait.{Note, waits_of, IsDue, is_due, is_due_with, is_due_by, noted_at};
 ghost use Rattle.dac_decide.specs.FailoverWait.{lost_in, noted_next, is_held_at, is_wait_over};
 
 use dac_base::{AppId, NoMemory, NodeId};
@@ -76,12 +76,39 @@ impl Waits {
     /// to have it again; whatever else there is to do isn't put off. It takes no memory.
     pub fn due(&self, config: &Config, state: &State, app: AppId, now: u64) -> bool
         requires { app.0 < app_count config.now }
+        ensures kept { result ≡ is_due_with config.now (noted_at self.now app) state.now app now }
         ensures value { (notes : List Note) → self.now ≡ waits_of config.now notes
             → result ≡ is_due config.now notes state.now app now }
         ensures cases { (notes : List Note) → self.now ≡ waits_of config.now notes
             → IsTrue result ↔ IsDue config.now notes state.now app now }
     {
-        is_due_with(config, state, app, self.noted_of(app), now)
+        let verdict = verdict(config, state, app);
+        self.due_by(config, state, app, verdict, now)
+    }
+
+    /// Whether this verdict on an application is to be carried out at this moment, in milliseconds: what
+    /// [`Waits::due`] tells of the application's verdict, for a caller who has computed it. It takes no memory.
+    pub fn due_by(
+        &self,
+        config: &Config,
+        state: &State,
+        app: AppId,
+        verdict: Verdict,
+        now: u64,
+    ) -> bool
+        requires { app.0 < app_count config.now }
+        ensures { result ≡ is_due_by config.now (noted_at self.now app) state.now app now verdict }
+    {
+        match verdict {
+            Verdict::Start(_) | Verdict::Move(_) | Verdict::Takeover(_) => true,
+            Verdict::Failover(node) => {
+                let noted = self.noted_of(app);
+                let held = is_held_at(state, app, node);
+                let over = is_wait_over(config, state, app, noted, now);
+                held || over
+            }
+            Verdict::Halted(_) | Verdict::Kept(_) | Verdict::Nobody => false,
+        }
     }
 
     /// What is noted of an application.
@@ -124,22 +151,6 @@ fn noted_next(before: Option<Noted>, lost: Option<Claim>, now: u64) -> Option<No
         (None, _) => None,
         (Some(claim), Some(noted)) if noted.claim == claim => Some(noted),
         (Some(claim), _) => Some(Noted { claim, since: now }),
-    }
-}
-
-/// Whether an application's verdict is to be carried out now, where so much is noted of it.
-fn is_due_with(config: &Config, state: &State, app: AppId, noted: Option<Noted>, now: u64) -> bool
-    requires { app.0 < app_count config.now }
-    ensures { result ≡ is_due_with config.now noted state.now app now }
-{
-    match verdict(config, state, app) {
-        Verdict::Start(_) | Verdict::Move(_) | Verdict::Takeover(_) => true,
-        Verdict::Failover(node) => {
-            let held = is_held_at(state, app, node);
-            let over = is_wait_over(config, state, app, noted, now);
-            held || over
-        }
-        Verdict::Halted(_) | Verdict::Kept(_) | Verdict::Nobody => false,
     }
 }
 

@@ -6,8 +6,8 @@
 
 use dac_base::{AppId, NodeId};
 
-/// What an operator tells a controller. It may be given at any controller: it names the node that it is
-/// about, and holds for that node's live incarnation, so a reboot returns to the configuration (after
+/// What an operator tells a controller. All but a takeover may be given at any controller: they name the node that
+/// they are about, and hold for that node's live incarnation, so a reboot returns to the configuration (after
 /// `application:permit/2`, `application:start/1` and `application:stop/1` of Erlang/OTP, which hold for
 /// the node where they run).
 #[derive(Clone, Copy, Debug, PartialEq, Eq)]
@@ -41,6 +41,12 @@ pub enum Command {
         /// The node that it is about.
         node: NodeId,
     },
+    /// The application is taken over from where it runs by the node at which the command is given (after
+    /// `application:takeover/2`; only a node of the same group or an earlier one may).
+    Takeover {
+        /// The application.
+        app: AppId,
+    },
 }
 
 /// What happens at a node of the world.
@@ -55,6 +61,11 @@ pub enum What {
     Crash,
     /// An operator's command is given at the node.
     Command(Command),
+    /// The node looks after its applications: it claims those that it is to have now.
+    Tick {
+        /// The present moment, in milliseconds.
+        now: u64,
+    },
     /// The node's state is shipped.
     Ship {
         /// The node that it is shipped to.

@@ -19,6 +19,11 @@ pub enum Event {
     Crash,
     /// An operator's command.
     Command(Command),
+    /// The node looks after its applications.
+    Tick {
+        /// The present moment, in milliseconds.
+        now: u64,
+    },
     /// The node's state is to be shipped.
     Ship {
         /// The node that it is shipped to.
@@ -39,6 +44,7 @@ impl Event {
             Event::Boot { now } => Ok(Event::Boot { now: *now }),
             Event::Crash => Ok(Event::Crash),
             Event::Command(command) => Ok(Event::Command(*command)),
+            Event::Tick { now } => Ok(Event::Tick { now: *now }),
             Event::Ship { to } => Ok(Event::Ship { to: *to }),
             Event::Hear(message) => {
                 let message = message.copy()?;

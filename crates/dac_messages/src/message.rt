@@ -1,4 +1,4 @@
-//! A state on its way.
+//! What one controller ships to another.
 
 ghost use Rattle.std.specs.Prelude.{◌≡◌, IfOk};
 
@@ -7,15 +7,65 @@ use dac_dots::Origin;
 use dac_lattice::Lattice;
 use dac_state::State;
 
-/// A state on its way from one node to another.
+/// What a message brings.
+#[derive(Drop)]
+pub enum Body {
+    /// The sender's whole state.
+    Whole(State),
+    /// All that the sender's state got since it had so many deltas as the receiver acknowledged.
+    Interval(State),
+    /// Nothing: the receiver acknowledged all that the sender has.
+    Nothing,
+}
+
+impl Body {
+    ghost use Rattle.std.specs.Option.{option_copied};
+    ghost use Rattle.dac_messages.specs.Bodies.{state_in};
+
+    /// The state that it brings, if any. It takes no memory.
+    pub fn state(&self) -> Option<&State>
+        ensures { option_copied result ≡ state_in self.now }
+    {
+        match self {
+            Body::Whole(state) | Body::Interval(state) => Some(state),
+            Body::Nothing => None,
+        }
+    }
+
+    /// An equal one.
+    pub fn copy(&self) -> Result<Self, NoMemory>
+        ensures { IfOk result (λ body. body ≡ self.now) }
+    {
+        match self {
+            Body::Whole(state) => {
+                let state = state.copy()?;
+                Ok(Body::Whole(state))
+            }
+            Body::Interval(state) => {
+                let state = state.copy()?;
+                Ok(Body::Interval(state))
+            }
+            Body::Nothing => Ok(Body::Nothing),
+        }
+    }
+}
+
+/// What is on its way from one controller to another. (After the anti-entropy algorithm of Almeida, Shoker and Baquero:
+/// a delta interval or the whole state, with what the sender got from the receiver.)
 #[derive(Drop)]
 pub struct Message {
     /// The incarnation that shipped it.
     pub from: Origin,
     /// The node that it is for.
     pub to: NodeId,
-    /// The sender's state when it was shipped.
-    pub body: State,
+    /// The incarnation of that node that it is for, where it is for one alone.
+    pub only: Option<u32>,
+    /// How many deltas the sender had when it was shipped.
+    pub up_to: u64,
+    /// What it brings.
+    pub body: Body,
+    /// The incarnation of the receiver from which the sender last got anything, and how many deltas that one had then.
+    pub ack: Option<(Origin, u64)>,
 }
 
 impl Message {
@@ -27,7 +77,10 @@ impl Message {
         Ok(Message {
             from: self.from,
             to: self.to,
+            only: self.only,
+            up_to: self.up_to,
             body,
+            ack: self.ack,
         })
     }
 }

@@ -2,6 +2,7 @@
 
 ghost use Rattle.std.specs.Prelude.{◌≡◌, IfOk};
 
+use crate::lists::{AppList, OpList};
 use crate::message::Message;
 use dac_base::NoMemory;
 use dac_state::Op;
@@ -15,6 +16,17 @@ pub enum Reply {
     Crashed,
     /// The command was issued as this operation.
     Issued(Op),
+    /// The node looked after its applications.
+    Ticked {
+        /// The claims that it issued, in the order of the applications.
+        ops: OpList,
+        /// The applications that it was to claim, but whose terms are used up.
+        passed: AppList,
+    },
+    /// The node still waits for others, and does nothing.
+    Held,
+    /// The node waited in vain for a mandatory one, and went down.
+    GaveUp,
     /// This message is on its way.
     Shipped(Message),
     /// The message or the operation was heard; whether it added anything.
@@ -36,6 +48,13 @@ impl Reply {
                 let operation = operation.copy()?;
                 Ok(Reply::Issued(operation))
             }
+            Reply::Ticked { ops, passed } => {
+                let ops = ops.copy()?;
+                let passed = passed.copy()?;
+                Ok(Reply::Ticked { ops, passed })
+            }
+            Reply::Held => Ok(Reply::Held),
+            Reply::GaveUp => Ok(Reply::GaveUp),
             Reply::Shipped(message) => {
                 let message = message.copy()?;
                 Ok(Reply::Shipped(message))

@@ -1,5 +1,6 @@
 -- A state that knows the operation of its own boot.
-use Rattle.std.proofs.Common.{◌≡◌, Bool, true, false, ◌||◌, [], ◌∷◌, refl, ap, ◌∙◌}
+use Rattle.std.proofs.Common.{◌≡◌, Bool, true, false, ◌||◌, List, [], ◌∷◌, refl, ap, ◌∙◌}
+use Rattle.std.specs.Prelude.{fold}
 use Rattle.std.specs.FinSet as set
 use Rattle.dac_dots.specs.declared.dot.Origin.{Origin}
 use Rattle.dac_dots.specs.Dots.{dot, dots_total}
@@ -14,6 +15,11 @@ use Rattle.dac_node.specs.Step.{up}
 -- what is joined is known still
 pub knows-join : (o : Origin) (s t : StateValue) → KnowsItself o s → KnowsItself o (join s t)
 knows-join o s t h = ap (λ k. set.contains k (dot o 1)) (known-join s t) ∙ (set.contains-union dots_total s.known t.known (dot o 1) ∙ ap (λ b. b || set.contains t.known (dot o 1)) h)
+
+-- so is what is joined one after another
+pub knows-grown : (o : Origin) (s : StateValue) (states : List StateValue) → KnowsItself o s → KnowsItself o (fold join s states)
+knows-grown o s [] h = h
+knows-grown o s (t ∷ states) h = knows-grown o (join s t) states (knows-join o s t h)
 
 pub knows-boot : (o : Origin) → KnowsItself o (join bottom (meaning_of (up o ∷ [])))
 knows-boot o =

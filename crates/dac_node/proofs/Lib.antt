@@ -1,1 +1,3 @@
 pub mod Knows
+pub mod Effects
+pub mod Gates

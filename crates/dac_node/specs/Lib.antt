@@ -1,10 +1,12 @@
 pub mod NodeValue
 pub mod ModelNode
 pub mod EventRefusals
+pub mod Deeds
 pub mod Step
-pub mod Changes
 pub mod After
+pub mod Changes
 pub mod Hearing
 pub mod Refused
 pub mod Writing
+pub mod Again
 pub mod laws

@@ -1,12 +1,16 @@
 //! What an accepted event does, prepared before anything changes.
 
-ghost use Rattle.std.specs.Prelude.{◌≡◌, ◌<◌, ◌+◌, ◌-◌, ◌^◌, Some, IfOk, IfErr, None};
+ghost use Rattle.std.specs.Prelude.{◌≡◌, ◌<◌, ◌-◌, ◌^◌, IfOk, IfErr, None};
 ghost use Rattle.dac_config.specs.Table.{Table};
 ghost use Rattle.dac_node.specs.EventRefusals.{refusal_on};
-ghost use Rattle.dac_node.specs.Step.{up};
+ghost use Rattle.dac_node.specs.After.{KeepsTime};
 
+use crate::moments::Moments;
 use crate::running::Running;
+use crate::ticking::tick;
 use dac_base::{NoMemory, NodeId};
+use dac_config::Config;
+use dac_decide::Waits;
 use dac_dots::Origin;
 use dac_messages::{Event, Message, Reply};
 use dac_state::Op;
@@ -22,6 +26,33 @@ pub(crate) enum After {
     Off,
     /// This.
     Runs(Running),
+    /// What ran before, with other moments: it was held back at a tick.
+    Held(Moments),
+    /// What ran before, which looked after its applications at a tick and claimed none.
+    Ticked {
+        /// The moments from then on.
+        moments: Moments,
+        /// What is noted from then on.
+        waits: Waits,
+    },
+}
+
+impl After {
+    ghost use Rattle.dac_node.specs.After.{run_after};
+
+    /// What runs after this, where this ran before.
+    pub(crate) fn run_after(self, before: Option<Running>) -> Option<Running>
+        requires { KeepsTime self }
+        ensures { result ≡ run_after self before }
+    {
+        match self {
+            After::Same => before,
+            After::Off => None,
+            After::Runs(run) => Some(run),
+            After::Held(moments) => Some(before?.held(moments)),
+            After::Ticked { moments, waits } => Some(before?.ticked(moments, waits)),
+        }
+    }
 }
 
 /// What an accepted event does: the number of the last incarnation from then on, what runs, and the reply.
@@ -37,18 +68,21 @@ pub struct Change {
 
 impl Model for Change {
     ghost use Rattle.dac_messages.specs.contracts.reply.Reply as reply_row;
+    ghost use Rattle.dac_node.specs.contracts.change.After as after_row;
+    ghost use Rattle.dac_node.specs.After.{KeepsTime};
     ghost use Rattle.dac_node.specs.Changes.{ChangeValue, coded_change};
-    ghost use Rattle.dac_node.specs.After.{shown_after};
 
     ghost Value = { ChangeValue };
 
-    ghost coded = { coded_change reply_row.the_row.coded };
+    ghost coded = { coded_change after_row.the_row.coded reply_row.the_row.coded };
 
-    ghost view = { λ a. record { last = a.last; run = shown_after a.after; reply = a.reply } };
+    ghost view = { λ a. record { last = a.last; after = a.after; reply = a.reply } };
+
+    ghost invariant = { λ a. KeepsTime a.after };
 }
 
 impl Change {
-    ghost use Rattle.dac_node.specs.Changes.{booted, by_hearing, Effect};
+    ghost use Rattle.dac_node.specs.Changes.{by_hearing, Boots, Effect};
 
     /// The reply to the event.
     pub fn reply(&self) -> &Reply
@@ -57,18 +91,22 @@ impl Change {
         &self.reply
     }
 
-    /// A controller that is off comes up as this node.
-    pub(crate) fn boot(alloc: Global, node: NodeId, last: u32) -> Result<Self, NoMemory>
+    /// A controller that is off comes up as this node at this moment.
+    pub(crate) fn boot(
+        alloc: Global,
+        config: &Config,
+        node: NodeId,
+        last: u32,
+        now: u64,
+    ) -> Result<Self, NoMemory>
         requires { last < 2 ^ 32 - 1 }
-        ensures last { IfOk result (λ change. change.last ≡ last + 1) }
-        ensures run { IfOk result (λ change. change.run ≡ Some (Some (booted (record { node = node; inc = last + 1 })))) }
-        ensures reply { IfOk result (λ change. change.reply ≡ Reply.Booted (up (record { node = node; inc = last + 1 }))) }
+        ensures { IfOk result (Boots config.now node last now) }
     {
         let origin = Origin {
             node,
             inc: last + 1,
         };
-        let (run, operation) = Running::boot(alloc, origin)?;
+        let (run, operation) = Running::boot(alloc, config, origin, now)?;
         Ok(Change {
             last: last + 1,
             after: After::Runs(run),
@@ -77,9 +115,14 @@ impl Change {
     }
 
     /// What an event that isn't refused does at a running controller. A crash takes no memory.
-    pub(crate) fn of(last: u32, run: &Running, event: &Event) -> Result<Self, NoMemory>
-        requires { (t : Table) × (refusal_on t run.now.origin run.now.state event.now ≡ None) }
-        ensures effect { IfOk result (Effect last run.now event.now) }
+    pub(crate) fn of(
+        config: &Config,
+        last: u32,
+        run: &Running,
+        event: &Event,
+    ) -> Result<Self, NoMemory>
+        requires { refusal_on config.now run.now event.now ≡ None }
+        ensures effect { IfOk result (Effect config.now last run.now event.now) }
         ensures crash { IfErr result (λ _. event.now ≡ Event.Crash → ⊥) }
     {
         match event {
@@ -90,13 +133,14 @@ impl Change {
                 reply: Reply::Crashed,
             }),
             Event::Command(command) => {
-                let (run, operation) = run.command(*command)?;
+                let (run, operation) = run.command(config, *command)?;
                 Ok(Change {
                     last,
                     after: After::Runs(run),
                     reply: Reply::Issued(operation),
                 })
             }
+            Event::Tick { now } => tick(config, last, run, *now),
             Event::Ship { to } => {
                 let message = run.ship(*to)?;
                 Ok(Change {
@@ -105,28 +149,22 @@ impl Change {
                     reply: Reply::Shipped(message),
                 })
             }
-            Event::Hear(message) => {
-                let change = Change::hear(last, run, message)?;
-                Ok(change)
-            }
-            Event::HearOp(operation) => {
-                let change = Change::hear_op(last, run, operation)?;
-                Ok(change)
-            }
+            Event::Hear(message) => Change::hear(last, run, message),
+            Event::HearOp(operation) => Change::hear_op(last, run, operation),
         }
     }
 
     /// What a message that isn't refused does at a running controller.
     pub(crate) fn hear(last: u32, run: &Running, message: &Message) -> Result<Self, NoMemory>
-        ensures { IfOk result (Effect last run.now (Event.Hear message.now)) }
+        ensures { IfOk result (λ change. (t : Table) → Effect t last run.now (Event.Hear message.now) change) }
     {
-        let more = run.hear(&message.body)?;
+        let more = run.hear_body(&message.body)?;
         Ok(Change::heard(last, more))
     }
 
     /// What an operation that comes by itself does at a running controller.
     pub(crate) fn hear_op(last: u32, run: &Running, operation: &Op) -> Result<Self, NoMemory>
-        ensures { IfOk result (Effect last run.now (Event.HearOp operation.now)) }
+        ensures { IfOk result (λ change. (t : Table) → Effect t last run.now (Event.HearOp operation.now) change) }
     {
         let more = run.hear_op(operation)?;
         Ok(Change::heard(last, more))

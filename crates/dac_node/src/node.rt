@@ -3,14 +3,14 @@
 ghost use Rattle.std.specs.Prelude.{◌≡◌, IfOk, IfErr, MatchResult, OnErr, unwrap_or};
 ghost use Rattle.dac_config.specs.Table.{Table};
 ghost use Rattle.dac_node.specs.EventRefusals.{refusal_off as refused_off};
+ghost use Rattle.dac_node.specs.Deeds.{moment_of};
 
-use crate::change::{After, Change};
+use crate::change::Change;
 use crate::running::Running;
 use dac_base::{NoMemory, NodeId};
 use dac_commands::Refusal;
 use dac_config::Config;
 use dac_dots::Origin;
-use dac_lattice::Lattice;
 use dac_messages::{Event, Message, Reply};
 use dac_state::{Op, State};
 use std::alloc::Global;
@@ -19,7 +19,8 @@ use std::marker::Model;
 /// A controller: off, where it keeps the number of its last incarnation alone, or running.
 ///
 /// An incarnation number is used once. A controller that boots again has lost all that it knew and goes by
-/// the next number, so an operation's dot never comes twice.
+/// the next number, so an operation's dot never comes twice. While it runs it keeps its state, the moments of its boot
+/// and its last tick, whether its start gate is open, and how long each failover has been waiting.
 #[derive(Drop)]
 pub struct Node {
     alloc: Global,
@@ -49,7 +50,10 @@ impl Node {
 
     /// A controller that is off and whose last incarnation had this number; 0 for one that never booted.
     pub fn off(alloc: Global, last: u32) -> Self
-        ensures { result ≡ off last }
+        ensures value { result ≡ off last }
+        // Under each configuration some node of the definition shows it, so what a step promises of each such node says
+        // something.
+        ensures shown { (t : Table) → IsShown t result }
     {
         Node {
             alloc,
@@ -75,15 +79,6 @@ impl Node {
         match &self.run {
             None => None,
             Some(run) => Some(run.origin()),
-        }
-    }
-
-    /// Some node of the definition shows this one, so what a step promises of each such node says something.
-    pub fn known(&self)
-        ensures { IsShown self.now }
-    {
-        if let Some(run) = &self.run {
-            Lattice::known(run.state());
         }
     }
 
@@ -118,10 +113,13 @@ impl Node {
         // A refusal, other than want of memory, is a step too, which changes nothing.
         ensures refused { IfErr result (λ why. (why ≡ Refusal.NoMemory → ⊥) → Steps config.now self_id self.old event self.new (Err why)) }
         // A command is answered by the operation that says it: under the next dot, at the key of the live incarnation, in
-        // the place of exactly what stands there.
-        ensures writes { IfOk result (λ reply. Writes self_id self.old event reply) }
+        // the place of exactly what stands there. A tick is answered by the claims of exactly the applications that are
+        // due to this node.
+        ensures writes { IfOk result (λ reply. Writes config.now self_id self.old event reply) }
         // What it has heard grows by the dots that the event brings, and by no more.
         ensures heard { IfOk result (λ reply. HearsExactly self.old event reply self.new) }
+        // Where some node of the definition shows it, one shows what it becomes.
+        ensures shown { IsShown config.now self.old → IsShown config.now self.new }
     {
         let change = self.prepare(config, self_id, &event)?;
         Ok(self.apply(change))
@@ -153,8 +151,11 @@ impl Node {
             return Err(why);
         }
         match &self.run {
-            None => Ok(Change::boot(self.alloc, self_id, self.last)?),
-            Some(run) => Ok(Change::of(self.last, run, event)?),
+            None => {
+                let now = moment_of(event);
+                Ok(Change::boot(self.alloc, config, self_id, self.last, now)?)
+            }
+            Some(run) => Ok(Change::of(config, self.last, run, event)?),
         }
     }
 
@@ -192,11 +193,7 @@ impl Node {
     {
         let Change { last, after, reply } = change;
         self.last = last;
-        match after {
-            After::Same => {}
-            After::Off => self.run = None,
-            After::Runs(run) => self.run = Some(run),
-        }
+        self.run = after.run_after(self.run.take());
         reply
     }
 }
@@ -209,5 +206,15 @@ fn refusal_off(last: u32, event: &Event) -> Option<Refusal>
         Event::Boot { now: _ } if last == u32::MAX => Some(Refusal::IncarnationsUsedUp),
         Event::Boot { now: _ } => None,
         _ => Some(Refusal::Off),
+    }
+}
+
+/// The moment of an event, 0 where it has none.
+fn moment_of(event: &Event) -> u64
+    ensures { result ≡ moment_of event.now }
+{
+    match event {
+        Event::Boot { now } | Event::Tick { now } => *now,
+        _ => 0,
     }
 }

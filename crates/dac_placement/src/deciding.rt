@@ -1,7 +1,7 @@
 //! The verdict.
-ghost use Rattle.std.specs.Prelude.{◌≡◌, ◌<◌};
+ghost use Rattle.std.specs.Prelude.{◌≡◌, ◌<◌, ◌↔◌, IsTrue};
 ghost use Rattle.dac_config.specs.Table.{app_count};
-ghost use Rattle.dac_placement.specs.Placement.{IsVerdict, verdict_of, verdict_by, is_earlier};
+ghost use Rattle.dac_placement.specs.Placement.{IsEarlier, IsVerdict, verdict_of, verdict_by, is_earlier};
 
 use crate::ranking::first_choice;
 use crate::standing::{Standing, standing_of};
@@ -53,10 +53,12 @@ fn upheld(config: &Config, app: AppId, holder: NodeId, first: NodeId) -> Verdict
     }
 }
 
-/// Whether a node's group is earlier than another node's. A node outside the application's list has none.
-fn is_earlier(config: &Config, app: AppId, node: NodeId, other: NodeId) -> bool
+/// Whether a node's group is earlier in the application's list than another node's. A node outside the list has no
+/// group. It takes no memory. (A tuple in the list of OTP's `distributed` is one group.)
+pub fn is_earlier(config: &Config, app: AppId, node: NodeId, other: NodeId) -> bool
     requires { app.0 < app_count config.now }
-    ensures { result ≡ is_earlier config.now app node other }
+    ensures value { result ≡ is_earlier config.now app node other }
+    ensures cases { IsTrue result ↔ IsEarlier config.now app node other }
 {
     match (config.group_of(app, node), config.group_of(app, other)) {
         (Some(early), Some(late)) => early < late,

@@ -22,50 +22,50 @@ use Rattle.dac_play.proofs.EachOther.{tell_each_other}
 use Rattle.dac_play.proofs.Playing.{state_shown}
 
 -- ---- one event
-accepts : (table : Table) (old new : WorldValue) (event : WorldEvent) (answer : Result Reply WorldFault) → Follows old (λ w. happens table w event) answer new → answer ≢ out_of_memory → IsAnswered table old event (is_ok answer) new
+accepts : (table : Table) (old new : WorldValue) (event : WorldEvent) (answer : Result Reply WorldFault) → Follows table old (λ w. happens table w event) answer new → answer ≢ out_of_memory → IsAnswered table old event (is_ok answer) new
 accepts table old new event answer follows enough = record {
   each = λ w shows.
       let p = follows.each w shows in
-      ⊎_elim (λ (done : Done (happens table w event) answer p.0). (ap is_ok done.answered, subst (λ x. Shows x new) done.went_on p.1.1))
+      ⊎_elim (λ (done : Done (happens table w event) answer p.0). (ap is_ok done.answered, subst (λ x. Shows table x new) done.went_on p.1.1))
       (λ (lacked : Lacked w (happens table w event) answer p.0). absurd (enough lacked.answered))
       p.1.0;
 }
 
 -- the same of what may want memory
-pub accepts_if : {E : Type 0} (r : Result Bool E) (table : Table) (old new : WorldValue) (event : WorldEvent) (answer : Result Reply WorldFault) → Follows old (λ w. happens table w event) answer new → IfOk r (λ a. a ≡ is_ok answer) → OnOk r (answer ≢ out_of_memory)
+pub accepts_if : {E : Type 0} (r : Result Bool E) (table : Table) (old new : WorldValue) (event : WorldEvent) (answer : Result Reply WorldFault) → Follows table old (λ w. happens table w event) answer new → IfOk r (λ a. a ≡ is_ok answer) → OnOk r (answer ≢ out_of_memory)
     → IfOk r (λ a. IsAnswered table old event a new)
 accepts_if (Ok a) table old new event answer follows known enough = subst (λ b. IsAnswered table old event b new) (sym known) (accepts table old new event answer follows enough)
 accepts_if (Err e) table old new event answer follows known enough = tt
 
 -- ---- one pair
-pub told_nothing : (table : Table) (old new : WorldValue) (pair : NodeId × NodeId) → IsAnswered table old (shipping pair) false new → Leads old (λ w. told table w pair) new
+pub told_nothing : (table : Table) (old new : WorldValue) (pair : NodeId × NodeId) → IsAnswered table old (shipping pair) false new → Leads table old (λ w. told table w pair) new
 told_nothing table old new pair shipped = record {
   each = λ w shows.
       let ship = shipped.each w shows in
       let by = happens table w (shipping pair) in
-      subst (λ (b : Bool). Shows (cond b (happens table by.world (delivery (length by.world.messages) pair.1)).world by.world) new) ship.0 ship.1;
+      subst (λ (b : Bool). Shows table (cond b (happens table by.world (delivery (length by.world.messages) pair.1)).world by.world) new) ship.0 ship.1;
 }
 
-pub told_one : (table : Table) (old mid new : WorldValue) (pair : NodeId × NodeId) (heard : Bool) → IsAnswered table old (shipping pair) true mid → IsAnswered table mid (delivery (length mid.messages) pair.1) heard new → Leads old (λ w. told table w pair) new
+pub told_one : (table : Table) (old mid new : WorldValue) (pair : NodeId × NodeId) (heard : Bool) → IsAnswered table old (shipping pair) true mid → IsAnswered table mid (delivery (length mid.messages) pair.1) heard new → Leads table old (λ w. told table w pair) new
 told_one table old mid new pair heard shipped delivered = record {
   each = λ w shows.
       let ship = shipped.each w shows in
       let by = happens table w (shipping pair) in
       let hears = delivered.each by.world ship.1 in
-      let counted = subst (λ (n : ℕ). Shows (happens table by.world (delivery n pair.1)).world new) (ap length ship.1.messages) hears.1 in
-      subst (λ (b : Bool). Shows (cond b (happens table by.world (delivery (length by.world.messages) pair.1)).world by.world) new) ship.0 counted;
+      let counted = subst (λ (n : ℕ). Shows table (happens table by.world (delivery n pair.1)).world new) (ap length ship.1.messages) hears.1 in
+      subst (λ (b : Bool). Shows table (cond b (happens table by.world (delivery (length by.world.messages) pair.1)).world by.world) new) ship.0 counted;
 }
 
 -- ---- all pairs
-pub share_none : (table : Table) (v : WorldValue) (all : List (NodeId × NodeId)) → Leads v (λ w. fold (told table) w (take 0 all)) v
+pub share_none : (table : Table) (v : WorldValue) (all : List (NodeId × NodeId)) → Leads table v (λ w. fold (told table) w (take 0 all)) v
 share_none table v all = record { each = λ w shows. shows }
 
 pub share_more : (table : Table) (old mid new : WorldValue) (all : List (NodeId × NodeId)) (i : ℕ) (pair d : NodeId × NodeId) → i < length all → pair ≡ get_or all i d
-    → Leads old (λ w. fold (told table) w (take i all)) mid → Leads mid (λ w. told table w pair) new → Leads old (λ w. fold (told table) w (take (i + 1) all)) new
+    → Leads table old (λ w. fold (told table) w (take i all)) mid → Leads table mid (λ w. told table w pair) new → Leads table old (λ w. fold (told table) w (take (i + 1) all)) new
 share_more table old mid new all i pair d lt here before more = record {
   each = λ w shows.
       let more_is = fold_more (told table) w all i d lt ∙ ap (told table (fold (told table) w (take i all))) (sym here) in
-      subst (λ x. Shows x new) (sym more_is) (more.each (fold (told table) w (take i all)) (before.each w shows));
+      subst (λ x. Shows table x new) (sym more_is) (more.each (fold (told table) w (take i all)) (before.each w shows));
 }
 
 -- ---- who runs
@@ -90,22 +90,22 @@ same_having f g (suc n) same =
     ∙ sym (having_more g n) ∙ ap (having_state g) (add-one n)
 
 -- those that run in the program's world run in the definition's
-runs_shown : (w : ModelWorld) (v : WorldValue) → Shows w v → having_state (state_at v) (length v.nodes) ≡ having_state (state_in w) w.count
-runs_shown w v shows = same_having (state_at v) (state_in w) (length v.nodes) (λ k lt. state_shown w v (numbered k) shows lt) ∙ ap (having_state (state_in w)) shows.count
+runs_shown : (table : Table) (w : ModelWorld) (v : WorldValue) → Shows table w v → having_state (state_at v) (length v.nodes) ≡ having_state (state_in w) w.count
+runs_shown table w v shows = same_having (state_at v) (state_in w) (length v.nodes) (λ k lt. state_shown table w v (numbered k) shows lt) ∙ ap (having_state (state_in w)) shows.count
 
 pub share_all : (table : Table) (old new : WorldValue) (all : List (NodeId × NodeId)) (i count : ℕ) → length all ≤ i → length old.nodes ≡ count → all ≡ pairs (having_state (state_at old) count)
-    → Leads old (λ w. fold (told table) w (take i all)) new → Leads old (shared table) new
+    → Leads table old (λ w. fold (told table) w (take i all)) new → Leads table old (shared table) new
 share_all table old new all i count le is_count is_all leads = record {
   each = λ w shows.
-      let all_is = is_all ∙ ap (λ n. pairs (having_state (state_at old) n)) (sym is_count) ∙ ap pairs (runs_shown w old shows) in
-      subst (λ l. Shows (fold (told table) w l) new) (take_all i all le ∙ all_is) (leads.each w shows);
+      let all_is = is_all ∙ ap (λ n. pairs (having_state (state_at old) n)) (sym is_count) ∙ ap pairs (runs_shown table w old shows) in
+      subst (λ l. Shows table (fold (told table) w l) new) (take_all i all le ∙ all_is) (leads.each w shows);
 }
 
 -- the pairs are those of the nodes that run
 pub shares_all : (table : Table) (old new : WorldValue) (all : List (NodeId × NodeId)) (i count : ℕ) → length all ≤ i → length old.nodes ≡ count → all ≡ pairs (having_state (state_at old) count)
-    → Leads old (λ w. fold (told table) w (take i all)) new → IsShared table old new
+    → Leads table old (λ w. fold (told table) w (take i all)) new → IsShared table old new
 shares_all table old new all i count le is_count is_all leads = record {
   pairs = all;
   each_other = subst (TellsEachOther (HasState (state_at old) (length old.nodes))) (sym (is_all ∙ ap (λ n. pairs (having_state (state_at old) n)) (sym is_count))) (tell_each_other (λ node. is_some (state_at old node)) (length old.nodes));
-  leads = record { each = λ w shows. subst (λ l. Shows (fold (told table) w l) new) (take_all i all le) (leads.each w shows) };
+  leads = record { each = λ w shows. subst (λ l. Shows table (fold (told table) w l) new) (take_all i all le) (leads.each w shows) };
 }

@@ -1,4 +1,5 @@
 pub mod Texts
+pub mod Ticks
 pub mod Endings
 pub mod Checks
 pub mod Answers

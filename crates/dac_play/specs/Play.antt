@@ -37,7 +37,7 @@ HasState state count node = (node.0 < count) × IsTrue (is_some (state node))
 pub record IsShared (table : Table) (old new : WorldValue) : Type 0 where
   pub pairs : List (NodeId × NodeId)
   pub each_other : TellsEachOther (HasState (state_at old) (length old.nodes)) pairs
-  pub leads : Leads old (λ w. fold (told table) w pairs) new
+  pub leads : Leads table old (λ w. fold (told table) w pairs) new
 
 -- as what a node runs, and the page of its state; a node that is off has none
 abbrev pub shown_text : Table → NodeId → Option Origin → Option StateValue → List ℕ
@@ -59,12 +59,12 @@ abbrev pub counts_in : ModelWorld → Counts
 counts_in w = record { operations = length w.operations; messages = length w.messages }
 
 -- the world after a line
-abbrev pub world_after : Table → ModelWorld → ScriptLine → ModelWorld
-world_after table w (says.Event event) = (happens table w event).world
-world_after table w says.Share = shared table w
-world_after table w (says.Page node) = w
-world_after table w (says.State node) = w
-world_after table w (says.Same first second) = w
+abbrev pub after_line : Table → ModelWorld → ScriptLine → ModelWorld
+after_line table w (says.Event event) = (happens table w event).world
+after_line table w says.Share = shared table w
+after_line table w (says.Page node) = w
+after_line table w (says.State node) = w
+after_line table w (says.Same first second) = w
 
 -- what is printed for a line
 abbrev pub line_text : Table → ModelWorld → ScriptLine → List ℕ
@@ -77,8 +77,8 @@ line_text table w (says.Same first second) = compare_text (node_name table first
 -- what is printed for a script, line by line
 abbrev pub script_text : Table → ModelWorld → List ScriptLine → List ℕ
 script_text table w [] = []
-script_text table w (line ∷ lines) = line_text table w line ++ script_text table (world_after table w line) lines
+script_text table w (line ∷ lines) = line_text table w line ++ script_text table (after_line table w line) lines
 
 -- From old, a line prints this text and leads to new, as in each of the definition's worlds that shows old.
 pub record PlaysLine (table : Table) (old : WorldValue) (line : ScriptLine) (text : List ℕ) (new : WorldValue) : Type 0 where
-  pub each : (w : ModelWorld) → Shows w old → (text ≡ line_text table w line) × Shows (world_after table w line) new
+  pub each : (w : ModelWorld) → Shows table w old → (text ≡ line_text table w line) × Shows table (after_line table w line) new

@@ -1,27 +1,20 @@
 -- A script in the words of runs: the events that its lines are.
 use Rattle.std.specs.Prelude.{◌≡◌, ℕ, take, List, [], ◌∷◌, ◌++◌, Result, length, if◌then◌else◌}
 use Rattle.std.specs.Result.{is_ok}
-use Rattle.std.specs.List.{AllByRecursion}
 use Rattle.dac_base.specs.declared.NodeId.{NodeId}
 use Rattle.dac_config.specs.Table.{Table}
 use Rattle.dac_events.specs.declared.WorldEvent.{WorldEvent}
 use Rattle.dac_messages.specs.declared.reply.Reply.{Reply}
 use Rattle.dac_worlds.specs.declared.fault.WorldFault.{WorldFault}
 use Rattle.dac_worlds.specs.WorldValue.{WorldValue}
-use Rattle.dac_worlds.specs.ModelWorld.{ModelWorld, WorldStepped, Shows, RanAs, start, happens, out_of_memory}
-use Rattle.dac_worlds.specs.SetWorld.{set_run, no_sets}
-use Rattle.dac_worlds.specs.Convergence.{EachIsMeaning, Agrees, HoldsSets}
-use Rattle.dac_worlds.specs.Fits.{HearsAllThatFits}
+use Rattle.dac_worlds.specs.ModelWorld.{ModelWorld, WorldStepped, Shows, RanAs, start, happens}
+use Rattle.dac_worlds.specs.Converges.{Converges}
+use Rattle.dac_worlds.specs.EveryList.{answers_of, IsEnough}
 use Rattle.dac_script.specs.declared.line.ScriptLine.{ScriptLine}
 use Rattle.dac_script.specs.declared.line.ScriptLine.TheVariants as says
 use Rattle.dac_play.specs.Pairs.{pairs, TellsEachOther}
 use Rattle.dac_play.specs.Sharing.{state_in, having_state, shipping, delivery, told}
-use Rattle.dac_play.specs.Play.{HasState, world_after}
-
--- the answers to these events, one after another
-abbrev pub answers_to : Table → ModelWorld → List WorldEvent → List (Result Reply WorldFault)
-answers_to t w [] = []
-answers_to t w (e ∷ es) = (happens t w e).answer ∷ answers_to t (happens t w e).world es
+use Rattle.dac_play.specs.Play.{HasState, after_line}
 
 -- what follows a ship to this node: where anything was shipped, its delivery
 abbrev pub deliveries : NodeId → WorldStepped → List WorldEvent
@@ -47,12 +40,12 @@ line_events t w (says.Same first second) = []
 -- the events that lines are, one after another
 abbrev pub events_from : Table → ModelWorld → List ScriptLine → List WorldEvent
 events_from t w [] = []
-events_from t w (line ∷ lines) = line_events t w line ++ events_from t (world_after t w line) lines
+events_from t w (line ∷ lines) = line_events t w line ++ events_from t (after_line t w line) lines
 
 -- the world after these lines
 abbrev pub world_from : Table → ModelWorld → List ScriptLine → ModelWorld
 world_from t w [] = w
-world_from t w (line ∷ lines) = world_from t (world_after t w line) lines
+world_from t w (line ∷ lines) = world_from t (after_line t w line) lines
 
 -- the events of a script
 abbrev pub events_in : Table → List ScriptLine → List WorldEvent
@@ -60,20 +53,16 @@ events_in t lines = events_from t (start t) lines
 
 -- the answers to the events of a script
 abbrev pub answers_in : Table → List ScriptLine → List (Result Reply WorldFault)
-answers_in t lines = answers_to t (start t) (events_in t lines)
+answers_in t lines = answers_of t (start t) (events_in t lines)
 
--- The program's world after these lines is where a run from the start comes to by their events, and what every run
--- leaves holds of it. No event is answered by want of memory, so what comes to a running node is heard.
+-- The program's world after these lines is where a run from the start comes to by their events, and it converges. No event is answered by want of memory.
 pub record IsRunOf (t : Table) (lines : List ScriptLine) (v : WorldValue) : Type 0 where
   pub ran : RanAs t (events_in t lines) (answers_in t lines) v
-  pub meanings : EachIsMeaning v
-  pub agree : Agrees v
-  pub sets : HoldsSets v (set_run no_sets (events_in t lines) (answers_in t lines))
-  pub enough : AllByRecursion (λ (answer : Result Reply WorldFault). ¬ (answer ≡ out_of_memory)) (answers_in t lines)
-  pub heard : HearsAllThatFits no_sets (events_in t lines) (answers_in t lines)
+  pub converges : Converges t (events_in t lines) (answers_in t lines) v
+  pub enough : IsEnough (answers_in t lines)
 
 -- After each number of lines of a script its world is that of a run from the start, by the events that these lines
 -- are; a share is told from each node that runs to each other one.
 pub record PlaysRuns (t : Table) (script : List ScriptLine) : Type 0 where
-  pub runs : (n : ℕ) (v : WorldValue) → Shows (world_from t (start t) (take n script)) v → IsRunOf t (take n script) v
+  pub runs : (n : ℕ) (v : WorldValue) → Shows t (world_from t (start t) (take n script)) v → IsRunOf t (take n script) v
   pub shares : (n : ℕ) → let w = world_from t (start t) (take n script) in TellsEachOther (HasState (state_in w) w.count) (pairs_in w)

@@ -1,7 +1,7 @@
 -- What `share` does in the definition's world.
 use Rattle.std.specs.Prelude.{◌≡◌, ℕ, Bool, List, length, map, filter, fold, Option, if◌then◌else◌}
 use Rattle.std.specs.List.{range_with_len}
-use Rattle.std.specs.Option.{is_some}
+use Rattle.std.specs.Option.{is_some, option_map}
 use Rattle.std.specs.Result.{is_ok}
 use Rattle.dac_base.specs.declared.NodeId.{NodeId}
 use Rattle.dac_dots.specs.declared.dot.Origin.{Origin}
@@ -9,19 +9,18 @@ use Rattle.dac_config.specs.Table.{Table}
 use Rattle.dac_events.specs.declared.What.TheVariants as what
 use Rattle.dac_events.specs.declared.WorldEvent.{WorldEvent}
 use Rattle.dac_meaning.specs.StateValue.{StateValue}
-use Rattle.dac_node.specs.NodeValue.{origin_of, state_of}
 use Rattle.dac_worlds.specs.WorldValue.{WorldValue}
-use Rattle.dac_node.specs.ModelNode.{shown}
+use Rattle.dac_node.specs.ModelNode.{ModelRun, joined}
 use Rattle.dac_worlds.specs.ModelWorld.{ModelWorld, WorldStepped, Shows, happens, numbered}
 use Rattle.dac_play.specs.Pairs.{pairs}
 
 -- the state of a node of the definition's world, where it runs
 abbrev pub state_in : ModelWorld → NodeId → Option StateValue
-state_in w node = state_of (shown (w.node node))
+state_in w node = option_map (λ (r : ModelRun). joined r.log) (w.node node).run
 
 -- the present incarnation of a node of the definition's world, where it runs
 abbrev pub origin_in : ModelWorld → NodeId → Option Origin
-origin_in w node = origin_of (shown (w.node node))
+origin_in w node = option_map (λ (r : ModelRun). r.origin) (w.node node).run
 
 -- the nodes of the first so many numbers that have a state, in the order of their names
 abbrev pub having_state : (NodeId → Option StateValue) → ℕ → List NodeId
@@ -51,10 +50,10 @@ abbrev pub shared : Table → ModelWorld → ModelWorld
 shared table w = fold (told table) w (pairs (having_state (state_in w) w.count))
 
 -- From old, the program's world goes on to new as each of the definition's worlds that shows old does.
-pub record Leads (old : WorldValue) (by : ModelWorld → ModelWorld) (new : WorldValue) : Type 0 where
-  pub each : (w : ModelWorld) → Shows w old → Shows (by w) new
+pub record Leads (table : Table) (old : WorldValue) (by : ModelWorld → ModelWorld) (new : WorldValue) : Type 0 where
+  pub each : (w : ModelWorld) → Shows table w old → Shows table (by w) new
 
 -- From old, the program's world accepts this event or refuses it, as each of the definition's worlds that shows
 -- old does, and goes on to new.
 pub record IsAnswered (table : Table) (old : WorldValue) (event : WorldEvent) (accepted : Bool) (new : WorldValue) : Type 0 where
-  pub each : (w : ModelWorld) → Shows w old → (accepted ≡ is_ok (happens table w event).answer) × Shows (happens table w event).world new
+  pub each : (w : ModelWorld) → Shows table w old → (accepted ≡ is_ok (happens table w event).answer) × Shows table (happens table w event).world new

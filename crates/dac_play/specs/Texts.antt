@@ -1,6 +1,9 @@
 -- The lines that the program prints.
 use Rattle.std.specs.Prelude.{ℕ, Bool, true, false, List, ◌++◌, codes}
 use Rattle.std.specs.Fmt.{decimal}
+use Rattle.std.specs.FinSet as set
+use Rattle.dac_messages.specs.declared.message.Body.{Body}
+use Rattle.dac_messages.specs.declared.message.Body.TheVariants.{Whole, Interval, Nothing}
 use Rattle.dac_tokens.specs.Faults.{number_of, name_of}
 use Rattle.dac_tokens.specs.declared.fault.ConfigFault.{ConfigFault}
 use Rattle.hex.specs.Hex.{encode_lower}
@@ -20,9 +23,11 @@ abbrev pub issued_text : ℕ → List ℕ → ℕ → ℕ → List ℕ
 issued_text operation node incarnation counter =
     codes "issued " ++ (decimal operation ++ (codes " " ++ (name_text node ++ (codes " " ++ (decimal incarnation ++ (codes " " ++ (decimal counter ++ codes "\n")))))))
 
--- a whole state on its way: the message's number, and how many dots the state heard
-abbrev pub shipped_text : ℕ → ℕ → List ℕ
-shipped_text message heard = codes "shipped " ++ (decimal message ++ (codes " whole " ++ (decimal heard ++ codes "\n")))
+-- a message on its way: its number, what it brings, and how many dots the state that it brings has heard
+abbrev pub shipped_text : ℕ → Body → List ℕ
+shipped_text message (Whole s) = codes "shipped " ++ (decimal message ++ (codes " whole " ++ (decimal (set.len s.heard) ++ codes "\n")))
+shipped_text message (Interval s) = codes "shipped " ++ (decimal message ++ (codes " interval " ++ (decimal (set.len s.heard) ++ codes "\n")))
+shipped_text message Nothing = codes "shipped " ++ (decimal message ++ codes " nothing\n")
 
 -- messages were shipped and delivered from each node that runs to each other one
 abbrev pub shared_text : ℕ → List ℕ
@@ -30,6 +35,14 @@ shared_text messages = codes "shared " ++ (decimal messages ++ codes "\n")
 
 abbrev pub crashed_text : List ℕ
 crashed_text = codes "crashed\n"
+
+-- a tick that the start gate holds back
+abbrev pub held_text : List ℕ
+held_text = codes "held\n"
+
+-- a node that waited in vain for a mandatory one, and went down
+abbrev pub gave_up_text : List ℕ
+gave_up_text = codes "gave up\n"
 
 abbrev pub heard_text : Bool → List ℕ
 heard_text true = codes "heard new\n"

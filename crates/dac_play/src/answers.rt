@@ -1,15 +1,16 @@
-//! The line for what the world answers to an event.
+//! The lines for what the world answers to an event.
 
 ghost use Rattle.std.specs.Prelude.{◌≡◌, ◌≢◌, ◌<◌, IfOk, OnOk};
 ghost use Rattle.dac_worlds.specs.ModelWorld.{out_of_memory};
-ghost use Rattle.dac_config.specs.Table.{node_count};
+ghost use Rattle.dac_config.specs.Table.{node_count, node_name};
 ghost use Rattle.dac_play.specs.Answers.{reply_text, asked_number, fault_text, answer_text};
 
 use crate::texts::{
-    booted_line, crashed_line, heard_line, issued_line, no_message_line, no_operation_line,
-    refused_line, shipped_line,
+    booted_line, crashed_line, gave_up_line, heard_line, held_line, issued_line, no_message_line,
+    no_operation_line, refused_line, shipped_line,
 };
-use dac_base::NoMemory;
+use crate::ticks::ticked_lines;
+use dac_base::{NoMemory, NodeId};
 use dac_config::Config;
 use dac_core::{Refusal, Reply, What, WorldEvent, WorldFault};
 use std::alloc::Global;
@@ -23,14 +24,16 @@ pub struct Counts {
     pub messages: usize,
 }
 
-/// The line for a reply of the node where the event happened.
+/// The lines for a reply of the node where the event happened.
 fn reply_line(
     alloc: Global,
-    node: &[u8],
+    config: &Config,
+    node: NodeId,
     reply: &Reply,
     counts: Counts,
 ) -> Result<Vec<u8>, NoMemory>
-    ensures { IfOk result (λ line. line.items ≡ reply_text node.now reply.now counts) }
+    requires { node.0 < node_count config.now }
+    ensures { IfOk result (λ line. line.items ≡ reply_text config.now (node_name config.now node) reply.now counts) }
 {
     match reply {
         Reply::Booted(operation) => {
@@ -43,12 +46,25 @@ fn reply_line(
         }
         Reply::Issued(operation) => {
             let dot = operation.dot();
-            issued_line(alloc, counts.operations, node, dot.origin.inc, dot.n)
+            let name = config.node_name(node);
+            issued_line(alloc, counts.operations, name, dot.origin.inc, dot.n)
         }
-        Reply::Shipped(message) => {
-            let heard = message.body.heard().len();
-            shipped_line(alloc, counts.messages, heard)
+        Reply::Ticked { ops, passed } => ticked_lines(
+            alloc,
+            config,
+            counts.operations,
+            ops.as_slice(),
+            passed.as_slice(),
+        ),
+        Reply::Held => {
+            let line = Vec::from_slice(alloc, held_line().as_bytes())?;
+            Ok(line)
         }
+        Reply::GaveUp => {
+            let line = Vec::from_slice(alloc, gave_up_line().as_bytes())?;
+            Ok(line)
+        }
+        Reply::Shipped(message) => shipped_line(alloc, counts.messages, &message.body),
         Reply::Heard(fresh) => {
             let line = Vec::from_slice(alloc, heard_line(*fresh).as_bytes())?;
             Ok(line)
@@ -84,7 +100,7 @@ fn fault_line(alloc: Global, what: What, fault: WorldFault) -> Result<Vec<u8>, N
     }
 }
 
-/// The line for what the world answered to an event, which left these counts.
+/// The lines for what the world answered to an event, which left these counts.
 ///
 /// [`NoMemory`] is also the answer where the world answered so: such an event is no event, and the run ends.
 pub fn answer_line(
@@ -99,7 +115,7 @@ pub fn answer_line(
     ensures enough { OnOk result (answer.now ≢ out_of_memory) }
 {
     match answer {
-        Ok(reply) => reply_line(alloc, config.node_name(event.node), reply, counts),
+        Ok(reply) => reply_line(alloc, config, event.node, reply, counts),
         Err(fault) => fault_line(alloc, event.what, *fault),
     }
 }

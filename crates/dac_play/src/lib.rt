@@ -1,5 +1,5 @@
 //! What `distac check` and `distac sim` do with an input: one prints the configuration in its one form, the other
-//! plays a script in a world of controllers and prints a line for each of its lines.
+//! plays a script in a world of controllers and prints what comes of each of its lines.
 //!
 //! The promises are on [`check_source`] and [`simulate_source`]. Where [`simulate_source`] is done, what it wrote is,
 //! line by line, what the script that the input says does in the definition's world; each printed line is the text
@@ -15,13 +15,15 @@ mod sharing;
 mod sim;
 mod states;
 mod texts;
+mod ticks;
 
 pub use answers::{Counts, answer_line};
 pub use checking::{canonical, check, check_source};
 pub use ending::{Ending, print, refuse};
 pub use sim::{Stop, play, simulate, simulate_source};
 pub use texts::{
-    OUT_OF_MEMORY, booted_line, config_fault_line, crashed_line, failure_line, heard_line,
-    input_fault_line, issued_line, no_message_line, no_operation_line, refused_line, same_line,
-    script_fault_line, shared_line, shipped_line, state_line,
+    OUT_OF_MEMORY, booted_line, config_fault_line, crashed_line, failure_line, gave_up_line,
+    heard_line, held_line, input_fault_line, issued_line, no_message_line, no_operation_line,
+    refused_line, same_line, script_fault_line, shared_line, shipped_line, state_line,
 };
+pub use ticks::ticked_lines;

@@ -62,7 +62,7 @@ fn accepts(config: &Config, world: &mut World, event: &WorldEvent) -> Result<boo
 /// A node ships to another one, and the message is delivered at once.
 fn tell(config: &Config, world: &mut World, pair: (NodeId, NodeId)) -> Result<(), NoMemory>
     ensures count { length world.new.nodes ≡ length world.old.nodes }
-    ensures leads { OnOk result (Leads world.old (λ w. told config.now w pair) world.new) }
+    ensures leads { OnOk result (Leads config.now world.old (λ w. told config.now w pair) world.new) }
 {
     let (from, to) = pair;
     let ship = WorldEvent {
@@ -89,7 +89,7 @@ pub fn share(alloc: Global, config: &Config, world: &mut World) -> Result<(), No
     requires { length world.old.nodes ≡ node_count config.now }
     ensures count { length world.new.nodes ≡ length world.old.nodes }
     ensures tells { OnOk result (IsShared config.now world.old world.new) }
-    ensures leads { OnOk result (Leads world.old (shared config.now) world.new) }
+    ensures leads { OnOk result (Leads config.now world.old (shared config.now) world.new) }
 {
     let nodes = running(alloc, config, world)?;
     let pairs = all_pairs(alloc, &nodes)?;

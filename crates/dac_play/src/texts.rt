@@ -1,10 +1,11 @@
 //! The lines that the program prints, each ended by a line feed.
 
 ghost use Rattle.std.specs.Prelude.{◌≡◌, IfOk};
-ghost use Rattle.dac_play.specs.Texts.{booted_text, crashed_text, issued_text, shipped_text, shared_text, heard_text, no_message_text, no_operation_text, refused_text, same_text, state_text, input_fault_text, script_fault_text, config_fault_text, failure_text};
+ghost use Rattle.dac_play.specs.Texts.{booted_text, crashed_text, held_text, gave_up_text, issued_text, shipped_text, shared_text, heard_text, no_message_text, no_operation_text, refused_text, same_text, state_text, input_fault_text, script_fault_text, config_fault_text, failure_text};
 
 use dac_base::NoMemory;
 use dac_config::printed_name;
+use dac_core::Body;
 use dac_script::{Failure, InputFault, ScriptFault};
 use dac_tokens::ConfigFault;
 use std::alloc::Global;
@@ -45,11 +46,36 @@ pub fn crashed_line() -> &'static str
     "crashed\n"
 }
 
-/// The message of this number was shipped; its body is a whole state that heard this many dots.
-pub fn shipped_line(alloc: Global, message: usize, heard: u128) -> Result<Vec<u8>, NoMemory>
-    ensures { IfOk result (λ line. line.items ≡ shipped_text message heard) }
+/// A node still waits for others, and did nothing.
+pub fn held_line() -> &'static str
+    ensures { result.now ≡ held_text }
 {
-    let line = format!(in alloc; "shipped {message} whole {heard}\n")?;
+    "held\n"
+}
+
+/// A node waited in vain for a mandatory one, and went down.
+pub fn gave_up_line() -> &'static str
+    ensures { result.now ≡ gave_up_text }
+{
+    "gave up\n"
+}
+
+/// The message of this number was shipped with this body: how many dots the state that it brings has heard, if it
+/// brings one.
+pub fn shipped_line(alloc: Global, message: usize, body: &Body) -> Result<Vec<u8>, NoMemory>
+    ensures { IfOk result (λ line. line.items ≡ shipped_text message body.now) }
+{
+    let line = match body {
+        Body::Whole(state) => {
+            let heard = state.heard().len();
+            format!(in alloc; "shipped {message} whole {heard}\n")?
+        }
+        Body::Interval(state) => {
+            let heard = state.heard().len();
+            format!(in alloc; "shipped {message} interval {heard}\n")?
+        }
+        Body::Nothing => format!(in alloc; "shipped {message} nothing\n")?,
+    };
     Ok(line.into_bytes())
 }
 

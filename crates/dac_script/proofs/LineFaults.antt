@@ -19,7 +19,7 @@ use Rattle.dac_script.specs.declared.line.Verb.{Verb}
 use Rattle.dac_script.specs.declared.line.Verb.TheVariants as verb
 use Rattle.dac_script.specs.Faults.{script_number}
 use Rattle.dac_script.specs.Words.{name_in, number_in}
-use Rattle.dac_script.specs.Asked.{◌>>=◌, one, three, named, truth, actor, node_and_number, node_and_about, wish_in}
+use Rattle.dac_script.specs.Asked.{◌>>=◌, one, three, named, truth, actor, node_and_number, node_and_about, node_and_app, wish_in}
 use Rattle.dac_script.specs.Line.{verb_of, said_by, line_of, permit_line, share_line, same_line}
 use Rattle.dac_script.specs.LineFaults.{Role, roles_of, IsNoFlag, IsWrong, AreWrong, HasFault, IsFaultless, IsLeast}
 use Rattle.dac_script.specs.LineFaults.Role.{Actor, Application, About, Number, Flag}
@@ -163,6 +163,20 @@ module _ (table : Table) where
       none_left P (are_low 6 roles words refl (actor_known a name is node known, (given BadName (name_in b) other also, tt))))))
   about_judged (a ∷ b ∷ c ∷ words) = miscounted (Actor ∷ About ∷ []) (a ∷ b ∷ c ∷ words) (λ e. absurd (omega (arith, e)))
 
+  app_judged : (words : List (List ℕ)) → Judges (AreWrong table (Actor ∷ Application ∷ []) words) (node_and_app table words)
+  app_judged [] = miscounted (Actor ∷ Application ∷ []) [] (λ e. absurd (omega (arith, e)))
+  app_judged (a ∷ []) = miscounted (Actor ∷ Application ∷ []) (a ∷ []) (λ e. absurd (omega (arith, e)))
+  app_judged (a ∷ b ∷ []) =
+      let roles = Actor ∷ Application ∷ [] in
+      let words = a ∷ b ∷ [] in
+      let P = AreWrong table roles words in
+      let low = are_low 3 roles words refl (all_low roles words) in
+      look P BadName (name_in a) _ low (λ none. inr (0, (Actor, a), omega arith, refl, inl (refl, none))) (λ name is.
+      look P BadName (name_in b) _ low (λ none. inr (1, (Application, b), omega arith, refl, (refl, none))) (λ app also.
+      look P UnknownActor (node_named table name) _ (are_low 5 roles words refl (actor_named a name is, (higher 5 6 _ (omega arith) (given BadName (name_in b) app also), tt))) (λ none. inr (0, (Actor, a), omega arith, refl, actor_unknown a name is none)) (λ node known.
+      none_left P (are_low 6 roles words refl (actor_known a name is node known, (given BadName (name_in b) app also, tt))))))
+  app_judged (a ∷ b ∷ c ∷ words) = miscounted (Actor ∷ Application ∷ []) (a ∷ b ∷ c ∷ words) (λ e. absurd (omega (arith, e)))
+
   one_judged : (g : NodeId → ScriptLine) (words : List (List ℕ)) → Judges (AreWrong table (Actor ∷ []) words) (one words >>= λ word. named word >>= λ name. actor table name >>= λ node. Ok (g node))
   one_judged g [] = miscounted (Actor ∷ []) [] (λ e. absurd (omega (arith, e)))
   one_judged g (a ∷ []) =
@@ -247,6 +261,8 @@ module _ (table : Table) where
   judged_by (Some verb.Permit) words = permit_judged words
   judged_by (Some verb.Start) words = command_judged _ words
   judged_by (Some verb.Stop) words = command_judged _ words
+  judged_by (Some verb.Takeover) words = said _ _ (node_and_app table words) (app_judged words)
+  judged_by (Some verb.Tick) words = said _ _ (node_and_number table words) (number_judged words)
   judged_by (Some verb.Ship) words = said _ _ (node_and_about table words) (about_judged words)
   judged_by (Some verb.Hear) words = said _ _ (node_and_number table words) (number_judged words)
   judged_by (Some verb.Hand) words = said _ _ (node_and_number table words) (number_judged words)

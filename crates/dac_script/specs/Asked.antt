@@ -86,6 +86,15 @@ node_and_about table words = do
   node ← actor table name
   Ok (node, about table subject)
 
+-- the node where something happens, and the application that it is about
+abbrev pub node_and_app : Table → List (List ℕ) → Result (NodeId × AppId) ScriptFaultKind
+node_and_app table words = do
+  both ← two words
+  name ← named both.0
+  app ← named both.1
+  node ← actor table name
+  Ok (node, application table app)
+
 -- the node where a command is given, and the application and the node that it is about
 abbrev pub wish_in : Table → List ℕ → List ℕ → List ℕ → Result Wish ScriptFaultKind
 wish_in table at app subject = do

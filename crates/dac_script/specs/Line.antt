@@ -12,7 +12,7 @@ use Rattle.dac_script.specs.declared.line.ScriptLine.{ScriptLine}
 use Rattle.dac_script.specs.declared.line.ScriptLine.TheVariants as says
 use Rattle.dac_script.specs.declared.line.Verb.{Verb}
 use Rattle.dac_script.specs.declared.line.Verb.TheVariants as verb
-use Rattle.dac_script.specs.Asked.{◌>>=◌, one, two, three, four, named, truth, actor, node_and_number, node_and_about, wish_in}
+use Rattle.dac_script.specs.Asked.{◌>>=◌, one, two, three, four, named, truth, actor, node_and_number, node_and_about, node_and_app, wish_in}
 
 -- the commands that operators give
 abbrev pub command_verb : List ℕ → Option Verb
@@ -21,13 +21,15 @@ command_verb word =
     else (if bytes_eq word (codes "permit") then Some verb.Permit
     else (if bytes_eq word (codes "start") then Some verb.Start
     else (if bytes_eq word (codes "stop") then Some verb.Stop
-    else None)))
+    else (if bytes_eq word (codes "takeover") then Some verb.Takeover
+    else None))))
 
 -- the first words of lines
 abbrev pub verb_of : List ℕ → Option Verb
 verb_of word =
     if bytes_eq word (codes "boot") then Some verb.Boot
     else (if bytes_eq word (codes "crash") then Some verb.Crash
+    else (if bytes_eq word (codes "tick") then Some verb.Tick
     else (if bytes_eq word (codes "ship") then Some verb.Ship
     else (if bytes_eq word (codes "hear") then Some verb.Hear
     else (if bytes_eq word (codes "hand") then Some verb.Hand
@@ -35,7 +37,7 @@ verb_of word =
     else (if bytes_eq word (codes "page") then Some verb.Page
     else (if bytes_eq word (codes "state") then Some verb.State
     else (if bytes_eq word (codes "same") then Some verb.Same
-    else command_verb word))))))))
+    else command_verb word)))))))))
 
 -- something happens at a node
 abbrev pub happens : NodeId → What → Result ScriptLine ScriptFaultKind
@@ -76,6 +78,16 @@ stop_line table words = do
   all ← three words
   wish ← wish_in table all.0 all.1 all.2
   happens wish.at (what.Command (command.Stop wish.app wish.node))
+
+abbrev pub takeover_line : Table → List (List ℕ) → Result ScriptLine ScriptFaultKind
+takeover_line table words = do
+  both ← node_and_app table words
+  happens both.0 (what.Command (command.Takeover both.1))
+
+abbrev pub tick_line : Table → List (List ℕ) → Result ScriptLine ScriptFaultKind
+tick_line table words = do
+  both ← node_and_number table words
+  happens both.0 (what.Tick both.1)
 
 abbrev pub ship_line : Table → List (List ℕ) → Result ScriptLine ScriptFaultKind
 ship_line table words = do
@@ -127,6 +139,8 @@ said_by (Some verb.Down) table words = down_line table words
 said_by (Some verb.Permit) table words = permit_line table words
 said_by (Some verb.Start) table words = start_line table words
 said_by (Some verb.Stop) table words = stop_line table words
+said_by (Some verb.Takeover) table words = takeover_line table words
+said_by (Some verb.Tick) table words = tick_line table words
 said_by (Some verb.Ship) table words = ship_line table words
 said_by (Some verb.Hear) table words = hear_line table words
 said_by (Some verb.Hand) table words = hand_line table words

@@ -2,7 +2,7 @@
 
 ghost use Rattle.std.specs.Prelude.{◌≡◌, ◌<◌, IfOk, map};
 ghost use Rattle.dac_config.specs.Table.{node_count};
-ghost use Rattle.dac_script.specs.Asked.{seen, one, two, three, four, named, numbered, truth, actor, about, application, node_and_number, node_and_about, wish_in};
+ghost use Rattle.dac_script.specs.Asked.{seen, one, two, three, four, named, numbered, truth, actor, about, application, node_and_number, node_and_about, node_and_app, wish_in};
 
 use crate::fault::ScriptFaultKind;
 use crate::words::{name_in, number_in};
@@ -130,6 +130,18 @@ pub fn node_and_about(config: &Config, words: &[&[u8]]) -> Result<(NodeId, NodeI
     let subject = named(subject)?;
     let node = actor(config, node)?;
     Ok((node, about(config, subject)))
+}
+
+/// `NODE APP`
+pub fn node_and_app(config: &Config, words: &[&[u8]]) -> Result<(NodeId, AppId), ScriptFaultKind>
+    ensures words { result ≡ node_and_app config.now (map (λ word. word.now) words.now) }
+    ensures below { IfOk result (λ both. both.0.0 < node_count config.now) }
+{
+    let (node, app) = two(words)?;
+    let node = named(node)?;
+    let app = named(app)?;
+    let node = actor(config, node)?;
+    Ok((node, application(config, app)))
 }
 
 /// `NODE APP ABOUT`

@@ -2,10 +2,11 @@
 
 ghost use Rattle.std.specs.Prelude.{◌≡◌, ℕ, IfOk, map};
 ghost use Rattle.dac_config.specs.Table.{node_count};
-ghost use Rattle.dac_script.specs.Line.{command_verb, verb_of, boot_line, crash_line, down_line, permit_line, start_line, stop_line, ship_line, hear_line, hand_line, share_line, page_line, state_line, same_line, line_of, HasActors};
+ghost use Rattle.dac_script.specs.Line.{command_verb, verb_of, boot_line, crash_line, down_line, permit_line, start_line, stop_line, takeover_line, tick_line, ship_line, hear_line, hand_line, share_line, page_line, state_line, same_line, line_of, HasActors};
 
 use crate::asked::{
-    actor, four, named, node_and_about, node_and_number, one, three, truth, two, wish_in,
+    actor, four, named, node_and_about, node_and_app, node_and_number, one, three, truth, two,
+    wish_in,
 };
 use crate::fault::ScriptFaultKind;
 use dac_base::NodeId;
@@ -36,6 +37,8 @@ enum Verb {
     Permit,
     Start,
     Stop,
+    Takeover,
+    Tick,
     Ship,
     Hear,
     Hand,
@@ -61,6 +64,9 @@ fn command_verb(word: &[u8]) -> Option<Verb>
     if word == b"stop".as_slice() {
         return Some(Verb::Stop);
     }
+    if word == b"takeover".as_slice() {
+        return Some(Verb::Takeover);
+    }
     None
 }
 
@@ -72,6 +78,9 @@ fn verb_of(word: &[u8]) -> Option<Verb>
     }
     if word == b"crash".as_slice() {
         return Some(Verb::Crash);
+    }
+    if word == b"tick".as_slice() {
+        return Some(Verb::Tick);
     }
     if word == b"ship".as_slice() {
         return Some(Verb::Ship);
@@ -185,6 +194,30 @@ fn stop(config: &Config, words: &[&[u8]]) -> Result<ScriptLine, ScriptFaultKind>
     }))
 }
 
+/// `takeover NODE APP`
+fn takeover(config: &Config, words: &[&[u8]]) -> Result<ScriptLine, ScriptFaultKind>
+    ensures line { result ≡ takeover_line config.now (map (λ word. word.now) words.now) }
+    ensures actors { IfOk result (HasActors (node_count config.now)) }
+{
+    let (node, app) = node_and_app(config, words)?;
+    Ok(ScriptLine::Event(WorldEvent {
+        node,
+        what: What::Command(Command::Takeover { app }),
+    }))
+}
+
+/// `tick NODE NOW`
+fn tick(config: &Config, words: &[&[u8]]) -> Result<ScriptLine, ScriptFaultKind>
+    ensures line { result ≡ tick_line config.now (map (λ word. word.now) words.now) }
+    ensures actors { IfOk result (HasActors (node_count config.now)) }
+{
+    let (node, now) = node_and_number(config, words)?;
+    Ok(ScriptLine::Event(WorldEvent {
+        node,
+        what: What::Tick { now },
+    }))
+}
+
 /// `ship NODE ABOUT`
 fn ship(config: &Config, words: &[&[u8]]) -> Result<ScriptLine, ScriptFaultKind>
     ensures line { result ≡ ship_line config.now (map (λ word. word.now) words.now) }
@@ -283,6 +316,8 @@ pub fn line_of(config: &Config, words: &[&[u8]]) -> Result<ScriptLine, ScriptFau
         Some(Verb::Permit) => permit(config, rest),
         Some(Verb::Start) => start(config, rest),
         Some(Verb::Stop) => stop(config, rest),
+        Some(Verb::Takeover) => takeover(config, rest),
+        Some(Verb::Tick) => tick(config, rest),
         Some(Verb::Ship) => ship(config, rest),
         Some(Verb::Hear) => hear(config, rest),
         Some(Verb::Hand) => hand(config, rest),

@@ -24,9 +24,15 @@ use std::sync::Arc;
 /// of finite sets and maps, so states with equal parts are equal.
 ///
 /// Copies of a state share its parts, since no part ever changes: a copy costs as much as a pointer.
-#[derive(Drop)]
 pub struct State {
     kept: Kept,
+}
+
+/// Written out, so that dropping a state is one call for a proof, wherever that is, and not the drop of each part.
+impl Drop for State {
+    fn drop(self) {
+        let State { kept: _kept } = self;
+    }
 }
 
 /// Where the parts of a state are kept.

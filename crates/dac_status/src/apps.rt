@@ -17,7 +17,8 @@ use std::alloc::Global;
 /// How many groups a list can have: each has a node of its own.
 const MAX_GROUPS: u16 = MAX_NODES as u16;
 
-fn how_text(how: How) -> &'static str
+/// How an application came to the node that claims it, behind a space.
+pub fn how_text(how: How) -> &'static str
     ensures { result.now ≡ how_text how }
 {
     match how {
@@ -28,7 +29,7 @@ fn how_text(how: How) -> &'static str
 }
 
 /// Puts behind a text the node that an application was taken from, if any.
-fn put_from(
+pub fn put_from(
     alloc: Global,
     text: &mut Vec<u8>,
     config: &Config,

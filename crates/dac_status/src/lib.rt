@@ -11,6 +11,7 @@ mod nodes;
 mod pages;
 mod summary;
 
+pub use apps::{how_text, put_from};
 pub use dac_base::{MAX_APPS, MAX_NODES};
 pub use marks::{Mark, mark_of};
 pub use pages::{header, page};

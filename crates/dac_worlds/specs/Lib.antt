@@ -1,9 +1,15 @@
 pub mod WorldValue
+pub mod Histories
 pub mod ModelWorld
 pub mod WorldChanges
 pub mod AtNode
 pub mod SetWorld
 pub mod News
 pub mod Fits
+pub mod Addressed
 pub mod Convergence
+pub mod Causality
+pub mod Records
+pub mod Converges
+pub mod EveryList
 pub mod laws

@@ -6,18 +6,19 @@ use Rattle.dac_config.specs.Table.{Table, node_count}
 use Rattle.dac_operations.specs.Operations.{Operation}
 use Rattle.dac_events.specs.declared.WorldEvent.{WorldEvent}
 use Rattle.dac_events.specs.declared.What.{What}
-use Rattle.dac_events.specs.declared.What.TheVariants.{Boot as Boots, Crash as Crashes, Command as Tells, Ship as Ships, Deliver, Hand}
+use Rattle.dac_events.specs.declared.What.TheVariants.{Boot as Boots, Crash as Crashes, Command as Tells, Tick as Ticks, Ship as Ships, Deliver, Hand}
 use Rattle.dac_messages.specs.declared.message.Message.{Message}
 use Rattle.dac_messages.specs.declared.event.Event.{Event}
-use Rattle.dac_messages.specs.declared.event.Event.TheVariants.{Boot, Crash, Command as Told, Ship, Hear, HearOp}
+use Rattle.dac_messages.specs.declared.event.Event.TheVariants.{Boot, Crash, Command as Told, Tick, Ship, Hear, HearOp}
 use Rattle.dac_messages.specs.declared.reply.Reply.{Reply}
-use Rattle.dac_messages.specs.declared.reply.Reply.TheVariants.{Booted, Crashed, Issued, Shipped, Heard}
+use Rattle.dac_messages.specs.declared.reply.Reply.TheVariants.{Booted, Crashed, Issued, Ticked, Shipped}
 use Rattle.dac_commands.specs.declared.refusal.Refusal.{Refusal}
 use Rattle.dac_commands.specs.declared.refusal.Refusal.TheVariants.{NoMemory}
 use Rattle.dac_worlds.specs.declared.fault.WorldFault.{WorldFault}
 use Rattle.dac_worlds.specs.declared.fault.WorldFault.TheVariants.{NoSuchNode, NoSuchMessage, NoSuchOperation, Refused}
 use Rattle.dac_node.specs.ModelNode.{ModelNode, shown}
 use Rattle.dac_node.specs.Step.{model_step}
+use Rattle.dac_worlds.specs.Histories.{off_after}
 use Rattle.dac_worlds.specs.WorldValue.{WorldValue}
 
 -- How many nodes there are, each node, and, the oldest first, what was issued and what was shipped. (Nodes
@@ -32,16 +33,16 @@ pub record ModelWorld : Type 0 where
 abbrev pub numbered : ℕ → NodeId
 numbered n = record { 0 = n }
 
--- what the program's world shows of it
-pub record Shows (w : ModelWorld) (v : WorldValue) : Type 0 where
+-- what the program's world shows of it, under a configuration
+pub record Shows (t : Table) (w : ModelWorld) (v : WorldValue) : Type 0 where
   pub count : length v.nodes ≡ w.count
-  pub nodes : (n : ℕ) → slice_get v.nodes n ≡ cond (nat_lt n w.count) (Some (shown (w.node (numbered n)))) None
+  pub nodes : (n : ℕ) → slice_get v.nodes n ≡ cond (nat_lt n w.count) (Some (shown t (w.node (numbered n)))) None
   pub operations : v.operations ≡ w.operations
   pub messages : v.messages ≡ w.messages
 
 -- all nodes of the configuration off, none booted ever
 abbrev pub start : Table → ModelWorld
-start t = record { count = node_count t; node = λ _. record { last = 0; run = None }; operations = []; messages = [] }
+start t = record { count = node_count t; node = λ _. off_after 0; operations = []; messages = [] }
 
 -- ---- one event
 -- the k-th of a list, counted from 1
@@ -63,6 +64,7 @@ abbrev pub event_of : List Operation → List Message → What → Result Event 
 event_of os ms (Boots now) = Ok (Boot now)
 event_of os ms Crashes = Ok Crash
 event_of os ms (Tells c) = Ok (Told c)
+event_of os ms (Ticks now) = Ok (Tick now)
 event_of os ms (Ships to) = Ok (Ship to)
 event_of os ms (Deliver k) = heard_by (counted ms k)
 event_of os ms (Hand k) = handed_by (counted os k)
@@ -70,18 +72,14 @@ event_of os ms (Hand k) = handed_by (counted os k)
 -- the operations that a reply issues
 abbrev pub issued_by : Reply → List Operation
 issued_by (Booted o) = o ∷ []
-issued_by Crashed = []
 issued_by (Issued o) = o ∷ []
-issued_by (Shipped m) = []
-issued_by (Heard fresh) = []
+issued_by (Ticked ops passed) = ops
+issued_by _ = []
 
 -- the messages that a reply ships
 abbrev pub shipped_by : Reply → List Message
-shipped_by (Booted o) = []
-shipped_by Crashed = []
-shipped_by (Issued o) = []
 shipped_by (Shipped m) = m ∷ []
-shipped_by (Heard fresh) = []
+shipped_by _ = []
 
 -- node n put in place of the one there
 abbrev pub with_node : (NodeId → ModelNode) → NodeId → ModelNode → NodeId → ModelNode
@@ -127,24 +125,48 @@ pub record Lacked (w : ModelWorld) (by : WorldStepped) (answer : Result Reply Wo
 abbrev pub Step : ModelWorld → WorldStepped → Result Reply WorldFault → ModelWorld → Type 0
 Step w by answer next = Done by answer next ⊎ Lacked w by answer next
 
--- the world answers these events so, one after another, and goes on to final
+-- memory may be wanting for an event that would have been accepted and is no crash
+pub record MayLack (by : WorldStepped) : Type 0 where
+  pub accepted : IsOk by.answer
+  pub wants : by.answer ≡ Ok Crashed → ⊥
+
+-- the answer is that of the rules, or want of memory
+abbrev pub IsAnswer : WorldStepped → Result Reply WorldFault → Type 0
+IsAnswer by answer = (answer ≡ by.answer) ⊎ ((answer ≡ out_of_memory) × MayLack by)
+
+-- the world after an event with this answer: as before where memory was wanting, else as the rules say
+abbrev pub went : Table → ModelWorld → WorldEvent → Result Reply WorldFault → ModelWorld
+went t w e (Err (Refused NoMemory)) = w
+went t w e _ = (happens t w e).world
+
+-- the world after these events with these answers, one after another from w
+abbrev pub world_after : Table → ModelWorld → List WorldEvent → List (Result Reply WorldFault) → ModelWorld
+world_after t w [] answers = w
+world_after t w (e ∷ es) [] = w
+world_after t w (e ∷ es) (a ∷ answers) = world_after t (went t w e a) es answers
+
+-- the world answers these events so, one after another from w
+abbrev pub AnsweredAs : Table → ModelWorld → List WorldEvent → List (Result Reply WorldFault) → Type 0
+AnsweredAs t w [] [] = Unit {0}
+AnsweredAs t w [] (a ∷ answers) = ⊥
+AnsweredAs t w (e ∷ es) [] = ⊥
+AnsweredAs t w (e ∷ es) (a ∷ answers) = IsAnswer (happens t w e) a × AnsweredAs t (went t w e a) es answers
+
+-- it answers them so, and goes on to final
 abbrev pub Run : Table → ModelWorld → List WorldEvent → List (Result Reply WorldFault) → ModelWorld → Type 0
-Run t w [] [] final = final ≡ w
-Run t w [] (a ∷ answers) final = ⊥
-Run t w (e ∷ es) [] final = ⊥
-Run t w (e ∷ es) (a ∷ answers) final = (next : ModelWorld) × (Step w (happens t w e) a next × Run t next es answers final)
+Run t w es answers final = AnsweredAs t w es answers × (final ≡ world_after t w es answers)
 
 -- From old, the program's world answers and goes on to new as each of the definition's worlds that shows old may.
-pub record Follows (old : WorldValue) (by : ModelWorld → WorldStepped) (answer : Result Reply WorldFault) (new : WorldValue) : Type 0 where
-  pub each : (w : ModelWorld) → Shows w old → (next : ModelWorld) × (Step w (by w) answer next × Shows next new)
+pub record Follows (t : Table) (old : WorldValue) (by : ModelWorld → WorldStepped) (answer : Result Reply WorldFault) (new : WorldValue) : Type 0 where
+  pub each : (w : ModelWorld) → Shows t w old → (next : ModelWorld) × (Step w (by w) answer next × Shows t next new)
 
 -- The program's world answered these events so, one after another from the start, and is where the
 -- definition's world comes to by them.
 pub record RanAs (t : Table) (events : List WorldEvent) (answers : List (Result Reply WorldFault)) (v : WorldValue) : Type 0 where
   pub final : ModelWorld
   pub run : Run t (start t) events answers final
-  pub shows : Shows final v
+  pub shows : Shows t final v
 
--- of each run from the start this holds: of its events, its answers and where the program's world is after it
-abbrev pub InEachRun : (List WorldEvent → List (Result Reply WorldFault) → WorldValue → Type 0) → Type 0
-InEachRun P = (t : Table) (events : List WorldEvent) (answers : List (Result Reply WorldFault)) (v : WorldValue) → RanAs t events answers v → P events answers v
+-- of each run from the start this holds: of the configuration, its events, its answers and where the program's world is after it
+abbrev pub InEachRun : (Table → List WorldEvent → List (Result Reply WorldFault) → WorldValue → Type 0) → Type 0
+InEachRun P = (t : Table) (events : List WorldEvent) (answers : List (Result Reply WorldFault)) (v : WorldValue) → RanAs t events answers v → P t events answers v

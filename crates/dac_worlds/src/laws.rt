@@ -1,24 +1,31 @@
 //! The laws of runs, each as the contract of a function that does nothing.
 //!
 //! A proof that needs a law calls its function. The functions take nothing and answer nothing.
-ghost use Rattle.dac_worlds.specs.ModelWorld.{InEachRun};
-ghost use Rattle.dac_worlds.specs.SetWorld.{set_run, no_sets};
-ghost use Rattle.dac_worlds.specs.Convergence.{EachIsMeaning, Agrees, DistinctDots, HoldsSets, CarryMeanings};
-ghost use Rattle.dac_worlds.specs.News.{AnswersNews};
-ghost use Rattle.dac_worlds.specs.Fits.{HearsAllThatFits};
+ghost use Rattle.dac_worlds.specs.ModelWorld.{InEachRun, RanAs};
+ghost use Rattle.dac_worlds.specs.Converges.{Converges};
+ghost use Rattle.dac_worlds.specs.Records.{RecordsAreHistories};
+ghost use Rattle.dac_worlds.specs.EveryList.{IsEnough, OfEachList, RunsEachList};
 
 /// What every run from the start leaves. Each running controller's state is the meaning of the issued operations whose
-/// dots it has heard, so controllers that heard the same set hold equal states. No two issued operations have one dot.
-/// Each controller holds the set that the world of sets has at its node, and each shipped message carries the meaning
-/// of a set of issued operations. Each answer to what was heard tells whether it brought a dot that the controller
-/// hadn't heard. What comes to a running controller is heard, unless memory is wanting: a message that was shipped to it
-/// from another node, and an operation that was issued.
+/// dots it has heard, so controllers that heard the same set hold equal states and bytes, and name the same holder and
+/// the same next candidate. No two issued operations have one dot. Each controller holds the set that the world of sets
+/// has at its node, and each shipped message carries the meaning of a set of issued operations. Each answer to what was
+/// heard tells whether it brought a dot that the controller hadn't heard. What comes to a running controller is heard,
+/// unless memory is wanting: a message that was shipped to it from another node, to no other incarnation alone, and an
+/// operation that was issued. Where no single operation is handed, each controller has with each operation all that were
+/// causally before it, and what stands in its state are exactly the maximal writes. What happened at each controller, its
+/// own events with their answers, is a history of it from never booted to where the run leaves it.
 pub fn runs_converge()
-    ensures headline { InEachRun (λ events answers v. EachIsMeaning v) }
-    ensures agree { InEachRun (λ events answers v. Agrees v) }
-    ensures distinct { InEachRun (λ events answers v. DistinctDots v.operations) }
-    ensures sets { InEachRun (λ events answers v. HoldsSets v (set_run no_sets events answers)) }
-    ensures bodies { InEachRun (λ events answers v. CarryMeanings v) }
-    ensures news { InEachRun (λ events answers v. AnswersNews no_sets events answers) }
-    ensures heard { InEachRun (λ events answers v. HearsAllThatFits no_sets events answers) }
+    ensures converges { InEachRun Converges }
+    // The same of the definition's nodes, wherever the run goes.
+    ensures records { RecordsAreHistories }
+{}
+
+/// What the definition's own run of any list of events leaves, where memory is never wanting. It is a run, and all that
+/// every run leaves holds of the events, their answers and the world that a program would show after them.
+pub fn every_list_converges()
+    ensures run { RunsEachList }
+    ensures enough { OfEachList (λ t events answers v. IsEnough answers) }
+    ensures shown { OfEachList RanAs }
+    ensures converges { OfEachList Converges }
 {}

@@ -11,6 +11,8 @@ mod configs;
 #[cfg(test)]
 mod faults;
 #[cfg(test)]
+mod placements;
+#[cfg(test)]
 mod readers;
 #[cfg(test)]
 mod running;

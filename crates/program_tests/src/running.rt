@@ -1,6 +1,7 @@
 //! Runs of the program.
 use crate::configs::CASES;
 use crate::faults::{CONFIG_FAULTS, INPUT_FAULTS, SCRIPT_FAULTS};
+use crate::placements::PLACEMENTS;
 use crate::scripts::{EXAMPLE, SCRIPTS};
 use dac_program::run;
 use std::alloc::{AllocError, Global};
@@ -63,6 +64,13 @@ fn checks_configurations_of_all_kinds(rt: HostRuntime) {
 #[test]
 fn plays_scripts(rt: HostRuntime) {
     for (config, script, printed) in SCRIPTS {
+        assert!(rt; plays(&rt, config, script, 0, printed), "{script}");
+    }
+}
+
+#[test]
+fn plays_scripts_of_placements(rt: HostRuntime) {
+    for (config, script, printed) in PLACEMENTS {
         assert!(rt; plays(&rt, config, script, 0, printed), "{script}");
     }
 }

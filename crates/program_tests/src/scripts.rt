@@ -5,10 +5,10 @@ pub const EXAMPLE: &str =
     "[{kernel,\n[{distributed, [{myapp, 5000, [cp1@cave, {cp2@cave, cp3@cave}]}]},\n{sync_nodes_mandatory, [cp2@cave, cp3@cave]},\n{sync_nodes_timeout, 5000}\n]\n}\n].\n";
 
 /// Three nodes and one application, which waits for no node.
-const PLAIN: &str = "[{kernel,[{distributed,[{a,[c1@h,{c2@h,c3@h}]}]}]}].\n";
+pub const PLAIN: &str = "[{kernel,[{distributed,[{a,[c1@h,{c2@h,c3@h}]}]}]}].\n";
 
 /// Two applications, the second at the second node alone.
-const TWO: &str = "[{kernel,[{distributed,[{a,5000,[c1@h,{c2@h,c3@h}]},{b,[c2@h]}]}]}].\n";
+pub const TWO: &str = "[{kernel,[{distributed,[{a,5000,[c1@h,{c2@h,c3@h}]},{b,[c2@h]}]}]}].\n";
 
 /// All of them.
 pub const SCRIPTS: &[(&str, &str, &str)] = &[
@@ -35,12 +35,6 @@ pub const SCRIPTS: &[(&str, &str, &str)] = &[
         EXAMPLE,
         "boot cp1@cave 0\nboot cp2@cave 0\npermit cp1@cave myapp cp1@cave false\npermit cp1@cave myapp cp1@cave true\npermit cp1@cave myapp cp1@cave true\nstart cp1@cave myapp cp1@cave\nhand cp2@cave 1\nhand cp2@cave 6\nhand cp2@cave 5\nhand cp2@cave 3\npage cp2@cave\nhand cp2@cave 4\npage cp2@cave\nhand cp2@cave 4\nship cp2@cave cp1@cave\nhear cp1@cave 1\nsame cp1@cave cp2@cave\n",
         "booted 1 op 1\nbooted 1 op 2\nissued 3 cp1@cave 1 2\nissued 4 cp1@cave 1 3\nissued 5 cp1@cave 1 4\nissued 6 cp1@cave 1 5\nheard new\nheard new\nheard new\nheard new\nnode cp2@cave 1\nheard 5 known 6\nnode cp1@cave up 1\nnode cp2@cave up 1\nnode cp3@cave unknown\napp myapp holder none verdict nobody\nlist cp1@cave=barred cp2@cave=idle cp3@cave=down\nheard new\nnode cp2@cave 1\nheard 6 known 6\nnode cp1@cave up 1\nnode cp2@cave up 1\nnode cp3@cave unknown\napp myapp holder none verdict start cp1@cave\nlist cp1@cave=ok cp2@cave=idle cp3@cave=down\nheard nothing new\nshipped 1 whole 6\nheard new\nsame\n",
-    ),
-    // A node is declared down, and boots again.
-    (
-        PLAIN,
-        "boot c2@h 0\nboot c3@h 0\nshare\ndown c2@h c3@h\nshare\nstart c3@h a c3@h\ncrash c3@h\nboot c3@h 6\nboot c3@h 6\ncrash c1@h\n",
-        "booted 1 op 1\nbooted 1 op 2\nshared 2\nissued 3 c2@h 1 2\nshared 2\nrefused 3 DeclaredDown\ncrashed\nbooted 2 op 4\nrefused 2 AlreadyOn\nrefused 1 Off\n",
     ),
     // The page of a node, and of one that is off.
     (
@@ -117,6 +111,11 @@ pub const SCRIPTS: &[(&str, &str, &str)] = &[
         TWO,
         "start c1@h zz zz@h\nboot c1@h 0\nboot c1@h 0\nstart c1@h zz zz@h\nstart c1@h b zz@h\nstart c1@h b c1@h\nstart c1@h b c2@h\nstop c1@h a c1@h\nship c1@h zz@h\nship c1@h c1@h\nship c1@h c2@h\nboot c3@h 0\nhear c3@h 1\n",
         "refused 1 Off\nbooted 1 op 1\nrefused 2 AlreadyOn\nrefused 4 UnknownApp\nrefused 5 UnknownNode\nrefused 7 NotInList\nrefused 9 NotLive\nrefused 10 NotStarted\nrefused 5 UnknownNode\nrefused 6 OnSelf\nshipped 1 whole 1\nbooted 1 op 2\nrefused 15 NotForMe\n",
+    ),
+    (
+        EXAMPLE,
+        "takeover cp1@cave other\nboot cp1@cave 0\ntakeover cp1@cave other\ntick cp3@cave 0",
+        "refused 1 Off\nbooted 1 op 1\nrefused 4 UnknownApp\nrefused 1 Off\n",
     ),
     // Refusals of a down in their order.
     (

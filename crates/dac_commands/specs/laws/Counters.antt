@@ -1,5 +1,5 @@
 -- The greatest counter of an origin in a set of dots, and the dot that comes next.
-use Rattle.std.proofs.Common.{◌≡◌, ◌↔◌, ℕ, ◌<◌, ◌≤◌, ◌+◌, ◌-◌, ◌^◌, Bool, true, false, cond, ◌||◌, ◌⊎◌, inl, inr, List, [], ◌∷◌, Option, Some, None, refl, sym, ap, subst, ◌∙◌, arith, true≢false, max, is_eq}
+use Rattle.std.proofs.Common.{◌≡◌, ◌↔◌, ℕ, ◌<◌, ◌≤◌, ◌+◌, ◌-◌, Bool, true, false, cond, ◌||◌, ◌⊎◌, inl, inr, List, [], ◌∷◌, Option, Some, None, refl, sym, ap, subst, ◌∙◌, arith, true≢false, max, is_eq}
 use Rattle.std.specs.Prelude.{nat_le, MatchOption}
 use Rattle.std.specs.Option.{is_none}
 use Rattle.std.specs.List.{list_any}
@@ -14,6 +14,7 @@ use Rattle.dac_dots.specs.Dots.{Dots, dot, origin_cmp, origins_total, exact_orig
 use Rattle.dac_wishes.specs.Writes.{same_dot, same_dot_is, same_dot_itself}
 use Rattle.dac_commands.specs.Commands.{greatest_among, greatest_counter}
 use Rattle.std.proofs.lemmas.Bool.{false_from_ne_true}
+use Rattle.dac_base.specs.declared.limits.TheConstants.{MAX_COUNTER}
 
 abbrev counter_at : Origin → Dot → ℕ
 counter_at o d = cond (eq_by_cmp origin_cmp d.origin o) d.n 0
@@ -97,29 +98,29 @@ past : (m g n : ℕ) → m ≤ g → n ≡ g + 1 → n ≤ m → ⊥
 past m g n h e k = omega arith
 
 -- there is no next dot exactly where the greatest counter is the last one
-pub next_none : (dots : Dots) (o : Origin) (next : Option Dot) → MatchOption next (IsUsedUp dots o) (IsNext dots o) → is_none next ≡ nat_le (2 ^ 62) (greatest_counter o dots)
-next_none dots o None h = sym (le-leb (2 ^ 62) (greatest_counter o dots) (let most : h.n ≤ greatest_counter o dots = counter-greatest dots (dot o h.n) h.there in let high : 2 ^ 62 ≤ h.n = h.high in le_through (2 ^ 62) h.n (greatest_counter o dots) high most))
-next_none dots o (Some d) h = sym (false_from_ne_true (nat_le (2 ^ 62) (greatest_counter o dots)) (λ t.
-    let high : 2 ^ 62 ≤ greatest_counter o dots = leb-true (2 ^ 62) (greatest_counter o dots) t in
+pub next_none : (dots : Dots) (o : Origin) (next : Option Dot) → MatchOption next (IsUsedUp dots o) (IsNext dots o) → is_none next ≡ nat_le MAX_COUNTER (greatest_counter o dots)
+next_none dots o None h = sym (le-leb MAX_COUNTER (greatest_counter o dots) (let most : h.n ≤ greatest_counter o dots = counter-greatest dots (dot o h.n) h.there in let high : MAX_COUNTER ≤ h.n = h.high in le_through MAX_COUNTER h.n (greatest_counter o dots) high most))
+next_none dots o (Some d) h = sym (false_from_ne_true (nat_le MAX_COUNTER (greatest_counter o dots)) (λ t.
+    let high : MAX_COUNTER ≤ greatest_counter o dots = leb-true MAX_COUNTER (greatest_counter o dots) t in
     let number : d.n ≡ greatest_counter o dots + 1 = ap (λ (x : Dot). x.n) (next-is dots o d h) in
-    past (2 ^ 62) (greatest_counter o dots) d.n high number h.at_most))
+    past MAX_COUNTER (greatest_counter o dots) d.n high number h.at_most))
 
 -- the counters of an origin are used up exactly where it has a dot that no later one can follow
-pub used_up_is : (dots : Dots) (o : Origin) → (nat_le (2 ^ 62) (greatest_counter o dots) ≡ true) ↔ IsUsedUp dots o
+pub used_up_is : (dots : Dots) (o : Origin) → (nat_le MAX_COUNTER (greatest_counter o dots) ≡ true) ↔ IsUsedUp dots o
 used_up_is dots o = (
-  λ e. by_greatest (leb-true (2 ^ 62) (greatest_counter o dots) e) (greatest-there o (set.items dots)),
-  λ h. le-leb (2 ^ 62) (greatest_counter o dots) (le_through (2 ^ 62) h.n (greatest_counter o dots) h.high (counter-greatest dots (dot o h.n) h.there)),
+  λ e. by_greatest (leb-true MAX_COUNTER (greatest_counter o dots) e) (greatest-there o (set.items dots)),
+  λ h. le-leb MAX_COUNTER (greatest_counter o dots) (le_through MAX_COUNTER h.n (greatest_counter o dots) h.high (counter-greatest dots (dot o h.n) h.there)),
 )
   where
     below_none : (m g : ℕ) → m ≤ g → g ≡ 0 → 0 < m → ⊥
     below_none m g h e p = omega arith
 
-    by_greatest : 2 ^ 62 ≤ greatest_counter o dots → (greatest_counter o dots ≡ 0) ⊎ (list_any (same_dot (dot o (greatest_counter o dots))) (set.items dots) ≡ true) → IsUsedUp dots o
-    by_greatest high (inl none) = absurd (below_none (2 ^ 62) (greatest_counter o dots) high none (ltb-true 0 (2 ^ 62) refl))
+    by_greatest : MAX_COUNTER ≤ greatest_counter o dots → (greatest_counter o dots ≡ 0) ⊎ (list_any (same_dot (dot o (greatest_counter o dots))) (set.items dots) ≡ true) → IsUsedUp dots o
+    by_greatest high (inl none) = absurd (below_none MAX_COUNTER (greatest_counter o dots) high none (ltb-true 0 MAX_COUNTER refl))
     by_greatest high (inr there) = record { n = greatest_counter o dots; there = set.contains-items dots (dot o (greatest_counter o dots)) ∙ there; high = high }
 
 -- where a counter is left, the one after the greatest is the next
-pub next_of_is : (dots : Dots) (o : Origin) → nat_le (2 ^ 62) (greatest_counter o dots) ≡ false → IsNext dots o (dot o (greatest_counter o dots + 1))
+pub next_of_is : (dots : Dots) (o : Origin) → nat_le MAX_COUNTER (greatest_counter o dots) ≡ false → IsNext dots o (dot o (greatest_counter o dots + 1))
 next_of_is dots o left = record {
   same_origin = refl;
   above = λ n h. up n (greatest_counter o dots) (counter-greatest dots (dot o n) h);
@@ -127,7 +128,7 @@ next_of_is dots o left = record {
     | inl none ↦ inl (one (greatest_counter o dots) none)
     | inr there ↦ inr (subst (λ n. set.contains dots (dot o n) ≡ true) (before (greatest_counter o dots)) (set.contains-items dots (dot o (greatest_counter o dots)) ∙ there))
   ];
-  at_most = most (2 ^ 62) (greatest_counter o dots) (λ h. true≢false (sym (le-leb (2 ^ 62) (greatest_counter o dots) h) ∙ left));
+  at_most = most MAX_COUNTER (greatest_counter o dots) (λ h. true≢false (sym (le-leb MAX_COUNTER (greatest_counter o dots) h) ∙ left));
 }
   where
     up : (n g : ℕ) → n ≤ g → n < g + 1

@@ -8,37 +8,41 @@ use Rattle.dac_dots.specs.Dots.{dots_total, exact_dots}
 use Rattle.dac_dots.specs.InOrder.{has_key-in_order}
 use Rattle.dac_chains.specs.Lives.{IsLive}
 use Rattle.dac_chains.specs.laws.Live.{live_is}
+use Rattle.dac_chains.specs.declared.claims.How.TheVariants.{Takeover as TakenOver}
 use Rattle.dac_wishes.specs.declared.key.Key.{Key}
 use Rattle.dac_wishes.specs.Writes.{dots_at, contains-dots_at}
 use Rattle.dac_meaning.specs.StateValue.{StateValue}
 use Rattle.dac_config.specs.Table.{Table}
+use Rattle.dac_placement.specs.Placement.{runner_of}
+use Rattle.dac_placement.specs.laws.Tests.{runner_is}
 use Rattle.dac_events.specs.declared.Command.{Command}
-use Rattle.dac_events.specs.declared.Command.TheVariants.{Down, Permit, Start, Stop}
+use Rattle.dac_events.specs.declared.Command.TheVariants.{Down, Permit, Start, Stop, Takeover}
 use Rattle.dac_commands.specs.declared.refusal.Refusal.{Refusal}
 use Rattle.dac_commands.specs.declared.refusal.Refusal.TheVariants.{DeclaredDown}
-use Rattle.dac_commands.specs.Commands.{live, live_or_none, key_at, standing_starts, standing_permits, act_of}
-use Rattle.dac_commands.specs.Causes.{first, causes_of, refusal_of_command, declared_down, not_live, used_up}
-use Rattle.dac_commands.specs.Written.{IsKeyAt, StartStands, PermitStands, AreThose, Says, WritesWhatIsSaid}
+use Rattle.dac_commands.specs.Commands.{live, live_or_none, key_at, standing_starts, standing_permits, claim_act, act_of}
+use Rattle.dac_commands.specs.Causes.{first, causes_of, refusal_of_command, declared_down, not_live, terms_used_up, used_up}
+use Rattle.dac_commands.specs.Written.{IsKeyAt, StartStands, PermitStands, AreThose, TakesOver, Says, WritesWhatIsSaid}
 use Rattle.dac_commands.specs.laws.Counters.{next_of_is}
 use Rattle.dac_commands.specs.laws.Standing.{permits_at-has}
+use Rattle.dac_commands.specs.laws.Terms.{next_claim_is}
 
 -- ---- causes that don't hold
 -- none of the causes holds
-abbrev NoneIs : List (Bool × Refusal) → Type 0
+abbrev pub NoneIs : List (Bool × Refusal) → Type 0
 NoneIs [] = Unit {0}
 NoneIs (c ∷ cs) = (c.0 ≡ false) × NoneIs cs
 
 -- where none of the causes holds, the first doesn't, nor one after it
-pub first-none : (b : Bool) (why : Refusal) (cs : List (Bool × Refusal)) → first ((b, why) ∷ cs) ≡ None → (b ≡ false) × (first cs ≡ None)
+first-none : (b : Bool) (why : Refusal) (cs : List (Bool × Refusal)) → first ((b, why) ∷ cs) ≡ None → (b ≡ false) × (first cs ≡ None)
 first-none true why cs e = cc
 first-none false why cs e = (refl, e)
 
-none_is : (cs : List (Bool × Refusal)) → first cs ≡ None → NoneIs cs
+pub none_is : (cs : List (Bool × Refusal)) → first cs ≡ None → NoneIs cs
 none_is [] e = tt
 none_is (c ∷ cs) e = let h = first-none c.0 c.1 cs e in (h.0, none_is cs h.1)
 
 -- all causes why a command is refused
-abbrev all_causes : Table → Origin → StateValue → Command → List (Bool × Refusal)
+abbrev pub all_causes : Table → Origin → StateValue → Command → List (Bool × Refusal)
 all_causes t own s c = (declared_down own s, DeclaredDown) ∷ causes_of t own s c
 
 module _ (t : Table) (own : Origin) (s : StateValue) where
@@ -48,6 +52,7 @@ module _ (t : Table) (own : Origin) (s : StateValue) where
   left (Permit app node value) e = (none_is (all_causes t own s (Permit app node value)) e).1.1.1.1.1.1.0
   left (Start app node) e = (none_is (all_causes t own s (Start app node)) e).1.1.1.1.1.1.0
   left (Stop app node) e = (none_is (all_causes t own s (Stop app node)) e).1.1.1.1.1.1.1.0
+  left (Takeover app) e = (none_is (all_causes t own s (Takeover app)) e).1.1.1.1.1.1.1.1.0
 
   -- ---- what is said
   -- the number of a live incarnation
@@ -71,7 +76,14 @@ module _ (t : Table) (own : Origin) (s : StateValue) where
       let e = permits_at-has key s.permits d in
       (λ h. sym e ∙ h, λ h. e ∙ h)
 
-  says : (c : Command) → refusal_of_command t own s c ≡ None → Says s c (act_of s c)
+  takes : (app : AppId) → not (is_some (runner_of t s app)) ≡ false → terms_used_up s app ≡ false → TakesOver t s app (act_of t s (Takeover app))
+  takes app running terms = by_runner (runner_of t s app) refl running
+    where
+      by_runner : (o : Option NodeId) → runner_of t s app ≡ o → not (is_some o) ≡ false → TakesOver t s app (claim_act s app TakenOver o)
+      by_runner None e p = absurd (true≢false p)
+      by_runner (Some n) e p = record { runner = n; runs = (runner_is t s app n).0 e; claims = next_claim_is s app TakenOver (Some n) terms }
+
+  says : (c : Command) → refusal_of_command t own s c ≡ None → Says t s c (act_of t s c)
   says (Down node) e = (live_or_none s node, (refl, live_there node (none_is (all_causes t own s (Down node)) e).1.1.1.0))
   says (Permit app node value) e =
       let live = (none_is (all_causes t own s (Permit app node value)) e).1.1.1.1.0 in
@@ -82,6 +94,9 @@ module _ (t : Table) (own : Origin) (s : StateValue) where
   says (Stop app node) e =
       let live = (none_is (all_causes t own s (Stop app node)) e).1.1.1.1.0 in
       record { key = key_at s app node; over = standing_starts s (key_at s app node); is = refl; at = key_is app node live; replaces = starts_are (key_at s app node) }
+  says (Takeover app) e =
+      let none = none_is (all_causes t own s (Takeover app)) e in
+      takes app none.1.1.1.1.0 none.1.1.1.1.1.1.1.0
 
 pub writes_what_is_said : WritesWhatIsSaid
 writes_what_is_said t own s c e = record { dot = next_of_is s.known own (left t own s c e); says = says t own s c e }

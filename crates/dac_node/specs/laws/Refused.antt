@@ -1,7 +1,9 @@
 -- The table of causes answers the least cause that holds: each test is its cause in words, and the causes stand in the order of their numbers.
-use Rattle.std.specs.Prelude.{◌≡◌, ◌↔◌, ℕ, ◌-◌, ◌^◌, ◌<◌, ◌≤◌, Bool, true, false, not, ◌&&◌, cond, nat_eq, nat_le, nat_lt, List, [], ◌∷◌, length, Option, None, Some, is_some, unwrap_or, refl}
+use Rattle.std.specs.Prelude.{◌≡◌, ◌↔◌, ℕ, ◌-◌, ◌^◌, ◌<◌, ◌≤◌, Bool, true, false, not, ◌&&◌, cond, nat_eq, nat_le, nat_lt, List, [], ◌∷◌, length, Option, None, Some, is_some, unwrap_or, IfSome, refl}
+use Rattle.std.specs.Option.{option_map_or}
 use Rattle.std.proofs.Common.{sym, ap, subst, ◌∙◌, inl, inr, arith}
 use Rattle.std.proofs.lemmas.Bool.{true≢false, false≢true, and_parts, le-leb, leb-true, lt-ltb, ltb-true, eqb-true, eq-eqb}
+use Rattle.dac_base.specs.declared.limits.TheConstants.{MAX_REPLACED}
 use Rattle.dac_base.specs.declared.NodeId.{NodeId}
 use Rattle.dac_dots.specs.declared.dot.Origin.{Origin}
 use Rattle.dac_dots.specs.Dots.{IsUsedUp}
@@ -11,19 +13,24 @@ use Rattle.dac_chains.specs.laws.Live.{live_is}
 use Rattle.dac_wishes.specs.WishesValue.{is_wished}
 use Rattle.dac_wishes.specs.laws.Wished.{is_wished-some}
 use Rattle.dac_meaning.specs.StateValue.{StateValue, wishes_of}
+use Rattle.dac_placement.specs.Placement.{is_up, is_eligible, runs_at, runner_of}
+use Rattle.dac_placement.specs.laws.Tests.{up_is, eligible_is, runs_is}
 use Rattle.dac_events.specs.declared.Command.{Command}
-use Rattle.dac_events.specs.declared.Command.TheVariants.{Down, Permit, Start, Stop}
+use Rattle.dac_events.specs.declared.Command.TheVariants.{Down, Permit, Start, Stop, Takeover}
+use Rattle.dac_messages.specs.declared.message.Message.{Message}
 use Rattle.dac_messages.specs.declared.event.Event.{Event}
-use Rattle.dac_messages.specs.declared.event.Event.TheVariants.{Boot, Crash, Command as Told, Ship, Hear, HearOp}
+use Rattle.dac_messages.specs.declared.event.Event.TheVariants.{Boot, Crash, Command as Told, Tick, Ship, Hear, HearOp}
 use Rattle.dac_commands.specs.declared.refusal.Refusal.{Refusal}
-use Rattle.dac_commands.specs.declared.refusal.Refusal.TheVariants.{Off, AlreadyOn, DeclaredDown, UnknownApp, UnknownNode, OnSelf, NotInList, NotLive, NotStarted, NotForMe, TooManyDots, DotsUsedUp, IncarnationsUsedUp, NoMemory}
+use Rattle.dac_commands.specs.declared.refusal.Refusal.TheVariants.{Off, AlreadyOn, DeclaredDown, UnknownApp, UnknownNode, OnSelf, NotInList, MomentBack, NotLive, NotStarted, NotEligible, NotRunning, AlreadyHolder, LowerPriority, NotForMe, TooManyDots, TermsUsedUp, DotsUsedUp, IncarnationsUsedUp, NoMemory}
 use Rattle.dac_commands.specs.Refusals.{number_of}
-use Rattle.dac_commands.specs.Causes.{first, no_node, no_app, unlisted, not_live, not_wished, too_many, used_up, is_inc, declared_down}
-use Rattle.dac_commands.specs.Commands.{live, key_at, standing_starts, standing_permits}
+use Rattle.dac_commands.specs.Causes.{first, no_node, no_app, unlisted, not_live, not_wished, too_many, used_up, declared_down, terms_used_up, runs_earlier}
+use Rattle.dac_commands.specs.Commands.{key_at, standing_starts, standing_permits}
 use Rattle.dac_commands.specs.laws.Counters.{used_up_is}
+use Rattle.dac_commands.specs.laws.Terms.{terms_used_up_is}
 use Rattle.dac_node.specs.NodeValue.{NodeValue, RunValue}
-use Rattle.dac_node.specs.EventRefusals.{refusal_by, refusal_of}
-use Rattle.dac_node.specs.Refused.{causes_of_event, Holds, IsOneOf, NoneHolds, IsLeastOf, IsFree, IsRefused, IsAnsweredBy, NeverWantsMemory}
+use Rattle.dac_node.specs.EventRefusals.{too_few_left, is_for, refusal_by, refusal_of}
+use Rattle.dac_node.specs.laws.Tests.{not_running_is, runs_earlier_is, too_few_is}
+use Rattle.dac_node.specs.Refused.{causes_of_event, Holds, IsFor, IsOneOf, NoneHolds, IsLeastOf, IsFree, IsRefused, IsAnsweredBy, NeverWantsMemory}
 
 -- ---- the first test that holds is that of the least cause
 
@@ -105,6 +112,26 @@ fails false e = (λ _ x. false≢true (e.1 x), λ _. refl)
 same_node : (m n : NodeId) → (nat_eq m.0 n.0 ≡ true) ↔ (m ≡ n)
 same_node m n = (λ e. let number = eqb-true m.0 n.0 e in λ i. record { 0 = number i }, λ e. eq-eqb m.0 n.0 (ap (λ (x : NodeId). x.0) e))
 
+is_for_is : (own : Origin) (m : Message) → (is_for own m ≡ true) ↔ IsFor own m
+is_for_is own m = (
+  λ e. let both = and_parts (nat_eq m.to.0 own.node.0) (for_all m.only) e in ((same_node m.to own.node).0 both.0, only_if m.only both.1),
+  λ is. and_both ((same_node m.to own.node).1 is.0) (if_only m.only is.1),
+)
+  where
+    for_all : Option ℕ → Bool
+    for_all only = option_map_or (λ inc. nat_eq inc own.inc) only true
+
+    only_if : (only : Option ℕ) → for_all only ≡ true → IfSome only (λ inc. inc ≡ own.inc)
+    only_if None e = tt
+    only_if (Some inc) e = eqb-true inc own.inc e
+
+    if_only : (only : Option ℕ) → IfSome only (λ inc. inc ≡ own.inc) → for_all only ≡ true
+    if_only None is = refl
+    if_only (Some inc) is = eq-eqb inc own.inc is
+
+    and_both : {a b : Bool} → a ≡ true → b ≡ true → (a && b) ≡ true
+    and_both {a} {b} p q = λ i. p i && q i
+
 is_missing : {X : Type 0} (o : Option X) → (not (is_some o) ≡ true) ↔ (o ≡ None)
 is_missing None = (λ _. refl, λ _. refl)
 is_missing (Some x) = (λ e. absurd (false≢true e), λ e. absurd (true≢false (ap is_some e)))
@@ -120,11 +147,7 @@ not_live_is s node = (
     by_live (Some inc) e none = absurd (none inc ((live_is s.lives node inc).0 e))
 
 declared_down_is : (own : Origin) (s : StateValue) → (declared_down own s ≡ true) ↔ (¬ IsLive s.lives own.node own.inc)
-declared_down_is own s = fails (is_inc own.inc (live s own.node)) (by_live (live_at s.lives own.node) refl, λ up. ap (is_inc own.inc) ((live_is s.lives own.node own.inc).1 up) ∙ eq-eqb own.inc own.inc refl)
-  where
-    by_live : (o : Option ℕ) → live_at s.lives own.node ≡ o → is_inc own.inc o ≡ true → IsLive s.lives own.node own.inc
-    by_live None e h = absurd (false≢true h)
-    by_live (Some inc) e h = (live_is s.lives own.node own.inc).0 (e ∙ ap (λ i. Some i) (eqb-true inc own.inc h))
+declared_down_is own s = fails (is_up s own) (up_is s own)
 
 is_on : {X : Type 0} (x : X) → (false ≡ true) ↔ (◌≡◌ {A = Option X} (Some x) None)
 is_on x = (λ e. absurd (false≢true e), λ e. absurd (true≢false (ap is_some e)))
@@ -152,25 +175,31 @@ module _ (t : Table) (last : ℕ) (r : RunValue) where
   on_command (Permit app node value) = first_is (Holds t here (Told (Permit app node value))) 0
       ((false, Off) ∷ (declared_down own s, DeclaredDown) ∷ (no_app t app, UnknownApp) ∷ (no_node t node, UnknownNode) ∷ (unlisted t app node, NotInList) ∷ (not_live s node, NotLive) ∷ (too_many (length (standing_permits s (key_at s app node))), TooManyDots) ∷ (used_up s own, DotsUsedUp) ∷ [])
       (causes_of_event (Told (Permit app node value))) refl
-      (refl, (is_on r, λ _. (refl, (declared_down_is own s, λ _. (refl, (at_least (app_count t) app.0, λ _. (refl, (at_least (node_count t) node.0, λ _. (refl, (is_missing (group_of t app node), λ _. (refl, (not_live_is s node, λ _. (refl, (less 1024 (length (standing_permits s (key_at s app node))), λ _. (refl, (used, λ _. tt))))))))))))))))
+      (refl, (is_on r, λ _. (refl, (declared_down_is own s, λ _. (refl, (at_least (app_count t) app.0, λ _. (refl, (at_least (node_count t) node.0, λ _. (refl, (is_missing (group_of t app node), λ _. (refl, (not_live_is s node, λ _. (refl, (less MAX_REPLACED (length (standing_permits s (key_at s app node))), λ _. (refl, (used, λ _. tt))))))))))))))))
   on_command (Start app node) = first_is (Holds t here (Told (Start app node))) 0
       ((false, Off) ∷ (declared_down own s, DeclaredDown) ∷ (no_app t app, UnknownApp) ∷ (no_node t node, UnknownNode) ∷ (unlisted t app node, NotInList) ∷ (not_live s node, NotLive) ∷ (too_many (length (standing_starts s (key_at s app node))), TooManyDots) ∷ (used_up s own, DotsUsedUp) ∷ [])
       (causes_of_event (Told (Start app node))) refl
-      (refl, (is_on r, λ _. (refl, (declared_down_is own s, λ _. (refl, (at_least (app_count t) app.0, λ _. (refl, (at_least (node_count t) node.0, λ _. (refl, (is_missing (group_of t app node), λ _. (refl, (not_live_is s node, λ _. (refl, (less 1024 (length (standing_starts s (key_at s app node))), λ _. (refl, (used, λ _. tt))))))))))))))))
+      (refl, (is_on r, λ _. (refl, (declared_down_is own s, λ _. (refl, (at_least (app_count t) app.0, λ _. (refl, (at_least (node_count t) node.0, λ _. (refl, (is_missing (group_of t app node), λ _. (refl, (not_live_is s node, λ _. (refl, (less MAX_REPLACED (length (standing_starts s (key_at s app node))), λ _. (refl, (used, λ _. tt))))))))))))))))
   on_command (Stop app node) = first_is (Holds t here (Told (Stop app node))) 0
       ((false, Off) ∷ (declared_down own s, DeclaredDown) ∷ (no_app t app, UnknownApp) ∷ (no_node t node, UnknownNode) ∷ (unlisted t app node, NotInList) ∷ (not_live s node, NotLive) ∷ (not_wished s (key_at s app node), NotStarted) ∷ (too_many (length (standing_starts s (key_at s app node))), TooManyDots) ∷ (used_up s own, DotsUsedUp) ∷ [])
       (causes_of_event (Told (Stop app node))) refl
-      (refl, (is_on r, λ _. (refl, (declared_down_is own s, λ _. (refl, (at_least (app_count t) app.0, λ _. (refl, (at_least (node_count t) node.0, λ _. (refl, (is_missing (group_of t app node), λ _. (refl, (not_live_is s node, λ _. (refl, (fails (is_wished (key_at s app node) (wishes_of s)) (is_wished-some (key_at s app node) (wishes_of s)), λ _. (refl, (less 1024 (length (standing_starts s (key_at s app node))), λ _. (refl, (used, λ _. tt))))))))))))))))))
+      (refl, (is_on r, λ _. (refl, (declared_down_is own s, λ _. (refl, (at_least (app_count t) app.0, λ _. (refl, (at_least (node_count t) node.0, λ _. (refl, (is_missing (group_of t app node), λ _. (refl, (not_live_is s node, λ _. (refl, (fails (is_wished (key_at s app node) (wishes_of s)) (is_wished-some (key_at s app node) (wishes_of s)), λ _. (refl, (less MAX_REPLACED (length (standing_starts s (key_at s app node))), λ _. (refl, (used, λ _. tt))))))))))))))))))
+  on_command (Takeover app) = first_is (Holds t here (Told (Takeover app))) 0
+      ((false, Off) ∷ (declared_down own s, DeclaredDown) ∷ (no_app t app, UnknownApp) ∷ (unlisted t app own.node, NotInList) ∷ (not (is_eligible t s app own.node), NotEligible) ∷ (not (is_some (runner_of t s app)), NotRunning) ∷ (runs_at t s app own.node, AlreadyHolder) ∷ (runs_earlier t s app own.node, LowerPriority) ∷ (terms_used_up s app, TermsUsedUp) ∷ (used_up s own, DotsUsedUp) ∷ [])
+      (causes_of_event (Told (Takeover app))) refl
+      (refl, (is_on r, λ _. (refl, (declared_down_is own s, λ _. (refl, (at_least (app_count t) app.0, λ _. (refl, (is_missing (group_of t app own.node), λ _. (refl, (fails (is_eligible t s app own.node) (eligible_is t s app own.node), λ _. (refl, (not_running_is t s app, λ _. (refl, (runs_is t s app own.node, λ _. (refl, (runs_earlier_is t s app own.node, λ _. (refl, (terms_used_up_is s app, λ _. (refl, (used, λ _. tt))))))))))))))))))))
 
   on_event : (e : Event) → IsRight (Holds t here e) (causes_of_event e) (refusal_by t last (Some r) e)
   on_event (Boot now) = first_is (Holds t here (Boot now)) 0 ((true, AlreadyOn) ∷ (false, IncarnationsUsedUp) ∷ []) (causes_of_event (Boot now)) refl
       (refl, ((λ _. tt, λ _. refl), λ off. absurd (true≢false off)))
   on_event Crash = first_is (Holds t here Crash) 0 ((false, Off) ∷ []) (causes_of_event Crash) refl (refl, (is_on r, λ _. tt))
   on_event (Told c) = on_command c
+  on_event (Tick now) = first_is (Holds t here (Tick now)) 0 ((false, Off) ∷ (declared_down own s, DeclaredDown) ∷ (nat_lt now r.moments.last, MomentBack) ∷ (too_few_left t s own, DotsUsedUp) ∷ []) (causes_of_event (Tick now)) refl
+      (refl, (is_on r, λ _. (refl, (declared_down_is own s, λ _. (refl, (less now r.moments.last, λ _. (refl, (too_few_is t s own, λ _. tt))))))))
   on_event (Ship to) = first_is (Holds t here (Ship to)) 0 ((false, Off) ∷ (no_node t to, UnknownNode) ∷ (nat_eq to.0 own.node.0, OnSelf) ∷ []) (causes_of_event (Ship to)) refl
       (refl, (is_on r, λ _. (refl, (at_least (node_count t) to.0, λ _. (refl, (same_node to own.node, λ _. tt))))))
-  on_event (Hear m) = first_is (Holds t here (Hear m)) 0 ((false, Off) ∷ (nat_eq m.from.node.0 own.node.0, OnSelf) ∷ (not (nat_eq m.to.0 own.node.0), NotForMe) ∷ []) (causes_of_event (Hear m)) refl
-      (refl, (is_on r, λ _. (refl, (same_node m.from.node own.node, λ _. (refl, (fails (nat_eq m.to.0 own.node.0) (same_node m.to own.node), λ _. tt))))))
+  on_event (Hear m) = first_is (Holds t here (Hear m)) 0 ((false, Off) ∷ (nat_eq m.from.node.0 own.node.0, OnSelf) ∷ (not (is_for own m), NotForMe) ∷ []) (causes_of_event (Hear m)) refl
+      (refl, (is_on r, λ _. (refl, (same_node m.from.node own.node, λ _. (refl, (fails (is_for own m) (is_for_is own m), λ _. tt))))))
   on_event (HearOp o) = first_is (Holds t here (HearOp o)) 0 ((false, Off) ∷ []) (causes_of_event (HearOp o)) refl (refl, (is_on r, λ _. tt))
 
 module _ (t : Table) (last : ℕ) where
@@ -188,6 +217,8 @@ module _ (t : Table) (last : ℕ) where
   off_event (Told (Permit app node value)) = off_first (Told (Permit app node value)) (DeclaredDown ∷ UnknownApp ∷ UnknownNode ∷ NotInList ∷ NotLive ∷ TooManyDots ∷ DotsUsedUp ∷ []) refl
   off_event (Told (Start app node)) = off_first (Told (Start app node)) (DeclaredDown ∷ UnknownApp ∷ UnknownNode ∷ NotInList ∷ NotLive ∷ TooManyDots ∷ DotsUsedUp ∷ []) refl
   off_event (Told (Stop app node)) = off_first (Told (Stop app node)) (DeclaredDown ∷ UnknownApp ∷ UnknownNode ∷ NotInList ∷ NotLive ∷ NotStarted ∷ TooManyDots ∷ DotsUsedUp ∷ []) refl
+  off_event (Told (Takeover app)) = off_first (Told (Takeover app)) (DeclaredDown ∷ UnknownApp ∷ NotInList ∷ NotEligible ∷ NotRunning ∷ AlreadyHolder ∷ LowerPriority ∷ TermsUsedUp ∷ DotsUsedUp ∷ []) refl
+  off_event (Tick now) = off_first (Tick now) (DeclaredDown ∷ MomentBack ∷ DotsUsedUp ∷ []) refl
   off_event (Ship to) = off_first (Ship to) (UnknownNode ∷ OnSelf ∷ []) refl
   off_event (Hear m) = off_first (Hear m) (OnSelf ∷ NotForMe ∷ []) refl
   off_event (HearOp o) = off_first (HearOp o) [] refl

@@ -1,5 +1,5 @@
 -- How an application stands and its first choice give the verdict in words.
-use Rattle.std.proofs.Common.{◌≡◌, ℕ, ◌<◌, ◌≤◌, true, false, cond, Option, Some, None, refl, sym, ◌∙◌, arith, inl, inr}
+use Rattle.std.proofs.Common.{◌≡◌, ◌↔◌, ℕ, ◌<◌, ◌≤◌, true, false, cond, Option, Some, None, refl, sym, ◌∙◌, arith, inl, inr}
 use Rattle.std.specs.Prelude.{MatchOption, nat_lt, is_some}
 use Rattle.std.proofs.lemmas.Bool.{true≢false, false≢true, ltb-true, ltb-false, lt-ltb}
 use Rattle.dac_base.specs.declared.NodeId.{NodeId}
@@ -29,6 +29,9 @@ module _ (table : Table) (app : AppId) (m n : NodeId) where
 
   pub if_earlier : IsEarlier table app m n → is_earlier table app m n ≡ true
   if_earlier e = (λ i. is_less (e.first i) (e.second i)) ∙ lt-ltb e.early e.late e.less
+
+  pub earlier_is : (is_earlier table app m n ≡ true) ↔ IsEarlier table app m n
+  earlier_is = (λ e. earlier_if e, λ e. if_earlier e)
 
 -- where the first choice is of no earlier group than the holder, no eligible node is
 pub none_earlier : (table : Table) (s : StateValue) (app : AppId) (n holder : NodeId) → IsFirst table s app n → is_earlier table app n holder ≡ false → EachEligible table s app (λ m. ¬ IsEarlier table app m holder)

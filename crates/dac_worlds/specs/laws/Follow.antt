@@ -1,5 +1,5 @@
 -- How the program's world follows the definition's worlds that it shows.
-use Rattle.std.proofs.Common.{◌≡◌, ℕ, ◌<◌, ◌-◌, Bool, true, false, cond, inl, inr, List, ◌++◌, Option, Some, None, Result, Ok, Err, length, nat_eq, refl, sym, ap, subst, ◌∙◌, lt-ltb, eq-eqb, get_or, true≢false}
+use Rattle.std.proofs.Common.{◌≡◌, ℕ, ◌<◌, ◌-◌, Bool, true, false, cond, inl, inr, List, ◌∷◌, ◌++◌, Option, Some, None, Result, Ok, Err, length, nat_eq, refl, sym, ap, subst, ◌∙◌, lt-ltb, eq-eqb, get_or, true≢false}
 use Rattle.std.specs.Prelude.{nat_lt, unwrap_or, IsOk, IfOk, IfErr, OnErr}
 use Rattle.std.specs.Option.{option_map}
 use Rattle.std.specs.List.{slice_get}
@@ -8,10 +8,13 @@ use Rattle.std.proofs.lemmas.Map.Views.{exact_unsigned_eq}
 use Rattle.std.proofs.lemmas.Bool.{false_from_ne_true}
 use Rattle.dac_base.specs.declared.NodeId.{NodeId}
 use Rattle.dac_config.specs.Table.{Table}
+use Rattle.dac_decide.specs.declared.start_gate.Opening.{Opening}
+use Rattle.dac_decide.specs.declared.start_gate.Opening.TheVariants.{Shut, Opened, GiveUp}
+use Rattle.dac_decide.specs.declared.waits.Noted.{Noted}
+use Rattle.dac_decide.specs.FailoverWait.{waits_of}
 use Rattle.dac_events.specs.declared.WorldEvent.{WorldEvent}
-use Rattle.dac_events.specs.declared.What.{What}
 use Rattle.dac_messages.specs.declared.event.Event.{Event}
-use Rattle.dac_messages.specs.declared.event.Event.TheVariants.{Boot, Crash, Command as Told, Ship, Hear, HearOp}
+use Rattle.dac_messages.specs.declared.event.Event.TheVariants.{Crash, Tick}
 use Rattle.dac_messages.specs.declared.reply.Reply.{Reply}
 use Rattle.dac_messages.specs.declared.reply.Reply.TheVariants.{Crashed}
 use Rattle.dac_commands.specs.declared.refusal.Refusal.{Refusal}
@@ -19,11 +22,12 @@ use Rattle.dac_commands.specs.declared.refusal.Refusal.TheVariants.{Off, NoMemor
 use Rattle.dac_worlds.specs.declared.fault.WorldFault.{WorldFault}
 use Rattle.dac_worlds.specs.declared.fault.WorldFault.TheVariants.{NoSuchNode, Refused}
 use Rattle.dac_node.specs.NodeValue.{NodeValue, RunValue}
-use Rattle.dac_node.specs.ModelNode.{ModelNode, ModelRun, joined, shown}
+use Rattle.dac_node.specs.ModelNode.{ModelNode, ModelRun, joined, shown, run_shown}
 use Rattle.dac_node.specs.EventRefusals.{refusal_of, refusal_by}
-use Rattle.dac_node.specs.Step.{reply_on, model_step, step_by, accepted, Stepped}
+use Rattle.dac_node.specs.Deeds.{ticks_by, opening_at, note_of}
+use Rattle.dac_node.specs.Step.{model_step, step_by, accepted, Stepped}
 use Rattle.dac_node.specs.Hearing.{HearsExactly}
-use Rattle.dac_node.specs.Changes.{ChangeValue, Prepared, changed, left_by, reply_by}
+use Rattle.dac_node.specs.Changes.{ChangeValue, Prepared, IsNotingBy, changed, left_by, reply_by}
 use Rattle.dac_worlds.specs.WorldValue.{WorldValue}
 use Rattle.dac_worlds.specs.ModelWorld.{ModelWorld, Shows, WorldStepped, happens, happens_by, answered_by, event_of, counted, numbered, with_node, issued_by, shipped_by, out_of_memory, Step, Follows}
 use Rattle.dac_worlds.specs.WorldChanges.{Goes}
@@ -33,46 +37,45 @@ use Rattle.dac_node.specs.laws.Steps.{shown_accepted, answer_accepted, step_acce
 use Rattle.dac_node.specs.laws.Options.{some_same}
 
 -- the node of a world that shows v
-node_shown : (w : ModelWorld) (v : WorldValue) → Shows w v → (me : NodeId) (old : NodeValue) → me.0 < length v.nodes → slice_get v.nodes me.0 ≡ Some old → shown (w.node me) ≡ old
-node_shown w v h me old lt is =
+node_shown : (t : Table) (w : ModelWorld) (v : WorldValue) → Shows t w v → (me : NodeId) (old : NodeValue) → me.0 < length v.nodes → slice_get v.nodes me.0 ≡ Some old → shown t (w.node me) ≡ old
+node_shown t w v h me old lt is =
     let inside : nat_lt me.0 w.count ≡ true = ap (nat_lt me.0) (sym h.count) ∙ lt-ltb me.0 (length v.nodes) lt in
-    some_same (shown (w.node me)) old (sym (ap (λ b. cond b (Some (shown (w.node me))) None) inside) ∙ (sym (h.nodes me.0) ∙ is))
+    some_same (shown t (w.node me)) old (sym (ap (λ b. cond b (Some (shown t (w.node me))) None) inside) ∙ (sym (h.nodes me.0) ∙ is))
 
 -- a step of the world where the node's step is known
 by_step : (t : Table) (w : ModelWorld) (me : NodeId) (e : Event) (s : Stepped) → model_step t me (w.node me) e ≡ s → happens_by t w me (Ok e) ≡ answered_by w me s.node s.answer
 by_step t w me e s is = ap (λ (x : Stepped). answered_by w me x.node x.answer) is
 
-is_ok_accepted : (w : ModelWorld) (me : NodeId) (last : ℕ) (run : Option ModelRun) (e : Event) → IsOk (answered_by w me (accepted me last run e).node (accepted me last run e).answer).answer
-is_ok_accepted w me last None e = refl
-is_ok_accepted w me last (Some r) e = refl
+is_ok_accepted : (t : Table) (w : ModelWorld) (me : NodeId) (last : ℕ) (run : Option ModelRun) (e : Event) → IsOk (answered_by w me (accepted t me last run e).node (accepted t me last run e).answer).answer
+is_ok_accepted t w me last None e = refl
+is_ok_accepted t w me last (Some r) e = refl
 
 -- what the program knows of the node where an event happens
 pub record Here (v : WorldValue) (me : NodeId) (old : NodeValue) : Type 0 where
   pub inside : me.0 < length v.nodes
   pub there : slice_get v.nodes me.0 ≡ Some old
 
-refusal_same : (t : Table) (w : ModelWorld) (v : WorldValue) → Shows w v → (me : NodeId) (e : Event) (old : NodeValue) → Here v me old → refusal_of t (shown (w.node me)) e ≡ refusal_of t old e
-refusal_same t w v h me e old here = ap (λ x. refusal_of t x e) (node_shown w v h me old here.inside here.there)
+refusal_same : (t : Table) (w : ModelWorld) (v : WorldValue) → Shows t w v → (me : NodeId) (e : Event) (old : NodeValue) → Here v me old → refusal_of t (shown t (w.node me)) e ≡ refusal_of t old e
+refusal_same t w v h me e old here = ap (λ x. refusal_of t x e) (node_shown t w v h me old here.inside here.there)
 
 -- only a crash is answered so
-only_crash : (me : NodeId) (last : ℕ) (run : Option ModelRun) (e : Event) → (accepted me last run e).answer ≡ Ok Crashed → e ≡ Crash
-only_crash me last None e h = cc
-only_crash me last (Some r) (Boot now) h = cc
-only_crash me last (Some r) Crash h = refl
-only_crash me last (Some r) (Told c) h = cc
-only_crash me last (Some r) (Ship to) h = cc
-only_crash me last (Some r) (Hear m) h = cc
-only_crash me last (Some r) (HearOp o) h = cc
+tick_stays : (opening : Opening) (t : Table) (r : RunValue) (noted : List (Option Noted)) (now : ℕ) → ◌≡◌ {A = Result Reply Refusal} (Ok (ticks_by opening t r noted now).reply) (Ok Crashed) → ⊥
+tick_stays Shut t r noted now h = cc
+tick_stays GiveUp t r noted now h = cc
+tick_stays Opened t r noted now h = cc
 
-crash_at_node : (w : ModelWorld) (me : NodeId) (last : ℕ) (run : Option ModelRun) (e : Event) → (answered_by w me (accepted me last run e).node (accepted me last run e).answer).answer ≡ Ok Crashed → (accepted me last run e).answer ≡ Ok Crashed
-crash_at_node w me last None e h = cc
-crash_at_node w me last (Some r) e h = same (reply_on r.origin (joined r.log) e) h
-  where
-    same : (reply : Reply) → ◌≡◌ {A = Result Reply WorldFault} (Ok reply) (Ok Crashed) → ◌≡◌ {A = Result Reply Refusal} (Ok reply) (Ok Crashed)
-    same reply p = cc
+only_crash : (t : Table) (me : NodeId) (last : ℕ) (run : Option ModelRun) (e : Event) → (accepted t me last run e).answer ≡ Ok Crashed → e ≡ Crash
+only_crash t me last None e h = cc
+only_crash t me last (Some r) Crash h = refl
+only_crash t me last (Some r) (Tick now) h = absurd (tick_stays (opening_at t (run_shown t r) now) t (run_shown t r) (waits_of t (note_of (joined r.log) (Tick now) ∷ r.notes)) now h)
+only_crash t me last (Some r) _ h = cc
+
+crash_at_node : (w : ModelWorld) (me : NodeId) (d : ModelNode) (a : Result Reply Refusal) → (answered_by w me d a).answer ≡ Ok Crashed → a ≡ Ok Crashed
+crash_at_node w me d (Ok reply) h = cc
+crash_at_node w me d (Err why) h = cc
 
 -- memory was wanting for an event that isn't refused and is no crash
-pub lacked_follows : (t : Table) (v : WorldValue) (me : NodeId) (e : Event) (old : NodeValue) → Here v me old → refusal_of t old e ≡ None → (e ≡ Crash → ⊥) → Follows v (λ w. happens_by t w me (Ok e)) out_of_memory v
+lacked_follows : (t : Table) (v : WorldValue) (me : NodeId) (e : Event) (old : NodeValue) → Here v me old → refusal_of t old e ≡ None → (e ≡ Crash → ⊥) → Follows t v (λ w. happens_by t w me (Ok e)) out_of_memory v
 lacked_follows t v me e old here none stays = record {
   each = λ w h.
       let st = step_accepted t me (w.node me) e (refusal_same t w v h me e old here ∙ none) in (
@@ -80,8 +83,10 @@ lacked_follows t v me e old here none stays = record {
         (
           inr (record {
             answered = λ _. out_of_memory;
-            accepted = subst (λ (s : WorldStepped). IsOk s.answer) (sym (by_step t w me e _ st)) (is_ok_accepted w me (w.node me).last (w.node me).run e);
-            wants = λ is. stays (only_crash me (w.node me).last (w.node me).run e (crash_at_node w me (w.node me).last (w.node me).run e (sym (ap (λ (s : WorldStepped). s.answer) (by_step t w me e _ st)) ∙ is)));
+            accepted = subst (λ (s : WorldStepped). IsOk s.answer) (sym (by_step t w me e _ st)) (is_ok_accepted t w me (w.node me).last (w.node me).run e);
+            wants = λ is.
+                let step = accepted t me (w.node me).last (w.node me).run e in
+                stays (only_crash t me (w.node me).last (w.node me).run e (crash_at_node w me step.node step.answer (sym (ap (λ (s : WorldStepped). s.answer) (by_step t w me e _ st)) ∙ is)));
             stayed = refl;
           }),
           h,
@@ -89,21 +94,21 @@ lacked_follows t v me e old here none stays = record {
       );
 }
 
-refused_follows : (t : Table) (v : WorldValue) (me : NodeId) (e : Event) (old : NodeValue) (why : Refusal) → Here v me old → refusal_of t old e ≡ Some why → Follows v (λ w. happens_by t w me (Ok e)) (Err (Refused why)) v
+refused_follows : (t : Table) (v : WorldValue) (me : NodeId) (e : Event) (old : NodeValue) (why : Refusal) → Here v me old → refusal_of t old e ≡ Some why → Follows t v (λ w. happens_by t w me (Ok e)) (Err (Refused why)) v
 refused_follows t v me e old why here some = record {
   each = λ w h.
-      let st : model_step t me (w.node me) e ≡ record { node = w.node me; answer = Err why } = ap (λ r. step_by r me (w.node me) e) (refusal_same t w v h me e old here ∙ some) in
+      let st : model_step t me (w.node me) e ≡ record { node = w.node me; answer = Err why } = ap (λ r. step_by r t me (w.node me) e) (refusal_same t w v h me e old here ∙ some) in
       let all = by_step t w me e (record { node = w.node me; answer = Err why }) st in
       (w, (inl (record { answered = ap (λ (s : WorldStepped). s.answer) (sym all); went_on = ap (λ (s : WorldStepped). s.world) (sym all) }), h));
 }
 
 -- what a node refuses, or lacks memory for; at a crash it only says that it is off
-pub err_follows : (t : Table) (v : WorldValue) (me : NodeId) (e : Event) (old : NodeValue) (why : Refusal) → Here v me old → why ≡ unwrap_or (refusal_of t old e) NoMemory → (e ≡ Crash → why ≡ Off) →
-    Follows v (λ w. happens_by t w me (Ok e)) (Err (Refused why)) v
+err_follows : (t : Table) (v : WorldValue) (me : NodeId) (e : Event) (old : NodeValue) (why : Refusal) → Here v me old → why ≡ unwrap_or (refusal_of t old e) NoMemory → (e ≡ Crash → why ≡ Off) →
+    Follows t v (λ w. happens_by t w me (Ok e)) (Err (Refused why)) v
 err_follows t v me e old why here is crash =
-    elim (refusal_of t old e) as (λ r. refusal_of t old e ≡ r → why ≡ unwrap_or r NoMemory → Follows v (λ w. happens_by t w me (Ok e)) (Err (Refused why)) v) [
-      | None ↦ λ none f. subst (λ x. Follows v (λ w. happens_by t w me (Ok e)) (Err (Refused x)) v) (sym f) (lacked_follows t v me e old here none (λ c. not_off (sym f ∙ crash c)))
-      | Some r ↦ λ some f. subst (λ x. Follows v (λ w. happens_by t w me (Ok e)) (Err (Refused x)) v) (sym f) (refused_follows t v me e old r here some)
+    elim (refusal_of t old e) as (λ r. refusal_of t old e ≡ r → why ≡ unwrap_or r NoMemory → Follows t v (λ w. happens_by t w me (Ok e)) (Err (Refused why)) v) [
+      | None ↦ λ none f. subst (λ x. Follows t v (λ w. happens_by t w me (Ok e)) (Err (Refused x)) v) (sym f) (lacked_follows t v me e old here none (λ c. not_off (sym f ∙ crash c)))
+      | Some r ↦ λ some f. subst (λ x. Follows t v (λ w. happens_by t w me (Ok e)) (Err (Refused x)) v) (sym f) (refused_follows t v me e old r here some)
     ] refl is
   where
     not_off : NoMemory ≡ Off → ⊥
@@ -119,15 +124,16 @@ changed_at nodes me old change there x is n =
     ] refl
 
 -- what an accepted event leaves
-pub ok_follows : (t : Table) (v u : WorldValue) (me : NodeId) (e : Event) (old : NodeValue) (change : ChangeValue) (reply : Reply) → Here v me old → Prepared t me old e change → Goes v me change reply u → Follows v (λ w. happens_by t w me (Ok e)) (Ok reply) u
+ok_follows : (t : Table) (v u : WorldValue) (me : NodeId) (e : Event) (old : NodeValue) (change : ChangeValue) (reply : Reply) → Here v me old → Prepared t me old e change → Goes v me change reply u → Follows t v (λ w. happens_by t w me (Ok e)) (Ok reply) u
 ok_follows t v u me e old change reply here p goes = record {
   each = λ w h.
       let d = w.node me in
-      let same = node_shown w v h me old here.inside here.there in
+      let same = node_shown t w v h me old here.inside here.there in
       let st = step_accepted t me d e (refusal_same t w v h me e old here ∙ p.accepted) in
-      let answer : (accepted me d.last d.run e).answer ≡ Ok reply = answer_accepted me d.last d.run e ∙ ap (λ r. Ok r) (ap (λ (x : NodeValue). reply_by me x.last x.run e) same ∙ sym p.reply ∙ sym goes.reply) in
-      let new : ModelNode = (accepted me d.last d.run e).node in
-      let shows : shown new ≡ changed old change = shown_accepted me d.last d.run e ∙ (ap (λ (x : NodeValue). left_by me x.last x.run e) same ∙ sym p.left) in
+      let noting : IsNotingBy t (shown t d).run p.noted e = subst (λ (x : NodeValue). IsNotingBy t x.run p.noted e) (sym same) p.noting in
+      let answer : (accepted t me d.last d.run e).answer ≡ Ok reply = answer_accepted t me d.last d.run p.noted e noting ∙ ap (λ r. Ok r) (ap (λ (x : NodeValue). reply_by t me x.last x.run p.noted e) same ∙ sym p.reply ∙ sym goes.reply) in
+      let new : ModelNode = (accepted t me d.last d.run e).node in
+      let shows : shown t new ≡ changed old change = shown_accepted t me d.last d.run p.noted e noting ∙ (ap (λ (x : NodeValue). left_by t me x.last x.run p.noted e) same ∙ sym p.left) in
       let all : happens_by t w me (Ok e) ≡ answered_by w me new (Ok reply) = by_step t w me e _ st ∙ ap (answered_by w me new) answer in
       let next : ModelWorld = record { count = w.count; node = with_node w.node me new; operations = w.operations ++ issued_by reply; messages = w.messages ++ shipped_by reply } in (
         next,
@@ -135,7 +141,7 @@ ok_follows t v u me e old change reply here p goes = record {
           inl (record { answered = ap (λ (s : WorldStepped). s.answer) (sym all); went_on = ap (λ (s : WorldStepped). s.world) (sym all) }),
           record {
             count = goes.nodes.count ∙ h.count;
-            nodes = λ n. goes.nodes.each n ∙ (changed_at v.nodes me old change here.there (shown new) shows n ∙ (ap (cond (nat_eq n me.0) (Some (shown new))) (h.nodes n) ∙ at w new n (ap (nat_lt me.0) (sym h.count) ∙ lt-ltb me.0 (length v.nodes) here.inside)));
+            nodes = λ n. goes.nodes.each n ∙ (changed_at v.nodes me old change here.there (shown t new) shows n ∙ (ap (cond (nat_eq n me.0) (Some (shown t new))) (h.nodes n) ∙ at w new n (ap (nat_lt me.0) (sym h.count) ∙ lt-ltb me.0 (length v.nodes) here.inside)));
             operations = goes.operations ∙ (λ i. h.operations i ++ issued_by (sym goes.reply i));
             messages = goes.messages ∙ (λ i. h.messages i ++ shipped_by (sym goes.reply i));
           },
@@ -143,34 +149,27 @@ ok_follows t v u me e old change reply here p goes = record {
       );
 }
   where
-    pick : (w : ModelWorld) (new : ModelNode) (n : NodeId) (b c : Bool) → (b ≡ true → c ≡ true) → cond b (Some (shown new)) (cond c (Some (shown (w.node n))) None) ≡ cond c (Some (shown (cond b new (w.node n)))) None
+    pick : (w : ModelWorld) (new : ModelNode) (n : NodeId) (b c : Bool) → (b ≡ true → c ≡ true) → cond b (Some (shown t new)) (cond c (Some (shown t (w.node n))) None) ≡ cond c (Some (shown t (cond b new (w.node n)))) None
     pick w new n true true f = refl
     pick w new n true false f = absurd (true≢false (sym (f refl)))
     pick w new n false c f = refl
 
-    at : (w : ModelWorld) (new : ModelNode) (n : ℕ) → nat_lt me.0 w.count ≡ true → cond (nat_eq n me.0) (Some (shown new)) (cond (nat_lt n w.count) (Some (shown (w.node (numbered n)))) None) ≡ cond (nat_lt n w.count) (Some (shown (with_node w.node me new (numbered n)))) None
+    at : (w : ModelWorld) (new : ModelNode) (n : ℕ) → nat_lt me.0 w.count ≡ true → cond (nat_eq n me.0) (Some (shown t new)) (cond (nat_lt n w.count) (Some (shown t (w.node (numbered n)))) None) ≡ cond (nat_lt n w.count) (Some (shown t (with_node w.node me new (numbered n)))) None
     at w new n inside = pick w new (numbered n) (nat_eq n me.0) (nat_lt n w.count) (λ x. ap (λ k. nat_lt k w.count) (exact_unsigned_eq n me.0 x) ∙ inside)
 
 -- ---- from a node's event to the world's
 -- the same step, said of the world that shows v
-pub follows_by : (v u : WorldValue) (answer : Result Reply WorldFault) (f g : ModelWorld → WorldStepped) → ((w : ModelWorld) → Shows w v → f w ≡ g w) → Follows v f answer u → Follows v g answer u
-follows_by v u answer f g same h = record {
+follows_by : (t : Table) (v u : WorldValue) (answer : Result Reply WorldFault) (f g : ModelWorld → WorldStepped) → ((w : ModelWorld) → Shows t w v → f w ≡ g w) → Follows t v f answer u → Follows t v g answer u
+follows_by t v u answer f g same h = record {
   each = λ w s. let r = h.each w s in (r.0, (subst (λ x. Step w x answer r.0) (same w s) r.1.0, r.1.1));
 }
 
 -- an event at a node that there is
-pub happens_at : (t : Table) (v : WorldValue) (e : WorldEvent) → e.node.0 < length v.nodes → (w : ModelWorld) → Shows w v → happens_by t w e.node (event_of v.operations v.messages e.what) ≡ happens t w e
+happens_at : (t : Table) (v : WorldValue) (e : WorldEvent) → e.node.0 < length v.nodes → (w : ModelWorld) → Shows t w v → happens_by t w e.node (event_of v.operations v.messages e.what) ≡ happens t w e
 happens_at t v e lt w h =
     let inside : nat_lt e.node.0 w.count ≡ true = ap (nat_lt e.node.0) (sym h.count) ∙ lt-ltb e.node.0 (length v.nodes) lt in
     (λ i. happens_by t w e.node (event_of (h.operations i) (h.messages i) e.what))
     ∙ ap (λ b. cond b (happens_by t w e.node (event_of w.operations w.messages e.what)) (record { world = w; answer = Err NoSuchNode })) (sym inside)
-
--- what follows for a node's event follows for the world's
-pub world_follows : (t : Table) (v u : WorldValue) (e : WorldEvent) (what : What) (answer : Result Reply WorldFault) → e.node.0 < length v.nodes → e.what ≡ what →
-    Follows v (λ w. happens_by t w e.node (event_of v.operations v.messages what)) answer u → Follows v (λ w. happens t w e) answer u
-world_follows t v u e what answer lt is =
-    follows_by v u answer (λ w. happens_by t w e.node (event_of v.operations v.messages what)) (λ w. happens t w e)
-    (λ w s. ap (λ x. happens_by t w e.node (event_of v.operations v.messages x)) (sym is) ∙ happens_at t v e lt w s)
 
 -- the node that the code reads
 pub node_at : (v : WorldValue) (me : NodeId) (x : NodeValue) → me.0 < length v.nodes → x ≡ get_or v.nodes me.0 x → Here v me x
@@ -183,20 +182,20 @@ counted_there xs k x some lt read =
     ∙ slice_get_read xs (length xs) (k - 1) x refl lt read
 
 -- what comes of a prepared change: all of it, or want of memory and nothing
-pub gone_follows : (t : Table) (v u : WorldValue) (me : NodeId) (e : Event) (old : NodeValue) (change : ChangeValue) (answer : Result Reply WorldFault) → Here v me old → Prepared t me old e change →
-    IfOk answer (λ reply. Goes v me change reply u) → IfErr answer (λ fault. Err fault ≡ out_of_memory) → IfErr answer (λ _. change.reply ≡ Crashed → ⊥) → OnErr answer (u ≡ v) → Follows v (λ w. happens_by t w me (Ok e)) answer u
+gone_follows : (t : Table) (v u : WorldValue) (me : NodeId) (e : Event) (old : NodeValue) (change : ChangeValue) (answer : Result Reply WorldFault) → Here v me old → Prepared t me old e change →
+    IfOk answer (λ reply. Goes v me change reply u) → IfErr answer (λ fault. Err fault ≡ out_of_memory) → IfErr answer (λ _. change.reply ≡ Crashed → ⊥) → OnErr answer (u ≡ v) → Follows t v (λ w. happens_by t w me (Ok e)) answer u
 gone_follows t v u me e old change (Ok reply) here p goes lacked stays same = ok_follows t v u me e old change reply here p goes
 gone_follows t v u me e old change (Err fault) here p goes lacked stays same =
-    subst (λ x. Follows v (λ w. happens_by t w me (Ok e)) x u) (sym lacked)
-    (subst (λ x. Follows v (λ w. happens_by t w me (Ok e)) out_of_memory x) (sym same) (lacked_follows t v me e old here p.accepted (λ c. stays (p.reply ∙ crashes c))))
+    subst (λ x. Follows t v (λ w. happens_by t w me (Ok e)) x u) (sym lacked)
+    (subst (λ x. Follows t v (λ w. happens_by t w me (Ok e)) out_of_memory x) (sym same) (lacked_follows t v me e old here p.accepted (λ c. stays (p.reply ∙ crashes c))))
   where
     -- an accepted crash is at a running node
-    at_run : (last : ℕ) (run : Option RunValue) → refusal_by t last run Crash ≡ None → reply_by me last run Crash ≡ Crashed
+    at_run : (last : ℕ) (run : Option RunValue) → refusal_by t last run Crash ≡ None → reply_by t me last run p.noted Crash ≡ Crashed
     at_run last None none = cc
     at_run last (Some r) none = refl
 
-    crashes : e ≡ Crash → reply_by me old.last old.run e ≡ Crashed
-    crashes c = ap (reply_by me old.last old.run) c ∙ at_run old.last old.run (ap (refusal_by t old.last old.run) (sym c) ∙ p.accepted)
+    crashes : e ≡ Crash → reply_by t me old.last old.run p.noted e ≡ Crashed
+    crashes c = ap (reply_by t me old.last old.run p.noted) c ∙ at_run old.last old.run (ap (refusal_by t old.last old.run) (sym c) ∙ p.accepted)
 
 -- ---- what an event at a node does
 -- what the event brings is what the node has heard from then on, beside what it had
@@ -206,16 +205,12 @@ goes_hears t v u me e old change reply here p goes = record {
       let before : old ≡ x = some_same old x (sym here.there ∙ was) in
       let after : changed old change ≡ y = some_same (changed old change) y (sym (goes.nodes.each me.0 ∙ (changed_at v.nodes me old change here.there (changed old change) refl me.0 ∙ ap (λ b. cond b (Some (changed old change)) (slice_get v.nodes me.0)) (eq-eqb me.0 me.0 refl))) ∙ is) in
       subst (λ (z : NodeValue × (Reply × NodeValue)). HearsExactly z.0 e z.1.0 z.1.1) (λ i. (before i, ((sym p.reply ∙ sym goes.reply) i, (sym p.left ∙ after) i)))
-      (hears_exactly t me old.last old.run e p.accepted);
+      (hears_exactly t me old.last old.run p.noted e p.accepted);
   others = λ n other. goes.nodes.each n ∙ ap (λ b. cond b (option_map (λ (y : NodeValue). changed y change) (slice_get v.nodes n)) (slice_get v.nodes n)) (false_from_ne_true (nat_eq n me.0) (λ e. other (exact_unsigned_eq n me.0 e)));
 }
 
 same_ok : {X Y : Type 0} (x y : X) → ◌≡◌ {A = Result X Y} (Ok x) (Ok y) → x ≡ y
-same_ok {X} {Y} x y e = ap (ok_or x) e
-  where
-    ok_or : X → Result X Y → X
-    ok_or d (Ok z) = z
-    ok_or d (Err w) = d
+same_ok x y e = cc
 
 no_ok : {X Y P : Type 0} (y : Y) (x : X) → ◌≡◌ {A = Result X Y} (Err y) (Ok x) → P
 no_ok y x e = cc
@@ -244,8 +239,8 @@ happens_fault t v me fault = record {
 
 -- ---- from the node to the world
 -- the event of the world says what happens at its node
-pub follows_in : (t : Table) (v u : WorldValue) (e : WorldEvent) (answer : Result Reply WorldFault) → e.node.0 < length v.nodes → HappensAt t v e.node (event_of v.operations v.messages e.what) answer u → Follows v (λ w. happens t w e) answer u
-follows_in t v u e answer lt h = world_follows t v u e e.what answer lt refl h.follows
+pub follows_in : (t : Table) (v u : WorldValue) (e : WorldEvent) (answer : Result Reply WorldFault) → e.node.0 < length v.nodes → HappensAt t v e.node (event_of v.operations v.messages e.what) answer u → Follows t v (λ w. happens t w e) answer u
+follows_in t v u e answer lt h = follows_by t v u answer (λ w. happens_by t w e.node (event_of v.operations v.messages e.what)) (λ w. happens t w e) (happens_at t v e lt) h.follows
 
 pub hears_in : (t : Table) (v u : WorldValue) (e : WorldEvent) (answer : Result Reply WorldFault) → HappensAt t v e.node (event_of v.operations v.messages e.what) answer u → IfOk answer (λ reply. HearsIn v e reply u)
 hears_in t v u e answer h = by_answer answer refl

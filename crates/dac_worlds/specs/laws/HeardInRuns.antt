@@ -1,7 +1,7 @@
 -- What fits a running node is heard.
-use Rattle.std.proofs.Common.{◌≡◌, ℕ, zero, suc, ◌-◌, Bool, true, false, not, cond, List, [], ◌∷◌, ◌++◌, Option, Some, None, Result, Ok, Err, inl, inr, nat_eq, refl, sym, ap, subst, ◌∙◌, eq-eqb}
+use Rattle.std.proofs.Common.{◌≡◌, ℕ, zero, suc, ◌-◌, Bool, true, false, not, cond, ◌&&◌, List, [], ◌∷◌, Option, Some, None, Result, Ok, Err, inl, inr, nat_eq, refl, sym, ap, subst, ◌∙◌, eq-eqb}
 use Rattle.std.specs.Prelude.{nat_lt}
-use Rattle.std.specs.Option.{option_map}
+use Rattle.std.specs.Option.{option_map, option_map_or}
 use Rattle.std.specs.List.{slice_get}
 use Rattle.std.proofs.lemmas.Map.Views.{exact_unsigned_eq}
 use Rattle.std.proofs.lemmas.Bool.{false_from_ne_true}
@@ -12,12 +12,13 @@ use Rattle.dac_meaning.specs.Below.{is_below}
 use Rattle.dac_config.specs.Table.{Table}
 use Rattle.dac_events.specs.declared.WorldEvent.{WorldEvent}
 use Rattle.dac_events.specs.declared.What.{What}
-use Rattle.dac_events.specs.declared.What.TheVariants.{Boot as Boots, Crash as Crashes, Command as Tells, Ship as Ships, Deliver, Hand}
+use Rattle.dac_events.specs.declared.What.TheVariants.{Deliver, Hand}
 use Rattle.dac_messages.specs.declared.message.Message.{Message}
+use Rattle.dac_messages.specs.Bodies.{content_of}
 use Rattle.dac_messages.specs.declared.event.Event.{Event}
 use Rattle.dac_messages.specs.declared.event.Event.TheVariants.{Hear, HearOp}
 use Rattle.dac_messages.specs.declared.reply.Reply.{Reply}
-use Rattle.dac_messages.specs.declared.reply.Reply.TheVariants.{Booted, Crashed, Issued, Shipped, Heard}
+use Rattle.dac_messages.specs.declared.reply.Reply.TheVariants.{Booted, Crashed, Issued, Ticked, Held, GaveUp, Shipped, Heard}
 use Rattle.dac_commands.specs.Causes.{first}
 use Rattle.dac_commands.specs.declared.refusal.Refusal.{Refusal}
 use Rattle.dac_commands.specs.declared.refusal.Refusal.TheVariants.{OnSelf, NotForMe}
@@ -25,13 +26,16 @@ use Rattle.dac_worlds.specs.declared.fault.WorldFault.{WorldFault}
 use Rattle.dac_worlds.specs.declared.fault.WorldFault.TheVariants.{NoSuchNode}
 use Rattle.dac_node.specs.ModelNode.{ModelNode, ModelRun, joined, shown, run_shown}
 use Rattle.dac_node.specs.EventRefusals.{refusal_of, refusal_by, refusal_to_hear}
-use Rattle.dac_node.specs.Step.{Stepped, model_step, accepted, reply_on}
+use Rattle.dac_node.specs.Step.{Stepped, model_step, accepted, deed_on}
 use Rattle.dac_node.specs.laws.Steps.{step_accepted}
 use Rattle.dac_node.specs.laws.Options.{some_same}
 use Rattle.dac_worlds.specs.ModelWorld.{ModelWorld, happens, happens_by, answered_by, event_of, heard_by, handed_by, counted, Step, Run, start}
-use Rattle.dac_worlds.specs.SetWorld.{SetWorld, Copy, with_set, united, brought_to, set_step, no_sets}
-use Rattle.dac_worlds.specs.Fits.{RunsIn, Fits, IsHeard, HearsWhatFits, HearsAllThatFits}
-use Rattle.dac_worlds.specs.laws.Sound.{Answer, Sound, CopyOk, CopiesOk, state_in, sound_step, sound_start}
+use Rattle.dac_worlds.specs.SetWorld.{SetWorld, NodeSet, Issue, Copy, with_set, united, booting, issuing, brought_to, set_step, no_sets}
+use Rattle.dac_worlds.specs.Convergence.{state_by}
+use Rattle.dac_worlds.specs.Fits.{RunsIn, IsCopyFor, Fits, IsHeard, HearsWhatFits, HearsAllThatFits}
+use Rattle.dac_worlds.specs.laws.OneNode.{state_in}
+use Rattle.dac_worlds.specs.laws.Runs.{run_first}
+use Rattle.dac_worlds.specs.laws.Sound.{Answer, Sound, CopyOk, CopiesOk, held_at, sound_step, sound_start}
 
 none_some : {X P : Type 0} {x : X} → None ≡ Some x → P
 none_some e = cc
@@ -42,17 +46,20 @@ abbrev pub Inside : ℕ → SetWorld → Type 0
 Inside count s = (n : NodeId) → RunsIn s n → nat_lt n.0 count ≡ true
 
 -- node n's set is replaced
-inside_with : (count : ℕ) (n : NodeId) (held : Option (List Operation)) (s : SetWorld) (issued : List Operation) (copies : List Copy) → nat_lt n.0 count ≡ true → Inside count s → Inside count (record { node = with_set s.node n held; issued = issued; copies = copies })
+inside_with : (count : ℕ) (n : NodeId) (held : Option NodeSet) (s : SetWorld) (issued : List Issue) (copies : List Copy) → nat_lt n.0 count ≡ true → Inside count s → Inside count (record { node = with_set s.node n held; issued = issued; copies = copies })
 inside_with count n held s issued copies here h m =
-    elim (nat_eq m.0 n.0) as (λ b. nat_eq m.0 n.0 ≡ b → (os : List Operation) × (cond b held (s.node m) ≡ Some os) → nat_lt m.0 count ≡ true) [
+    elim (nat_eq m.0 n.0) as (λ b. nat_eq m.0 n.0 ≡ b → (set : NodeSet) × (cond b held (s.node m) ≡ Some set) → nat_lt m.0 count ≡ true) [
       | true ↦ λ t _. ap (λ k. nat_lt k count) (exact_unsigned_eq m.0 n.0 t) ∙ here
       | false ↦ λ _ runs. h m runs
     ] refl
 
 inside_reply : (count : ℕ) (s : SetWorld) (n : NodeId) (what : What) (reply : Reply) → nat_lt n.0 count ≡ true → Inside count s → Inside count (set_step s n what (Ok reply))
-inside_reply count s n what (Booted o) here h = inside_with count n (Some (o ∷ [])) s (s.issued ++ o ∷ []) s.copies here h
+inside_reply count s n what (Booted o) here h = inside_with count n (Some (record { inc = o.dot.origin.inc; operations = o ∷ [] })) s (booting s n o).issued s.copies here h
 inside_reply count s n what Crashed here h = inside_with count n None s s.issued s.copies here h
-inside_reply count s n what (Issued o) here h = inside_with count n (united (s.node n) (o ∷ [])) s (s.issued ++ o ∷ []) s.copies here h
+inside_reply count s n what (Issued o) here h = inside_with count n (united (s.node n) (o ∷ [])) s (issuing s n (o ∷ [])).issued s.copies here h
+inside_reply count s n what (Ticked ops passed) here h = inside_with count n (united (s.node n) ops) s (issuing s n ops).issued s.copies here h
+inside_reply count s n what Held here h = h
+inside_reply count s n what GaveUp here h = inside_with count n None s s.issued s.copies here h
 inside_reply count s n what (Shipped m) here h = h
 inside_reply count s n what (Heard fresh) here h = inside_with count n (united (s.node n) (brought_to s n what)) s s.issued s.copies here h
 
@@ -91,47 +98,52 @@ copy_counted ops ms cs k c h e =
       | false ↦ λ p. copy_there ops ms cs (k - 1) c h p
     ] e
 
-for_it : (a b : Bool) → a ≡ false → b ≡ true → first ((a, OnSelf) ∷ (not b, NotForMe) ∷ []) ≡ None
-for_it a b p q = λ i. first ((p i, OnSelf) ∷ (not (q i), NotForMe) ∷ [])
+for_it : (a b c : Bool) → a ≡ false → b ≡ true → c ≡ true → first ((a, OnSelf) ∷ (not (b && c), NotForMe) ∷ []) ≡ None
+for_it a b c p q r = λ i. first ((p i, OnSelf) ∷ (not (q i && r i), NotForMe) ∷ [])
 
 module _ (t : Table) (w : ModelWorld) (s : SetWorld) (h : Sound w s) (n : NodeId) where
   run_there : RunsIn s n → (r : ModelRun) × ((w.node n).run ≡ Some r)
-  run_there runs = by_run (w.node n).run refl ((h.nodes n).state ∙ ap (option_map meaning_of) runs.1)
+  run_there runs = by_run (w.node n).run refl ((h.nodes n).state ∙ ap (option_map state_by) runs.1)
     where
-      by_run : (run : Option ModelRun) → (w.node n).run ≡ run → option_map state_in run ≡ Some (meaning_of runs.0) → (r : ModelRun) × ((w.node n).run ≡ Some r)
+      by_run : (run : Option ModelRun) → (w.node n).run ≡ run → option_map state_in run ≡ Some (state_by runs.0) → (r : ModelRun) × ((w.node n).run ≡ Some r)
       by_run None on e = none_some e
       by_run (Some r) on e = (r, on)
 
   -- what isn't refused and is answered as heard
-  heard_free : (e : Event) (r : ModelRun) (fresh : Bool) → (w.node n).run ≡ Some r → refusal_of t (shown (w.node n)) e ≡ None → reply_on r.origin (joined r.log) e ≡ Heard fresh → IsHeard (happens_by t w n (Ok e)).answer
-  heard_free e r fresh on none is = (fresh, ap (λ (st : Stepped). (answered_by w n st.node st.answer).answer) (step_accepted t n (w.node n) e none ∙ ap (λ run. accepted n (w.node n).last run e) on) ∙ ap (λ reply. Ok reply) is)
+  heard_free : (e : Event) (r : ModelRun) (fresh : Bool) → (w.node n).run ≡ Some r → refusal_of t (shown t (w.node n)) e ≡ None → (deed_on t r e).reply ≡ Heard fresh → IsHeard (happens_by t w n (Ok e)).answer
+  heard_free e r fresh on none is = (fresh, ap (λ (st : Stepped). (answered_by w n st.node st.answer).answer) (step_accepted t n (w.node n) e none ∙ ap (λ run. accepted t n (w.node n).last run e) on) ∙ ap (λ reply. Ok reply) is)
 
   -- a message for the node isn't refused
-  message_free : (m : Message) (c : Copy) (r : ModelRun) → (w.node n).run ≡ Some r → CopyOk w.operations m c → c.to ≡ n → (c.from ≡ n → ⊥) → refusal_of t (shown (w.node n)) (Hear m) ≡ None
-  message_free m c r on copy to far =
-      ap (λ run. refusal_by t (w.node n).last (option_map run_shown run) (Hear m)) on
-      ∙ (ap (λ q. refusal_to_hear q m) ((h.nodes n).origin r on)
-      ∙ for_it (nat_eq m.from.node.0 n.0) (nat_eq m.to.0 n.0)
-      (false_from_ne_true (nat_eq m.from.node.0 n.0) (λ e. far (sym copy.from ∙ same_node m.from.node (exact_unsigned_eq m.from.node.0 n.0 e))))
-      (eq-eqb m.to.0 n.0 (ap (λ (k : NodeId). k.0) (copy.to ∙ to))))
+  message_free : (k : ℕ) (fits : IsCopyFor s n k) (m : Message) (r : ModelRun) → (w.node n).run ≡ Some r → CopyOk w.operations m fits.copy → refusal_of t (shown t (w.node n)) (Hear m) ≡ None
+  message_free k fits m r on copy =
+      let last = (w.node n).last in
+      let held = held_at w s n r h on in
+      let bound : option_map_or (λ inc. nat_eq inc last) m.only true ≡ true = bound_to m.only last (λ inc e. sym (fits.only inc (sym copy.only ∙ e) held.set held.is) ∙ held.inc) in
+      ap (λ run. refusal_by t last (option_map (run_shown t) run) (Hear m)) on
+      ∙ (ap (λ q. refusal_to_hear q m) held.mine
+      ∙ for_it (nat_eq m.from.node.0 n.0) (nat_eq m.to.0 n.0) (option_map_or (λ inc. nat_eq inc last) m.only true)
+      (false_from_ne_true (nat_eq m.from.node.0 n.0) (λ e. fits.from (sym copy.from ∙ same_node m.from.node (exact_unsigned_eq m.from.node.0 n.0 e))))
+      (eq-eqb m.to.0 n.0 (ap (λ (k : NodeId). k.0) (copy.to ∙ fits.to)))
+      bound)
     where
       same_node : (m : NodeId) → m.0 ≡ n.0 → m ≡ n
       same_node m e = ap (λ k. record { 0 = k }) e
 
+      bound_to : (only : Option ℕ) (last : ℕ) → ((inc : ℕ) → only ≡ Some inc → inc ≡ last) → option_map_or (λ inc. nat_eq inc last) only true ≡ true
+      bound_to None last f = refl
+      bound_to (Some inc) last f = eq-eqb inc last (f inc refl)
+
   heard_by_node : (what : What) → RunsIn s n → Fits s n what → IsHeard (happens_by t w n (event_of w.operations w.messages what)).answer
-  heard_by_node (Boots now) runs fits = absurd fits
-  heard_by_node Crashes runs fits = absurd fits
-  heard_by_node (Tells c) runs fits = absurd fits
-  heard_by_node (Ships to) runs fits = absurd fits
   heard_by_node (Deliver k) runs fits =
       let run = run_there runs in
       let m = copy_counted w.operations w.messages s.copies k fits.copy h.copies fits.there in
       subst (λ o. IsHeard (happens_by t w n (heard_by o)).answer) (sym m.1.0)
-      (heard_free (Hear m.0) run.0 (not (is_below m.0.body (joined run.0.log))) run.1 (message_free m.0 fits.copy run.0 run.1 m.1.1 fits.to fits.from) refl)
+      (heard_free (Hear m.0) run.0 (not (is_below (content_of m.0.body) (joined run.0.log))) run.1 (message_free k fits m.0 run.0 run.1 m.1.1) refl)
   heard_by_node (Hand k) runs fits =
       let run = run_there runs in
       subst (λ o. IsHeard (happens_by t w n (handed_by o)).answer) (sym (ap (λ os. counted os k) (sym h.issued) ∙ fits.1))
-      (heard_free (HearOp fits.0) run.0 (not (is_below (meaning_of (fits.0 ∷ [])) (joined run.0.log))) run.1 (ap (λ r. refusal_by t (w.node n).last (option_map run_shown r) (HearOp fits.0)) run.1) refl)
+      (heard_free (HearOp fits.0) run.0 (not (is_below (meaning_of (fits.0 ∷ [])) (joined run.0.log))) run.1 (ap (λ r. refusal_by t (w.node n).last (option_map (run_shown t) r) (HearOp fits.0)) run.1) refl)
+  heard_by_node _ runs fits = absurd fits
 
 -- ---- one event of the world, and every run
 heard_happens : (t : Table) (w : ModelWorld) (s : SetWorld) (e : WorldEvent) → Sound w s → Inside w.count s → RunsIn s e.node → Fits s e.node e.what → IsHeard (happens t w e).answer
@@ -146,7 +158,8 @@ heard_step t w s e a next h inside (inr l) runs fits = inr l.answered
 heard_along : (t : Table) (w : ModelWorld) (s : SetWorld) (es : List WorldEvent) (answers : List Answer) (final : ModelWorld) → Sound w s → Inside w.count s → Run t w es answers final → HearsAllThatFits s es answers
 heard_along t w s [] answers final h inside r = tt
 heard_along t w s (e ∷ es) [] final h inside r = tt
-heard_along t w s (e ∷ es) (a ∷ answers) final h inside r =
+heard_along t w s (e ∷ es) (a ∷ answers) final h inside run =
+    let r = run_first t w e es a answers final run in
     (heard_step t w s e a r.0 h inside r.1.0, heard_along t r.0 (set_step s e.node e.what a) es answers final (sound_step t w s e a r.0 h r.1.0) (inside_step t w s e a r.0 inside r.1.0) r.1.1)
 
 -- in every run of the definition's world, from the start

@@ -6,7 +6,7 @@ use Rattle.dac_operations.specs.Operations.{Operation}
 use Rattle.dac_config.specs.Table.{Table}
 use Rattle.dac_events.specs.declared.WorldEvent.{WorldEvent}
 use Rattle.dac_events.specs.declared.What.{What}
-use Rattle.dac_events.specs.declared.What.TheVariants.{Boot as Boots, Crash as Crashes, Command as Tells, Ship as Ships, Deliver, Hand}
+use Rattle.dac_events.specs.declared.What.TheVariants.{Deliver, Hand}
 use Rattle.dac_messages.specs.declared.message.Message.{Message}
 use Rattle.dac_messages.specs.declared.event.Event.{Event}
 use Rattle.dac_messages.specs.declared.reply.Reply.{Reply}
@@ -19,7 +19,9 @@ use Rattle.dac_node.specs.EventRefusals.{refusal_of}
 use Rattle.dac_node.specs.Step.{step_by, accepted}
 use Rattle.dac_node.specs.laws.Refused.{never_memory}
 use Rattle.dac_worlds.specs.ModelWorld.{ModelWorld, happens, happens_by, answered_by, event_of, heard_by, handed_by, counted, out_of_memory}
-use Rattle.dac_worlds.specs.laws.Sound.{Answer}
+
+abbrev Answer : Type 0
+Answer = Result Reply WorldFault
 
 -- the answer isn't want of memory
 abbrev Enough : Answer → Type 0
@@ -51,15 +53,15 @@ enough_refused why other = enough_fault (Refused why) (λ e. other (why_same why
     why_same v u e = ap (why_of v) e
 
 module _ (t : Table) (w : ModelWorld) (n : NodeId) where
-  enough_accepted : (e : Event) (run : Option ModelRun) → let st = accepted n (w.node n).last run e in Enough (answered_by w n st.node st.answer).answer
+  enough_accepted : (e : Event) (run : Option ModelRun) → let st = accepted t n (w.node n).last run e in Enough (answered_by w n st.node st.answer).answer
   enough_accepted e None = enough_ok _
   enough_accepted e (Some r) = enough_ok _
 
   enough_by : (r : Result Event WorldFault) → ((fault : WorldFault) → r ≡ Err fault → fault ≡ Refused NoMemory → ⊥) → Enough (happens_by t w n r).answer
   enough_by (Err fault) other = enough_fault fault (other fault refl)
-  enough_by (Ok e) other = elim (refusal_of t (shown (w.node n)) e) as (λ r. refusal_of t (shown (w.node n)) e ≡ r → let st = step_by r n (w.node n) e in Enough (answered_by w n st.node st.answer).answer) [
+  enough_by (Ok e) other = elim (refusal_of t (shown t (w.node n)) e) as (λ r. refusal_of t (shown t (w.node n)) e ≡ r → let st = step_by r t n (w.node n) e in Enough (answered_by w n st.node st.answer).answer) [
     | None ↦ λ _. enough_accepted e (w.node n).run
-    | Some why ↦ λ is. enough_refused why (λ p. never_memory t (shown (w.node n)) e (is ∙ ap (λ x. Some x) p))
+    | Some why ↦ λ is. enough_refused why (λ p. never_memory t (shown t (w.node n)) e (is ∙ ap (λ x. Some x) p))
   ] refl
 
 no_message : (m : Option Message) (fault : WorldFault) → heard_by m ≡ Err fault → fault ≡ Refused NoMemory → ⊥
@@ -71,12 +73,9 @@ no_operation None fault e p = cc
 no_operation (Some o) fault e p = cc
 
 event_fault : (os : List Operation) (ms : List Message) (what : What) (fault : WorldFault) → event_of os ms what ≡ Err fault → fault ≡ Refused NoMemory → ⊥
-event_fault os ms (Boots now) fault e p = cc
-event_fault os ms Crashes fault e p = cc
-event_fault os ms (Tells c) fault e p = cc
-event_fault os ms (Ships to) fault e p = cc
 event_fault os ms (Deliver k) fault e p = no_message (counted ms k) fault e p
 event_fault os ms (Hand k) fault e p = no_operation (counted os k) fault e p
+event_fault os ms _ fault e p = cc
 
 -- no event is answered so
 pub enough_memory : (t : Table) (w : ModelWorld) (e : WorldEvent) → (happens t w e).answer ≡ out_of_memory → ⊥

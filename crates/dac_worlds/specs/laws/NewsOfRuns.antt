@@ -1,5 +1,5 @@
 -- What is heard is answered by whether it brought a dot that the node hadn't heard.
-use Rattle.std.proofs.Common.{◌≡◌, Bool, true, false, not, cond, List, [], ◌∷◌, Option, Some, None, Ok, Err, inl, inr, refl, sym, ap, subst, ◌∙◌, true≢false}
+use Rattle.std.proofs.Common.{◌≡◌, ℕ, Bool, true, false, not, cond, List, [], ◌∷◌, Option, Some, None, Ok, Err, inl, inr, refl, sym, ap, subst, ◌∙◌, true≢false}
 use Rattle.std.specs.Prelude.{◌↔◌, IsTrue, nat_lt}
 use Rattle.std.specs.Option.{option_map}
 use Rattle.std.specs.List.{list_any}
@@ -13,21 +13,29 @@ use Rattle.dac_meaning.specs.Meaning.{meaning_of, Within, Agree, has_dot}
 use Rattle.dac_meaning.specs.Readers.{heard-meaning}
 use Rattle.dac_meaning.specs.Members.{found, finds}
 use Rattle.dac_config.specs.Table.{Table}
+use Rattle.dac_decide.specs.declared.start_gate.Opening.{Opening}
+use Rattle.dac_decide.specs.declared.start_gate.Opening.TheVariants.{Shut, Opened, GiveUp}
+use Rattle.dac_decide.specs.declared.waits.Noted.{Noted}
+use Rattle.dac_decide.specs.FailoverWait.{waits_of}
 use Rattle.dac_events.specs.declared.WorldEvent.{WorldEvent}
 use Rattle.dac_events.specs.declared.What.{What}
+use Rattle.dac_messages.specs.Bodies.{content_of}
 use Rattle.dac_messages.specs.declared.event.Event.{Event}
-use Rattle.dac_messages.specs.declared.event.Event.TheVariants.{Boot, Crash, Command as Told, Ship, Hear, HearOp}
+use Rattle.dac_messages.specs.declared.event.Event.TheVariants.{Boot, Tick, Hear, HearOp}
 use Rattle.dac_commands.specs.declared.refusal.Refusal.TheVariants.{AlreadyOn}
 use Rattle.dac_worlds.specs.declared.fault.WorldFault.TheVariants.{NoSuchNode}
 use Rattle.dac_meaning.specs.Below.{is_below, is_below-is}
+use Rattle.dac_node.specs.NodeValue.{RunValue}
 use Rattle.dac_node.specs.ModelNode.{ModelRun, joined, shown, run_shown}
 use Rattle.dac_node.specs.EventRefusals.{refusal_of, refusal_by}
+use Rattle.dac_node.specs.Deeds.{ticks_by, opening_at, note_of}
 use Rattle.dac_node.specs.Step.{step_by, accepted}
 use Rattle.dac_worlds.specs.ModelWorld.{ModelWorld, happens, happens_by, answered_by, event_of, Step, Run}
-use Rattle.dac_worlds.specs.SetWorld.{SetWorld, brought_to, set_step}
-use Rattle.dac_worlds.specs.News.{HasDot, HasNews, held_by, TellsNews, AnswersNews}
+use Rattle.dac_worlds.specs.SetWorld.{SetWorld, NodeSet, held_by, brought_to, set_step}
+use Rattle.dac_worlds.specs.News.{HasDot, HasNews, TellsNews, AnswersNews}
 use Rattle.dac_worlds.specs.laws.Operations.{DistinctDots-agree}
 use Rattle.dac_worlds.specs.laws.Meanings.{heard_in, below_where_heard}
+use Rattle.dac_worlds.specs.laws.Runs.{run_first}
 use Rattle.dac_worlds.specs.laws.Sound.{Answer, Sound, Brings, held_at, brings_copy, brings_one, sound_step}
 
 -- ---- sets of operations
@@ -75,31 +83,36 @@ told_news : (w : ModelWorld) (s : SetWorld) (n : NodeId) (what : What) (body : S
     IsTrue (not (is_below body (joined r.log))) ↔ HasNews (held_by (s.node n)) (brought_to s n what)
 told_news w s n what body r h on b =
     let held = held_at w s n r h on in
-    subst (λ (o : Option (List Operation)). IsTrue (not (is_below body (joined r.log))) ↔ HasNews (held_by o) (brought_to s n what)) (sym held.is)
-    (subst (λ (os : List Operation). IsTrue (not (is_below body (joined r.log))) ↔ HasNews held.set os) (sym b.brought)
-    (subst (λ (x : StateValue × StateValue). IsTrue (not (is_below x.0 x.1)) ↔ HasNews held.set b.operations) (λ i. (sym b.means i, sym held.state i))
-    (news-is held.set b.operations w.operations (held.ok.within held.set refl) b.within (DistinctDots-agree w.operations h.distinct))))
+    subst (λ (o : Option NodeSet). IsTrue (not (is_below body (joined r.log))) ↔ HasNews (held_by o) (brought_to s n what)) (sym held.is)
+    (subst (λ (os : List Operation). IsTrue (not (is_below body (joined r.log))) ↔ HasNews held.set.operations os) (sym b.brought)
+    (subst (λ (x : StateValue × StateValue). IsTrue (not (is_below x.0 x.1)) ↔ HasNews held.set.operations b.operations) (λ i. (sym b.means i, sym held.state i))
+    (news-is held.set.operations b.operations w.operations held.ok.within b.within (DistinctDots-agree w.operations h.distinct))))
 
-news_ok : (t : Table) (w : ModelWorld) (s : SetWorld) (e : WorldEvent) (at : Event) (run : Option ModelRun) → Sound w s → event_of w.operations w.messages e.what ≡ Ok at → refusal_of t (shown (w.node e.node)) at ≡ None → (w.node e.node).run ≡ run →
-    TellsNews s e (answered_by w e.node (accepted e.node (w.node e.node).last run at).node (accepted e.node (w.node e.node).last run at).answer).answer
+no_news : (t : Table) (s : SetWorld) (e : WorldEvent) (r : RunValue) (noted : List (Option Noted)) (now : ℕ) (opening : Opening) → TellsNews s e (Ok (ticks_by opening t r noted now).reply)
+no_news t s e r noted now Shut = tt
+no_news t s e r noted now GiveUp = tt
+no_news t s e r noted now Opened = tt
+
+news_ok : (t : Table) (w : ModelWorld) (s : SetWorld) (e : WorldEvent) (at : Event) (run : Option ModelRun) → Sound w s → event_of w.operations w.messages e.what ≡ Ok at → refusal_of t (shown t (w.node e.node)) at ≡ None → (w.node e.node).run ≡ run →
+    let step = accepted t e.node (w.node e.node).last run at in
+    TellsNews s e (answered_by w e.node step.node step.answer).answer
 news_ok t w s e at None h is none on = tt
-news_ok t w s e (Boot now) (Some r) h is none on = absurd (no (ap (λ (l : Option ModelRun). refusal_by t (w.node e.node).last (option_map run_shown l) (Boot now)) (sym on) ∙ none))
+news_ok t w s e (Boot now) (Some r) h is none on = absurd (no (ap (λ (l : Option ModelRun). refusal_by t (w.node e.node).last (option_map (run_shown t) l) (Boot now)) (sym on) ∙ none))
   where
     no : Some AlreadyOn ≡ None → ⊥
     no p = cc
-news_ok t w s e Crash (Some r) h is none on = tt
-news_ok t w s e (Told c) (Some r) h is none on = tt
-news_ok t w s e (Ship to) (Some r) h is none on = tt
+news_ok t w s e (Tick now) (Some r) h is none on = no_news t s e (run_shown t r) (waits_of t (note_of (joined r.log) (Tick now) ∷ r.notes)) now (opening_at t (run_shown t r) now)
 news_ok t w s e (Hear m) (Some r) h is none on =
-    told_news w s e.node e.what m.body r h on (brings_copy w s e.node e.what m r h on is (ap (λ (l : Option ModelRun). refusal_by t (w.node e.node).last (option_map run_shown l) (Hear m)) (sym on) ∙ none))
+    told_news w s e.node e.what (content_of m.body) r h on (brings_copy w s e.node e.what m r h on is (ap (λ (l : Option ModelRun). refusal_by t (w.node e.node).last (option_map (run_shown t) l) (Hear m)) (sym on) ∙ none))
 news_ok t w s e (HearOp o) (Some r) h is none on = told_news w s e.node e.what (meaning_of (o ∷ [])) r h on (brings_one w s e.node e.what o h is)
+news_ok t w s e _ (Some r) h is none on = tt
 
 news_by : (t : Table) (w : ModelWorld) (s : SetWorld) (e : WorldEvent) → Sound w s → TellsNews s e (happens_by t w e.node (event_of w.operations w.messages e.what)).answer
 news_by t w s e h =
     let n = e.node in
     elim (event_of w.operations w.messages e.what) as (λ r. event_of w.operations w.messages e.what ≡ r → TellsNews s e (happens_by t w n r).answer) [
       | Err fault ↦ λ _. tt
-      | Ok at ↦ λ is. elim (refusal_of t (shown (w.node n)) at) as (λ r. refusal_of t (shown (w.node n)) at ≡ r → TellsNews s e (answered_by w n (step_by r n (w.node n) at).node (step_by r n (w.node n) at).answer).answer) [
+      | Ok at ↦ λ is. elim (refusal_of t (shown t (w.node n)) at) as (λ r. refusal_of t (shown t (w.node n)) at ≡ r → TellsNews s e (answered_by w n (step_by r t n (w.node n) at).node (step_by r t n (w.node n) at).answer).answer) [
         | Some why ↦ λ _. tt
         | None ↦ λ none. news_ok t w s e at (w.node n).run h is none refl
       ] refl
@@ -120,4 +133,6 @@ news_step t w s e a next h (inr l) = subst (TellsNews s e) (sym l.answered) tt
 pub news_run : (t : Table) (w : ModelWorld) (s : SetWorld) (es : List WorldEvent) (answers : List Answer) (final : ModelWorld) → Sound w s → Run t w es answers final → AnswersNews s es answers
 news_run t w s [] answers final h r = tt
 news_run t w s (e ∷ es) [] final h r = tt
-news_run t w s (e ∷ es) (a ∷ answers) final h r = (news_step t w s e a r.0 h r.1.0, news_run t r.0 (set_step s e.node e.what a) es answers final (sound_step t w s e a r.0 h r.1.0) r.1.1)
+news_run t w s (e ∷ es) (a ∷ answers) final h run =
+    let r = run_first t w e es a answers final run in
+    (news_step t w s e a r.0 h r.1.0, news_run t r.0 (set_step s e.node e.what a) es answers final (sound_step t w s e a r.0 h r.1.0) r.1.1)

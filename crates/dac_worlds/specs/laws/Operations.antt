@@ -7,7 +7,7 @@ use Rattle.dac_dots.specs.declared.dot.Dot.{Dot}
 use Rattle.dac_wishes.specs.Writes.{same_dot, same_dot_is, same_dot_itself}
 use Rattle.dac_operations.specs.Operations.{Operation}
 use Rattle.dac_meaning.specs.Meaning.{In, Within, Agree, has_dot}
-use Rattle.dac_meaning.specs.Members.{finds}
+use Rattle.dac_meaning.specs.Members.{finds, In-append_right}
 use Rattle.dac_worlds.specs.Convergence.{DistinctDots}
 
 pub one_in : (o x : Operation) → In o (x ∷ []) → o ≡ x
@@ -48,3 +48,13 @@ DistinctDots-push (x ∷ os) o d none = (
   list_any-append (has_dot x.dot) os (o ∷ []) ∙ (ap (λ b. b || (same_dot x.dot o.dot || false)) d.0 ∙ ap (λ b. b || false) (apart x.dot o.dot (either_false_left (same_dot o.dot x.dot) (list_any (has_dot o.dot) os) none))),
   DistinctDots-push os o d.1 (either_false_right (same_dot o.dot x.dot) (list_any (has_dot o.dot) os) none),
 )
+
+pub DistinctDots-left : (os ps : List Operation) → DistinctDots (os ++ ps) → DistinctDots os
+DistinctDots-left [] ps d = tt
+DistinctDots-left (x ∷ os) ps d = (either_false_left (list_any (has_dot x.dot) os) (list_any (has_dot x.dot) ps) (sym (list_any-append (has_dot x.dot) os ps) ∙ d.0), DistinctDots-left os ps d.1)
+
+-- none of the first is one of the others
+pub DistinctDots-apart : (os ps : List Operation) → DistinctDots (os ++ ps) → (o : Operation) → In o os → In o ps → ⊥
+DistinctDots-apart [] ps d o a b = absurd a
+DistinctDots-apart (x ∷ os) ps d o (inl e) b = true≢false (sym (finds (has_dot x.dot) (os ++ ps) o (In-append_right o os ps b) (same_by x.dot o.dot (ap (λ (y : Operation). y.dot) (sym e)))) ∙ d.0)
+DistinctDots-apart (x ∷ os) ps d o (inr a) b = DistinctDots-apart os ps d.1 o a b

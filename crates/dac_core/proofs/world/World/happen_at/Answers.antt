@@ -19,6 +19,11 @@ returns-in-Command-clause-happens c =
     let v = c.args.self.now in
     subst (λ (what : What). HappensAt c.args.config.now v c.args.node (event_of v.operations v.messages what) c.happen-in-Command.result c.happen-in-Command.new.self) (sym c.in-Command.is) c.happen-in-Command.ensures.happens
 
+pub returns-in-Tick-clause-happens : goal.returns-in-Tick-clause-happens
+returns-in-Tick-clause-happens c =
+    let v = c.args.self.now in
+    subst (λ (what : What). HappensAt c.args.config.now v c.args.node (event_of v.operations v.messages what) c.happen-in-Tick.result c.happen-in-Tick.new.self) (sym c.in-Tick.is) c.happen-in-Tick.ensures.happens
+
 pub returns-in-Ship-clause-happens : goal.returns-in-Ship-clause-happens
 returns-in-Ship-clause-happens c =
     let v = c.args.self.now in

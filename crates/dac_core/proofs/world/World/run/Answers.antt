@@ -27,37 +27,7 @@ loop-event-preserved c =
 whole : (t : Table) (events : List WorldEvent) (answers : List (Result Reply WorldFault)) (v : WorldValue) (i : ℕ) → length events ≤ i → RanAs t (take i events) answers v → RanAs t events answers v
 whole t events answers v i h r = rw take_all at r
 
-pub returns-clause-headline : goal.returns-clause-headline
-returns-clause-headline c =
+pub returns-clause-converges : goal.returns-clause-converges
+returns-clause-converges c =
     let l = c.loop-event in
-    c.runs_converge.ensures.headline c.args.config.now c.args.events.now l.answers.items l.world (whole c.args.config.now c.args.events.now l.answers.items l.world l.event-index c.loop-event-test.false l.invariant.ran)
-
-pub returns-clause-agree : goal.returns-clause-agree
-returns-clause-agree c =
-    let l = c.loop-event in
-    c.runs_converge.ensures.agree c.args.config.now c.args.events.now l.answers.items l.world (whole c.args.config.now c.args.events.now l.answers.items l.world l.event-index c.loop-event-test.false l.invariant.ran)
-
-pub returns-clause-distinct : goal.returns-clause-distinct
-returns-clause-distinct c =
-    let l = c.loop-event in
-    c.runs_converge.ensures.distinct c.args.config.now c.args.events.now l.answers.items l.world (whole c.args.config.now c.args.events.now l.answers.items l.world l.event-index c.loop-event-test.false l.invariant.ran)
-
-pub returns-clause-sets : goal.returns-clause-sets
-returns-clause-sets c =
-    let l = c.loop-event in
-    c.runs_converge.ensures.sets c.args.config.now c.args.events.now l.answers.items l.world (whole c.args.config.now c.args.events.now l.answers.items l.world l.event-index c.loop-event-test.false l.invariant.ran)
-
-pub returns-clause-bodies : goal.returns-clause-bodies
-returns-clause-bodies c =
-    let l = c.loop-event in
-    c.runs_converge.ensures.bodies c.args.config.now c.args.events.now l.answers.items l.world (whole c.args.config.now c.args.events.now l.answers.items l.world l.event-index c.loop-event-test.false l.invariant.ran)
-
-pub returns-clause-news : goal.returns-clause-news
-returns-clause-news c =
-    let l = c.loop-event in
-    c.runs_converge.ensures.news c.args.config.now c.args.events.now l.answers.items l.world (whole c.args.config.now c.args.events.now l.answers.items l.world l.event-index c.loop-event-test.false l.invariant.ran)
-
-pub returns-clause-heard : goal.returns-clause-heard
-returns-clause-heard c =
-    let l = c.loop-event in
-    c.runs_converge.ensures.heard c.args.config.now c.args.events.now l.answers.items l.world (whole c.args.config.now c.args.events.now l.answers.items l.world l.event-index c.loop-event-test.false l.invariant.ran)
+    c.runs_converge.ensures.converges c.args.config.now c.args.events.now l.answers.items l.world (whole c.args.config.now c.args.events.now l.answers.items l.world l.event-index c.loop-event-test.false l.invariant.ran)

@@ -1,5 +1,5 @@
 use Rattle.std.proofs.Common.{[], ◌∷◌, ◌++◌, None, sym, ap, ◌∙◌}
-use Rattle.dac_decide.proofs.Places.{kept_more}
+use Rattle.dac_decide.specs.laws.Kept.{kept_more}
 use Rattle.dac_decide.proofs.waits.Waits.new.Goals as goal
 
 pub loop-preserved : goal.loop-preserved

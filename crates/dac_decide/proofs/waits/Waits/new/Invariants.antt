@@ -1,5 +1,5 @@
 use Rattle.std.proofs.Common.{◌≡◌, []}
-use Rattle.dac_decide.proofs.Places.{kept_of}
+use Rattle.dac_decide.specs.laws.Kept.{kept_of}
 use Rattle.dac_decide.proofs.waits.Waits.new.Given as goal
 
 abbrev pub invariant-loop : goal.invariant-loop

@@ -1,7 +1,8 @@
 use Rattle.std.proofs.Common.{◌≡◌, ◌<◌, length, set, ap, ap₂, ◌∙◌, arith, length-set}
 use Rattle.dac_config.specs.Table.{app_count}
 use Rattle.dac_decide.specs.FailoverWait.{Note, waits_of, noted_next}
-use Rattle.dac_decide.proofs.Places.{length_waits, partly, partly_at, partly_more, partly_all}
+use Rattle.dac_decide.specs.laws.Kept.{length_waits}
+use Rattle.dac_decide.proofs.Places.{partly, partly_at, partly_more, partly_all}
 use Rattle.dac_decide.proofs.waits.Waits.note.Goals as goal
 
 pub loop-place-preserved : goal.loop-place-preserved

@@ -2,9 +2,9 @@ use Rattle.std.proofs.Common.{Ok, sym, subst, ◌∙◌}
 use Rattle.std.proofs.lemmas.Result.{err_from_is_err_and}
 use Rattle.dac_messages.specs.declared.reply.Reply.{Reply}
 use Rattle.dac_node.specs.NodeValue.{NodeValue}
-use Rattle.dac_node.specs.Step.{Steps}
+use Rattle.dac_node.specs.Step.{Steps, IsShown}
 use Rattle.dac_node.specs.Hearing.{HearsExactly}
-use Rattle.dac_node.specs.laws.Steps.{steps, answered_steps}
+use Rattle.dac_node.specs.laws.Steps.{steps, answered_steps, stays_shown}
 use Rattle.dac_node.specs.Writing.{Writes}
 use Rattle.dac_node.specs.laws.Writing.{writes}
 use Rattle.dac_node.specs.laws.Heard.{hears_exactly}
@@ -23,7 +23,7 @@ returns-clause-heard c =
     let old = c.args.self.now in
     let p = c.in_ok-change.ensures.ok in
     subst (λ (x : NodeValue × Reply). HearsExactly old c.args.event x.1 x.0) (λ i. (sym (c.apply.ensures.new ∙ p.left) i, sym (c.apply.ensures.reply ∙ p.reply) i))
-    (hears_exactly c.args.config.now c.args.self_id old.last old.run c.args.event p.accepted)
+    (hears_exactly c.args.config.now c.args.self_id old.last old.run p.noted c.args.event p.accepted)
 
 pub returns-clause-cases : goal.returns-clause-cases
 returns-clause-cases c = free_is c.args.config.now c.args.self.now c.args.event c.in_ok-change.ensures.ok.accepted
@@ -33,13 +33,19 @@ returns-in_err-change-clause-cases c =
     let p = err_from_is_err_and c.from_residual.result c.from_residual.ensures.1 in
     rw (p.1, p.2) (answered_is c.args.config.now c.args.self.now c.args.event c.in_err-change.field-0.0 c.in_err-change.ensures.err)
 
-pub returns-clause-writes : goal.returns-clause-writes
-returns-clause-writes c =
+pub returns-clause-shown : goal.returns-clause-shown
+returns-clause-shown c =
     let old = c.args.self.now in
-    let p = c.in_ok-change.ensures.ok in
-    subst (Writes c.args.self_id old c.args.event) (sym (c.apply.ensures.reply ∙ p.reply)) (writes c.args.config.now c.args.self_id old.last old.run c.args.event p.accepted)
+    λ shows. subst (IsShown c.args.config.now) (sym c.apply.ensures.new) (stays_shown c.args.config.now c.args.self_id old c.args.event c.in_ok-change.change c.in_ok-change.ensures.ok shows)
 
 pub returns-in_err-change-clause-refused : goal.returns-in_err-change-clause-refused
 returns-in_err-change-clause-refused c =
     let p = err_from_is_err_and c.from_residual.result c.from_residual.ensures.1 in
     rw (p.1, p.2) (answered_steps c.args.config.now c.args.self_id c.args.self.now c.args.event c.in_err-change.field-0.0 c.in_err-change.ensures.err)
+
+pub returns-clause-writes : goal.returns-clause-writes
+returns-clause-writes c =
+    let t = c.args.config.now in
+    let old = c.args.self.now in
+    let p = c.in_ok-change.ensures.ok in
+    subst (Writes t c.args.self_id old c.args.event) (sym (c.apply.ensures.reply ∙ p.reply)) (writes t c.args.self_id old.last old.run p.noted c.args.event p.accepted p.noting)

@@ -1,0 +1,43 @@
+//! The counters of an incarnation's operations and the terms of an application's claims: whether any is left, and which
+//! term is next.
+ghost use Rattle.std.specs.Prelude.{◌≡◌, ◌↔◌, IsTrue, false};
+ghost use Rattle.dac_dots.specs.Dots.{IsUsedUp};
+ghost use Rattle.dac_commands.specs.Commands.{next_term};
+ghost use Rattle.dac_commands.specs.Causes.{terms_used_up, used_up};
+ghost use Rattle.dac_commands.specs.Written.{HasLastTerm};
+
+use dac_base::{AppId, MAX_COUNTER};
+use dac_dots::Origin;
+use dac_state::State;
+
+/// Whether the counters of an incarnation's operations are used up: one of its dots that are known here has the last
+/// counter, 2^62, or a later one. It takes no memory.
+pub fn dots_used_up(state: &State, own: Origin) -> bool
+    ensures value { result ≡ used_up state.now own }
+    ensures cases { IsTrue result ↔ IsUsedUp state.now.known own }
+{
+    state.known().next(own).is_none()
+}
+
+/// Whether the terms of an application's claims are used up: its greatest claim has the last term, 2^62, or a later
+/// one. It takes no memory.
+pub fn terms_used_up(state: &State, app: AppId) -> bool
+    ensures value { result ≡ terms_used_up state.now app }
+    ensures cases { IsTrue result ↔ HasLastTerm state.now app }
+{
+    match state.claims().greatest(app) {
+        Some(claim) => claim.term >= MAX_COUNTER,
+        None => false,
+    }
+}
+
+/// The term of an application's next claim: the greatest one's and one, 1 where there is none.
+pub(crate) fn next_term(state: &State, app: AppId) -> u64
+    requires { terms_used_up state.now app ≡ false }
+    ensures { result ≡ next_term state.now app }
+{
+    match state.claims().greatest(app) {
+        Some(claim) => claim.term + 1,
+        None => 1,
+    }
+}

@@ -1,0 +1,102 @@
+//! Lists in replies.
+ghost use Rattle.std.specs.Prelude.{◌≡◌, IfOk};
+
+use dac_base::{AppId, NoMemory};
+use dac_state::Op;
+use std::marker::Model;
+
+/// A list of operations in some order. Contracts see it as the list.
+#[derive(Drop)]
+pub struct OpList {
+    operations: Vec<Op>,
+}
+
+impl Model for OpList {
+    ghost use Rattle.std.specs.Prelude.{List};
+    ghost use Rattle.std.specs.Coded.{coded_list};
+    ghost use Rattle.dac_operations.specs.Operations.{Operation};
+    ghost use Rattle.dac_operations.specs.contracts.op.Op as operation;
+
+    ghost Value = { List Operation };
+
+    ghost coded = { coded_list operation.the_row.coded };
+
+    ghost view = { λ a. a.operations.items };
+}
+
+impl OpList {
+    /// The operations of a vector, in its order. It takes no memory.
+    pub fn new(operations: Vec<Op>) -> Self
+        ensures { result ≡ operations.items }
+    {
+        OpList { operations }
+    }
+
+    /// The vector of the operations. It takes no memory.
+    pub fn into_vec(self) -> Vec<Op>
+        ensures { result.items ≡ self }
+    {
+        let OpList { operations } = self;
+        operations
+    }
+
+    /// The operations in their order.
+    pub fn as_slice(&self) -> &[Op]
+        ensures { result.now ≡ self.now }
+    {
+        self.operations.as_slice()
+    }
+
+    /// An equal list.
+    pub fn copy(&self) -> Result<Self, NoMemory>
+        ensures { IfOk result (λ copied. copied ≡ self.now) }
+    {
+        let mut operations = Vec::with_capacity(
+            *self.operations.allocator(),
+            self.operations.len(),
+        )?;
+        for operation in &self.operations {
+            operations.push(operation.copy()?)?;
+        }
+        Ok(OpList { operations })
+    }
+}
+
+/// A list of applications in some order. Contracts see it as the list.
+#[derive(Drop)]
+pub struct AppList {
+    apps: Vec<AppId>,
+}
+
+impl Model for AppList {
+    ghost use Rattle.std.specs.Prelude.{List};
+    ghost use Rattle.dac_base.specs.declared.AppId.{AppId};
+
+    ghost Value = { List AppId };
+
+    ghost view = { λ a. a.apps.items };
+}
+
+impl AppList {
+    /// The applications of a vector, in its order. It takes no memory.
+    pub fn new(apps: Vec<AppId>) -> Self
+        ensures { result ≡ apps.items }
+    {
+        AppList { apps }
+    }
+
+    /// The applications in their order.
+    pub fn as_slice(&self) -> &[AppId]
+        ensures { result.now ≡ self.now }
+    {
+        self.apps.as_slice()
+    }
+
+    /// An equal list.
+    pub fn copy(&self) -> Result<Self, NoMemory>
+        ensures { IfOk result (λ copied. copied ≡ self.now) }
+    {
+        let apps = Vec::from_slice(*self.apps.allocator(), &self.apps)?;
+        Ok(AppList { apps })
+    }
+}

@@ -1,0 +1,118 @@
+//! The lines for a tick: what it claims, and what it passes.
+
+ghost use Rattle.std.specs.Prelude.{◌≡◌, ◌++◌, ◌+◌, ◌≤◌, length, IfOk, OnOk};
+ghost use Rattle.std.specs.List.{flat_map};
+ghost use Rattle.dac_play.specs.Ticks.{app_text, claim_text, claims_text, passed_text, ticked_text};
+
+use dac_base::{AppId, NoMemory};
+use dac_config::{Config, printed_name};
+use dac_state::{Act, Op};
+use dac_status::{how_text, put_from};
+use std::alloc::Global;
+
+/// An application by its name, or by its number where the configuration hasn't it.
+fn app_text(alloc: Global, config: &Config, app: AppId) -> Result<Vec<u8>, NoMemory>
+    ensures { IfOk result (λ text. text.items ≡ app_text config.now app) }
+{
+    if app.0 < config.apps() {
+        return printed_name(alloc, config.app_name(app));
+    }
+    let number = app.0;
+    let text = format!(in alloc; "{number}")?;
+    Ok(text.into_bytes())
+}
+
+/// The line for a claim, the operation of this number. A tick issues nothing else.
+fn claim_line(
+    alloc: Global,
+    config: &Config,
+    operation: usize,
+    act: &Act,
+) -> Result<Vec<u8>, NoMemory>
+    ensures { IfOk result (λ line. line.items ≡ claim_text config.now operation act.now) }
+{
+    let Act::Claim {
+        app,
+        term,
+        how,
+        from,
+    } = act
+    else {
+        return Ok(Vec::new(alloc));
+    };
+    let mut line = format!(in alloc; "claim {operation} ")?.into_bytes();
+    let name = app_text(alloc, config, *app)?;
+    line.extend_from_slice(&name)?;
+    let term = *term;
+    let rest = format!(in alloc; " term {term}")?;
+    line.extend_from_slice(rest.as_bytes())?;
+    line.extend_from_slice(how_text(*how).as_bytes())?;
+    put_from(alloc, &mut line, config, *from)?;
+    line.push(b'\n')?;
+    Ok(line)
+}
+
+/// Puts behind some lines those for claims, which came behind so many operations.
+fn put_claims(
+    alloc: Global,
+    lines: &mut Vec<u8>,
+    config: &Config,
+    before: usize,
+    ops: &[Op],
+) -> Result<(), NoMemory>
+    requires { before + length ops.now ≤ usize.MAX }
+    ensures { OnOk result (lines.new.items ≡ lines.old.items ++ claims_text config.now before ops.now) }
+{
+    let mut number = before;
+    for operation in ops {
+        number += 1;
+        let line = claim_line(alloc, config, number, operation.act())?;
+        lines.extend_from_slice(&line)?;
+    }
+    Ok(())
+}
+
+/// The line for an application whose terms are used up.
+fn passed_line(alloc: Global, config: &Config, app: AppId) -> Result<Vec<u8>, NoMemory>
+    ensures { IfOk result (λ line. line.items ≡ passed_text config.now app) }
+{
+    let mut line = Vec::from_slice(alloc, b"passed ")?;
+    let name = app_text(alloc, config, app)?;
+    line.extend_from_slice(&name)?;
+    line.push(b'\n')?;
+    Ok(line)
+}
+
+/// Puts behind some lines those for applications whose terms are used up.
+fn put_passed(
+    alloc: Global,
+    lines: &mut Vec<u8>,
+    config: &Config,
+    passed: &[AppId],
+) -> Result<(), NoMemory>
+    ensures { OnOk result (lines.new.items ≡ lines.old.items ++ flat_map (passed_text config.now) passed.now) }
+{
+    for app in passed {
+        let line = passed_line(alloc, config, *app)?;
+        lines.extend_from_slice(&line)?;
+    }
+    Ok(())
+}
+
+/// A node looked after its applications: it issued these claims and passed these applications. So many operations were
+/// issued in the world by then.
+pub fn ticked_lines(
+    alloc: Global,
+    config: &Config,
+    operations: usize,
+    ops: &[Op],
+    passed: &[AppId],
+) -> Result<Vec<u8>, NoMemory>
+    ensures { IfOk result (λ lines. lines.items ≡ ticked_text config.now operations ops.now passed.now) }
+{
+    let mut lines = Vec::from_slice(alloc, b"ticked\n")?;
+    let before = operations.saturating_sub(ops.len());
+    put_claims(alloc, &mut lines, config, before, ops)?;
+    put_passed(alloc, &mut lines, config, passed)?;
+    Ok(lines)
+}

@@ -1,0 +1,53 @@
+-- What a tick claims, in words: exactly the applications whose due candidate is its own node, each on the state that the earlier claims left.
+use Rattle.std.specs.Prelude.{◌≡◌, ◌⊎◌, ℕ, List, [], ◌∷◌, Option, None, Some}
+use Rattle.dac_base.specs.declared.NodeId.{NodeId}
+use Rattle.dac_base.specs.declared.AppId.{AppId}
+use Rattle.dac_dots.specs.declared.dot.Origin.{Origin}
+use Rattle.dac_dots.specs.Dots.{IsNext}
+use Rattle.dac_chains.specs.declared.claims.How.{How}
+use Rattle.dac_chains.specs.declared.claims.How.TheVariants.{Normal, Failover as FailedOver, Takeover as TakenOver}
+use Rattle.dac_operations.specs.Operations.{Operation}
+use Rattle.dac_meaning.specs.StateValue.{StateValue, join}
+use Rattle.dac_meaning.specs.Meaning.{meaning_of}
+use Rattle.dac_config.specs.Table.{Table}
+use Rattle.dac_placement.specs.declared.verdicts.Verdict.{Verdict}
+use Rattle.dac_placement.specs.declared.verdicts.Verdict.TheVariants.{Start, Failover, Move, Takeover}
+use Rattle.dac_placement.specs.Placement.{IsVerdict, candidate_of}
+use Rattle.dac_decide.specs.FailoverWait.{Note, IsDueBy, IsHeldAt}
+use Rattle.dac_commands.specs.Written.{HasLastTerm, IsNextClaim}
+
+-- the application's verdict names the node, and is to be carried out now
+pub record IsMine (t : Table) (own : Origin) (notes : List Note) (now : ℕ) (s : StateValue) (app : AppId) (verdict : Verdict) : Type 0 where
+  pub verdict_is : IsVerdict t s app verdict
+  pub candidate : candidate_of verdict ≡ Some own.node
+  pub due : IsDueBy t notes s app now verdict
+
+-- it names another node or none, or isn't to be carried out now
+pub record IsNotMine (t : Table) (own : Origin) (notes : List Note) (now : ℕ) (s : StateValue) (app : AppId) : Type 0 where
+  pub verdict : Verdict
+  pub verdict_is : IsVerdict t s app verdict
+  pub left : candidate_of verdict ≡ Some own.node → ¬ IsDueBy t notes s app now verdict
+
+-- A failover and a takeover are claimed so, from the node that held the application, and a start and a move as normal.
+abbrev pub ComesBy : StateValue → AppId → Verdict → How → Option NodeId → Type 0
+ComesBy s app (Failover n) how from = (how ≡ FailedOver) × (holder : NodeId) × (IsHeldAt s app holder × (from ≡ Some holder))
+ComesBy s app (Takeover n) how from = (how ≡ TakenOver) × (holder : NodeId) × (IsHeldAt s app holder × (from ≡ Some holder))
+ComesBy s app (Start n) how from = (how ≡ Normal) × (from ≡ None)
+ComesBy s app (Move n) how from = (how ≡ Normal) × (from ≡ None)
+ComesBy s app _ how from = ⊥
+
+-- the operation claims the application by its verdict, under the next term and the incarnation's next dot
+pub record IsClaimOf (own : Origin) (s : StateValue) (app : AppId) (verdict : Verdict) (o : Operation) : Type 0 where
+  pub dot : IsNext s.known own o.dot
+  pub how : How
+  pub from : Option NodeId
+  pub comes : ComesBy s app verdict how from
+  pub claims : IsNextClaim s app how from o.act
+
+-- Of these applications in turn exactly those are claimed that are the node's to claim and whose terms aren't used up, and exactly those passed that are and whose are; each claim is heard before the next application is looked at.
+abbrev pub IsTurn : Table → Origin → List Note → ℕ → StateValue → List AppId → List Operation → List AppId → Type 0
+IsTurn t own notes now s [] ops passed = (ops ≡ []) × (passed ≡ [])
+IsTurn t own notes now s (app ∷ apps) ops passed =
+    (IsNotMine t own notes now s app × IsTurn t own notes now s apps ops passed)
+    ⊎ (((verdict : Verdict) × (o : Operation) × (rest : List Operation) × ((ops ≡ o ∷ rest) × (IsMine t own notes now s app verdict × (IsClaimOf own s app verdict o × IsTurn t own notes now (join s (meaning_of (o ∷ []))) apps rest passed))))
+    ⊎ ((verdict : Verdict) × (rest : List AppId) × ((passed ≡ app ∷ rest) × (IsMine t own notes now s app verdict × (HasLastTerm s app × IsTurn t own notes now s apps ops rest)))))

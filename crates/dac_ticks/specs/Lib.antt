@@ -1,0 +1,5 @@
+pub mod Ticks
+pub mod Progress
+pub mod InWords
+pub mod Issued
+pub mod laws

@@ -1,0 +1,71 @@
+-- What a tick claims: the applications of the configuration in the order of its file, each on the state that the claims before it left. (OTP starts, restarts and moves distributed applications as soon as nodes come and go; that a controller looks after them at its ticks is this project's own.)
+use Rattle.std.specs.Prelude.{ℕ, Bool, false, ◌&&◌, ◌==◌, List, [], ◌∷◌, ◌++◌, Option, None, fold, if◌then◌else◌}
+use Rattle.std.specs.Option.{option_map, option_map_or}
+use Rattle.dac_base.specs.declared.NodeId.{NodeId}
+use Rattle.dac_base.specs.declared.AppId.{AppId}
+use Rattle.dac_dots.specs.declared.dot.Origin.{Origin}
+use Rattle.dac_chains.specs.declared.claims.How.TheVariants.{Normal, Failover as FailedOver, Takeover as TakenOver}
+use Rattle.dac_operations.specs.declared.act.Act.{Act}
+use Rattle.dac_operations.specs.Operations.{Operation}
+use Rattle.dac_meaning.specs.StateValue.{StateValue, join}
+use Rattle.dac_meaning.specs.Meaning.{meaning_of}
+use Rattle.dac_config.specs.Table.{Table}
+use Rattle.dac_placement.specs.declared.verdicts.Verdict.{Verdict}
+use Rattle.dac_placement.specs.declared.verdicts.Verdict.TheVariants.{Failover, Takeover}
+use Rattle.dac_placement.specs.Placement.{apps_of, candidate_of, holder_of, verdict_of}
+use Rattle.dac_decide.specs.declared.waits.Noted.{Noted}
+use Rattle.dac_decide.specs.FailoverWait.{noted_at, is_due_by}
+use Rattle.dac_commands.specs.Commands.{claim_act, next_operation}
+use Rattle.dac_commands.specs.Causes.{terms_used_up}
+
+-- the node whose claim is the application's greatest
+abbrev pub held_by : StateValue → AppId → Option NodeId
+held_by s app = option_map (λ (o : Origin). o.node) (holder_of s app)
+
+-- how the application comes to its candidate by this verdict: a failover and a takeover are named, from the node that held it, and whatever else is normal
+abbrev pub claimed_by : StateValue → AppId → Verdict → Act
+claimed_by s app (Failover n) = claim_act s app FailedOver (held_by s app)
+claimed_by s app (Takeover n) = claim_act s app TakenOver (held_by s app)
+claimed_by s app _ = claim_act s app Normal None
+
+-- the operation that claims the application
+abbrev pub claim_of : Table → Origin → StateValue → AppId → Operation
+claim_of t own s app = next_operation s own (claimed_by s app (verdict_of t s app))
+
+-- the incarnation's node is the candidate of this verdict, and the verdict is due now, where so much is noted
+abbrev pub is_mine_by : Table → Origin → List (Option Noted) → ℕ → StateValue → AppId → Verdict → Bool
+is_mine_by t own waits now s app verdict = option_map_or (λ (n : NodeId). n.0 == own.node.0) (candidate_of verdict) false && is_due_by t (noted_at waits app) s app now verdict
+
+-- the application is the incarnation's to claim now
+abbrev pub is_mine : Table → Origin → List (Option Noted) → ℕ → StateValue → AppId → Bool
+is_mine t own waits now s app = is_mine_by t own waits now s app (verdict_of t s app)
+
+-- what a tick has done so far: the claims that it issued, the applications that it passed since their terms are used up, and the state that the claims leave
+pub record Turn : Type 0 where
+  pub ops : List Operation
+  pub passed : List AppId
+  pub state : StateValue
+
+-- nothing so far
+abbrev pub turn_from : StateValue → Turn
+turn_from s = record { ops = []; passed = []; state = s }
+
+abbrev pub passing : Turn → AppId → Turn
+passing turn app = record { ops = turn.ops; passed = turn.passed ++ app ∷ []; state = turn.state }
+
+abbrev pub claiming : Turn → Operation → Turn
+claiming turn o = record { ops = turn.ops ++ o ∷ []; passed = turn.passed; state = join turn.state (meaning_of (o ∷ [])) }
+
+-- one application more
+abbrev pub turned : Table → Origin → List (Option Noted) → ℕ → Turn → AppId → Turn
+turned t own waits now turn app =
+    if is_mine t own waits now turn.state app then if terms_used_up turn.state app then passing turn app else claiming turn (claim_of t own turn.state app)
+    else turn
+
+-- the turn of these applications
+abbrev pub turn_over : Table → Origin → List (Option Noted) → ℕ → Turn → List AppId → Turn
+turn_over t own waits now turn apps = fold (turned t own waits now) turn apps
+
+-- the turn of a tick, where so much is noted by then
+abbrev pub turn_of : Table → Origin → List (Option Noted) → ℕ → StateValue → Turn
+turn_of t own waits now s = turn_over t own waits now (turn_from s) (apps_of t)

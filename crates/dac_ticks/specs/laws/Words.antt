@@ -1,0 +1,171 @@
+-- A turn in words.
+use Rattle.std.proofs.Common.{◌≡◌, ℕ, ◌+◌, ◌<◌, ◌≤◌, Bool, true, false, List, [], ◌∷◌, ◌++◌, Option, None, Some, length, refl, sym, ap, subst, ◌∙◌, arith, append-nil, append_assoc, inl, inr}
+use Rattle.std.specs.Prelude.{◌==◌}
+use Rattle.std.specs.Option.{is_some, option_map, option_map_or}
+use Rattle.std.specs.FinMap as map
+use Rattle.std.proofs.lemmas.Bool.{true≢false, false≢true, and_parts, and_from, eqb-true, eq-eqb}
+use Rattle.std.proofs.lemmas.List.FromFn.{length-map-range_with_len}
+use Rattle.dac_base.specs.declared.limits.TheConstants.{MAX_COUNTER}
+use Rattle.dac_base.specs.declared.NodeId.{NodeId}
+use Rattle.dac_base.specs.declared.AppId.{AppId}
+use Rattle.dac_dots.specs.declared.dot.Origin.{Origin}
+use Rattle.dac_chains.specs.declared.claims.Claim.{Claim}
+use Rattle.dac_chains.specs.declared.claims.How.{How}
+use Rattle.dac_chains.specs.declared.claims.How.TheVariants.{Normal, Failover as FailedOver, Takeover as TakenOver}
+use Rattle.dac_operations.specs.Operations.{Operation}
+use Rattle.dac_meaning.specs.StateValue.{StateValue}
+use Rattle.dac_config.specs.Table.{Table, app_count}
+use Rattle.dac_placement.specs.declared.verdicts.Verdict.{Verdict}
+use Rattle.dac_placement.specs.declared.verdicts.Verdict.TheVariants.{Start, Failover, Halted, Move, Takeover, Kept, Nobody}
+use Rattle.dac_placement.specs.Placement.{apps_of, candidate_of, holder_of, IsVerdict, verdict_of}
+use Rattle.dac_placement.specs.laws.Judged.{verdict_in_words}
+use Rattle.dac_decide.specs.FailoverWait.{Note, IsHeldAt, is_due_by, noted_at, noted_of, waits_of}
+use Rattle.dac_decide.specs.laws.Due.{due_to_words}
+use Rattle.dac_decide.specs.laws.Kept.{kept_is}
+use Rattle.dac_commands.specs.Commands.{greatest_counter, claim_act}
+use Rattle.dac_commands.specs.Causes.{terms_used_up, used_up}
+use Rattle.dac_commands.specs.Written.{IsNextClaim}
+use Rattle.dac_commands.specs.laws.Counters.{next_of_is}
+use Rattle.dac_commands.specs.laws.Terms.{terms_used_up_is, next_claim_is}
+use Rattle.dac_ticks.specs.Ticks.{Turn, turn_from, passing, claiming, held_by, claimed_by, claim_of, is_mine, turn_over, turn_of}
+use Rattle.dac_ticks.specs.InWords.{IsMine, IsNotMine, ComesBy, IsClaimOf, IsTurn}
+use Rattle.dac_ticks.specs.laws.Counters.{counter_after}
+use Rattle.dac_ticks.specs.laws.Turning.{AreBelow, numbered, apps_below, claim_is_bare, turned_by}
+use Rattle.dac_ticks.specs.laws.Claims.{HasRoom, less_room, room_after, counter_left}
+
+-- What a turn issues and passes is so in words, where there is a counter for each application.
+abbrev pub TurnsInWords : Type 0
+TurnsInWords = (t : Table) (own : Origin) (notes : List Note) (now : ℕ) (s : StateValue) → HasRoom t own s
+    → let turn = turn_of t own (waits_of t notes) now s in IsTurn t own notes now s (apps_of t) turn.ops turn.passed
+
+-- ---- candidates
+
+-- the node is the incarnation's
+abbrev pub is_own : Origin → Option NodeId → Bool
+is_own own candidate = option_map_or (λ (n : NodeId). n.0 == own.node.0) candidate false
+
+pub own_if : (own : Origin) (candidate : Option NodeId) → is_own own candidate ≡ true → candidate ≡ Some own.node
+own_if own None e = absurd (false≢true e)
+own_if own (Some n) e = let same = eqb-true n.0 own.node.0 e in λ i. Some (record { 0 = same i })
+
+pub if_own : (own : Origin) (candidate : Option NodeId) → candidate ≡ Some own.node → is_own own candidate ≡ true
+if_own own candidate e = ap (is_own own) e ∙ eq-eqb own.node.0 own.node.0 refl
+
+-- ---- holders
+
+held_if : (s : StateValue) (app : AppId) (o : Origin) (greatest : Option Claim) → map.get s.claims app ≡ greatest → option_map (λ (claim : Claim). claim.origin) greatest ≡ Some o → IsHeldAt s app o.node
+held_if s app o None is e = absurd (false≢true (ap is_some e))
+held_if s app o (Some claim) is e = let same : claim.origin ≡ o = one e in (claim, is, ap (λ (p : Origin). p.node) same)
+  where
+    one : {a b : Origin} → ◌≡◌ {A = Option Origin} (Some a) (Some b) → a ≡ b
+    one e = cc
+
+held_at : (s : StateValue) (app : AppId) (o : Origin) → holder_of s app ≡ Some o → IsHeldAt s app o.node
+held_at s app o e = held_if s app o (map.get s.claims app) refl e
+
+held_node : (s : StateValue) (app : AppId) (o : Origin) → holder_of s app ≡ Some o → held_by s app ≡ Some o.node
+held_node s app o e = ap (option_map (λ (p : Origin). p.node)) e
+
+-- ---- claims
+
+module _ (t : Table) (own : Origin) (s : StateValue) (app : AppId) (left : used_up s own ≡ false) (term : terms_used_up s app ≡ false) where
+  no_candidate : {X : Type 0} → ◌≡◌ {A = Option NodeId} None (Some own.node) → X
+  no_candidate e = absurd (false≢true (ap is_some e))
+
+  claims_by : (verdict : Verdict) → IsVerdict t s app verdict → candidate_of verdict ≡ Some own.node
+      → (how : How) × (from : Option NodeId) × (ComesBy s app verdict how from × (claimed_by s app verdict ≡ claim_act s app how from))
+  claims_by (Start n) is e = (Normal, None, ((refl, refl), refl))
+  claims_by (Failover n) is e = (FailedOver, held_by s app, ((refl, is.0.0.node, (held_at s app is.0.0 is.0.1, held_node s app is.0.0 is.0.1)), refl))
+  claims_by (Halted n) is e = no_candidate e
+  claims_by (Move n) is e = (Normal, None, ((refl, refl), refl))
+  claims_by (Takeover n) is e = (TakenOver, held_by s app, ((refl, is.1.0.node, (held_at s app is.1.0 is.1.1, held_node s app is.1.0 is.1.1)), refl))
+  claims_by (Kept n) is e = no_candidate e
+  claims_by Nobody is e = no_candidate e
+
+  claim_in_words : candidate_of (verdict_of t s app) ≡ Some own.node → IsClaimOf own s app (verdict_of t s app) (claim_of t own s app)
+  claim_in_words e =
+      let by = claims_by (verdict_of t s app) (verdict_in_words t s app) e in
+      record {
+        dot = next_of_is s.known own left;
+        how = by.0;
+        from = by.1;
+        comes = by.2.0;
+        claims = subst (λ act. IsNextClaim s app by.0 by.1 act) (sym by.2.1) (next_claim_is s app by.0 by.1 term);
+      }
+
+-- ---- turns
+
+module _ (t : Table) (own : Origin) (notes : List Note) (now : ℕ) where
+  module _ (s : StateValue) (app : AppId) (listed : app.0 < app_count t) where
+    -- what is due is so in words
+    due_is : is_due_by t (noted_at (waits_of t notes) app) s app now (verdict_of t s app) ≡ is_due_by t (noted_of app notes) s app now (verdict_of t s app)
+    due_is = ap (λ noted. is_due_by t noted s app now (verdict_of t s app)) (kept_is t notes app listed)
+
+    mine_in_words : is_mine t own (waits_of t notes) now s app ≡ true → IsMine t own notes now s app (verdict_of t s app)
+    mine_in_words e = let both = and_parts _ _ e in
+        record {
+          verdict_is = verdict_in_words t s app;
+          candidate = own_if own (candidate_of (verdict_of t s app)) both.0;
+          due = (due_to_words t notes s app now).0 (sym due_is ∙ both.1);
+        }
+
+    not_mine_in_words : is_mine t own (waits_of t notes) now s app ≡ false → IsNotMine t own notes now s app
+    not_mine_in_words e = record {
+      verdict = verdict_of t s app;
+      verdict_is = verdict_in_words t s app;
+      left = λ candidate due. true≢false (sym (and_from _ _ (if_own own (candidate_of (verdict_of t s app)) candidate) (due_is ∙ (due_to_words t notes s app now).1 due)) ∙ e);
+    }
+
+  -- what a turn of these applications issues and passes from here on
+  pub record TurnsOn (apps : List AppId) (turn later : Turn) : Type 0 where
+    pub ops : List Operation
+    pub passed : List AppId
+    pub ops_are : later.ops ≡ turn.ops ++ ops
+    pub passed_are : later.passed ≡ turn.passed ++ passed
+    pub words : IsTurn t own notes now turn.state apps ops passed
+
+  abbrev over : Turn → List AppId → Turn
+  over turn apps = turn_over t own (waits_of t notes) now turn apps
+
+  turns_on : (apps : List AppId) → AreBelow (app_count t) apps → (turn : Turn) → greatest_counter own turn.state.known + length apps ≤ MAX_COUNTER → TurnsOn apps turn (over turn apps)
+  turns_on [] below turn room = record { ops = []; passed = []; ops_are = sym (append-nil turn.ops); passed_are = sym (append-nil turn.passed); words = (refl, refl) }
+  turns_on (app ∷ apps) below turn room =
+      let g = greatest_counter own turn.state.known in
+      turned_by t own (waits_of t notes) now (λ next. TurnsOn (app ∷ apps) turn (over next apps)) turn app
+      (λ none.
+      let rest = turns_on apps below.1 turn (less_room g (length apps) MAX_COUNTER room) in
+      record { ops = rest.ops; passed = rest.passed; ops_are = rest.ops_are; passed_are = rest.passed_are; words = inl (not_mine_in_words turn.state app below.0 none, rest.words) })
+      (λ mine used.
+      let rest = turns_on apps below.1 (passing turn app) (less_room g (length apps) MAX_COUNTER room) in
+      record {
+        ops = rest.ops;
+        passed = app ∷ rest.passed;
+        ops_are = rest.ops_are;
+        passed_are = rest.passed_are ∙ append_assoc turn.passed (app ∷ []) rest.passed;
+        words = inr (inr (verdict_of t turn.state app, rest.passed, (refl, (mine_in_words turn.state app below.0 mine, ((terms_used_up_is turn.state app).0 used, rest.words)))));
+      })
+      (λ mine left.
+      let o = claim_of t own turn.state app in
+      let rest = turns_on apps below.1 (claiming turn o)
+      (room_after g (length apps) MAX_COUNTER (greatest_counter own (claiming turn o).state.known) (counter_after own turn.state o.act (claim_is_bare turn.state app (verdict_of t turn.state app))) room) in
+      let is = mine_in_words turn.state app below.0 mine in
+      record {
+        ops = o ∷ rest.ops;
+        passed = rest.passed;
+        ops_are = rest.ops_are ∙ append_assoc turn.ops (o ∷ []) rest.ops;
+        passed_are = rest.passed_are;
+        words = inr (inl (
+          verdict_of t turn.state app,
+          o,
+          rest.ops,
+          (refl, (is, (claim_in_words t own turn.state app (counter_left g (length apps) MAX_COUNTER room) left is.candidate, rest.words))),
+        ));
+      })
+
+  pub turn_in_words : (s : StateValue) → HasRoom t own s → let turn = turn_of t own (waits_of t notes) now s in IsTurn t own notes now s (apps_of t) turn.ops turn.passed
+  turn_in_words s room =
+      let all = turns_on (apps_of t) (apps_below 0 (app_count t) (app_count t) (omega arith)) (turn_from s) (subst (λ n. greatest_counter own s.known + n ≤ MAX_COUNTER) (sym (length-map-range_with_len numbered 0 (app_count t))) room) in
+      let ops_are : (turn_of t own (waits_of t notes) now s).ops ≡ all.ops = all.ops_are in
+      let passed_are : (turn_of t own (waits_of t notes) now s).passed ≡ all.passed = all.passed_are in
+      subst (λ ops. IsTurn t own notes now s (apps_of t) ops (turn_of t own (waits_of t notes) now s).passed) (sym ops_are)
+      (subst (λ passed. IsTurn t own notes now s (apps_of t) all.ops passed) (sym passed_are) all.words)

@@ -1,0 +1,211 @@
+//! The turn of a tick.
+ghost use Rattle.std.specs.Prelude.{◌≡◌, ◌∷◌, [], ◌+◌, ◌≤◌, ◌<◌, ◌^◌, List, IfOk, false};
+ghost use Rattle.dac_config.specs.Table.{app_count};
+ghost use Rattle.dac_meaning.specs.StateValue.{StateValue as Value, join};
+ghost use Rattle.dac_meaning.specs.Meaning.{meaning_of};
+ghost use Rattle.dac_placement.specs.Placement.{apps_of};
+ghost use Rattle.dac_decide.specs.FailoverWait.{Note, waits_of};
+ghost use Rattle.dac_commands.specs.Commands.{KnowsItself, greatest_counter, next_operation};
+ghost use Rattle.dac_commands.specs.Causes.{terms_used_up, used_up};
+ghost use Rattle.dac_ticks.specs.Ticks.{claimed_by, held_by, is_mine_by, turn_of};
+ghost use Rattle.dac_ticks.specs.Progress.{added, found_of, so_far, IsSparing, IsMade};
+ghost use Rattle.dac_ticks.specs.InWords.{IsTurn};
+
+use dac_base::{AppId, NoMemory, NodeId};
+use dac_commands::{claim, terms_used_up};
+use dac_config::Config;
+use dac_decide::{Verdict, Waits, verdict};
+use dac_dots::Origin;
+use dac_lattice::Lattice;
+use dac_messages::{AppList, OpList};
+use dac_placement::holder;
+use dac_state::{How, Op, State};
+use std::alloc::Global;
+
+/// What a controller does at a tick.
+#[derive(Drop)]
+pub struct Turn {
+    /// The claims that it issues, in the order of the applications.
+    pub ops: OpList,
+    /// The applications that it was to claim, but whose terms are used up, in their order.
+    pub passed: AppList,
+    /// The state that the claims leave, where there are any.
+    pub left: Option<State>,
+}
+
+/// What a tick has done so far.
+#[derive(Drop)]
+pub(crate) struct Progress {
+    /// The claims.
+    pub ops: Vec<Op>,
+    /// The applications that were passed.
+    pub passed: Vec<AppId>,
+    /// The state that the claims left, where there are any.
+    pub left: Option<State>,
+}
+
+/// What a tick does about an application.
+#[derive(Drop)]
+pub(crate) enum Found {
+    /// Nothing: it isn't to be claimed here, or not yet.
+    Left,
+    /// It is passed, since its terms are used up.
+    Passed,
+    /// It is claimed by this operation, which leaves this state.
+    Claimed(Op, State),
+}
+
+/// What a controller that runs as this incarnation with this state does at a tick at this moment, in milliseconds.
+///
+/// The applications are taken in the order of the configuration file. One whose verdict names the controller's own node,
+/// and is due, is claimed for this node, under its next term and the incarnation's next counter; and each is looked
+/// at in the state that the claims before it leave. A failover and a takeover name the node that held the application, a
+/// start and a move none. An application whose terms are used up is passed. (After OTP's Design Principles, chapter
+/// Distributed Applications: applications are started, restarted and moved as nodes come and go. That a controller looks
+/// after them at its ticks, and how it claims them, is this project's own.)
+///
+/// [`NoMemory`] is the only error.
+pub fn tick(
+    alloc: Global,
+    config: &Config,
+    own: Origin,
+    state: &State,
+    waits: &Waits,
+    now: u64,
+) -> Result<Turn, NoMemory>
+    requires knows { KnowsItself own state.now }
+    // a counter for each application
+    requires room { greatest_counter own state.now.known + app_count config.now ≤ 2 ^ 62 }
+    ensures value { IfOk result (IsMade state.now (turn_of config.now own waits.now now state.now)) }
+    ensures words { IfOk result (λ turn. (notes : List Note) → waits.now ≡ waits_of config.now notes
+        → IsTurn config.now own notes now state.now (apps_of config.now) turn.ops turn.passed) }
+{
+    let mut progress = Progress {
+        ops: Vec::new(alloc),
+        passed: Vec::new(alloc),
+        left: None,
+    };
+    for number in 0..config.apps() {
+        let app = AppId(number);
+        let state = progress.state(state);
+        let found = look_after(alloc, config, own, state, waits, app, now)?;
+        progress.add(app, found)?;
+    }
+    let Progress { ops, passed, left } = progress;
+    Ok(Turn {
+        ops: OpList::new(ops),
+        passed: AppList::new(passed),
+        left,
+    })
+}
+
+impl Progress {
+    /// The state that the claims have left, where the tick began with this one.
+    fn state<'a>(&'a self, first: &'a State) -> &'a State
+        ensures { result.now ≡ (so_far first.now self.now).state }
+    {
+        match &self.left {
+            Some(left) => left,
+            None => first,
+        }
+    }
+
+    /// Adds what was found of an application.
+    fn add(&mut self, app: AppId, found: Found) -> Result<(), NoMemory>
+        ensures added { IfOk result (λ _. (first : Value)
+            → so_far first self.new ≡ added (so_far first self.old) app found) }
+        ensures sparing { IfOk result (λ _. IsSparing self.old → IsSparing self.new) }
+    {
+        match found {
+            Found::Left => {}
+            Found::Passed => self.passed.push(app)?,
+            Found::Claimed(op, after) => {
+                self.ops.push(op)?;
+                self.left = Some(after);
+            }
+        }
+        Ok(())
+    }
+}
+
+/// What is to be done about an application: it is claimed or passed where it is this node's to claim, and left otherwise.
+fn look_after(
+    alloc: Global,
+    config: &Config,
+    own: Origin,
+    state: &State,
+    waits: &Waits,
+    app: AppId,
+    now: u64,
+) -> Result<Found, NoMemory>
+    requires listed { app.0 < app_count config.now }
+    requires knows { KnowsItself own state.now }
+    requires left { used_up state.now own ≡ false }
+    ensures { IfOk result (λ found. found ≡ found_of config.now own waits.now now state.now app) }
+{
+    let verdict = verdict(config, state, app);
+    if !is_mine(config, own, state, waits, app, verdict, now) {
+        return Ok(Found::Left);
+    }
+    if terms_used_up(state, app) {
+        return Ok(Found::Passed);
+    }
+    let op = claim_by(own, state, app, verdict);
+    let after = heard(alloc, state, &op)?;
+    Ok(Found::Claimed(op, after))
+}
+
+/// Whether this verdict on an application names the incarnation's node, and is due.
+fn is_mine(
+    config: &Config,
+    own: Origin,
+    state: &State,
+    waits: &Waits,
+    app: AppId,
+    verdict: Verdict,
+    now: u64,
+) -> bool
+    requires { app.0 < app_count config.now }
+    ensures { result ≡ is_mine_by config.now own waits.now now state.now app verdict }
+{
+    match verdict.candidate() {
+        Some(node) if node == own.node => waits.due_by(config, state, app, verdict, now),
+        _ => false,
+    }
+}
+
+/// The claim of an application, whose verdict is this one.
+fn claim_by(own: Origin, state: &State, app: AppId, verdict: Verdict) -> Op
+    requires knows { KnowsItself own state.now }
+    requires left { used_up state.now own ≡ false }
+    requires term { terms_used_up state.now app ≡ false }
+    ensures { result ≡ next_operation state.now own (claimed_by state.now app verdict) }
+{
+    match verdict {
+        Verdict::Failover(_) => {
+            let from = held_by(state, app);
+            claim(own, state, app, How::Failover, from)
+        }
+        Verdict::Takeover(_) => {
+            let from = held_by(state, app);
+            claim(own, state, app, How::Takeover, from)
+        }
+        _ => claim(own, state, app, How::Normal, None),
+    }
+}
+
+/// The node that holds an application.
+fn held_by(state: &State, app: AppId) -> Option<NodeId>
+    ensures { result ≡ held_by state.now app }
+{
+    let origin = holder(state, app)?;
+    Some(origin.node)
+}
+
+/// The state that hearing an operation leaves.
+fn heard(alloc: Global, state: &State, op: &Op) -> Result<State, NoMemory>
+    ensures { IfOk result (λ after. after ≡ join state.now (meaning_of (op.now ∷ []))) }
+{
+    let delta = State::delta_of(alloc, op)?;
+    state.join(&delta)
+}

@@ -1,0 +1,39 @@
+-- What every run leaves, under one name: convergence.
+use Rattle.std.specs.Prelude.{List, Result}
+use Rattle.dac_config.specs.Table.{Table}
+use Rattle.dac_events.specs.declared.WorldEvent.{WorldEvent}
+use Rattle.dac_messages.specs.declared.reply.Reply.{Reply}
+use Rattle.dac_worlds.specs.declared.fault.WorldFault.{WorldFault}
+use Rattle.dac_worlds.specs.WorldValue.{WorldValue}
+use Rattle.dac_worlds.specs.SetWorld.{set_run, no_sets}
+use Rattle.dac_worlds.specs.Convergence.{EachIsMeaning, Agrees, DistinctDots, HoldsSets, ListsAll, CarryMeanings}
+use Rattle.dac_worlds.specs.News.{AnswersNews}
+use Rattle.dac_worlds.specs.Fits.{HearsAllThatFits}
+use Rattle.dac_worlds.specs.Addressed.{AreAddressed}
+use Rattle.dac_worlds.specs.Causality.{HandsNothing, IsCausal}
+use Rattle.dac_worlds.specs.Records.{HaveHistories}
+
+-- what these events, answered so, leave in the program's world
+pub record Converges (t : Table) (events : List WorldEvent) (answers : List (Result Reply WorldFault)) (v : WorldValue) : Type 0 where
+  -- each running controller's state is the meaning of the issued operations whose dots it has heard
+  pub headline : EachIsMeaning v
+  -- controllers that heard the same set hold equal states and bytes, and name the same holder and the same next candidate
+  pub agree : Agrees v
+  -- no two issued operations have one dot
+  pub distinct : DistinctDots v.operations
+  -- each controller holds the set that the world of sets has at its node, as the incarnation that the set is of
+  pub sets : HoldsSets v (set_run no_sets events answers)
+  -- what was issued is what the world of sets lists, and it has a copy for each message
+  pub listed : ListsAll v (set_run no_sets events answers)
+  -- each shipped message carries the meaning of a set of issued operations
+  pub bodies : CarryMeanings v
+  -- each answer to what was heard tells whether it brought a dot that the controller hadn't heard
+  pub news : AnswersNews no_sets events answers
+  -- what comes to a running controller is heard, unless memory is wanting: a message shipped to it, an issued operation
+  pub heard : HearsAllThatFits no_sets events answers
+  -- each ship that isn't refused is answered by a message to the node that it names
+  pub addressed : AreAddressed events answers
+  -- where no single operation is handed, each controller has heard what is causally before what it heard, and the maximal writes stand
+  pub causal : HandsNothing events answers → IsCausal v (set_run no_sets events answers)
+  -- what happened at each controller is a history of it, from never booted to where the run leaves it
+  pub histories : HaveHistories t events answers v

@@ -1,0 +1,93 @@
+-- What an operation replaces: exactly what stands of its kind at its key in the state that its issuer had.
+use Rattle.std.proofs.Common.{◌≡◌, inl, inr, None, List, [], ◌∷◌, ◌++◌, sym, ap, subst, ◌∙◌, append_assoc}
+use Rattle.dac_dots.specs.declared.dot.Origin.{Origin}
+use Rattle.dac_dots.specs.Dots.{dots_total, exact_dots, IsNext}
+use Rattle.dac_dots.specs.InOrder.{has_key-in_order}
+use Rattle.dac_wishes.specs.declared.key.Key.{Key}
+use Rattle.dac_wishes.specs.Writes.{dots_at, contains-dots_at}
+use Rattle.dac_operations.specs.declared.act.Act.{Act}
+use Rattle.dac_operations.specs.declared.act.Act.TheVariants.{Permit, Start, Stop}
+use Rattle.dac_operations.specs.Operations.{Operation}
+use Rattle.dac_meaning.specs.StateValue.{StateValue, join}
+use Rattle.dac_meaning.specs.Meaning.{meaning_of, Within, Agree}
+use Rattle.dac_meaning.specs.Members.{Within-append, In-append_left, In-append_right}
+use Rattle.dac_meaning.specs.Joins.{join-meaning}
+use Rattle.dac_base.specs.declared.AppId.{AppId}
+use Rattle.dac_config.specs.Table.{Table}
+use Rattle.dac_placement.specs.declared.verdicts.Verdict.{Verdict}
+use Rattle.dac_placement.specs.declared.verdicts.Verdict.TheVariants.{Failover, Takeover}
+use Rattle.dac_placement.specs.Placement.{verdict_of}
+use Rattle.dac_events.specs.declared.Command.{Command}
+use Rattle.dac_events.specs.declared.Command.TheVariants.{Down as Downs, Permit as Permits, Start as Starts, Stop as Stops, Takeover as Takes}
+use Rattle.dac_commands.specs.Commands.{key_at, next_operation, standing_permits, standing_starts, act_of}
+use Rattle.dac_commands.specs.Causes.{refusal_of_command}
+use Rattle.dac_commands.specs.Written.{PermitStands, StartStands, AreThose}
+use Rattle.dac_commands.specs.laws.Counters.{next_of_is}
+use Rattle.dac_commands.specs.laws.Standing.{permits_at-has}
+use Rattle.dac_commands.specs.laws.Written.{writes_what_is_said}
+use Rattle.dac_ticks.specs.Ticks.{claimed_by}
+use Rattle.dac_ticks.specs.laws.Claims.{AreNextClaims}
+use Rattle.dac_worlds.specs.laws.Operations.{Agree-within}
+
+-- what the act replaces is what stands of its kind at its key
+abbrev pub Replaces : StateValue → Act → Type 0
+Replaces s (Permit key value over) = AreThose (PermitStands s key) over
+Replaces s (Start key over) = AreThose (StartStands s key) over
+Replaces s (Stop key over) = AreThose (StartStands s key) over
+Replaces s _ = Unit {0}
+
+-- the operation is its origin's next after these, and replaces what stands
+pub record IsNextAfter (before : List Operation) (o : Operation) : Type 0 where
+  pub next : IsNext (meaning_of before).known o.dot.origin o.dot
+  pub replaces : Replaces (meaning_of before) o.act
+
+-- so are these, one after another
+abbrev pub AreNext : List Operation → List Operation → Type 0
+AreNext before [] = Unit {0}
+AreNext before (o ∷ os) = IsNextAfter before o × AreNext (before ++ o ∷ []) os
+
+-- ---- commands
+permits_are : (s : StateValue) (key : Key) → AreThose (PermitStands s key) (standing_permits s key)
+permits_are s key d =
+    let e = permits_at-has key s.permits d in
+    (λ h. sym e ∙ h, λ h. e ∙ h)
+
+starts_are : (s : StateValue) (key : Key) → AreThose (StartStands s key) (standing_starts s key)
+starts_are s key d =
+    let e = has_key-in_order dots_total exact_dots (dots_at key s.starts) d ∙ contains-dots_at key s.starts d in
+    (λ h. sym e ∙ h, λ h. e ∙ h)
+
+command_replaces : (t : Table) (s : StateValue) (c : Command) → Replaces s (act_of t s c)
+command_replaces t s (Downs node) = tt
+command_replaces t s (Permits app node value) = permits_are s (key_at s app node)
+command_replaces t s (Starts app node) = starts_are s (key_at s app node)
+command_replaces t s (Stops app node) = starts_are s (key_at s app node)
+command_replaces t s (Takes app) = tt
+
+-- the next operation in what a set means
+next_after : (s : StateValue) (os : List Operation) (own : Origin) (act : Act) → s ≡ meaning_of os → IsNext s.known own (next_operation s own act).dot → Replaces s act → IsNextAfter os (next_operation s own act)
+next_after s os own act state next r = record {
+  next = subst (λ (v : StateValue). IsNext v.known own (next_operation s own act).dot) state next;
+  replaces = subst (λ (v : StateValue). Replaces v act) state r;
+}
+
+-- the operation of an accepted command
+pub after_command : (t : Table) (own : Origin) (s : StateValue) (c : Command) (os : List Operation) → s ≡ meaning_of os → refusal_of_command t own s c ≡ None → IsNextAfter os (next_operation s own (act_of t s c))
+after_command t own s c os state none = next_after s os own (act_of t s c) state (writes_what_is_said t own s c none).dot (command_replaces t s c)
+
+-- ---- ticks
+claim_replaces : (s : StateValue) (app : AppId) (verdict : Verdict) → Replaces s (claimed_by s app verdict)
+claim_replaces s app (Failover n) = tt
+claim_replaces s app (Takeover n) = tt
+claim_replaces s app _ = tt
+
+-- the claims of a tick, one after another
+pub after_claims : (t : Table) (own : Origin) (s : StateValue) (os more : List Operation) → s ≡ meaning_of os → Agree (os ++ more) → AreNextClaims t own s more → AreNext os more
+after_claims t own s os [] state agree h = tt
+after_claims t own s os (o ∷ more) state agree h =
+    let claim = h.0 in
+    let v = verdict_of t s claim.app in
+    let one : IsNextAfter os o = subst (IsNextAfter os) (sym claim.is) (next_after s os own (claimed_by s claim.app v) state (next_of_is s.known own claim.counter) (claim_replaces s claim.app v)) in
+    let inside : Within (os ++ o ∷ []) (os ++ o ∷ more) = Within-append os (o ∷ []) (os ++ o ∷ more) (λ x i. In-append_left x os (o ∷ more) i) (λ x i. In-append_right x os (o ∷ more) (elim i [ inl e ↦ inl e | inr none ↦ absurd none ])) in
+    let next : join s (meaning_of (o ∷ [])) ≡ meaning_of (os ++ o ∷ []) = ap (λ (x : StateValue). join x (meaning_of (o ∷ []))) state ∙ join-meaning os (o ∷ []) (Agree-within (os ++ o ∷ []) (os ++ o ∷ more) inside agree) in
+    (one, after_claims t own (join s (meaning_of (o ∷ []))) (os ++ o ∷ []) more next (subst Agree (sym (append_assoc os (o ∷ []) more)) agree) h.1)
