@@ -1,6 +1,2 @@
 mod Keeping
-mod Places
-mod Few
-mod Joining
-mod Listing
 mod Tables

@@ -15,6 +15,5 @@ pub use acks::Acks;
 pub use buffer::Buffer;
 
 mod acks;
-mod blocks;
 mod buffer;
 pub mod laws;
