@@ -34,11 +34,17 @@ struct App {
 ///
 /// A node's number is its place among the names of all nodes in byte order, an application's number its
 /// place in the file; both begin with 0.
-#[derive(Drop)]
 pub struct Config {
     nodes: Vec<Node>,
     apps: IndexMap<Vec<u8>, App>,
     sync_wait: SyncWait,
+}
+
+/// Written out: a drop is one call for a proof, wherever it stands.
+impl Drop for Config {
+    fn drop(self) {
+        let Config { nodes: _nodes, apps: _apps, sync_wait: _sync_wait } = self;
+    }
 }
 
 impl Model for Config {

@@ -17,11 +17,17 @@ use std::marker::Model;
 
 /// All controllers of a configuration, every operation that they issued and every message that they
 /// shipped. A message may be delivered late, twice, after its sender's crash or never.
-#[derive(Drop)]
 pub struct World {
     nodes: Vec<Node>,
     operations: Vec<Op>,
     messages: Vec<Message>,
+}
+
+/// Written out: a drop is one call for a proof, wherever it stands.
+impl Drop for World {
+    fn drop(self) {
+        let World { nodes: _nodes, operations: _operations, messages: _messages } = self;
+    }
 }
 
 impl Model for World {

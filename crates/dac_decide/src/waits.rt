@@ -27,9 +27,15 @@ pub(crate) struct Noted {
 /// A controller notes at its ticks which claims are lost. Contracts see, for each application of the
 /// configuration in turn, the lost claim that the last note found, if any, with the moment at which the
 /// unbroken row of notes of it began.
-#[derive(Drop)]
 pub struct Waits {
     noted: Vec<Option<Noted>>,
+}
+
+/// Written out: a drop is one call for a proof, wherever it stands.
+impl Drop for Waits {
+    fn drop(self) {
+        let Waits { noted: _noted } = self;
+    }
 }
 
 impl Model for Waits {

@@ -6,9 +6,15 @@ use dac_state::Op;
 use std::marker::Model;
 
 /// A list of operations in some order. Contracts see it as the list.
-#[derive(Drop)]
 pub struct OpList {
     operations: Vec<Op>,
+}
+
+/// Written out: a drop is one call for a proof, wherever it stands.
+impl Drop for OpList {
+    fn drop(self) {
+        let OpList { operations: _operations } = self;
+    }
 }
 
 impl Model for OpList {
@@ -63,9 +69,15 @@ impl OpList {
 }
 
 /// A list of applications in some order. Contracts see it as the list.
-#[derive(Drop)]
 pub struct AppList {
     apps: Vec<AppId>,
+}
+
+/// Written out: a drop is one call for a proof, wherever it stands.
+impl Drop for AppList {
+    fn drop(self) {
+        let AppList { apps: _apps } = self;
+    }
 }
 
 impl Model for AppList {

@@ -28,7 +28,6 @@ use std::marker::Model;
 
 /// What a controller keeps while it runs. Its state knows the operation of its own boot, and it didn't tick before it was
 /// booted.
-#[derive(Drop)]
 pub(crate) struct Running {
     alloc: Global,
     origin: Origin,
@@ -36,6 +35,13 @@ pub(crate) struct Running {
     is_open: bool,
     waits: Waits,
     state: State,
+}
+
+/// Written out: a drop is one call for a proof, wherever it stands.
+impl Drop for Running {
+    fn drop(self) {
+        let Running { alloc: _alloc, origin: _origin, moments: _moments, is_open: _is_open, waits: _waits, state: _state } = self;
+    }
 }
 
 impl Model for Running {

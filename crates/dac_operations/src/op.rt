@@ -32,10 +32,17 @@ pub enum OpFault {
 ///
 /// Its replaced dots ascend, are at most 1,024 and don't have its own dot among them, its counter is 1
 /// exactly if its act is an Up, and it doesn't declare its own node down.
-#[derive(Debug, Drop)]
+#[derive(Debug)]
 pub struct Op {
     dot: Dot,
     act: Act,
+}
+
+/// Written out: a drop is one call for a proof, wherever it stands.
+impl Drop for Op {
+    fn drop(self) {
+        let Op { dot: _dot, act: _act } = self;
+    }
 }
 
 impl Model for Op {
