@@ -1,27 +1,106 @@
--- Lists of kept deltas after one more came and after the oldest went.
-use Rattle.std.proofs.Common.{◌≡◌, ◌+◌, ◌<◌, ℕ, List, [], ◌∷◌, ◌++◌, drop, fold, length, sym, ap, subst, ◌∙◌, arith}
-use Rattle.std.proofs.lemmas.List.{length-drop, length-append}
-use Rattle.std.proofs.lemmas.List.Elements.{All-drop, All-push}
+-- What a buffer keeps, after deltas came and after the oldest went.
+use Rattle.std.proofs.Common.{◌≡◌, ◌+◌, ◌-◌, ◌≤◌, ℕ, List, [], ◌∷◌, ◌++◌, drop, fold, length, refl, sym, ap, subst, ◌∙◌, arith, min}
+use Rattle.std.proofs.Math.Nat.{mod-one}
+use Rattle.std.proofs.lemmas.List.{length-drop, length-append, length-map, length-take, drop-map, get_or-map, map-append}
 use Rattle.std.specs.List.{All}
 use Rattle.dac_base.specs.declared.limits.TheConstants.{MAX_COUNTER}
-use Rattle.dac_deltas.specs.Kept.{IsBuffer, newest}
+use Rattle.dac_deltas.specs.Kept.{Kept, newest, pushed, trimmed}
+use Rattle.dac_deltas.specs.Logs.{same_kept, pushes_drop_together}
+use Rattle.dac_deltas.specs.Endings.{HasJoins, AreJoined, IsKept, deltas_of}
+use Rattle.dac_deltas.proofs.Joining.{joined_push, joined_drop}
 
-module _ {L : Type 0} (is_value : L → Type 0) (count : ℕ) (xs : List L) (h : IsBuffer is_value (newest count xs)) where
-  -- one more came, and the oldest went
-  pub pushed_over : (ys zs : List L) (x : L) → count < MAX_COUNTER → is_value x → ys ≡ xs ++ x ∷ [] → zs ≡ drop 1 ys → IsBuffer is_value (newest (count + 1) zs)
-  pushed_over ys zs x room v pushed dropped =
-      let all = ap length dropped ∙ length-drop 1 ys in
-      let one = ap length pushed ∙ length-append xs (x ∷ []) in
-      let numbered = h.numbered in
-      let few = h.few in
-      record {
-        numbered = omega arith;
-        few = omega arith;
-        countable = omega arith;
-        values = subst (All is_value) (sym dropped) (All-drop is_value 1 ys (subst (All is_value) (sym pushed) (All-push is_value xs x h.values v)));
-      }
+module _ {L : Type 0} (is_value : L → Type 0) (join : L → L → L) where
+  -- each delta that is kept is a value, since it is a block itself
+  joined_values : (base : ℕ) (es : List (L × List L)) → AreJoined is_value join base es → All is_value (deltas_of es)
+  joined_values base es h k d lt =
+      let many = length-map es (λ (x : L × List L). x.0) in
+      let long = length-take (k + 1) (deltas_of es) in
+      let e : L × List L = (d, []) in
+      let had = h k e (omega arith) 0 (omega arith) (mod-one (base + (k + 1))) (omega arith) in
+      subst is_value (sym (get_or-map (λ (x : L × List L). x.0) es k e d (omega arith))) had.1.value
 
--- a join to which nothing is left to add is whole
-pub nothing_left : {L : Type 0} (join : L → L → L) (joined all : L) (rest : List L) → fold join joined rest ≡ all → length rest ≡ 0 → all ≡ joined
-nothing_left join joined all [] is none = sym is
-nothing_left join joined all (d ∷ ds) is none = absurd (omega arith)
+  module _ (count : ℕ) (es : List (L × List L)) (h : IsKept is_value join count es) where
+    -- the base and those kept make the count
+    pub whole : (count - length es) + length es ≡ count
+    whole = let buffer = h.buffer in let numbered = buffer.numbered in let many = length-map es (λ (x : L × List L). x.0) in omega arith
+
+    -- where deltas were added, all but the newest are dropped
+    pub kept_added : (mid new : List (L × List L)) (ds : List L) → count + length ds ≤ MAX_COUNTER → AreJoined is_value join (count - length es) mid → deltas_of mid ≡ deltas_of es ++ ds → new ≡ drop (length mid - 256) mid → IsKept is_value join (count + length ds) new
+    kept_added mid new ds room joined added dropped =
+        let w = whole in
+        let many = length-map es (λ (x : L × List L). x.0) in
+        let more = length-map mid (λ (x : L × List L). x.0) in
+        let all = ap length added ∙ length-append (deltas_of es) ds in
+        let left = ap length dropped ∙ length-drop (length mid - 256) mid in
+        let long = length-map new (λ (x : L × List L). x.0) in
+        let base : (count - length es) + (length mid - 256) ≡ count + length ds - length new = omega arith in
+        let now = subst (λ b. AreJoined is_value join b new) base (subst (AreJoined is_value join ((count - length es) + (length mid - 256))) (sym dropped) (joined_drop is_value join (count - length es) (length mid - 256) mid joined)) in
+        record {
+          buffer = record {
+            numbered = omega arith;
+            few = omega arith;
+            countable = room;
+            values = joined_values (count + length ds - length new) new now;
+          };
+          joined = now;
+        }
+
+    -- which is as many pushes
+    pub shown_added : (mid new : List (L × List L)) (ds : List L) → deltas_of mid ≡ deltas_of es ++ ds → new ≡ drop (length mid - 256) mid → newest (count + length ds) (deltas_of new) ≡ fold pushed (newest count (deltas_of es)) ds
+    shown_added mid new ds added dropped =
+        let w = whole in
+        let buffer = h.buffer in
+        let few = buffer.few in
+        let many = length-map es (λ (x : L × List L). x.0) in
+        let more = length-map mid (λ (x : L × List L). x.0) in
+        let all = ap length added ∙ length-append (deltas_of es) ds in
+        let left = ap length dropped ∙ length-drop (length mid - 256) mid in
+        let long = length-map new (λ (x : L × List L). x.0) in
+        let gone : length mid - 256 ≡ length (deltas_of es) + length ds - 256 = omega arith in
+        same_kept _ _ _ _ _ _ refl (omega arith) (ap deltas_of dropped ∙ (sym (drop-map (λ (x : L × List L). x.0) (length mid - 256) mid) ∙ (ap (drop (length mid - 256)) added ∙ ap (λ n. drop n (deltas_of es ++ ds)) gone)))
+        ∙ sym (pushes_drop_together (newest count (deltas_of es)) ds few)
+
+    -- without the oldest
+    pub kept_dropped : (new : List (L × List L)) (n : ℕ) → n ≤ length es → new ≡ drop n es → IsKept is_value join count new
+    kept_dropped new n some dropped =
+        let w = whole in
+        let buffer = h.buffer in
+        let few = buffer.few in
+        let many = length-map es (λ (x : L × List L). x.0) in
+        let left = ap length dropped ∙ length-drop n es in
+        let long = length-map new (λ (x : L × List L). x.0) in
+        let base : (count - length es) + n ≡ count - length new = omega arith in
+        let now = subst (λ b. AreJoined is_value join b new) base (subst (AreJoined is_value join ((count - length es) + n)) (sym dropped) (joined_drop is_value join (count - length es) n es h.joined)) in
+        record {
+          buffer = record {
+            numbered = omega arith;
+            few = omega arith;
+            countable = buffer.countable;
+            values = joined_values (count - length new) new now;
+          };
+          joined = now;
+        }
+
+    pub shown_dropped : (new : List (L × List L)) (n m : ℕ) → m ≡ min n count - (count - length es) → new ≡ drop m es → newest count (deltas_of new) ≡ trimmed (newest count (deltas_of es)) n
+    shown_dropped new n m is dropped =
+        let w = whole in
+        let many = length-map es (λ (x : L × List L). x.0) in
+        let left = ap length dropped ∙ length-drop m es in
+        let long = length-map new (λ (x : L × List L). x.0) in
+        let same : m ≡ min n count - (count - length (deltas_of es)) = omega arith in
+        same_kept _ _ _ _ _ _ refl (omega arith) (ap deltas_of dropped ∙ (sym (drop-map (λ (x : L × List L). x.0) m es) ∙ ap (λ k. drop k (deltas_of es)) same))
+
+    -- the base that contracts see
+    pub base_is : (k : Kept L) (b : ℕ) → newest count (deltas_of es) ≡ k → b ≡ k.base → b ≡ count - length es
+    base_is k b shown is =
+        let many = length-map es (λ (x : L × List L). x.0) in
+        let same = ap (λ (k : Kept L). k.base) shown in
+        omega arith
+
+    -- one more ending
+    pub joined_one : (mid : List (L × List L)) (e : L × List L) (d : L) (b : ℕ) → b ≡ count - length es → e.0 ≡ d → HasJoins is_value join (b + (length es + 1)) (deltas_of es ++ d ∷ []) e → mid ≡ es ++ e ∷ [] → AreJoined is_value join (count - length es) mid × (deltas_of mid ≡ deltas_of es ++ d ∷ [])
+    joined_one mid e d b base is joins pushed =
+        let had = subst (λ x. HasJoins is_value join ((count - length es) + (length es + 1)) (deltas_of es ++ x ∷ []) e) (sym is) (subst (λ n. HasJoins is_value join (n + (length es + 1)) (deltas_of es ++ d ∷ []) e) base joins) in (
+          subst (AreJoined is_value join (count - length es)) (sym pushed) (joined_push is_value join (count - length es) es e h.joined had),
+          ap deltas_of pushed ∙ (map-append (λ (x : L × List L). x.0) es (e ∷ []) ∙ ap (λ x. deltas_of es ++ x ∷ []) is),
+        )

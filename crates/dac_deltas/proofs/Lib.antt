@@ -1,2 +1,6 @@
 mod Keeping
+mod Places
+mod Few
+mod Joining
+mod Listing
 mod Tables

@@ -1,9 +1,9 @@
 -- What is left of a log of deltas that is never cut, when those below a base are dropped. The calls of a buffer are those of such a log.
 use Rattle.std.specs.Prelude.{◌≡◌, ◌<◌, ◌≤◌, ℕ, ◌+◌, ◌-◌, List, [], ◌∷◌, ◌++◌, length, drop, fold, min, max, cond, Some, None, refl}
-use Rattle.std.proofs.Common.{arith, sym, ap, ◌∙◌, drop-drop, lt-ltb, le-ltb}
+use Rattle.std.proofs.Common.{arith, sym, ap, ◌∙◌, suc, append_assoc, drop-drop, lt-ltb, le-ltb}
 use Rattle.std.specs.List.{All}
-use Rattle.std.proofs.lemmas.List.{drop-append-le, length-append, length-drop}
-use Rattle.dac_deltas.specs.Kept.{Kept, IsJoinOf, empty, pushed, trimmed, interval_of}
+use Rattle.std.proofs.lemmas.List.{append-nil, drop-append-le, length-append, length-drop}
+use Rattle.dac_deltas.specs.Kept.{Kept, IsJoinOf, empty, cut, pushed, trimmed, interval_of}
 
 -- what is kept of a log, where those below the base are dropped
 abbrev pub kept_of : {L : Type 0} → ℕ → List L → Kept L
@@ -20,6 +20,10 @@ EmptyIsOfNothing L = ◌≡◌ {A = Kept L} empty (kept_of 0 [])
 -- a push appends to the log, and drops all but the newest 256
 abbrev pub PushesAppend : Type 0 → Type 0
 PushesAppend L = (base : ℕ) (log : List L) (delta : L) → base ≤ length log → pushed (kept_of base log) delta ≡ newest_of base (log ++ delta ∷ [])
+
+-- several pushes append to the log in order, and drop all but the newest 256
+abbrev pub PushesAppendAll : Type 0 → Type 0
+PushesAppendAll L = (base : ℕ) (log deltas : List L) → base ≤ length log → length log ≤ base + 256 → fold pushed (kept_of base log) deltas ≡ newest_of base (log ++ deltas)
 
 -- a trim leaves the log, and moves the base on to the number or to the end
 abbrev pub TrimsMoveTheBase : Type 0 → Type 0
@@ -40,7 +44,7 @@ JoinsAreLeast {L} is_value below join bottom = (log : List L) → All is_value l
 
 -- ---- the laws
 module _ {L : Type 0} where
-  same_kept : (count count' base base' : ℕ) (ds ds' : List L) → count ≡ count' → base ≡ base' → ds ≡ ds' → ◌≡◌ {A = Kept L} (record { count = count; base = base; deltas = ds }) (record { count = count'; base = base'; deltas = ds' })
+  pub same_kept : (count count' base base' : ℕ) (ds ds' : List L) → count ≡ count' → base ≡ base' → ds ≡ ds' → ◌≡◌ {A = Kept L} (record { count = count; base = base; deltas = ds }) (record { count = count'; base = base'; deltas = ds' })
   same_kept count count' base base' ds ds' c b d = λ i. record { count = c i; base = b i; deltas = d i }
 
   pub pushes_append : PushesAppend L
@@ -51,6 +55,32 @@ module _ {L : Type 0} where
       let gone = length (drop base log) + 1 - 256 in
       let to : base + gone ≡ max base (length more - 256) = omega arith in
       same_kept _ _ _ _ _ _ (sym all) to (ap (drop gone) (sym (drop-append-le base log (delta ∷ []) h)) ∙ (drop-drop gone base more ∙ ap (λ n. drop n more) to))
+
+  -- several pushes drop at last what each would drop in turn
+  pub pushes_drop_together : (k : Kept L) (ds : List L) → length k.deltas ≤ 256 → fold pushed k ds ≡ cut (record { count = k.count + length ds; base = k.base; deltas = k.deltas ++ ds }) (length k.deltas + length ds - 256)
+  pushes_drop_together k [] few =
+      let none : length k.deltas + 0 - 256 ≡ 0 = omega arith in
+      same_kept _ _ _ _ _ _ (omega arith) (omega arith) (sym (append-nil k.deltas) ∙ ap (λ n. drop n (k.deltas ++ [])) (sym none))
+  pushes_drop_together k (d ∷ ds) few =
+      let one = k.deltas ++ d ∷ [] in
+      let all = k.deltas ++ d ∷ ds in
+      let gone = length k.deltas + 1 - 256 in
+      let long = length-append k.deltas (d ∷ []) in
+      let left = length-drop gone one in
+      let later = length (drop gone one) + length ds - 256 in
+      let to : gone + later ≡ length k.deltas + suc (length ds) - 256 = omega arith in
+      pushes_drop_together (pushed k d) ds (omega arith)
+      ∙ same_kept _ _ _ _ _ _ (omega arith) (omega arith)
+      (ap (drop later) (sym (drop-append-le gone one ds (omega arith))) ∙ (drop-drop later gone (one ++ ds) ∙ (ap (λ n. drop n (one ++ ds)) to ∙ ap (drop (length k.deltas + suc (length ds) - 256)) (append_assoc k.deltas (d ∷ []) ds))))
+
+  pub pushes_append_all : PushesAppendAll L
+  pushes_append_all base log deltas h few =
+      let left = length-drop base log in
+      let all = length-append log deltas in
+      let gone = length (drop base log) + length deltas - 256 in
+      let to : base + gone ≡ max base (length (log ++ deltas) - 256) = omega arith in
+      pushes_drop_together (kept_of base log) deltas (omega arith)
+      ∙ same_kept _ _ _ _ _ _ (sym all) to (ap (drop gone) (sym (drop-append-le base log deltas h)) ∙ (drop-drop gone base (log ++ deltas) ∙ ap (λ n. drop n (log ++ deltas)) to))
 
   pub trims_move_the_base : TrimsMoveTheBase L
   trims_move_the_base base log n =

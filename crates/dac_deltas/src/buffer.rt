@@ -1,7 +1,9 @@
 //! The newest deltas, by number.
-ghost use Rattle.std.specs.Prelude.{◌≡◌, ◌<◌, ◌≤◌, Ok, None, OnOk, OnErr, IfOk, IfSome};
+ghost use Rattle.std.specs.Prelude.{◌≡◌, ◌+◌, ◌-◌, ◌<◌, ◌≤◌, fold, drop, length, Ok, None, OnOk, OnErr, IfOk, IfSome, IsSome};
 ghost use Rattle.dac_deltas.specs.Kept.{IsBuffer, empty, pushed, trimmed, numbered_from, interval_of, IsJoinOf};
+ghost use Rattle.dac_deltas.specs.Blocks.{AreBlocks};
 
+use crate::blocks::{Ending, add_all, level_at};
 use dac_base::{MAX_COUNTER, NoMemory};
 use dac_lattice::Bottom;
 use std::alloc::Global;
@@ -14,21 +16,33 @@ const MOST_KEPT: usize = 256;
 /// The newest deltas of a log, at most 256. Deltas are numbered in the order in which they are pushed, from
 /// 0. Contracts see how many there were ever, the least number that is kept, and those kept, the oldest
 /// first.
+///
+/// Beside its deltas a buffer keeps the joins of their aligned blocks of 2 to 256 deltas. A full one has at
+/// most 255 of these, and an interval takes at most 16 joins.
 #[derive(Drop)]
 pub struct Buffer<L: Bottom> {
     alloc: Global,
     count: u64,
-    deltas: VecDeque<L>,
+    kept: VecDeque<Ending<L>>,
 }
 
 impl<L: Bottom> Model for Buffer<L> {
-    ghost use Rattle.dac_deltas.specs.Kept.{Kept, IsBuffer, newest};
+    ghost use Rattle.dac_deltas.specs.Kept.{Kept, newest};
+    ghost use Rattle.dac_deltas.specs.Endings.{IsKept, deltas_of};
 
     ghost Value = { Kept L };
 
-    ghost view = { λ b. newest b.count b.deltas.items };
+    ghost view = { λ b. newest b.count (deltas_of b.kept.items) };
 
-    ghost invariant = { λ b. IsBuffer L.is_value (newest b.count b.deltas.items) };
+    ghost invariant = { λ b. IsKept L.is_value L.join b.count b.kept.items };
+}
+
+/// Drops all but the newest 256.
+fn keep_newest<L: Bottom>(kept: &mut VecDeque<Ending<L>>)
+    ensures { kept.new.items ≡ drop (length kept.old.items - 256) kept.old.items }
+{
+    let dropped = kept.len().saturating_sub(MOST_KEPT);
+    kept.drain(..dropped);
 }
 
 impl<L: Bottom> Buffer<L> {
@@ -39,7 +53,7 @@ impl<L: Bottom> Buffer<L> {
         Buffer {
             alloc,
             count: 0,
-            deltas: VecDeque::new(alloc),
+            kept: VecDeque::new(alloc),
         }
     }
 
@@ -48,7 +62,7 @@ impl<L: Bottom> Buffer<L> {
     pub fn known(&self)
         ensures { IsBuffer L.is_value self.now }
     {
-        let _deltas = &self.deltas;
+        let _kept = &self.kept;
     }
 
     /// How many deltas were pushed ever. The first has number 0.
@@ -62,7 +76,7 @@ impl<L: Bottom> Buffer<L> {
     pub fn base(&self) -> u64
         ensures { result ≡ self.now.base }
     {
-        self.count - self.deltas.len() as u64
+        self.count - self.kept.len() as u64
     }
 
     /// One more delta, whose number is the count. With 256 kept, the oldest is dropped. The caller owes a
@@ -72,12 +86,30 @@ impl<L: Bottom> Buffer<L> {
         ensures ok { OnOk result (self.new ≡ pushed self.old delta) }
         ensures err { OnErr result (self.new ≡ self.old) }
     {
-        delta.known();
-        self.deltas.push_back(delta)?;
+        let base = self.base();
+        let ending = Ending::next(self.alloc, &self.kept, base, delta)?;
+        self.kept.push_back(ending)?;
         self.count += 1;
-        if self.deltas.len() > MOST_KEPT {
-            self.deltas.pop_front();
+        keep_newest(&mut self.kept);
+        Ok(())
+    }
+
+    /// Several deltas more, one after another as [`Buffer::push`] does, or none of them. The caller owes a
+    /// count of at most 2^62 with all of them. [`NoMemory`] is the only error, and leaves all as it was.
+    pub fn push_all(&mut self, deltas: Vec<L>) -> Result<(), NoMemory>
+        requires { self.old.count + length deltas.items ≤ MAX_COUNTER }
+        ensures ok { OnOk result (self.new ≡ fold pushed self.old deltas.items) }
+        ensures err { OnErr result (self.new ≡ self.old) }
+    {
+        let base = self.base();
+        let before = self.kept.len();
+        let added = deltas.len() as u64;
+        if let Err(refused) = add_all(self.alloc, &mut self.kept, base, deltas) {
+            self.kept.truncate(before);
+            return Err(refused);
         }
+        self.count += added;
+        keep_newest(&mut self.kept);
         Ok(())
     }
 
@@ -87,12 +119,14 @@ impl<L: Bottom> Buffer<L> {
         ensures { self.new ≡ trimmed self.old n }
     {
         let dropped = n.min(self.count).saturating_sub(self.base());
-        self.deltas.drain(..dropped as usize);
+        self.kept.drain(..dropped as usize);
     }
 
     /// The join of the deltas from number `a` on, which is the least value where `a` is the count, and none
     /// where a delta from `a` on is no longer kept. The caller owes that `a` is at most the count. [`NoMemory`]
     /// is the only error, and comes only where all deltas from `a` on are kept.
+    ///
+    /// It joins the blocks that [`Buffer::blocks`] lists, from the first to the last.
     pub fn interval(&self, a: u64) -> Result<Option<L>, NoMemory>
         requires { a ≤ self.now.count }
         ensures dropped { a < self.now.base → result ≡ Ok None }
@@ -104,24 +138,54 @@ impl<L: Bottom> Buffer<L> {
             return Ok(None);
         }
         let mut joined = L::bottom(self.alloc);
-        for delta in self.deltas.range((a - base) as usize..) {
-            joined = joined.join(delta)?;
+        let mut at = a;
+        while at < self.count {
+            let level = level_at(at, self.count - at);
+            let end = at + (1 << level);
+            let last = &self.kept[(end - base) as usize - 1];
+            joined = joined.join(last.block(level))?;
+            at = end;
         }
         Ok(Some(joined))
+    }
+
+    /// The blocks that an interval joins, each as its first number and the one after its last. From `a` to the
+    /// count each is the longest aligned block that begins where the one before ended. They are at most 16, and
+    /// none where `a` is the count. There is no list where a delta from `a` on is no longer kept. The caller owes
+    /// that `a` is at most the count. [`NoMemory`] is the only error, and comes only where all deltas from `a` on
+    /// are kept.
+    pub fn blocks(&self, a: u64) -> Result<Option<Vec<(u64, u64)>>, NoMemory>
+        requires { a ≤ self.now.count }
+        ensures dropped { a < self.now.base → result ≡ Ok None }
+        ensures kept { self.now.base ≤ a → IfOk result (λ found. IsSome found) }
+        ensures blocks { IfOk result (λ found. IfSome found (λ bs. AreBlocks a self.now.count bs.items)) }
+        ensures few { IfOk result (λ found. IfSome found (λ bs. length bs.items ≤ 16)) }
+    {
+        if a < self.base() {
+            return Ok(None);
+        }
+        let mut blocks = Vec::new(self.alloc);
+        let mut at = a;
+        while at < self.count {
+            let end = at + (1 << level_at(at, self.count - at));
+            blocks.push((at, end))?;
+            at = end;
+        }
+        Ok(Some(blocks))
     }
 
     /// An equal buffer, with memory of its own. [`NoMemory`] is the only error.
     pub fn copy(&self) -> Result<Self, NoMemory>
         ensures { IfOk result (λ copied. copied ≡ self.now) }
     {
-        let mut deltas = VecDeque::new(self.alloc);
-        for delta in &self.deltas {
-            deltas.push_back(delta.copy()?)?;
+        let mut kept = VecDeque::new(self.alloc);
+        for ending in &self.kept {
+            kept.push_back(ending.copy()?)?;
         }
         Ok(Buffer {
             alloc: self.alloc,
             count: self.count,
-            deltas,
+            kept,
         })
     }
 }

@@ -15,5 +15,6 @@ pub use acks::Acks;
 pub use buffer::Buffer;
 
 mod acks;
+mod blocks;
 mod buffer;
 pub mod laws;

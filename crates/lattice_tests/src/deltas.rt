@@ -13,12 +13,18 @@ fn push(buffer: &mut Buffer<Max<u64>>, number: u64) -> Result<(), NoMemory> {
     Ok(())
 }
 
-/// The numbers from 1 to 257, pushed in this order and trimmed.
-fn trimmed(alloc: Global, to: u64) -> Result<Buffer<Max<u64>>, NoMemory> {
+/// The numbers from 1 on that are below another, pushed in this order.
+fn numbers_below(alloc: Global, end: u64) -> Result<Buffer<Max<u64>>, NoMemory> {
     let mut buffer = Buffer::new(alloc);
-    for number in 1..258 {
+    for number in 1..end {
         push(&mut buffer, number)?;
     }
+    Ok(buffer)
+}
+
+/// The numbers from 1 to 257, pushed in this order and trimmed.
+fn trimmed(alloc: Global, to: u64) -> Result<Buffer<Max<u64>>, NoMemory> {
+    let mut buffer = numbers_below(alloc, 258)?;
     buffer.trim(to);
     buffer.copy()
 }
@@ -62,6 +68,76 @@ fn oldest_are_dropped_and_trimmed(rt: HostRuntime) {
     for (to, base, from, wanted) in TRIMS {
         let answer = is_trimmed(rt.alloc(), *to, *base, *from, *wanted);
         assert!(rt; matches!(answer, Ok(true)), "trimmed to {to}, from {from}");
+    }
+}
+
+/// Pushes several numbers together, if there may be so many more.
+fn push_all(buffer: &mut Buffer<Max<u64>>, numbers: Vec<Max<u64>>) -> Result<(), NoMemory> {
+    if buffer.count() < 1 << 61 && numbers.len() < 1 << 61 {
+        buffer.push_all(numbers)?;
+    }
+    Ok(())
+}
+
+/// The numbers from 1 to 255, and then three more that are pushed together.
+fn with_three(alloc: Global) -> Result<Buffer<Max<u64>>, NoMemory> {
+    let mut buffer = numbers_below(alloc, 256)?;
+    let three = vec![in alloc; Max::new(7), Max::new(1000), Max::new(8)]?;
+    push_all(&mut buffer, three)?;
+    Ok(buffer)
+}
+
+/// Whether the three come last and are counted, the first two numbers are dropped, and the greatest from a delta on is
+/// this.
+fn has_three(alloc: Global, from: u64, wanted: u64) -> Result<bool, NoMemory> {
+    let buffer = with_three(alloc)?;
+    Ok(buffer.base() == 2 && buffer.count() == 258 && greatest(&buffer, from)? == Some(wanted))
+}
+
+#[test]
+fn several_are_pushed(rt: HostRuntime) {
+    assert!(rt; has_three(rt.alloc(), 2, 1000) == Ok(true));
+    assert!(rt; has_three(rt.alloc(), 257, 8) == Ok(true));
+}
+
+/// The blocks from a delta on.
+fn blocks(buffer: &Buffer<Max<u64>>, from: u64) -> Result<Option<Vec<(u64, u64)>>, NoMemory> {
+    if from > buffer.count() {
+        return Ok(None);
+    }
+    buffer.blocks(from)
+}
+
+/// Whether these are the blocks from a delta on, of the numbers from 1 to 300.
+fn are_blocks(alloc: Global, from: u64, wanted: Option<&[(u64, u64)]>) -> Result<bool, NoMemory> {
+    let buffer = numbers_below(alloc, 301)?;
+    let found = blocks(&buffer, from)?;
+    Ok(buffer.base() == 44 && found.as_deref() == wanted)
+}
+
+/// The blocks from the oldest delta that is kept.
+const FROM_THE_OLDEST: &[(u64, u64)] = &[
+    (44, 48),
+    (48, 64),
+    (64, 128),
+    (128, 256),
+    (256, 288),
+    (288, 296),
+    (296, 300),
+];
+
+/// A delta, and the blocks from it on.
+const BLOCKS: &[(u64, Option<&[(u64, u64)]>)] = &[
+    (43, None),
+    (44, Some(FROM_THE_OLDEST)),
+    (300, Some(&[])),
+];
+
+#[test]
+fn blocks_are_aligned(rt: HostRuntime) {
+    for (from, wanted) in BLOCKS {
+        let answer = are_blocks(rt.alloc(), *from, *wanted);
+        assert!(rt; matches!(answer, Ok(true)), "from {from}");
     }
 }
 

@@ -1,17 +1,51 @@
-use Rattle.std.proofs.Common.{◌-◌, fold, subst}
-use Rattle.std.specs.VecDeque.Iter.{deque_iter_rest}
+use Rattle.std.proofs.Common.{◌≡◌, ◌-◌, List, fold, drop, length, sym, ap, subst, ◌∙◌, arith}
 use Rattle.std.proofs.lemmas.List.Elements.{All-drop}
-use Rattle.dac_deltas.specs.Kept.{IsBuffer, IsJoinOf, numbered_from}
+use Rattle.std.proofs.lemmas.List.{length-map}
+use Rattle.dac_deltas.specs.Kept.{Kept, IsJoinOf, numbered_from}
+use Rattle.dac_deltas.specs.Endings.{AreJoined, deltas_of}
 use Rattle.dac_deltas.specs.Joins.{joins_are_least}
-use Rattle.dac_deltas.proofs.Keeping.{nothing_left}
+use Rattle.dac_deltas.proofs.Joining.{block_there, joining_one, joining_all}
+use Rattle.dac_deltas.proofs.Keeping.{whole, base_is}
 use Rattle.dac_deltas.proofs.buffer.Buffer.interval.Goals as goal
+
+pub block-requires : goal.block-requires
+block-requires g c =
+    let is_value = g.L.Lattice.is_value in
+    let join = g.L.Lattice.join in
+    let count = c.self.inside.count in
+    let es = c.self.inside.kept.items in
+    let base = base_is is_value join count es c.self.invariant c.args.self.now c.base-base.result c.self.view_is c.base-base.ensures in
+    let joined = subst (λ b. AreJoined is_value join b es) (sym base) c.self.invariant.joined in
+    let all = whole is_value join count es c.self.invariant in
+    let from = c.loop-at.invariant.from in
+    (block_there is_value join count c.base-base.result c.loop-at.at c.level_at-level.result _ es c.index-last.result.now joined (omega arith) (omega arith) c.loop-at-test.true c.level_at-level.ensures (omega arith) c.index-last.ensures).0
+
+pub loop-at-preserved : goal.loop-at-preserved
+loop-at-preserved g c =
+    let is_value = g.L.Lattice.is_value in
+    let join = g.L.Lattice.join in
+    let count = c.self.inside.count in
+    let es = c.self.inside.kept.items in
+    let base = base_is is_value join count es c.self.invariant c.args.self.now c.base-base.result c.self.view_is c.base-base.ensures in
+    let joined = subst (λ b. AreJoined is_value join b es) (sym base) c.self.invariant.joined in
+    let all = whole is_value join count es c.self.invariant in
+    let from = c.loop-at.invariant.from in
+    let there = block_there is_value join count c.base-base.result c.loop-at.at c.level_at-level.result _ es c.index-last.result.now joined (omega arith) (omega arith) c.loop-at-test.true c.level_at-level.ensures (omega arith) c.index-last.ensures in
+    joining_one is_value join g.met.L.Lattice.laws g.L.Bottom.bottom c.base-base.result c.args.a count c.loop-at.at _ c.level_at-level.result es c.loop-at.joined _ c.in_ok-joined.joined (omega arith) c.loop-at-test.true c.level_at-level.ensures (omega arith) there.1 c.loop-at.invariant (c.in_ok-joined.ensures ∙ ap (join c.loop-at.joined) c.block.ensures)
 
 pub returns-clause-least : goal.returns-clause-least
 returns-clause-least g c =
     let is_value = g.L.Lattice.is_value in
-    let kept = c.args.self.now in
-    let values = (subst (IsBuffer is_value) c.self.view_is c.self.invariant).values in
-    let all = fold g.L.Lattice.join g.L.Bottom.bottom (numbered_from kept c.args.a) in
-    let whole = nothing_left g.L.Lattice.join c.loop-delta.joined all (deque_iter_rest c.loop-delta.delta-iterator) c.loop-delta.invariant c.in-None.ensures.steps.0 in
-    subst (IsJoinOf is_value g.L.Lattice.below (numbered_from kept c.args.a)) whole
-    (joins_are_least g.met.L.Lattice.laws g.L.Bottom.bottom g.met.L.Bottom.bottom_value g.met.L.Bottom.least (numbered_from kept c.args.a) (All-drop is_value (c.args.a - kept.base) kept.deltas values))
+    let join = g.L.Lattice.join in
+    let count = c.self.inside.count in
+    let es = c.self.inside.kept.items in
+    let ds = deltas_of es in
+    let a = c.args.a in
+    let base = base_is is_value join count es c.self.invariant c.args.self.now c.base-base.result c.self.view_is c.base-base.ensures in
+    let all = whole is_value join count es c.self.invariant in
+    let many = length-map es (λ (x : g.row.L.Denot × List g.row.L.Denot). x.0) in
+    let skip : a - c.base-base.result ≡ a - (count - length ds) = omega arith in
+    let joined = joining_all is_value join g.L.Bottom.bottom c.base-base.result a count c.loop-at.at ds c.loop-at.joined (omega arith) c.loop-at-test.false c.loop-at.invariant ∙ ap (λ n. fold join g.L.Bottom.bottom (drop n ds)) skip in
+    let rest = drop (a - (count - length ds)) ds in
+    let least = joins_are_least g.met.L.Lattice.laws g.L.Bottom.bottom g.met.L.Bottom.bottom_value g.met.L.Bottom.least rest (All-drop is_value (a - (count - length ds)) ds c.self.invariant.buffer.values) in
+    subst (λ (k : Kept g.row.L.Denot). IsJoinOf is_value g.L.Lattice.below (numbered_from k a) c.loop-at.joined) c.self.view_is (subst (IsJoinOf is_value g.L.Lattice.below rest) (sym joined) least)

@@ -1,7 +1,10 @@
-use Rattle.std.proofs.Common.{◌≡◌, ◌-◌, drop, fold}
-use Rattle.std.specs.VecDeque.Iter.{deque_iter_rest}
+use Rattle.std.proofs.Common.{◌-◌}
+use Rattle.dac_deltas.specs.Endings.{deltas_of}
+use Rattle.dac_deltas.proofs.Joining.{IsJoining}
 use Rattle.dac_deltas.proofs.buffer.Buffer.interval.Given as goal
 
--- what is left to join gives the interval
-abbrev pub invariant-loop-delta : goal.invariant-loop-delta
-invariant-loop-delta g l = fold g.L.Lattice.join l.joined (deque_iter_rest l.delta-iterator) ≡ fold g.L.Lattice.join g.L.Bottom.bottom (drop (l.a - l.self.base) l.self.deltas)
+abbrev pub invariant-loop-at : goal.invariant-loop-at
+invariant-loop-at g l = IsJoining g.L.Lattice.is_value g.L.Lattice.join g.L.Bottom.bottom l.base l.a l.self-inside.count l.at (deltas_of l.self-inside.kept.items) l.joined
+
+abbrev pub decreases-loop-at : goal.decreases-loop-at
+decreases-loop-at g l = l.self-inside.count - l.at

@@ -1,0 +1,24 @@
+use Rattle.std.proofs.Common.{◌∙◌, arith, ap}
+use Rattle.dac_deltas.specs.Kept.{trimmed}
+use Rattle.dac_deltas.proofs.Keeping.{kept_dropped, shown_dropped, base_is, whole}
+use Rattle.dac_deltas.proofs.buffer.Buffer.trim.Goals as goal
+
+pub invariant_of-self : goal.invariant_of-self
+invariant_of-self g c =
+    let is_value = g.L.Lattice.is_value in
+    let join = g.L.Lattice.join in
+    let count = c.self.inside.count in
+    let es = c.self.inside.kept.items in
+    let base = base_is is_value join count es c.self.invariant c.args.self.now c.base.result c.self.view_is c.base.ensures in
+    let all = whole is_value join count es c.self.invariant in
+    kept_dropped is_value join count es c.self.invariant c.drop-drain.new.self.0.items c.saturating_sub-dropped.result (omega arith) (c.drop-drain.ensures.items ∙ c.drain.ensures.kept)
+
+pub returns : goal.returns
+returns g c =
+    let is_value = g.L.Lattice.is_value in
+    let join = g.L.Lattice.join in
+    let count = c.self.inside.count in
+    let es = c.self.inside.kept.items in
+    let base = base_is is_value join count es c.self.invariant c.args.self.now c.base.result c.self.view_is c.base.ensures in
+    shown_dropped is_value join count es c.self.invariant c.drop-drain.new.self.0.items c.args.n c.saturating_sub-dropped.result (omega arith) (c.drop-drain.ensures.items ∙ c.drain.ensures.kept)
+    ∙ ap (λ k. trimmed k c.args.n) c.self.view_is
