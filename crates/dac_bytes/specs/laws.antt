@@ -1,4 +1,5 @@
 pub mod Calls
+pub mod Codecs
 pub mod ContextLaws
 pub mod Fields
 pub mod FurtherLaws
