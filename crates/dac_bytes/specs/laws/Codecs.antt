@@ -1,6 +1,6 @@
 -- Fields whose values and spellings are one to one, and how one is made of others.
-use Rattle.std.specs.Prelude.{◌≡◌, ℕ, ◌+◌, Bool, true, false, cond, List, ◌++◌, length, Ok, Err, refl}
-use Rattle.std.proofs.Common.{ap, subst, ◌∙◌}
+use Rattle.std.specs.Prelude.{◌≡◌, ℕ, ◌+◌, Bool, true, false, cond, List, ◌++◌, length, Result, Ok, Err, refl}
+use Rattle.std.proofs.Common.{sym, ap, subst, ◌∙◌}
 use Rattle.dac_bytes.specs.declared.fault.ReadFault.{ReadFault}
 use Rattle.dac_bytes.specs.Reading.{Rest, Field, ◌>>=◌}
 use Rattle.dac_bytes.specs.Takes.{Takes, TakesAs, TakesAs-more, TakesAs-made, TakesAs-both, Again, Again-made, Again-both, bind_ok}
@@ -9,6 +9,18 @@ use Rattle.dac_bytes.specs.Takes.{Takes, TakesAs, TakesAs-more, TakesAs-made, Ta
 pub record IsCodec {X : Type 0} (read : Rest → Field X) (text : X → List ℕ) (Is : X → Type 0) : Type 0 where
   pub takes : TakesAs read text Is
   pub again : (x : X) → Is x → Again read (text x) x
+
+-- what reads alike is one to one alike
+pub codec_alike : {X : Type 0} (read other : Rest → Field X) (text : X → List ℕ) (Is : X → Type 0) → ((r : Rest) → other r ≡ read r) → IsCodec read text Is → IsCodec other text Is
+codec_alike read other text Is alike codec = record {
+  takes = λ r x fits e. codec.takes r x fits (sym (alike r) ∙ e);
+  again = λ x is at rest. alike (record { at = at; bytes = text x ++ rest }) ∙ codec.again x is at rest;
+}
+
+-- a third step after two
+pub bind_bind : {A B C : Type 0} (m : Result A ReadFault) (f : A → Result B ReadFault) (g : B → Result C ReadFault) → ((m >>= f) >>= g) ≡ (m >>= λ x. f x >>= g)
+bind_bind (Ok x) f g = refl
+bind_bind (Err e) f g = refl
 
 -- what has to pass a test
 abbrev pub Passes : {X : Type 0} → (X → Type 0) → (X → Bool) → X → Type 0
