@@ -69,16 +69,16 @@ pub record AreOver (nodes : ℕ) (over : List Dot) : Type 0 where
   pub count : length over < 2 ^ 16
 
 -- a claim by a node in the application's list
-pub record IsClaim (t : Table) (issuer : NodeId) (claimed : AppId) (term : ℕ) (how : How) (from : Option NodeId) : Type 0 where
+pub record IsClaim (t : Table) (issuer : NodeId) (claimed : AppId) (number : ℕ) (how : How) (taken : Option NodeId) : Type 0 where
   -- there is such an application
   pub app : claimed.0 < app_count t
   -- its term is one that can be issued
-  pub first : 1 ≤ term
-  pub last : term ≤ MAX_COUNTER
+  pub first : 1 ≤ number
+  pub last : number ≤ MAX_COUNTER
   -- the node is in the application's list
   pub listed : is_listed t claimed issuer ≡ true
   -- where it came from fits how it came
-  pub from : IsFromFor (node_count t) how from
+  pub from : IsFromFor (node_count t) how taken
 
 -- the act of a node
 abbrev pub IsAct : Table → NodeId → Act → Type 0

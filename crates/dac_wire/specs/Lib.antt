@@ -5,3 +5,4 @@ pub mod Faults
 pub mod Form
 pub mod Reading
 pub mod Spelling
+pub mod laws

@@ -29,7 +29,7 @@ const MAGIC_AND_VERSION: [u8; 4] = *b"DAC\x01";
 const PREAMBLE: usize = 12;
 
 /// The name of the format, its version, and the mark of the configuration.
-#[tactic(auto, unfolding(crate::specs::Spelling::preamble_bytes))]
+#[tactic(auto, unfolding(crate::specs::Spelling::preamble_bytes, dac_bytes::specs::Numbers::u8_bytes, dac_bytes::specs::Numbers::u64_bytes))]
 fn preamble(config: &Config) -> [u8; 12]
     ensures { result ≡ preamble_bytes config.now }
 {
@@ -40,7 +40,6 @@ fn preamble(config: &Config) -> [u8; 12]
 }
 
 /// What is wrong with the front of the bytes, if anything.
-#[tactic(auto, unfolding(crate::specs::Decoding::front_fault))]
 fn front_fault(config: &Config, bytes: &[u8]) -> Option<WireFault>
     ensures { result ≡ front_fault config.now bytes.now }
 {

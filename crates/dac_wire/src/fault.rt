@@ -122,7 +122,7 @@ fn kind_of_field(kind: ReadFaultKind) -> WireFaultKind
 impl WireFault {
     /// What is wrong, and where.
     pub(crate) fn new(kind: WireFaultKind, at: usize) -> Self
-        ensures { (result.kind ≡ kind) × (result.at ≡ at) }
+        ensures { result ≡ record { kind = kind; at = at } }
     {
         WireFault { kind, at }
     }

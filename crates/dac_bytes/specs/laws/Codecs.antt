@@ -81,3 +81,14 @@ module _ {X : Type 0} (read : Rest → Field X) (text : X → List ℕ) (Is : X 
           (subst (λ (t : List ℕ). Again read_both t (make b.0 b.1)) (to b.0 b.1 b.2 b.3).0
           (Again-both read next make (text b.0) (text_next b.0 b.1) b.0 b.1 (codec.again b.0 b.2) ((codec_next b.0 b.2).again b.1 b.3)));
     }
+
+  -- two fields, as a pair
+  module _ {Y : Type 0} (next : X → Rest → Field Y) (text_next : X → Y → List ℕ) (IsNext : X → Y → Type 0) (codec_next : (x : X) → Is x → IsCodec (next x) (text_next x) (IsNext x)) where
+    abbrev pub pair_bytes : X × Y → List ℕ
+    pair_bytes p = text p.0 ++ text_next p.0 p.1
+
+    abbrev pub ArePair : X × Y → Type 0
+    ArePair p = Is p.0 × IsNext p.0 p.1
+
+    pub codec_pair : IsCodec (λ r. read r >>= λ x. next x.0 x.1 >>= λ y. Ok ((x.0, y.0), y.1)) pair_bytes ArePair
+    codec_pair = codec_both next text_next IsNext codec_next (λ x y. (x, y)) pair_bytes ArePair (λ x y p q. (refl, (p, q))) (λ z is. (z.0, z.1, is.0, is.1, refl))
