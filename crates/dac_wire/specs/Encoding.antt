@@ -2,7 +2,7 @@
 use Rattle.std.specs.Prelude.{◌≡◌, ℕ, ◌<◌}
 use Rattle.dac_wire.specs.declared.fault.WireFault.{WireFault}
 use Rattle.dac_wire.specs.declared.fault.WireFaultKind.{WireFaultKind}
-use Rattle.dac_wire.specs.declared.fault.WireFaultKind.TheVariants.{TooLong, BadMagic, BadVersion, OtherConfig, Short, BadNumber, BadOrder, BadName, NotInList, NotKnown, Trailing, NoMemory}
+use Rattle.dac_wire.specs.declared.fault.WireFaultKind.TheVariants.{TooLong, NoMemory}
 use Rattle.dac_wire.specs.declared.packet.TheConstants.{MAX_MESSAGE}
 
 -- the packet has too many bytes, or memory ran out

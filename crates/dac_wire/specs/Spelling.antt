@@ -16,7 +16,7 @@ use Rattle.dac_messages.specs.declared.message.Message.{Message}
 use Rattle.dac_operations.specs.declared.act.Act.{Act}
 use Rattle.dac_operations.specs.declared.act.Act.TheVariants.{Up, Down, Permit, Start, Stop, Claim}
 use Rattle.dac_operations.specs.Operations.{Operation}
-use Rattle.dac_wire.specs.Codes.{packet_code, kind_of_packet, act_code, kind_of_act, value_code, only_code, ack_code}
+use Rattle.dac_wire.specs.Codes.{packet_code, kind_of_packet, act_code, kind_of_act, value_code, only_code}
 use Rattle.dac_wire.specs.declared.packet.Packet.{Packet}
 use Rattle.dac_wire.specs.declared.packet.Packet.TheVariants as packet
 

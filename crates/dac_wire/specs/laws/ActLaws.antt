@@ -1,9 +1,7 @@
 -- Operations in form and their spellings are one to one.
-use Rattle.std.specs.Prelude.{◌≡◌, ℕ, ◌+◌, ◌<◌, ◌≤◌, ◌^◌, Bool, true, false, List, [], ◌∷◌, ◌++◌, length, map as list_map, Option, None, Some, is_none, Ok, refl}
+use Rattle.std.specs.Prelude.{◌≡◌, ℕ, ◌+◌, ◌<◌, ◌≤◌, ◌^◌, Bool, true, List, ◌++◌, Option, None, Some, is_none, Ok, refl}
 use Rattle.std.specs.Int.{w8, w16}
-use Rattle.std.specs.List.{flat_map}
-use Rattle.std.proofs.Common.{sym, ap, subst, ◌∙◌, arith, append_assoc}
-use Rattle.dac_base.specs.declared.AppId.{AppId}
+use Rattle.std.proofs.Common.{sym, ap, subst, arith, append_assoc}
 use Rattle.dac_base.specs.declared.NodeId.{NodeId}
 use Rattle.dac_base.specs.declared.limits.TheConstants.{MAX_COUNTER}
 use Rattle.dac_chains.specs.declared.claims.How.{How}
@@ -15,11 +13,11 @@ use Rattle.dac_wishes.specs.declared.key.Key.{Key}
 use Rattle.dac_config.specs.Table.{Table, node_count, app_count}
 use Rattle.dac_bytes.specs.declared.fault.ReadFault.{ReadFault}
 use Rattle.dac_bytes.specs.declared.fault.ReadFaultKind.TheVariants.{BadNumber, NotInList}
-use Rattle.dac_bytes.specs.laws.Codecs.{IsCodec, Passes, codec_same, codec_wanted, codec_made, codec_both, codec_pair}
+use Rattle.dac_bytes.specs.laws.Codecs.{IsCodec, Passes, codec_same, codec_wanted, codec_both, codec_pair}
 use Rattle.dac_bytes.specs.laws.FieldCodecs.{u8_in_codec, u16_codec, counter_codec, origin_codec, dot_codec, dot_above_codec}
 use Rattle.dac_bytes.specs.Numbers.{u8_bytes, u16_bytes, u64_bytes}
 use Rattle.dac_bytes.specs.Ranges.{IsOrigin, IsDot}
-use Rattle.dac_bytes.specs.Reading.{Rest, ◌>>=◌, number_at, range_at, counter_at, origin_at, dot_at, dot_above_at}
+use Rattle.dac_bytes.specs.Reading.{Rest, number_at, range_at, counter_at, origin_at, dot_at, dot_above_at}
 use Rattle.dac_bytes.specs.Spelling.{dot_bytes, origin_bytes}
 use Rattle.dac_bytes.specs.Takes.{Takes, TakesAs, Takes-none, TakesAs-made, Again, Again-made, ok_is}
 use Rattle.dac_part_bytes.specs.ChainForm.{IsFromFor}
@@ -30,7 +28,6 @@ use Rattle.dac_part_bytes.specs.laws.InOrder.{each_itself}
 use Rattle.dac_part_bytes.specs.laws.PartCodecs.{AreCounted, counted_codec, app_codec, key_codec, manner_codec}
 use Rattle.dac_operations.specs.declared.act.Act.{Act}
 use Rattle.dac_operations.specs.declared.act.Act.TheVariants.{Up as UpAct, Down as DownAct, Permit as PermitAct, Start as StartAct, Stop as StopAct, Claim as ClaimAct}
-use Rattle.dac_operations.specs.declared.op.OpFault.{OpFault}
 use Rattle.dac_operations.specs.Operations.{Operation, operation, fault_of}
 use Rattle.dac_wire.specs.Codes.{kind_of_act, value_code, value_of_code}
 use Rattle.dac_wire.specs.Form.{AreOver, IsClaim, IsAct, IsOperation}

@@ -1,7 +1,7 @@
 -- Codes and what they stand for are one to one.
 use Rattle.std.specs.Prelude.{◌≡◌, ℕ, zero, suc, ◌<◌, ◌≤◌, ◌^◌, Bool, true, false, List, Option, None, Some, refl}
 use Rattle.std.specs.Int.{w8}
-use Rattle.std.proofs.Common.{sym, ap, ◌∙◌, arith}
+use Rattle.std.proofs.Common.{ap, arith}
 use Rattle.std.proofs.lemmas.Bool.{eqb-true, lt-ltb, false≢true}
 use Rattle.dac_bytes.specs.laws.Codecs.{IsCodec, codec_made}
 use Rattle.dac_bytes.specs.laws.FieldCodecs.{u8_in_codec}

@@ -1,14 +1,13 @@
 -- Packets in form and their spellings are one to one.
-use Rattle.std.specs.Prelude.{◌≡◌, ℕ, ◌+◌, ◌<◌, ◌≤◌, ◌^◌, ◌==◌, Bool, true, false, cond, List, [], ◌∷◌, ◌++◌, length, drop, Option, None, Some, Result, Ok, Err, refl}
+use Rattle.std.specs.Prelude.{◌≡◌, ℕ, ◌<◌, ◌≤◌, ◌^◌, ◌==◌, Bool, true, false, cond, List, [], ◌++◌, length, drop, None, Ok, refl}
 use Rattle.std.proofs.Common.{sym, ap, subst, ◌∙◌, arith, append_assoc}
 use Rattle.std.proofs.lemmas.List.{append-nil, drop_at, nil_from_length}
 use Rattle.std.proofs.lemmas.Bool.{eqb-true}
 use Rattle.dac_config.specs.Table.{Table, node_count, app_count}
-use Rattle.dac_bytes.specs.declared.fault.ReadFault.{ReadFault}
 use Rattle.dac_bytes.specs.declared.fault.ReadFaultKind.TheVariants.{Trailing}
 use Rattle.dac_bytes.specs.laws.Codecs.{IsCodec, codec_both, codec_pair}
 use Rattle.dac_bytes.specs.Reading.{Rest, ◌>>=◌, after, whole, fault}
-use Rattle.dac_bytes.specs.Takes.{IsBytes, Takes, Takes-front, TakesAs, TakesAs-made, Again, Again-made, bind_ok, wanted_ok}
+use Rattle.dac_bytes.specs.Takes.{IsBytes, Takes-front, TakesAs, TakesAs-made, Again, Again-made, bind_ok, wanted_ok}
 use Rattle.dac_meaning.specs.StateValue.{StateValue}
 use Rattle.dac_state.specs.laws.StateCodec.{state_codec}
 use Rattle.dac_state.specs.StateForm.{IsInForm}
@@ -25,7 +24,6 @@ use Rattle.dac_wire.specs.Reading.{message_of, head_at, head_and_state_at, opera
 use Rattle.dac_wire.specs.Spelling.{body_bytes, message_bytes, operation_bytes, content_bytes, preamble_bytes, spelling_of}
 use Rattle.dac_wire.specs.declared.codes.PacketKind.{PacketKind}
 use Rattle.dac_wire.specs.declared.codes.PacketKind.TheVariants.{Whole, Interval, Nothing, Single}
-use Rattle.dac_wire.specs.declared.fault.WireFault.{WireFault}
 use Rattle.dac_wire.specs.declared.head.Head.{Head}
 use Rattle.dac_wire.specs.declared.packet.Packet.{Packet}
 use Rattle.dac_wire.specs.declared.packet.Packet.TheVariants as packet

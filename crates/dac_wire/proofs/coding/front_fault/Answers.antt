@@ -1,5 +1,4 @@
 use Rattle.std.proofs.Common.{Some, sym, ap, ◌∙◌}
-use Rattle.std.proofs.Common.{arith}
 use Rattle.dac_wire.specs.laws.Fronts.{too_long, bad_magic, bad_version, no_mark, other_config, no_fault}
 use Rattle.dac_wire.proofs.coding.front_fault.Goals as goal
 
