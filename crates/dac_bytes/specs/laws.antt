@@ -1,5 +1,7 @@
 pub mod Calls
+pub mod Codecs
 pub mod ContextLaws
+pub mod FieldCodecs
 pub mod Fields
 pub mod FurtherLaws
 pub mod RisingLaws

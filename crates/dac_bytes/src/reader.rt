@@ -1,7 +1,7 @@
 //! Bytes that are being read: numbers, nodes, origins and dots.
-ghost use Rattle.std.specs.Prelude.{◌≡◌, ◌↔◌, ◌≤◌, IfOk, IsTrue, []};
+ghost use Rattle.std.specs.Prelude.{◌≡◌, ◌↔◌, ◌≤◌, IfOk, IsTrue, [], length};
 ghost use Rattle.std.specs.Int.{w8, w16, w32, w64};
-ghost use Rattle.dac_bytes.specs.Reading.{IsOfBytes, Reads, taken, number_at, range_at, node_at, incarnation_at, counter_at, origin_at, dot_at, origin_above_at, dot_above_at, whole};
+ghost use Rattle.dac_bytes.specs.Reading.{IsOfBytes, Reads, after, taken, number_at, range_at, node_at, incarnation_at, counter_at, origin_at, dot_at, origin_above_at, dot_above_at, whole};
 
 use crate::fault::{ReadFault, ReadFaultKind};
 use dac_base::{MAX_COUNTER, NodeId};
@@ -35,6 +35,15 @@ impl<'a> ByteReader<'a> {
         ensures { result ≡ whole bytes.now }
     {
         ByteReader { at: 0, rest: bytes }
+    }
+
+    /// What is after the first so many bytes.
+    pub fn behind(bytes: &'a [u8], count: usize) -> Self
+        requires { count ≤ length bytes.now }
+        ensures { result ≡ after count (whole bytes.now) }
+    {
+        let (_front, rest) = bytes.split_at(count);
+        ByteReader { at: count, rest }
     }
 
     /// The place of the next byte, from 0.

@@ -43,7 +43,8 @@ impl ByteWriter {
         bytes
     }
 
-    fn write(mut self, bytes: &[u8]) -> Result<Self, NoMemory>
+    /// Bytes as they are.
+    pub fn write_bytes(mut self, bytes: &[u8]) -> Result<Self, NoMemory>
         ensures { IfOk result (λ written. written ≡ self ++ bytes.now) }
     {
         self.bytes.extend_from_slice(bytes)?;
@@ -55,7 +56,7 @@ impl ByteWriter {
     pub fn write_u8(self, n: u8) -> Result<Self, NoMemory>
         ensures { IfOk result (λ written. written ≡ self ++ u8_bytes n) }
     {
-        let written = self.write(&u8::to_be_bytes(n))?;
+        let written = self.write_bytes(&u8::to_be_bytes(n))?;
         Ok(written)
     }
 
@@ -64,7 +65,7 @@ impl ByteWriter {
     pub fn write_u16(self, n: u16) -> Result<Self, NoMemory>
         ensures { IfOk result (λ written. written ≡ self ++ u16_bytes n) }
     {
-        let written = self.write(&u16::to_be_bytes(n))?;
+        let written = self.write_bytes(&u16::to_be_bytes(n))?;
         Ok(written)
     }
 
@@ -73,7 +74,7 @@ impl ByteWriter {
     pub fn write_u32(self, n: u32) -> Result<Self, NoMemory>
         ensures { IfOk result (λ written. written ≡ self ++ u32_bytes n) }
     {
-        let written = self.write(&u32::to_be_bytes(n))?;
+        let written = self.write_bytes(&u32::to_be_bytes(n))?;
         Ok(written)
     }
 
@@ -82,7 +83,7 @@ impl ByteWriter {
     pub fn write_u64(self, n: u64) -> Result<Self, NoMemory>
         ensures { IfOk result (λ written. written ≡ self ++ u64_bytes n) }
     {
-        let written = self.write(&u64::to_be_bytes(n))?;
+        let written = self.write_bytes(&u64::to_be_bytes(n))?;
         Ok(written)
     }
 
@@ -91,7 +92,7 @@ impl ByteWriter {
     pub fn write_count_u8(self, count: usize) -> Result<Self, NoMemory>
         ensures { IfOk result (λ written. written ≡ self ++ u8_bytes count) }
     {
-        let written = self.write(&count.to_be_bytes()[7..])?;
+        let written = self.write_bytes(&count.to_be_bytes()[7..])?;
         Ok(written)
     }
 
@@ -100,7 +101,7 @@ impl ByteWriter {
     pub fn write_count_u16(self, count: usize) -> Result<Self, NoMemory>
         ensures { IfOk result (λ written. written ≡ self ++ u16_bytes count) }
     {
-        let written = self.write(&count.to_be_bytes()[6..])?;
+        let written = self.write_bytes(&count.to_be_bytes()[6..])?;
         Ok(written)
     }
 
@@ -109,7 +110,7 @@ impl ByteWriter {
     pub fn write_count_u32(self, count: usize) -> Result<Self, NoMemory>
         ensures { IfOk result (λ written. written ≡ self ++ u32_bytes count) }
     {
-        let written = self.write(&count.to_be_bytes()[4..])?;
+        let written = self.write_bytes(&count.to_be_bytes()[4..])?;
         Ok(written)
     }
 

@@ -11,3 +11,4 @@ pub mod KeyedLaws
 pub mod KeyedLists
 pub mod KeyedPermits
 pub mod KeyedStarts
+pub mod PartCodecs

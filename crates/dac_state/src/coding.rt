@@ -1,5 +1,5 @@
 //! States as bytes.
-ghost use Rattle.std.specs.Prelude.{◌≡◌, IfOk};
+ghost use Rattle.std.specs.Prelude.{◌≡◌, ◌++◌, IfOk};
 ghost use Rattle.dac_state.specs.StateSpelling.{spelling_of};
 
 use crate::state::State;
@@ -10,11 +10,19 @@ use dac_part_bytes::{write_claims, write_lives, write_permissions, write_wishes}
 impl State {
     /// The bytes of the state, version 1: the dots heard, the dots known, the permits and the start wishes
     /// that stand, the lives, the claims. Equal states have equal bytes. [`NoMemory`] is the only error.
-    #[tactic(auto, unfolding(crate::specs::StateSpelling::spelling_of))]
     pub fn encode(&self) -> Result<Vec<u8>, NoMemory>
         ensures { IfOk result (λ bytes. bytes.items ≡ spelling_of self.now) }
     {
         let writer = ByteWriter::new(self.allocator());
+        let whole = self.write(writer)?;
+        Ok(whole.into_bytes())
+    }
+
+    /// The same bytes after what a writer has. [`NoMemory`] is the only error; the writer is gone then.
+    #[tactic(auto, unfolding(crate::specs::StateSpelling::spelling_of))]
+    pub fn write(&self, writer: ByteWriter) -> Result<ByteWriter, NoMemory>
+        ensures { IfOk result (λ written. written ≡ writer ++ spelling_of self.now) }
+    {
         let dots = writer
             .write_context(self.heard())?
             .write_context(self.known())?;
@@ -22,6 +30,6 @@ impl State {
         let wishes = write_wishes(permits, self.wishes())?;
         let lives = write_lives(wishes, self.lives())?;
         let whole = write_claims(lives, self.claims())?;
-        Ok(whole.into_bytes())
+        Ok(whole)
     }
 }

@@ -139,6 +139,25 @@ fn read_state(alloc: Global, config: &Config, bytes: &[u8]) -> Result<State, Rea
 }
 
 impl State {
+    /// The state that the next bytes spell, version 1, and what is after it.
+    ///
+    /// The faults are those of [`State::decode`] but `Trailing`, each at its byte counted as the reader counts.
+    pub fn read<'a>(
+        reader: ByteReader<'a>,
+        alloc: Global,
+        config: &Config,
+    ) -> Result<(Self, ByteReader<'a>), ReadFault>
+        ensures exact { Gives (λ x. x) result (parts_at config.now reader.entry) }
+        // What is read is spelled so, and in form.
+        ensures found { IsFoundAs (λ x. x) spelling_of (IsInForm config.now) reader.entry result }
+        // What is spelled so and in form is read, unless memory runs out.
+        ensures again { IsReadAgain (λ x. x) spelling_of (IsInForm config.now) reader.entry result }
+    {
+        let (parts, rest) = read_parts(reader, alloc, config)?;
+        let state = State::of(parts)?;
+        Ok((state, rest))
+    }
+
     /// The state that the bytes spell, version 1, under a configuration.
     ///
     /// Each field is checked as it is read, so the fault is the first from left to right, with its byte

@@ -128,7 +128,7 @@ module _ (nodes : ℕ) where
         TakesAs-made (fitting_code_at nodes how) u8_bytes IsFitting from_of from_bytes (IsFromFor nodes how)
         fitting_code_takes (λ n is. (ap u8_bytes (from_of_code n), fits_from nodes how n is.0 is.1))
 
-  manner_takes : TakesAs (manner_at nodes) manner IsManner
+  pub manner_takes : TakesAs (manner_at nodes) manner IsManner
   unfolding manner_at manner_bytes
   manner_takes =
       TakesAs-both how_at how_bytes (λ _. Unit {0}) (λ how r. from_at nodes how r) (λ _. from_bytes) (λ how from. IsFromFor nodes how from)
@@ -148,7 +148,7 @@ module _ (nodes : ℕ) where
         subst (λ (f : Option NodeId). Again (from_at nodes how) (from_bytes from) f) (code_of_from from)
         (Again-made (fitting_code_at nodes how) from_of (from_bytes from) n (Again-wanted (from_code_at nodes) (is_from_of how) BadNumber (u8_bytes n) n (from_code_again n fits.0) fits.1))
 
-    manner_again : (m : How × Option NodeId) → IsManner m → Again (manner_at nodes) (manner m) m
+    pub manner_again : (m : How × Option NodeId) → IsManner m → Again (manner_at nodes) (manner m) m
     unfolding manner_at manner_bytes
     manner_again m is = Again-both how_at (λ how r. from_at nodes how r) (λ how from. (how, from)) (how_bytes m.0) (from_bytes m.1) m.0 m.1 (how_again m.0) (from_again m.0 m.1 is)
 

@@ -1,0 +1,61 @@
+-- What a call gives, by what the calls that it makes give.
+use Rattle.std.proofs.Common.{◌≡◌, ℕ, ◌<◌, ◌≤◌, ◌^◌, List, length, None, Some, Result, Ok, Err, refl, sym, ap, subst}
+use Rattle.std.specs.Prelude.{IfOk}
+use Rattle.dac_config.specs.Table.{Table, node_count, app_count}
+use Rattle.dac_bytes.specs.Reading.{after, whole}
+use Rattle.dac_bytes.specs.Takes.{IsBytes}
+use Rattle.dac_bytes.specs.declared.fault.ReadFault.{ReadFault}
+use Rattle.dac_wire.specs.Decoding.{front_fault, unless, packet_at}
+use Rattle.dac_wire.specs.Faults.{Fails, Gives, in_packet}
+use Rattle.dac_wire.specs.Reading.{fields_at}
+use Rattle.dac_wire.specs.declared.fault.WireFault.{WireFault}
+use Rattle.dac_wire.specs.declared.fault.WireFaultKind.{WireFaultKind}
+use Rattle.dac_wire.specs.declared.fault.WireFaultKind.TheVariants.{TooLong, BadMagic, BadVersion, OtherConfig, Short, BadNumber, BadOrder, BadName, NotInList, NotKnown, Trailing, NoMemory}
+use Rattle.dac_wire.specs.declared.packet.Packet.{Packet}
+use Rattle.dac_wire.specs.declared.packet.TheConstants.{MAX_MESSAGE}
+use Rattle.dac_wire.specs.Form.{IsPacket}
+use Rattle.dac_wire.specs.Spelling.{spelling_of}
+use Rattle.dac_wire.specs.laws.Fronts.{IsReal, front_real}
+use Rattle.dac_wire.specs.laws.PacketLaws.{packet_found, packet_again}
+
+-- what isn't want of memory is the fault that reading gives
+fails_with : {X : Type 0} (kind : WireFaultKind) (e : WireFault) (read : Result X WireFault) → ¬ (kind ≡ NoMemory) → read ≡ Err e → Fails kind e read
+fails_with TooLong e read real h = h
+fails_with BadMagic e read real h = h
+fails_with BadVersion e read real h = h
+fails_with OtherConfig e read real h = h
+fails_with Short e read real h = h
+fails_with BadNumber e read real h = h
+fails_with BadOrder e read real h = h
+fails_with BadName e read real h = h
+fails_with NotInList e read real h = h
+fails_with NotKnown e read real h = h
+fails_with Trailing e read real h = h
+fails_with NoMemory e read real h = absurd (real refl)
+
+-- what fields give as a packet they give as fields
+given_ok : {X : Type 0} (r : Result X ReadFault) (x : X) → in_packet r ≡ Ok x → r ≡ Ok x
+given_ok (Ok y) x h = cc
+given_ok (Err e) x h = absurd cc
+
+module _ (t : Table) (bytes : List ℕ) where
+  -- a wrong front is what the bytes give
+  pub gives_front : (e : WireFault) → front_fault t bytes ≡ Some e → Gives (Err e) (packet_at t bytes)
+  unfolding packet_at
+  gives_front e is = fails_with e.kind e (packet_at t bytes) (subst IsReal is (front_real t bytes)) (ap (λ f. unless f (in_packet (fields_at t (after 12 (whole bytes))))) is)
+
+  -- behind a right front it is what the fields give
+  pub gives_fields : (result : Result Packet WireFault) → front_fault t bytes ≡ None → Gives result (in_packet (fields_at t (after 12 (whole bytes)))) → Gives result (packet_at t bytes)
+  unfolding packet_at
+  gives_fields result is gives = subst (Gives result) (sym (ap (λ f. unless f (in_packet (fields_at t (after 12 (whole bytes))))) is)) gives
+
+  module _ (few_nodes : node_count t < 2 ^ 8) (few_apps : app_count t ≤ 2 ^ 16) where
+    -- what the fields give is spelled by the bytes, and in form
+    pub found_fields : IsBytes bytes → front_fault t bytes ≡ None → (result : Result Packet WireFault) → Gives result (in_packet (fields_at t (after 12 (whole bytes))))
+        → IfOk result (λ p. IsPacket t p × (bytes ≡ spelling_of t p) × (length bytes ≤ MAX_MESSAGE))
+    found_fields fits is (Ok p) gives = packet_found t few_nodes few_apps bytes p fits is (given_ok (fields_at t (after 12 (whole bytes))) p gives)
+    found_fields fits is (Err e) gives = tt
+
+    -- what is spelled so and in form is given
+    pub only_packet : (result : Result Packet WireFault) → Gives result (packet_at t bytes) → (p : Packet) → IsPacket t p → bytes ≡ spelling_of t p → length bytes ≤ MAX_MESSAGE → Gives result (Ok p)
+    only_packet result gives p is text short = subst (Gives result) (packet_again t few_nodes few_apps bytes p is text short) gives

@@ -1,0 +1,105 @@
+-- Which packets have bytes that are read under a configuration.
+use Rattle.std.specs.Prelude.{◌≡◌, ℕ, ◌<◌, ◌≤◌, ◌^◌, Bool, true, false, List, length, Option, None, Some}
+use Rattle.std.specs.List.{AllByRecursion}
+use Rattle.dac_base.specs.declared.NodeId.{NodeId}
+use Rattle.dac_base.specs.declared.AppId.{AppId}
+use Rattle.dac_base.specs.declared.limits.TheConstants.{MAX_COUNTER}
+use Rattle.dac_chains.specs.declared.claims.How.{How}
+use Rattle.dac_dots.specs.declared.dot.Dot.{Dot}
+use Rattle.dac_dots.specs.declared.dot.Origin.{Origin}
+use Rattle.dac_dots.specs.Dots.{dot_cmp}
+use Rattle.dac_dots.specs.Keys.{IsRising}
+use Rattle.dac_config.specs.Table.{Table, node_count, app_count}
+use Rattle.dac_bytes.specs.Ranges.{IsIncarnation, IsOrigin, IsDot}
+use Rattle.dac_part_bytes.specs.ChainForm.{IsFromFor}
+use Rattle.dac_part_bytes.specs.KeyedForm.{IsKey}
+use Rattle.dac_part_bytes.specs.Reading.{is_listed}
+use Rattle.dac_state.specs.StateForm.{IsInForm}
+use Rattle.dac_messages.specs.declared.message.Body.{Body}
+use Rattle.dac_messages.specs.declared.message.Body.TheVariants.{Whole, Interval, Nothing}
+use Rattle.dac_messages.specs.declared.message.Message.{Message}
+use Rattle.dac_operations.specs.declared.act.Act.{Act}
+use Rattle.dac_operations.specs.declared.act.Act.TheVariants.{Up, Down, Permit, Start, Stop, Claim}
+use Rattle.dac_operations.specs.Operations.{Operation, fault_of}
+use Rattle.dac_wire.specs.declared.packet.Packet.{Packet}
+use Rattle.dac_wire.specs.declared.packet.Packet.TheVariants as packet
+
+-- ---- messages
+
+-- whether a message brings a whole state
+abbrev pub is_whole : Body → Bool
+is_whole (Whole s) = true
+is_whole (Interval s) = false
+is_whole Nothing = false
+
+-- a message is for any incarnation exactly where it brings a whole state, and else for one alone
+abbrev pub IsOnly : Bool → Option ℕ → Type 0
+IsOnly true only = only ≡ None
+IsOnly false only = (inc : ℕ) × (only ≡ Some inc) × IsIncarnation inc
+
+-- what was got, if anything, is of an incarnation of a node that there is, and a number that there can be
+abbrev pub IsAck : ℕ → Option (Origin × ℕ) → Type 0
+IsAck nodes None = Unit {0}
+IsAck nodes (Some ack) = IsOrigin nodes ack.0 × (ack.1 ≤ MAX_COUNTER)
+
+-- the state that it brings, if any, is in form
+abbrev pub IsBody : Table → Body → Type 0
+IsBody t (Whole s) = IsInForm t s
+IsBody t (Interval s) = IsInForm t s
+IsBody t Nothing = Unit {0}
+
+-- a message that can be read
+pub record IsMessage (t : Table) (m : Message) : Type 0 where
+  -- an incarnation of a node that there is
+  pub from : IsOrigin (node_count t) m.from
+  -- a node that there is
+  pub to : m.to.0 < node_count t
+  pub only : IsOnly (is_whole m.body) m.only
+  -- a number of deltas that there can be
+  pub up_to : m.up_to ≤ MAX_COUNTER
+  pub ack : IsAck (node_count t) m.ack
+  pub body : IsBody t m.body
+
+-- ---- operations
+
+-- dots that there can be, in ascending order, and so many that their number fits its field
+pub record AreOver (nodes : ℕ) (over : List Dot) : Type 0 where
+  pub each : AllByRecursion (IsDot nodes) over
+  pub rising : IsRising dot_cmp over
+  pub count : length over < 2 ^ 16
+
+-- a claim by a node in the application's list
+pub record IsClaim (t : Table) (issuer : NodeId) (claimed : AppId) (number : ℕ) (how : How) (taken : Option NodeId) : Type 0 where
+  -- there is such an application
+  pub app : claimed.0 < app_count t
+  -- its term is one that can be issued
+  pub first : 1 ≤ number
+  pub last : number ≤ MAX_COUNTER
+  -- the node is in the application's list
+  pub listed : is_listed t claimed issuer ≡ true
+  -- where it came from fits how it came
+  pub from : IsFromFor (node_count t) how taken
+
+-- the act of a node
+abbrev pub IsAct : Table → NodeId → Act → Type 0
+IsAct t issuer Up = Unit {0}
+IsAct t issuer (Down node inc) = (node.0 < node_count t) × IsIncarnation inc
+IsAct t issuer (Permit key value over) = IsKey t key × AreOver (node_count t) over
+IsAct t issuer (Start key over) = IsKey t key × AreOver (node_count t) over
+IsAct t issuer (Stop key over) = IsKey t key × AreOver (node_count t) over
+IsAct t issuer (Claim app term how from) = IsClaim t issuer app term how from
+
+-- an operation that can be read
+pub record IsOperation (t : Table) (o : Operation) : Type 0 where
+  -- a dot that there can be
+  pub dot : IsDot (node_count t) o.dot
+  pub act : IsAct t o.dot.origin.node o.act
+  -- nothing keeps the two from being an operation
+  pub sound : fault_of o.dot o.act ≡ None
+
+-- ---- packets
+
+-- The names, list places, numbers, orders and counts of the packet are those that its bytes can say.
+abbrev pub IsPacket : Table → Packet → Type 0
+IsPacket t (packet.Msg m) = IsMessage t m
+IsPacket t (packet.Single o) = IsOperation t o

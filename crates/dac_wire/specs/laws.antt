@@ -1,0 +1,5 @@
+pub mod ActLaws
+pub mod CodeLaws
+pub mod Fronts
+pub mod HeadLaws
+pub mod PacketLaws

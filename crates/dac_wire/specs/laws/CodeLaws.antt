@@ -1,0 +1,132 @@
+-- Codes and what they stand for are one to one.
+use Rattle.std.specs.Prelude.{◌≡◌, ℕ, zero, suc, ◌<◌, ◌≤◌, ◌^◌, Bool, true, false, List, Option, None, Some, refl}
+use Rattle.std.specs.Int.{w8}
+use Rattle.std.proofs.Common.{ap, arith}
+use Rattle.std.proofs.lemmas.Bool.{eqb-true, lt-ltb, false≢true}
+use Rattle.dac_bytes.specs.laws.Codecs.{IsCodec, codec_made}
+use Rattle.dac_bytes.specs.laws.FieldCodecs.{u8_in_codec}
+use Rattle.dac_bytes.specs.Numbers.{u8_bytes}
+use Rattle.dac_bytes.specs.Reading.{range_at}
+use Rattle.dac_wire.specs.Codes.{packet_code, packet_of_code, act_code, act_of_code, value_code, value_of_code, only_code, only_of_code}
+use Rattle.dac_wire.specs.Form.{IsOnly}
+use Rattle.dac_wire.specs.Reading.{packet_kind_at, act_kind_at, is_only_of}
+use Rattle.dac_wire.specs.declared.codes.PacketKind.{PacketKind}
+use Rattle.dac_wire.specs.declared.codes.PacketKind.TheVariants.{Whole, Interval, Nothing, Single}
+use Rattle.dac_wire.specs.declared.codes.ActKind.{ActKind}
+use Rattle.dac_wire.specs.declared.codes.ActKind.TheVariants.{Up, Down, Permit, Start, Stop, Claim}
+
+-- a number within bounds
+abbrev IsFrom : ℕ → ℕ → ℕ → Type 0
+IsFrom low high n = (low ≤ n) × (n ≤ high)
+
+-- ---- packets
+
+packet_number : (n : ℕ) → IsFrom 1 4 n → n ≡ packet_code (packet_of_code n)
+packet_number zero is = absurd (omega (arith, is.0))
+packet_number (suc zero) is = refl
+packet_number (suc (suc zero)) is = refl
+packet_number (suc (suc (suc zero))) is = refl
+packet_number (suc (suc (suc (suc n)))) is = omega (arith, is.1)
+
+packet_fits : (kind : PacketKind) → IsFrom 1 4 (packet_code kind)
+packet_fits Whole = (omega arith, omega arith)
+packet_fits Interval = (omega arith, omega arith)
+packet_fits Nothing = (omega arith, omega arith)
+packet_fits Single = (omega arith, omega arith)
+
+packet_back : (kind : PacketKind) → packet_of_code (packet_code kind) ≡ kind
+packet_back Whole = refl
+packet_back Interval = refl
+packet_back Nothing = refl
+packet_back Single = refl
+
+abbrev pub packet_kind_bytes : PacketKind → List ℕ
+packet_kind_bytes kind = u8_bytes (packet_code kind)
+
+abbrev pub IsAny : {X : Type 0} → X → Type 0
+IsAny x = Unit {0}
+
+pub packet_kind_codec : IsCodec packet_kind_at packet_kind_bytes IsAny
+unfolding packet_kind_at
+packet_kind_codec =
+    codec_made (range_at w8 1 4) u8_bytes (IsFrom 1 4) (u8_in_codec 1 4 (omega arith)) packet_of_code packet_kind_bytes IsAny
+    (λ n is. (ap u8_bytes (packet_number n is), tt)) (λ kind _. (packet_code kind, packet_fits kind, packet_back kind))
+
+-- ---- acts
+
+act_number : (n : ℕ) → IsFrom 1 6 n → n ≡ act_code (act_of_code n)
+act_number zero is = absurd (omega (arith, is.0))
+act_number (suc zero) is = refl
+act_number (suc (suc zero)) is = refl
+act_number (suc (suc (suc zero))) is = refl
+act_number (suc (suc (suc (suc zero)))) is = refl
+act_number (suc (suc (suc (suc (suc zero))))) is = refl
+act_number (suc (suc (suc (suc (suc (suc n)))))) is = omega (arith, is.1)
+
+act_fits : (kind : ActKind) → IsFrom 1 6 (act_code kind)
+act_fits Up = (omega arith, omega arith)
+act_fits Down = (omega arith, omega arith)
+act_fits Permit = (omega arith, omega arith)
+act_fits Start = (omega arith, omega arith)
+act_fits Stop = (omega arith, omega arith)
+act_fits Claim = (omega arith, omega arith)
+
+act_back : (kind : ActKind) → act_of_code (act_code kind) ≡ kind
+act_back Up = refl
+act_back Down = refl
+act_back Permit = refl
+act_back Start = refl
+act_back Stop = refl
+act_back Claim = refl
+
+abbrev pub act_kind_bytes : ActKind → List ℕ
+act_kind_bytes kind = u8_bytes (act_code kind)
+
+pub act_kind_codec : IsCodec act_kind_at act_kind_bytes IsAny
+unfolding act_kind_at
+act_kind_codec =
+    codec_made (range_at w8 1 6) u8_bytes (IsFrom 1 6) (u8_in_codec 1 6 (omega arith)) act_of_code act_kind_bytes IsAny
+    (λ n is. (ap u8_bytes (act_number n is), tt)) (λ kind _. (act_code kind, act_fits kind, act_back kind))
+
+-- ---- what a permit says
+
+pub value_number : (n : ℕ) → n ≤ 1 → n ≡ value_code (value_of_code n)
+value_number zero h = refl
+value_number (suc zero) h = refl
+value_number (suc (suc n)) h = absurd (omega arith)
+
+pub value_fits : (value : Bool) → (0 ≤ value_code value) × (value_code value ≤ 1)
+value_fits true = (omega arith, omega arith)
+value_fits false = (omega arith, omega arith)
+
+pub value_back : (value : Bool) → value_of_code (value_code value) ≡ value
+value_back true = refl
+value_back false = refl
+
+-- ---- the incarnation that a message is for
+
+pub only_number : (n : ℕ) → n ≡ only_code (only_of_code n)
+only_number zero = refl
+only_number (suc n) = refl
+
+pub only_is : (whole : Bool) (n : ℕ) → n < 2 ^ 32 → is_only_of whole n ≡ true → IsOnly whole (only_of_code n)
+only_is true n lt e = ap only_of_code (eqb-true n 0 e)
+only_is false zero lt e = absurd (false≢true e)
+only_is false (suc n) lt e = (suc n, refl, (omega arith, lt))
+
+pub only_fits : (whole : Bool) (only : Option ℕ) → IsOnly whole only → (only_code only < 2 ^ 32) × (is_only_of whole (only_code only) ≡ true)
+only_fits true only is = let same : only_code only ≡ 0 = ap only_code is in (omega arith, ap (is_only_of true) same)
+only_fits false only is =
+    let same : only_code only ≡ is.0 = ap only_code is.1 in
+    let first : 1 ≤ is.0 = is.2.0 in
+    let last : is.0 < 2 ^ 32 = is.2.1 in
+    (omega arith, lt-ltb 0 (only_code only) (omega arith))
+
+pub only_back : (whole : Bool) (only : Option ℕ) → IsOnly whole only → only_of_code (only_code only) ≡ only
+only_back whole None is = refl
+only_back whole (Some (suc n)) is = refl
+only_back true (Some zero) is = absurd cc
+only_back false (Some zero) is =
+    let same : 0 ≡ is.0 = ap only_code is.1 in
+    let first : 1 ≤ is.0 = is.2.0 in
+    absurd (omega arith)

@@ -1,0 +1,146 @@
+//! The codes that stand for what a packet and an act are.
+ghost use Rattle.std.specs.Prelude.{◌≡◌};
+ghost use Rattle.dac_wire.specs.Codes.{act_code, act_of_code, ack_code, kind_of_act, kind_of_packet, only_code, only_of_code, packet_code, packet_of_code, value_code, value_of_code};
+
+use crate::packet::Packet;
+use dac_messages::Body;
+use dac_operations::Act;
+
+/// What a packet is.
+#[derive(Clone, Copy)]
+pub(crate) enum PacketKind {
+    Whole,
+    Interval,
+    Nothing,
+    Single,
+}
+
+/// What an act is.
+#[derive(Clone, Copy)]
+pub(crate) enum ActKind {
+    Up,
+    Down,
+    Permit,
+    Start,
+    Stop,
+    Claim,
+}
+
+/// The kind of a packet, by its code.
+pub(crate) fn packet_of_code(code: u8) -> PacketKind
+    ensures { result ≡ packet_of_code code }
+{
+    match code {
+        0 => PacketKind::Whole,
+        1 => PacketKind::Whole,
+        2 => PacketKind::Interval,
+        3 => PacketKind::Nothing,
+        _ => PacketKind::Single,
+    }
+}
+
+/// The code of a kind.
+pub(crate) fn packet_code(kind: PacketKind) -> u8
+    ensures { result ≡ packet_code kind }
+{
+    match kind {
+        PacketKind::Whole => 1,
+        PacketKind::Interval => 2,
+        PacketKind::Nothing => 3,
+        PacketKind::Single => 4,
+    }
+}
+
+/// What a packet is.
+pub(crate) fn kind_of_packet(packet: &Packet) -> PacketKind
+    ensures { result ≡ kind_of_packet packet.now }
+{
+    match packet {
+        Packet::Msg(message) => match &message.body {
+            Body::Whole(_) => PacketKind::Whole,
+            Body::Interval(_) => PacketKind::Interval,
+            Body::Nothing => PacketKind::Nothing,
+        },
+        Packet::Single(_) => PacketKind::Single,
+    }
+}
+
+/// The kind of an act, by its code.
+pub(crate) fn act_of_code(code: u8) -> ActKind
+    ensures { result ≡ act_of_code code }
+{
+    match code {
+        0 => ActKind::Up,
+        1 => ActKind::Up,
+        2 => ActKind::Down,
+        3 => ActKind::Permit,
+        4 => ActKind::Start,
+        5 => ActKind::Stop,
+        _ => ActKind::Claim,
+    }
+}
+
+/// The code of a kind.
+pub(crate) fn act_code(kind: ActKind) -> u8
+    ensures { result ≡ act_code kind }
+{
+    match kind {
+        ActKind::Up => 1,
+        ActKind::Down => 2,
+        ActKind::Permit => 3,
+        ActKind::Start => 4,
+        ActKind::Stop => 5,
+        ActKind::Claim => 6,
+    }
+}
+
+/// What an act is.
+pub(crate) fn kind_of_act(act: &Act) -> ActKind
+    ensures { result ≡ kind_of_act act.now }
+{
+    match act {
+        Act::Up => ActKind::Up,
+        Act::Down { .. } => ActKind::Down,
+        Act::Permit { .. } => ActKind::Permit,
+        Act::Start { .. } => ActKind::Start,
+        Act::Stop { .. } => ActKind::Stop,
+        Act::Claim { .. } => ActKind::Claim,
+    }
+}
+
+/// What a permit says, by its code.
+pub(crate) fn value_of_code(code: u8) -> bool
+    ensures { result ≡ value_of_code code }
+{
+    match code {
+        0 => false,
+        _ => true,
+    }
+}
+
+/// The code of what a permit says.
+pub(crate) fn value_code(value: bool) -> u8
+    ensures { result ≡ value_code value }
+{
+    if value { 1 } else { 0 }
+}
+
+/// The incarnation that a message is for, by its code.
+pub(crate) fn only_of_code(code: u32) -> Option<u32>
+    ensures { result ≡ only_of_code code }
+{
+    match code {
+        0 => None,
+        _ => Some(code),
+    }
+}
+
+/// The code of the incarnation that a message is for.
+pub(crate) fn only_code(only: Option<u32>) -> u32
+    ensures { result ≡ only_code only }
+{
+    match only {
+        None => 0,
+        Some(inc) => inc,
+    }
+}

@@ -1,0 +1,125 @@
+//! Packets as bytes, and from bytes.
+ghost use Rattle.std.specs.Prelude.{◌≡◌, ◌≤◌, ◌<◌, IfErr, IfOk, Ok, length};
+ghost use Rattle.dac_wire.specs.Decoding.{front_fault, packet_at};
+ghost use Rattle.dac_bytes.specs.Reading.{after, whole};
+ghost use Rattle.dac_wire.specs.Encoding.{IsEncodeFault};
+ghost use Rattle.dac_wire.specs.Faults.{Gives, in_packet};
+ghost use Rattle.dac_wire.specs.Reading.{fields_at};
+ghost use Rattle.dac_wire.specs.Form.{IsPacket};
+ghost use Rattle.dac_wire.specs.Spelling.{preamble_bytes, spelling_of};
+ghost use Rattle.dac_wire.specs.declared.packet.Packet.{Packet};
+
+use crate::codes::{kind_of_packet, packet_code};
+use crate::fault::{WireFault, WireFaultKind};
+use crate::packet::{MAX_MESSAGE, Packet};
+use crate::reading_messages::read_fields;
+use crate::writing::write_content;
+use dac_base::NoMemory;
+use dac_bytes::{ByteReader, ByteWriter};
+use dac_config::Config;
+use std::alloc::Global;
+
+/// The name of the format.
+const MAGIC: [u8; 3] = *b"DAC";
+
+/// The name of the format, and its version.
+const MAGIC_AND_VERSION: [u8; 4] = *b"DAC\x01";
+
+/// How many bytes come before what a packet is.
+const PREAMBLE: usize = 12;
+
+/// The name of the format, its version, and the mark of the configuration.
+#[tactic(auto, unfolding(crate::specs::Spelling::preamble_bytes, dac_bytes::specs::Numbers::u8_bytes, dac_bytes::specs::Numbers::u64_bytes))]
+fn preamble(config: &Config) -> [u8; 12]
+    ensures { result ≡ preamble_bytes config.now }
+{
+    let mark = config.mark().to_be_bytes();
+    [
+        b'D', b'A', b'C', 1, mark[0], mark[1], mark[2], mark[3], mark[4], mark[5], mark[6], mark[7],
+    ]
+}
+
+/// What is wrong with the front of the bytes, if anything.
+fn front_fault(config: &Config, bytes: &[u8]) -> Option<WireFault>
+    ensures { result ≡ front_fault config.now bytes.now }
+{
+    if bytes.len() > MAX_MESSAGE {
+        return Some(WireFault::new(WireFaultKind::TooLong, MAX_MESSAGE));
+    }
+    if !bytes.starts_with(&MAGIC) {
+        return Some(WireFault::new(WireFaultKind::BadMagic, 0));
+    }
+    if !bytes.starts_with(&MAGIC_AND_VERSION) {
+        return Some(WireFault::new(WireFaultKind::BadVersion, 3));
+    }
+    if bytes.len() < PREAMBLE {
+        return Some(WireFault::new(WireFaultKind::Short, 4));
+    }
+    if !bytes.starts_with(&preamble(config)) {
+        return Some(WireFault::new(WireFaultKind::OtherConfig, 4));
+    }
+    None
+}
+
+/// The packet of bytes whose front is right.
+fn decode_fields(alloc: Global, config: &Config, bytes: &[u8]) -> Result<Packet, WireFault>
+    requires { PREAMBLE ≤ length bytes.now }
+    ensures { Gives result (in_packet (fields_at config.now (after PREAMBLE (whole bytes.now)))) }
+{
+    match read_fields(ByteReader::behind(bytes, PREAMBLE), alloc, config) {
+        Ok(packet) => Ok(packet),
+        Err(fault) => Err(WireFault::of_field(fault)),
+    }
+}
+
+/// The packet that the bytes spell under a configuration.
+///
+/// More than 4,194,304 bytes are `TooLong` at 4,194,304. Bytes that don't begin with `DAC` are `BadMagic` at 0, and
+/// those whose fourth isn't 1 `BadVersion` at 3. A mark of another configuration is `OtherConfig` at 4. Then each
+/// field is checked as it is read, so the fault is the first from left to right, with its byte counted from 0.
+/// `NoMemory` stands at 0, and says nothing of the bytes.
+pub fn decode(alloc: Global, config: &Config, bytes: &[u8]) -> Result<Packet, WireFault>
+    // What is read is spelled so, and in form.
+    ensures found { IfOk result (λ p. IsPacket config.now p × (bytes.now ≡ spelling_of config.now p) × (length bytes.now ≤ MAX_MESSAGE)) }
+    // What is spelled so and in form is read, unless memory runs out.
+    ensures only { (p : Packet) → IsPacket config.now p → bytes.now ≡ spelling_of config.now p → length bytes.now ≤ MAX_MESSAGE → Gives result (Ok p) }
+    // Which fault it is.
+    ensures exact { Gives result (packet_at config.now bytes.now) }
+{
+    // Nodes are numbered in one byte, and applications in two.
+    let _nodes = config.nodes();
+    let _apps = config.apps();
+    match front_fault(config, bytes) {
+        Some(fault) => Err(fault),
+        None => decode_fields(alloc, config, bytes),
+    }
+}
+
+/// All bytes of a packet.
+#[tactic(auto, unfolding(crate::specs::Spelling::spelling_of))]
+fn spell(alloc: Global, config: &Config, packet: &Packet) -> Result<Vec<u8>, NoMemory>
+    ensures { IfOk result (λ bytes. bytes.items ≡ spelling_of config.now packet.now) }
+{
+    let head = ByteWriter::new(alloc)
+        .write_bytes(&preamble(config))?
+        .write_u8(packet_code(kind_of_packet(packet)))?;
+    let written = write_content(head, packet)?;
+    Ok(written.into_bytes())
+}
+
+/// The bytes of a packet under a configuration, version 1. Equal packets have equal bytes.
+///
+/// More than 4,194,304 bytes are `TooLong` at 4,194,304, and want of memory is `NoMemory` at 0; there is no other
+/// fault. A count that doesn't fit its field is written by its lowest bits.
+pub fn encode(alloc: Global, config: &Config, packet: &Packet) -> Result<Vec<u8>, WireFault>
+    ensures ok { IfOk result (λ bytes. (bytes.items ≡ spelling_of config.now packet.now) × (length bytes.items ≤ MAX_MESSAGE)) }
+    ensures err { IfErr result (λ fault. IsEncodeFault (length (spelling_of config.now packet.now)) fault) }
+{
+    let Ok(bytes) = spell(alloc, config, packet) else {
+        return Err(WireFault::new(WireFaultKind::NoMemory, 0));
+    };
+    if bytes.len() > MAX_MESSAGE {
+        return Err(WireFault::new(WireFaultKind::TooLong, MAX_MESSAGE));
+    }
+    Ok(bytes)
+}

@@ -1,0 +1,266 @@
+//! The reading side: messages, and packets after their preamble.
+ghost use Rattle.std.specs.Prelude.{◌≡◌};
+ghost use Rattle.dac_bytes.specs.Reading.{Gives, IsOfBytes};
+ghost use Rattle.dac_wire.specs.Reading.{ack_at, bound_at, content_at, counts_at, fields_at, got_at, got_if_at, head_and_state_at, head_at, is_only_of, kind_and_content_at, message_of, only_at, only_code_at, packet_kind_at, route_at};
+
+use crate::codes::{PacketKind, only_of_code, packet_of_code};
+use crate::head::Head;
+use crate::packet::Packet;
+use crate::reading_operations::read_operation;
+use dac_base::{MAX_COUNTER, NodeId};
+use dac_bytes::{ByteReader, ReadFault, ReadFaultKind};
+use dac_config::Config;
+use dac_dots::Origin;
+use dac_messages::{Body, Message};
+use dac_state::State;
+use std::alloc::Global;
+
+/// Who ships it, and for which node.
+#[tactic(auto, unfolding(crate::specs::Reading::route_at))]
+fn read_route<'a>(
+    reader: ByteReader<'a>,
+    nodes: u8,
+) -> Result<((Origin, NodeId), ByteReader<'a>), ReadFault>
+    ensures exact { result ≡ route_at nodes reader.entry }
+    ensures real { IsOfBytes result }
+{
+    let (from, rest) = reader.read_origin(nodes)?;
+    let (to, rest) = rest.read_node(nodes)?;
+    Ok(((from, to), rest))
+}
+
+/// Whether the code is 0 exactly where a whole state is brought.
+fn is_only_of(whole: bool, code: u32) -> bool
+    ensures { result ≡ is_only_of whole code }
+{
+    if whole { code == 0 } else { 0 < code }
+}
+
+/// The code of the incarnation that it is for.
+#[tactic(auto, unfolding(crate::specs::Reading::only_code_at))]
+fn read_only_code<'a>(
+    reader: ByteReader<'a>,
+    whole: bool,
+) -> Result<(u32, ByteReader<'a>), ReadFault>
+    ensures exact { result ≡ only_code_at whole reader.entry }
+    ensures real { IsOfBytes result }
+{
+    let at = reader.at();
+    let (code, rest) = reader.read_u32()?;
+    if is_only_of(whole, code) {
+        Ok((code, rest))
+    } else {
+        Err(ReadFault::new(ReadFaultKind::BadNumber, at))
+    }
+}
+
+/// The incarnation that it is for, if it is for one alone.
+#[tactic(auto, unfolding(crate::specs::Reading::only_at))]
+fn read_only<'a>(
+    reader: ByteReader<'a>,
+    whole: bool,
+) -> Result<(Option<u32>, ByteReader<'a>), ReadFault>
+    ensures exact { result ≡ only_at whole reader.entry }
+    ensures real { IsOfBytes result }
+{
+    let (code, rest) = read_only_code(reader, whole)?;
+    Ok((only_of_code(code), rest))
+}
+
+/// An incarnation, and how many deltas it had.
+#[tactic(auto, unfolding(crate::specs::Reading::got_at))]
+fn read_got<'a>(
+    reader: ByteReader<'a>,
+    nodes: u8,
+) -> Result<((Origin, u64), ByteReader<'a>), ReadFault>
+    ensures exact { result ≡ got_at nodes reader.entry }
+    ensures real { IsOfBytes result }
+{
+    let (origin, rest) = reader.read_origin(nodes)?;
+    let (count, rest) = rest.read_u64_in(0, MAX_COUNTER)?;
+    Ok(((origin, count), rest))
+}
+
+/// What was got, where the code says that something was.
+#[tactic(auto, unfolding(crate::specs::Reading::got_if_at))]
+fn read_got_if<'a>(
+    reader: ByteReader<'a>,
+    nodes: u8,
+    code: u8,
+) -> Result<(Option<(Origin, u64)>, ByteReader<'a>), ReadFault>
+    ensures exact { result ≡ got_if_at nodes code reader.entry }
+    ensures real { IsOfBytes result }
+{
+    match code {
+        0 => Ok((None, reader)),
+        _ => {
+            let (got, rest) = read_got(reader, nodes)?;
+            Ok((Some(got), rest))
+        }
+    }
+}
+
+/// What was got of the receiver, if anything.
+#[tactic(auto, unfolding(crate::specs::Reading::ack_at))]
+fn read_ack<'a>(
+    reader: ByteReader<'a>,
+    nodes: u8,
+) -> Result<(Option<(Origin, u64)>, ByteReader<'a>), ReadFault>
+    ensures exact { result ≡ ack_at nodes reader.entry }
+    ensures real { IsOfBytes result }
+{
+    let (code, rest) = reader.read_u8_in(0, 1)?;
+    let read = read_got_if(rest, nodes, code)?;
+    Ok(read)
+}
+
+/// How many deltas the sender had, and what it got.
+type Counts = (u64, Option<(Origin, u64)>);
+
+/// How many deltas the sender had, and what it got.
+#[tactic(auto, unfolding(crate::specs::Reading::counts_at))]
+fn read_counts<'a>(reader: ByteReader<'a>, nodes: u8) -> Result<(Counts, ByteReader<'a>), ReadFault>
+    ensures exact { result ≡ counts_at nodes reader.entry }
+    ensures real { IsOfBytes result }
+{
+    let (up_to, rest) = reader.read_u64_in(0, MAX_COUNTER)?;
+    let (ack, rest) = read_ack(rest, nodes)?;
+    Ok(((up_to, ack), rest))
+}
+
+/// The incarnation that it is for, and the counts.
+#[tactic(auto, unfolding(crate::specs::Reading::bound_at))]
+fn read_bound<'a>(
+    reader: ByteReader<'a>,
+    nodes: u8,
+    whole: bool,
+) -> Result<((Option<u32>, Counts), ByteReader<'a>), ReadFault>
+    ensures exact { result ≡ bound_at nodes whole reader.entry }
+    ensures real { IsOfBytes result }
+{
+    let (only, rest) = read_only(reader, whole)?;
+    let (counts, rest) = read_counts(rest, nodes)?;
+    Ok(((only, counts), rest))
+}
+
+/// All of a message but what it brings.
+#[tactic(auto, unfolding(crate::specs::Reading::head_at))]
+fn read_head<'a>(
+    reader: ByteReader<'a>,
+    nodes: u8,
+    whole: bool,
+) -> Result<(Head, ByteReader<'a>), ReadFault>
+    ensures exact { result ≡ head_at nodes whole reader.entry }
+    ensures real { IsOfBytes result }
+{
+    let ((from, to), rest) = read_route(reader, nodes)?;
+    let ((only, (up_to, ack)), rest) = read_bound(rest, nodes, whole)?;
+    let head = Head {
+        from,
+        to,
+        only,
+        up_to,
+        ack,
+    };
+    Ok((head, rest))
+}
+
+/// A message by its head and what it brings.
+fn message_of(head: Head, body: Body) -> Message
+    ensures { result ≡ message_of head body }
+{
+    Message {
+        from: head.from,
+        to: head.to,
+        only: head.only,
+        up_to: head.up_to,
+        body,
+        ack: head.ack,
+    }
+}
+
+/// The head of a message, and the state that it brings.
+#[tactic(auto, unfolding(crate::specs::Reading::head_and_state_at))]
+fn read_head_and_state<'a>(
+    reader: ByteReader<'a>,
+    alloc: Global,
+    config: &Config,
+    whole: bool,
+) -> Result<((Head, State), ByteReader<'a>), ReadFault>
+    ensures { Gives (λ x. x) result (head_and_state_at config.now whole reader.entry) }
+{
+    let (head, rest) = read_head(reader, config.nodes(), whole)?;
+    let (state, rest) = State::read(rest, alloc, config)?;
+    Ok(((head, state), rest))
+}
+
+/// Which packet it is.
+#[tactic(auto, unfolding(crate::specs::Reading::packet_kind_at))]
+fn read_packet_kind<'a>(reader: ByteReader<'a>) -> Result<(PacketKind, ByteReader<'a>), ReadFault>
+    ensures exact { result ≡ packet_kind_at reader.entry }
+    ensures real { IsOfBytes result }
+{
+    let (code, rest) = reader.read_u8_in(1, 4)?;
+    Ok((packet_of_code(code), rest))
+}
+
+/// What a packet of some kind holds.
+#[tactic(auto, unfolding(crate::specs::Reading::content_at))]
+fn read_content<'a>(
+    reader: ByteReader<'a>,
+    alloc: Global,
+    config: &Config,
+    kind: PacketKind,
+) -> Result<(Packet, ByteReader<'a>), ReadFault>
+    ensures { Gives (λ x. x) result (content_at config.now kind reader.entry) }
+{
+    match kind {
+        PacketKind::Whole => {
+            let ((head, state), rest) = read_head_and_state(reader, alloc, config, true)?;
+            Ok((Packet::Msg(message_of(head, Body::Whole(state))), rest))
+        }
+        PacketKind::Interval => {
+            let ((head, state), rest) = read_head_and_state(reader, alloc, config, false)?;
+            Ok((Packet::Msg(message_of(head, Body::Interval(state))), rest))
+        }
+        PacketKind::Nothing => {
+            let (head, rest) = read_head(reader, config.nodes(), false)?;
+            Ok((Packet::Msg(message_of(head, Body::Nothing)), rest))
+        }
+        PacketKind::Single => {
+            let (op, rest) = read_operation(reader, alloc, config)?;
+            Ok((Packet::Single(op), rest))
+        }
+    }
+}
+
+/// What comes after the preamble.
+#[tactic(auto, unfolding(crate::specs::Reading::kind_and_content_at))]
+fn read_kind_and_content<'a>(
+    reader: ByteReader<'a>,
+    alloc: Global,
+    config: &Config,
+) -> Result<(Packet, ByteReader<'a>), ReadFault>
+    ensures { Gives (λ x. x) result (kind_and_content_at config.now reader.entry) }
+{
+    let (kind, rest) = read_packet_kind(reader)?;
+    let read = read_content(rest, alloc, config, kind)?;
+    Ok(read)
+}
+
+/// What comes after the preamble, and no byte after it.
+#[tactic(auto, unfolding(crate::specs::Reading::fields_at))]
+pub(crate) fn read_fields<'a>(
+    reader: ByteReader<'a>,
+    alloc: Global,
+    config: &Config,
+) -> Result<Packet, ReadFault>
+    ensures { Gives (λ p. p) result (fields_at config.now reader.entry) }
+{
+    let (packet, rest) = read_kind_and_content(reader, alloc, config)?;
+    if rest.is_at_end() {
+        Ok(packet)
+    } else {
+        Err(ReadFault::new(ReadFaultKind::Trailing, rest.at()))
+    }
+}

@@ -1,0 +1,252 @@
+//! The reading side: operations.
+ghost use Rattle.std.specs.Prelude.{◌≡◌, ◌<◌, None, Some, IfOk};
+ghost use Rattle.dac_base.specs.declared.NodeId.{NodeId};
+ghost use Rattle.dac_config.specs.Table.{app_count};
+ghost use Rattle.dac_bytes.specs.Reading.{Gives, IsOfBytes, dot_above_at, items_at};
+ghost use Rattle.dac_wire.specs.Reading.{act_at, act_fields_at, act_kind_at, claim_fields_at, dot_and_act_at, keyed_over_at, listed_claim_at, operation_at, over_at, permit_fields_at, term_and_manner_at, valued_over_at};
+
+use crate::codes::{ActKind, act_of_code, value_of_code};
+use dac_base::{AppId, MAX_COUNTER, NodeId};
+use dac_bytes::{ByteReader, ReadFault, ReadFaultKind};
+use dac_chains::How;
+use dac_config::Config;
+use dac_dots::Dot;
+use dac_operations::{Act, Op};
+use dac_part_bytes::{read_app, read_key, read_manner};
+use dac_wishes::{DotList, Key};
+use std::alloc::Global;
+
+/// So many dots, each above the one before it.
+fn read_dots<'a>(
+    reader: ByteReader<'a>,
+    alloc: Global,
+    nodes: u8,
+    count: u16,
+) -> Result<(Vec<Dot>, ByteReader<'a>), ReadFault>
+    ensures { Gives (λ x. (x.0.items, x.1)) result (items_at (dot_above_at nodes) Some count None reader.entry) }
+{
+    let mut dots = Vec::new(alloc);
+    let mut before = None;
+    let mut rest = reader;
+    for _ in 0..count {
+        let (dot, after) = rest.read_dot_above(nodes, before)?;
+        dots.push(dot)?;
+        before = Some(dot);
+        rest = after;
+    }
+    Ok((dots, rest))
+}
+
+/// The dots that an act replaces.
+#[tactic(auto, unfolding(crate::specs::Reading::over_at, dac_part_bytes::specs::Reading::counted_at))]
+fn read_over<'a>(
+    reader: ByteReader<'a>,
+    alloc: Global,
+    nodes: u8,
+) -> Result<(DotList, ByteReader<'a>), ReadFault>
+    ensures { Gives (λ x. x) result (over_at nodes reader.entry) }
+{
+    let (count, rest) = reader.read_u16()?;
+    let (dots, rest) = read_dots(rest, alloc, nodes, count)?;
+    Ok((DotList::new(dots), rest))
+}
+
+/// A key, and the dots that an act replaces.
+#[tactic(auto, unfolding(crate::specs::Reading::keyed_over_at))]
+fn read_keyed_over<'a>(
+    reader: ByteReader<'a>,
+    alloc: Global,
+    config: &Config,
+) -> Result<((Key, DotList), ByteReader<'a>), ReadFault>
+    ensures { Gives (λ x. x) result (keyed_over_at config.now reader.entry) }
+{
+    let (key, rest) = read_key(reader, config, None)?;
+    let (over, rest) = read_over(rest, alloc, config.nodes())?;
+    Ok(((key, over), rest))
+}
+
+/// What a permit says, and the dots that it replaces.
+#[tactic(auto, unfolding(crate::specs::Reading::valued_over_at))]
+fn read_valued_over<'a>(
+    reader: ByteReader<'a>,
+    alloc: Global,
+    nodes: u8,
+) -> Result<((bool, DotList), ByteReader<'a>), ReadFault>
+    ensures { Gives (λ x. x) result (valued_over_at nodes reader.entry) }
+{
+    let (code, rest) = reader.read_u8_in(0, 1)?;
+    let (over, rest) = read_over(rest, alloc, nodes)?;
+    Ok(((value_of_code(code), over), rest))
+}
+
+/// The fields of a permit.
+#[tactic(auto, unfolding(crate::specs::Reading::permit_fields_at))]
+fn read_permit_fields<'a>(
+    reader: ByteReader<'a>,
+    alloc: Global,
+    config: &Config,
+) -> Result<((Key, (bool, DotList)), ByteReader<'a>), ReadFault>
+    ensures { Gives (λ x. x) result (permit_fields_at config.now reader.entry) }
+{
+    let (key, rest) = read_key(reader, config, None)?;
+    let (valued, rest) = read_valued_over(rest, alloc, config.nodes())?;
+    Ok(((key, valued), rest))
+}
+
+/// How an application came to its node, and from which.
+type Manner = (How, Option<NodeId>);
+
+/// A term, and how the application came to its node.
+#[tactic(auto, unfolding(crate::specs::Reading::term_and_manner_at))]
+fn read_term_and_manner<'a>(
+    reader: ByteReader<'a>,
+    nodes: u8,
+) -> Result<((u64, Manner), ByteReader<'a>), ReadFault>
+    ensures exact { result ≡ term_and_manner_at nodes reader.entry }
+    ensures real { IsOfBytes result }
+{
+    let (term, rest) = reader.read_u64_in(1, MAX_COUNTER)?;
+    let (manner, rest) = read_manner(rest, nodes)?;
+    Ok(((term, manner), rest))
+}
+
+/// The fields of a claim.
+#[tactic(auto, unfolding(crate::specs::Reading::claim_fields_at))]
+fn read_claim_fields<'a>(
+    reader: ByteReader<'a>,
+    config: &Config,
+) -> Result<((AppId, (u64, Manner)), ByteReader<'a>), ReadFault>
+    ensures exact { result ≡ claim_fields_at config.now reader.entry }
+    ensures real { IsOfBytes result }
+    ensures below { IfOk result (λ x. x.0.0.0 < app_count config.now) }
+{
+    let (app, rest) = read_app(reader, config.apps())?;
+    let (claim, rest) = read_term_and_manner(rest, config.nodes())?;
+    Ok(((app, claim), rest))
+}
+
+/// The fields of a claim by a node in the application's list.
+#[tactic(auto, unfolding(crate::specs::Reading::listed_claim_at))]
+fn read_listed_claim<'a>(
+    reader: ByteReader<'a>,
+    config: &Config,
+    issuer: NodeId,
+) -> Result<((AppId, (u64, Manner)), ByteReader<'a>), ReadFault>
+    ensures exact { result ≡ listed_claim_at config.now issuer reader.entry }
+    ensures real { IsOfBytes result }
+{
+    let at = reader.at();
+    let (claim, rest) = read_claim_fields(reader, config)?;
+    if config.group_of(claim.0, issuer).is_some() {
+        Ok((claim, rest))
+    } else {
+        Err(ReadFault::new(ReadFaultKind::NotInList, at))
+    }
+}
+
+/// Which act it is.
+#[tactic(auto, unfolding(crate::specs::Reading::act_kind_at))]
+fn read_act_kind<'a>(reader: ByteReader<'a>) -> Result<(ActKind, ByteReader<'a>), ReadFault>
+    ensures exact { result ≡ act_kind_at reader.entry }
+    ensures real { IsOfBytes result }
+{
+    let (code, rest) = reader.read_u8_in(1, 6)?;
+    Ok((act_of_code(code), rest))
+}
+
+/// The fields of an act of some kind, by a node.
+#[tactic(auto, unfolding(crate::specs::Reading::act_fields_at))]
+fn read_act_fields<'a>(
+    reader: ByteReader<'a>,
+    alloc: Global,
+    config: &Config,
+    issuer: NodeId,
+    kind: ActKind,
+) -> Result<(Act, ByteReader<'a>), ReadFault>
+    ensures { Gives (λ x. x) result (act_fields_at config.now issuer kind reader.entry) }
+{
+    match kind {
+        ActKind::Up => Ok((Act::Up, reader)),
+        ActKind::Down => {
+            let (about, rest) = reader.read_origin(config.nodes())?;
+            let down = Act::Down {
+                node: about.node,
+                inc: about.inc,
+            };
+            Ok((down, rest))
+        }
+        ActKind::Permit => {
+            let ((key, (value, over)), rest) = read_permit_fields(reader, alloc, config)?;
+            Ok((Act::Permit { key, value, over }, rest))
+        }
+        ActKind::Start => {
+            let ((key, over), rest) = read_keyed_over(reader, alloc, config)?;
+            Ok((Act::Start { key, over }, rest))
+        }
+        ActKind::Stop => {
+            let ((key, over), rest) = read_keyed_over(reader, alloc, config)?;
+            Ok((Act::Stop { key, over }, rest))
+        }
+        ActKind::Claim => {
+            let ((app, (term, (how, from))), rest) = read_listed_claim(reader, config, issuer)?;
+            let claim = Act::Claim {
+                app,
+                term,
+                how,
+                from,
+            };
+            Ok((claim, rest))
+        }
+    }
+}
+
+/// An act of a node.
+#[tactic(auto, unfolding(crate::specs::Reading::act_at))]
+fn read_act<'a>(
+    reader: ByteReader<'a>,
+    alloc: Global,
+    config: &Config,
+    issuer: NodeId,
+) -> Result<(Act, ByteReader<'a>), ReadFault>
+    ensures { Gives (λ x. x) result (act_at config.now issuer reader.entry) }
+{
+    let (kind, rest) = read_act_kind(reader)?;
+    let read = read_act_fields(rest, alloc, config, issuer, kind)?;
+    Ok(read)
+}
+
+/// A dot, and the act of its node.
+#[tactic(auto, unfolding(crate::specs::Reading::dot_and_act_at))]
+fn read_dot_and_act<'a>(
+    reader: ByteReader<'a>,
+    alloc: Global,
+    config: &Config,
+) -> Result<((Dot, Act), ByteReader<'a>), ReadFault>
+    ensures { Gives (λ x. (record { dot = x.0.0; act = x.0.1 }, x.1)) result (dot_and_act_at config.now reader.entry) }
+{
+    let (dot, rest) = reader.read_dot(config.nodes())?;
+    let (act, rest) = read_act(rest, alloc, config, dot.origin.node)?;
+    Ok(((dot, act), rest))
+}
+
+/// An operation: the dot that names it, which act it is, and the fields of the act.
+///
+/// Each field is checked as it is read. A key or a claim whose node isn't in the application's list is `NotInList`
+/// at its first byte; of a claim the node is that of the dot. A dot of those replaced that isn't above the one
+/// before it is `BadOrder` at its first byte. Where dot and act make no operation for another cause, that is
+/// `BadNumber` at the operation's first byte, after all of its fields.
+#[tactic(auto, unfolding(crate::specs::Reading::operation_at))]
+pub(crate) fn read_operation<'a>(
+    reader: ByteReader<'a>,
+    alloc: Global,
+    config: &Config,
+) -> Result<(Op, ByteReader<'a>), ReadFault>
+    ensures { Gives (λ x. x) result (operation_at config.now reader.entry) }
+{
+    let at = reader.at();
+    let ((dot, act), rest) = read_dot_and_act(reader, alloc, config)?;
+    match Op::new(dot, act) {
+        Ok(op) => Ok((op, rest)),
+        Err(_) => Err(ReadFault::new(ReadFaultKind::BadNumber, at)),
+    }
+}
