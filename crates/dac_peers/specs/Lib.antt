@@ -1,0 +1,3 @@
+pub mod Peers
+pub mod InWords
+pub mod laws

@@ -1,0 +1,68 @@
+//! Sets of nodes.
+ghost use Rattle.std.specs.Prelude.{◌≡◌, IfOk, OnOk, OnErr};
+ghost use Rattle.std.specs.FinSet as set;
+
+use dac_base::{NoMemory, NodeId};
+use std::alloc::Global;
+use std::collections::BTreeSet;
+use std::marker::Model;
+
+/// Some nodes. Contracts see them as a finite set.
+#[derive(Drop)]
+pub(crate) struct NodeSet {
+    nodes: BTreeSet<NodeId>,
+}
+
+impl Model for NodeSet {
+    ghost use Rattle.std.specs.FinSet as set;
+    ghost use Rattle.dac_base.specs.Ids.{node_cmp, coded_node};
+
+    ghost Value = { set.FinSet node_cmp };
+
+    ghost coded = { set.code coded_node };
+
+    ghost view = { λ a. set.from_list a.nodes.keys };
+}
+
+impl NodeSet {
+    /// No nodes. It takes no memory.
+    pub(crate) fn new(alloc: Global) -> Self
+        ensures { result ≡ set.empty }
+    {
+        NodeSet {
+            nodes: BTreeSet::new(alloc),
+        }
+    }
+
+    /// Whether a node is among them.
+    pub(crate) fn contains(&self, node: NodeId) -> bool
+        ensures { result ≡ set.contains self.now node }
+    {
+        self.nodes.contains(&node)
+    }
+
+    /// One node more. [`NoMemory`] is the only error, and leaves all as it was.
+    pub(crate) fn insert(&mut self, node: NodeId) -> Result<(), NoMemory>
+        ensures ok { OnOk result (self.new ≡ set.insert self.old node) }
+        ensures err { OnErr result (self.new ≡ self.old) }
+    {
+        self.nodes.insert(node)?;
+        Ok(())
+    }
+
+    /// All but one node.
+    pub(crate) fn remove(&mut self, node: NodeId)
+        ensures { self.new ≡ set.remove self.old node }
+    {
+        self.nodes.remove(&node);
+    }
+
+    /// Equal nodes, with memory of their own. [`NoMemory`] is the only error.
+    pub(crate) fn copy(&self) -> Result<Self, NoMemory>
+        ensures { IfOk result (λ copied. copied ≡ self.now) }
+    {
+        Ok(NodeSet {
+            nodes: self.nodes.clone()?,
+        })
+    }
+}
