@@ -196,7 +196,9 @@ fn every_operation(rt: HostRuntime) {
     assert!(rt; does_operation_go_round(alloc, dot(1, 2, 1), Act::Up) == Some(true));
     for number in 0..7 {
         match act(alloc, number) {
-            Some(act) => assert!(rt; does_operation_go_round(alloc, dot(1, 2, 9), act) == Some(true)),
+            Some(act) => assert!(rt;
+                does_operation_go_round(alloc, dot(1, 2, 9), act) == Some(true)
+            ),
             None => assert!(rt; false),
         }
     }

@@ -69,7 +69,7 @@ module _ {X : Type 0} (read : Rest → Field X) (text : X → List ℕ) (Is : X 
 
   -- two fields of which something is made; what is read first may decide what is read next
   module _ {Y Z : Type 0} (next : X → Rest → Field Y) (text_next : X → Y → List ℕ) (IsNext : X → Y → Type 0) (codec_next : (x : X) → Is x → IsCodec (next x) (text_next x) (IsNext x))
-           (make : X → Y → Z) (spelled : Z → List ℕ) (More : Z → Type 0) where
+      (make : X → Y → Z) (spelled : Z → List ℕ) (More : Z → Type 0) where
     pub codec_both : ((x : X) (y : Y) → Is x → IsNext x y → (text x ++ text_next x y ≡ spelled (make x y)) × More (make x y))
         → ((z : Z) → More z → (x : X) × (y : Y) × Is x × IsNext x y × (make x y ≡ z)) → IsCodec (λ r. read r >>= λ x. next x.0 x.1 >>= λ y. Ok (make x.0 y.0, y.1)) spelled More
     codec_both to back = record {
