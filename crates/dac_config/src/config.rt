@@ -43,7 +43,11 @@ pub struct Config {
 /// Written out: a drop is one call for a proof, wherever it stands.
 impl Drop for Config {
     fn drop(self) {
-        let Config { nodes: _nodes, apps: _apps, sync_wait: _sync_wait } = self;
+        let Config {
+            nodes: _nodes,
+            apps: _apps,
+            sync_wait: _sync_wait,
+        } = self;
     }
 }
 

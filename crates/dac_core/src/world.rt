@@ -26,7 +26,11 @@ pub struct World {
 /// Written out: a drop is one call for a proof, wherever it stands.
 impl Drop for World {
     fn drop(self) {
-        let World { nodes: _nodes, operations: _operations, messages: _messages } = self;
+        let World {
+            nodes: _nodes,
+            operations: _operations,
+            messages: _messages,
+        } = self;
     }
 }
 

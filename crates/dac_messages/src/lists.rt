@@ -13,7 +13,9 @@ pub struct OpList {
 /// Written out: a drop is one call for a proof, wherever it stands.
 impl Drop for OpList {
     fn drop(self) {
-        let OpList { operations: _operations } = self;
+        let OpList {
+            operations: _operations,
+        } = self;
     }
 }
 

@@ -30,7 +30,11 @@ pub struct Node {
 /// Written out: a drop is one call for a proof, wherever it stands.
 impl Drop for Node {
     fn drop(self) {
-        let Node { alloc: _alloc, last: _last, run: _run } = self;
+        let Node {
+            alloc: _alloc,
+            last: _last,
+            run: _run,
+        } = self;
     }
 }
 

@@ -40,7 +40,14 @@ pub(crate) struct Running {
 /// Written out: a drop is one call for a proof, wherever it stands.
 impl Drop for Running {
     fn drop(self) {
-        let Running { alloc: _alloc, origin: _origin, moments: _moments, is_open: _is_open, waits: _waits, state: _state } = self;
+        let Running {
+            alloc: _alloc,
+            origin: _origin,
+            moments: _moments,
+            is_open: _is_open,
+            waits: _waits,
+            state: _state,
+        } = self;
     }
 }
 

@@ -41,7 +41,10 @@ pub struct Op {
 /// Written out: a drop is one call for a proof, wherever it stands.
 impl Drop for Op {
     fn drop(self) {
-        let Op { dot: _dot, act: _act } = self;
+        let Op {
+            dot: _dot,
+            act: _act,
+        } = self;
     }
 }
 
