@@ -1,3 +1,12 @@
-pub mod Knowing
+pub mod NodeValue
+pub mod ModelNode
+pub mod EventRefusals
+pub mod Deeds
+pub mod Step
 pub mod After
 pub mod Changes
+pub mod Hearing
+pub mod Refused
+pub mod Writing
+pub mod Again
+pub mod laws

@@ -3,4 +3,3 @@ mod Playing
 mod ScriptRuns
 mod Shares
 mod Simulating
-mod WireTexts

@@ -1,4 +1,3 @@
-mod Digits
 mod LineFaults
 mod LineByLine
 mod Numbers

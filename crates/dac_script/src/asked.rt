@@ -69,8 +69,7 @@ pub fn named(word: &[u8]) -> Result<&[u8], ScriptFaultKind>
     name_in(word).ok_or(ScriptFaultKind::BadName)
 }
 
-/// A word that has to be a number.
-pub fn numbered(word: &[u8]) -> Result<u64, ScriptFaultKind>
+fn numbered(word: &[u8]) -> Result<u64, ScriptFaultKind>
     ensures { result ≡ numbered word.now }
 {
     number_in(word).ok_or(ScriptFaultKind::BadNumber)

@@ -18,5 +18,3 @@ mod readers;
 mod running;
 #[cfg(test)]
 mod scripts;
-#[cfg(test)]
-mod wires;
