@@ -1,7 +1,7 @@
 -- How a refusal is shown.
 use Rattle.std.specs.Prelude.{ℕ, List, codes}
 use Rattle.dac_commands.specs.declared.refusal.Refusal.{Refusal}
-use Rattle.dac_commands.specs.declared.refusal.Refusal.TheVariants.{Off, AlreadyOn, DeclaredDown, UnknownApp, UnknownNode, OnSelf, NotInList, MomentBack, NotLive, NotStarted, NotEligible, NotRunning, AlreadyHolder, LowerPriority, NotForMe, TooManyDots, TermsUsedUp, DotsUsedUp, IncarnationsUsedUp, NoMemory}
+use Rattle.dac_commands.specs.declared.refusal.Refusal.TheVariants.{Off, AlreadyOn, DeclaredDown, UnknownApp, UnknownNode, OnSelf, NotInList, MomentBack, NotLive, NotStarted, NotEligible, NotRunning, AlreadyHolder, LowerPriority, NotForMe, UpToDate, TooManyDots, TermsUsedUp, DotsUsedUp, IncarnationsUsedUp, NoMemory}
 
 -- the number in the program's output
 abbrev pub number_of : Refusal → ℕ
@@ -20,6 +20,7 @@ number_of NotRunning = 12
 number_of AlreadyHolder = 13
 number_of LowerPriority = 14
 number_of NotForMe = 15
+number_of UpToDate = 16
 number_of TooManyDots = 17
 number_of TermsUsedUp = 18
 number_of DotsUsedUp = 19
@@ -43,6 +44,7 @@ name_of NotRunning = codes "NotRunning"
 name_of AlreadyHolder = codes "AlreadyHolder"
 name_of LowerPriority = codes "LowerPriority"
 name_of NotForMe = codes "NotForMe"
+name_of UpToDate = codes "UpToDate"
 name_of TooManyDots = codes "TooManyDots"
 name_of TermsUsedUp = codes "TermsUsedUp"
 name_of DotsUsedUp = codes "DotsUsedUp"

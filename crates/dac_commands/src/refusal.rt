@@ -39,6 +39,8 @@ pub enum Refusal {
     LowerPriority,
     /// The message is for another node.
     NotForMe,
+    /// The node that is to be shipped to has acknowledged all, and is owed no answer.
+    UpToDate,
     /// The operation would replace more than 1,024 dots.
     TooManyDots,
     /// The terms of the application's claims are used up.
@@ -74,6 +76,7 @@ impl Refusal {
             Refusal::AlreadyHolder => 13,
             Refusal::LowerPriority => 14,
             Refusal::NotForMe => 15,
+            Refusal::UpToDate => 16,
             Refusal::TooManyDots => 17,
             Refusal::TermsUsedUp => 18,
             Refusal::DotsUsedUp => 19,
@@ -102,6 +105,7 @@ impl Refusal {
             Refusal::AlreadyHolder => "AlreadyHolder",
             Refusal::LowerPriority => "LowerPriority",
             Refusal::NotForMe => "NotForMe",
+            Refusal::UpToDate => "UpToDate",
             Refusal::TooManyDots => "TooManyDots",
             Refusal::TermsUsedUp => "TermsUsedUp",
             Refusal::DotsUsedUp => "DotsUsedUp",

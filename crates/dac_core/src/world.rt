@@ -1,8 +1,10 @@
 //! All controllers of a configuration, with what they issued and shipped.
 
-ghost use Rattle.std.specs.Prelude.{◌≡◌, ◌<◌, ◌≤◌, ◌+◌, ◌++◌, ◌↔◌, IsTrue, IfOk, OnOk, length, vec_len, vec_capacity};
+ghost use Rattle.std.specs.Prelude.{◌≡◌, ◌<◌, ◌≤◌, ◌+◌, ◌++◌, ◌↔◌, IsTrue, IfOk, IfErr, OnOk, OnErr, length, vec_len, vec_capacity};
 ghost use Rattle.dac_worlds.specs.ModelWorld.{issued_by, shipped_by};
 ghost use Rattle.dac_worlds.specs.WorldChanges.{NodeChanges};
+ghost use Rattle.dac_node.specs.Changes.{changed};
+ghost use Rattle.dac_core.specs.Ready.{IsReadyAt};
 
 use dac_base::{NoMemory, NodeId};
 use dac_commands::Refusal;
@@ -176,7 +178,7 @@ impl World {
             return Err(WorldFault::NoSuchMessage);
         }
         let message = &self.messages[number as usize - 1];
-        match self.nodes[node.0 as usize].prepare_hear(message) {
+        match self.nodes[node.0 as usize].prepare_hear(config, message) {
             Ok(change) => self.go_on(node, change),
             Err(why) => Err(WorldFault::Refused(why)),
         }
@@ -199,26 +201,36 @@ impl World {
         }
     }
 
-    /// Does what a node prepared. All that may want memory comes before the first change; a crash wants
-    /// none.
+    /// Does what a node prepared, and says want of memory as a refusal. A crash wants none.
     fn go_on(&mut self, node: NodeId, change: Change) -> Result<Reply, WorldFault>
-        requires { node.0 < length self.old.nodes }
-        ensures ok { IfOk result (λ reply. Goes self.old node change reply self.new) }
+        requires inside { node.0 < length self.old.nodes }
+        requires ready { IsReadyAt self.old.nodes node change }
+        ensures ok { IfOk result (λ reply. Goes self.old node (λ v. changed v change) change.reply reply self.new) }
         ensures err { IfErr result (λ fault. Err fault ≡ out_of_memory) }
         ensures crash { IfErr result (λ _. change.reply ≡ Reply.Crashed → ⊥) }
         ensures unchanged { OnErr result (self.new ≡ self.old) }
     {
-        if is_crash(&change) {
-            return Ok(change_node(&mut self.nodes, node, change));
-        }
-        match make_room(&mut self.operations, &mut self.messages, change.reply()) {
-            Ok(noted) => {
-                let reply = change_node(&mut self.nodes, node, change);
-                note(&mut self.operations, &mut self.messages, noted);
-                Ok(reply)
-            }
+        match self.change(node, change) {
+            Ok(reply) => Ok(reply),
             Err(NoMemory) => Err(WorldFault::Refused(Refusal::NoMemory)),
         }
+    }
+
+    /// Does what a node prepared. All that may want memory comes before what can't be taken back.
+    fn change(&mut self, node: NodeId, change: Change) -> Result<Reply, NoMemory>
+        requires inside { node.0 < length self.old.nodes }
+        requires ready { IsReadyAt self.old.nodes node change }
+        ensures ok { IfOk result (λ reply. Goes self.old node (λ v. changed v change) change.reply reply self.new) }
+        ensures crash { IfErr result (λ _. change.reply ≡ Reply.Crashed → ⊥) }
+        ensures unchanged { OnErr result (self.new ≡ self.old) }
+    {
+        if is_crash(&change) {
+            return change_node(&mut self.nodes, node, change);
+        }
+        let noted = make_room(&mut self.operations, &mut self.messages, change.reply())?;
+        let reply = change_node(&mut self.nodes, node, change)?;
+        note(&mut self.operations, &mut self.messages, noted);
+        Ok(reply)
     }
 }
 
@@ -230,10 +242,13 @@ fn is_crash(change: &Change) -> bool
 }
 
 /// Does what a node prepared.
-fn change_node(nodes: &mut Vec<Node>, node: NodeId, change: Change) -> Reply
-    requires { node.0 < length nodes.old.items }
-    ensures reply { result ≡ change.reply }
-    ensures nodes { NodeChanges nodes.old.items node change nodes.new.items }
+fn change_node(nodes: &mut Vec<Node>, node: NodeId, change: Change) -> Result<Reply, NoMemory>
+    requires inside { node.0 < length nodes.old.items }
+    requires ready { IsReadyAt nodes.old.items node change }
+    ensures reply { IfOk result (λ reply. reply ≡ change.reply) }
+    ensures nodes { OnOk result (NodeChanges nodes.old.items node (λ v. changed v change) nodes.new.items) }
+    ensures crash { IfErr result (λ _. change.reply ≡ Reply.Crashed → ⊥) }
+    ensures unchanged { OnErr result (nodes.new.items ≡ nodes.old.items) }
 {
     nodes[node.0 as usize].apply(change)
 }

@@ -1,48 +1,67 @@
 -- What changes do, event by event.
-use Rattle.std.proofs.Common.{◌≡◌, ℕ, Bool, true, false, not, cond, [], ◌∷◌, Some, None, refl, sym, ap, ◌∙◌, true≢false}
+use Rattle.std.proofs.Common.{◌≡◌, ◌≤◌, ◌+◌, ℕ, Bool, true, false, cond, List, [], ◌∷◌, length, Option, Some, None, refl, sym, ap, subst, ◌∙◌, arith, true≢false}
+use Rattle.std.proofs.lemmas.Bool.{ltb-false}
+use Rattle.dac_base.specs.declared.limits.TheConstants.{MAX_COUNTER}
 use Rattle.dac_base.specs.declared.NodeId.{NodeId}
-use Rattle.dac_operations.specs.Operations.{Operation}
 use Rattle.dac_meaning.specs.StateValue.{StateValue}
-use Rattle.dac_meaning.specs.Meaning.{meaning_of}
 use Rattle.dac_meaning.specs.Below.{is_below}
 use Rattle.dac_config.specs.Table.{Table}
-use Rattle.dac_messages.specs.declared.message.Message.{Message}
-use Rattle.dac_messages.specs.Bodies.{content_of}
+use Rattle.dac_decide.specs.declared.waits.Noted.{Noted}
 use Rattle.dac_messages.specs.declared.event.Event.{Event}
-use Rattle.dac_messages.specs.declared.event.Event.TheVariants.{Hear, HearOp}
-use Rattle.dac_messages.specs.declared.reply.Reply.TheVariants.{Heard}
-use Rattle.dac_node.specs.NodeValue.{RunValue}
-use Rattle.dac_node.specs.EventRefusals.{refusal_by}
-use Rattle.dac_node.specs.After.{run_after}
-use Rattle.dac_node.specs.Deeds.{Deed, deed_of, keeps, moment_of}
-use Rattle.dac_node.specs.Changes.{ChangeValue, Boots, Effect, Prepared, by_hearing, grown, run_by}
+use Rattle.dac_messages.specs.declared.reply.Reply.{Reply}
+use Rattle.dac_commands.specs.declared.refusal.Refusal.TheVariants.{DotsUsedUp}
+use Rattle.dac_commands.specs.laws.Written.{none_is}
+use Rattle.dac_rules.specs.NodeValue.{RunValue}
+use Rattle.dac_rules.specs.EventRefusals.{refusal_by, refusal_to_hear_op, too_many_deltas}
+use Rattle.dac_rules.specs.Deeds.{Deed, deed_of, moment_of}
+use Rattle.dac_rules.specs.Accepted.{AreNewest, run_by}
+use Rattle.dac_rules.specs.laws.Numbers.{fits}
+use Rattle.dac_node.specs.declared.change.After.TheVariants.{Off, GoesOn}
+use Rattle.dac_node.specs.Knowing.{NextValue, hearing, knowledge_of}
+use Rattle.dac_node.specs.After.{run_after, after_by, gone_on, next_by, FitsIn}
+use Rattle.dac_node.specs.Changes.{ChangeValue, BootsBy, Effect, Fits, Prepared}
 
 -- an event that notes nothing
 pub quiet_effect : (t : Table) (number : ℕ) (r : RunValue) (e : Event) (change : ChangeValue) → (deed_of t r [] e).notes ≡ false → change.last ≡ number →
-    run_after change.after (Some r) ≡ run_by r [] (deed_of t r [] e) → change.reply ≡ (deed_of t r [] e).reply → Effect t number r e change
-quiet_effect t number r e change quiet last run reply = record { noted = []; noting = λ h. absurd (true≢false (sym h ∙ quiet)); last = last; run = run; reply = reply }
+    change.after ≡ after_by r [] (deed_of t r [] e) → change.reply ≡ (deed_of t r [] e).reply → Effect t number r e change
+quiet_effect t number r e change quiet last after reply = record { noted = []; noting = λ h. absurd (true≢false (sym h ∙ quiet)); last = last; after = after; reply = reply }
 
--- ---- hearing
-
-module _ (t : Table) (number : ℕ) (r : RunValue) (e : Event) (body : StateValue) where
-  abbrev hears_by : Bool → Deed
-  hears_by below = keeps r (Heard (not below)) (cond (not below) (body ∷ []) [])
-
-  heard_effect : (below : Bool) → deed_of t r [] e ≡ hears_by below → Effect t number r e (by_hearing number (cond below None (Some (grown r (body ∷ [])))))
-  heard_effect true is = quiet_effect t number r e _ (ap (λ (d : Deed). d.notes) is) refl (sym (ap (run_by r []) is)) (sym (ap (λ (d : Deed). d.reply) is))
-  heard_effect false is = quiet_effect t number r e _ (ap (λ (d : Deed). d.notes) is) refl (sym (ap (run_by r []) is)) (sym (ap (λ (d : Deed). d.reply) is))
-
-pub hear_effect : (t : Table) (number : ℕ) (r : RunValue) (m : Message) → Effect t number r (Hear m) (by_hearing number (cond (is_below (content_of m.body) r.state) None (Some (grown r (content_of m.body ∷ [])))))
-hear_effect t number r m = heard_effect t number r (Hear m) (content_of m.body) (is_below (content_of m.body) r.state) refl
-
-pub hear_op_effect : (t : Table) (number : ℕ) (r : RunValue) (o : Operation) →
-    Effect t number r (HearOp o) (by_hearing number (cond (is_below (meaning_of (o ∷ [])) r.state) None (Some (grown r (meaning_of (o ∷ []) ∷ [])))))
-hear_op_effect t number r o = heard_effect t number r (HearOp o) (meaning_of (o ∷ [])) (is_below (meaning_of (o ∷ [])) r.state) refl
+-- an event that notes nothing and after which what ran goes on
+pub going_effect : (t : Table) (number : ℕ) (r : RunValue) (e : Event) (next : NextValue) (reply : Reply) (change : ChangeValue) → change ≡ record { last = number; after = GoesOn next; reply = reply } → (deed_of t r [] e).notes ≡ false
+    → GoesOn next ≡ after_by r [] (deed_of t r [] e) → reply ≡ (deed_of t r [] e).reply → Effect t number r e change
+going_effect t number r e next reply change is quiet after same =
+    quiet_effect t number r e change quiet (ap (λ (c : ChangeValue). c.last) is) (ap (λ (c : ChangeValue). c.after) is ∙ after) (ap (λ (c : ChangeValue). c.reply) is ∙ same)
 
 -- ---- at a node
 
-pub boots_prepared : (t : Table) (me : NodeId) (last : ℕ) (e : Event) (change : ChangeValue) → refusal_by t last None e ≡ None → Boots t me last (moment_of e) change → Prepared t me (record { last = last; run = None }) e change
-boots_prepared t me last e change none b = record { accepted = none; noted = []; noting = tt; left = λ i. record { last = b.last i; run = run_after (b.run i) None }; reply = b.reply }
+-- what runs after what a deed asks for
+run_after_by : (r : RunValue) (noted : List (Option Noted)) (deed : Deed) → run_after (after_by r noted deed) (Some r) ≡ run_by r noted deed
+run_after_by r noted deed = by deed.goes_off
+  where
+    by : (b : Bool) → run_after (cond b Off (GoesOn (next_by r noted deed))) (Some r) ≡ cond b None (Some (gone_on (next_by r noted deed) r))
+    by true = refl
+    by false = refl
 
-pub effect_prepared : (t : Table) (me : NodeId) (last : ℕ) (r : RunValue) (e : Event) (change : ChangeValue) → refusal_by t last (Some r) e ≡ None → Effect t last r e change → Prepared t me (record { last = last; run = Some r }) e change
-effect_prepared t me last r e change none f = record { accepted = none; noted = f.noted; noting = f.noting; left = λ i. record { last = f.last i; run = f.run i }; reply = f.reply }
+pub boots_prepared : (t : Table) (me : NodeId) (last : ℕ) (e : Event) (change : ChangeValue) → refusal_by t last None e ≡ None → BootsBy t me last (moment_of e) change → Prepared t me (record { last = last; run = None }) e change
+boots_prepared t me last e change none b = record { accepted = none; newest = tt; noted = []; noting = tt; left = λ i. record { last = b.last i; run = run_after (b.after i) None }; reply = b.reply }
+
+pub effect_prepared : (t : Table) (me : NodeId) (last : ℕ) (r : RunValue) (e : Event) (change : ChangeValue) → refusal_by t last (Some r) e ≡ None → AreNewest r.kept → Effect t last r e change → Prepared t me (record { last = last; run = Some r }) e change
+effect_prepared t me last r e change none newest f =
+    let run = ap (λ after. run_after after (Some r)) f.after ∙ run_after_by r f.noted (deed_of t r f.noted e) in
+    record { accepted = none; newest = newest; noted = f.noted; noting = f.noting; left = λ i. record { last = f.last i; run = run i }; reply = f.reply }
+
+-- numbers are left for what comes
+pub effect_fits : (t : Table) (last : ℕ) (r : RunValue) (e : Event) (change : ChangeValue) → refusal_by t last (Some r) e ≡ None → r.kept.count ≤ MAX_COUNTER → Effect t last r e change → Fits (record { last = last; run = Some r }) change
+effect_fits t last r e change none countable f = subst (FitsIn (Some r)) (sym f.after) (by (deed_of t r f.noted e).goes_off)
+  where
+    by : (b : Bool) → FitsIn (Some r) (cond b Off (GoesOn (next_by r f.noted (deed_of t r f.noted e))))
+    by true = tt
+    by false = fits t r f.noted countable e none
+
+-- so they are for an operation that comes by itself
+pub hear_op_fits : (r : RunValue) (body : StateValue) → refusal_to_hear_op r ≡ None → FitsIn (Some r) (GoesOn (hearing (knowledge_of r) body r.peers))
+hear_op_fits r body none = by (is_below body r.state) (ltb-false MAX_COUNTER (r.kept.count + 1) (none_is ((too_many_deltas r 1, DotsUsedUp) ∷ []) none).0)
+  where
+    by : (b : Bool) → r.kept.count + 1 ≤ MAX_COUNTER → r.kept.count + length (cond b [] (body ∷ [])) ≤ MAX_COUNTER
+    by true room = omega arith
+    by false room = room

@@ -1,9 +1,8 @@
 -- What a tick does, by what its gate answers.
-use Rattle.std.proofs.Common.{◌≡◌, ℕ, Bool, true, false, cond, List, [], ◌∷◌, Option, Some, None, refl, sym, ap, ◌∙◌}
-use Rattle.std.specs.Prelude.{fold, unwrap_or, IfSome, MatchOption}
-use Rattle.dac_meaning.specs.StateValue.{StateValue, join}
+use Rattle.std.proofs.Common.{◌≡◌, ℕ, true, false, List, [], ◌∷◌, Option, refl, sym, ap, ◌∙◌, Some, None}
+use Rattle.std.specs.Prelude.{unwrap_or, MatchOption}
+use Rattle.dac_meaning.specs.StateValue.{StateValue}
 use Rattle.dac_config.specs.Table.{Table}
-use Rattle.dac_decide.specs.declared.start_gate.Opening.{Opening}
 use Rattle.dac_decide.specs.declared.start_gate.Opening.TheVariants.{Shut, Opened, GiveUp}
 use Rattle.dac_decide.specs.declared.waits.Noted.{Noted}
 use Rattle.dac_decide.specs.FailoverWait.{Note, waits_of}
@@ -12,63 +11,45 @@ use Rattle.dac_messages.specs.declared.reply.Reply.TheVariants.{Ticked as HasTic
 use Rattle.dac_ticks.specs.declared.turning.Turn.{Turn as Made}
 use Rattle.dac_ticks.specs.Ticks.{Turn, turn_of}
 use Rattle.dac_ticks.specs.Progress.{IsMade}
-use Rattle.dac_node.specs.declared.moments.Moments.{Moments}
-use Rattle.dac_node.specs.declared.change.After.TheVariants.{Off, Held}
-use Rattle.dac_node.specs.NodeValue.{RunValue}
-use Rattle.dac_node.specs.After.{run_after, claimed, IsGrownFrom}
-use Rattle.dac_node.specs.Deeds.{ticks_by, opening_at, meanings}
-use Rattle.dac_node.specs.Changes.{ChangeValue, Effect, run_by}
+use Rattle.dac_rules.specs.NodeValue.{RunValue}
+use Rattle.dac_rules.specs.Deeds.{ticks_by, opening_at, meanings}
+use Rattle.dac_node.specs.declared.change.After.TheVariants.{Off, GoesOn}
+use Rattle.dac_node.specs.Knowing.{ticking, knowledge_of}
+use Rattle.dac_node.specs.After.{after_by}
+use Rattle.dac_node.specs.Changes.{ChangeValue, Effect}
 use Rattle.dac_node.proofs.Effects.{quiet_effect}
 
 module _ (t : Table) (number : ℕ) (r : RunValue) (now : ℕ) where
-  -- the moments after the tick
-  abbrev pub at : Moments
-  at = record { booted = r.moments.booted; last = now }
-
-  by_gate : (b : Bool) (opening : Opening) → cond b Opened opening ≡ Shut → b ≡ false
-  by_gate true opening e = cc
-  by_gate false opening e = refl
-
-  closed : opening_at t r now ≡ Shut → r.is_open ≡ false
-  closed is = by_gate r.is_open _ is
-
-  pub held_effect : opening_at t r now ≡ Shut → (moments : Moments) → moments ≡ at → Effect t number r (Tick now) (record { last = number; after = Held moments; reply = IsHeld })
-  held_effect is moments same =
-      quiet_effect t number r (Tick now) _ (ap (λ o. (ticks_by o t r [] now).notes) is) refl
-      ((λ i. Some (record { origin = r.origin; moments = same i; is_open = closed is i; waits = r.waits; state = r.state })) ∙ sym (ap (λ o. run_by r [] (ticks_by o t r [] now)) is))
-      (sym (ap (λ o. (ticks_by o t r [] now).reply) is))
+  pub held_effect : opening_at t r now ≡ Shut → (change : ChangeValue) → change ≡ record { last = number; after = GoesOn (ticking (knowledge_of r) now false r.waits []); reply = IsHeld } → Effect t number r (Tick now) change
+  held_effect is change same =
+      quiet_effect t number r (Tick now) change (ap (λ o. (ticks_by o t r [] now).notes) is) (ap (λ (c : ChangeValue). c.last) same)
+      (ap (λ (c : ChangeValue). c.after) same ∙ sym (ap (λ o. after_by r [] (ticks_by o t r [] now)) is))
+      (ap (λ (c : ChangeValue). c.reply) same ∙ sym (ap (λ o. (ticks_by o t r [] now).reply) is))
 
   pub gave_up_effect : opening_at t r now ≡ GiveUp → Effect t number r (Tick now) (record { last = number; after = Off; reply = GaveUp })
   gave_up_effect is =
       quiet_effect t number r (Tick now) _ (ap (λ o. (ticks_by o t r [] now).notes) is) refl
-      (sym (ap (λ o. run_by r [] (ticks_by o t r [] now)) is)) (sym (ap (λ o. (ticks_by o t r [] now).reply) is))
+      (sym (ap (λ o. after_by r [] (ticks_by o t r [] now)) is)) (sym (ap (λ o. (ticks_by o t r [] now).reply) is))
 
-  -- where so much is noted by then, and what is claimed leaves this state
+  -- where so much is noted by then
   pub claimed_effect : opening_at t r now ≡ Opened → (noted : List (Option Noted)) → ((notes : List Note) → r.waits ≡ waits_of t notes → noted ≡ waits_of t (record { state = r.state; moment = now } ∷ notes)) →
-      (change : ChangeValue) → change.last ≡ number → run_after change.after (Some r) ≡ Some (claimed at noted (fold join r.state (meanings (turn_of t r.origin noted now r.state).ops)) r) →
-      change.reply ≡ HasTicked (turn_of t r.origin noted now r.state).ops (turn_of t r.origin noted now r.state).passed → Effect t number r (Tick now) change
-  claimed_effect is noted so change last run reply = record {
+      (change : ChangeValue)
+      → change ≡ record { last = number; after = GoesOn (ticking (knowledge_of r) now true noted (meanings (turn_of t r.origin noted now r.state).ops)); reply = HasTicked (turn_of t r.origin noted now r.state).ops (turn_of t r.origin noted now r.state).passed }
+      → Effect t number r (Tick now) change
+  claimed_effect is noted so change same = record {
     noted = noted;
     noting = λ _. so;
-    last = last;
-    run = run ∙ sym (ap (λ o. run_by r noted (ticks_by o t r noted now)) is);
-    reply = reply ∙ sym (ap (λ o. (ticks_by o t r noted now).reply) is);
+    last = ap (λ (c : ChangeValue). c.last) same;
+    after = ap (λ (c : ChangeValue). c.after) same ∙ sym (ap (λ o. after_by r noted (ticks_by o t r noted now)) is);
+    reply = ap (λ (c : ChangeValue). c.reply) same ∙ sym (ap (λ o. (ticks_by o t r noted now).reply) is);
   }
 
 -- ---- what the claims leave
 
 module _ (before : StateValue) (turn : Turn) where
-  grown_by : (left : Option StateValue) → MatchOption left ((turn.ops ≡ []) × (turn.state ≡ before)) (λ after. (after ≡ turn.state) × ¬ (turn.ops ≡ [])) → turn.state ≡ fold join before (meanings turn.ops) → IfSome left (IsGrownFrom before)
-  grown_by None is joined = tt
-  grown_by (Some after) is joined = (meanings turn.ops, is.0 ∙ joined)
-
   left_by : (left : Option StateValue) → MatchOption left ((turn.ops ≡ []) × (turn.state ≡ before)) (λ after. (after ≡ turn.state) × ¬ (turn.ops ≡ [])) → unwrap_or left before ≡ turn.state
   left_by None is = sym is.1
   left_by (Some after) is = is.0
 
-  module _ (made : Made) (is : IsMade before turn made) where
-    pub left_grown : turn.state ≡ fold join before (meanings turn.ops) → IfSome made.left (IsGrownFrom before)
-    left_grown joined = grown_by made.left is.left joined
-
-    pub left_is : unwrap_or made.left before ≡ turn.state
-    left_is = left_by made.left is.left
+  pub left_is : (made : Made) → IsMade before turn made → unwrap_or made.left before ≡ turn.state
+  left_is made is = left_by made.left is.left

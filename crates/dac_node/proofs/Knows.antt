@@ -10,7 +10,7 @@ use Rattle.dac_meaning.specs.StateLaws.{known-join}
 use Rattle.dac_meaning.specs.Meaning.{meaning_of}
 use Rattle.dac_meaning.specs.Readers.{known-meaning}
 use Rattle.dac_commands.specs.Commands.{KnowsItself}
-use Rattle.dac_node.specs.Step.{up}
+use Rattle.dac_rules.specs.Step.{up}
 
 -- what is joined is known still
 pub knows-join : (o : Origin) (s t : StateValue) → KnowsItself o s → KnowsItself o (join s t)

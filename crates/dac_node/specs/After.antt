@@ -1,39 +1,47 @@
 -- What runs after a change.
-use Rattle.std.specs.Prelude.{◌≡◌, ◌≤◌, true, List, Option, Some, None, fold}
+use Rattle.std.specs.Prelude.{◌+◌, ◌≤◌, cond, List, length, Option, Some, None, fold}
 use Rattle.std.specs.Option.{option_map}
-use Rattle.dac_meaning.specs.StateValue.{StateValue, join}
+use Rattle.dac_base.specs.declared.limits.TheConstants.{MAX_COUNTER}
+use Rattle.dac_meaning.specs.StateValue.{join}
+use Rattle.dac_deltas.specs.Kept.{pushed, trimmed}
 use Rattle.dac_decide.specs.declared.waits.Noted.{Noted}
-use Rattle.dac_node.specs.declared.moments.Moments.{Moments}
+use Rattle.dac_rules.specs.NodeValue.{RunValue}
+use Rattle.dac_rules.specs.Deeds.{Deed}
 use Rattle.dac_node.specs.declared.change.After.{After}
-use Rattle.dac_node.specs.declared.change.After.TheVariants.{Same, Off, Runs, Held, Ticked}
-use Rattle.dac_node.specs.NodeValue.{RunValue}
+use Rattle.dac_node.specs.declared.change.After.TheVariants.{Off, Boots, GoesOn}
+use Rattle.dac_node.specs.Knowing.{NextValue, run_of}
 
--- a node that was held back by a tick: it has other moments alone
-abbrev pub held : Moments → RunValue → RunValue
-held moments r = record { origin = r.origin; moments = moments; is_open = r.is_open; waits = r.waits; state = r.state }
-
--- a node that looked after its applications and claimed none: its gate is open, and so much is noted
-abbrev pub ticked : Moments → List (Option Noted) → RunValue → RunValue
-ticked moments waits r = record { origin = r.origin; moments = moments; is_open = true; waits = waits; state = r.state }
-
--- the second state is the first one with some more joined to it
-abbrev pub IsGrownFrom : StateValue → StateValue → Type 0
-IsGrownFrom before after = (states : List StateValue) × (after ≡ fold join before states)
-
--- a node that looked after its applications, and whose claims left this state
-abbrev pub claimed : Moments → List (Option Noted) → StateValue → RunValue → RunValue
-claimed moments waits state r = record { origin = r.origin; moments = moments; is_open = true; waits = waits; state = state }
+-- what ran before goes on so
+abbrev pub gone_on : NextValue → RunValue → RunValue
+gone_on next r = run_of next.knowledge (trimmed (fold pushed r.kept next.deltas) next.trim)
 
 -- what runs from then on, where this ran before
 abbrev pub run_after : After → Option RunValue → Option RunValue
-run_after Same old = old
 run_after Off old = None
-run_after (Runs r) old = Some r
-run_after (Held moments) old = option_map (held moments) old
-run_after (Ticked moments waits) old = option_map (ticked moments waits) old
+run_after (Boots r) old = Some r
+run_after (GoesOn next) old = option_map (gone_on next) old
 
--- no moments are kept of which the last is before the boot
-abbrev pub KeepsTime : After → Type 0
-KeepsTime (Held moments) = moments.booted ≤ moments.last
-KeepsTime (Ticked moments waits) = moments.booted ≤ moments.last
-KeepsTime _ = Unit {0}
+-- numbers are left for the deltas that come
+abbrev pub FitsIn : Option RunValue → After → Type 0
+FitsIn (Some r) (GoesOn next) = r.kept.count + length next.deltas ≤ MAX_COUNTER
+FitsIn old after = Unit {0}
+
+-- ---- what a deed asks for
+
+-- what goes on by a deed, where so much is noted by then
+abbrev pub next_by : RunValue → List (Option Noted) → Deed → NextValue
+next_by r noted deed = record {
+  knowledge = record {
+    origin = r.origin;
+    moments = record { booted = r.moments.booted; last = deed.last };
+    is_open = deed.is_open;
+    waits = cond deed.notes noted r.waits;
+    state = fold join r.state deed.adds;
+    peers = deed.peers;
+  };
+  deltas = deed.adds;
+  trim = deed.trim;
+}
+
+abbrev pub after_by : RunValue → List (Option Noted) → Deed → After
+after_by r noted deed = cond deed.goes_off Off (GoesOn (next_by r noted deed))

@@ -1,12 +1,3 @@
-pub mod NodeValue
-pub mod ModelNode
-pub mod EventRefusals
-pub mod Deeds
-pub mod Step
+pub mod Knowing
 pub mod After
 pub mod Changes
-pub mod Hearing
-pub mod Refused
-pub mod Writing
-pub mod Again
-pub mod laws

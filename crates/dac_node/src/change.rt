@@ -1,17 +1,17 @@
 //! What an accepted event does, prepared before anything changes.
 
-ghost use Rattle.std.specs.Prelude.{◌≡◌, ◌<◌, ◌-◌, ◌^◌, IfOk, IfErr, None};
+ghost use Rattle.std.specs.Prelude.{◌≡◌, ◌<◌, ◌-◌, ◌^◌, ◌∷◌, [], IfOk, IfErr, None};
 ghost use Rattle.dac_config.specs.Table.{Table};
-ghost use Rattle.dac_node.specs.EventRefusals.{refusal_on};
-ghost use Rattle.dac_node.specs.After.{KeepsTime};
+ghost use Rattle.dac_meaning.specs.Meaning.{meaning_of};
+ghost use Rattle.dac_rules.specs.EventRefusals.{refusal_on, refusal_to_obey};
 
-use crate::moments::Moments;
+use crate::next::Next;
 use crate::running::Running;
 use crate::ticking::tick;
 use dac_base::{NoMemory, NodeId};
 use dac_config::Config;
-use dac_decide::Waits;
 use dac_dots::Origin;
+use dac_events::Command;
 use dac_messages::{Event, Message, Reply};
 use dac_state::Op;
 use std::alloc::Global;
@@ -20,45 +20,17 @@ use std::marker::Model;
 /// What runs after a change.
 #[derive(Drop)]
 pub(crate) enum After {
-    /// What ran before.
-    Same,
     /// Nothing.
     Off,
-    /// This.
-    Runs(Running),
-    /// What ran before, with other moments: it was held back at a tick.
-    Held(Moments),
-    /// What ran before, which looked after its applications at a tick and claimed none.
-    Ticked {
-        /// The moments from then on.
-        moments: Moments,
-        /// What is noted from then on.
-        waits: Waits,
-    },
-}
-
-impl After {
-    ghost use Rattle.dac_node.specs.After.{run_after};
-
-    /// What runs after this, where this ran before.
-    pub(crate) fn run_after(self, before: Option<Running>) -> Option<Running>
-        requires { KeepsTime self }
-        ensures { result ≡ run_after self before }
-    {
-        match self {
-            After::Same => before,
-            After::Off => None,
-            After::Runs(run) => Some(run),
-            After::Held(moments) => Some(before?.held(moments)),
-            After::Ticked { moments, waits } => Some(before?.ticked(moments, waits)),
-        }
-    }
+    /// This, which came up.
+    Boots(Running),
+    /// What ran before, which goes on so.
+    GoesOn(Next),
 }
 
 /// What an accepted event does: the number of the last incarnation from then on, what runs, and the reply.
 ///
-/// [`Node::prepare`](crate::Node::prepare) makes it, and [`Node::apply`](crate::Node::apply) does it. All that may want
-/// memory is done when it is made.
+/// [`Node::prepare`](crate::Node::prepare) makes it, and [`Node::apply`](crate::Node::apply) does it.
 #[derive(Drop)]
 pub struct Change {
     pub(crate) last: u32,
@@ -69,7 +41,6 @@ pub struct Change {
 impl Model for Change {
     ghost use Rattle.dac_messages.specs.contracts.reply.Reply as reply_row;
     ghost use Rattle.dac_node.specs.contracts.change.After as after_row;
-    ghost use Rattle.dac_node.specs.After.{KeepsTime};
     ghost use Rattle.dac_node.specs.Changes.{ChangeValue, coded_change};
 
     ghost Value = { ChangeValue };
@@ -77,18 +48,28 @@ impl Model for Change {
     ghost coded = { coded_change after_row.the_row.coded reply_row.the_row.coded };
 
     ghost view = { λ a. record { last = a.last; after = a.after; reply = a.reply } };
-
-    ghost invariant = { λ a. KeepsTime a.after };
 }
 
 impl Change {
-    ghost use Rattle.dac_node.specs.Changes.{by_hearing, Boots, Effect};
+    ghost use Rattle.dac_node.specs.Changes.{BootsBy, Effect};
+    ghost use Rattle.dac_node.specs.Knowing.{hearing, knowledge_of};
 
     /// The reply to the event.
     pub fn reply(&self) -> &Reply
         ensures { result.now ≡ self.now.reply }
     {
         &self.reply
+    }
+
+    /// What ran goes on so, with this reply.
+    pub(crate) fn going_on(last: u32, next: Next, reply: Reply) -> Self
+        ensures { result ≡ record { last = last; after = After.GoesOn next; reply = reply } }
+    {
+        Change {
+            last,
+            after: After::GoesOn(next),
+            reply,
+        }
     }
 
     /// A controller that is off comes up as this node at this moment.
@@ -100,7 +81,7 @@ impl Change {
         now: u64,
     ) -> Result<Self, NoMemory>
         requires { last < 2 ^ 32 - 1 }
-        ensures { IfOk result (Boots config.now node last now) }
+        ensures { IfOk result (BootsBy config.now node last now) }
     {
         let origin = Origin {
             node,
@@ -109,7 +90,7 @@ impl Change {
         let (run, operation) = Running::boot(alloc, config, origin, now)?;
         Ok(Change {
             last: last + 1,
-            after: After::Runs(run),
+            after: After::Boots(run),
             reply: Reply::Booted(operation),
         })
     }
@@ -132,59 +113,51 @@ impl Change {
                 after: After::Off,
                 reply: Reply::Crashed,
             }),
-            Event::Command(command) => {
-                let (run, operation) = run.command(config, *command)?;
-                Ok(Change {
-                    last,
-                    after: After::Runs(run),
-                    reply: Reply::Issued(operation),
-                })
-            }
+            Event::Command(command) => Change::obey(config, last, run, *command),
             Event::Tick { now } => tick(config, last, run, *now),
-            Event::Ship { to } => {
-                let message = run.ship(*to)?;
-                Ok(Change {
-                    last,
-                    after: After::Same,
-                    reply: Reply::Shipped(message),
-                })
-            }
-            Event::Hear(message) => Change::hear(last, run, message),
+            Event::Ship { to } => Change::ship(last, run, *to),
+            Event::Hear(message) => Change::hear(config, last, run, message),
             Event::HearOp(operation) => Change::hear_op(last, run, operation),
         }
     }
 
-    /// What a message that isn't refused does at a running controller.
-    pub(crate) fn hear(last: u32, run: &Running, message: &Message) -> Result<Self, NoMemory>
-        ensures { IfOk result (λ change. (t : Table) → Effect t last run.now (Event.Hear message.now) change) }
+    /// What a command that isn't refused does at a running controller.
+    fn obey(config: &Config, last: u32, run: &Running, command: Command) -> Result<Self, NoMemory>
+        requires { refusal_to_obey config.now run.now command ≡ None }
+        ensures { IfOk result (Effect config.now last run.now (Event.Command command)) }
     {
-        let more = run.hear_body(&message.body)?;
-        Ok(Change::heard(last, more))
+        let (next, operation) = run.command(config, command)?;
+        Ok(Change::going_on(last, next, Reply::Issued(operation)))
+    }
+
+    /// What a ship that isn't refused does at a running controller.
+    fn ship(last: u32, run: &Running, to: NodeId) -> Result<Self, NoMemory>
+        ensures { IfOk result (λ change. (t : Table) → Effect t last run.now (Event.Ship to) change) }
+    {
+        let (next, message) = run.ship(to)?;
+        Ok(Change::going_on(last, next, Reply::Shipped(message)))
+    }
+
+    /// What a message that isn't refused does at a running controller.
+    pub(crate) fn hear(
+        config: &Config,
+        last: u32,
+        run: &Running,
+        message: &Message,
+    ) -> Result<Self, NoMemory>
+        ensures { IfOk result (Effect config.now last run.now (Event.Hear message.now)) }
+    {
+        let fresh = run.is_new(&message.body);
+        let next = run.hear(config, message)?;
+        Ok(Change::going_on(last, next, Reply::Heard(fresh)))
     }
 
     /// What an operation that comes by itself does at a running controller.
     pub(crate) fn hear_op(last: u32, run: &Running, operation: &Op) -> Result<Self, NoMemory>
-        ensures { IfOk result (λ change. (t : Table) → Effect t last run.now (Event.HearOp operation.now) change) }
+        ensures effect { IfOk result (λ change. (t : Table) → Effect t last run.now (Event.HearOp operation.now) change) }
+        ensures after { IfOk result (λ change. change.after ≡ After.GoesOn (hearing (knowledge_of run.now) (meaning_of (operation.now ∷ [])) run.now.peers)) }
     {
-        let more = run.hear_op(operation)?;
-        Ok(Change::heard(last, more))
-    }
-
-    /// What hearing does, from what runs where it adds anything.
-    fn heard(last: u32, more: Option<Running>) -> Self
-        ensures { result ≡ by_hearing last more }
-    {
-        match more {
-            None => Change {
-                last,
-                after: After::Same,
-                reply: Reply::Heard(false),
-            },
-            Some(run) => Change {
-                last,
-                after: After::Runs(run),
-                reply: Reply::Heard(true),
-            },
-        }
+        let (next, fresh) = run.hear_op(operation)?;
+        Ok(Change::going_on(last, next, Reply::Heard(fresh)))
     }
 }

@@ -1,19 +1,22 @@
 //! One controller: a node that is off or runs with a state.
 //!
 //! A [`Node`] changes by [`Node::step`] alone, one event at a time. A step has two halves. [`Node::prepare`] finds why
-//! the event is refused, or makes all that it does, as a [`Change`]; only this half may want memory. [`Node::apply`]
-//! does the change. So a caller that keeps more than a node can make room for all of it before anything changes.
+//! the event is refused, or makes what it does, as a [`Change`]. [`Node::apply`] does the change: it first adds to the
+//! newest deltas those that come, which may want memory, and nothing else of it does. So a caller that keeps more than a
+//! node can make room for all of it before anything changes.
 //!
 //! At a tick a node looks after the applications: once its start gate is open it notes which claims are lost, and claims
-//! what it is to run now. A tick that claims nothing copies no state.
+//! what it is to run now. A ship sends another node what it hasn't acknowledged, as an interval of the newest deltas or as
+//! the whole state. What comes of a message is joined, and what all others have acknowledged is dropped.
 #![tactic(auto)]
 
 pub use change::Change;
 pub use node::Node;
 
 mod change;
-pub mod laws;
-mod moments;
+mod knowledge;
+mod next;
 mod node;
 mod running;
+mod shipping;
 mod ticking;

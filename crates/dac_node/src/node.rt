@@ -1,11 +1,11 @@
 //! One controller.
 
-ghost use Rattle.std.specs.Prelude.{◌≡◌, IfOk, IfErr, MatchResult, OnErr, unwrap_or};
+ghost use Rattle.std.specs.Prelude.{◌≡◌, IfOk, IfErr, MatchResult, OnOk, OnErr, None, unwrap_or};
 ghost use Rattle.dac_config.specs.Table.{Table};
-ghost use Rattle.dac_node.specs.EventRefusals.{refusal_off as refused_off};
-ghost use Rattle.dac_node.specs.Deeds.{moment_of};
+ghost use Rattle.dac_rules.specs.EventRefusals.{refusal_off as refused_off};
+ghost use Rattle.dac_rules.specs.Deeds.{moment_of};
 
-use crate::change::Change;
+use crate::change::{After, Change};
 use crate::running::Running;
 use dac_base::{NoMemory, NodeId};
 use dac_commands::Refusal;
@@ -20,7 +20,8 @@ use std::marker::Model;
 ///
 /// An incarnation number is used once. A controller that boots again has lost all that it knew and goes by
 /// the next number, so an operation's dot never comes twice. While it runs it keeps its state, the moments of its boot
-/// and its last tick, whether its start gate is open, and how long each failover has been waiting.
+/// and its last tick, whether its start gate is open, how long each failover has been waiting, the newest of the deltas
+/// that made its state, and what it keeps of its peers.
 pub struct Node {
     alloc: Global,
     last: u32,
@@ -39,7 +40,7 @@ impl Drop for Node {
 }
 
 impl Model for Node {
-    ghost use Rattle.dac_node.specs.NodeValue.{NodeValue, coded_node_value};
+    ghost use Rattle.dac_rules.specs.NodeValue.{NodeValue, coded_node_value};
 
     ghost Value = { NodeValue };
 
@@ -50,13 +51,14 @@ impl Model for Node {
 
 impl Node {
     ghost use Rattle.std.specs.Option.{option_copied};
-    ghost use Rattle.dac_node.specs.NodeValue.{off, origin_of, state_of};
-    ghost use Rattle.dac_node.specs.EventRefusals.{refusal_of};
-    ghost use Rattle.dac_node.specs.Step.{Steps, IsShown};
-    ghost use Rattle.dac_node.specs.Writing.{Writes};
-    ghost use Rattle.dac_node.specs.Changes.{changed, Prepared};
-    ghost use Rattle.dac_node.specs.Hearing.{HearsExactly};
-    ghost use Rattle.dac_node.specs.Refused.{IsAnsweredBy, IsFree};
+    ghost use Rattle.dac_rules.specs.NodeValue.{off, origin_of, state_of};
+    ghost use Rattle.dac_rules.specs.EventRefusals.{refusal_of};
+    ghost use Rattle.dac_rules.specs.Step.{Steps, IsShown};
+    ghost use Rattle.dac_rules.specs.Writing.{Writes};
+    ghost use Rattle.dac_rules.specs.Shipping.{ShipsSo};
+    ghost use Rattle.dac_node.specs.Changes.{changed, Fits, Prepared};
+    ghost use Rattle.dac_rules.specs.Hearing.{HearsExactly};
+    ghost use Rattle.dac_rules.specs.Refused.{IsAnsweredBy, IsFree};
 
     /// A controller that is off and whose last incarnation had this number; 0 for one that never booted.
     pub fn off(alloc: Global, last: u32) -> Self
@@ -126,13 +128,17 @@ impl Node {
         // the place of exactly what stands there. A tick is answered by the claims of exactly the applications that are
         // due to this node.
         ensures writes { IfOk result (λ reply. Writes config.now self_id self.old event reply) }
+        // A ship is answered by the message that the log says in words: the whole state where there is no place to begin an
+        // interval, and else what the log got from there on, or nothing.
+        ensures ships { IfOk result (λ reply. ShipsSo config.now self.old event reply) }
         // What it has heard grows by the dots that the event brings, and by no more.
         ensures heard { IfOk result (λ reply. HearsExactly self.old event reply self.new) }
         // Where some node of the definition shows it, one shows what it becomes.
         ensures shown { IsShown config.now self.old → IsShown config.now self.new }
     {
         let change = self.prepare(config, self_id, &event)?;
-        Ok(self.apply(change))
+        let reply = self.apply(change)?;
+        Ok(reply)
     }
 
     /// Why an event is refused, if it is.
@@ -145,8 +151,7 @@ impl Node {
         }
     }
 
-    /// What an event would do at node `self_id`, or why it is refused. Nothing changes yet. All that may want memory is
-    /// done here; a crash wants none.
+    /// What an event would do at node `self_id`, or why it is refused. Nothing changes yet. A crash wants no memory.
     pub fn prepare(
         &self,
         config: &Config,
@@ -154,6 +159,7 @@ impl Node {
         event: &Event,
     ) -> Result<Change, Refusal>
         ensures ok { IfOk result (λ change. Prepared config.now self_id self.now event.now change) }
+        ensures fits { IfOk result (λ change. Fits self.now change) }
         ensures err { IfErr result (λ why. why ≡ unwrap_or (refusal_of config.now self.now event.now) Refusal.NoMemory) }
         ensures crash { IfErr result (λ why. event.now ≡ Event.Crash → why ≡ Refusal.Off) }
     {
@@ -165,13 +171,17 @@ impl Node {
                 let now = moment_of(event);
                 Ok(Change::boot(self.alloc, config, self_id, self.last, now)?)
             }
-            Some(run) => Ok(Change::of(config, self.last, run, event)?),
+            Some(run) => {
+                run.known();
+                Ok(Change::of(config, self.last, run, event)?)
+            }
         }
     }
 
     /// What a message that comes would do, as [`Node::prepare`] of that event, without a copy of the message.
-    pub fn prepare_hear(&self, message: &Message) -> Result<Change, Refusal>
-        ensures ok { IfOk result (λ change. (t : Table) (me : NodeId) → Prepared t me self.now (Event.Hear message.now) change) }
+    pub fn prepare_hear(&self, config: &Config, message: &Message) -> Result<Change, Refusal>
+        ensures ok { IfOk result (λ change. (me : NodeId) → Prepared config.now me self.now (Event.Hear message.now) change) }
+        ensures fits { IfOk result (λ change. Fits self.now change) }
         ensures err { IfErr result (λ why. (t : Table) → why ≡ unwrap_or (refusal_of t self.now (Event.Hear message.now)) Refusal.NoMemory) }
     {
         let Some(run) = &self.run else {
@@ -180,31 +190,48 @@ impl Node {
         if let Some(why) = run.refusal_to_hear(message) {
             return Err(why);
         }
-        Ok(Change::hear(self.last, run, message)?)
+        run.known();
+        Ok(Change::hear(config, self.last, run, message)?)
     }
 
     /// What an operation that comes by itself would do, as [`Node::prepare`] of that event, without a copy of the
     /// operation.
     pub fn prepare_hear_op(&self, operation: &Op) -> Result<Change, Refusal>
         ensures ok { IfOk result (λ change. (t : Table) (me : NodeId) → Prepared t me self.now (Event.HearOp operation.now) change) }
+        ensures fits { IfOk result (λ change. Fits self.now change) }
         ensures err { IfErr result (λ why. (t : Table) → why ≡ unwrap_or (refusal_of t self.now (Event.HearOp operation.now)) Refusal.NoMemory) }
     {
         let Some(run) = &self.run else {
             return Err(Refusal::Off);
         };
+        if let Some(why) = run.refusal_to_hear_op() {
+            return Err(why);
+        }
+        run.known();
         Ok(Change::hear_op(self.last, run, operation)?)
     }
 
     /// Does what was prepared, and gives the reply. It is a step of the event where this node prepared the change, and has
-    /// been as it is since then.
-    pub fn apply(&mut self, change: Change) -> Reply
-        ensures new { self.new ≡ changed self.old change }
-        ensures reply { result ≡ change.reply }
+    /// been as it is since then. Want of memory is the only error, and leaves all as it was; a node that goes off wants none.
+    pub fn apply(&mut self, change: Change) -> Result<Reply, NoMemory>
+        requires { Fits self.old change }
+        ensures new { OnOk result (self.new ≡ changed self.old change) }
+        ensures reply { IfOk result (λ reply. reply ≡ change.reply) }
+        ensures unchanged { OnErr result (self.new ≡ self.old) }
+        ensures off { IfErr result (λ _. (changed self.old change).run ≡ None → ⊥) }
     {
         let Change { last, after, reply } = change;
+        match after {
+            After::Off => self.run = None,
+            After::Boots(run) => self.run = Some(run),
+            After::GoesOn(next) => {
+                if let Some(run) = &mut self.run {
+                    run.go_on(next)?;
+                }
+            }
+        }
         self.last = last;
-        self.run = after.run_after(self.run.take());
-        reply
+        Ok(reply)
     }
 }
 

@@ -1,102 +1,92 @@
-//! What a controller keeps while it runs, and its rules: which events it refuses, and what it does.
+//! What runs: what a controller knows and the newest deltas, and which events it refuses.
 
-ghost use Rattle.std.specs.Prelude.{◌≡◌, ◌≤◌, ◌∷◌, [], List, IfOk, None, Some, cond, false};
-ghost use Rattle.dac_decide.specs.FailoverWait.{Note, waits_of};
+ghost use Rattle.std.specs.Prelude.{◌≡◌, ◌+◌, ◌≤◌, ◌∷◌, [], ◌^◌, length, IfOk, OnOk, OnErr};
+ghost use Rattle.dac_base.specs.declared.limits.TheConstants.{MAX_COUNTER as LAST_NUMBER};
+ghost use Rattle.dac_meaning.specs.Below.{is_below};
+ghost use Rattle.dac_meaning.specs.Meaning.{meaning_of};
+ghost use Rattle.dac_messages.specs.Bodies.{content_of};
 ghost use Rattle.dac_commands.specs.Commands.{next_operation, act_of as said_by};
 ghost use Rattle.dac_commands.specs.Causes.{refusal_of_command as refused_command};
-ghost use Rattle.dac_ticks.specs.Ticks.{turn_of};
-ghost use Rattle.dac_ticks.specs.Progress.{IsMade};
-ghost use Rattle.dac_node.specs.EventRefusals.{refusal_to_tick as refused_tick, refusal_to_ship as refused_ship, refusal_to_hear as refused_hear, refusal_on, is_for, too_few_left};
-ghost use Rattle.dac_messages.specs.Bodies.{content_of};
-ghost use Rattle.dac_node.specs.Deeds.{message_of, opening_at};
-ghost use Rattle.dac_node.specs.Step.{up};
+ghost use Rattle.dac_rules.specs.EventRefusals.{refusal_to_tick as refused_tick, refusal_to_ship as refused_ship, refusal_to_hear as refused_hear, refusal_to_obey as refused_command_here, refusal_to_hear_op as refused_hear_op, refusal_on, is_for, needed, overflows, too_few_left, too_many_deltas};
+ghost use Rattle.dac_rules.specs.Step.{up};
 
-use crate::moments::Moments;
+use crate::knowledge::{Knowledge, is_below};
+use crate::next::Next;
 use dac_base::{MAX_COUNTER, NoMemory, NodeId};
 use dac_commands::{Refusal, operation_of, refusal_of};
 use dac_config::Config;
-use dac_decide::{Opening, Waits, gate};
-use dac_dots::{Dot, Origin};
+use dac_deltas::Buffer;
+use dac_dots::Origin;
 use dac_events::Command;
-use dac_lattice::{Bottom, Lattice};
-use dac_messages::{Body, Event, Message};
+use dac_lattice::Bottom;
+use dac_messages::{Event, Message};
 use dac_placement::is_up;
-use dac_state::{Act, Op, State};
-use dac_ticks::{Turn, tick};
+use dac_state::{Op, State};
 use std::alloc::Global;
 use std::marker::Model;
 
-/// What a controller keeps while it runs. Its state knows the operation of its own boot, and it didn't tick before it was
-/// booted.
+/// A controller that runs: what it knows, and the newest of the deltas that made its state.
 pub(crate) struct Running {
-    alloc: Global,
-    origin: Origin,
-    moments: Moments,
-    is_open: bool,
-    waits: Waits,
-    state: State,
+    pub(crate) knowledge: Knowledge,
+    pub(crate) buffer: Buffer<State>,
 }
 
 /// Written out: a drop is one call for a proof, wherever it stands.
 impl Drop for Running {
     fn drop(self) {
         let Running {
-            alloc: _alloc,
-            origin: _origin,
-            moments: _moments,
-            is_open: _is_open,
-            waits: _waits,
-            state: _state,
+            knowledge: _knowledge,
+            buffer: _buffer,
         } = self;
     }
 }
 
 impl Model for Running {
-    ghost use Rattle.dac_node.specs.NodeValue.{RunValue, IsSound, coded_run};
+    ghost use Rattle.dac_rules.specs.NodeValue.{RunValue, coded_run};
+    ghost use Rattle.dac_node.specs.Knowing.{run_of};
 
     ghost Value = { RunValue };
 
     ghost coded = { coded_run };
 
-    ghost view = { λ a. record { origin = a.origin; moments = a.moments; is_open = a.is_open; waits = a.waits; state = a.state } };
-
-    ghost invariant = { λ a. IsSound a.origin a.moments a.state };
+    ghost view = { λ a. run_of a.knowledge a.buffer };
 }
 
 impl Running {
-    ghost use Rattle.dac_node.specs.Changes.{booted, grown};
-    ghost use Rattle.dac_node.specs.After.{held, ticked, claimed, IsGrownFrom};
-    ghost use Rattle.dac_meaning.specs.Below.{is_below};
-    ghost use Rattle.dac_meaning.specs.Meaning.{meaning_of};
+    ghost use Rattle.dac_rules.specs.Accepted.{booted, AreNewest};
+    ghost use Rattle.dac_node.specs.Knowing.{adding, knowledge_of};
+    ghost use Rattle.dac_node.specs.After.{gone_on};
+
+    /// The deltas that are kept are the newest, and their count is at most 2^62. This only tells proofs so, and does
+    /// nothing when it runs.
+    pub(crate) fn known(&self)
+        ensures newest { AreNewest self.now.kept }
+        ensures countable { self.now.kept.count ≤ LAST_NUMBER }
+    {
+        self.buffer.known();
+    }
 
     /// The present incarnation.
     pub(crate) fn origin(&self) -> Origin
         ensures { result ≡ self.now.origin }
     {
-        self.origin
+        self.knowledge.origin
     }
 
     /// The state.
     pub(crate) fn state(&self) -> &State
         ensures { result.now ≡ self.now.state }
     {
-        &self.state
+        &self.knowledge.state
     }
 
     /// An equal one.
     pub(crate) fn copy(&self) -> Result<Self, NoMemory>
         ensures { IfOk result (λ copied. copied ≡ self.now) }
     {
-        let waits = self.waits.copy()?;
-        let state = self.state.copy()?;
-        Ok(Running {
-            alloc: self.alloc,
-            origin: self.origin,
-            moments: self.moments,
-            is_open: self.is_open,
-            waits,
-            state,
-        })
+        let knowledge = self.knowledge.copy()?;
+        let buffer = self.buffer.copy()?;
+        Ok(Running { knowledge, buffer })
     }
 
     /// A controller that comes up as this incarnation at this moment, and the operation that says so.
@@ -109,24 +99,39 @@ impl Running {
         ensures run { IfOk result (λ both. both.0 ≡ booted config.now origin now) }
         ensures operation { IfOk result (λ both. both.1 ≡ up origin) }
     {
-        let operation = up_of(origin);
-        let delta = State::delta_of(alloc, &operation)?;
-        let state = State::bottom(alloc).join(&delta)?;
-        let waits = Waits::new(alloc, config)?;
-        Ok((
-            Running {
-                alloc,
-                origin,
-                moments: Moments {
-                    booted: now,
-                    last: now,
-                },
-                is_open: false,
-                waits,
-                state,
-            },
-            operation,
-        ))
+        let (knowledge, operation, delta) = Knowledge::boot(alloc, config, origin, now)?;
+        let mut buffer = Buffer::new(alloc);
+        buffer.push(delta)?;
+        Ok((Running { knowledge, buffer }, operation))
+    }
+
+    /// Goes on so. Only the deltas that come may want memory, and all is as before where it is refused.
+    pub(crate) fn go_on(&mut self, next: Next) -> Result<(), NoMemory>
+        requires { self.old.kept.count + length next.deltas ≤ LAST_NUMBER }
+        ensures ok { OnOk result (self.new ≡ gone_on next self.old) }
+        ensures err { OnErr result (self.new ≡ self.old) }
+    {
+        let (knowledge, deltas, trim) = next.into_parts();
+        self.buffer.push_all(deltas)?;
+        self.buffer.trim(trim);
+        self.knowledge = knowledge;
+        Ok(())
+    }
+
+    /// Whether so many deltas more would pass the last number.
+    fn lacks_numbers(&self, more: u64) -> bool
+        requires { more ≤ 2 ^ 16 }
+        ensures { result ≡ too_many_deltas self.now more }
+    {
+        self.buffer.known();
+        self.buffer.count() + more > MAX_COUNTER
+    }
+
+    /// Whether a state would be added as one delta more than there can be.
+    fn overflows(&self, body: &State) -> bool
+        ensures { result ≡ overflows self.now body.now }
+    {
+        !is_below(body, &self.knowledge.state) && self.lacks_numbers(1)
     }
 
     /// Why the event is refused, if it is.
@@ -136,11 +141,27 @@ impl Running {
         match event {
             Event::Boot { now: _ } => Some(Refusal::AlreadyOn),
             Event::Crash => None,
-            Event::Command(command) => refusal_of(config, self.origin, &self.state, *command),
+            Event::Command(command) => self.refusal_to_obey(config, *command),
             Event::Tick { now } => self.refusal_to_tick(config, *now),
             Event::Ship { to } => self.refusal_to_ship(config, *to),
             Event::Hear(message) => self.refusal_to_hear(message),
-            Event::HearOp(_) => None,
+            Event::HearOp(_) => self.refusal_to_hear_op(),
+        }
+    }
+
+    /// Why what a command says isn't done, if it isn't.
+    fn refusal_to_obey(&self, config: &Config, command: Command) -> Option<Refusal>
+        ensures { result ≡ refused_command_here config.now self.now command }
+    {
+        let why = refusal_of(
+            config,
+            self.knowledge.origin,
+            &self.knowledge.state,
+            command,
+        );
+        match why {
+            Some(why) => Some(why),
+            None => self.refusal_to_hear_op(),
         }
     }
 
@@ -148,13 +169,15 @@ impl Running {
     fn refusal_to_tick(&self, config: &Config, now: u64) -> Option<Refusal>
         ensures { result ≡ refused_tick config.now self.now now }
     {
-        if !is_up(&self.state, self.origin) {
+        let own = self.knowledge.origin;
+        let state = &self.knowledge.state;
+        if !is_up(state, own) {
             return Some(Refusal::DeclaredDown);
         }
-        if now < self.moments.last {
+        if now < self.knowledge.moments.last {
             return Some(Refusal::MomentBack);
         }
-        if has_too_few(config, self.origin, &self.state) {
+        if has_too_few(config, own, state) || self.lacks_numbers(needed(config)) {
             return Some(Refusal::DotsUsedUp);
         }
         None
@@ -162,13 +185,16 @@ impl Running {
 
     /// Why nothing is shipped to a node, if nothing is.
     fn refusal_to_ship(&self, config: &Config, to: NodeId) -> Option<Refusal>
-        ensures { result ≡ refused_ship config.now self.now.origin to }
+        ensures { result ≡ refused_ship config.now self.now to }
     {
         if to.0 >= config.nodes() {
             return Some(Refusal::UnknownNode);
         }
-        if to == self.origin.node {
+        if to == self.knowledge.origin.node {
             return Some(Refusal::OnSelf);
+        }
+        if self.is_up_to_date(to) {
+            return Some(Refusal::UpToDate);
         }
         None
     }
@@ -176,160 +202,55 @@ impl Running {
     /// Why a message isn't heard, if it isn't. It is for this incarnation where it is for its node, and for no other
     /// incarnation alone.
     pub(crate) fn refusal_to_hear(&self, message: &Message) -> Option<Refusal>
-        ensures { result ≡ refused_hear self.now.origin message.now }
+        ensures { result ≡ refused_hear self.now message.now }
     {
-        if message.from.node == self.origin.node {
+        let own = self.knowledge.origin;
+        if message.from.node == own.node {
             return Some(Refusal::OnSelf);
         }
-        if !is_for(self.origin, message) {
+        if !is_for(own, message) {
             return Some(Refusal::NotForMe);
+        }
+        if self.overflows_by(message) {
+            return Some(Refusal::DotsUsedUp);
         }
         None
     }
 
-    /// Issues what a command says that isn't refused.
-    pub(crate) fn command(&self, config: &Config, command: Command) -> Result<(Self, Op), NoMemory>
+    /// Whether what a message brings would be added as one delta more than there can be.
+    fn overflows_by(&self, message: &Message) -> bool
+        ensures { result ≡ overflows self.now (content_of message.now.body) }
+    {
+        match message.body.state() {
+            Some(state) => self.overflows(state),
+            None => self.overflows(&State::bottom(self.knowledge.alloc)),
+        }
+    }
+
+    /// Why an operation that comes by itself isn't heard, if it isn't.
+    pub(crate) fn refusal_to_hear_op(&self) -> Option<Refusal>
+        ensures { result ≡ refused_hear_op self.now }
+    {
+        if self.lacks_numbers(1) {
+            Some(Refusal::DotsUsedUp)
+        } else {
+            None
+        }
+    }
+
+    /// What goes on after a command that isn't refused, and the operation that it issues.
+    pub(crate) fn command(&self, config: &Config, command: Command) -> Result<(Next, Op), NoMemory>
         requires { refused_command config.now self.now.origin self.now.state command ≡ None }
-        ensures run { IfOk result (λ both. both.0 ≡ grown self.now (meaning_of (both.1 ∷ []) ∷ [])) }
+        ensures next { IfOk result (λ both. both.0 ≡ adding (knowledge_of self.now) (meaning_of (both.1 ∷ []) ∷ []) self.now.peers) }
         ensures operation { IfOk result (λ both. both.1 ≡ next_operation self.now.state self.now.origin (said_by config.now self.now.state command)) }
     {
-        let operation = operation_of(self.alloc, config, self.origin, &self.state, command)?;
-        let delta = State::delta_of(self.alloc, &operation)?;
-        let run = self.joined(&delta)?;
-        Ok((run, operation))
-    }
-
-    /// What becomes of the start gate at this moment. It stays open once it is.
-    pub(crate) fn opening(&self, config: &Config, now: u64) -> Opening
-        requires { self.now.moments.last ≤ now }
-        ensures { result ≡ opening_at config.now self.now now }
-    {
-        if self.is_open {
-            return Opening::Opened;
-        }
-        gate(config, &self.state, self.moments.booted, now)
-    }
-
-    /// The moments after a tick at this one.
-    pub(crate) fn moments_at(&self, now: u64) -> Moments
-        requires { self.now.moments.last ≤ now }
-        ensures moments { result ≡ record { booted = self.now.moments.booted; last = now } }
-        ensures order { result.booted ≤ result.last }
-    {
-        Moments {
-            booted: self.moments.booted,
-            last: now,
-        }
-    }
-
-    /// What is noted by a tick at this moment, and what the applications come to by it.
-    pub(crate) fn look_after(&self, config: &Config, now: u64) -> Result<(Waits, Turn), NoMemory>
-        requires { too_few_left config.now self.now.state self.now.origin ≡ false }
-        ensures noted { IfOk result (λ both. (notes : List Note) → self.now.waits ≡ waits_of config.now notes
-            → both.0 ≡ waits_of config.now (record { state = self.now.state; moment = now } ∷ notes)) }
-        ensures turn { IfOk result (λ both. IsMade self.now.state (turn_of config.now self.now.origin both.0 now self.now.state) both.1) }
-    {
-        let mut waits = self.waits.copy()?;
-        waits.note(config, &self.state, now);
-        let turn = tick(self.alloc, config, self.origin, &self.state, &waits, now)?;
-        Ok((waits, turn))
-    }
-
-    /// What runs after claims that left this state.
-    pub(crate) fn claimed(&self, moments: Moments, waits: Waits, state: State) -> Self
-        requires order { moments.booted ≤ moments.last }
-        requires grown { IsGrownFrom self.now.state state }
-        ensures { result ≡ claimed moments waits state self.now }
-    {
-        Running {
-            alloc: self.alloc,
-            origin: self.origin,
-            moments,
-            is_open: true,
-            waits,
-            state,
-        }
-    }
-
-    /// What runs after a tick that did nothing but go by.
-    pub(crate) fn held(mut self, moments: Moments) -> Self
-        requires { moments.booted ≤ moments.last }
-        ensures { result ≡ held moments self }
-    {
-        self.moments = moments;
-        self
-    }
-
-    /// What runs after a tick that claimed nothing.
-    pub(crate) fn ticked(mut self, moments: Moments, waits: Waits) -> Self
-        requires { moments.booted ≤ moments.last }
-        ensures { result ≡ ticked moments waits self }
-    {
-        self.moments = moments;
-        self.is_open = true;
-        self.waits = waits;
-        self
-    }
-
-    /// The message that is shipped to a node: the whole state.
-    pub(crate) fn ship(&self, to: NodeId) -> Result<Message, NoMemory>
-        ensures { IfOk result (λ message. message ≡ message_of self.now to) }
-    {
-        let state = self.state.copy()?;
-        Ok(Message {
-            from: self.origin,
-            to,
-            only: None,
-            up_to: 0,
-            body: Body::Whole(state),
-            ack: None,
-        })
-    }
-
-    /// What runs after a message is heard, where it adds anything.
-    pub(crate) fn hear_body(&self, body: &Body) -> Result<Option<Self>, NoMemory>
-        ensures { IfOk result (λ run. let content = content_of body.now in run ≡ cond (is_below content self.now.state) None (Some (grown self.now (content ∷ [])))) }
-    {
-        match body.state() {
-            Some(state) => self.hear(state),
-            None => self.hear(&State::bottom(self.alloc)),
-        }
-    }
-
-    /// What runs after this body is heard, where it adds anything.
-    pub(crate) fn hear(&self, body: &State) -> Result<Option<Self>, NoMemory>
-        ensures { IfOk result (λ run. run ≡ cond (is_below body.now self.now.state) None (Some (grown self.now (body.now ∷ [])))) }
-    {
-        if body.leq(&self.state) {
-            return Ok(None);
-        }
-        let run = self.joined(body)?;
-        Ok(Some(run))
-    }
-
-    /// What runs after one operation is heard, where it adds anything.
-    pub(crate) fn hear_op(&self, operation: &Op) -> Result<Option<Self>, NoMemory>
-        ensures { IfOk result (λ run. let body = meaning_of (operation.now ∷ []) in run ≡ cond (is_below body self.now.state) None (Some (grown self.now (body ∷ [])))) }
-    {
-        let delta = State::delta_of(self.alloc, operation)?;
-        let run = self.hear(&delta)?;
-        Ok(run)
-    }
-
-    /// What runs after a state is joined.
-    fn joined(&self, other: &State) -> Result<Self, NoMemory>
-        ensures { IfOk result (λ run. run ≡ grown self.now (other.now ∷ [])) }
-    {
-        let waits = self.waits.copy()?;
-        let state = self.state.join(other)?;
-        Ok(Running {
-            alloc: self.alloc,
-            origin: self.origin,
-            moments: self.moments,
-            is_open: self.is_open,
-            waits,
-            state,
-        })
+        let known = &self.knowledge;
+        known.known();
+        let operation = operation_of(known.alloc, config, known.origin, &known.state, command)?;
+        let delta = State::delta_of(known.alloc, &operation)?;
+        let peers = known.peers.copy()?;
+        let next = known.added(delta, peers)?;
+        Ok((next, operation))
     }
 }
 
@@ -344,11 +265,12 @@ fn is_for(own: Origin, message: &Message) -> bool
     message.to == own.node && for_all
 }
 
-/// The operation of a boot.
-fn up_of(origin: Origin) -> Op
-    ensures { result ≡ up origin }
+/// How many counters and numbers of deltas a tick is taken to need.
+fn needed(config: &Config) -> u64
+    ensures needed { result ≡ needed config.now }
+    ensures few { result ≤ 2 ^ 16 }
 {
-    Op::new(Dot { origin, n: 1 }, Act::Up).unwrap()
+    u64::from(config.apps()).max(1)
 }
 
 /// Whether fewer counters of an incarnation are left than a tick is taken to need.

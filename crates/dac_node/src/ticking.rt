@@ -1,34 +1,43 @@
 //! What an accepted tick does.
 
-ghost use Rattle.std.specs.Prelude.{◌≡◌, ◌≤◌, IfOk, IfSome, None, Some, unwrap_or};
+ghost use Rattle.std.specs.Prelude.{◌≡◌, ◌≤◌, ◌∷◌, List, IfOk, false, fold, unwrap_or};
+ghost use Rattle.dac_meaning.specs.StateValue.{join};
 ghost use Rattle.dac_messages.specs.declared.event.Event.TheVariants.{Tick};
-ghost use Rattle.dac_node.specs.EventRefusals.{refusal_to_tick};
-ghost use Rattle.dac_node.specs.Deeds.{opening_at};
-ghost use Rattle.dac_node.specs.After.{run_after, claimed, IsGrownFrom, KeepsTime};
+ghost use Rattle.dac_decide.specs.FailoverWait.{Note, waits_of};
+ghost use Rattle.dac_ticks.specs.Ticks.{turn_of};
+ghost use Rattle.dac_ticks.specs.Progress.{IsMade};
+ghost use Rattle.dac_rules.specs.EventRefusals.{refusal_to_tick, too_few_left};
+ghost use Rattle.dac_rules.specs.Deeds.{meanings, opening_at};
+ghost use Rattle.dac_node.specs.Knowing.{ticking};
 ghost use Rattle.dac_node.specs.Changes.{Effect};
 
 use crate::change::{After, Change};
-use crate::moments::Moments;
+use crate::knowledge::Knowledge;
+use crate::next::Next;
 use crate::running::Running;
 use dac_base::NoMemory;
 use dac_config::Config;
-use dac_decide::{Opening, Waits};
+use dac_decide::{Opening, Waits, gate};
+use dac_lattice::Lattice;
 use dac_messages::Reply;
-use dac_state::State;
-use dac_ticks::Turn;
+use dac_rules::Moments;
+use dac_state::{Op, State};
+use dac_ticks::{Turn, tick as turn};
+use std::alloc::Global;
 
-/// What a tick that isn't refused does at a running controller. Where its start gate is shut, or where it gives up, that
-/// takes no memory.
+/// What a tick that isn't refused does at a running controller. Where it gives up, that takes no memory.
 pub(crate) fn tick(config: &Config, last: u32, run: &Running, now: u64) -> Result<Change, NoMemory>
     requires { refusal_to_tick config.now run.now now ≡ None }
     ensures { IfOk result (Effect config.now last run.now (Tick now)) }
 {
     match run.opening(config, now) {
-        Opening::Shut => Ok(Change {
-            last,
-            after: After::Held(run.moments_at(now)),
-            reply: Reply::Held,
-        }),
+        Opening::Shut => {
+            let known = &run.knowledge;
+            let waits = known.waits.copy()?;
+            let state = known.state.copy()?;
+            let next = known.ticked(now, false, waits, state, Vec::new(known.alloc))?;
+            Ok(Change::going_on(last, next, Reply::Held))
+        }
         Opening::GiveUp => Ok(Change {
             last,
             after: After::Off,
@@ -38,30 +47,105 @@ pub(crate) fn tick(config: &Config, last: u32, run: &Running, now: u64) -> Resul
     }
 }
 
-/// What a tick that isn't refused does where the start gate is open. Where nothing is claimed, no state is copied.
+/// What a tick that isn't refused does where the start gate is open.
 fn look_after(config: &Config, last: u32, run: &Running, now: u64) -> Result<Change, NoMemory>
     requires accepted { refusal_to_tick config.now run.now now ≡ None }
     requires open { opening_at config.now run.now now ≡ Opening.Opened }
     ensures { IfOk result (Effect config.now last run.now (Tick now)) }
 {
-    let (waits, turn) = run.look_after(config, now)?;
+    let known = &run.knowledge;
+    let (waits, turn) = known.look_after(config, now)?;
     let Turn { ops, passed, left } = turn;
-    Ok(Change {
-        last,
-        after: after_claims(run, run.moments_at(now), waits, left),
-        reply: Reply::Ticked { ops, passed },
-    })
+    let deltas = deltas_of(known.alloc, ops.as_slice())?;
+    let state = known.left_by(left)?;
+    let next = known.ticked(now, true, waits, state, deltas)?;
+    Ok(Change::going_on(last, next, Reply::Ticked { ops, passed }))
 }
 
-/// What runs after a tick whose claims left this state, where there are any.
-fn after_claims(run: &Running, moments: Moments, waits: Waits, left: Option<State>) -> After
-    requires order { moments.booted ≤ moments.last }
-    requires grown { IfSome left (IsGrownFrom run.now.state) }
-    ensures run { run_after result (Some run.now) ≡ Some (claimed moments waits (unwrap_or left run.now.state) run.now) }
-    ensures order { KeepsTime result }
+/// The delta of each operation.
+fn deltas_of(alloc: Global, operations: &[Op]) -> Result<Vec<State>, NoMemory>
+    ensures { IfOk result (λ deltas. deltas.items ≡ meanings operations.now) }
 {
-    match left {
-        None => After::Ticked { moments, waits },
-        Some(state) => After::Runs(run.claimed(moments, waits, state)),
+    let mut deltas = Vec::new(alloc);
+    for operation in operations {
+        deltas.push(State::delta_of(alloc, operation)?)?;
+    }
+    Ok(deltas)
+}
+
+impl Running {
+    /// What becomes of the start gate at this moment. It stays open once it is.
+    fn opening(&self, config: &Config, now: u64) -> Opening
+        requires { self.now.moments.last ≤ now }
+        ensures { result ≡ opening_at config.now self.now now }
+    {
+        let known = &self.knowledge;
+        known.known();
+        if known.is_open {
+            return Opening::Opened;
+        }
+        gate(config, &known.state, known.moments.booted, now)
+    }
+}
+
+impl Knowledge {
+    /// What is noted by a tick at this moment, and what the applications come to by it.
+    fn look_after(&self, config: &Config, now: u64) -> Result<(Waits, Turn), NoMemory>
+        requires { too_few_left config.now self.now.state self.now.origin ≡ false }
+        ensures noted { IfOk result (λ both. (notes : List Note) → self.now.waits ≡ waits_of config.now notes
+            → both.0 ≡ waits_of config.now (record { state = self.now.state; moment = now } ∷ notes)) }
+        ensures turn { IfOk result (λ both. IsMade self.now.state (turn_of config.now self.now.origin both.0 now self.now.state) both.1) }
+    {
+        let mut waits = self.waits.copy()?;
+        waits.note(config, &self.state, now);
+        let turn = turn(self.alloc, config, self.origin, &self.state, &waits, now)?;
+        Ok((waits, turn))
+    }
+
+    /// The state after claims that left this one, where there were any.
+    fn left_by(&self, left: Option<State>) -> Result<State, NoMemory>
+        ensures { IfOk result (λ state. state ≡ unwrap_or left self.now.state) }
+    {
+        match left {
+            Some(state) => Ok(state),
+            None => {
+                let state = self.state.copy()?;
+                Ok(state)
+            }
+        }
+    }
+
+    /// What goes on after a tick at this moment, where the gate is so, so much is noted, and the claims' deltas left this
+    /// state.
+    fn ticked(
+        &self,
+        now: u64,
+        is_open: bool,
+        waits: Waits,
+        state: State,
+        deltas: Vec<State>,
+    ) -> Result<Next, NoMemory>
+        requires order { self.now.moments.last ≤ now }
+        requires grown { state ≡ fold join self.now.state deltas.items }
+        ensures { IfOk result (λ next. next ≡ ticking self.now now is_open waits deltas.items) }
+    {
+        let peers = self.peers.copy()?;
+        let knowledge = Knowledge {
+            alloc: self.alloc,
+            origin: self.origin,
+            moments: Moments {
+                booted: self.moments.booted,
+                last: now,
+            },
+            is_open,
+            waits,
+            state,
+            peers,
+        };
+        Ok(Next {
+            knowledge,
+            deltas,
+            trim: 0,
+        })
     }
 }

@@ -62,7 +62,7 @@ receipt p node = option_map (λ (g : Place). (record { node = node; inc = g.inc 
 -- the node has acknowledged all deltas, of which there are so many
 abbrev pub has_all : ℕ → Option Place → Bool
 has_all count None = false
-has_all count (Some p) = nat_eq p.number count
+has_all count (Some p) = nat_le count p.number
 
 -- nothing is to be shipped to the node: it has acknowledged all deltas, and is owed no answer
 abbrev pub is_up_to_date : PeersValue → StateValue → ℕ → ℕ → NodeId → Bool

@@ -121,7 +121,7 @@ impl Peers {
         ensures { result ≡ is_up_to_date self.now state.now base count to }
     {
         match self.begins(state, base, to) {
-            Some(place) => place.number == count && !self.owed.contains(to),
+            Some(place) => count <= place.number && !self.owed.contains(to),
             None => false,
         }
     }

@@ -3,3 +3,4 @@ mod Playing
 mod ScriptRuns
 mod Shares
 mod Simulating
+mod WireTexts

@@ -12,15 +12,17 @@ use Rattle.dac_config.specs.Table.{Table, node_name}
 use Rattle.dac_messages.specs.declared.reply.Reply.{Reply}
 use Rattle.dac_events.specs.declared.WorldEvent.{WorldEvent}
 use Rattle.dac_worlds.specs.declared.fault.WorldFault.{WorldFault}
-use Rattle.dac_node.specs.NodeValue.{origin_of, state_of}
+use Rattle.dac_rules.specs.NodeValue.{origin_of, state_of}
 use Rattle.dac_worlds.specs.WorldValue.{WorldValue}
-use Rattle.dac_node.specs.ModelNode.{ModelRun, joined, shown}
-use Rattle.dac_worlds.specs.ModelWorld.{ModelWorld, Shows, Follows, Done, Lacked, start, happens, out_of_memory, numbered}
+use Rattle.dac_rules.specs.ModelNode.{ModelRun, joined, shown}
+use Rattle.dac_worlds.specs.ModelWorld.{ModelWorld, Shows, Follows, Done, Lacked, start, happens, out_of_memory, numbered, counted}
+use Rattle.dac_wire.specs.Decoding.{packet_at}
 use Rattle.dac_play.specs.declared.answers.Counts.{Counts}
 use Rattle.dac_script.specs.declared.line.ScriptLine.{ScriptLine}
 use Rattle.dac_script.specs.declared.line.ScriptLine.TheVariants as says
 use Rattle.dac_play.specs.Answers.{answer_text}
 use Rattle.dac_play.specs.Texts.{shared_text}
+use Rattle.dac_play.specs.Wires.{message_text, fed_text}
 use Rattle.dac_play.specs.Sharing.{origin_in, state_in, shared, Leads}
 use Rattle.dac_play.specs.Play.{state_at, origin_at, shown_text, bytes_text, compare_text, counts_in, after_line, script_text, PlaysLine}
 
@@ -84,6 +86,12 @@ page_plays table v node text lt is_text = record { each = λ w shows. (is_text �
 
 pub state_plays : (table : Table) (v : WorldValue) (node : NodeId) (text : List ℕ) → node.0 < length v.nodes → text ≡ bytes_text (node_name table node) (state_at v node) → PlaysLine table v (says.State node) text v
 state_plays table v node text lt is_text = record { each = λ w shows. (is_text ∙ ap (bytes_text (node_name table node)) (state_shown table w v node shows lt), shows) }
+
+pub bytes_plays : (table : Table) (v : WorldValue) (message : ℕ) (text : List ℕ) → text ≡ message_text table message (counted v.messages message) → PlaysLine table v (says.Bytes message) text v
+bytes_plays table v message text is_text = record { each = λ w shows. (is_text ∙ ap (λ messages. message_text table message (counted messages message)) shows.messages, shows) }
+
+pub feed_plays : (table : Table) (v : WorldValue) (bytes text : List ℕ) → text ≡ fed_text (packet_at table bytes) → PlaysLine table v (says.Feed bytes) text v
+feed_plays table v bytes text is_text = record { each = λ w shows. (is_text, shows) }
 
 pub share_plays : (table : Table) (old new : WorldValue) (text : List ℕ) → Leads table old (shared table) new → text ≡ shared_text (length new.messages - length old.messages) → PlaysLine table old says.Share text new
 share_plays table old new text leads is_text = record {

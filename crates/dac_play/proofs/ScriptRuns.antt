@@ -41,6 +41,8 @@ line_leads t w says.Share = tells t w (pairs_in w)
 line_leads t w (says.Page node) = refl
 line_leads t w (says.State node) = refl
 line_leads t w (says.Same first second) = refl
+line_leads t w (says.Bytes message) = refl
+line_leads t w (says.Feed bytes) = refl
 
 lines_lead : (t : Table) (w : ModelWorld) (lines : List ScriptLine) → run_from t w (events_from t w lines) ≡ world_from t w lines
 lines_lead t w [] = refl

@@ -3,6 +3,7 @@ pub mod Ticks
 pub mod Endings
 pub mod Checks
 pub mod Answers
+pub mod Wires
 pub mod Pairs
 pub mod Sharing
 pub mod Play

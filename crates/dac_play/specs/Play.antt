@@ -7,16 +7,18 @@ use Rattle.dac_dots.specs.declared.dot.Origin.{Origin}
 use Rattle.dac_config.specs.Table.{Table, node_name}
 use Rattle.dac_meaning.specs.StateValue.{StateValue}
 use Rattle.dac_state.specs.StateSpelling.{spelling_of}
-use Rattle.dac_node.specs.NodeValue.{origin_of, state_of}
+use Rattle.dac_rules.specs.NodeValue.{origin_of, state_of}
 use Rattle.dac_worlds.specs.WorldValue.{WorldValue}
-use Rattle.dac_worlds.specs.ModelWorld.{ModelWorld, Shows, happens}
+use Rattle.dac_worlds.specs.ModelWorld.{ModelWorld, Shows, happens, counted}
 use Rattle.dac_status.specs.Summaries.{summary_of}
+use Rattle.dac_wire.specs.Decoding.{packet_at}
 use Rattle.dac_status.specs.Texts.{header_text, page_text}
 use Rattle.dac_script.specs.declared.line.ScriptLine.{ScriptLine}
 use Rattle.dac_script.specs.declared.line.ScriptLine.TheVariants as says
 use Rattle.dac_play.specs.declared.answers.Counts.{Counts}
-use Rattle.dac_play.specs.Texts.{shared_text, state_text, same_text}
+use Rattle.dac_play.specs.Texts.{shared_text, hex_text, same_text}
 use Rattle.dac_play.specs.Answers.{answer_text}
+use Rattle.dac_play.specs.Wires.{message_text, fed_text}
 use Rattle.dac_play.specs.Pairs.{TellsEachOther}
 use Rattle.dac_play.specs.Sharing.{origin_in, state_in, told, shared, Leads}
 
@@ -46,7 +48,7 @@ shown_text table node origin state = header_text (node_name table node) origin +
 -- the bytes of the state of a node of this name, or that it is off
 abbrev pub bytes_text : List ℕ → Option StateValue → List ℕ
 bytes_text node None = header_text node None
-bytes_text node (Some state) = state_text (spelling_of state)
+bytes_text node (Some state) = hex_text (spelling_of state)
 
 -- whether the states of two nodes of these names have the same bytes, or the first of them that is off
 abbrev pub compare_text : List ℕ → List ℕ → Option StateValue → Option StateValue → List ℕ
@@ -65,6 +67,8 @@ after_line table w says.Share = shared table w
 after_line table w (says.Page node) = w
 after_line table w (says.State node) = w
 after_line table w (says.Same first second) = w
+after_line table w (says.Bytes message) = w
+after_line table w (says.Feed bytes) = w
 
 -- what is printed for a line
 abbrev pub line_text : Table → ModelWorld → ScriptLine → List ℕ
@@ -73,6 +77,8 @@ line_text table w says.Share = shared_text (length (shared table w).messages - l
 line_text table w (says.Page node) = shown_text table node (origin_in w node) (state_in w node)
 line_text table w (says.State node) = bytes_text (node_name table node) (state_in w node)
 line_text table w (says.Same first second) = compare_text (node_name table first) (node_name table second) (state_in w first) (state_in w second)
+line_text table w (says.Bytes message) = message_text table message (counted w.messages message)
+line_text table w (says.Feed bytes) = fed_text (packet_at table bytes)
 
 -- what is printed for a script, line by line
 abbrev pub script_text : Table → ModelWorld → List ScriptLine → List ℕ

@@ -36,6 +36,8 @@ line_events t w says.Share = telling t w (pairs_in w)
 line_events t w (says.Page node) = []
 line_events t w (says.State node) = []
 line_events t w (says.Same first second) = []
+line_events t w (says.Bytes message) = []
+line_events t w (says.Feed bytes) = []
 
 -- the events that lines are, one after another
 abbrev pub events_from : Table → ModelWorld → List ScriptLine → List WorldEvent

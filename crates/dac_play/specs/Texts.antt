@@ -62,9 +62,9 @@ abbrev pub same_text : Bool → List ℕ
 same_text true = codes "same\n"
 same_text false = codes "differ\n"
 
--- the bytes of a state, each as two hexadecimal digits
-abbrev pub state_text : List ℕ → List ℕ
-state_text bytes = encode_lower bytes ++ codes "\n"
+-- the bytes of a state or of a message, each as two hexadecimal digits
+abbrev pub hex_text : List ℕ → List ℕ
+hex_text bytes = encode_lower bytes ++ codes "\n"
 
 abbrev pub input_fault_text : InputFault → List ℕ
 input_fault_text fault = codes "input fault " ++ (decimal (input_number fault) ++ (codes " " ++ (input_name fault ++ codes "\n")))

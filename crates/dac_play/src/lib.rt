@@ -16,6 +16,7 @@ mod sim;
 mod states;
 mod texts;
 mod ticks;
+mod wires;
 
 pub use answers::{Counts, answer_line};
 pub use checking::{canonical, check, check_source};
@@ -23,7 +24,8 @@ pub use ending::{Ending, print, refuse};
 pub use sim::{Stop, play, simulate, simulate_source};
 pub use texts::{
     OUT_OF_MEMORY, booted_line, config_fault_line, crashed_line, failure_line, gave_up_line,
-    heard_line, held_line, input_fault_line, issued_line, no_message_line, no_operation_line,
-    refused_line, same_line, script_fault_line, shared_line, shipped_line, state_line,
+    heard_line, held_line, hex_line, input_fault_line, issued_line, no_message_line,
+    no_operation_line, refused_line, same_line, script_fault_line, shared_line, shipped_line,
 };
 pub use ticks::ticked_lines;
+pub use wires::{fed_line, message_line, wire_fault_line, wire_ok_line};

@@ -16,6 +16,7 @@ use crate::ending::{Ending, print, refuse};
 use crate::sharing::share;
 use crate::states::{bytes_line, compare_line, shown_lines};
 use crate::texts::{OUT_OF_MEMORY, shared_line};
+use crate::wires::{fed_line, message_line};
 use dac_base::NoMemory;
 use dac_config::Config;
 use dac_core::{World, WorldEvent};
@@ -93,6 +94,8 @@ fn step(
         ScriptLine::Page(node) => shown_lines(alloc, config, world, *node),
         ScriptLine::State(node) => bytes_line(alloc, config, world, *node),
         ScriptLine::Same(first, second) => compare_line(alloc, config, world, *first, *second),
+        ScriptLine::Bytes(message) => message_line(alloc, config, world.messages(), *message),
+        ScriptLine::Feed(bytes) => fed_line(alloc, config, bytes.as_slice()),
     }
 }
 

@@ -5,7 +5,7 @@ ghost use Rattle.std.specs.Option.{option_copied};
 ghost use Rattle.dac_config.specs.Table.{node_count, node_name};
 ghost use Rattle.dac_play.specs.Play.{state_at, origin_at, shown_text, bytes_text, compare_text};
 
-use crate::texts::{same_line, state_line};
+use crate::texts::{hex_line, same_line};
 use dac_base::{NoMemory, NodeId};
 use dac_config::Config;
 use dac_core::World;
@@ -56,7 +56,7 @@ pub fn bytes_line(
         return header(alloc, config, node, None);
     };
     let bytes = state.encode()?;
-    let line = state_line(alloc, &bytes)?;
+    let line = hex_line(alloc, &bytes)?;
     Ok(line)
 }
 

@@ -1,7 +1,7 @@
 //! The lines that the program prints, each ended by a line feed.
 
 ghost use Rattle.std.specs.Prelude.{◌≡◌, IfOk};
-ghost use Rattle.dac_play.specs.Texts.{booted_text, crashed_text, held_text, gave_up_text, issued_text, shipped_text, shared_text, heard_text, no_message_text, no_operation_text, refused_text, same_text, state_text, input_fault_text, script_fault_text, config_fault_text, failure_text};
+ghost use Rattle.dac_play.specs.Texts.{booted_text, crashed_text, held_text, gave_up_text, issued_text, shipped_text, shared_text, heard_text, no_message_text, no_operation_text, refused_text, same_text, hex_text, input_fault_text, script_fault_text, config_fault_text, failure_text};
 
 use dac_base::NoMemory;
 use dac_config::printed_name;
@@ -129,9 +129,9 @@ pub fn same_line(same: bool) -> &'static str
     if same { "same\n" } else { "differ\n" }
 }
 
-/// A node holds a state of these bytes: each as two digits, of which the letters are small.
-pub fn state_line(alloc: Global, bytes: &[u8]) -> Result<Vec<u8>, NoMemory>
-    ensures { IfOk result (λ line. line.items ≡ state_text bytes.now) }
+/// The bytes of a state or of a message: each as two digits, of which the letters are small.
+pub fn hex_line(alloc: Global, bytes: &[u8]) -> Result<Vec<u8>, NoMemory>
+    ensures { IfOk result (λ line. line.items ≡ hex_text bytes.now) }
 {
     let mut line = hex::encode(alloc, bytes)?.into_bytes();
     line.push(b'\n')?;

@@ -1,3 +1,4 @@
+mod Digits
 mod LineFaults
 mod LineByLine
 mod Numbers

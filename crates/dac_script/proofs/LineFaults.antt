@@ -13,16 +13,17 @@ use Rattle.dac_base.specs.declared.NodeId.{NodeId}
 use Rattle.dac_config.specs.Table.{Table, node_named}
 use Rattle.dac_script.specs.declared.asked.Wish.{Wish}
 use Rattle.dac_script.specs.declared.fault.ScriptFaultKind.{ScriptFaultKind}
-use Rattle.dac_script.specs.declared.fault.ScriptFaultKind.TheVariants.{BadWord, BadCount, BadName, BadNumber, UnknownActor}
+use Rattle.dac_script.specs.declared.fault.ScriptFaultKind.TheVariants.{BadWord, BadCount, BadName, BadNumber, UnknownActor, BadHex}
 use Rattle.dac_script.specs.declared.line.ScriptLine.{ScriptLine}
 use Rattle.dac_script.specs.declared.line.Verb.{Verb}
 use Rattle.dac_script.specs.declared.line.Verb.TheVariants as verb
 use Rattle.dac_script.specs.Faults.{script_number}
-use Rattle.dac_script.specs.Words.{name_in, number_in}
+use Rattle.dac_script.specs.Words.{name_in, number_in, bytes_in}
 use Rattle.dac_script.specs.Asked.{◌>>=◌, one, three, named, truth, actor, node_and_number, node_and_about, node_and_app, wish_in}
-use Rattle.dac_script.specs.Line.{verb_of, said_by, line_of, permit_line, share_line, same_line}
-use Rattle.dac_script.specs.LineFaults.{Role, roles_of, IsNoFlag, IsWrong, AreWrong, HasFault, IsFaultless, IsLeast}
-use Rattle.dac_script.specs.LineFaults.Role.{Actor, Application, About, Number, Flag}
+use Rattle.dac_script.specs.Line.{verb_of, said_by, line_of, permit_line, share_line, same_line, bytes_line, feed_line}
+use Rattle.dac_script.specs.LineFaults.{Role, roles_of, IsNoFlag, IsNoHex, IsWrong, AreWrong, HasFault, IsFaultless, IsLeast}
+use Rattle.dac_script.specs.LineFaults.Role.{Actor, Application, About, Number, Flag, Hex}
+use Rattle.dac_script.proofs.Digits.{no_bytes, some_bytes}
 
 -- what is answered, where a line has these kinds of fault
 abbrev Judges : {X : Type 0} → (ScriptFaultKind → Type 0) → Result X ScriptFaultKind → Type 0
@@ -57,12 +58,13 @@ module _ (P : ScriptFaultKind → Type 0) where
   said g (Err kind) is = is
 
   -- nothing is left where no kind is so low
-  none_left : Low 6 P → (kind : ScriptFaultKind) → ¬ P kind
+  none_left : Low 7 P → (kind : ScriptFaultKind) → ¬ P kind
   none_left low BadWord h = absurd (omega (arith, low BadWord h))
   none_left low BadCount h = absurd (omega (arith, low BadCount h))
   none_left low BadName h = absurd (omega (arith, low BadName h))
   none_left low BadNumber h = absurd (omega (arith, low BadNumber h))
   none_left low UnknownActor h = absurd (omega (arith, low UnknownActor h))
+  none_left low BadHex h = absurd (omega (arith, low BadHex h))
 
 -- ---- the faults of words in their roles
 
@@ -70,11 +72,14 @@ higher : (m n : ℕ) (P : ScriptFaultKind → Type 0) → m ≤ n → Low n P �
 higher m n P le low kind h = omega (arith, low kind h, le)
 
 -- what was looked for and is there
-given : {X : Type 0} (kind : ScriptFaultKind) (o : Option X) (x : X) → o ≡ Some x → Low 6 (λ k. (k ≡ kind) × (o ≡ None))
+given : {X : Type 0} (kind : ScriptFaultKind) (o : Option X) (x : X) → o ≡ Some x → Low 7 (λ k. (k ≡ kind) × (o ≡ None))
 given kind o x is k h = absurd (none_given o x is h.1)
 
-flag_given : (word : List ℕ) → ¬ IsNoFlag word → Low 6 (λ k. (k ≡ BadName) × IsNoFlag word)
+flag_given : (word : List ℕ) → ¬ IsNoFlag word → Low 7 (λ k. (k ≡ BadName) × IsNoFlag word)
 flag_given word is k h = absurd (is h.1)
+
+hex_given : (word bytes : List ℕ) → bytes_in word ≡ Some bytes → Low 7 (λ k. (k ≡ BadHex) × IsNoHex word)
+hex_given word bytes is k h = absurd (some_bytes word bytes is h.1)
 
 module _ (table : Table) where
   word_low : (role : Role) (word : List ℕ) → Low 3 (IsWrong table role word)
@@ -83,6 +88,7 @@ module _ (table : Table) where
   word_low About word kind h = omega (arith, ap script_number h.0)
   word_low Number word kind h = omega (arith, ap script_number h.0)
   word_low Flag word kind h = omega (arith, ap script_number h.0)
+  word_low Hex word kind h = omega (arith, ap script_number h.0)
 
   number_low : (word : List ℕ) → Low 4 (IsWrong table Number word)
   number_low word kind h = omega (arith, ap script_number h.0)
@@ -91,7 +97,7 @@ module _ (table : Table) where
     actor_named : Low 5 (IsWrong table Actor word)
     actor_named kind h = elim h [ inl a ↦ absurd (none_given (name_in word) name is a.1) | inr b ↦ omega (arith, ap script_number b.0) ]
 
-    actor_known : (node : NodeId) → node_named table name ≡ Some node → Low 6 (IsWrong table Actor word)
+    actor_known : (node : NodeId) → node_named table name ≡ Some node → Low 7 (IsWrong table Actor word)
     actor_known node known kind h = elim h [
       | inl a ↦ absurd (none_given (name_in word) name is a.1)
       | inr b ↦ absurd (none_given (node_named table name) node known (subst (λ o. IsSomeAnd o (λ name. node_named table name ≡ None)) is b.1))
@@ -145,8 +151,8 @@ module _ (table : Table) where
       let P = AreWrong table roles words in
       look P BadName (name_in a) _ (are_low 3 roles words refl (all_low roles words)) (λ none. inr (0, (Actor, a), omega arith, refl, inl (refl, none))) (λ name is.
       look P BadNumber (number_in b) _ (are_low 4 roles words refl (higher 4 5 _ (omega arith) (actor_named a name is), (number_low b, tt))) (λ none. inr (1, (Number, b), omega arith, refl, (refl, none))) (λ n also.
-      look P UnknownActor (node_named table name) _ (are_low 5 roles words refl (actor_named a name is, (higher 5 6 _ (omega arith) (given BadNumber (number_in b) n also), tt))) (λ none. inr (0, (Actor, a), omega arith, refl, actor_unknown a name is none)) (λ node known.
-      none_left P (are_low 6 roles words refl (actor_known a name is node known, (given BadNumber (number_in b) n also, tt))))))
+      look P UnknownActor (node_named table name) _ (are_low 5 roles words refl (actor_named a name is, (higher 5 7 _ (omega arith) (given BadNumber (number_in b) n also), tt))) (λ none. inr (0, (Actor, a), omega arith, refl, actor_unknown a name is none)) (λ node known.
+      none_left P (are_low 7 roles words refl (actor_known a name is node known, (given BadNumber (number_in b) n also, tt))))))
   number_judged (a ∷ b ∷ c ∷ words) = miscounted (Actor ∷ Number ∷ []) (a ∷ b ∷ c ∷ words) (λ e. absurd (omega (arith, e)))
 
   about_judged : (words : List (List ℕ)) → Judges (AreWrong table (Actor ∷ About ∷ []) words) (node_and_about table words)
@@ -159,8 +165,8 @@ module _ (table : Table) where
       let low = are_low 3 roles words refl (all_low roles words) in
       look P BadName (name_in a) _ low (λ none. inr (0, (Actor, a), omega arith, refl, inl (refl, none))) (λ name is.
       look P BadName (name_in b) _ low (λ none. inr (1, (About, b), omega arith, refl, (refl, none))) (λ other also.
-      look P UnknownActor (node_named table name) _ (are_low 5 roles words refl (actor_named a name is, (higher 5 6 _ (omega arith) (given BadName (name_in b) other also), tt))) (λ none. inr (0, (Actor, a), omega arith, refl, actor_unknown a name is none)) (λ node known.
-      none_left P (are_low 6 roles words refl (actor_known a name is node known, (given BadName (name_in b) other also, tt))))))
+      look P UnknownActor (node_named table name) _ (are_low 5 roles words refl (actor_named a name is, (higher 5 7 _ (omega arith) (given BadName (name_in b) other also), tt))) (λ none. inr (0, (Actor, a), omega arith, refl, actor_unknown a name is none)) (λ node known.
+      none_left P (are_low 7 roles words refl (actor_known a name is node known, (given BadName (name_in b) other also, tt))))))
   about_judged (a ∷ b ∷ c ∷ words) = miscounted (Actor ∷ About ∷ []) (a ∷ b ∷ c ∷ words) (λ e. absurd (omega (arith, e)))
 
   app_judged : (words : List (List ℕ)) → Judges (AreWrong table (Actor ∷ Application ∷ []) words) (node_and_app table words)
@@ -173,8 +179,8 @@ module _ (table : Table) where
       let low = are_low 3 roles words refl (all_low roles words) in
       look P BadName (name_in a) _ low (λ none. inr (0, (Actor, a), omega arith, refl, inl (refl, none))) (λ name is.
       look P BadName (name_in b) _ low (λ none. inr (1, (Application, b), omega arith, refl, (refl, none))) (λ app also.
-      look P UnknownActor (node_named table name) _ (are_low 5 roles words refl (actor_named a name is, (higher 5 6 _ (omega arith) (given BadName (name_in b) app also), tt))) (λ none. inr (0, (Actor, a), omega arith, refl, actor_unknown a name is none)) (λ node known.
-      none_left P (are_low 6 roles words refl (actor_known a name is node known, (given BadName (name_in b) app also, tt))))))
+      look P UnknownActor (node_named table name) _ (are_low 5 roles words refl (actor_named a name is, (higher 5 7 _ (omega arith) (given BadName (name_in b) app also), tt))) (λ none. inr (0, (Actor, a), omega arith, refl, actor_unknown a name is none)) (λ node known.
+      none_left P (are_low 7 roles words refl (actor_known a name is node known, (given BadName (name_in b) app also, tt))))))
   app_judged (a ∷ b ∷ c ∷ words) = miscounted (Actor ∷ Application ∷ []) (a ∷ b ∷ c ∷ words) (λ e. absurd (omega (arith, e)))
 
   one_judged : (g : NodeId → ScriptLine) (words : List (List ℕ)) → Judges (AreWrong table (Actor ∷ []) words) (one words >>= λ word. named word >>= λ name. actor table name >>= λ node. Ok (g node))
@@ -185,7 +191,7 @@ module _ (table : Table) where
       let P = AreWrong table roles words in
       look P BadName (name_in a) _ (are_low 3 roles words refl (all_low roles words)) (λ none. inr (0, (Actor, a), omega arith, refl, inl (refl, none))) (λ name is.
       look P UnknownActor (node_named table name) _ (are_low 5 roles words refl (actor_named a name is, tt)) (λ none. inr (0, (Actor, a), omega arith, refl, actor_unknown a name is none)) (λ node known.
-      none_left P (are_low 6 roles words refl (actor_known a name is node known, tt))))
+      none_left P (are_low 7 roles words refl (actor_known a name is node known, tt))))
   one_judged g (a ∷ b ∷ words) = miscounted (Actor ∷ []) (a ∷ b ∷ words) (λ e. absurd (omega (arith, e)))
 
   same_judged : (words : List (List ℕ)) → Judges (AreWrong table (Actor ∷ Actor ∷ []) words) (same_line table words)
@@ -201,12 +207,12 @@ module _ (table : Table) where
       let named = are_low 5 roles words refl (actor_named a name is, (actor_named b other also, tt)) in
       look P UnknownActor (node_named table name) _ named (λ none. inr (0, (Actor, a), omega arith, refl, actor_unknown a name is none)) (λ node known.
       look P UnknownActor (node_named table other) _ named (λ none. inr (1, (Actor, b), omega arith, refl, actor_unknown b other also none)) (λ second seen.
-      none_left P (are_low 6 roles words refl (actor_known a name is node known, (actor_known b other also second seen, tt)))))))
+      none_left P (are_low 7 roles words refl (actor_known a name is node known, (actor_known b other also second seen, tt)))))))
   same_judged (a ∷ b ∷ c ∷ words) = miscounted (Actor ∷ Actor ∷ []) (a ∷ b ∷ c ∷ words) (λ e. absurd (omega (arith, e)))
 
   -- a wish, among other words
   wish_judged : (P : ScriptFaultKind → Type 0) (a b c : List ℕ) → Low 3 P → (name_in a ≡ None → P BadName) → (name_in b ≡ None → P BadName) → (name_in c ≡ None → P BadName) → (IsWrong table Actor a UnknownActor → P UnknownActor)
-      → (Low 5 (IsWrong table Actor a) → Low 6 (IsWrong table Application b) → Low 6 (IsWrong table About c) → Low 5 P) → (Low 6 (IsWrong table Actor a) → Low 6 (IsWrong table Application b) → Low 6 (IsWrong table About c) → Low 6 P)
+      → (Low 5 (IsWrong table Actor a) → Low 7 (IsWrong table Application b) → Low 7 (IsWrong table About c) → Low 5 P) → (Low 7 (IsWrong table Actor a) → Low 7 (IsWrong table Application b) → Low 7 (IsWrong table About c) → Low 7 P)
       → Judges P (wish_in table a b c)
   wish_judged P a b c low first second third unknown five six =
       look P BadName (name_in a) _ low first (λ name is.
@@ -228,7 +234,7 @@ module _ (table : Table) where
       said P g (wish_in table a b c) (wish_judged P a b c (are_low 3 roles words refl (all_low roles words))
       (λ none. inr (0, (Actor, a), omega arith, refl, inl (refl, none))) (λ none. inr (1, (Application, b), omega arith, refl, (refl, none))) (λ none. inr (2, (About, c), omega arith, refl, (refl, none)))
       (λ wrong. inr (0, (Actor, a), omega arith, refl, wrong))
-      (λ p q r. are_low 5 roles words refl (p, (higher 5 6 _ (omega arith) q, (higher 5 6 _ (omega arith) r, tt)))) (λ p q r. are_low 6 roles words refl (p, (q, (r, tt)))))
+      (λ p q r. are_low 5 roles words refl (p, (higher 5 7 _ (omega arith) q, (higher 5 7 _ (omega arith) r, tt)))) (λ p q r. are_low 7 roles words refl (p, (q, (r, tt)))))
   command_judged g (a ∷ b ∷ c ∷ d ∷ words) = miscounted (Actor ∷ Application ∷ About ∷ []) (a ∷ b ∷ c ∷ d ∷ words) (λ e. absurd (omega (arith, e)))
 
   permit_judged : (words : List (List ℕ)) → Judges (AreWrong table (Actor ∷ Application ∷ About ∷ Flag ∷ []) words) (permit_line table words)
@@ -246,12 +252,35 @@ module _ (table : Table) where
       said P _ (wish_in table a b c) (wish_judged P a b c low
       (λ none. inr (0, (Actor, a), omega arith, refl, inl (refl, none))) (λ none. inr (1, (Application, b), omega arith, refl, (refl, none))) (λ none. inr (2, (About, c), omega arith, refl, (refl, none)))
       (λ wrong. inr (0, (Actor, a), omega arith, refl, wrong))
-      (λ p q r. are_low 5 roles words refl (p, (higher 5 6 _ (omega arith) q, (higher 5 6 _ (omega arith) r, (higher 5 6 _ (omega arith) flags, tt))))) (λ p q r. are_low 6 roles words refl (p, (q, (r, (flags, tt)))))))
+      (λ p q r. are_low 5 roles words refl (p, (higher 5 7 _ (omega arith) q, (higher 5 7 _ (omega arith) r, (higher 5 7 _ (omega arith) flags, tt))))) (λ p q r. are_low 7 roles words refl (p, (q, (r, (flags, tt)))))))
   permit_judged (a ∷ b ∷ c ∷ d ∷ e ∷ words) = miscounted (Actor ∷ Application ∷ About ∷ Flag ∷ []) (a ∷ b ∷ c ∷ d ∷ e ∷ words) (λ e. absurd (omega (arith, e)))
 
   share_judged : (words : List (List ℕ)) → Judges (AreWrong table [] words) (share_line words)
-  share_judged [] = none_left (AreWrong table [] []) (are_low 6 [] [] refl tt)
+  share_judged [] = none_left (AreWrong table [] []) (are_low 7 [] [] refl tt)
   share_judged (a ∷ words) = miscounted [] (a ∷ words) (λ e. absurd (omega (arith, e)))
+
+  bytes_judged : (words : List (List ℕ)) → Judges (AreWrong table (Number ∷ []) words) (bytes_line words)
+  bytes_judged [] = miscounted (Number ∷ []) [] (λ e. absurd (omega (arith, e)))
+  bytes_judged (a ∷ []) =
+      let roles = Number ∷ [] in
+      let words = a ∷ [] in
+      let P = AreWrong table roles words in
+      look P BadNumber (number_in a) _ (are_low 4 roles words refl (number_low a, tt)) (λ none. inr (0, (Number, a), omega arith, refl, (refl, none))) (λ n is.
+      none_left P (are_low 7 roles words refl (given BadNumber (number_in a) n is, tt)))
+  bytes_judged (a ∷ b ∷ words) = miscounted (Number ∷ []) (a ∷ b ∷ words) (λ e. absurd (omega (arith, e)))
+
+  hex_low : (word : List ℕ) → Low 6 (IsWrong table Hex word)
+  hex_low word kind h = omega (arith, ap script_number h.0)
+
+  feed_judged : (words : List (List ℕ)) → Judges (AreWrong table (Hex ∷ []) words) (feed_line words)
+  feed_judged [] = miscounted (Hex ∷ []) [] (λ e. absurd (omega (arith, e)))
+  feed_judged (a ∷ []) =
+      let roles = Hex ∷ [] in
+      let words = a ∷ [] in
+      let P = AreWrong table roles words in
+      look P BadHex (bytes_in a) _ (are_low 6 roles words refl (hex_low a, tt)) (λ none. inr (0, (Hex, a), omega arith, refl, (refl, no_bytes a none))) (λ bytes is.
+      none_left P (are_low 7 roles words refl (hex_given a bytes is, tt)))
+  feed_judged (a ∷ b ∷ words) = miscounted (Hex ∷ []) (a ∷ b ∷ words) (λ e. absurd (omega (arith, e)))
 
   judged_by : (v : Option Verb) (words : List (List ℕ)) → Judges (λ kind. MatchOption v (kind ≡ BadWord) (λ verb. AreWrong table (roles_of verb) words kind)) (said_by v table words)
   judged_by None words = record { has = refl; least = λ kind h. omega (arith, ap script_number h) }
@@ -270,6 +299,8 @@ module _ (table : Table) where
   judged_by (Some verb.Page) words = one_judged _ words
   judged_by (Some verb.State) words = one_judged _ words
   judged_by (Some verb.Same) words = same_judged words
+  judged_by (Some verb.Bytes) words = bytes_judged words
+  judged_by (Some verb.Feed) words = feed_judged words
 
   pub judged : (line : List (List ℕ)) → MatchResult (line_of table line) (λ _. IsFaultless table line) (IsLeast (HasFault table line))
   unfolding line_of

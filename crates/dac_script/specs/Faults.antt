@@ -3,7 +3,7 @@ use Rattle.std.specs.Prelude.{ℕ, List, codes}
 use Rattle.dac_script.specs.declared.fault.InputFault.{InputFault}
 use Rattle.dac_script.specs.declared.fault.InputFault.TheVariants.{TooLong, NoScript, Read}
 use Rattle.dac_script.specs.declared.fault.ScriptFaultKind.{ScriptFaultKind}
-use Rattle.dac_script.specs.declared.fault.ScriptFaultKind.TheVariants.{BadWord, BadCount, BadName, BadNumber, UnknownActor}
+use Rattle.dac_script.specs.declared.fault.ScriptFaultKind.TheVariants.{BadWord, BadCount, BadName, BadNumber, UnknownActor, BadHex}
 
 abbrev pub input_number : InputFault → ℕ
 input_number TooLong = 1
@@ -21,6 +21,7 @@ script_number BadCount = 2
 script_number BadName = 3
 script_number BadNumber = 4
 script_number UnknownActor = 5
+script_number BadHex = 6
 
 abbrev pub script_name : ScriptFaultKind → List ℕ
 script_name BadWord = codes "BadWord"
@@ -28,3 +29,4 @@ script_name BadCount = codes "BadCount"
 script_name BadName = codes "BadName"
 script_name BadNumber = codes "BadNumber"
 script_name UnknownActor = codes "UnknownActor"
+script_name BadHex = codes "BadHex"

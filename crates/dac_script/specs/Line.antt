@@ -1,5 +1,6 @@
 -- One line of a script.
 use Rattle.std.specs.Prelude.{ℕ, ◌<◌, List, [], ◌∷◌, Option, Some, None, Result, Ok, Err, codes, if◌then◌else◌}
+use Rattle.std.specs.Option.{ok_or}
 use Rattle.std.specs.Str.{bytes_eq}
 use Rattle.dac_base.specs.declared.NodeId.{NodeId}
 use Rattle.dac_config.specs.Table.{Table}
@@ -7,12 +8,13 @@ use Rattle.dac_events.specs.declared.Command.TheVariants as command
 use Rattle.dac_events.specs.declared.What.{What}
 use Rattle.dac_events.specs.declared.What.TheVariants as what
 use Rattle.dac_script.specs.declared.fault.ScriptFaultKind.{ScriptFaultKind}
-use Rattle.dac_script.specs.declared.fault.ScriptFaultKind.TheVariants.{BadWord, BadCount}
+use Rattle.dac_script.specs.declared.fault.ScriptFaultKind.TheVariants.{BadWord, BadCount, BadHex}
 use Rattle.dac_script.specs.declared.line.ScriptLine.{ScriptLine}
 use Rattle.dac_script.specs.declared.line.ScriptLine.TheVariants as says
 use Rattle.dac_script.specs.declared.line.Verb.{Verb}
 use Rattle.dac_script.specs.declared.line.Verb.TheVariants as verb
-use Rattle.dac_script.specs.Asked.{◌>>=◌, one, two, three, four, named, truth, actor, node_and_number, node_and_about, node_and_app, wish_in}
+use Rattle.dac_script.specs.Words.{bytes_in}
+use Rattle.dac_script.specs.Asked.{◌>>=◌, one, two, three, four, named, numbered, truth, actor, node_and_number, node_and_about, node_and_app, wish_in}
 
 -- the commands that operators give
 abbrev pub command_verb : List ℕ → Option Verb
@@ -23,6 +25,13 @@ command_verb word =
     else (if bytes_eq word (codes "stop") then Some verb.Stop
     else (if bytes_eq word (codes "takeover") then Some verb.Takeover
     else None))))
+
+-- the lines about bytes, and the commands
+abbrev pub wire_verb : List ℕ → Option Verb
+wire_verb word =
+    if bytes_eq word (codes "bytes") then Some verb.Bytes
+    else (if bytes_eq word (codes "feed") then Some verb.Feed
+    else command_verb word)
 
 -- the first words of lines
 abbrev pub verb_of : List ℕ → Option Verb
@@ -37,7 +46,7 @@ verb_of word =
     else (if bytes_eq word (codes "page") then Some verb.Page
     else (if bytes_eq word (codes "state") then Some verb.State
     else (if bytes_eq word (codes "same") then Some verb.Same
-    else command_verb word)))))))))
+    else wire_verb word)))))))))
 
 -- something happens at a node
 abbrev pub happens : NodeId → What → Result ScriptLine ScriptFaultKind
@@ -131,6 +140,20 @@ same_line table words = do
   second ← actor table other
   Ok (says.Same first second)
 
+-- the bytes of a message
+abbrev pub bytes_line : List (List ℕ) → Result ScriptLine ScriptFaultKind
+bytes_line words = do
+  word ← one words
+  message ← numbered word
+  Ok (says.Bytes message)
+
+-- bytes to be read as a message
+abbrev pub feed_line : List (List ℕ) → Result ScriptLine ScriptFaultKind
+feed_line words = do
+  word ← one words
+  bytes ← ok_or (bytes_in word) BadHex
+  Ok (says.Feed bytes)
+
 -- what the words after the first one say
 abbrev pub said_by : Option Verb → Table → List (List ℕ) → Result ScriptLine ScriptFaultKind
 said_by (Some verb.Boot) table words = boot_line table words
@@ -148,6 +171,8 @@ said_by (Some verb.Share) table words = share_line words
 said_by (Some verb.Page) table words = page_line table words
 said_by (Some verb.State) table words = state_line table words
 said_by (Some verb.Same) table words = same_line table words
+said_by (Some verb.Bytes) table words = bytes_line words
+said_by (Some verb.Feed) table words = feed_line words
 said_by None table words = Err BadWord
 
 -- what the words of a line say
@@ -162,3 +187,5 @@ HasActors nodes says.Share = Unit {0}
 HasActors nodes (says.Page node) = node.0 < nodes
 HasActors nodes (says.State node) = node.0 < nodes
 HasActors nodes (says.Same first second) = (first.0 < nodes) × (second.0 < nodes)
+HasActors nodes (says.Bytes message) = Unit {0}
+HasActors nodes (says.Feed bytes) = Unit {0}

@@ -1,23 +1,24 @@
 -- The faults of a line, whatever a reader does: what each word has to be, by the first one, and what is wrong with it.
-use Rattle.std.specs.Prelude.{◌≡◌, ◌≢◌, ◌⊎◌, ℕ, ◌≤◌, List, [], ◌∷◌, length, codes, None}
+use Rattle.std.specs.Prelude.{◌≡◌, ◌≢◌, ◌⊎◌, ℕ, ◌≤◌, ◌%◌, List, [], ◌∷◌, length, codes, None}
 use Rattle.std.specs.Option.{MatchOption, IsSomeAnd}
-use Rattle.std.specs.List.{Any, zip}
+use Rattle.std.specs.List.{Any, AllPass, zip}
 use Rattle.dac_config.specs.Table.{Table, node_named}
 use Rattle.dac_script.specs.declared.fault.ScriptFaultKind.{ScriptFaultKind}
-use Rattle.dac_script.specs.declared.fault.ScriptFaultKind.TheVariants.{BadWord, BadCount, BadName, BadNumber, UnknownActor}
+use Rattle.dac_script.specs.declared.fault.ScriptFaultKind.TheVariants.{BadWord, BadCount, BadName, BadNumber, UnknownActor, BadHex}
 use Rattle.dac_script.specs.declared.line.Verb.{Verb}
 use Rattle.dac_script.specs.declared.line.Verb.TheVariants as verb
 use Rattle.dac_script.specs.Faults.{script_number}
-use Rattle.dac_script.specs.Words.{name_in, number_in}
+use Rattle.dac_script.specs.Words.{name_in, number_in, is_small_digit}
 use Rattle.dac_script.specs.Line.{verb_of}
 
--- what a word has to be: the node where something happens, the application or the node that it is about, a number, or `true` or `false`
+-- what a word has to be: the node where something happens, the application or the node that it is about, a number, `true` or `false`, or bytes in digits
 pub data Role : Type 0 where
   Actor : Role
   Application : Role
   About : Role
   Number : Role
   Flag : Role
+  Hex : Role
 
 -- the words behind the first one
 abbrev pub roles_of : Verb → List Role
@@ -36,10 +37,16 @@ roles_of verb.Share = []
 roles_of verb.Page = Actor ∷ []
 roles_of verb.State = Actor ∷ []
 roles_of verb.Same = Actor ∷ Actor ∷ []
+roles_of verb.Bytes = Number ∷ []
+roles_of verb.Feed = Hex ∷ []
 
 -- neither `true` nor `false`; `'true'` isn't either
 abbrev pub IsNoFlag : List ℕ → Type 0
 IsNoFlag word = (word ≢ codes "true") × (word ≢ codes "false")
+
+-- an odd number of digits, or not each one is 0 to 9 or a to f
+abbrev pub IsNoHex : List ℕ → Type 0
+IsNoHex word = (length word % 2 ≡ 1) ⊎ (¬ AllPass is_small_digit word)
 
 -- A word in its role has a fault of this kind. Names of other nodes and of applications may be unknown.
 abbrev pub IsWrong : Table → Role → List ℕ → ScriptFaultKind → Type 0
@@ -48,6 +55,7 @@ IsWrong table Application word kind = (kind ≡ BadName) × (name_in word ≡ No
 IsWrong table About word kind = (kind ≡ BadName) × (name_in word ≡ None)
 IsWrong table Number word kind = (kind ≡ BadNumber) × (number_in word ≡ None)
 IsWrong table Flag word kind = (kind ≡ BadName) × IsNoFlag word
+IsWrong table Hex word kind = (kind ≡ BadHex) × IsNoHex word
 
 -- Words in these roles have a fault of this kind: they are too few or too many, or one of them has it.
 abbrev pub AreWrong : Table → List Role → List (List ℕ) → ScriptFaultKind → Type 0

@@ -1,7 +1,9 @@
 -- The words of a line, and what a word says.
-use Rattle.std.specs.Prelude.{ℕ, ◌+◌, ◌-◌, ◌*◌, Bool, false, not, ◌&&◌, List, [], ◌∷◌, length, take, filter, nat_le, ◌==◌, slice_index, if◌then◌else◌, Option, Some, None}
+use Rattle.std.specs.Prelude.{ℕ, ◌+◌, ◌-◌, ◌*◌, Bool, false, not, ◌&&◌, ◌||◌, List, [], ◌∷◌, length, take, filter, nat_le, ◌==◌, slice_index, if◌then◌else◌, Option, Some, None}
 use Rattle.std.specs.List.{slice_split, list_all}
+use Rattle.std.specs.Result.{result_ok}
 use Rattle.std.specs.Char.{is_ascii_digit}
+use Rattle.hex.specs.Hex.{decode_of}
 use Rattle.dac_tokens.specs.Scan.{is_quotable}
 use Rattle.dac_config.specs.Canonical.{is_bare}
 use Rattle.dac_script.specs.declared.words.TheConstants.{MAX_NUMBER}
@@ -38,3 +40,11 @@ value_from n (d ∷ ds) = value_from (10 * n + (d - 48)) ds
 -- the number that the word is, at most MAX_NUMBER
 abbrev pub number_in : List ℕ → Option ℕ
 number_in word = if is_digits word && nat_le (value_from 0 word) MAX_NUMBER then Some (value_from 0 word) else None
+
+-- a hexadecimal digit: 0 to 9 or a to f
+abbrev pub is_small_digit : ℕ → Bool
+is_small_digit digit = is_ascii_digit digit || (nat_le 97 digit && nat_le digit 102)
+
+-- the bytes that the word spells, two digits for each
+abbrev pub bytes_in : List ℕ → Option (List ℕ)
+bytes_in word = if list_all is_small_digit word then result_ok (decode_of word) else None

@@ -69,7 +69,8 @@ pub fn named(word: &[u8]) -> Result<&[u8], ScriptFaultKind>
     name_in(word).ok_or(ScriptFaultKind::BadName)
 }
 
-fn numbered(word: &[u8]) -> Result<u64, ScriptFaultKind>
+/// A word that has to be a number.
+pub fn numbered(word: &[u8]) -> Result<u64, ScriptFaultKind>
     ensures { result ≡ numbered word.now }
 {
     number_in(word).ok_or(ScriptFaultKind::BadNumber)

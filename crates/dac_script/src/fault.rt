@@ -50,6 +50,8 @@ pub enum ScriptFaultKind {
     BadNumber,
     /// The node where the event is to happen isn't in the configuration.
     UnknownActor,
+    /// A word that has to spell bytes has an odd number of digits, or one that isn't 0 to 9 or a to f.
+    BadHex,
 }
 
 impl ScriptFaultKind {
@@ -72,6 +74,7 @@ impl ScriptFaultKind {
             ScriptFaultKind::BadName => "BadName",
             ScriptFaultKind::BadNumber => "BadNumber",
             ScriptFaultKind::UnknownActor => "UnknownActor",
+            ScriptFaultKind::BadHex => "BadHex",
         }
     }
 }

@@ -6,6 +6,7 @@
 #![tactic(auto)]
 
 mod asked;
+mod byte_list;
 mod failure;
 mod fault;
 mod input;
@@ -15,6 +16,7 @@ mod script;
 mod source;
 mod words;
 
+pub use byte_list::ByteList;
 pub use failure::Failure;
 pub use fault::{InputFault, ScriptFault, ScriptFaultKind};
 pub use input::{MAX_INPUT, parted, read_input};

@@ -2,19 +2,22 @@
 
 ghost use Rattle.std.specs.Prelude.{◌≡◌, ℕ, IfOk, map};
 ghost use Rattle.dac_config.specs.Table.{node_count};
-ghost use Rattle.dac_script.specs.Line.{command_verb, verb_of, boot_line, crash_line, down_line, permit_line, start_line, stop_line, takeover_line, tick_line, ship_line, hear_line, hand_line, share_line, page_line, state_line, same_line, line_of, HasActors};
+ghost use Rattle.dac_script.specs.Line.{command_verb, wire_verb, verb_of, boot_line, crash_line, down_line, permit_line, start_line, stop_line, takeover_line, tick_line, ship_line, hear_line, hand_line, share_line, page_line, state_line, same_line, bytes_line, feed_line, line_of, HasActors};
 
 use crate::asked::{
-    actor, four, named, node_and_about, node_and_app, node_and_number, one, three, truth, two,
-    wish_in,
+    actor, four, named, node_and_about, node_and_app, node_and_number, numbered, one, three, truth,
+    two, wish_in,
 };
+use crate::byte_list::ByteList;
 use crate::fault::ScriptFaultKind;
-use dac_base::NodeId;
+use crate::words::bytes_in;
+use dac_base::{NoMemory, NodeId};
 use dac_config::Config;
 use dac_events::{Command, What, WorldEvent};
+use std::alloc::Global;
 
 /// A line of a script that says something.
-#[derive(Clone, Copy, Debug, PartialEq, Eq)]
+#[derive(Drop)]
 pub enum ScriptLine {
     /// Something happens at a node.
     Event(WorldEvent),
@@ -26,6 +29,10 @@ pub enum ScriptLine {
     State(NodeId),
     /// The bytes of two nodes' states are compared.
     Same(NodeId, NodeId),
+    /// The bytes of the message of this number are printed.
+    Bytes(u64),
+    /// These bytes are read as a message, which is delivered to no node.
+    Feed(ByteList),
 }
 
 /// What the first word of a line asks for.
@@ -46,6 +53,8 @@ enum Verb {
     Page,
     State,
     Same,
+    Bytes,
+    Feed,
 }
 
 /// The commands that operators give.
@@ -68,6 +77,19 @@ fn command_verb(word: &[u8]) -> Option<Verb>
         return Some(Verb::Takeover);
     }
     None
+}
+
+/// The lines about bytes, and the commands.
+fn wire_verb(word: &[u8]) -> Option<Verb>
+    ensures { result ≡ wire_verb word.now }
+{
+    if word == b"bytes".as_slice() {
+        return Some(Verb::Bytes);
+    }
+    if word == b"feed".as_slice() {
+        return Some(Verb::Feed);
+    }
+    command_verb(word)
 }
 
 fn verb_of(word: &[u8]) -> Option<Verb>
@@ -103,7 +125,7 @@ fn verb_of(word: &[u8]) -> Option<Verb>
     if word == b"same".as_slice() {
         return Some(Verb::Same);
     }
-    command_verb(word)
+    wire_verb(word)
 }
 
 /// `boot NODE NOW`
@@ -300,31 +322,62 @@ fn same(config: &Config, words: &[&[u8]]) -> Result<ScriptLine, ScriptFaultKind>
     Ok(ScriptLine::Same(first, second))
 }
 
+/// `bytes K`
+fn bytes(words: &[&[u8]]) -> Result<ScriptLine, ScriptFaultKind>
+    ensures line { result ≡ bytes_line (map (λ word. word.now) words.now) }
+    ensures actors { (nodes : ℕ) → IfOk result (HasActors nodes) }
+{
+    let message = one(words)?;
+    let message = numbered(message)?;
+    Ok(ScriptLine::Bytes(message))
+}
+
+/// `feed HEX`
+fn feed(alloc: Global, words: &[&[u8]]) -> Result<Result<ScriptLine, ScriptFaultKind>, NoMemory>
+    ensures line { IfOk result (λ said. said ≡ feed_line (map (λ word. word.now) words.now)) }
+    ensures actors { (nodes : ℕ) → IfOk result (λ said. IfOk said (HasActors nodes)) }
+{
+    let word = match one(words) {
+        Ok(word) => word,
+        Err(kind) => return Ok(Err(kind)),
+    };
+    match bytes_in(alloc, word)? {
+        Some(bytes) => Ok(Ok(ScriptLine::Feed(bytes))),
+        None => Ok(Err(ScriptFaultKind::BadHex)),
+    }
+}
+
 /// What the words of a line say, or the first kind of fault that they have.
 #[tactic(auto, unfolding(crate::specs::Line::line_of))]
-pub fn line_of(config: &Config, words: &[&[u8]]) -> Result<ScriptLine, ScriptFaultKind>
-    ensures line { result ≡ line_of config.now (map (λ word. word.now) words.now) }
-    ensures actors { IfOk result (HasActors (node_count config.now)) }
+pub fn line_of(
+    alloc: Global,
+    config: &Config,
+    words: &[&[u8]],
+) -> Result<Result<ScriptLine, ScriptFaultKind>, NoMemory>
+    ensures line { IfOk result (λ said. said ≡ line_of config.now (map (λ word. word.now) words.now)) }
+    ensures actors { IfOk result (λ said. IfOk said (HasActors (node_count config.now))) }
 {
     let Some((first, rest)) = words.split_first() else {
-        return Err(ScriptFaultKind::BadWord);
+        return Ok(Err(ScriptFaultKind::BadWord));
     };
     match verb_of(first) {
-        Some(Verb::Boot) => boot(config, rest),
-        Some(Verb::Crash) => crash(config, rest),
-        Some(Verb::Down) => down(config, rest),
-        Some(Verb::Permit) => permit(config, rest),
-        Some(Verb::Start) => start(config, rest),
-        Some(Verb::Stop) => stop(config, rest),
-        Some(Verb::Takeover) => takeover(config, rest),
-        Some(Verb::Tick) => tick(config, rest),
-        Some(Verb::Ship) => ship(config, rest),
-        Some(Verb::Hear) => hear(config, rest),
-        Some(Verb::Hand) => hand(config, rest),
-        Some(Verb::Share) => share(rest),
-        Some(Verb::Page) => page(config, rest),
-        Some(Verb::State) => state(config, rest),
-        Some(Verb::Same) => same(config, rest),
-        None => Err(ScriptFaultKind::BadWord),
+        Some(Verb::Boot) => Ok(boot(config, rest)),
+        Some(Verb::Crash) => Ok(crash(config, rest)),
+        Some(Verb::Down) => Ok(down(config, rest)),
+        Some(Verb::Permit) => Ok(permit(config, rest)),
+        Some(Verb::Start) => Ok(start(config, rest)),
+        Some(Verb::Stop) => Ok(stop(config, rest)),
+        Some(Verb::Takeover) => Ok(takeover(config, rest)),
+        Some(Verb::Tick) => Ok(tick(config, rest)),
+        Some(Verb::Ship) => Ok(ship(config, rest)),
+        Some(Verb::Hear) => Ok(hear(config, rest)),
+        Some(Verb::Hand) => Ok(hand(config, rest)),
+        Some(Verb::Share) => Ok(share(rest)),
+        Some(Verb::Page) => Ok(page(config, rest)),
+        Some(Verb::State) => Ok(state(config, rest)),
+        Some(Verb::Same) => Ok(same(config, rest)),
+        Some(Verb::Bytes) => Ok(bytes(rest)),
+        Some(Verb::Feed) => feed(alloc, rest),
+        None => Ok(Err(ScriptFaultKind::BadWord)),
     }
 }

@@ -34,7 +34,7 @@ fn read_line(
     ensures fault { IfErr result (IsLineFailure config.now number line.now) }
 {
     let words = words_of(alloc, line)?;
-    match line_of(config, &words) {
+    match line_of(alloc, config, &words)? {
         Ok(said) => Ok(said),
         Err(kind) => Err(Failure::Script(ScriptFault { line: number, kind })),
     }

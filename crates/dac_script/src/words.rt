@@ -4,9 +4,12 @@ ghost use Rattle.std.specs.Prelude.{◌≡◌, ◌<◌, ◌≤◌, ◌^◌, IfOk
 ghost use Rattle.std.specs.List.{list_all};
 ghost use Rattle.std.specs.Char.{is_ascii_digit};
 ghost use Rattle.dac_tokens.specs.Scan.{is_quotable};
-ghost use Rattle.dac_script.specs.Words.{words_of, quoted_name, is_digits, value_from, number_in, name_in};
+ghost use Rattle.dac_script.specs.Words.{words_of, quoted_name, is_digits, value_from, number_in, name_in, is_small_digit, bytes_in};
 
+use crate::byte_list::ByteList;
+use dac_base::NoMemory;
 use dac_config::is_bare;
+use hex::FromHexError;
 use std::alloc::{AllocError, Global};
 
 /// The greatest number that a script may name.
@@ -98,4 +101,31 @@ pub fn number_in(word: &[u8]) -> Option<u64>
         return None;
     }
     Some(value)
+}
+
+/// Whether the byte is a hexadecimal digit. Capital letters are none here.
+fn is_small_digit(byte: u8) -> bool
+    ensures { result ≡ is_small_digit byte }
+{
+    matches!(byte, b'0'..=b'9' | b'a'..=b'f')
+}
+
+fn all_small_digits(word: &[u8]) -> bool
+    ensures { result ≡ list_all is_small_digit word.now }
+{
+    word.iter().all(|byte| is_small_digit(*byte))
+}
+
+/// The bytes that the word spells, each by two hexadecimal digits, of which the letters are small.
+pub fn bytes_in(alloc: Global, word: &[u8]) -> Result<Option<ByteList>, NoMemory>
+    ensures { IfOk result (λ bytes. bytes ≡ bytes_in word.now) }
+{
+    if !all_small_digits(word) {
+        return Ok(None);
+    }
+    match hex::decode(alloc, word) {
+        Ok(bytes) => Ok(Some(ByteList::new(bytes))),
+        Err(FromHexError::OutOfMemory) => Err(NoMemory),
+        Err(_odd) => Ok(None),
+    }
 }

@@ -15,7 +15,7 @@ use Rattle.dac_state.specs.StateSpelling.{spelling_of}
 use Rattle.dac_placement.specs.Placement.{holder_of, verdict_of, candidate_of}
 use Rattle.dac_messages.specs.declared.message.Message.{Message}
 use Rattle.dac_messages.specs.Bodies.{content_of}
-use Rattle.dac_node.specs.NodeValue.{NodeValue, origin_of, state_of}
+use Rattle.dac_rules.specs.NodeValue.{NodeValue, origin_of, state_of}
 use Rattle.dac_worlds.specs.WorldValue.{WorldValue}
 use Rattle.dac_worlds.specs.ModelWorld.{numbered}
 use Rattle.dac_worlds.specs.SetWorld.{SetWorld, NodeSet, operations_of}

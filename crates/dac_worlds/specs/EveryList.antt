@@ -5,7 +5,7 @@ use Rattle.dac_config.specs.Table.{Table}
 use Rattle.dac_events.specs.declared.WorldEvent.{WorldEvent}
 use Rattle.dac_messages.specs.declared.reply.Reply.{Reply}
 use Rattle.dac_worlds.specs.declared.fault.WorldFault.{WorldFault}
-use Rattle.dac_node.specs.ModelNode.{shown}
+use Rattle.dac_rules.specs.ModelNode.{shown}
 use Rattle.dac_worlds.specs.WorldValue.{WorldValue}
 use Rattle.dac_worlds.specs.ModelWorld.{ModelWorld, happens, start, numbered, out_of_memory, Shows, Run}
 

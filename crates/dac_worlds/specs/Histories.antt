@@ -5,8 +5,8 @@ use Rattle.dac_config.specs.Table.{Table}
 use Rattle.dac_messages.specs.declared.event.Event.{Event}
 use Rattle.dac_messages.specs.declared.reply.Reply.{Reply}
 use Rattle.dac_commands.specs.declared.refusal.Refusal.{Refusal}
-use Rattle.dac_node.specs.ModelNode.{ModelNode}
-use Rattle.dac_node.specs.Step.{model_step}
+use Rattle.dac_rules.specs.ModelNode.{ModelNode}
+use Rattle.dac_rules.specs.Step.{model_step}
 
 -- a node of the definition that is off after so many incarnations
 abbrev pub off_after : ℕ → ModelNode

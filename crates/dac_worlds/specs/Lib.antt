@@ -4,6 +4,7 @@ pub mod ModelWorld
 pub mod WorldChanges
 pub mod AtNode
 pub mod SetWorld
+pub mod Uniting
 pub mod News
 pub mod Fits
 pub mod Addressed

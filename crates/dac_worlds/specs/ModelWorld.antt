@@ -16,8 +16,8 @@ use Rattle.dac_commands.specs.declared.refusal.Refusal.{Refusal}
 use Rattle.dac_commands.specs.declared.refusal.Refusal.TheVariants.{NoMemory}
 use Rattle.dac_worlds.specs.declared.fault.WorldFault.{WorldFault}
 use Rattle.dac_worlds.specs.declared.fault.WorldFault.TheVariants.{NoSuchNode, NoSuchMessage, NoSuchOperation, Refused}
-use Rattle.dac_node.specs.ModelNode.{ModelNode, shown}
-use Rattle.dac_node.specs.Step.{model_step}
+use Rattle.dac_rules.specs.ModelNode.{ModelNode, shown}
+use Rattle.dac_rules.specs.Step.{model_step}
 use Rattle.dac_worlds.specs.Histories.{off_after}
 use Rattle.dac_worlds.specs.WorldValue.{WorldValue}
 

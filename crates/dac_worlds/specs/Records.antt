@@ -10,8 +10,8 @@ use Rattle.dac_commands.specs.declared.refusal.Refusal.{Refusal}
 use Rattle.dac_commands.specs.declared.refusal.Refusal.TheVariants.{NoMemory}
 use Rattle.dac_worlds.specs.declared.fault.WorldFault.{WorldFault}
 use Rattle.dac_worlds.specs.declared.fault.WorldFault.TheVariants.{Refused}
-use Rattle.dac_node.specs.NodeValue.{NodeValue}
-use Rattle.dac_node.specs.ModelNode.{ModelNode, shown}
+use Rattle.dac_rules.specs.NodeValue.{NodeValue}
+use Rattle.dac_rules.specs.ModelNode.{ModelNode, shown}
 use Rattle.dac_worlds.specs.Histories.{Entry, IsHistory, off_after}
 use Rattle.dac_worlds.specs.WorldValue.{WorldValue}
 use Rattle.dac_worlds.specs.ModelWorld.{ModelWorld, event_of, start, went, numbered, Run}

@@ -4,19 +4,18 @@ use Rattle.std.specs.List.{slice_get}
 use Rattle.std.specs.Option.{option_map}
 use Rattle.dac_base.specs.declared.NodeId.{NodeId}
 use Rattle.dac_messages.specs.declared.reply.Reply.{Reply}
-use Rattle.dac_node.specs.NodeValue.{NodeValue}
-use Rattle.dac_node.specs.Changes.{ChangeValue, changed}
+use Rattle.dac_rules.specs.NodeValue.{NodeValue}
 use Rattle.dac_worlds.specs.WorldValue.{WorldValue}
 use Rattle.dac_worlds.specs.ModelWorld.{issued_by, shipped_by}
 
--- of these nodes one changes
-pub record NodeChanges (before : List NodeValue) (node : NodeId) (change : ChangeValue) (after : List NodeValue) : Type 0 where
+-- of these nodes one changes, to what it becomes
+pub record NodeChanges (before : List NodeValue) (node : NodeId) (become : NodeValue → NodeValue) (after : List NodeValue) : Type 0 where
   pub count : length after ≡ length before
-  pub each : (n : ℕ) → slice_get after n ≡ cond (nat_eq n node.0) (option_map (λ (x : NodeValue). changed x change) (slice_get before n)) (slice_get before n)
+  pub each : (n : ℕ) → slice_get after n ≡ cond (nat_eq n node.0) (option_map become (slice_get before n)) (slice_get before n)
 
 -- from v the world goes on to u: one node changes, and what its reply issues and ships is noted
-pub record Goes (v : WorldValue) (node : NodeId) (change : ChangeValue) (given : Reply) (u : WorldValue) : Type 0 where
-  pub reply : given ≡ change.reply
-  pub nodes : NodeChanges v.nodes node change u.nodes
-  pub operations : u.operations ≡ v.operations ++ issued_by change.reply
-  pub messages : u.messages ≡ v.messages ++ shipped_by change.reply
+pub record Goes (v : WorldValue) (node : NodeId) (become : NodeValue → NodeValue) (own given : Reply) (u : WorldValue) : Type 0 where
+  pub reply : given ≡ own
+  pub nodes : NodeChanges v.nodes node become u.nodes
+  pub operations : u.operations ≡ v.operations ++ issued_by own
+  pub messages : u.messages ≡ v.messages ++ shipped_by own

@@ -3,7 +3,7 @@ use Rattle.std.specs.Prelude.{List, refl}
 use Rattle.std.specs.Coded.{Coded, code_by, coded×, coded_list}
 use Rattle.dac_operations.specs.Operations.{Operation}
 use Rattle.dac_messages.specs.declared.message.Message.{Message}
-use Rattle.dac_node.specs.NodeValue.{NodeValue, coded_node_value}
+use Rattle.dac_rules.specs.NodeValue.{NodeValue, coded_node_value}
 
 -- the nodes by their numbers, and, the oldest first, the operations that were issued and the messages that were shipped
 pub record WorldValue : Type 0 where

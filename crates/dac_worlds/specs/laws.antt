@@ -1,10 +1,15 @@
 pub mod Operations
 pub mod Meanings
+pub mod Gathered
+pub mod Covers
+pub mod Carried
 pub mod OneNode
 pub mod Memory
 pub mod Runs
 pub mod Sound
 pub mod NewsOfRuns
+pub mod UnitingInRuns
+pub mod FewInRuns
 pub mod HeardInRuns
 pub mod AddressedInRuns
 pub mod Replacing

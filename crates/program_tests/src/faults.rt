@@ -93,6 +93,16 @@ pub const SCRIPT_FAULTS: &[(&str, &str)] = &[
         "boot nobody 4611686018427387904\njump",
         "script fault 1 5 UnknownActor\n",
     ),
+    ("bytes", "script fault 1 2 BadCount\n"),
+    ("bytes 01", "script fault 1 4 BadNumber\n"),
+    ("bytes 1 1", "script fault 1 2 BadCount\n"),
+    ("feed", "script fault 1 2 BadCount\n"),
+    ("feed 44 41", "script fault 1 2 BadCount\n"),
+    ("feed 444", "script fault 1 6 BadHex\n"),
+    ("feed 4A", "script fault 1 6 BadHex\n"),
+    ("feed 4g", "script fault 1 6 BadHex\n"),
+    ("feed 0x44", "script fault 1 6 BadHex\n"),
+    ("feeds 44", "script fault 1 1 BadWord\n"),
 ];
 
 /// Inputs of `distac sim` that no script is read of, and what is printed for them.

@@ -18,3 +18,5 @@ mod readers;
 mod running;
 #[cfg(test)]
 mod scripts;
+#[cfg(test)]
+mod wires;

@@ -3,6 +3,7 @@ use crate::configs::CASES;
 use crate::faults::{CONFIG_FAULTS, INPUT_FAULTS, SCRIPT_FAULTS};
 use crate::placements::PLACEMENTS;
 use crate::scripts::{EXAMPLE, SCRIPTS};
+use crate::wires::WIRES;
 use dac_program::run;
 use std::alloc::{AllocError, Global};
 use std::io::{Read, Write};
@@ -71,6 +72,13 @@ fn plays_scripts(rt: HostRuntime) {
 #[test]
 fn plays_scripts_of_placements(rt: HostRuntime) {
     for (config, script, printed) in PLACEMENTS {
+        assert!(rt; plays(&rt, config, script, 0, printed), "{script}");
+    }
+}
+
+#[test]
+fn plays_scripts_of_wires(rt: HostRuntime) {
+    for (config, script, printed) in WIRES {
         assert!(rt; plays(&rt, config, script, 0, printed), "{script}");
     }
 }

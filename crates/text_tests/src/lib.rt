@@ -10,6 +10,8 @@ mod bytes;
 #[cfg(test)]
 mod configs;
 #[cfg(test)]
+mod messages;
+#[cfg(test)]
 mod sample;
 #[cfg(test)]
 mod shapes;

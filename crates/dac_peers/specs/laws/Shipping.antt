@@ -2,7 +2,7 @@
 use Rattle.std.specs.Prelude.{◌≡◌, ◌≤◌, ◌&&◌, not, ℕ, Bool, true, false, cond, nat_le, Option, None, Some, refl}
 use Rattle.std.specs.Option.{option_map, option_and_then}
 use Rattle.std.proofs.Common.{ap, sym, subst, ◌∙◌}
-use Rattle.std.proofs.lemmas.Bool.{eqb-true, eq-eqb, leb-true, le-leb, true≢false}
+use Rattle.std.proofs.lemmas.Bool.{leb-true, le-leb, true≢false}
 use Rattle.std.proofs.lemmas.Option.{none-some, same_Some, cond_some, option_and_then_some}
 use Rattle.std.specs.FinSet as set
 use Rattle.std.specs.FinMap as map
@@ -93,9 +93,9 @@ is_not : (b : Bool) → ¬ (b ≡ true) → not b ≡ true
 is_not true none = absurd (none refl)
 is_not false none = refl
 
-has_all_is : (count : ℕ) (o : Option Place) → has_all count o ≡ true → (place : Place) × (o ≡ Some place) × (place.number ≡ count)
+has_all_is : (count : ℕ) (o : Option Place) → has_all count o ≡ true → (place : Place) × (o ≡ Some place) × (count ≤ place.number)
 has_all_is count None e = absurd (true≢false (sym e))
-has_all_is count (Some q) e = (q, refl, eqb-true q.number count e)
+has_all_is count (Some q) e = (q, refl, leb-true count q.number e)
 
 pub up_to_date_have_all : UpToDateHaveAll
 up_to_date_have_all p s base count to = (
@@ -103,8 +103,10 @@ up_to_date_have_all p s base count to = (
       let parts = and_parts (has_all count (begins p s base to)) (not (set.contains p.owed to)) e in
       let all = has_all_is count (begins p s base to) parts.0 in
       let is = begins_is p s to all.0 base all.1 in
-      (subst (HasAcked p s to) all.2 is.acked, subst (λ n. base ≤ n) all.2 is.kept, not_is (set.contains p.owed to) parts.1),
-  λ h.
-      let begins_there = begins_has p s to (record { inc = h.0.life.inc; number = count }) base (record { acked = h.0; present = refl; kept = h.1 }) in
-      ap (λ o. has_all count o && not (set.contains p.owed to)) begins_there ∙ (ap (λ b. b && not (set.contains p.owed to)) (eq-eqb count count refl) ∙ is_not (set.contains p.owed to) h.2),
+      (all.0.number, (is.acked, all.2, is.kept, not_is (set.contains p.owed to) parts.1)),
+  λ up.
+      let n = up.0 in
+      let h = up.1 in
+      let begins_there = begins_has p s to (record { inc = h.0.life.inc; number = n }) base (record { acked = h.0; present = refl; kept = h.2 }) in
+      ap (λ o. has_all count o && not (set.contains p.owed to)) begins_there ∙ (ap (λ b. b && not (set.contains p.owed to)) (le-leb count n h.1) ∙ is_not (set.contains p.owed to) h.3),
 )

@@ -19,11 +19,11 @@ use Rattle.dac_messages.specs.declared.event.Event.TheVariants.{Tick, Ship}
 use Rattle.dac_commands.specs.declared.refusal.Refusal.TheVariants.{Off}
 use Rattle.dac_worlds.specs.declared.fault.WorldFault.{WorldFault}
 use Rattle.dac_worlds.specs.declared.fault.WorldFault.TheVariants.{NoSuchNode}
-use Rattle.dac_node.specs.NodeValue.{RunValue}
-use Rattle.dac_node.specs.ModelNode.{ModelRun, joined, shown, run_shown}
-use Rattle.dac_node.specs.EventRefusals.{refusal_of, refusal_by}
-use Rattle.dac_node.specs.Deeds.{ticks_by, opening_at, note_of}
-use Rattle.dac_node.specs.Step.{step_by, accepted}
+use Rattle.dac_rules.specs.NodeValue.{RunValue}
+use Rattle.dac_rules.specs.ModelNode.{ModelRun, joined, shown, run_shown}
+use Rattle.dac_rules.specs.EventRefusals.{refusal_of, refusal_by}
+use Rattle.dac_rules.specs.Deeds.{ticks_by, opening_at, note_of}
+use Rattle.dac_rules.specs.Step.{step_by, accepted}
 use Rattle.dac_worlds.specs.ModelWorld.{ModelWorld, happens, happens_by, answered_by, event_of, counted, Step, Run}
 use Rattle.dac_worlds.specs.SetWorld.{SetWorld, set_step}
 use Rattle.dac_worlds.specs.Addressed.{IsAddressed, AreAddressed}

@@ -27,15 +27,16 @@ use Rattle.dac_messages.specs.declared.event.Event.{Event}
 use Rattle.dac_messages.specs.declared.event.Event.TheVariants.{Boot, Crash, Command as Told, Tick, Ship, Hear, HearOp}
 use Rattle.dac_messages.specs.declared.reply.Reply.{Reply}
 use Rattle.dac_commands.specs.Commands.{act_of, next_operation}
+use Rattle.dac_commands.specs.declared.refusal.Refusal.{Refusal}
 use Rattle.dac_commands.specs.Causes.{refusal_of_command}
 use Rattle.dac_ticks.specs.Ticks.{turn_of}
 use Rattle.dac_ticks.specs.laws.Claims.{claims_are}
-use Rattle.dac_node.specs.ModelNode.{ModelNode, ModelRun, joined, shown, run_shown}
-use Rattle.dac_node.specs.EventRefusals.{refusal_of, refusal_by, refusal_to_tick}
-use Rattle.dac_node.specs.Deeds.{ticks_by, opening_at, note_of}
-use Rattle.dac_node.specs.Step.{step_by, up, goes_on, accepted}
-use Rattle.dac_node.specs.laws.Counters.{leaves_room}
-use Rattle.dac_node.specs.laws.Options.{some_same}
+use Rattle.dac_rules.specs.ModelNode.{ModelNode, ModelRun, joined, shown, run_shown}
+use Rattle.dac_rules.specs.EventRefusals.{refusal_of, refusal_by, refusal_to_tick, otherwise}
+use Rattle.dac_rules.specs.Deeds.{ticks_by, opening_at, note_of}
+use Rattle.dac_rules.specs.Step.{step_by, up, goes_on, accepted}
+use Rattle.dac_rules.specs.laws.Counters.{leaves_room}
+use Rattle.dac_rules.specs.laws.Options.{some_same}
 use Rattle.dac_worlds.specs.declared.fault.WorldFault.TheVariants.{NoSuchNode}
 use Rattle.dac_worlds.specs.ModelWorld.{ModelWorld, happens, happens_by, answered_by, event_of, counted, Step, Run}
 use Rattle.dac_worlds.specs.SetWorld.{SetWorld, NodeSet, Issue, Copy, with_set, held_by, united, issues_of, is_for, copied_by, copied_to, brought_to, booting, issuing, going_off, set_step, set_run, no_sets}
@@ -154,6 +155,11 @@ up_next own = record {
   replaces = tt;
 }
 
+-- where neither of two causes holds, the first doesn't
+first_free : (a b : Option Refusal) → otherwise a b ≡ None → a ≡ None
+first_free None b e = refl
+first_free (Some why) b e = cc
+
 issued_apart : (w : ModelWorld) (s : SetWorld) → Sound w s → Differ s.issued
 issued_apart w s h = subst DistinctDots (sym h.issued) h.distinct
 
@@ -199,7 +205,7 @@ module _ (t : Table) (w : ModelWorld) (s : SetWorld) (n : NodeId) (h : Sound w s
   causal_ok what Crash (Some r) none on next unhanded = causal_off s n c
   causal_ok what (Told command) (Some r) none on next unhanded =
       let o = next_operation (joined r.log) r.origin (act_of t (joined r.log) command) in
-      let free : refusal_of_command t r.origin (joined r.log) command ≡ None = ap (λ (l : Option ModelRun). refusal_by t (w.node n).last (option_map (run_shown t) l) (Told command)) (sym on) ∙ none in
+      let free : refusal_of_command t r.origin (joined r.log) command ≡ None = first_free (refusal_of_command t r.origin (joined r.log) command) _ (ap (λ (l : Option ModelRun). refusal_by t (w.node n).last (option_map (run_shown t) l) (Told command)) (sym on) ∙ none) in
       causal_told r on command free (issued_apart _ (issuing s n (o ∷ [])) next)
   causal_ok what (Tick now) (Some r) none on next unhanded =
       let free : refusal_to_tick t (run_shown t r) now ≡ None = ap (λ (l : Option ModelRun). refusal_by t (w.node n).last (option_map (run_shown t) l) (Tick now)) (sym on) ∙ none in

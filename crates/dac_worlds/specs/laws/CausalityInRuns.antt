@@ -8,7 +8,7 @@ use Rattle.dac_wishes.specs.declared.key.Key.{Key}
 use Rattle.dac_meaning.specs.StateValue.{StateValue}
 use Rattle.dac_meaning.specs.Meaning.{In, Agree}
 use Rattle.dac_commands.specs.Written.{PermitStands, StartStands}
-use Rattle.dac_node.specs.laws.Options.{some_same}
+use Rattle.dac_rules.specs.laws.Options.{some_same}
 use Rattle.dac_worlds.specs.WorldValue.{WorldValue}
 use Rattle.dac_worlds.specs.ModelWorld.{ModelWorld, numbered}
 use Rattle.dac_worlds.specs.SetWorld.{SetWorld, NodeSet, held_by, operations_of}

@@ -6,7 +6,7 @@ use Rattle.std.proofs.lemmas.Option.{slice_get-get_or, slice_get_past}
 use Rattle.std.proofs.lemmas.List.FromFn.{length-map-range_with_len, get_or-map-range_with_len}
 use Rattle.dac_config.specs.Table.{Table}
 use Rattle.dac_events.specs.declared.WorldEvent.{WorldEvent}
-use Rattle.dac_node.specs.ModelNode.{shown}
+use Rattle.dac_rules.specs.ModelNode.{shown}
 use Rattle.dac_worlds.specs.ModelWorld.{ModelWorld, Run, RanAs, happens, start, numbered}
 use Rattle.dac_worlds.specs.Converges.{Converges}
 use Rattle.dac_worlds.specs.EveryList.{answers_of, run_from, model_run, shown_world, IsEnough, OfEachList, RunsEachList, IsShownWorld}

@@ -1,6 +1,6 @@
 -- How the program's world follows the definition's worlds that it shows.
 use Rattle.std.proofs.Common.{◌≡◌, ℕ, ◌<◌, ◌-◌, Bool, true, false, cond, inl, inr, List, ◌∷◌, ◌++◌, Option, Some, None, Result, Ok, Err, length, nat_eq, refl, sym, ap, subst, ◌∙◌, lt-ltb, eq-eqb, get_or, true≢false}
-use Rattle.std.specs.Prelude.{nat_lt, unwrap_or, IsOk, IfOk, IfErr, OnErr}
+use Rattle.std.specs.Prelude.{nat_lt, unwrap_or, IsOk, IfOk, IfErr, IfSome, OnErr}
 use Rattle.std.specs.Option.{option_map}
 use Rattle.std.specs.List.{slice_get}
 use Rattle.std.proofs.lemmas.Option.{slice_get_read}
@@ -21,20 +21,20 @@ use Rattle.dac_commands.specs.declared.refusal.Refusal.{Refusal}
 use Rattle.dac_commands.specs.declared.refusal.Refusal.TheVariants.{Off, NoMemory}
 use Rattle.dac_worlds.specs.declared.fault.WorldFault.{WorldFault}
 use Rattle.dac_worlds.specs.declared.fault.WorldFault.TheVariants.{NoSuchNode, Refused}
-use Rattle.dac_node.specs.NodeValue.{NodeValue, RunValue}
-use Rattle.dac_node.specs.ModelNode.{ModelNode, ModelRun, joined, shown, run_shown}
-use Rattle.dac_node.specs.EventRefusals.{refusal_of, refusal_by}
-use Rattle.dac_node.specs.Deeds.{ticks_by, opening_at, note_of}
-use Rattle.dac_node.specs.Step.{model_step, step_by, accepted, Stepped}
-use Rattle.dac_node.specs.Hearing.{HearsExactly}
-use Rattle.dac_node.specs.Changes.{ChangeValue, Prepared, IsNotingBy, changed, left_by, reply_by}
+use Rattle.dac_rules.specs.NodeValue.{NodeValue, RunValue}
+use Rattle.dac_rules.specs.ModelNode.{ModelNode, ModelRun, joined, shown, run_shown}
+use Rattle.dac_rules.specs.EventRefusals.{refusal_of, refusal_by}
+use Rattle.dac_rules.specs.Deeds.{ticks_by, opening_at, note_of}
+use Rattle.dac_rules.specs.Step.{model_step, step_by, accepted, Stepped}
+use Rattle.dac_rules.specs.Hearing.{HearsExactly}
+use Rattle.dac_rules.specs.Accepted.{AcceptedAs, AreNewest, IsNotingBy, left_by, reply_by}
 use Rattle.dac_worlds.specs.WorldValue.{WorldValue}
 use Rattle.dac_worlds.specs.ModelWorld.{ModelWorld, Shows, WorldStepped, happens, happens_by, answered_by, event_of, counted, numbered, with_node, issued_by, shipped_by, out_of_memory, Step, Follows}
 use Rattle.dac_worlds.specs.WorldChanges.{Goes}
 use Rattle.dac_worlds.specs.AtNode.{HearsAt, HearsIn, HappensAt}
-use Rattle.dac_node.specs.laws.Heard.{hears_exactly}
-use Rattle.dac_node.specs.laws.Steps.{shown_accepted, answer_accepted, step_accepted}
-use Rattle.dac_node.specs.laws.Options.{some_same}
+use Rattle.dac_rules.specs.laws.Heard.{hears_exactly}
+use Rattle.dac_rules.specs.laws.Steps.{shown_accepted, answer_accepted, step_accepted}
+use Rattle.dac_rules.specs.laws.Options.{some_same}
 
 -- the node of a world that shows v
 node_shown : (t : Table) (w : ModelWorld) (v : WorldValue) → Shows t w v → (me : NodeId) (old : NodeValue) → me.0 < length v.nodes → slice_get v.nodes me.0 ≡ Some old → shown t (w.node me) ≡ old
@@ -115,25 +115,26 @@ err_follows t v me e old why here is crash =
     not_off p = cc
 
 -- the node's place after a change
-pub changed_at : (nodes : List NodeValue) (me : NodeId) (old : NodeValue) (change : ChangeValue) → slice_get nodes me.0 ≡ Some old → (x : NodeValue) → x ≡ changed old change → (n : ℕ) →
-    cond (nat_eq n me.0) (option_map (λ (y : NodeValue). changed y change) (slice_get nodes n)) (slice_get nodes n) ≡ cond (nat_eq n me.0) (Some x) (slice_get nodes n)
-changed_at nodes me old change there x is n =
-    elim (nat_eq n me.0) as (λ b. nat_eq n me.0 ≡ b → cond b (option_map (λ (y : NodeValue). changed y change) (slice_get nodes n)) (slice_get nodes n) ≡ cond b (Some x) (slice_get nodes n)) [
-      | true ↦ λ e. ap (λ k. option_map (λ (y : NodeValue). changed y change) (slice_get nodes k)) (exact_unsigned_eq n me.0 e) ∙ (ap (option_map (λ (y : NodeValue). changed y change)) there ∙ ap (λ y. Some y) (sym is))
+pub changed_at : (nodes : List NodeValue) (me : NodeId) (old : NodeValue) (become : NodeValue → NodeValue) → slice_get nodes me.0 ≡ Some old → (x : NodeValue) → x ≡ become old → (n : ℕ) →
+    cond (nat_eq n me.0) (option_map become (slice_get nodes n)) (slice_get nodes n) ≡ cond (nat_eq n me.0) (Some x) (slice_get nodes n)
+changed_at nodes me old become there x is n =
+    elim (nat_eq n me.0) as (λ b. nat_eq n me.0 ≡ b → cond b (option_map become (slice_get nodes n)) (slice_get nodes n) ≡ cond b (Some x) (slice_get nodes n)) [
+      | true ↦ λ e. ap (λ k. option_map become (slice_get nodes k)) (exact_unsigned_eq n me.0 e) ∙ (ap (option_map become) there ∙ ap (λ y. Some y) (sym is))
       | false ↦ λ e. refl
     ] refl
 
 -- what an accepted event leaves
-ok_follows : (t : Table) (v u : WorldValue) (me : NodeId) (e : Event) (old : NodeValue) (change : ChangeValue) (reply : Reply) → Here v me old → Prepared t me old e change → Goes v me change reply u → Follows t v (λ w. happens_by t w me (Ok e)) (Ok reply) u
-ok_follows t v u me e old change reply here p goes = record {
+ok_follows : (t : Table) (v u : WorldValue) (me : NodeId) (e : Event) (old : NodeValue) (become : NodeValue → NodeValue) (own : Reply) (reply : Reply) → Here v me old → AcceptedAs t me old e (become old) own → Goes v me become own reply u → Follows t v (λ w. happens_by t w me (Ok e)) (Ok reply) u
+ok_follows t v u me e old become own reply here p goes = record {
   each = λ w h.
       let d = w.node me in
       let same = node_shown t w v h me old here.inside here.there in
       let st = step_accepted t me d e (refusal_same t w v h me e old here ∙ p.accepted) in
       let noting : IsNotingBy t (shown t d).run p.noted e = subst (λ (x : NodeValue). IsNotingBy t x.run p.noted e) (sym same) p.noting in
-      let answer : (accepted t me d.last d.run e).answer ≡ Ok reply = answer_accepted t me d.last d.run p.noted e noting ∙ ap (λ r. Ok r) (ap (λ (x : NodeValue). reply_by t me x.last x.run p.noted e) same ∙ sym p.reply ∙ sym goes.reply) in
+      let newest = subst (λ (x : NodeValue). IfSome x.run (λ (r : RunValue). AreNewest r.kept)) (sym same) p.newest in
+      let answer : (accepted t me d.last d.run e).answer ≡ Ok reply = answer_accepted t me d.last d.run p.noted e newest noting ∙ ap (λ r. Ok r) (ap (λ (x : NodeValue). reply_by t me x.last x.run p.noted e) same ∙ sym p.reply ∙ sym goes.reply) in
       let new : ModelNode = (accepted t me d.last d.run e).node in
-      let shows : shown t new ≡ changed old change = shown_accepted t me d.last d.run p.noted e noting ∙ (ap (λ (x : NodeValue). left_by t me x.last x.run p.noted e) same ∙ sym p.left) in
+      let shows : shown t new ≡ become old = shown_accepted t me d.last d.run p.noted e newest noting ∙ (ap (λ (x : NodeValue). left_by t me x.last x.run p.noted e) same ∙ sym p.left) in
       let all : happens_by t w me (Ok e) ≡ answered_by w me new (Ok reply) = by_step t w me e _ st ∙ ap (answered_by w me new) answer in
       let next : ModelWorld = record { count = w.count; node = with_node w.node me new; operations = w.operations ++ issued_by reply; messages = w.messages ++ shipped_by reply } in (
         next,
@@ -141,7 +142,7 @@ ok_follows t v u me e old change reply here p goes = record {
           inl (record { answered = ap (λ (s : WorldStepped). s.answer) (sym all); went_on = ap (λ (s : WorldStepped). s.world) (sym all) }),
           record {
             count = goes.nodes.count ∙ h.count;
-            nodes = λ n. goes.nodes.each n ∙ (changed_at v.nodes me old change here.there (shown t new) shows n ∙ (ap (cond (nat_eq n me.0) (Some (shown t new))) (h.nodes n) ∙ at w new n (ap (nat_lt me.0) (sym h.count) ∙ lt-ltb me.0 (length v.nodes) here.inside)));
+            nodes = λ n. goes.nodes.each n ∙ (changed_at v.nodes me old become here.there (shown t new) shows n ∙ (ap (cond (nat_eq n me.0) (Some (shown t new))) (h.nodes n) ∙ at w new n (ap (nat_lt me.0) (sym h.count) ∙ lt-ltb me.0 (length v.nodes) here.inside)));
             operations = goes.operations ∙ (λ i. h.operations i ++ issued_by (sym goes.reply i));
             messages = goes.messages ∙ (λ i. h.messages i ++ shipped_by (sym goes.reply i));
           },
@@ -182,10 +183,10 @@ counted_there xs k x some lt read =
     ∙ slice_get_read xs (length xs) (k - 1) x refl lt read
 
 -- what comes of a prepared change: all of it, or want of memory and nothing
-gone_follows : (t : Table) (v u : WorldValue) (me : NodeId) (e : Event) (old : NodeValue) (change : ChangeValue) (answer : Result Reply WorldFault) → Here v me old → Prepared t me old e change →
-    IfOk answer (λ reply. Goes v me change reply u) → IfErr answer (λ fault. Err fault ≡ out_of_memory) → IfErr answer (λ _. change.reply ≡ Crashed → ⊥) → OnErr answer (u ≡ v) → Follows t v (λ w. happens_by t w me (Ok e)) answer u
-gone_follows t v u me e old change (Ok reply) here p goes lacked stays same = ok_follows t v u me e old change reply here p goes
-gone_follows t v u me e old change (Err fault) here p goes lacked stays same =
+gone_follows : (t : Table) (v u : WorldValue) (me : NodeId) (e : Event) (old : NodeValue) (become : NodeValue → NodeValue) (own : Reply) (answer : Result Reply WorldFault) → Here v me old → AcceptedAs t me old e (become old) own →
+    IfOk answer (λ reply. Goes v me become own reply u) → IfErr answer (λ fault. Err fault ≡ out_of_memory) → IfErr answer (λ _. own ≡ Crashed → ⊥) → OnErr answer (u ≡ v) → Follows t v (λ w. happens_by t w me (Ok e)) answer u
+gone_follows t v u me e old become own (Ok reply) here p goes lacked stays same = ok_follows t v u me e old become own reply here p goes
+gone_follows t v u me e old become own (Err fault) here p goes lacked stays same =
     subst (λ x. Follows t v (λ w. happens_by t w me (Ok e)) x u) (sym lacked)
     (subst (λ x. Follows t v (λ w. happens_by t w me (Ok e)) out_of_memory x) (sym same) (lacked_follows t v me e old here p.accepted (λ c. stays (p.reply ∙ crashes c))))
   where
@@ -199,14 +200,14 @@ gone_follows t v u me e old change (Err fault) here p goes lacked stays same =
 
 -- ---- what an event at a node does
 -- what the event brings is what the node has heard from then on, beside what it had
-goes_hears : (t : Table) (v u : WorldValue) (me : NodeId) (e : Event) (old : NodeValue) (change : ChangeValue) (reply : Reply) → Here v me old → Prepared t me old e change → Goes v me change reply u → HearsAt v me e reply u
-goes_hears t v u me e old change reply here p goes = record {
+goes_hears : (t : Table) (v u : WorldValue) (me : NodeId) (e : Event) (old : NodeValue) (become : NodeValue → NodeValue) (own : Reply) (reply : Reply) → Here v me old → AcceptedAs t me old e (become old) own → Goes v me become own reply u → HearsAt v me e reply u
+goes_hears t v u me e old become own reply here p goes = record {
   hears = λ x y was is.
       let before : old ≡ x = some_same old x (sym here.there ∙ was) in
-      let after : changed old change ≡ y = some_same (changed old change) y (sym (goes.nodes.each me.0 ∙ (changed_at v.nodes me old change here.there (changed old change) refl me.0 ∙ ap (λ b. cond b (Some (changed old change)) (slice_get v.nodes me.0)) (eq-eqb me.0 me.0 refl))) ∙ is) in
+      let after : become old ≡ y = some_same (become old) y (sym (goes.nodes.each me.0 ∙ (changed_at v.nodes me old become here.there (become old) refl me.0 ∙ ap (λ b. cond b (Some (become old)) (slice_get v.nodes me.0)) (eq-eqb me.0 me.0 refl))) ∙ is) in
       subst (λ (z : NodeValue × (Reply × NodeValue)). HearsExactly z.0 e z.1.0 z.1.1) (λ i. (before i, ((sym p.reply ∙ sym goes.reply) i, (sym p.left ∙ after) i)))
       (hears_exactly t me old.last old.run p.noted e p.accepted);
-  others = λ n other. goes.nodes.each n ∙ ap (λ b. cond b (option_map (λ (y : NodeValue). changed y change) (slice_get v.nodes n)) (slice_get v.nodes n)) (false_from_ne_true (nat_eq n me.0) (λ e. other (exact_unsigned_eq n me.0 e)));
+  others = λ n other. goes.nodes.each n ∙ ap (λ b. cond b (option_map become (slice_get v.nodes n)) (slice_get v.nodes n)) (false_from_ne_true (nat_eq n me.0) (λ e. other (exact_unsigned_eq n me.0 e)));
 }
 
 same_ok : {X Y : Type 0} (x y : X) → ◌≡◌ {A = Result X Y} (Ok x) (Ok y) → x ≡ y
@@ -216,11 +217,11 @@ no_ok : {X Y P : Type 0} (y : Y) (x : X) → ◌≡◌ {A = Result X Y} (Err y) 
 no_ok y x e = cc
 
 -- what comes of a prepared change
-pub happens_gone : (t : Table) (v u : WorldValue) (me : NodeId) (e : Event) (old : NodeValue) (change : ChangeValue) (answer : Result Reply WorldFault) → Here v me old → Prepared t me old e change →
-    IfOk answer (λ reply. Goes v me change reply u) → IfErr answer (λ fault. Err fault ≡ out_of_memory) → IfErr answer (λ _. change.reply ≡ Crashed → ⊥) → OnErr answer (u ≡ v) → HappensAt t v me (Ok e) answer u
-happens_gone t v u me e old change answer here p goes lacked stays same = record {
-  follows = gone_follows t v u me e old change answer here p goes lacked stays same;
-  hears = λ reply is x at. subst (λ y. HearsAt v me y reply u) (same_ok e x at) (goes_hears t v u me e old change reply here p (subst (λ a. IfOk a (λ r. Goes v me change r u)) is goes));
+pub happens_gone : (t : Table) (v u : WorldValue) (me : NodeId) (e : Event) (old : NodeValue) (become : NodeValue → NodeValue) (own : Reply) (answer : Result Reply WorldFault) → Here v me old → AcceptedAs t me old e (become old) own →
+    IfOk answer (λ reply. Goes v me become own reply u) → IfErr answer (λ fault. Err fault ≡ out_of_memory) → IfErr answer (λ _. own ≡ Crashed → ⊥) → OnErr answer (u ≡ v) → HappensAt t v me (Ok e) answer u
+happens_gone t v u me e old become own answer here p goes lacked stays same = record {
+  follows = gone_follows t v u me e old become own answer here p goes lacked stays same;
+  hears = λ reply is x at. subst (λ y. HearsAt v me y reply u) (same_ok e x at) (goes_hears t v u me e old become own reply here p (subst (λ a. IfOk a (λ r. Goes v me become own r u)) is goes));
 }
 
 -- what comes of a refusal by the node

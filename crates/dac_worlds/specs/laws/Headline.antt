@@ -11,11 +11,11 @@ use Rattle.dac_meaning.specs.Meaning.{meaning_of, In}
 use Rattle.dac_events.specs.declared.WorldEvent.{WorldEvent}
 use Rattle.dac_state.specs.StateSpelling.{spelling_of}
 use Rattle.dac_placement.specs.Placement.{holder_of, verdict_of, candidate_of}
-use Rattle.dac_node.specs.NodeValue.{RunValue, origin_of, state_of}
+use Rattle.dac_rules.specs.NodeValue.{RunValue, origin_of, state_of}
 use Rattle.dac_messages.specs.declared.message.Message.{Message}
 use Rattle.dac_worlds.specs.WorldValue.{WorldValue}
-use Rattle.dac_node.specs.ModelNode.{ModelNode, ModelRun, run_shown}
-use Rattle.dac_node.specs.laws.Options.{some_same}
+use Rattle.dac_rules.specs.ModelNode.{ModelNode, ModelRun, run_shown}
+use Rattle.dac_rules.specs.laws.Options.{some_same}
 use Rattle.dac_worlds.specs.ModelWorld.{ModelWorld, Shows, RanAs, start, numbered}
 use Rattle.dac_worlds.specs.SetWorld.{SetWorld, NodeSet, Copy, set_run, no_sets}
 use Rattle.dac_worlds.specs.Convergence.{EachIsMeaning, Alike, Agrees, DistinctDots, HoldsSets, ListsAll, CarryMeanings, heard_among, state_by, origin_by}
@@ -23,7 +23,11 @@ use Rattle.dac_worlds.specs.Converges.{Converges}
 use Rattle.dac_worlds.specs.laws.Operations.{DistinctDots-agree}
 use Rattle.dac_worlds.specs.laws.Meanings.{meaning-heard_among}
 use Rattle.dac_worlds.specs.laws.OneNode.{NodeOk, state_in, own_origin}
-use Rattle.dac_worlds.specs.laws.Sound.{Answer, Sound, CopiesOk, CopiesOk-get, sound_run, sound_start}
+use Rattle.dac_worlds.specs.laws.Gathered.{Entries}
+use Rattle.dac_worlds.specs.laws.Covers.{Seen}
+use Rattle.dac_worlds.specs.laws.Carried.{CopiesOk, CopiesOk-get}
+use Rattle.dac_worlds.specs.laws.Sound.{Answer, Sound, seen, sound_run, sound_start}
+use Rattle.dac_worlds.specs.laws.UnitingInRuns.{unite_run}
 use Rattle.dac_worlds.specs.laws.NewsOfRuns.{news_run}
 use Rattle.dac_worlds.specs.laws.HeardInRuns.{heard_run}
 use Rattle.dac_worlds.specs.laws.AddressedInRuns.{addressed_run}
@@ -37,12 +41,12 @@ state_shown t None = refl
 state_shown t (Some r) = refl
 
 -- a running node's incarnation is its set's
-incarnation_held : (t : Table) (ops : List Operation) (n : NodeId) (d : ModelNode) (held : Option NodeSet) → NodeOk ops n d held → (run : Option ModelRun) → d.run ≡ run → (o : Option NodeSet) → held ≡ o → option_map state_in run ≡ option_map state_by o →
+incarnation_held : (t : Table) (ops : List Operation) (n : NodeId) (d : ModelNode) (held : Option NodeSet) (es : Entries) → NodeOk ops n d held es → (run : Option ModelRun) → d.run ≡ run → (o : Option NodeSet) → held ≡ o → option_map state_in run ≡ option_map state_by o →
     option_map (λ (r : RunValue). r.origin) (option_map (run_shown t) run) ≡ option_map (origin_by n) o
-incarnation_held t ops n d held h None on None is same = refl
-incarnation_held t ops n d held h None on (Some set) is same = cc
-incarnation_held t ops n d held h (Some r) on None is same = cc
-incarnation_held t ops n d held h (Some r) on (Some set) is same = ap (λ (q : Origin). Some q) (h.origin r on ∙ ap (own_origin n) (sym (h.inc set is)))
+incarnation_held t ops n d held es h None on None is same = refl
+incarnation_held t ops n d held es h None on (Some set) is same = cc
+incarnation_held t ops n d held es h (Some r) on None is same = cc
+incarnation_held t ops n d held es h (Some r) on (Some set) is same = ap (λ (q : Origin). Some q) (h.origin r on ∙ ap (own_origin n) (sym (h.inc set is)))
 
 pub holds_sets : (t : Table) (w : ModelWorld) (v : WorldValue) (s : SetWorld) → Shows t w v → Sound w s → HoldsSets v s
 holds_sets t w v s shows h = record {
@@ -50,7 +54,7 @@ holds_sets t w v s shows h = record {
   incarnation = λ n x e.
       let m = numbered n in
       let d = w.node m in
-      ap origin_of (node_there t w v shows n x e) ∙ incarnation_held t w.operations m d (s.node m) (h.nodes m) d.run refl (s.node m) refl (h.nodes m).state;
+      ap origin_of (node_there t w v shows n x e) ∙ incarnation_held t w.operations m d (s.node m) (h.entries m) (h.nodes m) d.run refl (s.node m) refl (h.nodes m).state;
 }
 
 pub each_is_meaning : (t : Table) (w : ModelWorld) (v : WorldValue) (s : SetWorld) → Shows t w v → Sound w s → EachIsMeaning v
@@ -87,21 +91,21 @@ agrees v h = record {
 pub carry_meanings : (t : Table) (w : ModelWorld) (v : WorldValue) (s : SetWorld) → Shows t w v → Sound w s → CarryMeanings v
 carry_meanings t w v s shows h = record {
   each = λ k m e.
-      let c = CopiesOk-get w.operations w.messages s.copies k m h.copies (ap (λ ms. slice_get ms k) (sym shows.messages) ∙ e) in
-      (c.0.operations, (λ o i. subst (In o) (sym shows.operations) (c.1.1.within o i), c.1.1.body));
+      let c = CopiesOk-get w.operations (seen w.node s.node h.entries) w.messages s.copies k m h.copies (ap (λ ms. slice_get ms k) (sym shows.messages) ∙ e) in
+      (c.1.1.delta, (λ o i. subst (In o) (sym shows.operations) (c.1.1.within o (c.1.1.inside o i)), c.1.1.body));
 }
 
 -- there are as many copies as messages
-copies-length : (ops : List Operation) (ms : List Message) (cs : List Copy) → CopiesOk ops ms cs → length cs ≡ length ms
-copies-length ops [] [] h = refl
-copies-length ops [] (c ∷ cs) h = absurd h
-copies-length ops (m ∷ ms) [] h = absurd h
-copies-length ops (m ∷ ms) (c ∷ cs) h = ap suc (copies-length ops ms cs h.1)
+copies-length : (ops : List Operation) (v : NodeId → Seen) (ms : List Message) (cs : List Copy) → CopiesOk ops v ms cs → length cs ≡ length ms
+copies-length ops v [] [] h = refl
+copies-length ops v [] (c ∷ cs) h = absurd h
+copies-length ops v (m ∷ ms) [] h = absurd h
+copies-length ops v (m ∷ ms) (c ∷ cs) h = ap suc (copies-length ops v ms cs h.1)
 
 pub lists_all : (t : Table) (w : ModelWorld) (v : WorldValue) (s : SetWorld) → Shows t w v → Sound w s → ListsAll v s
 lists_all t w v s shows h = record {
   operations = shows.operations ∙ sym h.issued;
-  copies = copies-length w.operations w.messages s.copies h.copies ∙ ap length (sym shows.messages);
+  copies = copies-length w.operations (seen w.node s.node h.entries) w.messages s.copies h.copies ∙ ap length (sym shows.messages);
 }
 
 -- what every run leaves
@@ -118,6 +122,7 @@ converged t events answers v r =
       sets = sets;
       listed = lists_all t r.final v all r.shows h;
       bodies = carry_meanings t r.final v all r.shows h;
+      unite = unite_run t (start t) no_sets events answers r.final (sound_start t) r.run;
       news = news_run t (start t) no_sets events answers r.final (sound_start t) r.run;
       heard = heard_run t events answers r.final r.run;
       addressed = addressed_run t (start t) no_sets events answers r.final (sound_start t) r.run;

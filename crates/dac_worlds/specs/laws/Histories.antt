@@ -5,9 +5,9 @@ use Rattle.dac_config.specs.Table.{Table}
 use Rattle.dac_messages.specs.declared.event.Event.{Event}
 use Rattle.dac_messages.specs.declared.reply.Reply.{Reply}
 use Rattle.dac_commands.specs.declared.refusal.Refusal.{Refusal}
-use Rattle.dac_node.specs.ModelNode.{ModelNode, ModelRun, shown}
-use Rattle.dac_node.specs.EventRefusals.{refusal_of}
-use Rattle.dac_node.specs.Step.{model_step, step_by, accepted}
+use Rattle.dac_rules.specs.ModelNode.{ModelNode, ModelRun, shown}
+use Rattle.dac_rules.specs.EventRefusals.{refusal_of}
+use Rattle.dac_rules.specs.Step.{model_step, step_by, accepted}
 use Rattle.dac_worlds.specs.Histories.{Entry, IsHistory}
 
 ok_err : {P : Type 0} (reply : Reply) (why : Refusal) → ◌≡◌ {A = Result Reply Refusal} (Ok reply) (Err why) → P

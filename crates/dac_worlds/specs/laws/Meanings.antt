@@ -31,11 +31,9 @@ in_heard os ops w agree o h t =
     let f = found (has_dot o.dot) os (sym (heard-meaning os o.dot) ∙ t) in
     subst (λ (p : Operation). In p os) (sym (agree o f.0 h (w f.0 f.1.0) (same_dot_is o.dot f.0.dot f.1.1))) f.1.0
 
--- a state that is below another's adds nothing
-pub below_adds_nothing : (os ps ops : List Operation) → Within os ops → Within ps ops → Agree ops → IsBelow (meaning_of ps) (meaning_of os) → meaning_of os ≡ meaning_of (os ++ ps)
-below_adds_nothing os ps ops w v agree below =
-    meaning-same os (os ++ ps) (λ o h. In-append_left o os ps h)
-    (Within-append os ps os (λ o h. h) (λ o h. in_heard os ops w agree o (v o h) (below.heard o.dot (heard_in ps o h))))
+-- what is below a set's meaning means operations of the set
+pub below_in : (os ps ops : List Operation) → Within os ops → Within ps ops → Agree ops → IsBelow (meaning_of ps) (meaning_of os) → Within ps os
+below_in os ps ops w v agree below o h = in_heard os ops w agree o (v o h) (below.heard o.dot (heard_in ps o h))
 
 -- where each operation of ps is heard in a state, what ps mean is below it
 pub below_where_heard : (os ps ops : List Operation) → Within os ops → Within ps ops → Agree ops → ((o : Operation) → In o ps → set.contains (meaning_of os).heard o.dot ≡ true) → IsBelow (meaning_of ps) (meaning_of os)

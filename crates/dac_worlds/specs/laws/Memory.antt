@@ -14,10 +14,10 @@ use Rattle.dac_commands.specs.declared.refusal.Refusal.{Refusal}
 use Rattle.dac_commands.specs.declared.refusal.Refusal.TheVariants.{NoMemory}
 use Rattle.dac_worlds.specs.declared.fault.WorldFault.{WorldFault}
 use Rattle.dac_worlds.specs.declared.fault.WorldFault.TheVariants.{NoSuchNode, NoSuchMessage, NoSuchOperation, Refused}
-use Rattle.dac_node.specs.ModelNode.{ModelRun, shown}
-use Rattle.dac_node.specs.EventRefusals.{refusal_of}
-use Rattle.dac_node.specs.Step.{step_by, accepted}
-use Rattle.dac_node.specs.laws.Refused.{never_memory}
+use Rattle.dac_rules.specs.ModelNode.{ModelRun, shown}
+use Rattle.dac_rules.specs.EventRefusals.{refusal_of}
+use Rattle.dac_rules.specs.Step.{step_by, accepted}
+use Rattle.dac_rules.specs.laws.Refused.{never_memory}
 use Rattle.dac_worlds.specs.ModelWorld.{ModelWorld, happens, happens_by, answered_by, event_of, heard_by, handed_by, counted, out_of_memory}
 
 abbrev Answer : Type 0

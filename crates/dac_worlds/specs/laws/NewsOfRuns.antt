@@ -1,5 +1,5 @@
 -- What is heard is answered by whether it brought a dot that the node hadn't heard.
-use Rattle.std.proofs.Common.{◌≡◌, ℕ, Bool, true, false, not, cond, List, [], ◌∷◌, Option, Some, None, Ok, Err, inl, inr, refl, sym, ap, subst, ◌∙◌, true≢false}
+use Rattle.std.proofs.Common.{◌≡◌, ℕ, Bool, true, false, not, cond, List, [], ◌∷◌, Option, Some, None, ◌⊎◌, Ok, Err, inl, inr, refl, sym, ap, subst, ◌∙◌, true≢false}
 use Rattle.std.specs.Prelude.{◌↔◌, IsTrue, nat_lt}
 use Rattle.std.specs.Option.{option_map}
 use Rattle.std.specs.List.{list_any}
@@ -9,7 +9,7 @@ use Rattle.dac_base.specs.declared.NodeId.{NodeId}
 use Rattle.dac_wishes.specs.Writes.{same_dot_is}
 use Rattle.dac_operations.specs.Operations.{Operation}
 use Rattle.dac_meaning.specs.StateValue.{StateValue}
-use Rattle.dac_meaning.specs.Meaning.{meaning_of, Within, Agree, has_dot}
+use Rattle.dac_meaning.specs.Meaning.{meaning_of, In, Within, Agree, has_dot}
 use Rattle.dac_meaning.specs.Readers.{heard-meaning}
 use Rattle.dac_meaning.specs.Members.{found, finds}
 use Rattle.dac_config.specs.Table.{Table}
@@ -25,18 +25,18 @@ use Rattle.dac_messages.specs.declared.event.Event.TheVariants.{Boot, Tick, Hear
 use Rattle.dac_commands.specs.declared.refusal.Refusal.TheVariants.{AlreadyOn}
 use Rattle.dac_worlds.specs.declared.fault.WorldFault.TheVariants.{NoSuchNode}
 use Rattle.dac_meaning.specs.Below.{is_below, is_below-is}
-use Rattle.dac_node.specs.NodeValue.{RunValue}
-use Rattle.dac_node.specs.ModelNode.{ModelRun, joined, shown, run_shown}
-use Rattle.dac_node.specs.EventRefusals.{refusal_of, refusal_by}
-use Rattle.dac_node.specs.Deeds.{ticks_by, opening_at, note_of}
-use Rattle.dac_node.specs.Step.{step_by, accepted}
+use Rattle.dac_rules.specs.NodeValue.{RunValue}
+use Rattle.dac_rules.specs.ModelNode.{ModelRun, joined, shown, run_shown}
+use Rattle.dac_rules.specs.EventRefusals.{refusal_of, refusal_by}
+use Rattle.dac_rules.specs.Deeds.{ticks_by, opening_at, note_of}
+use Rattle.dac_rules.specs.Step.{step_by, accepted}
 use Rattle.dac_worlds.specs.ModelWorld.{ModelWorld, happens, happens_by, answered_by, event_of, Step, Run}
 use Rattle.dac_worlds.specs.SetWorld.{SetWorld, NodeSet, held_by, brought_to, set_step}
 use Rattle.dac_worlds.specs.News.{HasDot, HasNews, TellsNews, AnswersNews}
 use Rattle.dac_worlds.specs.laws.Operations.{DistinctDots-agree}
 use Rattle.dac_worlds.specs.laws.Meanings.{heard_in, below_where_heard}
 use Rattle.dac_worlds.specs.laws.Runs.{run_first}
-use Rattle.dac_worlds.specs.laws.Sound.{Answer, Sound, Brings, held_at, brings_copy, brings_one, sound_step}
+use Rattle.dac_worlds.specs.laws.Sound.{Answer, Sound, Brings, held_at, heard_accepts, brings_copy, brings_one, sound_step}
 
 -- ---- sets of operations
 
@@ -78,15 +78,25 @@ news-is os ps ops w v agree = (
 
 -- ---- one event of the world
 
+-- where the node has the rest of what an event brings, there is news in the whole exactly where there is in the part that comes
+news_of_part : (os part all : List Operation) → Within part all → ((o : Operation) → In o all → In o part ⊎ In o os) → HasNews os part ↔ HasNews os all
+news_of_part os part all inside rest = (
+  λ h. (h.0, (inside h.0 h.1.0, h.1.1)),
+  λ h. elim (rest h.0 h.1.0) [ inl a ↦ (h.0, (a, h.1.1)) | inr b ↦ absurd (h.1.1 (h.0, (b, refl))) ],
+)
+
 -- what a running node hears
-told_news : (w : ModelWorld) (s : SetWorld) (n : NodeId) (what : What) (body : StateValue) (r : ModelRun) → Sound w s → (w.node n).run ≡ Some r → Brings w s n what body →
+told_news : (w : ModelWorld) (s : SetWorld) (n : NodeId) (what : What) (body : StateValue) (r : ModelRun) (h : Sound w s) (on : (w.node n).run ≡ Some r) → Brings w s n what body (held_at w s n r h on).set.operations →
     IsTrue (not (is_below body (joined r.log))) ↔ HasNews (held_by (s.node n)) (brought_to s n what)
 told_news w s n what body r h on b =
     let held = held_at w s n r h on in
+    let os = held.set.operations in
+    let told : IsTrue (not (is_below (meaning_of b.delta) (meaning_of os))) ↔ HasNews os b.delta = news-is os b.delta w.operations held.ok.within (λ o i. b.within o (b.inside o i)) (DistinctDots-agree w.operations h.distinct) in
+    let part = news_of_part os b.delta b.operations b.inside b.rest in
     subst (λ (o : Option NodeSet). IsTrue (not (is_below body (joined r.log))) ↔ HasNews (held_by o) (brought_to s n what)) (sym held.is)
-    (subst (λ (os : List Operation). IsTrue (not (is_below body (joined r.log))) ↔ HasNews held.set.operations os) (sym b.brought)
-    (subst (λ (x : StateValue × StateValue). IsTrue (not (is_below x.0 x.1)) ↔ HasNews held.set.operations b.operations) (λ i. (sym b.means i, sym held.state i))
-    (news-is held.set.operations b.operations w.operations held.ok.within b.within (DistinctDots-agree w.operations h.distinct))))
+    (subst (λ (ps : List Operation). IsTrue (not (is_below body (joined r.log))) ↔ HasNews os ps) (sym b.brought)
+    (subst (λ (x : StateValue × StateValue). IsTrue (not (is_below x.0 x.1)) ↔ HasNews os b.operations) (λ i. (sym b.means i, sym held.state i))
+    (λ t. part.0 (told.0 t), λ k. told.1 (part.1 k))))
 
 no_news : (t : Table) (s : SetWorld) (e : WorldEvent) (r : RunValue) (noted : List (Option Noted)) (now : ℕ) (opening : Opening) → TellsNews s e (Ok (ticks_by opening t r noted now).reply)
 no_news t s e r noted now Shut = tt
@@ -103,8 +113,8 @@ news_ok t w s e (Boot now) (Some r) h is none on = absurd (no (ap (λ (l : Optio
     no p = cc
 news_ok t w s e (Tick now) (Some r) h is none on = no_news t s e (run_shown t r) (waits_of t (note_of (joined r.log) (Tick now) ∷ r.notes)) now (opening_at t (run_shown t r) now)
 news_ok t w s e (Hear m) (Some r) h is none on =
-    told_news w s e.node e.what (content_of m.body) r h on (brings_copy w s e.node e.what m r h on is (ap (λ (l : Option ModelRun). refusal_by t (w.node e.node).last (option_map (run_shown t) l) (Hear m)) (sym on) ∙ none))
-news_ok t w s e (HearOp o) (Some r) h is none on = told_news w s e.node e.what (meaning_of (o ∷ [])) r h on (brings_one w s e.node e.what o h is)
+    told_news w s e.node e.what (content_of m.body) r h on (brings_copy w s e.node e.what m r h on is (heard_accepts t w s e.node r h on m none))
+news_ok t w s e (HearOp o) (Some r) h is none on = told_news w s e.node e.what (meaning_of (o ∷ [])) r h on (brings_one w s e.node e.what o (held_at w s e.node r h on).set.operations h is)
 news_ok t w s e _ (Some r) h is none on = tt
 
 news_by : (t : Table) (w : ModelWorld) (s : SetWorld) (e : WorldEvent) → Sound w s → TellsNews s e (happens_by t w e.node (event_of w.operations w.messages e.what)).answer

@@ -1,7 +1,7 @@
 -- One node of the definition's world beside the set that it holds: what holds of the two together after
 -- every event. A running node's state is the meaning of its set, and what makes dots new is kept: it holds
 -- all that its present incarnation issued, and no operation is of a later incarnation of it than the last.
-use Rattle.std.proofs.Common.{◌≡◌, ℕ, ◌≤◌, ◌+◌, Bool, true, false, not, cond, ◌||◌, inl, inr, List, [], ◌∷◌, ◌++◌, Option, Some, None, refl, sym, ap, subst, ◌∙◌, append_assoc, append-nil, arith, true≢false}
+use Rattle.std.proofs.Common.{◌≡◌, ℕ, ◌≤◌, ◌+◌, true, false, ◌||◌, inl, inr, List, [], ◌∷◌, ◌++◌, Option, Some, None, refl, sym, ap, subst, ◌∙◌, append_assoc, append-nil, arith}
 use Rattle.std.specs.Prelude.{fold}
 use Rattle.std.specs.Option.{option_map}
 use Rattle.std.specs.List.{list_any}
@@ -18,18 +18,17 @@ use Rattle.dac_meaning.specs.Meaning.{meaning_of, In, Within, Agree, has_dot, re
 use Rattle.dac_meaning.specs.Readers.{known-meaning}
 use Rattle.dac_meaning.specs.Members.{Within-append, In-append_left, In-append_right, In-append_cases, found, finds}
 use Rattle.dac_meaning.specs.Joins.{join-meaning}
-use Rattle.dac_meaning.specs.Below.{is_below, is_below-is}
 use Rattle.dac_commands.specs.Commands.{next_operation, greatest_counter}
 use Rattle.dac_commands.specs.laws.Counters.{counter-greatest}
 use Rattle.dac_ticks.specs.Issued.{IsNextOf, AreIssued}
-use Rattle.dac_node.specs.ModelNode.{ModelNode, ModelRun, joined}
-use Rattle.dac_node.specs.Deeds.{meanings}
-use Rattle.dac_node.specs.Step.{up}
-use Rattle.dac_node.specs.laws.Options.{some_same}
+use Rattle.dac_rules.specs.ModelNode.{ModelNode, ModelRun, joined}
+use Rattle.dac_rules.specs.Deeds.{meanings}
+use Rattle.dac_rules.specs.Step.{up}
+use Rattle.dac_rules.specs.laws.Options.{some_same}
 use Rattle.dac_worlds.specs.SetWorld.{NodeSet}
 use Rattle.dac_worlds.specs.Convergence.{DistinctDots, state_by}
 use Rattle.dac_worlds.specs.laws.Operations.{one_in, Agree-within, DistinctDots-agree, DistinctDots-push}
-use Rattle.dac_worlds.specs.laws.Meanings.{below_adds_nothing}
+use Rattle.dac_worlds.specs.laws.Gathered.{Entries, IsLogOf, log_means}
 
 abbrev pub own_origin : NodeId → ℕ → Origin
 own_origin n inc = record { node = n; inc = inc }
@@ -49,11 +48,12 @@ stays_off last = record { last = last; run = None }
 abbrev pub NoneLater : List Operation → NodeId → ℕ → Type 0
 NoneLater ops n last = (o : Operation) → In o ops → o.dot.origin.node ≡ n → o.dot.origin.inc ≤ last
 
--- node n with its log, beside the set that it holds
-pub record NodeOk (ops : List Operation) (n : NodeId) (d : ModelNode) (held : Option NodeSet) : Type 0 where
+-- node n with its log, beside the set that it holds and the sets that the states of its log mean
+pub record NodeOk (ops : List Operation) (n : NodeId) (d : ModelNode) (held : Option NodeSet) (es : Entries) : Type 0 where
   pub state : option_map state_in d.run ≡ option_map state_by held
   pub origin : (r : ModelRun) → d.run ≡ Some r → r.origin ≡ own_origin n d.last
   pub inc : (set : NodeSet) → held ≡ Some set → set.inc ≡ d.last
+  pub log : (r : ModelRun) (set : NodeSet) → d.run ≡ Some r → held ≡ Some set → IsLogOf r.log set.operations es
   pub within : (set : NodeSet) → held ≡ Some set → Within set.operations ops
   pub own : (set : NodeSet) → held ≡ Some set → (o : Operation) → In o ops → o.dot.origin ≡ own_origin n d.last → In o set.operations
   pub old : NoneLater ops n d.last
@@ -65,44 +65,48 @@ pub record SetOk (ops : List Operation) (n : NodeId) (last : ℕ) (os : List Ope
   pub old : NoneLater ops n last
 
 -- the two of a running node, whatever else it keeps
-pub run_ok : (ops : List Operation) (n : NodeId) (last : ℕ) (r : ModelRun) (set : NodeSet) → r.origin ≡ own_origin n last → set.inc ≡ last → joined r.log ≡ state_by set → SetOk ops n last set.operations → NodeOk ops n (runs_as last r) (Some set)
-run_ok ops n last r set mine inc state h = record {
-  state = ap (λ (s : StateValue). Some s) state;
+pub run_ok : (ops : List Operation) (n : NodeId) (last : ℕ) (r : ModelRun) (set : NodeSet) (es : Entries) → Agree ops → r.origin ≡ own_origin n last → set.inc ≡ last → IsLogOf r.log set.operations es → SetOk ops n last set.operations → NodeOk ops n (runs_as last r) (Some set) es
+run_ok ops n last r set es agree mine inc log h = record {
+  state = ap (λ (s : StateValue). Some s) (log_means r.log set.operations ops es h.within agree log);
   origin = λ q e. subst (λ (x : ModelRun). x.origin ≡ own_origin n last) (some_same r q e) mine;
   inc = λ other e. subst (λ (x : NodeSet). x.inc ≡ last) (some_same set other e) inc;
+  log = λ q other e f. subst (λ (x : ModelRun × NodeSet). IsLogOf x.0.log x.1.operations es) (λ i. (some_same r q e i, some_same set other f i)) log;
   within = λ other e. subst (λ (x : NodeSet). Within x.operations ops) (some_same set other e) h.within;
   own = λ other e o i t. subst (λ (x : NodeSet). In o x.operations) (some_same set other e) (h.own o i t);
   old = h.old;
 }
 
-pub record HeldBy (ops : List Operation) (n : NodeId) (last : ℕ) (r : ModelRun) (held : Option NodeSet) : Type 0 where
+pub record HeldBy (ops : List Operation) (n : NodeId) (last : ℕ) (r : ModelRun) (held : Option NodeSet) (es : Entries) : Type 0 where
   pub set : NodeSet
   pub is : held ≡ Some set
   pub inc : set.inc ≡ last
   pub state : joined r.log ≡ state_by set
   pub mine : r.origin ≡ own_origin n last
+  pub log : IsLogOf r.log set.operations es
   pub ok : SetOk ops n last set.operations
 
-pub held_of : (ops : List Operation) (n : NodeId) (last : ℕ) (r : ModelRun) (held : Option NodeSet) → NodeOk ops n (runs_as last r) held → HeldBy ops n last r held
-held_of ops n last r None h = absurd (no h.state)
+pub held_of : (ops : List Operation) (n : NodeId) (last : ℕ) (r : ModelRun) (held : Option NodeSet) (es : Entries) → NodeOk ops n (runs_as last r) held es → HeldBy ops n last r held es
+held_of ops n last r None es h = absurd (no h.state)
   where
     no : Some (joined r.log) ≡ None → ⊥
     no p = cc
-held_of ops n last r (Some set) h = record {
+held_of ops n last r (Some set) es h = record {
   set = set;
   is = refl;
   inc = h.inc set refl;
   state = some_same (joined r.log) (state_by set) h.state;
   mine = h.origin r refl;
+  log = h.log r set refl refl;
   ok = record { within = h.within set refl; own = h.own set refl; old = h.old };
 }
 
 -- a node that is off
-pub off_ok : (ops : List Operation) (n : NodeId) (last : ℕ) → NoneLater ops n last → NodeOk ops n (stays_off last) None
+pub off_ok : (ops : List Operation) (n : NodeId) (last : ℕ) → NoneLater ops n last → NodeOk ops n (stays_off last) None []
 off_ok ops n last old = record {
   state = refl;
   origin = λ r e. absurd (no_run r e);
   inc = λ set e. absurd (no set e);
+  log = λ r set e f. absurd (no set f);
   within = λ set e. absurd (no set e);
   own = λ set e. absurd (no set e);
   old = old;
@@ -115,11 +119,12 @@ off_ok ops n last old = record {
     no_run r e = cc
 
 -- another node, when operations are issued elsewhere
-pub NodeOk-more : (ops more : List Operation) (n : NodeId) (d : ModelNode) (held : Option NodeSet) → ((o : Operation) → In o more → o.dot.origin.node ≡ n → ⊥) → NodeOk ops n d held → NodeOk (ops ++ more) n d held
-NodeOk-more ops more n d held far h = record {
+pub NodeOk-more : (ops more : List Operation) (n : NodeId) (d : ModelNode) (held : Option NodeSet) (es : Entries) → ((o : Operation) → In o more → o.dot.origin.node ≡ n → ⊥) → NodeOk ops n d held es → NodeOk (ops ++ more) n d held es
+NodeOk-more ops more n d held es far h = record {
   state = h.state;
   origin = h.origin;
   inc = h.inc;
+  log = h.log;
   within = λ set e o i. In-append_left o ops more (h.within set e o i);
   own = λ set e o i t. elim (In-append_cases o ops more i) [ inl a ↦ h.own set e o a t | inr b ↦ absurd (far o b (ap (λ (q : Origin). q.node) t)) ];
   old = λ o i t. elim (In-append_cases o ops more i) [ inl a ↦ h.old o a t | inr b ↦ absurd (far o b t) ];
@@ -150,6 +155,10 @@ boot_set ops n last old =
   where
     later : (l i : ℕ) → i ≤ l → i ≤ l + 1
     later l i a = omega arith
+
+-- its log
+pub boot_log : (x : Operation) → IsLogOf (meaning_of (x ∷ []) ∷ []) (x ∷ []) ((x ∷ []) ∷ [])
+boot_log x = record { states = refl; all = λ o i. i; some = λ o i. i }
 
 -- the dot of the operation of a boot is new
 pub boot_fresh : (ops : List Operation) (n : NodeId) (last : ℕ) → NoneLater ops n last → list_any (has_dot (up (own_origin n (last + 1))).dot) ops ≡ false
@@ -236,23 +245,10 @@ module _ (n : NodeId) (last : ℕ) (own : Origin) (mine : own ≡ own_origin n l
         here = λ o i. elim i [ inl e ↦ one.here o (inl e) | inr j ↦ rest.here o j ];
       }
 
--- ---- a node hears a state
+-- ---- a node hears operations
 pub hear_set : (ops os ps : List Operation) (n : NodeId) (last : ℕ) → Within ps ops → SetOk ops n last os → SetOk ops n last (os ++ ps)
 hear_set ops os ps n last inside h = record {
   within = Within-append os ps ops h.within inside;
   own = λ o i t. In-append_left o os ps (h.own o i t);
   old = h.old;
 }
-
--- the state of what it hears, which is added unless it is below its own
-pub hear_state : (ops os ps : List Operation) (s body : StateValue) → Agree ops → Within os ops → Within ps ops → s ≡ meaning_of os → body ≡ meaning_of ps
-    → fold join s (cond (not (is_below body s)) (body ∷ []) []) ≡ meaning_of (os ++ ps)
-hear_state ops os ps s body agree held inside state is = heard (not (is_below body s)) refl
-  where
-    turned : (a : Bool) → not a ≡ false → a ≡ true
-    turned true e = refl
-    turned false e = absurd (true≢false e)
-
-    heard : (b : Bool) → not (is_below body s) ≡ b → fold join s (cond b (body ∷ []) []) ≡ meaning_of (os ++ ps)
-    heard true e = (λ i. join (state i) (is i)) ∙ join-meaning os ps (Agree-within (os ++ ps) ops (Within-append os ps ops held inside) agree)
-    heard false e = state ∙ below_adds_nothing os ps ops held inside agree ((is_below-is (meaning_of ps) (meaning_of os)).1 (sym (λ i. is_below (is i) (state i)) ∙ turned (is_below body s) e))

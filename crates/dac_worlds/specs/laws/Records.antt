@@ -11,8 +11,8 @@ use Rattle.dac_commands.specs.declared.refusal.Refusal.{Refusal}
 use Rattle.dac_commands.specs.declared.refusal.Refusal.TheVariants.{NoMemory}
 use Rattle.dac_worlds.specs.declared.fault.WorldFault.{WorldFault}
 use Rattle.dac_worlds.specs.declared.fault.WorldFault.TheVariants.{NoSuchNode, Refused}
-use Rattle.dac_node.specs.ModelNode.{ModelNode}
-use Rattle.dac_node.specs.Step.{model_step}
+use Rattle.dac_rules.specs.ModelNode.{ModelNode}
+use Rattle.dac_rules.specs.Step.{model_step}
 use Rattle.dac_worlds.specs.WorldValue.{WorldValue}
 use Rattle.dac_worlds.specs.Histories.{Entry, IsHistory}
 use Rattle.dac_worlds.specs.ModelWorld.{ModelWorld, happens, happens_by, answered_by, event_of, start, went, world_after, AnsweredAs, IsAnswer, RanAs, numbered}

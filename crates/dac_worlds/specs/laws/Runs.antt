@@ -9,9 +9,9 @@ use Rattle.dac_messages.specs.declared.reply.Reply.{Reply}
 use Rattle.dac_commands.specs.declared.refusal.Refusal.TheVariants.{NoMemory}
 use Rattle.dac_worlds.specs.declared.fault.WorldFault.{WorldFault}
 use Rattle.dac_worlds.specs.declared.fault.WorldFault.TheVariants.{Refused}
-use Rattle.dac_node.specs.NodeValue.{NodeValue}
-use Rattle.dac_node.specs.ModelNode.{shown}
-use Rattle.dac_node.specs.laws.Options.{some_same}
+use Rattle.dac_rules.specs.NodeValue.{NodeValue}
+use Rattle.dac_rules.specs.ModelNode.{shown}
+use Rattle.dac_rules.specs.laws.Options.{some_same}
 use Rattle.dac_worlds.specs.WorldValue.{WorldValue}
 use Rattle.dac_worlds.specs.ModelWorld.{ModelWorld, Step, IsAnswer, Run, RanAs, Follows, Shows, happens, start, went, numbered, out_of_memory}
 use Rattle.dac_worlds.specs.laws.Memory.{enough_memory}

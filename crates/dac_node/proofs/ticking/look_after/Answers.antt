@@ -1,31 +1,39 @@
-use Rattle.std.proofs.Common.{◌≡◌, Some, refl, ◌∙◌}
-use Rattle.std.specs.Prelude.{fold, unwrap_or}
+use Rattle.std.proofs.Common.{◌≡◌, true, sym, ap, subst, ◌∙◌}
+use Rattle.std.specs.Prelude.{fold}
 use Rattle.dac_meaning.specs.StateValue.{join}
+use Rattle.dac_decide.specs.declared.start_gate.Opening.TheVariants.{Opened}
+use Rattle.dac_messages.specs.declared.event.Event.TheVariants.{Tick}
 use Rattle.dac_messages.specs.declared.reply.Reply.TheVariants.{Ticked}
 use Rattle.dac_ticks.specs.Ticks.{turn_of}
 use Rattle.dac_ticks.specs.laws.Claims.{state_joined}
-use Rattle.dac_node.specs.After.{claimed}
-use Rattle.dac_node.specs.Deeds.{meanings}
-use Rattle.dac_node.proofs.Gates.{claimed_effect, left_grown, left_is}
+use Rattle.dac_rules.specs.NodeValue.{RunValue}
+use Rattle.dac_rules.specs.Deeds.{meanings, opening_at}
+use Rattle.dac_node.specs.declared.change.After.TheVariants.{GoesOn}
+use Rattle.dac_node.specs.Knowing.{run_of, ticking}
+use Rattle.dac_node.specs.Changes.{Effect}
+use Rattle.dac_node.proofs.Gates.{claimed_effect, left_is}
 use Rattle.dac_node.proofs.ticking.look_after.Goals as goal
 
-pub after_claims-requires-clause-grown : goal.after_claims-requires-clause-grown
-after_claims-requires-clause-grown c =
+pub ticked-requires-clause-grown : goal.ticked-requires-clause-grown
+ticked-requires-clause-grown c =
     let t = c.args.config.now in
-    let r = c.args.run.now in
+    let k = c.run.inside.knowledge in
     let waits = c.in_ok-waits.waits in
-    left_grown r.state (turn_of t r.origin waits c.args.now r.state) c.in_ok-waits.turn c.in_ok-waits.ensures.turn (state_joined t r.origin waits c.args.now r.state)
+    let turn = turn_of t k.origin waits c.args.now k.state in
+    let made = c.in_ok-waits.ensures.turn in
+    let items = c.in_ok-deltas.ensures ∙ ap meanings (c.as_slice.ensures ∙ made.ops) in
+    c.in_ok-state.ensures ∙ (left_is k.state turn c.in_ok-waits.turn made ∙ (state_joined t k.origin waits c.args.now k.state ∙ ap (fold join k.state) (sym items)))
 
 pub returns : goal.returns
 returns c =
     let t = c.args.config.now in
-    let r = c.args.run.now in
+    let k = c.run.inside.knowledge in
+    let r = run_of k c.run.inside.buffer in
     let now = c.args.now in
     let waits = c.in_ok-waits.waits in
-    let turn = turn_of t r.origin waits now r.state in
     let made = c.in_ok-waits.ensures.turn in
-    let left : unwrap_or c.in_ok-waits.turn.left r.state ≡ fold join r.state (meanings turn.ops) = left_is r.state turn c.in_ok-waits.turn made ∙ state_joined t r.origin waits now r.state in
-    claimed_effect t c.args.last r now c.requires.open waits c.in_ok-waits.ensures.noted
-    (record { last = c.args.last; after = c.after_claims.result; reply = Ticked c.in_ok-waits.turn.ops c.in_ok-waits.turn.passed }) refl
-    (c.after_claims.ensures.run ∙ (λ i. Some (claimed (c.moments_at.ensures.moments i) waits (left i) r)))
-    (λ i. Ticked (made.ops i) (made.passed i))
+    let items = c.in_ok-deltas.ensures ∙ ap meanings (c.as_slice.ensures ∙ made.ops) in
+    let next = c.in_ok-next.ensures ∙ ap (ticking k now true waits) items in
+    let opened = subst (λ (x : RunValue). opening_at t x now ≡ Opened) (sym c.run.view_is) c.requires.open in
+    subst (λ (x : RunValue). Effect t c.args.last x (Tick now) c.going_on.result) c.run.view_is
+    (claimed_effect t c.args.last r now opened waits c.in_ok-waits.ensures.noted c.going_on.result (c.going_on.ensures ∙ (λ i. record { last = c.args.last; after = GoesOn (next i); reply = Ticked (made.ops i) (made.passed i) })))

@@ -10,6 +10,6 @@ pub loop-line-preserved : goal.loop-line-preserved
 loop-line-preserved g c =
     let done = written c.write_all.result _ (sym c.is_err.ensures.value ∙ c.if-is_err.false) c.write_all.ensures.bytes in
     record {
-      played = played_more c.args.config.now c.args.script.now c.loop-line.line-index _ c.loop-line.world c.step.new.world c.in_ok-text.text.items _ _ _ c.loop-line-test.true _ refl c.in_ok-text.ensures.plays (rw c.deref.ensures.value at done) c.loop-line.invariant.played;
+      played = played_more c.args.config.now c.args.script.now c.loop-line.line-index _ c.loop-line.world c.step.new.world c.in_ok-text.text.items _ _ _ c.loop-line-test.true _ c.line-item.is c.in_ok-text.ensures.plays (rw c.deref.ensures.value at done) c.loop-line.invariant.played;
       all = c.in_ok-text.ensures.all;
     }

@@ -1,8 +1,16 @@
-use Rattle.std.proofs.Common.{◌≡◌, sym, ap, subst, ◌∙◌}
+use Rattle.std.proofs.Common.{refl, ap, ◌∙◌}
 use Rattle.dac_messages.specs.declared.event.Event.TheVariants.{HearOp}
-use Rattle.dac_node.specs.Changes.{Effect, by_hearing}
-use Rattle.dac_node.proofs.Effects.{hear_op_effect}
+use Rattle.dac_messages.specs.declared.reply.Reply.TheVariants.{Heard}
+use Rattle.dac_node.specs.declared.change.After.TheVariants.{GoesOn}
+use Rattle.dac_node.specs.Knowing.{NextValue}
+use Rattle.dac_node.specs.Changes.{ChangeValue}
+use Rattle.dac_node.proofs.Effects.{going_effect}
 use Rattle.dac_node.proofs.change.Change.hear_op.Goals as goal
 
-pub returns : goal.returns
-returns c = λ t. subst (Effect t c.args.last c.args.run.now (HearOp c.args.operation.now)) (sym (c.heard.ensures ∙ ap (by_hearing c.args.last) c.in_ok-more.ensures)) (hear_op_effect t c.args.last c.args.run.now c.args.operation.now)
+pub returns-clause-effect : goal.returns-clause-effect
+returns-clause-effect c = λ t.
+    going_effect t c.args.last c.args.run.now (HearOp c.args.operation.now) c.in_ok-next.next (Heard c.in_ok-next.fresh) _ c.going_on.ensures refl
+    (ap (λ (n : NextValue). GoesOn n) c.in_ok-next.ensures.next) (ap (λ b. Heard b) c.in_ok-next.ensures.fresh)
+
+pub returns-clause-after : goal.returns-clause-after
+returns-clause-after c = ap (λ (x : ChangeValue). x.after) c.going_on.ensures ∙ ap (λ (n : NextValue). GoesOn n) c.in_ok-next.ensures.next

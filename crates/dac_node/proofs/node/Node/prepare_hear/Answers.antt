@@ -1,14 +1,21 @@
 use Rattle.std.proofs.Common.{sym, subst}
 use Rattle.dac_messages.specs.declared.event.Event.TheVariants.{Hear}
-use Rattle.dac_node.specs.NodeValue.{NodeValue}
-use Rattle.dac_node.specs.Changes.{Prepared}
-use Rattle.dac_node.proofs.Effects.{effect_prepared}
+use Rattle.dac_rules.specs.NodeValue.{NodeValue}
+use Rattle.dac_node.specs.Changes.{Fits, Prepared}
+use Rattle.dac_node.proofs.Effects.{effect_prepared, effect_fits}
 use Rattle.dac_node.proofs.node.Node.prepare_hear.Goals as goal
 
 pub returns-clause-ok : goal.returns-clause-ok
-returns-clause-ok c = λ t me.
+returns-clause-ok c = λ me.
     let e = Hear c.args.message.now in
     let change = c.in_ok-hear.field-0 in
     let last = c.self.inside.last in
-    subst (λ (v : NodeValue). Prepared t me v e change) c.self.view_is
-    (subst (λ run. Prepared t me (record { last = last; run = run }) e change) (sym c.in-Some.is) (effect_prepared t me last c.in-Some.run' e change (sym c.in_default-refusal_to_hear.ensures) (c.in_ok-hear.ensures t)))
+    subst (λ (v : NodeValue). Prepared c.args.config.now me v e change) c.self.view_is
+    (subst (λ run. Prepared c.args.config.now me (record { last = last; run = run }) e change) (sym c.in-Some.is) (effect_prepared c.args.config.now me last c.in-Some.run' e change (sym c.in_default-refusal_to_hear.ensures) c.known.ensures.newest (c.in_ok-hear.ensures)))
+
+pub returns-clause-fits : goal.returns-clause-fits
+returns-clause-fits c =
+    let change = c.in_ok-hear.field-0 in
+    let last = c.self.inside.last in
+    subst (λ (v : NodeValue). Fits v change) c.self.view_is
+    (subst (λ run. Fits (record { last = last; run = run }) change) (sym c.in-Some.is) (effect_fits c.args.config.now last c.in-Some.run' (Hear c.args.message.now) change (sym c.in_default-refusal_to_hear.ensures) c.known.ensures.countable c.in_ok-hear.ensures))

@@ -1,8 +1,10 @@
-use Rattle.std.proofs.Common.{refl, sym, subst}
+use Rattle.std.proofs.Common.{[], ◌∷◌, Some, sym, subst}
+use Rattle.dac_meaning.specs.Meaning.{meaning_of}
 use Rattle.dac_messages.specs.declared.event.Event.TheVariants.{HearOp}
-use Rattle.dac_node.specs.NodeValue.{NodeValue}
-use Rattle.dac_node.specs.Changes.{Prepared}
-use Rattle.dac_node.proofs.Effects.{effect_prepared}
+use Rattle.dac_rules.specs.NodeValue.{NodeValue}
+use Rattle.dac_node.specs.After.{FitsIn}
+use Rattle.dac_node.specs.Changes.{Fits, Prepared}
+use Rattle.dac_node.proofs.Effects.{effect_prepared, hear_op_fits}
 use Rattle.dac_node.proofs.node.Node.prepare_hear_op.Goals as goal
 
 pub returns-clause-ok : goal.returns-clause-ok
@@ -11,4 +13,11 @@ returns-clause-ok c = λ t me.
     let change = c.in_ok-hear_op.field-0 in
     let last = c.self.inside.last in
     subst (λ (v : NodeValue). Prepared t me v e change) c.self.view_is
-    (subst (λ run. Prepared t me (record { last = last; run = run }) e change) (sym c.in-Some.is) (effect_prepared t me last c.in-Some.run' e change refl (c.in_ok-hear_op.ensures t)))
+    (subst (λ run. Prepared t me (record { last = last; run = run }) e change) (sym c.in-Some.is) (effect_prepared t me last c.in-Some.run' e change (sym c.in_default-refusal_to_hear_op.ensures) c.known.ensures.newest (c.in_ok-hear_op.ensures.effect t)))
+
+pub returns-clause-fits : goal.returns-clause-fits
+returns-clause-fits c =
+    let change = c.in_ok-hear_op.field-0 in
+    let last = c.self.inside.last in
+    subst (λ (v : NodeValue). Fits v change) c.self.view_is
+    (subst (λ run. Fits (record { last = last; run = run }) change) (sym c.in-Some.is) (subst (FitsIn (Some c.in-Some.run')) (sym c.in_ok-hear_op.ensures.after) (hear_op_fits c.in-Some.run' (meaning_of (c.args.operation.now ∷ [])) (sym c.in_default-refusal_to_hear_op.ensures))))

@@ -1,28 +1,41 @@
-use Rattle.std.proofs.Common.{Ok, sym, subst, ◌∙◌}
+use Rattle.std.proofs.Common.{Ok, sym, ap, subst, ◌∙◌}
+use Rattle.std.specs.Prelude.{unwrap_or}
 use Rattle.std.proofs.lemmas.Result.{err_from_is_err_and}
 use Rattle.dac_messages.specs.declared.reply.Reply.{Reply}
-use Rattle.dac_node.specs.NodeValue.{NodeValue}
-use Rattle.dac_node.specs.Step.{Steps, IsShown}
-use Rattle.dac_node.specs.Hearing.{HearsExactly}
-use Rattle.dac_node.specs.laws.Steps.{steps, answered_steps, stays_shown}
-use Rattle.dac_node.specs.Writing.{Writes}
-use Rattle.dac_node.specs.laws.Writing.{writes}
-use Rattle.dac_node.specs.laws.Heard.{hears_exactly}
-use Rattle.dac_node.specs.laws.Refused.{answered_is, free_is}
+use Rattle.dac_commands.specs.declared.refusal.Refusal.TheVariants.{NoMemory}
+use Rattle.dac_rules.specs.NodeValue.{NodeValue}
+use Rattle.dac_rules.specs.Step.{Steps, IsShown}
+use Rattle.dac_rules.specs.Hearing.{HearsExactly}
+use Rattle.dac_rules.specs.Writing.{Writes}
+use Rattle.dac_rules.specs.Shipping.{ShipsSo}
+use Rattle.dac_rules.specs.laws.Steps.{steps, answered_steps, stays_shown}
+use Rattle.dac_rules.specs.laws.Writing.{writes}
+use Rattle.dac_rules.specs.laws.Heard.{hears_exactly}
+use Rattle.dac_rules.specs.laws.Shipping.{ships_so}
+use Rattle.dac_rules.specs.laws.Refused.{answered_is, free_is}
+use Rattle.dac_node.specs.Changes.{changed}
 use Rattle.dac_node.proofs.node.Node.step.Goals as goal
 
 pub returns-clause-ok : goal.returns-clause-ok
 returns-clause-ok c =
     let t = c.args.config.now in
     let old = c.args.self.now in
-    subst (λ (x : NodeValue × Reply). Steps t c.args.self_id old c.args.event x.0 (Ok x.1)) (λ i. (sym c.apply.ensures.new i, sym c.apply.ensures.reply i))
-    (steps t c.args.self_id old c.args.event c.in_ok-change.change c.in_ok-change.ensures.ok)
+    let change = c.in_ok-change.change in
+    subst (λ (x : NodeValue × Reply). Steps t c.args.self_id old c.args.event x.0 (Ok x.1)) (λ i. (sym c.in_ok-reply.ensures.new i, sym c.in_ok-reply.ensures.reply i))
+    (steps t c.args.self_id old c.args.event (changed old change) change.reply c.in_ok-change.ensures.ok)
+
+pub returns-clause-ships : goal.returns-clause-ships
+returns-clause-ships c =
+    let t = c.args.config.now in
+    let old = c.args.self.now in
+    let change = c.in_ok-change.change in
+    subst (ShipsSo t old c.args.event) (sym c.in_ok-reply.ensures.reply) (ships_so t c.args.self_id old c.args.event (changed old change) change.reply c.in_ok-change.ensures.ok)
 
 pub returns-clause-heard : goal.returns-clause-heard
 returns-clause-heard c =
     let old = c.args.self.now in
     let p = c.in_ok-change.ensures.ok in
-    subst (λ (x : NodeValue × Reply). HearsExactly old c.args.event x.1 x.0) (λ i. (sym (c.apply.ensures.new ∙ p.left) i, sym (c.apply.ensures.reply ∙ p.reply) i))
+    subst (λ (x : NodeValue × Reply). HearsExactly old c.args.event x.1 x.0) (λ i. (sym (c.in_ok-reply.ensures.new ∙ p.left) i, sym (c.in_ok-reply.ensures.reply ∙ p.reply) i))
     (hears_exactly c.args.config.now c.args.self_id old.last old.run p.noted c.args.event p.accepted)
 
 pub returns-clause-cases : goal.returns-clause-cases
@@ -36,7 +49,8 @@ returns-in_err-change-clause-cases c =
 pub returns-clause-shown : goal.returns-clause-shown
 returns-clause-shown c =
     let old = c.args.self.now in
-    λ shows. subst (IsShown c.args.config.now) (sym c.apply.ensures.new) (stays_shown c.args.config.now c.args.self_id old c.args.event c.in_ok-change.change c.in_ok-change.ensures.ok shows)
+    let change = c.in_ok-change.change in
+    λ shows. subst (IsShown c.args.config.now) (sym c.in_ok-reply.ensures.new) (stays_shown c.args.config.now c.args.self_id old c.args.event (changed old change) change.reply c.in_ok-change.ensures.ok shows)
 
 pub returns-in_err-change-clause-refused : goal.returns-in_err-change-clause-refused
 returns-in_err-change-clause-refused c =
@@ -48,4 +62,11 @@ returns-clause-writes c =
     let t = c.args.config.now in
     let old = c.args.self.now in
     let p = c.in_ok-change.ensures.ok in
-    subst (Writes t c.args.self_id old c.args.event) (sym (c.apply.ensures.reply ∙ p.reply)) (writes t c.args.self_id old.last old.run p.noted c.args.event p.accepted p.noting)
+    subst (Writes t c.args.self_id old c.args.event) (sym (c.in_ok-reply.ensures.reply ∙ p.reply)) (writes t c.args.self_id old.last old.run p.noted c.args.event p.accepted p.noting)
+
+pub returns-in_err-reply-clause-cases : goal.returns-in_err-reply-clause-cases
+returns-in_err-reply-clause-cases c =
+    let t = c.args.config.now in
+    let old = c.args.self.now in
+    let p = err_from_is_err_and c.from_residual-in_err-reply.result c.from_residual-in_err-reply.ensures.1 in
+    rw (p.1, p.2) (answered_is t old c.args.event NoMemory (ap (λ why. unwrap_or why NoMemory) (sym c.in_ok-change.ensures.ok.accepted)))

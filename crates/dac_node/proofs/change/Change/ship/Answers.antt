@@ -1,0 +1,13 @@
+use Rattle.std.proofs.Common.{refl, ap}
+use Rattle.dac_messages.specs.declared.message.Message.{Message}
+use Rattle.dac_messages.specs.declared.event.Event.TheVariants.{Ship}
+use Rattle.dac_messages.specs.declared.reply.Reply.TheVariants.{Shipped}
+use Rattle.dac_node.specs.declared.change.After.TheVariants.{GoesOn}
+use Rattle.dac_node.specs.Knowing.{NextValue}
+use Rattle.dac_node.proofs.Effects.{going_effect}
+use Rattle.dac_node.proofs.change.Change.ship.Goals as goal
+
+pub returns : goal.returns
+returns c = λ t.
+    going_effect t c.args.last c.args.run.now (Ship c.args.to) c.in_ok-next.next (Shipped c.in_ok-next.message) _ c.going_on.ensures refl
+    (ap (λ (n : NextValue). GoesOn n) c.in_ok-next.ensures.next) (ap (λ (m : Message). Shipped m) c.in_ok-next.ensures.message)

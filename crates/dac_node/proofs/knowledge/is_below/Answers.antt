@@ -1,0 +1,14 @@
+use Rattle.std.proofs.Common.{◌≡◌, Bool, true, false, refl, sym}
+use Rattle.dac_meaning.specs.Below.{is_below, is_below-is}
+use Rattle.dac_node.proofs.knowledge.is_below.Goals as goal
+
+-- two tests of which each holds where the other does
+same : (a b : Bool) → (a ≡ true → b ≡ true) → (b ≡ true → a ≡ true) → a ≡ b
+same true b to from = sym (to refl)
+same false true to from = from refl
+same false false to from = refl
+
+pub returns : goal.returns
+returns c =
+    let law = is_below-is c.args.state.now c.args.other.now in
+    same c.leq.result (is_below c.args.state.now c.args.other.now) (λ e. law.0 (c.leq.ensures.0 e)) (λ e. c.leq.ensures.1 (law.1 e))

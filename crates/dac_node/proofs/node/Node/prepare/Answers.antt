@@ -1,0 +1,26 @@
+use Rattle.std.proofs.Common.{◌≡◌, None, sym, subst}
+use Rattle.dac_rules.specs.NodeValue.{NodeValue}
+use Rattle.dac_rules.specs.EventRefusals.{refusal_by, refusal_of}
+use Rattle.dac_node.specs.Changes.{Fits, Prepared}
+use Rattle.dac_node.proofs.Effects.{effect_prepared, effect_fits}
+use Rattle.dac_node.proofs.node.Node.prepare.Goals as goal
+
+pub returns-in_ok-of-in-Some-run-clause-ok : goal.returns-in_ok-of-in-Some-run-clause-ok
+returns-in_ok-of-in-Some-run-clause-ok c =
+    let t = c.args.config.now in
+    let e = c.args.event.now in
+    let change = c.in_ok-of-in-Some-run.field-0 in
+    let last = c.self.inside.last in
+    let none = subst (λ run. refusal_by t last run e ≡ None) c.in-Some-run.is (subst (λ (v : NodeValue). refusal_of t v e ≡ None) (sym c.self.view_is) (sym c.in_default.ensures)) in
+    subst (λ (v : NodeValue). Prepared t c.args.self_id v e change) c.self.view_is
+    (subst (λ run. Prepared t c.args.self_id (record { last = last; run = run }) e change) (sym c.in-Some-run.is) (effect_prepared t c.args.self_id last c.in-Some-run.run' e change none c.known.ensures.newest c.in_ok-of-in-Some-run.ensures.effect))
+
+pub returns-in_ok-of-in-Some-run-clause-fits : goal.returns-in_ok-of-in-Some-run-clause-fits
+returns-in_ok-of-in-Some-run-clause-fits c =
+    let t = c.args.config.now in
+    let e = c.args.event.now in
+    let change = c.in_ok-of-in-Some-run.field-0 in
+    let last = c.self.inside.last in
+    let none = subst (λ run. refusal_by t last run e ≡ None) c.in-Some-run.is (subst (λ (v : NodeValue). refusal_of t v e ≡ None) (sym c.self.view_is) (sym c.in_default.ensures)) in
+    subst (λ (v : NodeValue). Fits v change) c.self.view_is
+    (subst (λ run. Fits (record { last = last; run = run }) change) (sym c.in-Some-run.is) (effect_fits t last c.in-Some-run.run' e change none c.known.ensures.countable c.in_ok-of-in-Some-run.ensures.effect))

@@ -1,0 +1,79 @@
+-- What a running node keeps beside the newest deltas, and what it goes on with.
+use Rattle.std.specs.Prelude.{ℕ, Bool, false, List, [], ◌∷◌, Option, fold, refl}
+use Rattle.std.specs.Coded.{Coded, code_by, coded×, coded_ℕ, coded_bool, coded_list, coded_option}
+use Rattle.dac_dots.specs.declared.dot.Origin.{Origin}
+use Rattle.dac_dots.specs.Dots.{coded_origin}
+use Rattle.dac_meaning.specs.StateValue.{StateValue, bottom, join, coded_state}
+use Rattle.dac_meaning.specs.Meaning.{meaning_of}
+use Rattle.dac_config.specs.Table.{Table}
+use Rattle.dac_deltas.specs.Kept.{Kept}
+use Rattle.dac_peers.specs.Peers.{PeersValue, no_peers, coded_peers}
+use Rattle.dac_decide.specs.declared.waits.Noted.{Noted}
+use Rattle.dac_decide.specs.FailoverWait.{coded_noted, waits_of}
+use Rattle.dac_rules.specs.declared.moments.Moments.{Moments}
+use Rattle.dac_rules.specs.NodeValue.{RunValue, coded_moments}
+use Rattle.dac_rules.specs.Deeds.{brings}
+use Rattle.dac_rules.specs.Step.{up}
+
+-- all that a running node keeps but the newest deltas
+pub record KnowledgeValue : Type 0 where
+  pub origin : Origin
+  pub moments : Moments
+  pub is_open : Bool
+  pub waits : List (Option Noted)
+  pub state : StateValue
+  pub peers : PeersValue
+
+abbrev Parts : Type 0
+Parts = (Origin × Moments) × ((Bool × List (Option Noted)) × (StateValue × PeersValue))
+
+abbrev pub coded_knowledge : Coded KnowledgeValue
+coded_knowledge =
+    code_by Parts (coded× (coded× coded_origin coded_moments) (coded× (coded× coded_bool (coded_list (coded_option coded_noted))) (coded× coded_state coded_peers)))
+    (λ k. ((k.origin, k.moments), ((k.is_open, k.waits), (k.state, k.peers))))
+    (λ p. record { origin = p.0.0; moments = p.0.1; is_open = p.1.0.0; waits = p.1.0.1; state = p.1.1.0; peers = p.1.1.1 })
+    (λ _. refl)
+
+-- what runs with this knowledge and these deltas
+abbrev pub run_of : KnowledgeValue → Kept StateValue → RunValue
+run_of k kept = record { origin = k.origin; moments = k.moments; is_open = k.is_open; waits = k.waits; state = k.state; kept = kept; peers = k.peers }
+
+-- what such a node knows
+abbrev pub knowledge_of : RunValue → KnowledgeValue
+knowledge_of r = record { origin = r.origin; moments = r.moments; is_open = r.is_open; waits = r.waits; state = r.state; peers = r.peers }
+
+-- what goes on after an event: what the node knows by then, the deltas that come, and the number below which no delta is kept any more
+pub record NextValue : Type 0 where
+  pub knowledge : KnowledgeValue
+  pub deltas : List StateValue
+  pub trim : ℕ
+
+abbrev pub coded_next : Coded NextValue
+coded_next =
+    code_by (KnowledgeValue × (List StateValue × ℕ)) (coded× coded_knowledge (coded× (coded_list coded_state) coded_ℕ)) (λ n. (n.knowledge, (n.deltas, n.trim))) (λ p. record { knowledge = p.0; deltas = p.1.0; trim = p.1.1 }) (λ _. refl)
+
+-- ---- what goes on
+
+-- the knowledge of a node that comes up as this incarnation at this moment
+abbrev pub knows_at_boot : Table → Origin → ℕ → KnowledgeValue
+knows_at_boot t own now = record { origin = own; moments = record { booted = now; last = now }; is_open = false; waits = waits_of t []; state = join bottom (meaning_of (up own ∷ [])); peers = no_peers }
+
+-- the knowledge once states are joined and this is kept of peers
+abbrev pub joining : KnowledgeValue → List StateValue → PeersValue → KnowledgeValue
+joining k states peers = record { origin = k.origin; moments = k.moments; is_open = k.is_open; waits = k.waits; state = fold join k.state states; peers = peers }
+
+-- so it goes on once states come
+abbrev pub adding : KnowledgeValue → List StateValue → PeersValue → NextValue
+adding k states peers = record { knowledge = joining k states peers; deltas = states; trim = 0 }
+
+-- so it goes on once a body comes, which is added unless it is below
+abbrev pub hearing : KnowledgeValue → StateValue → PeersValue → NextValue
+hearing k body peers = adding k (brings k.state body) peers
+
+-- so it goes on after a tick, where the gate is so, so much is noted and these are the claims' states
+abbrev pub ticking : KnowledgeValue → ℕ → Bool → List (Option Noted) → List StateValue → NextValue
+ticking k now is_open waits states = record {
+  knowledge = record { origin = k.origin; moments = record { booted = k.moments.booted; last = now }; is_open = is_open; waits = waits; state = fold join k.state states; peers = k.peers };
+  deltas = states;
+  trim = 0;
+}

@@ -1,0 +1,219 @@
+//! What a controller knows while it runs.
+
+ghost use Rattle.std.specs.Prelude.{◌≡◌, ◌∷◌, [], IfOk};
+ghost use Rattle.dac_config.specs.Table.{node_count};
+ghost use Rattle.dac_meaning.specs.Meaning.{meaning_of};
+ghost use Rattle.dac_meaning.specs.Below.{is_below};
+ghost use Rattle.dac_peers.specs.Peers.{acked_by_all};
+ghost use Rattle.dac_messages.specs.Bodies.{content_of};
+ghost use Rattle.dac_rules.specs.Step.{up};
+
+use crate::next::Next;
+use dac_base::NoMemory;
+use dac_config::Config;
+use dac_decide::Waits;
+use dac_dots::{Dot, Origin};
+use dac_lattice::{Bottom, Lattice};
+use dac_messages::Body;
+use dac_peers::Peers;
+use dac_rules::Moments;
+use dac_state::{Act, Op, State};
+use std::alloc::Global;
+use std::marker::Model;
+
+/// All that a controller keeps while it runs but the newest deltas. Its state knows the operation of its own boot, and it
+/// didn't tick before it was booted.
+pub(crate) struct Knowledge {
+    pub(crate) alloc: Global,
+    pub(crate) origin: Origin,
+    pub(crate) moments: Moments,
+    pub(crate) is_open: bool,
+    pub(crate) waits: Waits,
+    pub(crate) state: State,
+    pub(crate) peers: Peers,
+}
+
+/// Written out: a drop is one call for a proof, wherever it stands.
+impl Drop for Knowledge {
+    fn drop(self) {
+        let Knowledge {
+            alloc: _alloc,
+            origin: _origin,
+            moments: _moments,
+            is_open: _is_open,
+            waits: _waits,
+            state: _state,
+            peers: _peers,
+        } = self;
+    }
+}
+
+impl Model for Knowledge {
+    ghost use Rattle.dac_rules.specs.NodeValue.{IsSound};
+    ghost use Rattle.dac_node.specs.Knowing.{KnowledgeValue, coded_knowledge};
+
+    ghost Value = { KnowledgeValue };
+
+    ghost coded = { coded_knowledge };
+
+    ghost view = { λ a. record { origin = a.origin; moments = a.moments; is_open = a.is_open; waits = a.waits; state = a.state; peers = a.peers } };
+
+    ghost invariant = { λ a. IsSound a.origin a.moments a.state };
+}
+
+impl Knowledge {
+    ghost use Rattle.dac_node.specs.Knowing.{knows_at_boot, joining, adding, hearing};
+    ghost use Rattle.dac_rules.specs.NodeValue.{IsSound};
+
+    /// It is as its invariant says. This only tells proofs so, and does nothing when it runs.
+    pub(crate) fn known(&self)
+        ensures { IsSound self.now.origin self.now.moments self.now.state }
+    {
+        let _state = &self.state;
+    }
+
+    /// What a controller knows that comes up as this incarnation at this moment; the operation that says so; and its delta.
+    pub(crate) fn boot(
+        alloc: Global,
+        config: &Config,
+        origin: Origin,
+        now: u64,
+    ) -> Result<(Self, Op, State), NoMemory>
+        ensures knowledge { IfOk result (λ all. all.0 ≡ knows_at_boot config.now origin now) }
+        ensures operation { IfOk result (λ all. all.1 ≡ up origin) }
+        ensures delta { IfOk result (λ all. all.2 ≡ meaning_of (up origin ∷ [])) }
+    {
+        let operation = up_of(origin);
+        let delta = State::delta_of(alloc, &operation)?;
+        let state = State::bottom(alloc).join(&delta)?;
+        let waits = Waits::new(alloc, config)?;
+        let knowledge = Knowledge {
+            alloc,
+            origin,
+            moments: Moments {
+                booted: now,
+                last: now,
+            },
+            is_open: false,
+            waits,
+            state,
+            peers: Peers::new(alloc),
+        };
+        Ok((knowledge, operation, delta))
+    }
+
+    /// An equal one.
+    pub(crate) fn copy(&self) -> Result<Self, NoMemory>
+        ensures { IfOk result (λ copied. copied ≡ self.now) }
+    {
+        let waits = self.waits.copy()?;
+        let state = self.state.copy()?;
+        let peers = self.peers.copy()?;
+        Ok(Knowledge {
+            alloc: self.alloc,
+            origin: self.origin,
+            moments: self.moments,
+            is_open: self.is_open,
+            waits,
+            state,
+            peers,
+        })
+    }
+
+    /// The same, where this is kept of peers.
+    pub(crate) fn with_peers(&self, peers: Peers) -> Result<Self, NoMemory>
+        ensures { IfOk result (λ knowledge. knowledge ≡ joining self.now [] peers) }
+    {
+        let waits = self.waits.copy()?;
+        let state = self.state.copy()?;
+        Ok(Knowledge {
+            alloc: self.alloc,
+            origin: self.origin,
+            moments: self.moments,
+            is_open: self.is_open,
+            waits,
+            state,
+            peers,
+        })
+    }
+
+    /// The same, where a state is joined and this is kept of peers.
+    pub(crate) fn joined(&self, other: &State, peers: Peers) -> Result<Self, NoMemory>
+        ensures { IfOk result (λ knowledge. knowledge ≡ joining self.now (other.now ∷ []) peers) }
+    {
+        let waits = self.waits.copy()?;
+        let state = self.state.join(other)?;
+        Ok(Knowledge {
+            alloc: self.alloc,
+            origin: self.origin,
+            moments: self.moments,
+            is_open: self.is_open,
+            waits,
+            state,
+            peers,
+        })
+    }
+
+    /// What goes on after a delta comes that is to be added, where this is kept of peers.
+    pub(crate) fn added(&self, delta: State, peers: Peers) -> Result<Next, NoMemory>
+        ensures { IfOk result (λ next. next ≡ adding self.now (delta ∷ []) peers) }
+    {
+        let knowledge = self.joined(&delta, peers)?;
+        let mut deltas = Vec::new(self.alloc);
+        deltas.push(delta)?;
+        Ok(Next {
+            knowledge,
+            deltas,
+            trim: 0,
+        })
+    }
+
+    /// What goes on after a state comes that may be below, where this is kept of peers.
+    pub(crate) fn heard(&self, body: &State, peers: Peers) -> Result<Next, NoMemory>
+        ensures { IfOk result (λ next. next ≡ hearing self.now body.now peers) }
+    {
+        if is_below(body, &self.state) {
+            let knowledge = self.with_peers(peers)?;
+            return Ok(Next {
+                knowledge,
+                deltas: Vec::new(self.alloc),
+                trim: 0,
+            });
+        }
+        let delta = body.copy()?;
+        let next = self.added(delta, peers)?;
+        Ok(next)
+    }
+
+    /// What goes on after a message's body comes, where this is kept of peers.
+    pub(crate) fn heard_body(&self, body: &Body, peers: Peers) -> Result<Next, NoMemory>
+        ensures { IfOk result (λ next. next ≡ hearing self.now (content_of body.now) peers) }
+    {
+        match body.state() {
+            Some(state) => self.heard(state, peers),
+            None => self.heard(&State::bottom(self.alloc), peers),
+        }
+    }
+
+    /// How many of the own deltas all other nodes have acknowledged.
+    pub(crate) fn acked_by_all(&self, config: &Config) -> u64
+        ensures { result ≡ acked_by_all self.now.peers self.now.state (node_count config.now) self.now.origin.node }
+    {
+        self.peers
+            .acked_by_all(&self.state, config.nodes(), self.origin.node)
+    }
+}
+
+/// Whether a state is below another.
+pub(crate) fn is_below(state: &State, other: &State) -> bool
+    ensures { result ≡ is_below state.now other.now }
+{
+    state.leq(other)
+}
+
+/// The operation of a boot.
+fn up_of(origin: Origin) -> Op
+    ensures { result ≡ up origin }
+{
+    Op::new(Dot { origin, n: 1 }, Act::Up).unwrap()
+}

@@ -1,0 +1,114 @@
+//! What a controller ships, and what comes to it.
+
+ghost use Rattle.std.specs.Prelude.{◌≡◌, ◌≤◌, ◌∷◌, [], not, IfOk, IfSome, None};
+ghost use Rattle.dac_meaning.specs.Below.{is_below};
+ghost use Rattle.dac_meaning.specs.Meaning.{meaning_of};
+ghost use Rattle.dac_messages.specs.Bodies.{content_of};
+ghost use Rattle.dac_peers.specs.Peers.{is_up_to_date as needs_nothing, shipped_to};
+ghost use Rattle.dac_rules.specs.Deeds.{body_from, message_of, hears_message};
+ghost use Rattle.dac_node.specs.Knowing.{adding, hearing, knowledge_of};
+ghost use Rattle.dac_node.specs.After.{next_by};
+
+use crate::knowledge::is_below;
+use crate::next::Next;
+use crate::running::Running;
+use dac_base::{NoMemory, NodeId};
+use dac_config::Config;
+use dac_lattice::{Bottom, Lattice};
+use dac_messages::{Body, Message};
+use dac_peers::Place;
+use dac_state::{Op, State};
+
+impl Running {
+    /// Whether nothing is to be shipped to a node.
+    pub(crate) fn is_up_to_date(&self, to: NodeId) -> bool
+        ensures { let r = self.now in result ≡ needs_nothing r.peers r.state r.kept.base r.kept.count to }
+    {
+        let known = &self.knowledge;
+        known
+            .peers
+            .is_up_to_date(&known.state, self.buffer.base(), self.buffer.count(), to)
+    }
+
+    /// What is shipped from a place on: nothing where the node has all, else the interval from there; and the whole state
+    /// where there is no place to begin.
+    fn body_from(&self, from: Option<Place>) -> Result<Body, NoMemory>
+        requires { IfSome from (λ place. self.now.kept.base ≤ place.number) }
+        ensures { IfOk result (λ body. body ≡ body_from self.now from) }
+    {
+        let Some(place) = from else {
+            let state = self.knowledge.state.copy()?;
+            return Ok(Body::Whole(state));
+        };
+        if self.buffer.count() <= place.number {
+            return Ok(Body::Nothing);
+        }
+        match self.buffer.interval(place.number)? {
+            Some(state) => Ok(Body::Interval(state)),
+            None => unreachable!(),
+        }
+    }
+
+    /// The message that is shipped to a node, and what goes on after it: the node is owed no answer any more.
+    pub(crate) fn ship(&self, to: NodeId) -> Result<(Next, Message), NoMemory>
+        ensures next { IfOk result (λ both. both.0 ≡ adding (knowledge_of self.now) [] (shipped_to self.now.peers to)) }
+        ensures message { IfOk result (λ both. both.1 ≡ message_of self.now to) }
+    {
+        let known = &self.knowledge;
+        let from = known.peers.begins(&known.state, self.buffer.base(), to);
+        let body = self.body_from(from)?;
+        let message = Message {
+            from: known.origin,
+            to,
+            only: match from {
+                Some(place) => Some(place.inc),
+                None => None,
+            },
+            up_to: self.buffer.count(),
+            body,
+            ack: known.peers.receipt(to),
+        };
+        let peers = known.peers.shipped_to(to)?;
+        let knowledge = known.with_peers(peers)?;
+        let next = Next {
+            knowledge,
+            deltas: Vec::new(known.alloc),
+            trim: 0,
+        };
+        Ok((next, message))
+    }
+
+    /// Whether what a message brings isn't below the state.
+    pub(crate) fn is_new(&self, body: &Body) -> bool
+        ensures { result ≡ not (is_below (content_of body.now) self.now.state) }
+    {
+        match body.state() {
+            Some(state) => !is_below(state, &self.knowledge.state),
+            None => !is_below(&State::bottom(self.knowledge.alloc), &self.knowledge.state),
+        }
+    }
+
+    /// What goes on after a message is heard. What all other nodes have acknowledged by then is kept no longer.
+    pub(crate) fn hear(&self, config: &Config, message: &Message) -> Result<Next, NoMemory>
+        ensures { IfOk result (λ next. next ≡ next_by self.now [] (hears_message config.now self.now message.now)) }
+    {
+        let known = &self.knowledge;
+        let count = self.buffer.count();
+        let peers = known.peers.heard_from(known.origin, count, message)?;
+        let next = known.heard_body(&message.body, peers)?;
+        let trim = next.knowledge.acked_by_all(config);
+        Ok(next.trimmed(trim))
+    }
+
+    /// What goes on after one operation is heard that comes by itself, and whether it is new.
+    pub(crate) fn hear_op(&self, operation: &Op) -> Result<(Next, bool), NoMemory>
+        ensures next { IfOk result (λ both. both.0 ≡ hearing (knowledge_of self.now) (meaning_of (operation.now ∷ [])) self.now.peers) }
+        ensures fresh { IfOk result (λ both. both.1 ≡ not (is_below (meaning_of (operation.now ∷ [])) self.now.state)) }
+    {
+        let known = &self.knowledge;
+        let delta = State::delta_of(known.alloc, operation)?;
+        let peers = known.peers.copy()?;
+        let next = known.heard(&delta, peers)?;
+        Ok((next, !is_below(&delta, &known.state)))
+    }
+}

@@ -1,0 +1,12 @@
+pub mod NodeValue
+pub mod ModelNode
+pub mod EventRefusals
+pub mod Deeds
+pub mod Step
+pub mod Accepted
+pub mod Shipping
+pub mod Hearing
+pub mod Refused
+pub mod Writing
+pub mod Again
+pub mod laws

@@ -1,0 +1,196 @@
+-- Why an event is refused, in words: which causes an event can have, when each holds, and that the least of those that hold is answered. (The causes and their order are this project's own.)
+use Rattle.std.specs.Prelude.{◌≡◌, ◌⊎◌, ℕ, ◌+◌, ◌-◌, ◌^◌, ◌<◌, ◌≤◌, true, false, List, [], ◌∷◌, length, Option, None, Some, IfSome}
+use Rattle.std.specs.Option.{option_map}
+use Rattle.std.specs.FinSet as set
+use Rattle.dac_base.specs.declared.limits.TheConstants.{MAX_COUNTER, MAX_REPLACED}
+use Rattle.dac_base.specs.declared.NodeId.{NodeId}
+use Rattle.dac_base.specs.declared.AppId.{AppId}
+use Rattle.dac_dots.specs.declared.dot.Origin.{Origin}
+use Rattle.dac_dots.specs.declared.dot.Dot.{Dot}
+use Rattle.dac_dots.specs.Dots.{Dots, dot, IsUsedUp}
+use Rattle.dac_config.specs.Table.{Table, node_count, app_count, group_of}
+use Rattle.dac_chains.specs.Lives.{IsLive}
+use Rattle.dac_wishes.specs.WishesValue.{SomeStands}
+use Rattle.dac_meaning.specs.StateValue.{StateValue, wishes_of, IsBelow}
+use Rattle.dac_peers.specs.declared.places.Place.{Place}
+use Rattle.dac_messages.specs.Bodies.{content_of}
+use Rattle.dac_placement.specs.Placement.{IsEligible, RunsAt, IsEarlier}
+use Rattle.dac_events.specs.declared.Command.{Command}
+use Rattle.dac_events.specs.declared.Command.TheVariants.{Down, Permit, Start, Stop, Takeover}
+use Rattle.dac_messages.specs.declared.message.Message.{Message}
+use Rattle.dac_messages.specs.declared.event.Event.{Event}
+use Rattle.dac_messages.specs.declared.event.Event.TheVariants.{Boot, Crash, Command as Told, Tick, Ship, Hear, HearOp}
+use Rattle.dac_commands.specs.declared.refusal.Refusal.{Refusal}
+use Rattle.dac_commands.specs.declared.refusal.Refusal.TheVariants.{Off, AlreadyOn, DeclaredDown, UnknownApp, UnknownNode, OnSelf, NotInList, MomentBack, NotLive, NotStarted, NotEligible, NotRunning, AlreadyHolder, LowerPriority, NotForMe, UpToDate, TooManyDots, TermsUsedUp, DotsUsedUp, IncarnationsUsedUp, NoMemory}
+use Rattle.dac_commands.specs.Refusals.{number_of}
+use Rattle.dac_commands.specs.Commands.{key_at, standing_starts, standing_permits}
+use Rattle.dac_commands.specs.Written.{HasLastTerm}
+use Rattle.dac_rules.specs.NodeValue.{NodeValue, RunValue}
+use Rattle.dac_rules.specs.EventRefusals.{needed, refusal_of}
+use Rattle.dac_rules.specs.Shipping.{IsPlace}
+
+-- ---- which causes an event can have, beside want of memory
+
+abbrev pub causes_of_command : Command → List Refusal
+causes_of_command (Down node) = Off ∷ DeclaredDown ∷ UnknownNode ∷ OnSelf ∷ NotLive ∷ DotsUsedUp ∷ []
+causes_of_command (Permit app node value) = Off ∷ DeclaredDown ∷ UnknownApp ∷ UnknownNode ∷ NotInList ∷ NotLive ∷ TooManyDots ∷ DotsUsedUp ∷ []
+causes_of_command (Start app node) = Off ∷ DeclaredDown ∷ UnknownApp ∷ UnknownNode ∷ NotInList ∷ NotLive ∷ TooManyDots ∷ DotsUsedUp ∷ []
+causes_of_command (Stop app node) = Off ∷ DeclaredDown ∷ UnknownApp ∷ UnknownNode ∷ NotInList ∷ NotLive ∷ NotStarted ∷ TooManyDots ∷ DotsUsedUp ∷ []
+causes_of_command (Takeover app) = Off ∷ DeclaredDown ∷ UnknownApp ∷ NotInList ∷ NotEligible ∷ NotRunning ∷ AlreadyHolder ∷ LowerPriority ∷ TermsUsedUp ∷ DotsUsedUp ∷ []
+
+abbrev pub causes_of_event : Event → List Refusal
+causes_of_event (Boot now) = AlreadyOn ∷ IncarnationsUsedUp ∷ []
+causes_of_event Crash = Off ∷ []
+causes_of_event (Told c) = causes_of_command c
+causes_of_event (Tick now) = Off ∷ DeclaredDown ∷ MomentBack ∷ DotsUsedUp ∷ []
+causes_of_event (Ship to) = Off ∷ UnknownNode ∷ OnSelf ∷ UpToDate ∷ []
+causes_of_event (Hear m) = Off ∷ OnSelf ∷ NotForMe ∷ DotsUsedUp ∷ []
+causes_of_event (HearOp o) = Off ∷ DotsUsedUp ∷ []
+
+-- ---- what an event is about
+
+-- the application that a command is about
+abbrev pub app_in : Event → Option AppId
+app_in (Told (Permit app node value)) = Some app
+app_in (Told (Start app node)) = Some app
+app_in (Told (Stop app node)) = Some app
+app_in (Told (Takeover app)) = Some app
+app_in _ = None
+
+-- the node that a command is about, or to which is shipped
+abbrev pub node_in : Event → Option NodeId
+node_in (Told (Down node)) = Some node
+node_in (Told (Permit app node value)) = Some node
+node_in (Told (Start app node)) = Some node
+node_in (Told (Stop app node)) = Some node
+node_in (Ship to) = Some to
+node_in _ = None
+
+-- the node whose place in the application's list is asked for: that of the command, or for a takeover the own one
+abbrev pub listed_in : NodeValue → Event → Option NodeId
+listed_in v (Told (Takeover app)) = option_map (λ (r : RunValue). r.origin.node) v.run
+listed_in v e = node_in e
+
+-- the moment of a tick
+abbrev pub tick_in : Event → Option ℕ
+tick_in (Tick now) = Some now
+tick_in _ = None
+
+-- the node that has to be another one: who is declared down, to whom is shipped, who is heard
+abbrev pub other_in : Event → Option NodeId
+other_in (Told (Down node)) = Some node
+other_in (Ship to) = Some to
+other_in (Hear m) = Some m.from.node
+other_in _ = None
+
+-- the message that comes
+abbrev pub message_in : Event → Option Message
+message_in (Hear m) = Some m
+message_in _ = None
+
+-- the message is for this incarnation: for its node, and for no other incarnation alone
+abbrev pub IsFor : Origin → Message → Type 0
+IsFor own m = (m.to ≡ own.node) × IfSome m.only (λ inc. inc ≡ own.inc)
+
+-- the dots that a command replaces: those that stand at its key
+abbrev pub replaced_in : StateValue → Event → List Dot
+replaced_in s (Told (Permit app node value)) = standing_permits s (key_at s app node)
+replaced_in s (Told (Start app node)) = standing_starts s (key_at s app node)
+replaced_in s (Told (Stop app node)) = standing_starts s (key_at s app node)
+replaced_in s _ = []
+
+-- ---- when a cause holds
+
+-- there is one, and P holds of it
+abbrev pub Some! : {X : Type 0} → Option X → (X → Type 0) → Type 0
+Some! None P = ⊥
+Some! (Some x) P = P x
+
+-- the node runs, and P holds of its incarnation and its state
+abbrev pub Running : NodeValue → (Origin → StateValue → Type 0) → Type 0
+Running v P = Some! v.run (λ (r : RunValue). P r.origin r.state)
+
+-- among the dots the origin has a counter, or none yet, after which there are fewer than so many up to the last
+abbrev pub LeavesFewer : Dots → Origin → ℕ → Type 0
+LeavesFewer dots own count = (n : ℕ) × (((n ≡ 0) ⊎ (set.contains dots (dot own n) ≡ true)) × (MAX_COUNTER < n + count))
+
+-- so many deltas more are too many for their numbers
+abbrev pub LacksNumbers : RunValue → ℕ → Type 0
+LacksNumbers r more = MAX_COUNTER < r.kept.count + more
+
+-- The counters or the numbers of deltas that are left are too few. A tick is taken to need one for each application and one at least, whatever it does; a command needs one, and an operation that comes by itself is taken to need a number; what a message brings needs one where it is added.
+abbrev pub Lacks : Table → RunValue → Event → Type 0
+Lacks t r (Told c) = IsUsedUp r.state.known r.origin ⊎ LacksNumbers r 1
+Lacks t r (Tick now) = LeavesFewer r.state.known r.origin (needed t) ⊎ LacksNumbers r (needed t)
+Lacks t r (Hear m) = (¬ IsBelow (content_of m.body) r.state) × LacksNumbers r 1
+Lacks t r (HearOp o) = LacksNumbers r 1
+Lacks t r _ = ⊥
+
+-- the node has acknowledged all deltas, and is owed no answer
+abbrev pub IsUpToDate : RunValue → NodeId → Type 0
+IsUpToDate r to = (p : Place) × (IsPlace r to p × ((r.kept.count ≤ p.number) × (set.contains r.peers.owed to ≡ false)))
+
+-- the cause holds of the event at the node
+abbrev pub Holds : Table → NodeValue → Event → Refusal → Type 0
+Holds t v e Off = v.run ≡ None
+Holds t v e AlreadyOn = Running v (λ own s. Unit {0})
+Holds t v e DeclaredDown = Running v (λ own s. ¬ IsLive s.lives own.node own.inc)
+Holds t v e UnknownApp = Some! (app_in e) (λ app. app_count t ≤ app.0)
+Holds t v e UnknownNode = Some! (node_in e) (λ node. node_count t ≤ node.0)
+Holds t v e OnSelf = Running v (λ own s. Some! (other_in e) (λ node. node ≡ own.node))
+Holds t v e NotInList = Some! (app_in e) (λ app. Some! (listed_in v e) (λ node. group_of t app node ≡ None))
+Holds t v e MomentBack = Some! v.run (λ (r : RunValue). Some! (tick_in e) (λ now. now < r.moments.last))
+Holds t v e NotLive = Running v (λ own s. Some! (node_in e) (λ node. (inc : ℕ) → ¬ IsLive s.lives node inc))
+Holds t v e NotStarted = Running v (λ own s. Some! (app_in e) (λ app. Some! (node_in e) (λ node. ¬ SomeStands (key_at s app node) (wishes_of s))))
+Holds t v e NotEligible = Running v (λ own s. Some! (app_in e) (λ app. ¬ IsEligible t s app own.node))
+Holds t v e NotRunning = Running v (λ own s. Some! (app_in e) (λ app. (node : NodeId) → ¬ RunsAt t s app node))
+Holds t v e AlreadyHolder = Running v (λ own s. Some! (app_in e) (λ app. RunsAt t s app own.node))
+Holds t v e LowerPriority = Running v (λ own s. Some! (app_in e) (λ app. (runner : NodeId) × (RunsAt t s app runner × IsEarlier t app runner own.node)))
+Holds t v e NotForMe = Running v (λ own s. Some! (message_in e) (λ m. ¬ IsFor own m))
+Holds t v e UpToDate = Some! v.run (λ (r : RunValue). Some! (node_in e) (λ to. IsUpToDate r to))
+Holds t v e TooManyDots = Running v (λ own s. MAX_REPLACED < length (replaced_in s e))
+Holds t v e TermsUsedUp = Running v (λ own s. Some! (app_in e) (λ app. HasLastTerm s app))
+Holds t v e DotsUsedUp = Some! v.run (λ (r : RunValue). Lacks t r e)
+Holds t v e IncarnationsUsedUp = 2 ^ 32 - 1 ≤ v.last
+Holds t v e NoMemory = ⊥
+
+-- ---- what is answered
+
+-- it is one of these
+abbrev pub IsOneOf : Refusal → List Refusal → Type 0
+IsOneOf why [] = ⊥
+IsOneOf why (r ∷ rs) = (why ≡ r) ⊎ IsOneOf why rs
+
+-- none of these holds
+abbrev pub NoneHolds : (Refusal → Type 0) → List Refusal → Type 0
+NoneHolds Holding rs = (why : Refusal) → IsOneOf why rs → ¬ Holding why
+
+-- one of these that holds, and none that holds has a lesser number
+pub record IsLeastOf (Holding : Refusal → Type 0) (rs : List Refusal) (why : Refusal) : Type 0 where
+  pub can : IsOneOf why rs
+  pub holds : Holding why
+  pub least : (other : Refusal) → IsOneOf other rs → Holding other → number_of why ≤ number_of other
+
+-- nothing refuses the event
+abbrev pub IsFree : Table → NodeValue → Event → Type 0
+IsFree t v e = NoneHolds (Holds t v e) (causes_of_event e)
+
+-- this is why the event is refused
+abbrev pub IsRefused : Table → NodeValue → Event → Refusal → Type 0
+IsRefused t v e why = IsLeastOf (Holds t v e) (causes_of_event e) why
+
+-- the least cause is answered where one holds, and want of memory only where none does
+abbrev pub IsAnsweredBy : Table → NodeValue → Event → Refusal → Type 0
+IsAnsweredBy t v e why = IsRefused t v e why ⊎ ((why ≡ NoMemory) × IsFree t v e)
+
+-- ---- the table of causes answers so
+
+abbrev pub AnswersTheLeast : Type 0
+AnswersTheLeast = (t : Table) (v : NodeValue) (e : Event) (why : Refusal) → refusal_of t v e ≡ Some why → IsRefused t v e why
+
+abbrev pub RefusesNoOther : Type 0
+RefusesNoOther = (t : Table) (v : NodeValue) (e : Event) → refusal_of t v e ≡ None → IsFree t v e
+
+-- want of memory is no cause of the table
+abbrev pub NeverWantsMemory : Type 0
+NeverWantsMemory = (t : Table) (v : NodeValue) (e : Event) → ¬ (refusal_of t v e ≡ Some NoMemory)

@@ -1,0 +1,11 @@
+pub mod Options
+pub mod Steps
+pub mod Heard
+pub mod Tests
+pub mod Places
+pub mod Refused
+pub mod Counters
+pub mod Numbers
+pub mod Writing
+pub mod Shipping
+pub mod Again

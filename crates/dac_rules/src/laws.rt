@@ -1,0 +1,24 @@
+//! The laws of refusals, of ticks and of ships, each as a clause of a function that does nothing.
+ghost use Rattle.dac_rules.specs.Refused.{AnswersTheLeast, RefusesNoOther, NeverWantsMemory};
+ghost use Rattle.dac_rules.specs.Again.{SecondTickClaimsNothing};
+ghost use Rattle.dac_rules.specs.Shipping.{ShipsInWords};
+
+/// The table of causes answers, of the causes that the event can have and that hold in words, the one with the
+/// least number; it lets an event through only where none of them holds; and it never answers want of memory.
+pub fn refusals_in_words()
+    ensures least { AnswersTheLeast }
+    ensures free { RefusesNoOther }
+    ensures memory { NeverWantsMemory }
+{}
+
+/// A node that has looked after its applications at a moment claims nothing by a second tick at the same moment.
+pub fn second_tick_claims_nothing()
+    ensures { SecondTickClaimsNothing }
+{}
+
+/// A node that ships answers a message that is in words what is to be shipped. It brings the whole state, for any
+/// incarnation of the receiver, exactly where there is no place from which an interval may begin. Else it brings what the
+/// log got from that place on, or nothing where the log ends there, for the incarnation of the place alone.
+pub fn ships_in_words()
+    ensures { ShipsInWords }
+{}
