@@ -17,4 +17,5 @@ pub use dac_node::Node;
 pub use dac_worlds::WorldFault;
 pub use world::World;
 
+mod sharing;
 mod world;

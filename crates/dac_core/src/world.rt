@@ -6,6 +6,7 @@ ghost use Rattle.dac_worlds.specs.WorldChanges.{NodeChanges};
 ghost use Rattle.dac_node.specs.Changes.{changed};
 ghost use Rattle.dac_core.specs.Ready.{IsReadyAt};
 
+use crate::sharing::copy_after;
 use dac_base::{NoMemory, NodeId};
 use dac_commands::Refusal;
 use dac_config::Config;
@@ -278,7 +279,7 @@ fn make_room(
 {
     operations.reserve(issued_count(reply))?;
     messages.reserve(1)?;
-    let copied = reply.copy()?;
+    let copied = copy_after(messages.as_slice(), reply)?;
     Ok(copied)
 }
 

@@ -74,6 +74,16 @@ crash_at_node : (w : ModelWorld) (me : NodeId) (d : ModelNode) (a : Result Reply
 crash_at_node w me d (Ok reply) h = cc
 crash_at_node w me d (Err why) h = cc
 
+-- an accepted event that is answered so leaves the node off
+pub crash_goes_off : (t : Table) (me : NodeId) (old : NodeValue) (e : Event) (new : NodeValue) (own : Reply) → AcceptedAs t me old e new own → own ≡ Crashed → new.run ≡ None
+crash_goes_off t me old e new own p is = ap (λ (x : NodeValue). x.run) p.left ∙ by_run old.last old.run e (sym p.reply ∙ is)
+  where
+    by_run : (last : ℕ) (run : Option RunValue) (e : Event) → reply_by t me last run p.noted e ≡ Crashed → (left_by t me last run p.noted e).run ≡ None
+    by_run last None e h = cc
+    by_run last (Some r) Crash h = refl
+    by_run last (Some r) (Tick now) h = absurd (tick_stays (opening_at t r now) t r p.noted now (ap (λ x. Ok x) h))
+    by_run last (Some r) _ h = cc
+
 -- memory was wanting for an event that isn't refused and is no crash
 lacked_follows : (t : Table) (v : WorldValue) (me : NodeId) (e : Event) (old : NodeValue) → Here v me old → refusal_of t old e ≡ None → (e ≡ Crash → ⊥) → Follows t v (λ w. happens_by t w me (Ok e)) out_of_memory v
 lacked_follows t v me e old here none stays = record {

@@ -4,6 +4,7 @@ use Rattle.std.specs.List.{slice_get}
 use Rattle.std.specs.Prelude.{refl}
 use Rattle.std.proofs.lemmas.Option.{slice_get_read}
 use Rattle.dac_core.proofs.Lists.{slice_get-set}
+use Rattle.dac_node.specs.Changes.{changed}
 use Rattle.dac_worlds.specs.laws.Follow.{changed_at}
 use Rattle.dac_core.proofs.world.change_node.Goals as goal
 
@@ -15,5 +16,5 @@ returns-clause-nodes c =
     let there : slice_get items me.0 ≡ Some old = slice_get_read items (length items) me.0 old refl c.requires c.index_mut.ensures.value in
     record {
       count = length-set items me.0 c.apply.new.self;
-      each = λ n. slice_get-set items me.0 n c.apply.new.self c.requires ∙ sym (changed_at items me old c.args.change there c.apply.new.self c.apply.ensures.new n);
+      each = λ n. slice_get-set items me.0 n c.apply.new.self c.requires ∙ sym (changed_at items me old (λ v. changed v c.args.change) there c.apply.new.self c.apply.ensures.new n);
     }

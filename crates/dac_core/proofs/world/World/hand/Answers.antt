@@ -6,6 +6,8 @@ use Rattle.dac_worlds.specs.WorldValue.{WorldValue}
 use Rattle.dac_worlds.specs.ModelWorld.{handed_by, counted}
 use Rattle.dac_worlds.specs.AtNode.{HappensAt}
 use Rattle.dac_worlds.specs.laws.Follow.{node_at, counted_there, happens_gone, happens_refused}
+use Rattle.dac_node.specs.Changes.{changed}
+use Rattle.dac_core.proofs.Readiness.{ready_at}
 use Rattle.dac_core.proofs.world.World.hand.Goals as goal
 
 no_crash : {m : Operation} {P : Type 0} → HearOp m ≡ Crash → P
@@ -19,7 +21,7 @@ returns-in-Ok-clause-happens c =
     let there : counted v.operations c.args.number ≡ Some m = subst (λ (x : WorldValue). counted x.operations c.args.number ≡ Some m) c.self.view_is (counted_there c.self.inside.operations.items c.args.number m c.if-number-eq0.false few c.index-operation.ensures) in
     let here = node_at v c.args.node c.index.result.now c.requires (subst (λ (x : WorldValue). c.index.result.now ≡ get_or x.nodes c.args.node.0 c.index.result.now) c.self.view_is c.index.ensures) in
     subst (λ o. HappensAt c.args.config.now v c.args.node (handed_by o) c.go_on.result c.go_on.new.self) (sym there)
-    (happens_gone c.args.config.now v c.go_on.new.self c.args.node (HearOp m) c.index.result.now c.in-Ok.change c.go_on.result here (c.in-Ok.ensures.ok c.args.config.now c.args.node) c.go_on.ensures.ok c.go_on.ensures.err c.go_on.ensures.crash c.go_on.ensures.unchanged)
+    (happens_gone c.args.config.now v c.go_on.new.self c.args.node (HearOp m) c.index.result.now (λ x. changed x c.in-Ok.change) c.in-Ok.change.reply c.go_on.result here (c.in-Ok.ensures.ok c.args.config.now c.args.node) c.go_on.ensures.ok c.go_on.ensures.err c.go_on.ensures.crash c.go_on.ensures.unchanged)
 
 pub returns-in-Err-clause-happens : goal.returns-in-Err-clause-happens
 returns-in-Err-clause-happens c =
@@ -30,3 +32,10 @@ returns-in-Err-clause-happens c =
     let here = node_at v c.args.node c.index.result.now c.requires (subst (λ (x : WorldValue). c.index.result.now ≡ get_or x.nodes c.args.node.0 c.index.result.now) c.self.view_is c.index.ensures) in
     subst (λ o. HappensAt c.args.config.now v c.args.node (handed_by o) (Err (Refused c.in-Err.why)) v) (sym there)
     (happens_refused c.args.config.now v c.args.node (HearOp m) c.index.result.now c.in-Err.why here (c.in-Err.ensures.err c.args.config.now) no_crash)
+
+pub go_on-requires-clause-ready : goal.go_on-requires-clause-ready
+go_on-requires-clause-ready c =
+    let v = c.args.self.now in
+    let m = c.index-operation.result.now in
+    let here = node_at v c.args.node c.index.result.now c.requires (subst (λ (x : WorldValue). c.index.result.now ≡ get_or x.nodes c.args.node.0 c.index.result.now) c.self.view_is c.index.ensures) in
+    ready_at c.args.config.now v.nodes c.args.node c.index.result.now (HearOp m) c.in-Ok.change here.there (c.in-Ok.ensures.ok c.args.config.now c.args.node) c.in-Ok.ensures.fits
