@@ -3,6 +3,7 @@ use Rattle.std.proofs.Math.ListN.{length-set}
 use Rattle.std.specs.List.{slice_get}
 use Rattle.std.specs.Prelude.{refl}
 use Rattle.std.proofs.lemmas.Option.{slice_get_read}
+use Rattle.std.proofs.lemmas.Result.{on_ok_weaker}
 use Rattle.dac_core.proofs.Lists.{slice_get-set}
 use Rattle.dac_node.specs.Changes.{changed}
 use Rattle.dac_worlds.specs.laws.Follow.{changed_at}
@@ -13,8 +14,8 @@ returns-clause-nodes c =
     let items = c.args.nodes.now.items in
     let me = c.args.node in
     let old = c.index_mut.result.now in
-    let there : slice_get items me.0 ≡ Some old = slice_get_read items (length items) me.0 old refl c.requires c.index_mut.ensures.value in
-    record {
+    let there : slice_get items me.0 ≡ Some old = slice_get_read items (length items) me.0 old refl c.requires.inside c.index_mut.ensures.value in
+    on_ok_weaker c.apply.result (λ is. record {
       count = length-set items me.0 c.apply.new.self;
-      each = λ n. slice_get-set items me.0 n c.apply.new.self c.requires ∙ sym (changed_at items me old (λ v. changed v c.args.change) there c.apply.new.self c.apply.ensures.new n);
-    }
+      each = λ n. slice_get-set items me.0 n c.apply.new.self c.requires.inside ∙ sym (changed_at items me old (λ v. changed v c.args.change) there c.apply.new.self is n);
+    }) c.apply.ensures.new
