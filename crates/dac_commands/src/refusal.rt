@@ -37,7 +37,7 @@ pub enum Refusal {
     AlreadyHolder,
     /// The application runs at a node of an earlier group.
     LowerPriority,
-    /// The message is for another node.
+    /// The message is for another node, or for another incarnation of this node alone.
     NotForMe,
     /// The node that is to be shipped to has acknowledged all, and is owed no answer.
     UpToDate,
@@ -45,7 +45,8 @@ pub enum Refusal {
     TooManyDots,
     /// The terms of the application's claims are used up.
     TermsUsedUp,
-    /// The counters of this incarnation's operations are used up.
+    /// The counters of this incarnation's operations are used up, or the numbers of its deltas. A tick is taken to need
+    /// one of each for each application, and one at least.
     DotsUsedUp,
     /// The numbers of this node's incarnations are used up.
     IncarnationsUsedUp,

@@ -66,7 +66,7 @@ pub enum What {
         /// The present moment, in milliseconds.
         now: u64,
     },
-    /// The node's state is shipped.
+    /// Another node is shipped what it hasn't acknowledged, or the whole state.
     Ship {
         /// The node that it is shipped to.
         to: NodeId,

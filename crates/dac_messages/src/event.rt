@@ -24,7 +24,7 @@ pub enum Event {
         /// The present moment, in milliseconds.
         now: u64,
     },
-    /// The node's state is to be shipped.
+    /// Another node is to be shipped what it hasn't acknowledged, or the whole state.
     Ship {
         /// The node that it is shipped to.
         to: NodeId,

@@ -12,9 +12,9 @@ use dac_state::State;
 pub enum Body {
     /// The sender's whole state.
     Whole(State),
-    /// All that the sender's state got since it had so many deltas as the receiver acknowledged.
+    /// All that the sender's state got since it had as many deltas as the receiver acknowledged.
     Interval(State),
-    /// Nothing: the receiver acknowledged all that the sender has.
+    /// Nothing: the receiver acknowledged all that the sender has. It is shipped for its acknowledgement.
     Nothing,
 }
 
@@ -58,13 +58,14 @@ pub struct Message {
     pub from: Origin,
     /// The node that it is for.
     pub to: NodeId,
-    /// The incarnation of that node that it is for, where it is for one alone.
+    /// The incarnation of that node that it is for, where it is for one alone. A whole state is for any.
     pub only: Option<u32>,
     /// How many deltas the sender had when it was shipped.
     pub up_to: u64,
     /// What it brings.
     pub body: Body,
-    /// The incarnation of the receiver from which the sender last got anything, and how many deltas that one had then.
+    /// What the sender acknowledges: the latest incarnation of the receiver from which it got anything, and the most
+    /// deltas that this one had in a message that was got.
     pub ack: Option<(Origin, u64)>,
 }
 

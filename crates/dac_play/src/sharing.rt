@@ -1,4 +1,4 @@
-//! Each node that runs tells its state to each other one.
+//! Each node that runs tells each other one what that one hasn't acknowledged.
 
 ghost use Rattle.std.specs.Prelude.{◌≡◌, ◌≢◌, ◌<◌, IfOk, OnOk, length};
 ghost use Rattle.std.specs.Option.{is_some};

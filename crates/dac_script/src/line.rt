@@ -21,7 +21,7 @@ use std::alloc::Global;
 pub enum ScriptLine {
     /// Something happens at a node.
     Event(WorldEvent),
-    /// Each node that runs tells its state to each other node that runs.
+    /// Each node that runs ships to each other node that runs, and each message is delivered at once.
     Share,
     /// The page of a node is printed.
     Page(NodeId),
@@ -31,7 +31,7 @@ pub enum ScriptLine {
     Same(NodeId, NodeId),
     /// The bytes of the message of this number are printed.
     Bytes(u64),
-    /// These bytes are read as a message, which is delivered to no node.
+    /// These bytes are read as a message or an operation, which comes to no node.
     Feed(ByteList),
 }
 
