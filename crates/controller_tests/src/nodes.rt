@@ -9,15 +9,15 @@ use dac_state::{Act, DotList, How, Key, Op, State};
 use std::alloc::Global;
 
 /// One application at two nodes.
-const ONE: &[u8] = b"[{kernel,[{distributed,[{a,[c1@h,c2@h]}]}]}].";
+pub const ONE: &[u8] = b"[{kernel,[{distributed,[{a,[c1@h,c2@h]}]}]}].";
 
 const APP: AppId = AppId(0);
 
 /// The node whose operations are handed.
-const FIRST: NodeId = NodeId(0);
+pub const FIRST: NodeId = NodeId(0);
 
 /// The node that they are handed to.
-const SECOND: NodeId = NodeId(1);
+pub const SECOND: NodeId = NodeId(1);
 
 const DOWN: Command = Command::Down { node: FIRST };
 
@@ -81,7 +81,7 @@ fn permit(alloc: Global) -> Act {
 }
 
 /// What comes of an event at the second node.
-fn step(config: &Config, node: &mut Node, event: Event) -> Result<Reply, Refusal> {
+pub fn step(config: &Config, node: &mut Node, event: Event) -> Result<Reply, Refusal> {
     node.step(config, SECOND, event)
 }
 
@@ -117,15 +117,15 @@ fn refuses_all(config: &Config, node: &Node, why: Refusal) -> bool {
 }
 
 /// The second node in its first incarnation.
-fn booted(alloc: Global, config: &Config) -> Option<Node> {
+pub fn booted(alloc: Global, config: &Config) -> Option<Node> {
     let mut node = Node::off(alloc, 0);
     let _reply = step(config, &mut node, Event::Boot { now: 0 }).ok()?;
     Some(node)
 }
 
-/// Whether the node hears a start by each of 1,024 operations of the first node.
-fn hears_starts(alloc: Global, config: &Config, node: &mut Node) -> bool {
-    for n in 2..1_026 {
+/// Whether the node hears a start by each operation of the first node from the second one on, below this counter.
+pub fn hears_starts(alloc: Global, config: &Config, node: &mut Node, end: u64) -> bool {
+    for n in 2..end {
         if !hears(config, node, dot(0, 1, n), start(alloc)) {
             return false;
         }
@@ -147,7 +147,7 @@ fn hears_permits(alloc: Global, config: &Config, node: &mut Node) -> bool {
 fn starts_are_too_many(alloc: Global) -> Option<bool> {
     let config = read_config(alloc, ONE).ok()?;
     let mut node = booted(alloc, &config)?;
-    let most = hears_starts(alloc, &config, &mut node) && accepts(&config, &node, STOP);
+    let most = hears_starts(alloc, &config, &mut node, 1_026) && accepts(&config, &node, STOP);
     let more = hears(&config, &mut node, dot(0, 1, 1_026), start(alloc));
     Some(
         most && more
@@ -309,7 +309,7 @@ fn incarnations_go_on_and_end(rt: HostRuntime) {
 }
 
 /// A message of the first node to the second, which tells that the first came up.
-fn message(alloc: Global) -> Option<Message> {
+pub fn message(alloc: Global) -> Option<Message> {
     let up = Op::new(dot(0, 1, 1), Act::Up).ok()?;
     Some(Message {
         from: up.dot().origin,

@@ -1,0 +1,72 @@
+//! What nodes ship once deltas are dropped, and which acknowledgements and messages they pass over or refuse.
+use crate::nodes::{FIRST, ONE, SECOND, booted, hears_starts, message, step};
+use crate::steps::dot;
+use dac_base::NodeId;
+use dac_config::{Config, read_config};
+use dac_core::{Body, Event, Message, Node, Refusal, Reply};
+use std::alloc::Global;
+
+/// A message of the first node to the second that brings nothing, and acknowledges so many deltas.
+fn acknowledgement(number: u64) -> Message {
+    Message {
+        from: dot(0, 1, 1).origin,
+        to: SECOND,
+        only: None,
+        up_to: 0,
+        body: Body::Nothing,
+        ack: Some((dot(1, 1, 1).origin, number)),
+    }
+}
+
+/// The second node with two deltas, its own boot and that of the first, after the first acknowledged so many.
+fn acknowledged(alloc: Global, config: &Config, number: u64) -> Option<Node> {
+    let mut node = booted(alloc, config)?;
+    let _up = step(config, &mut node, Event::Hear(message(alloc)?)).ok()?;
+    let _ack = step(config, &mut node, Event::Hear(acknowledgement(number))).ok()?;
+    Some(node)
+}
+
+/// Whether the second node ships its whole state to the first, which acknowledged so many deltas before the second
+/// heard of each of its starts below this counter.
+fn ships_whole(alloc: Global, number: u64, end: u64) -> Option<bool> {
+    let config = read_config(alloc, ONE).ok()?;
+    let mut node = acknowledged(alloc, &config, number)?;
+    if !hears_starts(alloc, &config, &mut node, end) {
+        return None;
+    }
+    match step(&config, &mut node, Event::Ship { to: FIRST }).ok()? {
+        Reply::Shipped(message) => Some(matches!(message.body, Body::Whole(_))),
+        _ => None,
+    }
+}
+
+#[test]
+fn whole_once_the_oldest_of_256_deltas_is_dropped(rt: HostRuntime) {
+    assert!(rt; ships_whole(rt.alloc(), 2, 2 + 256) == Some(false));
+    assert!(rt; ships_whole(rt.alloc(), 2, 2 + 257) == Some(true));
+}
+
+#[test]
+fn an_acknowledgement_of_more_deltas_than_there_are_is_passed_over(rt: HostRuntime) {
+    assert!(rt; ships_whole(rt.alloc(), 2, 3) == Some(false));
+    assert!(rt; ships_whole(rt.alloc(), 3, 3) == Some(true));
+}
+
+/// Whether the second node refuses a message to this node and to this incarnation alone, as it is for another one.
+fn is_for_another(alloc: Global, last: u32, to: NodeId, only: Option<u32>) -> Option<bool> {
+    let config = read_config(alloc, ONE).ok()?;
+    let mut node = Node::off(alloc, last);
+    let _up = step(&config, &mut node, Event::Boot { now: 0 }).ok()?;
+    let mut sent = message(alloc)?;
+    sent.to = to;
+    sent.only = only;
+    let answer = step(&config, &mut node, Event::Hear(sent));
+    Some(answer.err() == Some(Refusal::NotForMe))
+}
+
+#[test]
+fn messages_for_others_are_refused(rt: HostRuntime) {
+    assert!(rt; is_for_another(rt.alloc(), 0, FIRST, None) == Some(true));
+    assert!(rt; is_for_another(rt.alloc(), 1, SECOND, Some(1)) == Some(true));
+    assert!(rt; is_for_another(rt.alloc(), 1, SECOND, Some(2)) == Some(false));
+}
