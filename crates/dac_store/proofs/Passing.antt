@@ -62,9 +62,9 @@ module _ (p : Dot → Bool) (ks : List Dot) (had now : Dots) where
 -- ---- sets that lose dots
 
 -- a list with one dot less is the set without it
-pub one_removed : (ks ls : List Dot) (k : Dot) → ((q : Dot) → has_key dot_cmp ls q ≡ (not (eq_by_cmp dot_cmp q k) && has_key dot_cmp ks q)) → set.from_list ls ≡ set.remove (set.from_list ks) k
+pub one_removed : (ks ls : List Dot) (k : Dot) → ((q : Dot) → has_key dot_cmp ls q ≡ (not (eq_by_cmp dot_cmp q k) && has_key dot_cmp ks q)) → set.from_list {R = dot_cmp} ls ≡ set.remove (set.from_list {R = dot_cmp} ks) k
 one_removed ks ls k h = set.same_set dots_total exact_dots _ _ (λ q.
-    set.contains-from_list dots_total ls q ∙ h q ∙ ap (λ b. not (eq_by_cmp dot_cmp q k) && b) (sym (set.contains-from_list dots_total ks q)) ∙ sym (set.contains-remove dots_total (set.from_list ks) k q))
+    set.contains-from_list dots_total ls q ∙ h q ∙ ap (λ b. not (eq_by_cmp dot_cmp q k) && b) (sym (set.contains-from_list dots_total ks q)) ∙ sym (set.contains-remove dots_total (set.from_list {R = dot_cmp} ks) k q))
 
 -- a set without those dots of a list that another set lacks
 abbrev pub LosesMissing : Dots → List Dot → Dots → Dots → Type 0

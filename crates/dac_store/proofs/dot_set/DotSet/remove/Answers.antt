@@ -1,6 +1,5 @@
 use Rattle.std.proofs.Common.{◌∙◌, ap}
 use Rattle.std.specs.FinSet as set
-use Rattle.dac_dots.specs.Dots.{dots_total, exact_dots}
 use Rattle.dac_store.proofs.dot_set.DotSet.remove.Goals as goal
 use Rattle.dac_store.proofs.Passing.{one_removed}
 
