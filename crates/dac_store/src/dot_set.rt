@@ -145,12 +145,7 @@ impl DotSet {
     }
 
     /// The join with a side that knows few dots: these dots but those that it dropped, and its own.
-    fn join_few(
-        &self,
-        heard: &Context,
-        few: &Self,
-        few_heard: &Context,
-    ) -> Result<Self, NoMemory>
+    fn join_few(&self, heard: &Context, few: &Self, few_heard: &Context) -> Result<Self, NoMemory>
         ensures { IfOk result (λ joined. joined ≡ join_sets self.now heard.now few.now few_heard.now) }
     {
         let mut joined = self.copy_with_room(few.dots.len())?;
