@@ -1,0 +1,8 @@
+//! The law of settling, as the contract of a function that does nothing.
+ghost use Rattle.dac_settle.specs.Settling.{RoundsSettle};
+
+/// Rounds settle all. As many rounds as the configuration has applications, begun in a ready world, leave each
+/// application kept, halted or without a node that may run it, at each running controller.
+pub fn rounds_settle()
+    ensures settle { RoundsSettle }
+{}
