@@ -1,5 +1,5 @@
 -- In a ready world each candidate's verdict is due: its lost claim was noted, and has waited its time.
-use Rattle.std.proofs.Common.{◌≡◌, ℕ, true, ◌∷◌, ◌++◌, [], List, Option, Some, None, option_map, refl, sym, ap, subst, arith, inr}
+use Rattle.std.proofs.Common.{◌≡◌, ℕ, true, ◌∷◌, ◌++◌, [], List, Option, Some, None, option_map, refl, sym, ap, subst, inr}
 use Rattle.std.specs.Option.{is_some}
 use Rattle.std.specs.FinMap as map
 use Rattle.std.proofs.lemmas.Bool.{false≢true}

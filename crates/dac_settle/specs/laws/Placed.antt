@@ -1,5 +1,5 @@
 -- The definitions of placement are such that rounds settle: what is used of any placement holds of verdicts over the meanings of sets of operations.
-use Rattle.std.proofs.Common.{◌≡◌, ◌⊎◌, ℕ, ◌+◌, ◌<◌, ◌≤◌, true, List, [], ◌∷◌, Option, Some, None, option_map, refl, sym, ap, subst, ◌∙◌, arith, inl, inr}
+use Rattle.std.proofs.Common.{◌≡◌, ◌⊎◌, ℕ, ◌+◌, ◌<◌, ◌≤◌, true, List, Option, Some, None, option_map, refl, sym, ap, subst, ◌∙◌, arith, inl, inr}
 use Rattle.std.specs.Prelude.{unwrap_or, IsSome}
 use Rattle.std.specs.Option.{is_some, option_map_or}
 use Rattle.std.specs.Ordering.{nat_cmp, ordering_then, is_le, MatchOrdering}
@@ -10,24 +10,22 @@ use Rattle.std.proofs.lemmas.Bool.{false≢true}
 use Rattle.std.proofs.lemmas.Cmp.{ranked}
 use Rattle.dac_base.specs.declared.NodeId.{NodeId}
 use Rattle.dac_base.specs.declared.AppId.{AppId}
-use Rattle.dac_dots.specs.declared.dot.Dot.{Dot}
 use Rattle.dac_dots.specs.declared.dot.Origin.{Origin}
 use Rattle.dac_lattice.specs.Chains.{IsAtMost, chain_laws}
 use Rattle.dac_chains.specs.Greatest.{IsGreatest}
 use Rattle.dac_chains.specs.declared.claims.Claim.{Claim}
-use Rattle.dac_chains.specs.declared.claims.How.{How}
 use Rattle.dac_chains.specs.Claims.{claim_cmp, claims_total, how_cmp, exact_hows, exact_claims}
 use Rattle.dac_chains.specs.Lives.{Lives, IsLive, live_at}
 use Rattle.dac_chains.specs.laws.Live.{live_is}
 use Rattle.dac_operations.specs.Operations.{Operation}
-use Rattle.dac_meaning.specs.Meaning.{In, Within, meaning_of, claim_said}
+use Rattle.dac_meaning.specs.Meaning.{In, meaning_of, claim_said}
 use Rattle.dac_meaning.specs.Joins.{meaning-same}
 use Rattle.dac_meaning.specs.Chained.{Says}
 use Rattle.dac_config.specs.Table.{Table}
 use Rattle.dac_placement.specs.Placement.{IsStartedAt, IsPermittedAt, key_at, apps_of, verdict_of, candidate_of}
 use Rattle.dac_placement.specs.laws.Rests.{candidate_is}
-use Rattle.dac_commands.specs.Commands.{next_term, greatest_counter}
-use Rattle.dac_ticks.specs.Ticks.{claim_of, claimed_by}
+use Rattle.dac_commands.specs.Commands.{next_term}
+use Rattle.dac_ticks.specs.Ticks.{claim_of}
 use Rattle.dac_ticks.specs.laws.Claimed.{Alike, alike_back, claimed_as}
 use Rattle.dac_settle.specs.Rounds.{Placement, IsGrown, IsPlacement}
 use Rattle.dac_settle.specs.laws.AnyPlacement.{one}

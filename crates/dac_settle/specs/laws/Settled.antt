@@ -1,6 +1,6 @@
 -- As many rounds as there are applications, begun in a ready world, settle each of them.
 use Rattle.std.proofs.Common.{◌≡◌, ℕ, ◌<◌, ◌≤◌, ◌+◌, Bool, true, false, cond, List, [], ◌∷◌, ◌++◌, length, Option, Some, None, option_map, zero, suc, refl, sym, ap, subst, ◌∙◌, arith, inl, inr}
-use Rattle.std.specs.Prelude.{nat_eq, IsSome}
+use Rattle.std.specs.Prelude.{nat_eq}
 use Rattle.std.specs.Option.{is_some}
 use Rattle.std.proofs.lemmas.Bool.{false≢true, eqb-true, eqb-false}
 use Rattle.std.proofs.lemmas.List.FromFn.{length-map-range_with_len}
@@ -9,7 +9,7 @@ use Rattle.dac_base.specs.declared.AppId.{AppId}
 use Rattle.dac_chains.specs.declared.claims.Claim.{Claim}
 use Rattle.dac_chains.specs.Lives.{Lives, IsLive}
 use Rattle.dac_operations.specs.Operations.{Operation}
-use Rattle.dac_meaning.specs.Meaning.{In, Within, meaning_of}
+use Rattle.dac_meaning.specs.Meaning.{Within, meaning_of}
 use Rattle.dac_meaning.specs.Members.{In-append_left}
 use Rattle.dac_config.specs.Table.{Table, app_count}
 use Rattle.dac_placement.specs.declared.verdicts.Verdict.{Verdict}
@@ -18,11 +18,11 @@ use Rattle.dac_placement.specs.Placement.{apps_of, verdict_of, candidate_of}
 use Rattle.dac_decide.specs.FailoverWait.{Note, IsLost, IsLostByNewest}
 use Rattle.dac_ticks.specs.laws.Turning.{numbered, apps_from}
 use Rattle.dac_ticks.specs.laws.Again.{noting}
-use Rattle.dac_settle.specs.Rounds.{Held, IsApp, IsGrown, Claims, Event as SetsEvent, Sets, InCopies, with_held, Happens as SetsHappen, Run as SetsRun, IsTickOf as IsSetsTick, Ticks as SetsTick, IsReady as AreReady, IsRound as IsRoundOfSets, Rounds as RoundsOfSets}
+use Rattle.dac_settle.specs.Rounds.{Held, IsApp, IsGrown, Event as SetsEvent, Sets, InCopies, with_held, Happens as SetsHappen, Run as SetsRun, IsTickOf as IsSetsTick, Ticks as SetsTick, IsReady as AreReady, IsRound as IsRoundOfSets, Rounds as RoundsOfSets}
 use Rattle.dac_settle.specs.Rounds.Event.{Tick as Ticked, Ship as Shipped, Deliver as Delivered}
 use Rattle.dac_settle.specs.Settling.{Member, Members, with_member, turn_at, holding, ticked, Event, Happens, Run, Ticks, IsReady, IsRound, Rounds, IsSettled, RoundsSettle}
 use Rattle.dac_settle.specs.Settling.Event.{Tick, Ship, Deliver}
-use Rattle.dac_settle.specs.laws.AnyPlacement.{in_copies, same_node, one, some_is, grown_itself, grown_united, tick_grown, any_settle}
+use Rattle.dac_settle.specs.laws.AnyPlacement.{in_copies, same_node, one, some_is, grown_united, tick_grown, any_settle}
 use Rattle.dac_settle.specs.laws.Placed.{placed, one_inc, grown_alike, is_placement}
 use Rattle.dac_settle.specs.laws.Turns.{lost_back, IsMemberOf, tick_claims}
 
