@@ -6,3 +6,5 @@ pub mod Placed
 pub mod Due
 pub mod Turns
 pub mod Settled
+pub mod OneEvent
+pub mod WorldsSettle
