@@ -1,5 +1,5 @@
 -- What settling sees of one event of the definition's world: a tick, a ship or a delivery of a member, or nothing.
-use Rattle.std.proofs.Common.{◌≡◌, ℕ, ◌-◌, ◌<◌, ◌≤◌, Bool, true, false, not, cond, List, [], ◌∷◌, ◌++◌, length, drop, map as list_map, Option, Some, None, Result, Ok, Err, nat_eq, zero, suc, refl, sym, ap, subst, ◌∙◌, arith, inl, inr}
+use Rattle.std.proofs.Common.{◌≡◌, ℕ, ◌-◌, ◌<◌, ◌≤◌, Bool, true, false, not, cond, List, [], ◌∷◌, ◌++◌, length, drop, map as list_map, Option, Some, None, Ok, Err, nat_eq, zero, suc, refl, sym, ap, subst, ◌∙◌, arith, inl, inr}
 use Rattle.std.specs.Prelude.{nat_lt}
 use Rattle.std.specs.Option.{option_map}
 use Rattle.std.specs.List.{slice_get}
@@ -31,14 +31,14 @@ use Rattle.dac_worlds.specs.declared.fault.WorldFault.{WorldFault}
 use Rattle.dac_worlds.specs.declared.fault.WorldFault.TheVariants.{NoSuchNode, Refused}
 use Rattle.dac_worlds.specs.ModelWorld.{ModelWorld, WorldStepped, happens, happens_by, answered_by, event_of, counted, with_node, Step}
 use Rattle.dac_worlds.specs.SetWorld.{SetWorld, NodeSet, Copy, with_set, united, copied_by, copied_to, brought_to, issuing, set_step}
-use Rattle.dac_worlds.specs.Uniting.{Unites, IsUnited}
+use Rattle.dac_worlds.specs.Uniting.{Unites}
 use Rattle.dac_worlds.specs.laws.Operations.{Agree-within, DistinctDots-agree}
 use Rattle.dac_worlds.specs.laws.Carried.{none_some}
 use Rattle.dac_worlds.specs.laws.Sound.{Answer, Sound, held_at, no_message, no_operation}
 use Rattle.dac_settle.specs.Rounds.{InCopies}
-use Rattle.dac_settle.specs.Settling.{Member, Members, with_member, own_of, turn_at, holding, ticked, IsLate, IsTick, Event, Run, Ticks as TicksIn}
+use Rattle.dac_settle.specs.Settling.{Member, Members, with_member, own_of, turn_at, holding, ticked, IsTick, Event, Run, Ticks as TicksIn}
 use Rattle.dac_settle.specs.Settling.Event.{Tick, Ship, Deliver}
-use Rattle.dac_settle.specs.WorldRounds.{member_by, members_of, IsLateBy, IsSince, InRound, IsTicked}
+use Rattle.dac_settle.specs.WorldRounds.{member_by, members_of, IsLateBy, InRound, IsTicked}
 use Rattle.dac_settle.specs.laws.AnyPlacement.{one, same_node}
 
 -- ---- the copies of a round
