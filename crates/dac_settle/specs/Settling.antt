@@ -117,7 +117,7 @@ IsSettled (Takeover n) = ⊥
 IsSettled (Kept n) = Unit {0}
 IsSettled Nobody = Unit {0}
 
--- As many rounds as there are applications, begun in a ready world, leave each application kept, halted or without a node that may run it, at each running node.
+-- As many rounds as there are applications, begun in a ready world, settle each application at each running node. It is kept, halted, or no node may run it.
 abbrev pub RoundsSettle : Type 0
 RoundsSettle = (t : Table) (node final : NodeId → Option Member) → IsReady node → Rounds t (app_count t) node final
     → (m : NodeId) (d : Member) → final m ≡ Some d → (app : AppId) → app.0 < app_count t → IsSettled (verdict_of t (meaning_of d.held) app)

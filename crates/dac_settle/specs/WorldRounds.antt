@@ -47,7 +47,7 @@ abbrev pub IsSince : ℕ → What → Type 0
 IsSince before (Deliver k) = before < k
 IsSince before _ = ⊥
 
--- What may be accepted in a round before which so much was shipped: a tick by which all that was noted has waited its time and which passes no application, a ship, and a delivery of what was shipped in the round. Whatever is refused may come.
+-- What may be accepted in a round before which so much was shipped: a tick, a ship, and a delivery of what was shipped in the round. The tick comes when all that was noted has waited its time, and it passes no application. Whatever is refused may come.
 abbrev pub InRound : Table → ℕ → ModelWorld → NodeId → What → Result Reply WorldFault → Type 0
 InRound t before w n what (Err why) = Unit {0}
 InRound t before w n what (Ok (Ticked ops passed)) = (passed ≡ []) × IsLateBy t (w.node n).run what
@@ -86,7 +86,7 @@ AreRounds t (suc k) w s events answers =
     × (events ≡ first ++ later) × (answers ≡ replies ++ more)
     × IsWorldRound t w s first replies × AreRounds t k (world_after t w first replies) (set_run s first replies) later more
 
--- Where the events end in as many rounds as there are applications, and the world was ready before them, nothing is to be done at any running node.
+-- The events end in as many rounds as there are applications, and the world was ready before them: then nothing is to be done at any running node.
 pub record Settles (t : Table) (events : List WorldEvent) (answers : List (Result Reply WorldFault)) (v : WorldValue) : Type 0 where
   pub each : (before rounds : List WorldEvent) (replies more : List (Result Reply WorldFault)) → events ≡ before ++ rounds → answers ≡ replies ++ more → AnsweredAs t (start t) before replies
       → let w = world_after t (start t) before replies in
