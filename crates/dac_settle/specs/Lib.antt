@@ -1,4 +1,0 @@
-pub mod Rounds
-pub mod Settling
-pub mod WorldRounds
-pub mod laws
