@@ -13,6 +13,7 @@ use dac_config::Config;
 use dac_events::{What, WorldEvent};
 use dac_messages::{Event, Message, Reply};
 use dac_node::{Change, Node};
+use dac_settle::laws::rounds_settle;
 use dac_state::Op;
 use dac_worlds::{WorldFault, laws};
 use std::alloc::Global;
@@ -56,6 +57,7 @@ impl World {
     ghost use Rattle.dac_config.specs.Table.{node_count};
     ghost use Rattle.dac_worlds.specs.ModelWorld.{Shows, start, Follows, RanAs, happens, event_of, heard_by, handed_by, counted, out_of_memory};
     ghost use Rattle.dac_worlds.specs.Converges.{Converges};
+    ghost use Rattle.dac_settle.specs.WorldRounds.{Settles};
     ghost use Rattle.dac_worlds.specs.AtNode.{HearsIn, HappensAt};
     ghost use Rattle.dac_worlds.specs.WorldChanges.{Goes};
 
@@ -89,6 +91,8 @@ impl World {
         // controllers that heard the same set hold equal states and bytes, and name the same holder and the same next
         // candidate. The record says more: of what was issued and shipped, of answers, of causes and of histories.
         ensures converges { IfOk result (λ both. Converges config.now events.now both.1.items both.0) }
+        // Once nothing more is commanded, each application has its place after as many rounds as there are applications.
+        ensures settles { IfOk result (λ both. Settles config.now events.now both.1.items both.0) }
     {
         let mut world = World::new(alloc, config)?;
         let mut answers = Vec::with_capacity(alloc, events.len())?;
@@ -98,6 +102,7 @@ impl World {
         }
         // What holds of every run holds of this one.
         laws::runs_converge();
+        rounds_settle();
         Ok((world, answers))
     }
 

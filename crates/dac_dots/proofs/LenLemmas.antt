@@ -111,6 +111,23 @@ len_is rows s dots view kept same_rows i n end so_far =
     so_far ∙ ap (sum_by row_len) (take_all i s end ∙ same_rows) ∙ sym (length_rows rows)
     ∙ len_apart dot_cmp (flat_map dots_in_row rows) dots_total (apart_rows rows kept.each kept.rising) ∙ ap (λ (d : Dots). set.len d) view
 
+-- each row counts
+row_counts : (row : Row) → HasSome row → 1 ≤ row_len row
+row_counts row (inl more) = omega arith
+row_counts row (inr more) = omega arith
+
+rows_count : (rows : List Row) → AllByRecursion (λ row. IsKept row × HasSome row) rows → length rows ≤ sum_by row_len rows
+rows_count [] each = omega arith
+rows_count (row ∷ rows) each =
+    let one = row_counts row each.0.1 in
+    let rest = rows_count rows each.1 in
+    let all = sum_by-cons row_len row rows in
+    omega arith
+
+-- there are no more rows than dots
+pub rows_within : (rows : List Row) (dots : Dots) → dots_in rows ≡ dots → AreKept rows → length rows ≤ set.len dots
+rows_within rows dots view kept = subst (λ n. length rows ≤ n) (len_is rows rows dots view kept refl (length rows) (sum_by row_len rows) (omega arith) (ap (sum_by row_len) (sym (take_all (length rows) rows (omega arith))))) (rows_count rows kept.each)
+
 -- ---- the dots in order
 
 -- 1 to u alone

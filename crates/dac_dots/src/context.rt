@@ -189,6 +189,14 @@ impl Context {
         len
     }
 
+    /// Whether the set has at most so many dots. It looks at no more origins than that.
+    pub fn has_at_most(&self, most: usize) -> bool
+        ensures { IsTrue result ↔ (set.len self.now ≤ most) }
+    {
+        // Each origin that is kept has a dot.
+        self.rows.len() <= most && self.len() <= most as u128
+    }
+
     /// The dots in rising order, each once. [`NoMemory`] is the only error.
     pub fn dots(&self) -> Result<Vec<Dot>, NoMemory>
         ensures value { IfOk result (λ dots. dots.items ≡ in_order self.now) }

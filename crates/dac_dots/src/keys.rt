@@ -1,5 +1,5 @@
 //! Keys of maps and sets, and sorted lists of keys.
-ghost use Rattle.std.specs.Prelude.{◌≡◌, ◌||◌, IfOk, OnOk, OnErr, false};
+ghost use Rattle.std.specs.Prelude.{◌≡◌, ◌||◌, ◌&&◌, IfOk, OnOk, OnErr, false, not};
 ghost use Rattle.std.specs.Ordering.{eq_by_cmp};
 ghost use Rattle.std.proofs.lemmas.Map.Lookups.{CmpEqualImpliesEq};
 ghost use Rattle.dac_dots.specs.Keys.{IsRising, has_key, merged};
@@ -72,6 +72,17 @@ pub fn insert_key<K: MapKey>(keys: &mut Vec<K>, key: K) -> Result<(), NoMemory>
         keys.insert(place, key)?;
     }
     Ok(())
+}
+
+/// Takes a key out of a sorted list without repeats, if it is there. It takes no memory.
+pub fn remove_key<K: MapKey>(keys: &mut Vec<K>, key: K)
+    requires { IsRising K.cmp keys.old.items }
+    ensures rising { IsRising K.cmp keys.new.items }
+    ensures value { (q : _) → has_key K.cmp keys.new.items q ≡ (not (eq_by_cmp K.cmp q key) && has_key K.cmp keys.old.items q) }
+{
+    if let Ok(place) = keys.binary_search(&key) {
+        keys.remove(place);
+    }
 }
 
 /// The keys of both sorted lists without repeats, in one pass: sorted, each once.

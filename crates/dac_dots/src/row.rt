@@ -14,6 +14,9 @@ use std::marker::Model;
 /// How many further counters are put into a row one by one. Where there are more, both rows are merged.
 const FEW: usize = 8;
 
+/// For how many counters more a copy of further ones has room.
+const ROOM: usize = 8;
+
 /// The counters of an origin: 1 to `upto`, which is as great as it can be, and the further ones in rising
 /// order. A counter 0 is a further one.
 #[derive(Debug, Drop)]
@@ -57,6 +60,15 @@ fn settle(upto: u64, counters: &mut Vec<u64>) -> u64
     last
 }
 
+/// For how many counters a copy of so many has room. None take no memory.
+fn room_for(counters: usize) -> usize {
+    if counters == 0 {
+        0
+    } else {
+        counters.saturating_add(ROOM)
+    }
+}
+
 impl OriginRow {
     /// The row of one dot.
     pub(crate) fn one(alloc: Global, dot: Dot) -> Result<Self, NoMemory>
@@ -76,11 +88,12 @@ impl OriginRow {
         })
     }
 
-    /// An equal row, with memory of its own.
+    /// An equal row, with memory of its own. Where there are further counters it has room for some more.
     pub(crate) fn copy(&self, alloc: Global) -> Result<Self, NoMemory>
         ensures { IfOk result (λ copied. copied ≡ self.now) }
     {
-        let further = Vec::from_slice(alloc, &self.further)?;
+        let mut further = Vec::with_capacity(alloc, room_for(self.further.len()))?;
+        further.extend_from_slice(&self.further)?;
         Ok(OriginRow {
             origin: self.origin,
             upto: self.upto,

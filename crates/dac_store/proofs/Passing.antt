@@ -1,5 +1,6 @@
--- Sets that grow by those dots of a list that pass a test, and the dots of stores in a list.
-use Rattle.std.proofs.Common.{◌≡◌, ℕ, ◌+◌, ◌<◌, ◌≤◌, zero, suc, Bool, true, false, ◌&&◌, ◌||◌, inl, inr, List, [], ◌∷◌, length, get_or, take, refl, sym, ap, subst, ◌∙◌, arith}
+-- Sets that grow by those dots of a list that pass a test, sets that lose those that another lacks, and the dots of
+-- stores in a list.
+use Rattle.std.proofs.Common.{◌≡◌, ℕ, ◌+◌, ◌<◌, ◌≤◌, zero, suc, Bool, true, false, not, ◌&&◌, ◌||◌, inl, inr, List, [], ◌∷◌, length, get_or, take, refl, sym, ap, subst, ◌∙◌, arith}
 use Rattle.std.specs.Ordering.{eq_by_cmp}
 use Rattle.std.specs.List.{All}
 use Rattle.std.specs.Cmp.{Equal-is}
@@ -12,6 +13,7 @@ use Rattle.dac_dots.specs.KeyLaws.{has_is}
 use Rattle.dac_dots.specs.Dots.{Dots, dot_cmp, dots_total, exact_dots}
 use Rattle.dac_dots.specs.declared.dot.Dot.{Dot}
 use Rattle.dac_store.specs.Stores.{IsHeld}
+use Rattle.dac_store.specs.DotSets.{may_stay}
 use Rattle.dac_store.specs.DotMaps.{has_in}
 
 -- e: the dot; h: there before; r: among those so far; b: passes
@@ -56,6 +58,64 @@ module _ (p : Dot → Bool) (ks : List Dot) (had now : Dots) where
   -- all dots
   pub adds_all : (s : Dots) → set.from_list ks ≡ s → (i : ℕ) → length ks ≤ i → AddsPassing p (take i ks) had now → (q : Dot) → set.contains now q ≡ (set.contains had q || (set.contains s q && p q))
   adds_all s is i h so_far q = so_far q ∙ ap (λ l. set.contains had q || (has_key dot_cmp l q && p q)) (take_all i ks h) ∙ ap (λ b. set.contains had q || (b && p q)) (has_is dots_total ks s is q)
+
+-- ---- sets that lose dots
+
+-- a list with one dot less is the set without it
+pub one_removed : (ks ls : List Dot) (k : Dot) → ((q : Dot) → has_key dot_cmp ls q ≡ (not (eq_by_cmp dot_cmp q k) && has_key dot_cmp ks q)) → set.from_list {R = dot_cmp} ls ≡ set.remove (set.from_list {R = dot_cmp} ks) k
+one_removed ks ls k h = set.same_set dots_total exact_dots _ _ (λ q.
+    set.contains-from_list dots_total ls q ∙ h q ∙ ap (λ b. not (eq_by_cmp dot_cmp q k) && b) (sym (set.contains-from_list dots_total ks q)) ∙ sym (set.contains-remove dots_total (set.from_list {R = dot_cmp} ks) k q))
+
+-- a set without those dots of a list that another set lacks
+abbrev pub LosesMissing : Dots → List Dot → Dots → Dots → Type 0
+LosesMissing t ks had now = (q : Dot) → set.contains now q ≡ (set.contains had q && (set.contains t q || not (has_key dot_cmp ks q)))
+
+and_none : (h : Bool) → (h && false) ≡ false
+and_none true = refl
+and_none false = refl
+
+-- h: there before; t: in the other set; r: among those so far; e: the dot
+lost_test : (e h r t : Bool) → (e ≡ true → t ≡ false) → (not e && (h && (t || not r))) ≡ (h && (t || not (r || e)))
+lost_test true h true t f = sym (ap (λ x. h && (x || false)) (f refl) ∙ and_none h)
+lost_test true h false t f = sym (ap (λ x. h && (x || false)) (f refl) ∙ and_none h)
+lost_test false h true t f = refl
+lost_test false h false t f = refl
+
+left_test : (e h r t : Bool) → (e ≡ true → t ≡ true) → (h && (t || not r)) ≡ (h && (t || not (r || e)))
+left_test true h r t f = ap (λ x. h && (x || not r)) (f refl) ∙ sym (ap (λ x. h && (x || not (r || true))) (f refl))
+left_test false h true t f = refl
+left_test false h false t f = refl
+
+module _ (t : Dots) (ks : List Dot) (had now : Dots) where
+  -- one dot more, which the other set lacks
+  pub loses_one : (i : ℕ) (e : Dot) → i < length ks → LosesMissing t (take i ks) had now → set.contains t (get_or ks i e) ≡ false → LosesMissing t (take (i + 1) ks) had (set.remove now (get_or ks i e))
+  loses_one i e h so_far lacks q =
+      let k = get_or ks i e in
+      set.contains-remove dots_total now k q
+      ∙ ap (λ b. not (eq_by_cmp dot_cmp q k) && b) (so_far q)
+      ∙ lost_test (eq_by_cmp dot_cmp q k) (set.contains had q) (has_key dot_cmp (take i ks) q) (set.contains t q) (tied_test (set.contains t) k q false lacks)
+      ∙ ap (λ b. set.contains had q && (set.contains t q || not b)) (sym (list_any_more (eq_by_cmp dot_cmp q) ks i e h))
+
+  -- one dot more, which it has
+  pub loses_none : (i : ℕ) (e : Dot) → i < length ks → LosesMissing t (take i ks) had now → set.contains t (get_or ks i e) ≡ true → LosesMissing t (take (i + 1) ks) had now
+  loses_none i e h so_far has q =
+      let k = get_or ks i e in
+      so_far q
+      ∙ left_test (eq_by_cmp dot_cmp q k) (set.contains had q) (has_key dot_cmp (take i ks) q) (set.contains t q) (tied_test (set.contains t) k q true has)
+      ∙ ap (λ b. set.contains had q && (set.contains t q || not b)) (sym (list_any_more (eq_by_cmp dot_cmp q) ks i e h))
+
+  -- all dots
+  pub loses_all : (c : Dots) → set.from_list ks ≡ c → (i : ℕ) → length ks ≤ i → LosesMissing t (take i ks) had now → (q : Dot) → set.contains now q ≡ (set.contains had q && may_stay t c q)
+  loses_all c is i h so_far q = so_far q ∙ ap (λ l. set.contains had q && (set.contains t q || not (has_key dot_cmp l q))) (take_all i ks h) ∙ ap (λ b. set.contains had q && (set.contains t q || not b)) (has_is dots_total ks c is q)
+
+-- nothing lost so far
+pub loses_nothing : (t : Dots) (ks : List Dot) (had : Dots) → LosesMissing t (take 0 ks) had had
+loses_nothing t ks had q = sym (and_all (set.contains had q) (set.contains t q))
+  where
+    and_all : (h t : Bool) → (h && (t || true)) ≡ h
+    and_all true true = refl
+    and_all true false = refl
+    and_all false t = refl
 
 -- ---- stores in a list
 

@@ -31,6 +31,17 @@ contains_join s c t d x =
     set.contains-union dots_total (set.retain s (may_stay t d)) (set.retain t (may_stay s c)) x
     ∙ (λ i. set.contains-retain s (may_stay t d) x (λ y e. ap (may_stay t d) (sym (exact_dots x y e))) i || set.contains-retain t (may_stay s c) x (λ y e. ap (may_stay s c) (sym (exact_dots x y e))) i)
 
+-- the sides may be swapped
+pub join_turned : (s c t d : Dots) → join_sets s c t d ≡ join_sets t d s c
+join_turned s c t d = set.same_set dots_total exact_dots _ _ (λ x.
+    contains_join s c t d x ∙ or_turned (set.contains s x && may_stay t d x) (set.contains t x && may_stay s c x) ∙ sym (contains_join t d s c x))
+  where
+    or_turned : (a b : Bool) → (a || b) ≡ (b || a)
+    or_turned true true = refl
+    or_turned true false = refl
+    or_turned false true = refl
+    or_turned false false = refl
+
 -- ---- tests of one dot: s, t that a side holds it, c, d that the side has heard of it
 
 -- a dot that may stay, and was heard of, is held

@@ -3,14 +3,19 @@ ghost use Rattle.std.specs.Prelude.{◌≡◌, ◌↔◌, ◌||◌, ◌&&◌, Is
 ghost use Rattle.std.specs.FinSet as set;
 ghost use Rattle.dac_dots.specs.InOrder.{in_order};
 ghost use Rattle.dac_store.specs.Appending.{is_above_dots};
-ghost use Rattle.dac_store.specs.DotSets.{may_stay};
+ghost use Rattle.dac_store.specs.DotSets.{join_sets, may_stay};
 
 use crate::DotStore;
 use dac_base::NoMemory;
-use dac_dots::keys::{holds_key, insert_key};
+use dac_dots::keys::{holds_key, insert_key, remove_key};
 use dac_dots::{Context, Dot};
 use std::alloc::Global;
 use std::marker::Model;
+
+/// A side knows few dots where the other side's set has this many times as many.
+///
+/// Each dot that is dropped moves those after it, so the number is higher than one look at a dot would ask.
+const FEW_BESIDE: usize = 32;
 
 /// A set of dots, kept as one sorted list. Contracts see it as a finite set.
 #[derive(Drop)]
@@ -72,6 +77,16 @@ impl DotSet {
         Ok(DotSet { dots })
     }
 
+    /// An equal set, with room for so many dots more.
+    fn copy_with_room(&self, more: usize) -> Result<Self, NoMemory>
+        ensures { IfOk result (λ copied. copied ≡ self.now) }
+    {
+        let most = self.dots.len().saturating_add(more);
+        let mut dots = Vec::with_capacity(*self.dots.allocator(), most)?;
+        dots.extend_from_slice(&self.dots)?;
+        Ok(DotSet { dots })
+    }
+
     /// Whether each dot of the set is below this one.
     fn ends_below(&self, dot: Dot) -> bool
         ensures { result ≡ is_above_dots self.now dot }
@@ -88,6 +103,13 @@ impl DotSet {
     {
         insert_key(&mut self.dots, dot)?;
         Ok(())
+    }
+
+    /// Takes a dot out of the set, if it is there.
+    fn remove(&mut self, dot: Dot)
+        ensures { self.new ≡ set.remove self.old dot }
+    {
+        remove_key(&mut self.dots, dot);
     }
 
     /// Whether a dot may stay beside these: it is one of them, or this side hasn't heard of it.
@@ -107,6 +129,45 @@ impl DotSet {
             }
         }
         Ok(())
+    }
+
+    /// Takes out the dots that another side has heard of and doesn't hold.
+    fn drop_missing(&mut self, beside: &Self, heard: &Context) -> Result<(), NoMemory>
+        ensures { OnOk result ((q : _) → set.contains self.new q ≡ (set.contains self.old q && may_stay beside.now heard.now q)) }
+    {
+        let known = heard.dots()?;
+        for dot in &known {
+            if !beside.has(*dot) {
+                self.remove(*dot);
+            }
+        }
+        Ok(())
+    }
+
+    /// The join with a side that knows few dots: these dots but those that it dropped, and its own.
+    fn join_few(&self, heard: &Context, few: &Self, few_heard: &Context) -> Result<Self, NoMemory>
+        ensures { IfOk result (λ joined. joined ≡ join_sets self.now heard.now few.now few_heard.now) }
+    {
+        let mut joined = self.copy_with_room(few.dots.len())?;
+        joined.drop_missing(few, few_heard)?;
+        joined.add_staying(few, self, heard)?;
+        Ok(joined)
+    }
+
+    /// The join that looks at each dot of both sides.
+    fn join_each(
+        &self,
+        heard: &Context,
+        other: &Self,
+        other_heard: &Context,
+    ) -> Result<Self, NoMemory>
+        ensures { IfOk result (λ joined. joined ≡ join_sets self.now heard.now other.now other_heard.now) }
+    {
+        let most = self.dots.len().max(other.dots.len());
+        let mut joined = DotSet::with_room(*self.dots.allocator(), most)?;
+        joined.add_staying(self, other, other_heard)?;
+        joined.add_staying(other, self, heard)?;
+        Ok(joined)
     }
 }
 
@@ -148,11 +209,13 @@ impl DotStore for DotSet {
         other: &Self,
         other_heard: &Context,
     ) -> Result<Self, NoMemory> {
-        let most = self.dots.len().max(other.dots.len());
-        let mut joined = DotSet::with_room(*self.dots.allocator(), most)?;
-        joined.add_staying(self, other, other_heard)?;
-        joined.add_staying(other, self, heard)?;
-        Ok(joined)
+        if other_heard.has_at_most(self.dots.len() / FEW_BESIDE) {
+            return self.join_few(heard, other, other_heard);
+        }
+        if heard.has_at_most(other.dots.len() / FEW_BESIDE) {
+            return other.join_few(other_heard, self, heard);
+        }
+        self.join_each(heard, other, other_heard)
     }
 
     fn leq_in(&self, heard: &Context, other: &Self, _other_heard: &Context) -> bool {

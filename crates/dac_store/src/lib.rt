@@ -7,7 +7,8 @@
 //! ([`DotSet`]), values at dots ([`DotFun`]) and stores at keys ([`DotMap`]). A store beside a context that
 //! has all its dots ([`Causal`]) is then a lattice, for every value of the type.
 //!
-//! No call lists the dots of a context: stores ask only whether a context contains a dot.
+//! Stores ask mostly whether a context contains a dot. One call lists the dots of a context: the join of two
+//! sets, where the context has few dots beside those of the other set.
 #![tactic(auto)]
 
 pub use causal::Causal;

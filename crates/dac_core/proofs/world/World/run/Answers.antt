@@ -31,3 +31,8 @@ pub returns-clause-converges : goal.returns-clause-converges
 returns-clause-converges c =
     let l = c.loop-event in
     c.runs_converge.ensures.converges c.args.config.now c.args.events.now l.answers.items l.world (whole c.args.config.now c.args.events.now l.answers.items l.world l.event-index c.loop-event-test.false l.invariant.ran)
+
+pub returns-clause-settles : goal.returns-clause-settles
+returns-clause-settles c =
+    let l = c.loop-event in
+    c.rounds_settle.ensures.runs c.args.config.now c.args.events.now l.answers.items l.world (whole c.args.config.now c.args.events.now l.answers.items l.world l.event-index c.loop-event-test.false l.invariant.ran)

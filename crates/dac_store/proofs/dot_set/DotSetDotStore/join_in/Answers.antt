@@ -1,14 +1,6 @@
-use Rattle.std.proofs.Common.{◌||◌, ◌&&◌, ap, ◌∙◌, sym}
-use Rattle.std.specs.FinSet as set
-use Rattle.dac_dots.specs.Dots.{dot_cmp, dots_total, exact_dots}
-use Rattle.dac_store.specs.DotSets.{join_sets, may_stay, contains_join}
+use Rattle.std.proofs.Common.{◌≡◌, IfOk, subst}
+use Rattle.dac_store.specs.DotSets.{join_turned}
 use Rattle.dac_store.proofs.dot_set.DotSetDotStore.join_in.Goals as goal
 
-pub returns : goal.returns
-returns c = set.same_set dots_total exact_dots c.add_staying-2.new.self (join_sets c.args.self.now c.args.heard.now c.args.other.now c.args.other_heard.now) (λ q.
-    let first = set.contains c.args.self.now q && may_stay c.args.other.now c.args.other_heard.now q in
-    let second = set.contains c.args.other.now q && may_stay c.args.self.now c.args.heard.now q in
-    c.in_ok-add_staying-2.ensures q
-    ∙ (ap (λ b. b || second) (c.in_ok-add_staying.ensures q
-    ∙ ap (λ b. b || first) (ap (λ s. set.contains s q) c.in_ok-joined.ensures ∙ set.contains-empty dot_cmp q))
-    ∙ sym (contains_join c.args.self.now c.args.heard.now c.args.other.now c.args.other_heard.now q)))
+pub returns-then-has_at_most-2 : goal.returns-then-has_at_most-2
+returns-then-has_at_most-2 c = subst (λ s. IfOk c.join_few-then-has_at_most-2.result (λ joined. joined ≡ s)) (join_turned c.args.other.now c.args.other_heard.now c.args.self.now c.args.heard.now) c.join_few-then-has_at_most-2.ensures

@@ -1,0 +1,4 @@
+pub mod Rounds
+pub mod Settling
+pub mod WorldRounds
+pub mod laws

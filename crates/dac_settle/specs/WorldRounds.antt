@@ -1,0 +1,95 @@
+-- Ready worlds and rounds, of the definition's world beside the world of sets.
+use Rattle.std.specs.Prelude.{◌≡◌, ◌⊎◌, ℕ, ◌<◌, List, [], ◌∷◌, ◌++◌, length, Option, Some, None, IsSome, Result, Ok, Err}
+use Rattle.std.proofs.Common.{zero, suc}
+use Rattle.dac_base.specs.declared.NodeId.{NodeId}
+use Rattle.dac_base.specs.declared.AppId.{AppId}
+use Rattle.dac_meaning.specs.StateValue.{StateValue}
+use Rattle.dac_config.specs.Table.{Table, app_count}
+use Rattle.dac_placement.specs.Placement.{verdict_of}
+use Rattle.dac_events.specs.declared.WorldEvent.{WorldEvent}
+use Rattle.dac_events.specs.declared.What.{What}
+use Rattle.dac_events.specs.declared.What.TheVariants.{Tick as Ticks, Deliver}
+use Rattle.dac_messages.specs.declared.reply.Reply.{Reply}
+use Rattle.dac_messages.specs.declared.reply.Reply.TheVariants.{Ticked, Shipped, Heard}
+use Rattle.dac_rules.specs.ModelNode.{ModelRun}
+use Rattle.dac_worlds.specs.declared.fault.WorldFault.{WorldFault}
+use Rattle.dac_worlds.specs.WorldValue.{WorldValue}
+use Rattle.dac_worlds.specs.ModelWorld.{ModelWorld, AnsweredAs, start, went, world_after}
+use Rattle.dac_worlds.specs.SetWorld.{NodeSet, SetWorld, no_sets, set_run}
+use Rattle.dac_worlds.specs.Convergence.{RunsWith}
+use Rattle.dac_settle.specs.Settling.{Member, IsLate, AllSame, IsReady, IsSettled}
+
+-- ---- what settling sees of a world
+
+-- a running node and its set: its incarnation, its operations and its notes
+abbrev pub member_by : Option ModelRun → Option NodeSet → Option Member
+member_by None held = None
+member_by (Some r) None = None
+member_by (Some r) (Some set) = Some (record { inc = r.origin.inc; held = set.operations; notes = r.notes })
+
+abbrev pub members_of : ModelWorld → SetWorld → NodeId → Option Member
+members_of w s n = member_by (w.node n).run (s.node n)
+
+-- All running nodes hold the same set. Who is live in it runs, at that incarnation, and who runs is live in it. Each running node has noted each lost claim.
+abbrev pub IsReadyWorld : ModelWorld → SetWorld → Type 0
+IsReadyWorld w s = IsReady (members_of w s)
+
+-- ---- rounds
+
+-- where a running node ticks, each claim that it noted as lost has waited its application's time by then
+abbrev pub IsLateBy : Table → Option ModelRun → What → Type 0
+IsLateBy t (Some r) (Ticks now) = IsLate t r.notes now
+IsLateBy t (Some r) _ = Unit {0}
+IsLateBy t None what = Unit {0}
+
+-- the event is a delivery of what was shipped after the first so many
+abbrev pub IsSince : ℕ → What → Type 0
+IsSince before (Deliver k) = before < k
+IsSince before _ = ⊥
+
+-- What may be accepted in a round before which so much was shipped: a tick, a ship, and a delivery of what was shipped in the round. The tick comes when all that was noted has waited its time, and it passes no application. Whatever is refused may come.
+abbrev pub InRound : Table → ℕ → ModelWorld → NodeId → What → Result Reply WorldFault → Type 0
+InRound t before w n what (Err why) = Unit {0}
+InRound t before w n what (Ok (Ticked ops passed)) = (passed ≡ []) × IsLateBy t (w.node n).run what
+InRound t before w n what (Ok (Shipped m)) = Unit {0}
+InRound t before w n what (Ok (Heard fresh)) = IsSince before what
+InRound t before w n what (Ok _) = ⊥
+
+-- so are these events with their answers, one after another from w
+abbrev pub AreInRound : Table → ℕ → ModelWorld → List WorldEvent → List (Result Reply WorldFault) → Type 0
+AreInRound t before w [] answers = Unit {0}
+AreInRound t before w (e ∷ es) [] = Unit {0}
+AreInRound t before w (e ∷ es) (a ∷ answers) = InRound t before w e.node e.what a × AreInRound t before (went t w e a) es answers
+
+abbrev pub IsTicked : Result Reply WorldFault → Type 0
+IsTicked (Ok (Ticked ops passed)) = Unit {0}
+IsTicked _ = ⊥
+
+-- a tick of node n is accepted in these events
+abbrev pub AnswersTick : NodeId → List WorldEvent → List (Result Reply WorldFault) → Type 0
+AnswersTick n [] answers = ⊥
+AnswersTick n (e ∷ es) [] = ⊥
+AnswersTick n (e ∷ es) (a ∷ answers) = ((e.node ≡ n) × IsTicked a) ⊎ AnswersTick n es answers
+
+-- These events with these answers are a round: each node that runs ticks in it, and in the end all running nodes hold the same set.
+pub record IsWorldRound (t : Table) (w : ModelWorld) (s : SetWorld) (events : List WorldEvent) (answers : List (Result Reply WorldFault)) : Type 0 where
+  pub answered : AnsweredAs t w events answers
+  pub fits : AreInRound t (length s.copies) w events answers
+  pub ticks : (n : NodeId) → IsSome (w.node n).run → AnswersTick n events answers
+  pub same : AllSame (members_of (world_after t w events answers) (set_run s events answers))
+
+-- they are so many rounds, one after another
+abbrev pub AreRounds : Table → ℕ → ModelWorld → SetWorld → List WorldEvent → List (Result Reply WorldFault) → Type 0
+AreRounds t zero w s events answers = (events ≡ []) × (answers ≡ [])
+AreRounds t (suc k) w s events answers =
+    (first : List WorldEvent) × (later : List WorldEvent) × (replies : List (Result Reply WorldFault)) × (more : List (Result Reply WorldFault))
+    × (events ≡ first ++ later) × (answers ≡ replies ++ more)
+    × IsWorldRound t w s first replies × AreRounds t k (world_after t w first replies) (set_run s first replies) later more
+
+-- The events end in as many rounds as there are applications, and the world was ready before them: then nothing is to be done at any running node.
+pub record Settles (t : Table) (events : List WorldEvent) (answers : List (Result Reply WorldFault)) (v : WorldValue) : Type 0 where
+  pub each : (before rounds : List WorldEvent) (replies more : List (Result Reply WorldFault)) → events ≡ before ++ rounds → answers ≡ replies ++ more → AnsweredAs t (start t) before replies
+      → let w = world_after t (start t) before replies in
+      let s = set_run no_sets before replies in
+      IsReadyWorld w s → AreRounds t (app_count t) w s rounds more
+      → (n : ℕ) (state : StateValue) → RunsWith v n state → (app : AppId) → app.0 < app_count t → IsSettled (verdict_of t state app)

@@ -1,0 +1,10 @@
+pub mod Counting
+pub mod AnyPlacement
+pub mod OnlyClaims
+pub mod LeftAlone
+pub mod Placed
+pub mod Due
+pub mod Turns
+pub mod Settled
+pub mod OneEvent
+pub mod WorldsSettle

@@ -1,0 +1,133 @@
+-- Claims alone change no more of a meaning than what is heard, what is known and the claims.
+use Rattle.std.proofs.Common.{◌≡◌, ◌⊎◌, ℕ, Bool, true, false, not, cond, ◌&&◌, List, Option, Some, None, refl, sym, ap, subst, ◌∙◌, inl, inr}
+use Rattle.std.specs.declared.cmp.Ordering.{Ordering}
+use Rattle.std.specs.Cmp.{IsTotalOrder}
+use Rattle.std.specs.List.{list_any}
+use Rattle.std.specs.FinSet as set
+use Rattle.std.specs.FinMap as map
+use Rattle.std.proofs.lemmas.Bool.{false≢true, true≢false}
+use Rattle.std.proofs.lemmas.Map.Lookups.{CmpEqualImpliesEq}
+use Rattle.dac_base.specs.declared.NodeId.{NodeId}
+use Rattle.dac_base.specs.declared.AppId.{AppId}
+use Rattle.dac_base.specs.Ids.{nodes_total, exact_nodes}
+use Rattle.dac_dots.specs.declared.dot.Dot.{Dot}
+use Rattle.dac_lattice.specs.Chains.{chain_laws}
+use Rattle.dac_lattice.specs.Flags.{flag_cmp, flags_exact}
+use Rattle.dac_store.specs.Stores.{both_ways}
+use Rattle.dac_chains.specs.Greatest.{IsGreatest, IsSaid}
+use Rattle.dac_chains.specs.declared.claims.Claim.{Claim as ClaimValue}
+use Rattle.dac_chains.specs.declared.claims.How.{How}
+use Rattle.dac_chains.specs.Lives.{lives_total, exact_lives}
+use Rattle.dac_chains.specs.Claims.{claim_cmp}
+use Rattle.dac_wishes.specs.Writes.{Write, writes_total, exact_writes}
+use Rattle.dac_operations.specs.declared.act.Act.{Act}
+use Rattle.dac_operations.specs.declared.act.Act.TheVariants.{Up, Down, Permit, Start, Stop, Claim}
+use Rattle.dac_operations.specs.Operations.{Operation, operation}
+use Rattle.dac_meaning.specs.Meaning.{In, Within, meaning_of, replaces, is_start, is_permit, permit_at, flag_said, pairs, life_said, claim_said}
+use Rattle.dac_meaning.specs.Members.{found, finds}
+use Rattle.dac_meaning.specs.Readers.{starts-meaning, permits-meaning, lives-meaning, lives_are, claims-meaning, claims_are}
+use Rattle.dac_meaning.specs.Chained.{Says, of_said, is_said}
+use Rattle.dac_ticks.specs.laws.Claimed.{Alike}
+
+-- the act is a claim
+abbrev pub is_claim : Act → Bool
+is_claim (Claim app term how from) = true
+is_claim _ = false
+
+-- x is s and claims
+pub record AddsClaims (s x : List Operation) : Type 0 where
+  pub keeps : Within s x
+  pub new : (o : Operation) → In o x → In o s ⊎ (is_claim o.act ≡ true)
+
+-- ---- what a claim isn't
+
+-- what is so of every claim is so of an act that is one
+by_claim : (P : Act → Type 0) → ((app : AppId) (term : ℕ) (how : How) (from : Option NodeId) → P (Claim app term how from)) → (a : Act) → is_claim a ≡ true → P a
+by_claim P all Up h = absurd (false≢true h)
+by_claim P all (Down node inc) h = absurd (false≢true h)
+by_claim P all (Permit key value over) h = absurd (false≢true h)
+by_claim P all (Start key over) h = absurd (false≢true h)
+by_claim P all (Stop key over) h = absurd (false≢true h)
+by_claim P all (Claim app term how from) h = all app term how from
+
+no_replacing : (d e : Dot) (a : Act) → is_claim a ≡ true → replaces d (operation e a) ≡ false
+no_replacing d e a h = by_claim (λ b. replaces d (operation e b) ≡ false) (λ app term how from. refl) a h
+
+no_start : (w : Write) (e : Dot) (a : Act) → is_claim a ≡ true → is_start w (operation e a) ≡ false
+no_start w e a h = by_claim (λ b. is_start w (operation e b) ≡ false) (λ app term how from. refl) a h
+
+no_permit : (w : Write) (v : Bool) (e : Dot) (a : Act) → is_claim a ≡ true → is_permit w v (operation e a) ≡ false
+no_permit w v e a h = by_claim (λ b. is_permit w v (operation e b) ≡ false) (λ app term how from. refl) a h
+
+no_life : (e : Dot) (a : Act) → is_claim a ≡ true → life_said e a ≡ None
+no_life e a h = by_claim (λ b. life_said e b ≡ None) (λ app term how from. refl) a h
+
+-- what says a claim is one
+pub said_is_claim : (e : Dot) (a : Act) (said : AppId × ClaimValue) → claim_said e a ≡ Some said → is_claim a ≡ true
+said_is_claim e Up said h = cc
+said_is_claim e (Down node inc) said h = cc
+said_is_claim e (Permit key value over) said h = cc
+said_is_claim e (Start key over) said h = cc
+said_is_claim e (Stop key over) said h = cc
+said_is_claim e (Claim app term how from) said h = refl
+
+-- ---- greatest values
+
+-- what is said in one way and in another has one greatest value
+one_greatest : {T : Type 0} {cmp : T → T → Ordering} → IsTotalOrder cmp → CmpEqualImpliesEq cmp → (P Q : T → Type 0) (x y : Option T) → ((v : T) → P v → Q v) → ((v : T) → Q v → P v) → IsGreatest cmp P x → IsGreatest cmp Q y → x ≡ y
+one_greatest o exact P Q None None to back g h = refl
+one_greatest o exact P Q None (Some w) to back g h = absurd (g w (back w h.0))
+one_greatest o exact P Q (Some v) None to back g h = absurd (h v (to v g.0))
+one_greatest o exact P Q (Some v) (Some w) to back g h = ap (λ z. Some z) ((chain_laws o exact).antisymm v w tt tt (h.1 v (to v g.0)) (g.1 w (back w h.0)))
+
+-- ---- the parts
+
+module _ (s x : List Operation) (adds : AddsClaims s x) where
+  any_alike : (p : Operation → Bool) → ((o : Operation) → is_claim o.act ≡ true → p o ≡ false) → list_any p x ≡ list_any p s
+  any_alike p none = both_ways (list_any p x) (list_any p s)
+      (λ h. let f = found p x h in elim (adds.new f.0 f.1.0) [
+        | inl old ↦ finds p s f.0 old f.1.1
+        | inr new ↦ absurd (true≢false (sym f.1.1 ∙ none f.0 new))
+      ])
+      (λ h. let f = found p s h in finds p x f.0 (adds.keeps f.0 f.1.0) f.1.1)
+
+  replaced_alike : (d : Dot) → list_any (replaces d) x ≡ list_any (replaces d) s
+  replaced_alike d = any_alike (replaces d) (λ o c. no_replacing d o.dot o.act c)
+
+  starts_alike : (meaning_of x).starts ≡ (meaning_of s).starts
+  starts_alike = set.same_set writes_total exact_writes _ _ (λ w.
+      starts-meaning x w
+      ∙ (λ i. any_alike (is_start w) (λ o c. no_start w o.dot o.act c) i && not (replaced_alike w.dot i))
+      ∙ sym (starts-meaning s w))
+
+  permit_alike : (w : Write) → permit_at x w ≡ permit_at s w
+  permit_alike w = λ i. cond (replaced_alike w.dot i) None (flag_said (any_alike (is_permit w false) (λ o c. no_permit w false o.dot o.act c) i) (any_alike (is_permit w true) (λ o c. no_permit w true o.dot o.act c) i))
+
+  permits_alike : (meaning_of x).permits ≡ (meaning_of s).permits
+  permits_alike = map.same_map writes_total exact_writes _ _ (λ w. permits-meaning x w ∙ permit_alike w ∙ sym (permits-meaning s w))
+
+  none_some : {X : Type 0} {v : X} {Y : Type 0} → ◌≡◌ {A = Option X} None (Some v) → Y
+  none_some e = cc
+
+  lives_alike : (meaning_of x).lives ≡ (meaning_of s).lives
+  lives_alike = lives-meaning x ∙ map.same_map nodes_total exact_nodes _ _ (λ n.
+      one_greatest lives_total (exact_lives flag_cmp flags_exact) (IsSaid life_said (pairs x) n) (IsSaid life_said (pairs s) n) _ _
+      (λ l said. let o = of_said life_said x n l said in elim (adds.new o.0 o.1.0) [
+        | inl old ↦ is_said life_said s n l (o.0, (old, o.1.1))
+        | inr new ↦ none_some (sym (no_life o.0.dot o.0.act new) ∙ o.1.1)
+      ])
+      (λ l said. let o = of_said life_said s n l said in is_said life_said x n l (o.0, (adds.keeps o.0 o.1.0, o.1.1)))
+      (lives_are x n) (lives_are s n)) ∙ sym (lives-meaning s)
+
+  -- both mean the same lives, permits and starts
+  pub alike : Alike (meaning_of x) (meaning_of s)
+  alike = record { lives = lives_alike; permits = permits_alike; starts = starts_alike }
+
+-- the claim of an application is the greatest of its claims
+pub claim_greatest : (x : List Operation) (app : AppId) → IsGreatest claim_cmp (Says claim_said x app) (map.get (meaning_of x).claims app)
+claim_greatest x app =
+    by_said (map.get (meaning_of x).claims app) (subst (λ m. IsGreatest claim_cmp (IsSaid claim_said (pairs x) app) (map.get m app)) (sym (claims-meaning x)) (claims_are x app))
+  where
+    by_said : (c : Option ClaimValue) → IsGreatest claim_cmp (IsSaid claim_said (pairs x) app) c → IsGreatest claim_cmp (Says claim_said x app) c
+    by_said None g = λ v says. g v (is_said claim_said x app v says)
+    by_said (Some c) g = (of_said claim_said x app c g.0, λ v says. g.1 v (is_said claim_said x app v says))

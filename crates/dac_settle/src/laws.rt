@@ -1,0 +1,12 @@
+//! The law of settling, as the contract of a function that does nothing.
+ghost use Rattle.dac_settle.specs.Settling.{RoundsSettle};
+ghost use Rattle.dac_settle.specs.WorldRounds.{Settles};
+ghost use Rattle.dac_worlds.specs.ModelWorld.{InEachRun};
+
+/// Rounds settle all. As many rounds as the configuration has applications, begun in a ready world, settle each
+/// application at each running controller. It is kept, halted, or no node may run it.
+pub fn rounds_settle()
+    ensures members { RoundsSettle }
+    // The same of every run of the definition's world that ends in such rounds.
+    ensures runs { InEachRun Settles }
+{}
