@@ -11,6 +11,8 @@ mod pages;
 #[cfg(test)]
 mod placement;
 #[cfg(test)]
+mod settling;
+#[cfg(test)]
 mod shipping;
 #[cfg(test)]
 mod steps;

@@ -1,0 +1,191 @@
+//! Rounds of ticks, once nothing more is commanded: what they settle, and how many of them it takes.
+use dac_base::{AppId, NodeId};
+use dac_config::{Config, read_config};
+use dac_core::{Command, Node, What, World, WorldEvent};
+use dac_decide::{Verdict, verdict};
+use std::alloc::Global;
+
+/// An application at c1@h, or else at c2@h or c3@h.
+const ONE: &[u8] = b"[{kernel,[{distributed,[{a,5000,[c1@h,{c2@h,c3@h}]}]}]}].";
+
+/// One, two and three applications, each at either of two nodes.
+const TUPLES: &[&[u8]] = &[
+    b"[{kernel,[{distributed,[{a,[{c1@h,c2@h}]}]}]}].",
+    b"[{kernel,[{distributed,[{a,[{c1@h,c2@h}]},{b,[{c1@h,c2@h}]}]}]}].",
+    b"[{kernel,[{distributed,[{a,[{c1@h,c2@h}]},{b,[{c1@h,c2@h}]},{c,[{c1@h,c2@h}]}]}]}].",
+];
+
+const C1: NodeId = NodeId(0);
+
+const C2: NodeId = NodeId(1);
+
+const C3: NodeId = NodeId(2);
+
+const BOOT: What = What::Boot { now: 0 };
+
+/// Start wishes of the first application.
+const START_AT_1: What = What::Command(Command::Start {
+    app: AppId(0),
+    node: C1,
+});
+
+const START_AT_2: What = What::Command(Command::Start {
+    app: AppId(0),
+    node: C2,
+});
+
+const START_AT_3: What = What::Command(Command::Start {
+    app: AppId(0),
+    node: C3,
+});
+
+const TICK: What = What::Tick { now: 0 };
+
+const TO_1: What = What::Ship { to: C1 };
+
+const TO_2: What = What::Ship { to: C2 };
+
+const TO_3: What = What::Ship { to: C3 };
+
+/// What happens at a node.
+type Case = (NodeId, What);
+
+/// c1@h runs the application and goes down. The others know it, and have noted at their ticks that its claim is lost.
+const READY: &[Case] = &[
+    (C1, BOOT),
+    (C2, BOOT),
+    (C3, BOOT),
+    (C1, START_AT_1),
+    (C1, TICK),
+    (C1, TO_2),
+    (C2, What::Deliver(1)),
+    (C1, What::Crash),
+    (C2, START_AT_2),
+    (C2, What::Command(Command::Down { node: C1 })),
+    (C3, START_AT_3),
+    (C2, TO_3),
+    (C3, What::Deliver(2)),
+    (C3, TO_2),
+    (C2, What::Deliver(3)),
+    (C2, What::Tick { now: 1000 }),
+    (C3, What::Tick { now: 2000 }),
+];
+
+/// Both tick once what they noted has waited its time, and tell each other.
+const ROUND: &[Case] = &[
+    (C2, What::Tick { now: 6000 }),
+    (C3, What::Tick { now: 7000 }),
+    (C2, TO_3),
+    (C3, What::Deliver(4)),
+    (C3, TO_2),
+    (C2, What::Deliver(5)),
+];
+
+/// Adds an event.
+fn push(events: &mut Vec<WorldEvent>, node: NodeId, what: What) -> Option<()> {
+    events.push(WorldEvent { node, what }).ok()
+}
+
+/// Adds all events.
+fn push_all(events: &mut Vec<WorldEvent>, cases: &[Case]) -> Option<()> {
+    for (node, what) in cases {
+        push(events, *node, *what)?;
+    }
+    Some(())
+}
+
+/// Whether the verdict on the first application is this one.
+fn is_verdict(config: &Config, node: &Node, wanted: Verdict) -> bool {
+    match node.state() {
+        Some(state) => config.apps() > 0 && verdict(config, state, AppId(0)) == wanted,
+        None => false,
+    }
+}
+
+/// Whether each event is accepted, and then this is the verdict at c2@h and at c3@h.
+fn is_judged(alloc: Global, parts: &[&[Case]], wanted: Verdict) -> Option<bool> {
+    let config = read_config(alloc, ONE).ok()?;
+    let mut events = Vec::new(alloc);
+    for part in parts {
+        push_all(&mut events, part)?;
+    }
+    let (world, answers) = World::run(alloc, &config, &events).ok()?;
+    let accepted = answers.iter().all(|answer| answer.is_ok());
+    let judged = config.nodes() > C3.0
+        && is_verdict(&config, world.node(C2), wanted)
+        && is_verdict(&config, world.node(C3), wanted);
+    Some(accepted && judged)
+}
+
+#[test]
+fn a_round_settles_a_failover(rt: HostRuntime) {
+    assert!(rt; is_judged(rt.alloc(), &[READY], Verdict::Failover(C2)) == Some(true));
+    assert!(rt; is_judged(rt.alloc(), &[READY, ROUND], Verdict::Kept(C2)) == Some(true));
+}
+
+/// Each of two nodes tells the other; the first message has this number.
+fn tell(events: &mut Vec<WorldEvent>, number: u64) -> Option<()> {
+    push(events, C1, TO_2)?;
+    push(events, C2, What::Deliver(number))?;
+    push(events, C2, TO_1)?;
+    push(events, C1, What::Deliver(number + 1))
+}
+
+/// A node comes up, and each application is started there.
+fn come_up(events: &mut Vec<WorldEvent>, node: NodeId, apps: u16) -> Option<()> {
+    push(events, node, BOOT)?;
+    for app in 0..apps {
+        push(events, node, What::Command(Command::Start { app: AppId(app), node }))?;
+    }
+    Some(())
+}
+
+/// Two nodes are ready, and so many rounds are run: both tick before they hear of each other's claims.
+fn rounds_of(alloc: Global, apps: u16, rounds: u8) -> Option<Vec<WorldEvent>> {
+    let mut events = Vec::new(alloc);
+    come_up(&mut events, C1, apps)?;
+    come_up(&mut events, C2, apps)?;
+    tell(&mut events, 1)?;
+    for round in 0..rounds {
+        push(&mut events, C1, TICK)?;
+        push(&mut events, C2, TICK)?;
+        tell(&mut events, 3 + 2 * u64::from(round))?;
+    }
+    Some(events)
+}
+
+/// How many applications somebody is to claim, by what the node knows.
+fn unsettled(config: &Config, node: &Node) -> Option<usize> {
+    let state = node.state()?;
+    let apps = 0..config.apps();
+    Some(apps.filter(|app| verdict(config, state, AppId(*app)).candidate().is_some()).count())
+}
+
+/// How many applications are left unsettled at each of two nodes after so many rounds, where each event is accepted.
+fn left_after(alloc: Global, config: &Config, rounds: u8) -> Option<(usize, usize)> {
+    let events = rounds_of(alloc, config.apps(), rounds)?;
+    let (world, answers) = World::run(alloc, config, &events).ok()?;
+    if config.nodes() <= C2.0 || answers.iter().any(|answer| answer.is_err()) {
+        return None;
+    }
+    Some((unsettled(config, world.node(C1))?, unsettled(config, world.node(C2))?))
+}
+
+/// Whether each round settles one application, until none is left.
+fn settle_one_by_one(alloc: Global, text: &[u8], apps: u8) -> Option<bool> {
+    let config = read_config(alloc, text).ok()?;
+    for rounds in 0..=apps {
+        let left = usize::from(apps - rounds);
+        if left_after(alloc, &config, rounds)? != (left, left) {
+            return Some(false);
+        }
+    }
+    Some(true)
+}
+
+#[test]
+fn as_many_rounds_as_applications_may_be_needed(rt: HostRuntime) {
+    for (text, apps) in [(TUPLES[0], 1), (TUPLES[1], 2), (TUPLES[2], 3)] {
+        assert!(rt; settle_one_by_one(rt.alloc(), text, apps) == Some(true), "{apps}");
+    }
+}
