@@ -1,4 +1,7 @@
 pub mod Rounds
 pub mod Settling
+pub mod Rules
+pub mod Staying
+pub mod Worked
 pub mod WorldRounds
 pub mod laws

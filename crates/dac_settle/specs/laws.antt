@@ -8,3 +8,6 @@ pub mod Turns
 pub mod Settled
 pub mod OneEvent
 pub mod WorldsSettle
+pub mod Started
+pub mod WorkedRound
+pub mod Unsettling

@@ -1,5 +1,8 @@
 //! The law of settling, as the contract of a function that does nothing.
 ghost use Rattle.dac_settle.specs.Settling.{RoundsSettle};
+ghost use Rattle.dac_settle.specs.Worked.{RoundsCanBe};
+ghost use Rattle.dac_settle.specs.Rules.{judged, restless_of};
+ghost use Rattle.dac_settle.specs.Staying.{Stays};
 ghost use Rattle.dac_settle.specs.WorldRounds.{Settles};
 ghost use Rattle.dac_worlds.specs.ModelWorld.{InEachRun};
 
@@ -9,4 +12,16 @@ pub fn rounds_settle()
     ensures members { RoundsSettle }
     // The same of every run of the definition's world that ends in such rounds.
     ensures runs { InEachRun Settles }
+{}
+
+/// Rounds can be: two nodes are ready, and a round settles their application.
+pub fn rounds_can_be()
+    ensures worked { RoundsCanBe }
+{}
+
+/// What is settled stays so, whatever is claimed beside it.
+pub fn verdicts_stay()
+    ensures stays { Stays judged }
+    // Not so by a rule that takes an application over inside a tuple, where fewer run at the other node.
+    ensures refused { Stays restless_of → ⊥ }
 {}

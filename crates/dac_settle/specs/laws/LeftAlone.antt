@@ -101,7 +101,7 @@ module _ (t : Table) (s u : StateValue) (a : Alike s u) (app : AppId) where
   pub to_eligible : (n : NodeId) → IsEligible t s app n → IsEligible t u app n
   to_eligible n may = (eligible_is t u app n).0 (sym (eligible_alike n) ∙ (eligible_is t s app n).1 may)
 
-  to_started : (o : Origin) → IsStartedAt s (key_of app o) → IsStartedAt u (key_of app o)
+  pub to_started : (o : Origin) → IsStartedAt s (key_of app o) → IsStartedAt u (key_of app o)
   to_started o is =
       let alike : is_started_at s (key_of app o) ≡ is_started_at u (key_of app o) = λ i. is_started_at (places (a.lives i) (a.permits i) (a.starts i)) (key_of app o) in
       (started_is t u app o.node o.inc).0 (sym alike ∙ (started_is t s app o.node o.inc).1 is)

@@ -1,0 +1,76 @@
+-- A worked case of settling: two nodes are ready, their application is to be started, and a round settles it.
+use Rattle.std.specs.Prelude.{◌≡◌, ◌⊎◌, ℕ, true, false, cond, nat_eq, List, [], ◌∷◌, Option, Some, None, IsSome}
+use Rattle.dac_base.specs.declared.NodeId.{NodeId}
+use Rattle.dac_base.specs.declared.AppId.{AppId}
+use Rattle.dac_dots.specs.declared.dot.Origin.{Origin}
+use Rattle.dac_dots.specs.Dots.{dot}
+use Rattle.dac_operations.specs.declared.act.Act.TheVariants.{Up, Start}
+use Rattle.dac_operations.specs.Operations.{Operation, operation}
+use Rattle.dac_meaning.specs.Meaning.{meaning_of}
+use Rattle.dac_shapes.specs.declared.draft.SyncWait.TheVariants.{NoSync}
+use Rattle.dac_config.specs.Table.{Table, app_count}
+use Rattle.dac_placement.specs.Placement.{verdict_of}
+use Rattle.dac_settle.specs.Settling.{Member, IsReady, Rounds, IsSettled}
+
+-- ---- the case
+
+-- the two nodes
+abbrev pub first_node : NodeId
+first_node = record { 0 = 0 }
+
+abbrev pub second_node : NodeId
+second_node = record { 0 = 1 }
+
+-- either of the two
+abbrev pub IsEither : NodeId → Type 0
+IsEither n = (n ≡ first_node) ⊎ (n ≡ second_node)
+
+-- the application
+abbrev pub the_app : AppId
+the_app = record { 0 = 0 }
+
+-- a and b may run a, at either of them
+abbrev pub worked_table : Table
+worked_table = record {
+  nodes = (record { name = 97 ∷ []; mandatory = false; optional = false }) ∷ (record { name = 98 ∷ []; mandatory = false; optional = false }) ∷ [];
+  apps = (record { name = 97 ∷ []; timeout = 5000; groups = (0 ∷ 1 ∷ []) ∷ []; permission = true }) ∷ [];
+  sync_wait = NoSync;
+}
+
+-- the first incarnation of a node
+abbrev pub first_of : NodeId → Origin
+first_of n = record { node = n; inc = 1 }
+
+-- the node comes up
+abbrev pub up_of : NodeId → Operation
+up_of n = operation (dot (first_of n) 1) Up
+
+-- the application is started at the node by the node's own operation of this counter
+abbrev pub start_of : AppId → NodeId → ℕ → Operation
+start_of app n counter = operation (dot (first_of n) counter) (Start (record { app = app; node = n; inc = 1 }) [])
+
+-- both are up, and these are the starts
+abbrev pub begun : List Operation → List Operation
+begun starts = up_of first_node ∷ up_of second_node ∷ starts
+
+-- what both nodes hold: they are up, and the application is started at both
+abbrev pub worked_set : List Operation
+worked_set = begun (start_of the_app first_node 2 ∷ start_of the_app second_node 2 ∷ [])
+
+abbrev pub worked_member : Member
+worked_member = record { inc = 1; held = worked_set; notes = [] }
+
+-- both run, and no other
+abbrev pub worked_nodes : NodeId → Option Member
+worked_nodes n = cond (nat_eq n.0 0) (Some worked_member) (cond (nat_eq n.0 1) (Some worked_member) None)
+
+-- ---- what is so of it
+
+-- Rounds can be. The nodes are ready, the application isn't settled, and there are as many rounds as applications. After them both nodes still run, and it is settled at each.
+pub record RoundsCanBe : Type 0 where
+  pub ready : IsReady worked_nodes
+  pub unsettled : ¬ IsSettled (verdict_of worked_table (meaning_of worked_set) the_app)
+  pub later : NodeId → Option Member
+  pub rounds : Rounds worked_table (app_count worked_table) worked_nodes later
+  pub run : (n : NodeId) → IsEither n → IsSome (later n)
+  pub settled : (n : NodeId) (d : Member) → later n ≡ Some d → IsSettled (verdict_of worked_table (meaning_of d.held) the_app)
