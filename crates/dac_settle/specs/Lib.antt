@@ -1,6 +1,6 @@
+pub mod Rules
 pub mod Rounds
 pub mod Settling
-pub mod Rules
 pub mod Staying
 pub mod Worked
 pub mod WorldRounds

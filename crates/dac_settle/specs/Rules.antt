@@ -9,10 +9,6 @@ use Rattle.dac_placement.specs.declared.verdicts.Verdict.{Verdict}
 use Rattle.dac_placement.specs.declared.verdicts.Verdict.TheVariants.{Takeover, Kept}
 use Rattle.dac_placement.specs.Placement.{load_of, first_choice, verdict_of}
 
--- what is to become of an application
-abbrev pub judged : Table → StateValue → AppId → Verdict
-judged t s app = verdict_of t s app
-
 -- ---- a rule that is refused
 
 -- both groups are there, and are one
@@ -31,3 +27,9 @@ restless_by t s app verdict first = verdict
 -- the verdict, but what is kept is taken over by the first choice where that is of the holder's group and runs fewer
 abbrev pub restless_of : Table → StateValue → AppId → Verdict
 restless_of t s app = restless_by t s app (verdict_of t s app) (first_choice t s app)
+
+-- ---- the rule that settling is of
+
+-- what is to become of an application, which ticks claim by
+abbrev pub judged : Table → StateValue → AppId → Verdict
+judged t s app = verdict_of t s app

@@ -7,15 +7,16 @@ use Rattle.dac_dots.specs.declared.dot.Origin.{Origin}
 use Rattle.dac_chains.specs.declared.claims.Claim.{Claim}
 use Rattle.dac_chains.specs.Lives.{IsLive}
 use Rattle.dac_operations.specs.Operations.{Operation}
+use Rattle.dac_meaning.specs.StateValue.{StateValue}
 use Rattle.dac_meaning.specs.Meaning.{Within, Agree, meaning_of}
 use Rattle.dac_config.specs.Table.{Table, app_count, timeout_of}
 use Rattle.dac_placement.specs.declared.verdicts.Verdict.{Verdict}
 use Rattle.dac_placement.specs.declared.verdicts.Verdict.TheVariants.{Start, Failover, Halted, Move, Takeover, Kept, Nobody}
-use Rattle.dac_placement.specs.Placement.{verdict_of}
 use Rattle.dac_decide.specs.FailoverWait.{Note, IsLost, IsLostByNewest, IsNotedSince}
 use Rattle.dac_ticks.specs.Ticks.{Turn}
 use Rattle.dac_ticks.specs.laws.Again.{noting, tick_of}
 use Rattle.dac_settle.specs.Rounds.{InCopies}
+use Rattle.dac_settle.specs.Rules.{judged}
 
 -- ---- the world, as far as settling goes
 
@@ -117,7 +118,10 @@ IsSettled (Takeover n) = ⊥
 IsSettled (Kept n) = Unit {0}
 IsSettled Nobody = Unit {0}
 
--- As many rounds as there are applications, begun in a ready world, settle each application at each running node. It is kept, halted, or no node may run it.
+-- As many rounds as there are applications, begun in a ready world, settle each application at each running node. By the rule it is kept, halted, or no node may run it.
+abbrev pub RoundsSettleBy : (Table → StateValue → AppId → Verdict) → Type 0
+RoundsSettleBy rule = (t : Table) (node final : NodeId → Option Member) → IsReady node → Rounds t (app_count t) node final
+    → (m : NodeId) (d : Member) → final m ≡ Some d → (app : AppId) → app.0 < app_count t → IsSettled (rule t (meaning_of d.held) app)
+
 abbrev pub RoundsSettle : Type 0
-RoundsSettle = (t : Table) (node final : NodeId → Option Member) → IsReady node → Rounds t (app_count t) node final
-    → (m : NodeId) (d : Member) → final m ≡ Some d → (app : AppId) → app.0 < app_count t → IsSettled (verdict_of t (meaning_of d.held) app)
+RoundsSettle = RoundsSettleBy judged

@@ -28,7 +28,6 @@ use Rattle.dac_commands.specs.Commands.{next_term}
 use Rattle.dac_ticks.specs.Ticks.{claim_of}
 use Rattle.dac_ticks.specs.laws.Claimed.{Alike, alike_back, claimed_as}
 use Rattle.dac_settle.specs.Rounds.{Placement, IsGrown, IsPlacement}
-use Rattle.dac_settle.specs.Rules.{judged}
 use Rattle.dac_settle.specs.laws.AnyPlacement.{one}
 use Rattle.dac_settle.specs.laws.LeftAlone.{IsFit, fit_alike, left_if, if_left, left_alike}
 use Rattle.dac_settle.specs.laws.OnlyClaims.{AddsClaims, alike, claim_greatest, said_is_claim}
@@ -66,7 +65,7 @@ here n x = record { node = n; inc = unwrap_or (live_at (meaning_of x).lives n) 0
 abbrev pub placed : Table → Placement
 placed t = record {
   apps = apps_of t;
-  candidate = λ x app. candidate_of (judged t (meaning_of x) app);
+  candidate = λ x app. candidate_of (verdict_of t (meaning_of x) app);
   claim = λ n x app. claim_of t (here n x) (meaning_of x) app;
   IsLive = λ x n. (inc : ℕ) × IsLive (meaning_of x).lives n inc;
   IsWell = IsGood t;

@@ -20,7 +20,7 @@ use Rattle.dac_ticks.specs.laws.Turning.{numbered, apps_from}
 use Rattle.dac_ticks.specs.laws.Again.{noting}
 use Rattle.dac_settle.specs.Rounds.{Held, IsApp, IsGrown, Event as SetsEvent, Sets, InCopies, with_held, Happens as SetsHappen, Run as SetsRun, IsTickOf as IsSetsTick, Ticks as SetsTick, IsReady as AreReady, IsRound as IsRoundOfSets, Rounds as RoundsOfSets}
 use Rattle.dac_settle.specs.Rounds.Event.{Tick as Ticked, Ship as Shipped, Deliver as Delivered}
-use Rattle.dac_settle.specs.Settling.{Member, Members, with_member, turn_at, holding, ticked, Event, Happens, Run, Ticks, IsReady, IsRound, Rounds, IsSettled, RoundsSettle}
+use Rattle.dac_settle.specs.Settling.{Member, Members, with_member, turn_at, holding, ticked, Event, Happens, Run, Ticks, IsReady, IsRound, Rounds, IsSettled, RoundsSettleBy}
 use Rattle.dac_settle.specs.Settling.Event.{Tick, Ship, Deliver}
 use Rattle.dac_settle.specs.laws.AnyPlacement.{in_copies, same_node, one, some_is, grown_united, tick_grown, any_settle}
 use Rattle.dac_settle.specs.laws.Placed.{placed, one_inc, grown_alike, is_placement}
@@ -261,7 +261,7 @@ in_range a (suc n) k le lt = elim (nat_eq k a) as (λ b. nat_eq k a ≡ b → Is
   | false ↦ λ e. let other : ¬ (k ≡ a) = eqb-false k a e in inr (in_range (a + 1) n k (omega arith) (omega arith))
 ] refl
 
-pub all_settle : RoundsSettle
+pub all_settle : RoundsSettleBy verdict_of
 all_settle t node final ready rounds m d of_m app lt =
     let count : length (apps_of t) ≡ app_count t = length-map-range_with_len numbered 0 (app_count t) in
     let begun = some_is (node m) (sym (rounds_same t (app_count t) node final m rounds) ∙ ap is_some of_m) in

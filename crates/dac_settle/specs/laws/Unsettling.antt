@@ -31,7 +31,7 @@ use Rattle.dac_placement.specs.laws.FirstChoice.{first_is}
 use Rattle.dac_placement.specs.laws.Judged.{IsChoice, verdict_in_words}
 use Rattle.dac_ticks.specs.laws.Claimed.{Alike}
 use Rattle.dac_settle.specs.Rounds.{IsApp, IsGrown}
-use Rattle.dac_settle.specs.Rules.{judged, is_one_group, is_lighter, restless_by, restless_of}
+use Rattle.dac_settle.specs.Rules.{is_one_group, is_lighter, restless_by, restless_of}
 use Rattle.dac_settle.specs.Staying.{Stays}
 use Rattle.dac_settle.specs.Worked.{first_node, second_node, IsEither, the_app, first_of, start_of, begun}
 use Rattle.dac_settle.specs.laws.AnyPlacement.{one, same_node, grown_itself, grown_by}
@@ -318,7 +318,7 @@ module _ (n : NodeId) (is : candidate_of (verdict_of two S other_app) ≡ Some n
   unsettled_after : candidate_of (restless_of two X the_app) ≡ None → ⊥
   unsettled_after = unsettled_by (verdict_of two X the_app) (verdict_in_words two X the_app) (stays two s x grown the_app a_left) (first_choice two X the_app) (first_is two X the_app)
 
-pub verdicts_stay : Stays judged
+pub verdicts_stay : Stays verdict_of
 verdicts_stay t s x app g none = stays t s x g app none
 
 pub restless_unsettles : ¬ Stays restless_of
