@@ -123,19 +123,27 @@ fn a_round_settles_a_failover(rt: HostRuntime) {
     assert!(rt; is_judged(rt.alloc(), &[READY, ROUND], Verdict::Kept(C2)) == Some(true));
 }
 
-/// Each of two nodes tells the other; the first message has this number.
-fn tell(events: &mut Vec<WorldEvent>, number: u64) -> Option<()> {
+/// Each of two nodes tells the other, after so many times before.
+fn tell(events: &mut Vec<WorldEvent>, before: u8) -> Option<()> {
+    let shipped = 2 * u64::from(before);
     push(events, C1, TO_2)?;
-    push(events, C2, What::Deliver(number))?;
+    push(events, C2, What::Deliver(shipped + 1))?;
     push(events, C2, TO_1)?;
-    push(events, C1, What::Deliver(number + 1))
+    push(events, C1, What::Deliver(shipped + 2))
 }
 
 /// A node comes up, and each application is started there.
 fn come_up(events: &mut Vec<WorldEvent>, node: NodeId, apps: u16) -> Option<()> {
     push(events, node, BOOT)?;
     for app in 0..apps {
-        push(events, node, What::Command(Command::Start { app: AppId(app), node }))?;
+        push(
+            events,
+            node,
+            What::Command(Command::Start {
+                app: AppId(app),
+                node,
+            }),
+        )?;
     }
     Some(())
 }
@@ -145,11 +153,11 @@ fn rounds_of(alloc: Global, apps: u16, rounds: u8) -> Option<Vec<WorldEvent>> {
     let mut events = Vec::new(alloc);
     come_up(&mut events, C1, apps)?;
     come_up(&mut events, C2, apps)?;
-    tell(&mut events, 1)?;
+    tell(&mut events, 0)?;
     for round in 0..rounds {
         push(&mut events, C1, TICK)?;
         push(&mut events, C2, TICK)?;
-        tell(&mut events, 3 + 2 * u64::from(round))?;
+        tell(&mut events, round + 1)?;
     }
     Some(events)
 }
@@ -158,7 +166,10 @@ fn rounds_of(alloc: Global, apps: u16, rounds: u8) -> Option<Vec<WorldEvent>> {
 fn unsettled(config: &Config, node: &Node) -> Option<usize> {
     let state = node.state()?;
     let apps = 0..config.apps();
-    Some(apps.filter(|app| verdict(config, state, AppId(*app)).candidate().is_some()).count())
+    Some(
+        apps.filter(|app| verdict(config, state, AppId(*app)).candidate().is_some())
+            .count(),
+    )
 }
 
 /// How many applications are left unsettled at each of two nodes after so many rounds, where each event is accepted.
@@ -168,7 +179,10 @@ fn left_after(alloc: Global, config: &Config, rounds: u8) -> Option<(usize, usiz
     if config.nodes() <= C2.0 || answers.iter().any(|answer| answer.is_err()) {
         return None;
     }
-    Some((unsettled(config, world.node(C1))?, unsettled(config, world.node(C2))?))
+    Some((
+        unsettled(config, world.node(C1))?,
+        unsettled(config, world.node(C2))?,
+    ))
 }
 
 /// Whether each round settles one application, until none is left.
@@ -186,6 +200,9 @@ fn settle_one_by_one(alloc: Global, text: &[u8], apps: u8) -> Option<bool> {
 #[test]
 fn as_many_rounds_as_applications_may_be_needed(rt: HostRuntime) {
     for (text, apps) in [(TUPLES[0], 1), (TUPLES[1], 2), (TUPLES[2], 3)] {
-        assert!(rt; settle_one_by_one(rt.alloc(), text, apps) == Some(true), "{apps}");
+        assert!(rt;
+            settle_one_by_one(rt.alloc(), text, apps) == Some(true),
+            "{apps}"
+        );
     }
 }

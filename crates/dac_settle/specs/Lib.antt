@@ -4,4 +4,5 @@ pub mod Settling
 pub mod Staying
 pub mod Worked
 pub mod WorldRounds
+pub mod WorkedRun
 pub mod laws

@@ -11,3 +11,4 @@ pub mod WorldsSettle
 pub mod Started
 pub mod WorkedRound
 pub mod Unsettling
+pub mod OneTick

@@ -4,6 +4,7 @@ ghost use Rattle.dac_settle.specs.Worked.{RoundsCanBe};
 ghost use Rattle.dac_settle.specs.Rules.{judged, restless_of};
 ghost use Rattle.dac_settle.specs.Staying.{Stays};
 ghost use Rattle.dac_settle.specs.WorldRounds.{Settles};
+ghost use Rattle.dac_settle.specs.WorkedRun.{RunsCanEnd};
 ghost use Rattle.dac_worlds.specs.ModelWorld.{InEachRun};
 
 /// Rounds settle all. As many rounds as the configuration has applications, begun in a ready world, settle each
@@ -14,9 +15,12 @@ pub fn rounds_settle()
     ensures runs { InEachRun Settles }
 {}
 
-/// Rounds can be: two nodes are ready, and a round settles their application.
+/// Rounds can be: what settling asks for is met.
 pub fn rounds_can_be()
-    ensures worked { RoundsCanBe }
+    // Two nodes are ready, and a round settles their application.
+    ensures members { RoundsCanBe }
+    // The world of the definition is ready once a node has come up, and its tick is a round.
+    ensures runs { RunsCanEnd }
 {}
 
 /// What is settled stays so, whatever is claimed beside it.

@@ -104,7 +104,7 @@ unsettled settled = elim (left_if worked_table (meaning_of worked_set) the_app (
 terms_left : terms_used_up (meaning_of worked_set) the_app ≡ false
 terms_left = ap (λ c. nat_lt MAX_COUNTER (option_map_or (λ (claim : Claim). claim.term) c 0 + 1)) (none_claimed the_starts are_starts the_app)
 
-no_row : (row : List Note) (begin : Note) (before : List Note) → [] ≡ row ++ begin ∷ before → ⊥
+pub no_row : (row : List Note) (begin : Note) (before : List Note) → [] ≡ row ++ begin ∷ before → ⊥
 no_row [] begin before e = cc
 no_row (note ∷ row) begin before e = cc
 

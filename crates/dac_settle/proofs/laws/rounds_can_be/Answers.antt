@@ -1,5 +1,9 @@
 use Rattle.dac_settle.specs.laws.WorkedRound.{rounds_can_be}
+use Rattle.dac_settle.specs.laws.OneTick.{runs_can_end}
 use Rattle.dac_settle.proofs.laws.rounds_can_be.Goals as goal
 
-pub returns : goal.returns
-returns c = record { worked = rounds_can_be }
+pub returns-clause-members : goal.returns-clause-members
+returns-clause-members c = rounds_can_be
+
+pub returns-clause-runs : goal.returns-clause-runs
+returns-clause-runs c = runs_can_end
