@@ -1,8 +1,7 @@
 -- The worked run: the node that came up is alone, and its tick is accepted and passes nothing.
-use Rattle.std.proofs.Common.{◌≡◌, ◌⊎◌, ℕ, ◌+◌, ◌-◌, ◌<◌, Bool, true, false, not, cond, ◌||◌, List, [], ◌∷◌, ◌++◌, Option, Some, None, Ok, refl, sym, ap, subst, ◌∙◌, arith, inl, inr}
+use Rattle.std.proofs.Common.{◌≡◌, ℕ, ◌+◌, Bool, true, false, not, cond, ◌||◌, List, [], ◌∷◌, ◌++◌, Option, Some, None, Ok, refl, sym, ap, subst, ◌∙◌, arith, inl, inr}
 use Rattle.std.specs.Prelude.{nat_eq, nat_lt, IsSome, Result}
-use Rattle.std.specs.Option.{is_some, option_map_or}
-use Rattle.std.specs.FinSet as set
+use Rattle.std.specs.Option.{option_map_or}
 use Rattle.std.specs.FinMap as map
 use Rattle.std.proofs.lemmas.Bool.{false≢true, true≢false, leb-true}
 use Rattle.dac_base.specs.declared.NodeId.{NodeId}
@@ -18,16 +17,15 @@ use Rattle.dac_chains.specs.Lives.{IsLive, life_cmp}
 use Rattle.dac_chains.specs.Claims.{claim_cmp}
 use Rattle.dac_wishes.specs.Writes.{same_dot, same_dot_is}
 use Rattle.dac_operations.specs.Operations.{Operation}
-use Rattle.dac_meaning.specs.StateValue.{StateValue, bottom, join}
-use Rattle.dac_meaning.specs.Meaning.{In, meaning_of, names, pairs, life_said, claim_said, lives_of}
+use Rattle.dac_meaning.specs.StateValue.{StateValue}
+use Rattle.dac_meaning.specs.Meaning.{In, meaning_of, pairs, life_said, claim_said, lives_of}
 use Rattle.dac_meaning.specs.Chained.{Says, of_said, is_said}
 use Rattle.dac_meaning.specs.Readers.{known-meaning, lives-meaning, lives_are, or-false}
 use Rattle.dac_meaning.specs.StateLaws.{bottom-join}
 use Rattle.dac_meaning.specs.Joins.{meaning-state}
-use Rattle.dac_config.specs.Table.{app_count}
 use Rattle.dac_placement.specs.Placement.{is_up}
 use Rattle.dac_placement.specs.laws.Tests.{up_is}
-use Rattle.dac_decide.specs.FailoverWait.{Note, IsLost, IsLostByNewest, waits_of}
+use Rattle.dac_decide.specs.FailoverWait.{IsLost, waits_of}
 use Rattle.dac_events.specs.declared.WorldEvent.{WorldEvent}
 use Rattle.dac_events.specs.declared.What.TheVariants.{Tick as Ticking}
 use Rattle.dac_messages.specs.declared.event.Event.TheVariants.{Tick}
@@ -44,13 +42,13 @@ use Rattle.dac_ticks.specs.laws.Turning.{turned_by}
 use Rattle.dac_rules.specs.ModelNode.{ModelNode, ModelRun, joined, shown}
 use Rattle.dac_rules.specs.EventRefusals.{refusal_of}
 use Rattle.dac_rules.specs.Step.{comes_up, step_by}
-use Rattle.dac_worlds.specs.ModelWorld.{ModelWorld, AnsweredAs, happens, answered_by, start, went, world_after}
+use Rattle.dac_worlds.specs.ModelWorld.{ModelWorld, happens, answered_by, world_after}
 use Rattle.dac_worlds.specs.SetWorld.{SetWorld, set_run}
 use Rattle.dac_worlds.specs.EveryList.{answers_of}
 use Rattle.dac_settle.specs.Settling.{Member, AllSame, IsReady}
-use Rattle.dac_settle.specs.WorldRounds.{member_by, members_of, InRound, IsTicked, AreInRound, AnswersTick, IsWorldRound}
+use Rattle.dac_settle.specs.WorldRounds.{member_by, members_of, InRound, IsTicked, IsWorldRound}
 use Rattle.dac_settle.specs.Worked.{first_node, the_app, worked_table, first_of, up_of}
-use Rattle.dac_settle.specs.WorkedRun.{coming_up, ticking, up_answers, up_world, up_sets, RunsCanEnd}
+use Rattle.dac_settle.specs.WorkedRun.{ticking, up_world, up_sets, RunsCanEnd}
 use Rattle.dac_settle.specs.laws.AnyPlacement.{same_node, one}
 use Rattle.dac_settle.specs.laws.OnlyClaims.{claim_greatest}
 use Rattle.dac_settle.specs.laws.WorkedRound.{no_row}

@@ -1,5 +1,5 @@
 -- A takeover inside a tuple unsettles: a runs at the first of two nodes of a tuple, and no other runs. Then b is claimed at the first node, where alone it may run. So fewer run at the second, and it is to take a over.
-use Rattle.std.proofs.Common.{◌≡◌, ◌⊎◌, ℕ, ◌<◌, ◌≤◌, Bool, true, false, cond, ◌&&◌, List, [], ◌∷◌, ◌++◌, length, Option, Some, None, option_map, refl, sym, ap, subst, ◌∙◌, arith, inl, inr}
+use Rattle.std.proofs.Common.{◌≡◌, ℕ, ◌<◌, Bool, true, false, cond, ◌&&◌, List, [], ◌∷◌, ◌++◌, length, Option, Some, None, option_map, refl, sym, ap, subst, ◌∙◌, arith, inl, inr}
 use Rattle.std.specs.Prelude.{nat_eq, nat_lt, IsSome, ◌==◌}
 use Rattle.std.specs.Option.{is_some, option_map_or}
 use Rattle.std.specs.FinMap as map
@@ -17,7 +17,7 @@ use Rattle.dac_wishes.specs.Writes.{write}
 use Rattle.dac_operations.specs.declared.act.Act.TheVariants.{Claim as Claims}
 use Rattle.dac_operations.specs.Operations.{Operation, operation}
 use Rattle.dac_meaning.specs.StateValue.{StateValue}
-use Rattle.dac_meaning.specs.Meaning.{In, meaning_of, claim_said}
+use Rattle.dac_meaning.specs.Meaning.{meaning_of, claim_said}
 use Rattle.dac_meaning.specs.Members.{In-append_left, In-append_right, In-append_cases}
 use Rattle.dac_meaning.specs.Chained.{Says}
 use Rattle.dac_meaning.specs.Readers.{starts-meaning, permits-meaning}
@@ -25,12 +25,12 @@ use Rattle.dac_shapes.specs.declared.draft.SyncWait.TheVariants.{NoSync}
 use Rattle.dac_config.specs.Table.{Table, group_of}
 use Rattle.dac_placement.specs.declared.verdicts.Verdict.{Verdict}
 use Rattle.dac_placement.specs.declared.verdicts.Verdict.TheVariants.{Start as ToStart, Failover, Halted, Move, Takeover, Kept, Nobody}
-use Rattle.dac_placement.specs.Placement.{IsEligible, is_eligible, IsEarlier, IsFirst, RunsAt, runs_at, load_of, key_at, key_of, IsStartedAt, is_up, holder_of, IsVerdict, verdict_of, first_choice, candidate_of}
+use Rattle.dac_placement.specs.Placement.{IsEligible, is_eligible, IsEarlier, IsFirst, runs_at, load_of, key_at, key_of, IsStartedAt, is_up, holder_of, IsVerdict, verdict_of, first_choice, candidate_of}
 use Rattle.dac_placement.specs.laws.Tests.{runs_is}
 use Rattle.dac_placement.specs.laws.FirstChoice.{first_is}
 use Rattle.dac_placement.specs.laws.Judged.{IsChoice, verdict_in_words}
 use Rattle.dac_ticks.specs.laws.Claimed.{Alike}
-use Rattle.dac_settle.specs.Rounds.{IsApp, IsGrown}
+use Rattle.dac_settle.specs.Rounds.{IsGrown}
 use Rattle.dac_settle.specs.Rules.{is_one_group, is_lighter, restless_by, restless_of}
 use Rattle.dac_settle.specs.Staying.{Stays}
 use Rattle.dac_settle.specs.Worked.{first_node, second_node, IsEither, the_app, first_of, start_of, begun}
@@ -40,7 +40,7 @@ use Rattle.dac_settle.specs.laws.LeftAlone.{left_if, if_left, to_eligible, to_st
 use Rattle.dac_settle.specs.laws.Placed.{placed, IsGood, IsTaken, alike_grown, claims_cases, stays, taken_if, well}
 use Rattle.dac_settle.specs.laws.Started.{AreStarts, are_live, live_only, no_claim_said}
 
-none_some : {X : Type 0} {v : X} {Y : Type 0} → ◌≡◌ {A = Option X} None (Some v) → Y
+none_some : {Z : Type 0} {v : Z} {Y : Type 0} → ◌≡◌ {A = Option Z} None (Some v) → Y
 none_some e = cc
 
 -- ---- the case
@@ -61,10 +61,10 @@ the_starts = start_of the_app first_node 2 ∷ start_of the_app second_node 2 �
 
 are_starts : AreStarts the_starts
 are_starts o i = elim i [
-  | inl one ↦ (_, [], ap (λ (q : Operation). q.act) one)
+  | inl first ↦ (_, [], ap (λ (q : Operation). q.act) first)
   | inr more ↦ elim more [
-    | inl two ↦ (_, [], ap (λ (q : Operation). q.act) two)
-    | inr last ↦ elim last [ inl three ↦ (_, [], ap (λ (q : Operation). q.act) three) | inr none ↦ absurd none ]
+    | inl second ↦ (_, [], ap (λ (q : Operation). q.act) second)
+    | inr last ↦ elim last [ inl third ↦ (_, [], ap (λ (q : Operation). q.act) third) | inr none ↦ absurd none ]
   ]
 ]
 
@@ -78,8 +78,8 @@ claiming = operation (dot (first_of first_node) 4) (Claims the_app 1 Normal None
 abbrev s : List Operation
 s = begun the_starts ++ claiming ∷ []
 
-abbrev S : StateValue
-S = meaning_of s
+abbrev known : StateValue
+known = meaning_of s
 
 -- ---- before
 
@@ -92,10 +92,10 @@ adds = record {
   ];
 }
 
-begun_alike : Alike S (meaning_of (begun the_starts))
+begun_alike : Alike known (meaning_of (begun the_starts))
 begun_alike = alike (begun the_starts) s adds
 
-is_live : (n : NodeId) → IsEither n → IsLive S.lives n 1
+is_live : (n : NodeId) → IsEither n → IsLive known.lives n 1
 is_live n either = subst (λ (l : Lives). IsLive l n 1) (sym begun_alike.lives) (are_live the_starts are_starts n either)
 
 said_by : (app : AppId) (c : Claim) → Says claim_said s app c → (the_app ≡ app) × (the_claim ≡ c)
@@ -110,15 +110,15 @@ said_by app c says = elim (In-append_cases says.0 (begun the_starts) (claiming �
   ]
 ]
 
-a_claimed : map.get S.claims the_app ≡ Some the_claim
-a_claimed = by_claim (map.get S.claims the_app) (claim_greatest s the_app)
+a_claimed : map.get known.claims the_app ≡ Some the_claim
+a_claimed = by_claim (map.get known.claims the_app) (claim_greatest s the_app)
   where
     by_claim : (o : Option Claim) → IsGreatest claim_cmp (Says claim_said s the_app) o → o ≡ Some the_claim
     by_claim None none = absurd (none the_claim (claiming, (In-append_right claiming (begun the_starts) (claiming ∷ []) (inl refl), refl)))
     by_claim (Some c) is = ap (λ k. Some k) (sym (said_by the_app c is.0).1)
 
-b_unclaimed : map.get S.claims other_app ≡ None
-b_unclaimed = by_claim (map.get S.claims other_app) (claim_greatest s other_app)
+b_unclaimed : map.get known.claims other_app ≡ None
+b_unclaimed = by_claim (map.get known.claims other_app) (claim_greatest s other_app)
   where
     apart : the_app ≡ other_app → ⊥
     apart e = let same : ◌≡◌ {A = ℕ} 0 1 = ap (λ (a : AppId). a.0) e in absurd (omega arith)
@@ -127,7 +127,7 @@ b_unclaimed = by_claim (map.get S.claims other_app) (claim_greatest s other_app)
     by_claim None none = refl
     by_claim (Some c) is = absurd (apart (said_by other_app c is.0).0)
 
-a_at_first : IsEligible two S the_app first_node
+a_at_first : IsEligible two known the_app first_node
 a_at_first = record {
   listed = refl;
   inc = 1;
@@ -136,7 +136,7 @@ a_at_first = record {
   started = (dot (first_of first_node) 2, starts-meaning s (write (key_at the_app first_node 1) (dot (first_of first_node) 2)));
 }
 
-a_at_second : IsEligible two S the_app second_node
+a_at_second : IsEligible two known the_app second_node
 a_at_second = record {
   listed = refl;
   inc = 1;
@@ -145,7 +145,7 @@ a_at_second = record {
   started = (dot (first_of second_node) 2, starts-meaning s (write (key_at the_app second_node 1) (dot (first_of second_node) 2)));
 }
 
-b_at_first : IsEligible two S other_app first_node
+b_at_first : IsEligible two known other_app first_node
 b_at_first = record {
   listed = refl;
   inc = 1;
@@ -161,9 +161,9 @@ none_earlier m e =
     let less = e.less in
     absurd (omega arith)
 
-a_left : candidate_of (verdict_of two S the_app) ≡ None
+a_left : candidate_of (verdict_of two known the_app) ≡ None
 unfolding a_at_first
-a_left = if_left two S the_app (inr (
+a_left = if_left two known the_app (inr (
   first_of first_node,
   ap (option_map (λ (c : Claim). c.origin)) a_claimed,
   (is_live first_node (inl refl), inr (a_at_first.started, a_at_first.permitted, λ m lt may. none_earlier m)),
@@ -179,18 +179,18 @@ load_is u n = by_test (runs_at two u other_app n)
     by_test true = refl
     by_test false = refl
 
-none_run : (n : NodeId) → load_of two S the_app n ≡ 0
+none_run : (n : NodeId) → load_of two known the_app n ≡ 0
 none_run n =
-    load_is S n
-    ∙ ap (λ (c : Option Claim). cond (option_map_or (λ (o : Origin). (o.node.0 == n.0) && is_up S o) (option_map (λ (k : Claim). k.origin) c) false && is_eligible two S other_app n) 1 0) b_unclaimed
+    load_is known n
+    ∙ ap (λ (c : Option Claim). cond (option_map_or (λ (o : Origin). (o.node.0 == n.0) && is_up known o) (option_map (λ (k : Claim). k.origin) c) false && is_eligible two known other_app n) 1 0) b_unclaimed
 
-none_lighter : (n m : NodeId) → is_lighter two S the_app n m ≡ false
+none_lighter : (n m : NodeId) → is_lighter two known the_app n m ≡ false
 none_lighter n m = λ i. nat_lt (none_run n i) (none_run m i) && is_one_group (group_of two the_app n) (group_of two the_app m)
 
-settled_before : candidate_of (restless_of two S the_app) ≡ None
-settled_before = by_verdict (verdict_of two S the_app) (first_choice two S the_app) a_left
+settled_before : candidate_of (restless_of two known the_app) ≡ None
+settled_before = by_verdict (verdict_of two known the_app) (first_choice two known the_app) a_left
   where
-    by_verdict : (v : Verdict) (first : Option NodeId) → candidate_of v ≡ None → candidate_of (restless_by two S the_app v first) ≡ None
+    by_verdict : (v : Verdict) (first : Option NodeId) → candidate_of v ≡ None → candidate_of (restless_by two known the_app v first) ≡ None
     by_verdict (Kept m) (Some n) e = ap (λ b. candidate_of (cond b (Takeover n) (Kept m))) (none_lighter n m)
     by_verdict (Kept m) None e = refl
     by_verdict (ToStart n) first e = e
@@ -202,22 +202,22 @@ settled_before = by_verdict (verdict_of two S the_app) (first_choice two S the_a
 
 -- ---- b is claimed
 
-b_open : (o : Option NodeId) → candidate_of (verdict_of two S other_app) ≡ o → (n : NodeId) × (candidate_of (verdict_of two S other_app) ≡ Some n)
+b_open : (o : Option NodeId) → candidate_of (verdict_of two known other_app) ≡ o → (n : NodeId) × (candidate_of (verdict_of two known other_app) ≡ Some n)
 b_open (Some n) e = (n, e)
-b_open None e = absurd (elim (left_if two S other_app e) [
+b_open None e = absurd (elim (left_if two known other_app e) [
   | inl nobody ↦ nobody first_node (omega arith) b_at_first
   | inr held ↦ none_some (sym (ap (option_map (λ (c : Claim). c.origin)) b_unclaimed) ∙ held.1)
 ])
 
-module _ (n : NodeId) (is : candidate_of (verdict_of two S other_app) ≡ Some n) where
+module _ (n : NodeId) (is : candidate_of (verdict_of two known other_app) ≡ Some n) where
   abbrev claim : Operation
   claim = (placed two).claim n s other_app
 
   abbrev x : List Operation
   x = s ++ claim ∷ []
 
-  abbrev X : StateValue
-  X = meaning_of x
+  abbrev known_then : StateValue
+  known_then = meaning_of x
 
   good : IsGood two s other_app claim
   good = well two s s (grown_itself (placed two) s) other_app n is
@@ -225,16 +225,16 @@ module _ (n : NodeId) (is : candidate_of (verdict_of two S other_app) ≡ Some n
   grown : IsGrown (placed two) s x
   grown = grown_by (placed two) s s claim (grown_itself (placed two) s) (other_app, inr (inl refl), good)
 
-  like : Alike S X
+  like : Alike known known_then
   like = alike_grown two s x grown
 
-  a_still : map.get X.claims the_app ≡ Some the_claim
+  a_still : map.get known_then.claims the_app ≡ Some the_claim
   a_still = elim (claims_cases two s x grown the_app) [
     | inl same ↦ same ∙ a_claimed
     | inr taken ↦ absurd (false≢true (sym (ap is_some a_left) ∙ taken.good.open_app))
   ]
 
-  a_held : (o : Origin) → holder_of X the_app ≡ Some o → first_of first_node ≡ o
+  a_held : (o : Origin) → holder_of known_then the_app ≡ Some o → first_of first_node ≡ o
   a_held o held = one (sym (ap (option_map (λ (c : Claim). c.origin)) a_still) ∙ held)
 
   -- b runs at the first node
@@ -250,29 +250,29 @@ module _ (n : NodeId) (is : candidate_of (verdict_of two S other_app) ≡ Some n
         | inr second ↦ absurd (false≢true (subst (λ m. IsSome (group_of two other_app m)) second b_taken.good.fit.eligible.listed))
       ]
 
-  b_runs : runs_at two X other_app first_node ≡ true
-  b_runs = (runs_is two X other_app first_node).1 (record {
+  b_runs : runs_at two known_then other_app first_node ≡ true
+  b_runs = (runs_is two known_then other_app first_node).1 (record {
     inc = 1;
     holder = ap (option_map (λ (c : Claim). c.origin)) b_taken.greatest ∙ ap (λ o. Some o) b_origin;
     up = subst (λ (l : Lives). IsLive l first_node 1) like.lives (is_live first_node (inl refl));
-    eligible = to_eligible two S X like other_app first_node b_at_first;
+    eligible = to_eligible two known known_then like other_app first_node b_at_first;
   })
 
-  b_not_at_second : runs_at two X other_app second_node ≡ false
-  b_not_at_second = and_false (option_map_or (λ (o : Origin). (o.node.0 == 1) && is_up X o) (holder_of X other_app) false)
+  b_not_at_second : runs_at two known_then other_app second_node ≡ false
+  b_not_at_second = and_false (option_map_or (λ (o : Origin). (o.node.0 == 1) && is_up known_then o) (holder_of known_then other_app) false)
     where
       and_false : (b : Bool) → (b && false) ≡ false
       and_false true = refl
       and_false false = refl
 
-  load_first : load_of two X the_app first_node ≡ 1
-  load_first = load_is X first_node ∙ ap (λ b. cond b 1 0) b_runs
+  load_first : load_of two known_then the_app first_node ≡ 1
+  load_first = load_is known_then first_node ∙ ap (λ b. cond b 1 0) b_runs
 
-  load_second : load_of two X the_app second_node ≡ 0
-  load_second = load_is X second_node ∙ ap (λ b. cond b 1 0) b_not_at_second
+  load_second : load_of two known_then the_app second_node ≡ 0
+  load_second = load_is known_then second_node ∙ ap (λ b. cond b 1 0) b_not_at_second
 
   -- the second node is first
-  second_first : (m : NodeId) → IsFirst two X the_app m → second_node ≡ m
+  second_first : (m : NodeId) → IsFirst two known_then the_app m → second_node ≡ m
   second_first m first = elim (nat_eq m.0 0) as (λ b. nat_eq m.0 0 ≡ b → second_node ≡ m) [
     | true ↦ λ at. absurd (not_zero (same_node at))
     | false ↦ λ away.
@@ -286,42 +286,42 @@ module _ (n : NodeId) (is : candidate_of (verdict_of two S other_app) ≡ Some n
 
       not_zero : m ≡ first_node → ⊥
       not_zero e =
-          let at : IsFirst two X the_app first_node = subst (IsFirst two X the_app) e first in
-          elim (at.preferred second_node (omega arith) (to_eligible two S X like the_app second_node a_at_second) refl) [
+          let at : IsFirst two known_then the_app first_node = subst (IsFirst two known_then the_app) e first in
+          elim (at.preferred second_node (omega arith) (to_eligible two known known_then like the_app second_node a_at_second) refl) [
             | inl less ↦ let a = load_first in let b = load_second in absurd (omega (arith, less, a, b))
             | inr level ↦ let a = load_first in let b = load_second in let same = level.0 in absurd (omega (arith, same, a, b))
           ]
 
-  lighter : (m k : NodeId) → second_node ≡ m → first_node ≡ k → is_lighter two X the_app m k ≡ true
+  lighter : (m k : NodeId) → second_node ≡ m → first_node ≡ k → is_lighter two known_then the_app m k ≡ true
   lighter m k second first =
-      subst (λ j. is_lighter two X the_app m j ≡ true) first
-      (subst (λ j. is_lighter two X the_app j first_node ≡ true) second (λ i. nat_lt (load_second i) (load_first i) && is_one_group (group_of two the_app second_node) (group_of two the_app first_node)))
+      subst (λ j. is_lighter two known_then the_app m j ≡ true) first
+      (subst (λ j. is_lighter two known_then the_app j first_node ≡ true) second (λ i. nat_lt (load_second i) (load_first i) && is_one_group (group_of two the_app second_node) (group_of two the_app first_node)))
 
   -- so a is to be taken over
   some_is_none : {v : NodeId} {Y : Type 0} → ◌≡◌ {A = Option NodeId} (Some v) None → Y
   some_is_none e = cc
 
-  unsettled_by : (v : Verdict) → IsVerdict two X the_app v → candidate_of v ≡ None → (first : Option NodeId) → IsChoice two X the_app first → candidate_of (restless_by two X the_app v first) ≡ None → ⊥
+  unsettled_by : (v : Verdict) → IsVerdict two known_then the_app v → candidate_of v ≡ None → (first : Option NodeId) → IsChoice two known_then the_app first → candidate_of (restless_by two known_then the_app v first) ≡ None → ⊥
   unfolding a_at_first
   unsettled_by (ToStart m) words e first choice none = some_is_none e
   unsettled_by (Failover m) words e first choice none = some_is_none e
   unsettled_by (Move m) words e first choice none = some_is_none e
   unsettled_by (Takeover m) words e first choice none = some_is_none e
-  unsettled_by Nobody words e first choice none = words.0 first_node (omega arith) (to_eligible two S X like the_app first_node a_at_first)
+  unsettled_by Nobody words e first choice none = words.0 first_node (omega arith) (to_eligible two known known_then like the_app first_node a_at_first)
   unsettled_by (Halted m) words e first choice none =
-      words.2.2 (subst (λ (o : Origin). IsStartedAt X (key_of the_app o)) (a_held words.0 words.1) (to_started two S X like the_app (first_of first_node) a_at_first.started))
-  unsettled_by (Kept m) words e None choice none = choice first_node (omega arith) (to_eligible two S X like the_app first_node a_at_first)
+      words.2.2 (subst (λ (o : Origin). IsStartedAt known_then (key_of the_app o)) (a_held words.0 words.1) (to_started two known known_then like the_app (first_of first_node) a_at_first.started))
+  unsettled_by (Kept m) words e None choice none = choice first_node (omega arith) (to_eligible two known known_then like the_app first_node a_at_first)
   unsettled_by (Kept m) words e (Some k) choice none =
       let at : first_node ≡ m = ap (λ (o : Origin). o.node) (a_held words.0.0 words.0.1) ∙ words.0.2.0 in
       some_is_none (sym (ap (λ b. candidate_of (cond b (Takeover k) (Kept m))) (lighter k m (second_first k choice) at)) ∙ none)
 
-  unsettled_after : candidate_of (restless_of two X the_app) ≡ None → ⊥
-  unsettled_after = unsettled_by (verdict_of two X the_app) (verdict_in_words two X the_app) (stays two s x grown the_app a_left) (first_choice two X the_app) (first_is two X the_app)
+  unsettled_after : candidate_of (restless_of two known_then the_app) ≡ None → ⊥
+  unsettled_after = unsettled_by (verdict_of two known_then the_app) (verdict_in_words two known_then the_app) (stays two s x grown the_app a_left) (first_choice two known_then the_app) (first_is two known_then the_app)
 
 pub verdicts_stay : Stays verdict_of
 verdicts_stay t s x app g none = stays t s x g app none
 
 pub restless_unsettles : ¬ Stays restless_of
 restless_unsettles stay =
-    let n = b_open (candidate_of (verdict_of two S other_app)) refl in
+    let n = b_open (candidate_of (verdict_of two known other_app)) refl in
     unsettled_after n.0 n.1 (stay two s (x n.0 n.1) the_app (grown n.0 n.1) settled_before)

@@ -1,8 +1,7 @@
 -- The worked case: its nodes are ready, and they tick, tell each other all, and hold the same then.
-use Rattle.std.proofs.Common.{◌≡◌, ◌⊎◌, ℕ, ◌+◌, ◌<◌, Bool, true, false, cond, List, [], ◌∷◌, ◌++◌, Option, Some, None, option_map, refl, sym, ap, subst, ◌∙◌, arith, inl, inr}
-use Rattle.std.specs.Prelude.{nat_eq, nat_lt, IsSome}
+use Rattle.std.proofs.Common.{◌≡◌, ◌⊎◌, ◌+◌, Bool, true, false, cond, List, [], ◌∷◌, ◌++◌, Option, Some, None, option_map, refl, sym, ap, subst, ◌∙◌, arith, inl, inr}
+use Rattle.std.specs.Prelude.{nat_eq, nat_lt}
 use Rattle.std.specs.Option.{is_some, option_map_or}
-use Rattle.std.specs.FinMap as map
 use Rattle.std.proofs.lemmas.Bool.{true≢false}
 use Rattle.dac_base.specs.declared.NodeId.{NodeId}
 use Rattle.dac_base.specs.declared.AppId.{AppId}
@@ -17,14 +16,14 @@ use Rattle.dac_meaning.specs.Members.{In-append_left, In-append_right, In-append
 use Rattle.dac_meaning.specs.Readers.{starts-meaning, permits-meaning}
 use Rattle.dac_placement.specs.declared.verdicts.Verdict.{Verdict}
 use Rattle.dac_placement.specs.declared.verdicts.Verdict.TheVariants.{Start as ToStart, Failover, Halted, Move, Takeover, Kept, Nobody}
-use Rattle.dac_placement.specs.Placement.{IsEligible, key_at, holder_of, verdict_of, candidate_of}
-use Rattle.dac_decide.specs.FailoverWait.{Note, IsLost, IsLostByNewest, IsNotedSince, waits_of}
+use Rattle.dac_placement.specs.Placement.{IsEligible, key_at, verdict_of, candidate_of}
+use Rattle.dac_decide.specs.FailoverWait.{Note, IsLost, waits_of}
 use Rattle.dac_commands.specs.Causes.{terms_used_up}
 use Rattle.dac_ticks.specs.Ticks.{turn_from}
 use Rattle.dac_ticks.specs.laws.Turning.{turned_by}
 use Rattle.dac_ticks.specs.laws.Again.{noting}
 use Rattle.dac_worlds.specs.laws.Operations.{DistinctDots-agree}
-use Rattle.dac_settle.specs.Settling.{Member, Members, with_member, own_of, turn_at, holding, ticked, IsLate, IsTick, Event, Run, Ticks, AllSame, IsReady, IsRound, IsSettled}
+use Rattle.dac_settle.specs.Settling.{Member, with_member, own_of, turn_at, holding, ticked, IsTick, Event, Run, AllSame, IsReady, IsRound, IsSettled}
 use Rattle.dac_settle.specs.Settling.Event.{Tick, Ship, Deliver}
 use Rattle.dac_settle.specs.Worked.{first_node, second_node, IsEither, the_app, worked_table, first_of, start_of, worked_set, worked_member, worked_nodes, RoundsCanBe}
 use Rattle.dac_settle.specs.laws.AnyPlacement.{same_node, one, some_is}
