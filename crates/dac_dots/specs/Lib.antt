@@ -7,3 +7,4 @@ pub mod MergeLaws
 pub mod RowLaws
 pub mod RowSets
 pub mod Rows
+pub mod Runs

@@ -157,6 +157,11 @@ pub record IsLastOf (row : Row) (last : ℕ) : Type 0 where
   pub above : (n : ℕ) → has_counter row n ≡ true → n ≤ last
   pub there : (last ≡ 0) ⊎ (has_counter row last ≡ true)
 
+-- no counter of the list is greater, and it is one of them, or 0 where there is none
+pub record IsGreatest (counters : List ℕ) (last : ℕ) : Type 0 where
+  pub above : (n : ℕ) → has_key nat_cmp counters n ≡ true → n ≤ last
+  pub there : (last ≡ 0) ⊎ (has_key nat_cmp counters last ≡ true)
+
 -- each counter of the first row is one of the second
 abbrev pub IsWithinRow : Row → Row → Type 0
 IsWithinRow a b = (n : ℕ) → has_counter a n ≡ true → has_counter b n ≡ true

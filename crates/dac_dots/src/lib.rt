@@ -15,6 +15,7 @@ pub use dot::{Dot, Origin};
 pub use keys::MapKey;
 
 mod context;
+mod counters;
 mod dot;
 pub mod keys;
 mod row;

@@ -11,8 +11,12 @@ fn goes_on(context: &Context, next: u64, is_vector: bool) -> bool {
 }
 
 /// Whether the context is the one row of node 0 with these counters.
-fn is_row(context: &Context, upto: u64, further: &[u64]) -> bool {
-    context.row(0) == Some((origin(0), upto, further)) && context.row(1).is_none()
+fn is_row(context: &Context, upto: u64, further: &[u64]) -> Result<bool, NoMemory> {
+    let Some(row) = context.row(0)? else {
+        return Ok(false);
+    };
+    let is_own = row.0 == origin(0) && row.1 == upto && row.2.as_slice() == further;
+    Ok(is_own && context.rows() == 1)
 }
 
 /// Whether a context that these counters were put into goes on so, and has this one row.
@@ -25,7 +29,7 @@ fn is_kept(
     further: &[u64],
 ) -> Result<bool, NoMemory> {
     let context = heard(alloc, counters)?;
-    Ok(goes_on(&context, next, is_vector) && is_row(&context, upto, further))
+    Ok(goes_on(&context, next, is_vector) && is_row(&context, upto, further)?)
 }
 
 /// Counters of dots of node 0; the counter that comes next, whether they are a vector, and their row.
