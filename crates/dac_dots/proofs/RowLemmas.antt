@@ -1,5 +1,5 @@
 -- The counters of one origin: what is settled, put in and united.
-use Rattle.std.proofs.Common.{◌≡◌, ◌↔◌, ℕ, ◌+◌, ◌<◌, ◌≤◌, ◌⊎◌, inl, inr, Bool, true, false, ◌||◌, ◌&&◌, nat_le, nat_lt, nat_eq, IsTrue, List, [], ◌∷◌, length, refl, sym, ap, ◌∙◌, subst, arith, take, get_or}
+use Rattle.std.proofs.Common.{◌≡◌, ◌↔◌, ℕ, ◌+◌, ◌<◌, ◌≤◌, inl, inr, Bool, true, false, ◌||◌, ◌&&◌, nat_le, nat_lt, nat_eq, IsTrue, List, [], ◌∷◌, length, refl, sym, ap, ◌∙◌, subst, arith, take, get_or}
 use Rattle.std.specs.Ordering.{nat_cmp, eq_by_cmp}
 use Rattle.std.proofs.lemmas.Bool.{and_parts, and_from, or_cases, or_from, or_left, or_right, false≢true, cases_lt, leb-true, le-leb, ltb-true, eqb-true}
 use Rattle.std.proofs.lemmas.Bool.Decides.{nat_tests}

@@ -1,9 +1,9 @@
 -- The counters of runs: which they are, and what runs that are joined have.
-use Rattle.std.proofs.Common.{◌≡◌, ℕ, zero, suc, ◌+◌, ◌-◌, ◌<◌, ◌≤◌, ◌⊎◌, inl, inr, Bool, true, false, cond, ◌||◌, ◌&&◌, nat_le, nat_lt, nat_eq, IsTrue, List, [], ◌∷◌, ◌++◌, length, take, drop, get_or, min, max, refl, sym, ap, ◌∙◌, subst, arith, take-append-drop, length-append, length-drop}
+use Rattle.std.proofs.Common.{◌≡◌, ℕ, zero, suc, ◌+◌, ◌-◌, ◌<◌, ◌≤◌, inl, inr, Bool, true, false, cond, ◌||◌, ◌&&◌, nat_le, nat_lt, nat_eq, IsTrue, List, [], ◌∷◌, ◌++◌, length, take, drop, get_or, min, max, refl, sym, ap, ◌∙◌, subst, arith, take-append-drop, length-append, length-drop}
 use Rattle.std.specs.Ordering.{nat_cmp, eq_by_cmp}
-use Rattle.std.specs.List.{flat_map, list_any, AllWithin, AllByRecursion}
+use Rattle.std.specs.List.{flat_map, AllWithin}
 use Rattle.std.specs.List.Sorted.{IsPartitionedBy, IsPartitionPoint}
-use Rattle.std.proofs.lemmas.Bool.{and_parts, and_from, or_left, or_right, or_cases, false≢true, true≢false, leb-true, le-leb, leb-false, lt-leb, ltb-true, cases_lt, cases_eq, cases_order, eqb-true, lt-ltb, le-ltb, false_from_ne_true, cases_Bool}
+use Rattle.std.proofs.lemmas.Bool.{and_parts, and_from, or_left, or_right, or_cases, false≢true, true≢false, leb-true, le-leb, leb-false, ltb-true, cases_lt, cases_eq, cases_order, eqb-true, lt-ltb, le-ltb, false_from_ne_true, cases_Bool}
 use Rattle.std.proofs.lemmas.Bool.Decides.{nat_tests}
 use Rattle.std.proofs.lemmas.List.{take_all}
 use Rattle.std.proofs.lemmas.List.Concat.{flat_map-cons}

@@ -140,12 +140,6 @@ pub record HasBoth (a b new : Row) : Type 0 where
   pub exact : (n : ℕ) → has_counter new n ≡ (has_counter b n || has_counter a n)
   pub kept : IsKept new
 
--- the new row has these counters too
-pub record HasThese (old : Row) (ns : List ℕ) (new : Row) : Type 0 where
-  pub origin : new.origin ≡ old.origin
-  pub exact : (n : ℕ) → has_counter new n ≡ (has_key nat_cmp ns n || has_counter old n)
-  pub kept : IsKept new
-
 -- the row has this counter alone
 pub record IsOne (d : Dot) (row : Row) : Type 0 where
   pub origin : row.origin ≡ d.origin

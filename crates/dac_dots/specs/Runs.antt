@@ -1,5 +1,5 @@
 -- Counters as runs: numbers that follow one another without a gap.
-use Rattle.std.specs.Prelude.{ℕ, zero, suc, ◌+◌, ◌-◌, ◌≤◌, min, max, nat_le, nat_lt, ◌&&◌, Bool, true, false, cond, List, [], ◌∷◌, ⊤}
+use Rattle.std.specs.Prelude.{ℕ, zero, suc, ◌+◌, ◌-◌, ◌≤◌, min, max, nat_le, nat_lt, ◌&&◌, Bool, true, cond, List, [], ◌∷◌}
 use Rattle.std.specs.List.{flat_map, list_any, AllByRecursion}
 use Rattle.dac_dots.specs.declared.counters.Run.{Run}
 

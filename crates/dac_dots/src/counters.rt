@@ -103,7 +103,11 @@ fn list_past(counters: &mut Vec<u64>, upto: u64, runs: &[Run]) -> Result<(), NoM
 
 /// For how many runs a copy of so many has room. None take no memory.
 fn room_for(runs: usize) -> usize {
-    if runs == 0 { 0 } else { runs.saturating_add(ROOM) }
+    if runs == 0 {
+        0
+    } else {
+        runs.saturating_add(ROOM)
+    }
 }
 
 /// A set of counters. It costs by gaps and not by counters: each run is as long as it can be.

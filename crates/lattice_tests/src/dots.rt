@@ -2,7 +2,7 @@
 use crate::sample::{dot, heard, origin};
 use dac_base::{AppId, NoMemory};
 use dac_dots::Context;
-use dac_dots::keys::{MapKey, holds_key, insert_key, merge_keys};
+use dac_dots::keys::{MapKey, holds_key, insert_key, remove_key};
 use std::alloc::Global;
 
 /// Whether the next dot of node 0 has this counter, and the context is a vector or not.
@@ -85,17 +85,18 @@ fn rows_are_appended(rt: HostRuntime) {
     assert!(rt; pushed(rt.alloc(), 1, &[2]) == Ok(None));
 }
 
-/// Whether two keys are listed, the greater one first, and three are in the list that goes with others.
-fn are_merged<K: MapKey>(alloc: Global, low: K, high: K, others: &[K]) -> Result<bool, NoMemory> {
+/// Whether two keys are listed, the greater one first, and found, and the lower one is taken out again.
+fn are_listed<K: MapKey>(alloc: Global, low: K, high: K) -> Result<bool, NoMemory> {
     let mut keys = Vec::new(alloc);
     insert_key(&mut keys, high)?;
     insert_key(&mut keys, low)?;
-    let found = holds_key(&keys, low);
-    Ok(found && merge_keys(alloc, &keys, others)?.len() == 3)
+    let found = holds_key(&keys, low) && keys.len() == 2;
+    remove_key(&mut keys, low);
+    Ok(found && !holds_key(&keys, low) && holds_key(&keys, high))
 }
 
 #[test]
-fn keys_are_merged(rt: HostRuntime) {
-    let answer = are_merged(rt.alloc(), AppId(2), AppId(7), &[AppId(2), AppId(5)]);
+fn keys_are_listed(rt: HostRuntime) {
+    let answer = are_listed(rt.alloc(), AppId(2), AppId(7));
     assert!(rt; matches!(answer, Ok(true)));
 }

@@ -1,4 +1,4 @@
-use Rattle.std.proofs.Common.{◌∙◌, ◌||◌, ℕ, List, ap, sym, Result, Ok, Err, OnOk}
+use Rattle.std.proofs.Common.{◌∙◌, ◌||◌, ap, sym, Result, Ok, Err, OnOk}
 use Rattle.std.specs.Ordering.{nat_cmp}
 use Rattle.dac_dots.specs.Keys.{has_key}
 use Rattle.dac_dots.proofs.RunLemmas.{valid_runs, has_now}

@@ -1,7 +1,6 @@
-use Rattle.std.proofs.Common.{◌≡◌, ◌∙◌, ◌||◌, ◌&&◌, ℕ, List, nat_eq, sym, ap}
+use Rattle.std.proofs.Common.{◌≡◌, ◌∙◌, ◌||◌, ◌&&◌, ℕ, nat_eq, sym}
 use Rattle.std.specs.Ordering.{nat_cmp}
 use Rattle.dac_dots.specs.Keys.{has_key}
-use Rattle.dac_dots.specs.Rows.{reach_of}
 use Rattle.dac_dots.specs.Runs.{any_past}
 use Rattle.dac_dots.proofs.RunLemmas.{valid_runs, further_is, zero_there, zero_missing}
 use Rattle.dac_dots.proofs.counters.Counters.further.Goals as goal

@@ -1,5 +1,4 @@
-use Rattle.std.proofs.Common.{◌≡◌, ◌+◌, nat_lt, nat_le, inl, inr, rules, refl, sym, subst, arith}
-use Rattle.std.specs.List.Sorted.{IsPartitionPoint}
+use Rattle.std.proofs.Common.{nat_lt, inl, inr, rules, arith}
 use Rattle.std.proofs.lemmas.Bool.{le-leb, leb-true, false≢true, cases_lt}
 use Rattle.std.proofs.lemmas.List.Sorted.{IsPartitionPoint-from_clause}
 use Rattle.dac_dots.specs.declared.counters.Run.{Run}
@@ -18,8 +17,7 @@ returns-then-found-run c =
     let run = c.args.run in
     let found = c.in-Some.found.now in
     let point = IsPartitionPoint-from_clause (λ (r : Run). nat_lt r.last run.first) _ _ c.partition_point-place.ensures.partitioned (rw c.deref.ensures.value (parted_by_end run.first runs c.self.invariant)) (λ a r q k. search rules) in
-    let lookup = rw c.deref-2.ensures.value at c.in-Some.ensures.lookup in
-    (
+    let lookup = rw c.deref-2.ensures.value at c.in-Some.ensures.lookup in (
       λ e. lies_within runs c.self.invariant c.args.self.now c.self.view_is run c.requires _ (rw c.deref.ensures.value at point) found lookup.3.0 (lookup.3.1 found) c.if-found-run.true (leb-true run.last found.last e),
       λ all. elim (cases_lt found.last run.last) [
         | inl past ↦ absurd (ends_past runs c.self.invariant c.args.self.now c.self.view_is run c.requires _ (rw c.deref.ensures.value at point) found lookup.3.0 (lookup.3.1 found) c.if-found-run.true past all)
@@ -33,8 +31,7 @@ returns-else-found-run c =
     let run = c.args.run in
     let found = c.in-Some.found.now in
     let point = IsPartitionPoint-from_clause (λ (r : Run). nat_lt r.last run.first) _ _ c.partition_point-place.ensures.partitioned (rw c.deref.ensures.value (parted_by_end run.first runs c.self.invariant)) (λ a r q k. search rules) in
-    let lookup = rw c.deref-2.ensures.value at c.in-Some.ensures.lookup in
-    (
+    let lookup = rw c.deref-2.ensures.value at c.in-Some.ensures.lookup in (
       λ e. absurd (let low = leb-true found.first run.first e in let past = c.if-found-run.false in omega arith),
       λ all. elim (cases_lt run.first found.first) [
         | inl past ↦ absurd (begins_past runs c.self.invariant c.args.self.now c.self.view_is run c.requires _ (rw c.deref.ensures.value at point) found lookup.3.0 (lookup.3.1 found) past all)

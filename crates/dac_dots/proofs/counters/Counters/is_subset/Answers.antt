@@ -1,6 +1,6 @@
-use Rattle.std.proofs.Common.{◌∙◌, sym, refl, true}
+use Rattle.std.proofs.Common.{◌∙◌, sym, refl}
 use Rattle.std.proofs.lemmas.Bool.{false≢true}
-use Rattle.dac_dots.proofs.RunLemmas.{apart_at, subset_more, subset_whole, run_within}
+use Rattle.dac_dots.proofs.RunLemmas.{apart_at, subset_whole, run_within}
 use Rattle.dac_dots.proofs.counters.Counters.is_subset.Goals as goal
 
 pub has_run-requires : goal.has_run-requires

@@ -1,4 +1,3 @@
-use Rattle.std.proofs.Common.{inl, arith}
 use Rattle.dac_dots.proofs.RunLemmas.{last_found, last_none}
 use Rattle.dac_dots.proofs.counters.Counters.last.Goals as goal
 

@@ -1,4 +1,4 @@
-use Rattle.std.proofs.Common.{◌≡◌, ◌+◌, ◌-◌, ◌<◌, ◌≤◌, ◌^◌, List, ℕ, length, take, get_or, ap, sym, arith, add-one, subst}
+use Rattle.std.proofs.Common.{◌≡◌, ◌+◌, List, ℕ, length, take, ap, sym, arith, add-one, subst}
 use Rattle.dac_dots.specs.Runs.{counters_in}
 use Rattle.dac_dots.specs.declared.counters.Run.{Run}
 use Rattle.dac_dots.proofs.RunLemmas.{apart_at, no_runs, len_more, len_span}

@@ -1,4 +1,4 @@
-use Rattle.std.proofs.Common.{◌≡◌, ◌+◌, ◌++◌, nat_lt, nat_le, rules, refl, sym, subst, ap, ◌∙◌, ◌||◌, ◌∷◌, inl, inr, arith, List, take, drop, zero, Result, Ok, Err, OnErr}
+use Rattle.std.proofs.Common.{◌+◌, ◌++◌, nat_lt, rules, sym, ap, ◌∙◌, ◌||◌, ◌∷◌, inl, inr, arith, drop, Result, Ok, Err, OnErr}
 use Rattle.std.proofs.lemmas.List.Sorted.{IsPartitionPoint-from_clause}
 use Rattle.dac_dots.specs.Runs.{run_has}
 use Rattle.dac_dots.specs.declared.counters.Run.{Run}

@@ -1,6 +1,4 @@
-use Rattle.std.proofs.Common.{◌≡◌, ◌∙◌, ◌||◌, ℕ, List, ap, sym, Result, Ok, Err, IfOk}
-use Rattle.std.specs.Ordering.{nat_cmp}
-use Rattle.dac_dots.specs.Keys.{IsRising, has_key}
+use Rattle.std.proofs.Common.{◌∙◌, ◌||◌, sym, Result, Ok, Err, IfOk}
 use Rattle.dac_dots.proofs.RunLemmas.{valid_runs, has_now}
 use Rattle.dac_dots.proofs.counters.Counters.union.Goals as goal
 

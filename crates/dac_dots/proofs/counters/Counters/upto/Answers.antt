@@ -1,4 +1,3 @@
-use Rattle.std.proofs.Common.{arith}
 use Rattle.dac_dots.proofs.RunLemmas.{upto_first, upto_later, upto_none}
 use Rattle.dac_dots.proofs.counters.Counters.upto.Goals as goal
 
