@@ -9,17 +9,6 @@ use crate::writer::ByteWriter;
 use dac_base::NoMemory;
 use dac_dots::{Context, Origin};
 
-/// How many origins have dots.
-fn count_rows(context: &Context) -> usize
-    ensures { result ≡ length (rows_of context.now) }
-{
-    let mut rows = 0;
-    while context.row(rows).is_some() {
-        rows += 1;
-    }
-    rows
-}
-
 fn write_numbers(mut writer: ByteWriter, numbers: &[u64]) -> Result<ByteWriter, NoMemory>
     ensures { IfOk result (λ written. written ≡ writer ++ flat_map u64_bytes numbers.now) }
 {
@@ -57,8 +46,8 @@ fn write_rows(
     ensures { IfOk result (λ written. written ≡ writer ++ flat_map row_bytes (rows_of context.now)) }
 {
     for i in 0..rows {
-        if let Some((origin, upto, further)) = context.row(i) {
-            writer = write_row(writer, origin, upto, further)?;
+        if let Some((origin, upto, further)) = context.row(i)? {
+            writer = write_row(writer, origin, upto, &further)?;
         }
     }
     Ok(writer)
@@ -73,7 +62,7 @@ impl ByteWriter {
         ensures ok { IfOk result (λ written. written ≡ self ++ context_bytes context.now) }
         ensures rows { OnOk result (AreRowsOf context.now (rows_of context.now)) }
     {
-        let rows = count_rows(context);
+        let rows = context.rows();
         let counted = self.write_count_u16(rows)?;
         let written = write_rows(counted, context, rows)?;
         Ok(written)

@@ -8,6 +8,7 @@ use Rattle.std.specs.List.{AllByRecursion, flat_map, sum_by}
 use Rattle.std.proofs.lemmas.Bool.{and_parts, or_from, or_left, or_right, leb-true, false_from_ne_true}
 use Rattle.std.proofs.lemmas.Bool.Decides.{nat_tests}
 use Rattle.std.proofs.lemmas.Cmp.{tied_itself, nat_cmp_total}
+use Rattle.std.proofs.lemmas.Map.Lookups.{exact_unsigned}
 use Rattle.std.proofs.lemmas.List.{take_all, length-map}
 use Rattle.std.proofs.lemmas.List.Concat.{flat_map-cons}
 use Rattle.std.proofs.lemmas.List.Folds.{list_any-append, list_any_more}
@@ -20,8 +21,9 @@ use Rattle.dac_dots.specs.declared.dot.Dot.{Dot}
 use Rattle.dac_dots.specs.CounterLaws.{is_eq-then}
 use Rattle.dac_dots.specs.KeyLaws.{has_is}
 use Rattle.dac_dots.specs.RowSets.{has_one_to, has_dots, has_row, has_rows, absent}
-use Rattle.dac_dots.specs.Rows.{Row, one_to, dots_in_row, dots_in, has_counter, row_has, any_row, origins, IsKept, HasSome, AreKept}
+use Rattle.dac_dots.specs.Rows.{Row, row_of, one_to, dots_in_row, dots_in, has_counter, row_has, any_row, origins, IsKept, HasSome, AreKept}
 use Rattle.dac_dots.proofs.PlaceLemmas.{contains_is}
+use Rattle.dac_dots.proofs.RowLemmas.{row_counter, row_kept, seen_counter}
 
 -- ---- lists without repeats
 
@@ -100,6 +102,19 @@ length_row : (row : Row) → length (dots_in_row row) ≡ row_len row
 unfolding dots_in_row
 length_row row = length-map (one_to row.upto ++ row.further) (dot row.origin) ∙ length-append (one_to row.upto) row.further ∙ ap (λ n. n + length row.further) (length_one_to row.upto)
 
+-- counters that rise are as many as their row has
+pub row_length : (o : Origin) (ns : List ℕ) → IsRising nat_cmp ns → (row : Row) → row_of o ns ≡ row → length ns ≡ row_len row
+row_length o ns rising row view =
+    let own = row_of o ns in
+    let all = one_to own.upto ++ own.further in
+    len_apart nat_cmp ns nat_cmp_total (apart_rising nat_cmp ns nat_cmp_total rising)
+    ∙ ap (λ (s : set.FinSet nat_cmp). set.len s) (set.same_set nat_cmp_total exact_unsigned (set.from_list ns) (set.from_list all) (λ n.
+    set.contains-from_list nat_cmp_total ns n ∙ sym (row_counter o ns n) ∙ sym (list_any-append (eq_by_cmp nat_cmp n) (one_to own.upto) own.further ∙ ap (λ b. b || has_key nat_cmp own.further n) (has_one_to own.upto n))
+    ∙ sym (set.contains-from_list nat_cmp_total all n)))
+    ∙ sym (len_apart nat_cmp all nat_cmp_total (apart_counters own (row_kept o ns rising)))
+    ∙ length-append (one_to own.upto) own.further ∙ ap (λ n. n + length own.further) (length_one_to own.upto)
+    ∙ ap row_len view
+
 length_rows : (rows : List Row) → length (flat_map dots_in_row rows) ≡ sum_by row_len rows
 length_rows [] = refl
 length_rows (row ∷ rows) =
@@ -130,15 +145,24 @@ rows_within rows dots view kept = subst (λ n. length rows ≤ n) (len_is rows r
 
 -- ---- the dots in order
 
--- 1 to u alone
-one_beyond : (e l : Bool) (u n : ℕ) (old : Bool) → ((e && eq_by_cmp nat_cmp n (u + 1)) || ((e && (nat_le 1 n && nat_le n u)) || old)) ≡ ((e && (nat_le 1 n && nat_le n (u + 1))) || old)
-one_beyond true l u n old = grind (arith, nat_tests)
-one_beyond false l u n old = refl
+start_dots : (e : Bool) (n : ℕ) (old : Bool) → old ≡ ((e && ((nat_le 1 n && nat_le n 0) || false)) || old)
+start_dots true n old = grind (arith, nat_tests)
+start_dots false n old = refl
 
-pub upto_more : (o : Origin) (u : ℕ) (old mid new : List Dot) → ((q : Dot) → has_key dot_cmp mid q ≡ ((eq_by_cmp origin_cmp q.origin o && (nat_le 1 q.n && nat_le q.n u)) || has_key dot_cmp old q)) → ((q : Dot) → has_key dot_cmp new q ≡ (eq_by_cmp dot_cmp q (dot o (u + 1)) || has_key dot_cmp mid q))
-    → (q : Dot) → has_key dot_cmp new q ≡ ((eq_by_cmp origin_cmp q.origin o && (nat_le 1 q.n && nat_le q.n (u + 1))) || has_key dot_cmp old q)
-upto_more o u old mid new so_far one q =
-    one q ∙ (λ i. is_eq-then (origin_cmp q.origin o) (nat_cmp q.n (u + 1)) i || so_far q i) ∙ one_beyond (eq_by_cmp origin_cmp q.origin o) false u q.n (has_key dot_cmp old q)
+-- no dot is put in yet
+pub none_put : (o : Origin) (old : List Dot) (q : Dot) → has_key dot_cmp old q ≡ ((eq_by_cmp origin_cmp q.origin o && ((nat_le 1 q.n && nat_le q.n 0) || false)) || has_key dot_cmp old q)
+none_put o old q = start_dots (eq_by_cmp origin_cmp q.origin o) q.n (has_key dot_cmp old q)
+
+no_range : (n : ℕ) (k : Bool) → ((nat_le 1 n && nat_le n 0) || k) ≡ k
+no_range n k = grind (arith, nat_tests)
+
+-- all dots of the row are put in
+pub row_put : (o : Origin) (ns counters : List ℕ) (row : Row) → row_of o ns ≡ row → counters ≡ ns → (i : ℕ) → length counters ≤ i → (old new : List Dot) → ((q : Dot) → has_key dot_cmp new q ≡ ((eq_by_cmp origin_cmp q.origin o && ((nat_le 1 q.n && nat_le q.n 0) || has_key nat_cmp (take i counters) q.n)) || has_key dot_cmp old q))
+    → (q : Dot) → has_key dot_cmp new q ≡ (row_has q row || has_key dot_cmp old q)
+row_put o ns counters row view is i end old new so_far q =
+    so_far q
+    ∙ ap (λ k. (eq_by_cmp origin_cmp q.origin o && k) || has_key dot_cmp old q) (no_range q.n (has_key nat_cmp (take i counters) q.n) ∙ ap (λ l. has_key nat_cmp l q.n) (take_all i counters end ∙ is) ∙ sym (seen_counter o ns row view q.n))
+    ∙ ap (λ p. (eq_by_cmp origin_cmp q.origin p && has_counter row q.n) || has_key dot_cmp old q) (ap (λ (r : Row). r.origin) view)
 
 regroup : (e t x k old : Bool) → ((e && t) || ((e && (x || k)) || old)) ≡ ((e && (x || (k || t))) || old)
 regroup true true true k old = refl

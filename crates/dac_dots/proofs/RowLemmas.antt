@@ -1,23 +1,21 @@
 -- The counters of one origin: what is settled, put in and united.
-use Rattle.std.proofs.Common.{◌≡◌, ℕ, zero, suc, ◌+◌, ◌-◌, ◌<◌, ◌≤◌, ◌⊎◌, inl, inr, Bool, true, false, ◌||◌, ◌&&◌, nat_le, nat_lt, nat_eq, List, [], ◌∷◌, length, max, refl, sym, ap, ◌∙◌, subst, arith, take, get_or}
-use Rattle.std.specs.Ordering.{nat_cmp, eq_by_cmp, is_lt}
-use Rattle.std.specs.List.{All}
-use Rattle.std.proofs.lemmas.Bool.{and_parts, and_from, or_cases, or_from, or_left, or_right, false≢true, true≢false, cases_lt, leb-true, le-leb, ltb-true, eqb-true}
+use Rattle.std.proofs.Common.{◌≡◌, ◌↔◌, ℕ, ◌+◌, ◌<◌, ◌≤◌, inl, inr, Bool, true, false, ◌||◌, ◌&&◌, nat_le, nat_lt, nat_eq, IsTrue, List, [], ◌∷◌, length, refl, sym, ap, ◌∙◌, subst, arith, take, get_or}
+use Rattle.std.specs.Ordering.{nat_cmp, eq_by_cmp}
+use Rattle.std.proofs.lemmas.Bool.{and_parts, and_from, or_cases, or_from, or_left, or_right, false≢true, cases_lt, leb-true, le-leb, ltb-true, eqb-true}
 use Rattle.std.proofs.lemmas.Bool.Decides.{nat_tests}
 use Rattle.std.proofs.lemmas.Cmp.{nat_cmp_total}
 use Rattle.std.proofs.lemmas.Map.Lookups.{exact_unsigned}
-use Rattle.dac_dots.specs.Keys.{IsRising, has_key, merged}
 use Rattle.std.proofs.lemmas.List.{take_all}
-use Rattle.std.proofs.lemmas.List.Elements.{All-weaker}
 use Rattle.std.proofs.lemmas.List.Folds.{list_any_more}
-use Rattle.dac_dots.specs.KeyLaws.{each_key, has_at}
-use Rattle.dac_dots.proofs.KeyLemmas.{below_at}
+use Rattle.dac_dots.specs.Keys.{is_below_all, is_rising, IsRising, has_key}
+use Rattle.dac_dots.specs.InOrder.{same_rising, below_absent}
 use Rattle.dac_dots.specs.CounterLaws.{grows, on_the_way, ends_there, has_key-filter, rising_filter, same, is_same, less as number_less}
-use Rattle.dac_dots.specs.MergeLaws.{rising_merged, has_key-merged}
 use Rattle.dac_dots.specs.RowLaws.{splits}
-use Rattle.dac_dots.specs.RowSets.{kept_ends, some_length}
-use Rattle.dac_dots.specs.Rows.{Row, reach_from, further_of, has_counter, HasAlso, HasBoth, HasThese, IsKept, IsLastOf, IsWithinRow}
+use Rattle.dac_dots.specs.RowSets.{some_length, some_counter}
+use Rattle.dac_dots.specs.Rows.{Row, row_of, reach_of, reach_from, further_of, has_counter, HasAlso, HasBoth, HasMore, HasSome, IsGreatest, IsKept, IsLastOf, IsOne, IsWithinRow}
+use Rattle.dac_dots.specs.declared.dot.Dot.{Dot}
 use Rattle.dac_dots.specs.declared.dot.Origin.{Origin}
+use Rattle.dac_dots.proofs.RunLemmas.{reaches}
 
 -- ---- what is settled
 
@@ -57,54 +55,127 @@ module _ (o : Origin) (v : ℕ) (ns : List ℕ) where
         ];
   }
 
--- ---- one counter more
+-- ---- the row of counters that rise
 
-one_beyond : (u n m : ℕ) (k : Bool) → u < n → n - u ≡ 1 → ((nat_le 1 m && nat_le m n) || k) ≡ (eq_by_cmp nat_cmp m n || ((nat_le 1 m && nat_le m u) || k))
-one_beyond u n m k p q = grind (arith, nat_tests)
+no_range : (n : ℕ) (k : Bool) → ((nat_le 1 n && nat_le n 0) || k) ≡ k
+no_range n k = grind (arith, nat_tests)
 
-pub next_put : (old : Row) (n : ℕ) → IsKept old → old.upto < n → n - old.upto ≡ 1 → HasAlso old n (settled old.origin n old.further)
-next_put old n is p q = record {
+module _ (o : Origin) (ns : List ℕ) where
+  pub row_counter : (n : ℕ) → has_counter (row_of o ns) n ≡ has_key nat_cmp ns n
+  row_counter n = settled_has o 0 ns n ∙ no_range n (has_key nat_cmp ns n)
+
+  pub row_kept : IsRising nat_cmp ns → IsKept (row_of o ns)
+  row_kept rising = settled_kept o 0 ns rising
+
+  -- the same of a row as it is seen
+  module _ (seen : Row) (view : row_of o ns ≡ seen) where
+    pub seen_counter : (n : ℕ) → has_counter seen n ≡ has_key nat_cmp ns n
+    seen_counter n = ap (λ (r : Row). has_counter r n) (sym view) ∙ row_counter n
+
+    pub seen_also : (k : ℕ) (new : List ℕ) → IsRising nat_cmp new → ((n : ℕ) → has_key nat_cmp new n ≡ (eq_by_cmp nat_cmp n k || has_key nat_cmp ns n)) → HasAlso seen k (row_of o new)
+    seen_also k new rising more = record {
+      origin = ap (λ (r : Row). r.origin) view;
+      exact = λ n. settled_has o 0 new n ∙ no_range n (has_key nat_cmp new n) ∙ more n ∙ ap (λ b. eq_by_cmp nat_cmp n k || b) (sym (seen_counter n));
+      kept = settled_kept o 0 new rising;
+    }
+
+    pub seen_more : (new : List ℕ) → IsRising nat_cmp new → ((n : ℕ) → has_key nat_cmp ns n ≡ true → has_key nat_cmp new n ≡ true) → HasMore seen (row_of o new)
+    seen_more new rising more = record {
+      origin = ap (λ (r : Row). r.origin) view;
+      more = λ n e. settled_has o 0 new n ∙ no_range n (has_key nat_cmp new n) ∙ more n (sym (seen_counter n) ∙ e);
+      kept = settled_kept o 0 new rising;
+    }
+
+    pub seen_same : IsRising nat_cmp ns → HasMore seen seen
+    seen_same rising = record { origin = refl; more = λ n e. e; kept = subst IsKept view (settled_kept o 0 ns rising) }
+
+    pub seen_both : (other : Row) (ms new : List ℕ) → ((n : ℕ) → has_counter other n ≡ has_key nat_cmp ms n) → IsRising nat_cmp new → ((n : ℕ) → has_key nat_cmp new n ≡ (has_key nat_cmp ms n || has_key nat_cmp ns n)) → HasBoth seen other (row_of o new)
+    seen_both other ms new of_other rising both = record {
+      origin = ap (λ (r : Row). r.origin) view;
+      exact = λ n. settled_has o 0 new n ∙ no_range n (has_key nat_cmp new n) ∙ both n ∙ (λ i. sym (of_other n) i || sym (seen_counter n) i);
+      kept = settled_kept o 0 new rising;
+    }
+
+    pub seen_last : (last : ℕ) → IsGreatest ns last → IsLastOf seen last
+    seen_last last is = record {
+      above = λ n e. is.above n (sym (seen_counter n) ∙ e);
+      there = elim is.there [ inl none ↦ inl none | inr at ↦ inr (seen_counter last ∙ at) ];
+    }
+
+    pub seen_within : (other : Row) (ms : List ℕ) → ((n : ℕ) → has_counter other n ≡ has_key nat_cmp ms n) → (b : Bool) → IsTrue b ↔ ((n : ℕ) → has_key nat_cmp ns n ≡ true → has_key nat_cmp ms n ≡ true) → IsTrue b ↔ IsWithinRow seen other
+    seen_within other ms of_other b is = (λ e n h. of_other n ∙ is.0 e n (sym (seen_counter n) ∙ h), λ within. is.1 (λ n h. sym (of_other n) ∙ within n (seen_counter n ∙ h)))
+
+    pub seen_empty : (b : Bool) → IsTrue b ↔ (ns ≡ []) → IsTrue b ↔ (HasSome seen → ⊥)
+    seen_empty b is = (
+      λ e some. let found = some_counter seen some in false≢true (sym (ap (λ l. has_key nat_cmp l found.0) (is.0 e)) ∙ sym (seen_counter found.0) ∙ found.1),
+      λ none. is.1 (no_key ns (λ n h. none (some_of seen n (seen_counter n ∙ h)))),
+    )
+      where
+        no_key : (l : List ℕ) → ((n : ℕ) → has_key nat_cmp l n ≡ true → ⊥) → l ≡ []
+        no_key [] h = refl
+        no_key (x ∷ l) h = absurd (h x (or_left _ _ (is_same x x refl)))
+
+        some_of : (row : Row) (n : ℕ) → has_counter row n ≡ true → HasSome row
+        some_of row n e = elim (or_cases (nat_le 1 n && nat_le n row.upto) (has_key nat_cmp row.further n) e) [
+          | inl inside ↦
+              let parts = and_parts (nat_le 1 n) (nat_le n row.upto) inside in
+              let low : 1 ≤ n = leb-true 1 n parts.0 in
+              let high : n ≤ row.upto = leb-true n row.upto parts.1 in
+              inl (omega arith)
+          | inr past ↦ inr (some_length row.further n past)
+        ]
+
+pub one_row : (d : Dot) (new : List ℕ) → IsRising nat_cmp new → ((n : ℕ) → has_key nat_cmp new n ≡ (eq_by_cmp nat_cmp n d.n || has_key nat_cmp [] n)) → IsOne d (row_of d.origin new)
+one_row d new rising is = record {
   origin = refl;
-  kept = settled_kept old.origin n old.further is.rising;
-  exact = λ m. settled_has old.origin n old.further m ∙ one_beyond old.upto n m (has_key nat_cmp old.further m) p q;
+  exact = λ n. settled_has d.origin 0 new n ∙ no_range n (has_key nat_cmp new n) ∙ is n ∙ or_none (eq_by_cmp nat_cmp n d.n);
+  kept = settled_kept d.origin 0 new rising;
 }
+  where
+    or_none : (b : Bool) → (b || false) ≡ b
+    or_none true = refl
+    or_none false = refl
 
-inside_first : (a b c : Bool) → (a || (b || c)) ≡ (b || (a || c))
-inside_first true true c = refl
-inside_first true false c = refl
-inside_first false b c = refl
+-- ---- the row of 1 to upto and counters that rise from above upto + 1
 
-further_kept : (old : Row) (n : ℕ) (ns : List ℕ) → IsKept old → (n ≡ 0) ⊎ (old.upto + 1 < n) → IsRising nat_cmp ns → ((m : ℕ) → has_key nat_cmp ns m ≡ (eq_by_cmp nat_cmp m n || has_key nat_cmp old.further m))
-    → IsKept (record { origin = old.origin; upto = old.upto; further = ns })
-further_kept old n ns is at rising more = record {
-  rising = rising;
-  apart = λ m e. elim (or_cases (eq_by_cmp nat_cmp m n) (has_key nat_cmp old.further m) (sym (more m) ∙ e)) [
-    | inl tied ↦ subst (λ k. (k ≡ 0) ⊎ (old.upto + 1 < k)) (sym (same m n tied)) at
-    | inr old_one ↦ is.apart m old_one
-  ];
-}
+above_low : (low : ℕ) (ns : List ℕ) (n : ℕ) → is_below_all nat_cmp low ns ≡ true → has_key nat_cmp ns n ≡ true → low < n
+above_low low [] n h e = absurd (false≢true e)
+above_low low (x ∷ ns) n h e = elim (or_cases (eq_by_cmp nat_cmp n x) (has_key nat_cmp ns n) e) [
+  | inl at ↦ let is = same n x at in let p = number_less low x (and_parts _ _ h).0 in omega arith
+  | inr past ↦ above_low low ns n (and_parts _ _ h).1 past
+]
 
-pub further_put : (old : Row) (n : ℕ) (ns : List ℕ) → IsKept old → (n ≡ 0) ⊎ (old.upto + 1 < n) → IsRising nat_cmp ns → ((m : ℕ) → has_key nat_cmp ns m ≡ (eq_by_cmp nat_cmp m n || has_key nat_cmp old.further m)) → HasAlso old n (record { origin = old.origin; upto = old.upto; further = ns })
-further_put old n ns is at rising more = record {
-  origin = refl;
-  exact = λ m. ap (λ b. (nat_le 1 m && nat_le m old.upto) || b) (more m) ∙ inside_first (nat_le 1 m && nat_le m old.upto) (eq_by_cmp nat_cmp m n) (has_key nat_cmp old.further m);
-  kept = further_kept old n ns is at rising more;
-}
+module _ (o : Origin) (upto : ℕ) (further counters : List ℕ) (can : IsRising nat_cmp ((upto + 1) ∷ further)) (rising : IsRising nat_cmp counters) (all : (n : ℕ) → has_key nat_cmp counters n ≡ (has_key nat_cmp further n || (nat_le 1 n && nat_le n upto))) where
+  beyond_upto : is_below_all nat_cmp (upto + 1) further ≡ true
+  beyond_upto = (and_parts (is_below_all nat_cmp (upto + 1) further) (is_rising nat_cmp further) can).0
 
-within_again : (u n m : ℕ) (k : Bool) → 1 ≤ n → n ≤ u → ((nat_le 1 m && nat_le m u) || k) ≡ (eq_by_cmp nat_cmp m n || ((nat_le 1 m && nat_le m u) || k))
-within_again u n m k p q = grind (arith, nat_tests)
+  apart_from : (n : ℕ) → has_key nat_cmp further n ≡ true → upto + 1 < n
+  apart_from n e = above_low (upto + 1) further n beyond_upto e
 
-pub again_put : (old : Row) (n : ℕ) → IsKept old → 1 ≤ n → n ≤ old.upto → HasAlso old n old
-again_put old n is p q = record { origin = refl; kept = is; exact = λ m. within_again old.upto n m (has_key nat_cmp old.further m) p q }
+  goes_to : reach_of counters ≡ upto
+  goes_to = sym (reaches counters rising upto (λ n p q. all n ∙ or_right _ _ (and_from _ _ (le-leb 1 n p) (le-leb n upto q)))
+      (all (upto + 1) ∙ or_from _ _ (below_absent nat_cmp_total (upto + 1) further beyond_upto) (out upto)))
+    where
+      out : (u : ℕ) → (nat_le 1 (u + 1) && nat_le (u + 1) u) ≡ false
+      out u = grind (arith, nat_tests)
 
-not_inside : (u n : ℕ) → (n ≡ 0) ⊎ (u < n) → (nat_le 1 n && nat_le n u) ≡ false
-not_inside u n (inl p) = grind (arith, nat_tests)
-not_inside u n (inr p) = grind (arith, nat_tests)
+  rest_is : further_of upto counters ≡ further
+  rest_is = same_rising nat_cmp_total exact_unsigned (further_of upto counters) further (rising_filter (λ n. nat_lt upto n || nat_eq n 0) counters rising) (and_parts (is_below_all nat_cmp (upto + 1) further) (is_rising nat_cmp further) can).1
+      (λ n. has_key-filter (λ n. nat_lt upto n || nat_eq n 0) counters n ∙ ap (λ b. (nat_lt upto n || nat_eq n 0) && b) (all n) ∙ alone n (has_key nat_cmp further n) (apart_from n))
+    where
+      alone_false : (u n : ℕ) → ((nat_lt u n || nat_eq n 0) && (false || (nat_le 1 n && nat_le n u))) ≡ false
+      alone_false u n = grind (arith, nat_tests)
 
-pub not_there : (old : Row) (n : ℕ) → (n ≡ 0) ⊎ (old.upto < n) → has_key nat_cmp old.further n ≡ false → has_counter old n ≡ false
-not_there old n at e = or_from _ _ (not_inside old.upto n at) e
+      alone_true : (u n : ℕ) → u + 1 < n → ((nat_lt u n || nat_eq n 0) && true) ≡ true
+      alone_true u n p = grind (arith, nat_tests)
 
--- ---- counters put in one by one
+      alone : (n : ℕ) (b : Bool) → (b ≡ true → upto + 1 < n) → ((nat_lt upto n || nat_eq n 0) && (b || (nat_le 1 n && nat_le n upto))) ≡ b
+      alone n true h = alone_true upto n (h refl)
+      alone n false h = alone_false upto n
+
+  pub row_of_parts : row_of o counters ≡ record { origin = o; upto = upto; further = further }
+  row_of_parts =
+      ap (λ u. record { origin = o; upto = u; further = further_of u counters }) goes_to ∙ ap (λ ns. record { origin = o; upto = upto; further = ns }) rest_is
 
 one_of_these : (a b c : Bool) → (a || (b || c)) ≡ ((b || a) || c)
 one_of_these true true c = refl
@@ -112,95 +183,15 @@ one_of_these true false c = refl
 one_of_these false true c = refl
 one_of_these false false c = refl
 
-pub these_more : (old mid new : Row) (ns : List ℕ) (i : ℕ) → i < length ns → HasThese old (take i ns) mid → HasAlso mid (get_or ns i 0) new → HasThese old (take (i + 1) ns) new
-these_more old mid new ns i p these also = record {
-  origin = also.origin ∙ these.origin;
-  kept = also.kept;
-  exact = λ n.
-      let one = eq_by_cmp nat_cmp n (get_or ns i 0) in
-      also.exact n
-      ∙ ap (λ b. one || b) (these.exact n)
-      ∙ one_of_these one (has_key nat_cmp (take i ns) n) (has_counter old n)
-      ∙ ap (λ b. b || has_counter old n) (sym (list_any_more (eq_by_cmp nat_cmp n) ns i 0 p));
-}
+-- a further counter is put in
+pub parts_more : (further : List ℕ) (upto i : ℕ) (old new : List ℕ) → i < length further → ((n : ℕ) → has_key nat_cmp old n ≡ (has_key nat_cmp (take i further) n || (nat_le 1 n && nat_le n upto))) → ((n : ℕ) → has_key nat_cmp new n ≡ (eq_by_cmp nat_cmp n (get_or further i 0) || has_key nat_cmp old n))
+    → (n : ℕ) → has_key nat_cmp new n ≡ (has_key nat_cmp (take (i + 1) further) n || (nat_le 1 n && nat_le n upto))
+parts_more further upto i old new p so_far one n =
+    let inside = nat_le 1 n && nat_le n upto in
+    let here = eq_by_cmp nat_cmp n (get_or further i 0) in
+    one n ∙ ap (λ b. here || b) (so_far n) ∙ one_of_these here (has_key nat_cmp (take i further) n) inside ∙ ap (λ b. b || inside) (sym (list_any_more (eq_by_cmp nat_cmp n) further i 0 p))
 
--- ---- two rows
-
-united : (u v n : ℕ) (j k : Bool) → ((nat_le 1 n && nat_le n (max u v)) || (j || k)) ≡ (((nat_le 1 n && nat_le n v) || k) || ((nat_le 1 n && nat_le n u) || j))
-united u v n j k = grind (arith, nat_tests)
-
-pub both_kept : (a b : Row) → IsKept a → IsKept b → IsKept (settled a.origin (max a.upto b.upto) (merged nat_cmp a.further b.further))
-both_kept a b g h = settled_kept a.origin (max a.upto b.upto) (merged nat_cmp a.further b.further) (rising_merged nat_cmp_total exact_unsigned a.further b.further g.rising h.rising)
-
-pub both_have : (a b : Row) → IsKept a → IsKept b → HasBoth a b (settled a.origin (max a.upto b.upto) (merged nat_cmp a.further b.further))
-both_have a b g h = record {
-  origin = refl;
-  kept = both_kept a b g h;
-  exact = λ n.
-      settled_has a.origin (max a.upto b.upto) (merged nat_cmp a.further b.further) n
-      ∙ ap (λ k. (nat_le 1 n && nat_le n (max a.upto b.upto)) || k) (has_key-merged nat_cmp_total exact_unsigned a.further b.further n)
-      ∙ united a.upto b.upto n (has_key nat_cmp a.further n) (has_key nat_cmp b.further n);
-}
-
-goes_further : (a b : Row) → IsKept b → b.upto < a.upto → IsWithinRow a b → ⊥
-goes_further a b is p within =
-    true≢false (sym (within (b.upto + 1) (or_left _ _ (and_from _ _ (le-leb 1 (b.upto + 1) (omega arith)) (le-leb (b.upto + 1) a.upto (omega arith))))) ∙ kept_ends b is)
-
-all_within : (a b : Row) → a.upto ≤ b.upto → All (λ n. has_counter b n ≡ true) a.further → IsWithinRow a b
-all_within a b p all n e = elim (or_cases (nat_le 1 n && nat_le n a.upto) (has_key nat_cmp a.further n) e) [
-  | inl inside ↦
-      let parts = and_parts (nat_le 1 n) (nat_le n a.upto) inside in
-      let high : n ≤ a.upto = leb-true n a.upto parts.1 in
-      or_left _ _ (and_from _ _ parts.0 (le-leb n b.upto (omega arith)))
-  | inr beyond ↦ each_key nat_cmp_total exact_unsigned (λ n. has_counter b n ≡ true) a.further all n beyond
-]
-
--- the same of two rows as they are kept, a and b, and as they are seen
-module _ (a x b y : Row) (is_x : a ≡ x) (is_y : b ≡ y) where
-  pub seen_further : IsKept b → b.upto < a.upto → IsWithinRow x y → ⊥
-  seen_further is p within = goes_further a b is p (λ n e. ap (λ (r : Row). has_counter r n) is_y ∙ within n (sym (ap (λ (r : Row). has_counter r n) is_x) ∙ e))
-
-  pub seen_within : (items : List ℕ) (i : ℕ) → items ≡ a.further → a.upto ≤ b.upto → length items ≤ i → All (λ n. has_counter y n ≡ true) (take i items) → IsWithinRow x y
-  seen_within items i is p end all n e =
-      sym (ap (λ (r : Row). has_counter r n) is_y)
-      ∙ all_within a b p (All-weaker (λ n. has_counter y n ≡ true) (λ n. has_counter b n ≡ true) (λ n e. ap (λ (r : Row). has_counter r n) is_y ∙ e) a.further (subst (All (λ n. has_counter y n ≡ true)) (take_all i items end ∙ is) all)) n
-      (ap (λ (r : Row). has_counter r n) is_x ∙ e)
-
--- a further counter is one of the row's
-pub seen_at : (a x : Row) → a ≡ x → (items : List ℕ) (i : ℕ) → items ≡ a.further → i < length items → has_counter x (get_or items i 0) ≡ true
-seen_at a x is_x items i is p =
-    let n = get_or items i 0 in
-    sym (ap (λ (r : Row). has_counter r n) is_x)
-    ∙ or_right _ _ (ap (λ (ns : List ℕ). has_key nat_cmp ns n) (sym is) ∙ has_at nat_cmp_total items n i 0 p (is_same n n refl))
-
--- ---- the last one
-
-last_top : (ns : List ℕ) (i d : ℕ) → suc i ≡ length ns → IsRising nat_cmp ns → (m : ℕ) → has_key nat_cmp ns m ≡ true → m ≤ get_or ns i d
-last_top [] i d is rising m e = absurd (false≢true e)
-last_top (x ∷ ns) zero d is rising m e = elim (or_cases (eq_by_cmp nat_cmp m x) (has_key nat_cmp ns m) e) [
-  | inl at ↦ let p = same m x at in omega arith
-  | inr past ↦ absurd (let some = some_length ns m past in omega arith)
-]
-last_top (x ∷ ns) (suc i) d is rising m e = elim (or_cases (eq_by_cmp nat_cmp m x) (has_key nat_cmp ns m) e) [
-  | inl at ↦
-      let p = same m x at in
-      let q = number_less x (get_or ns i d) (ap is_lt (below_at nat_cmp_total x ns i d (and_parts _ _ rising).0 (omega arith))) in
-      omega arith
-  | inr past ↦ last_top ns i d (omega arith) (and_parts _ _ rising).1 m past
-]
-
-pub last_is : (a x : Row) → a ≡ x → IsKept a → (items : List ℕ) (n : ℕ) → items ≡ a.further → 0 < length items → n ≡ get_or items (length items - 1) 0 → IsLastOf x (max a.upto n)
-last_is a x is_x kept items n is some at =
-    let i = length items - 1 in
-    let rising : IsRising nat_cmp items = subst (IsRising nat_cmp) (sym is) kept.rising in
-    let here : has_counter a n ≡ true = or_right _ _ (ap (λ (ns : List ℕ). has_key nat_cmp ns n) (sym is) ∙ has_at nat_cmp_total items n i 0 (omega arith) (is_same n (get_or items i 0) at)) in
-    subst (λ (r : Row). IsLastOf r (max a.upto n)) is_x (record {
-      above = λ m e. elim (or_cases (nat_le 1 m && nat_le m a.upto) (has_key nat_cmp a.further m) e) [
-        | inl inside ↦ let high : m ≤ a.upto = leb-true m a.upto (and_parts (nat_le 1 m) (nat_le m a.upto) inside).1 in omega arith
-        | inr beyond ↦ let top : m ≤ get_or items i 0 = last_top items i 0 (omega arith) rising m (ap (λ (ns : List ℕ). has_key nat_cmp ns m) is ∙ beyond) in omega arith
-      ];
-      there = elim (cases_lt n a.upto) [
-        | inl past ↦ let is_max : max a.upto n ≡ a.upto = omega arith in inr (ap (has_counter a) is_max ∙ or_left _ _ (and_from _ _ (le-leb 1 a.upto (omega arith)) (le-leb a.upto a.upto (omega arith))))
-        | inr within ↦ let is_max : max a.upto n ≡ n = omega arith in inr (ap (has_counter a) is_max ∙ here)
-      ];
-    })
+-- all further counters are in
+pub parts_done : (o : Origin) (upto : ℕ) (further counters : List ℕ) (i : ℕ) → length further ≤ i → IsRising nat_cmp ((upto + 1) ∷ further) → IsRising nat_cmp counters → ((n : ℕ) → has_key nat_cmp counters n ≡ (has_key nat_cmp (take i further) n || (nat_le 1 n && nat_le n upto)))
+    → row_of o counters ≡ record { origin = o; upto = upto; further = further }
+parts_done o upto further counters i end can rising so_far = row_of_parts o upto further counters can rising (λ n. so_far n ∙ ap (λ ns. has_key nat_cmp ns n || (nat_le 1 n && nat_le n upto)) (take_all i further end))

@@ -3,7 +3,7 @@ pub mod Dots
 pub mod InOrder
 pub mod KeyLaws
 pub mod Keys
-pub mod MergeLaws
 pub mod RowLaws
 pub mod RowSets
 pub mod Rows
+pub mod Runs

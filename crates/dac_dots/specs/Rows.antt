@@ -140,12 +140,6 @@ pub record HasBoth (a b new : Row) : Type 0 where
   pub exact : (n : ℕ) → has_counter new n ≡ (has_counter b n || has_counter a n)
   pub kept : IsKept new
 
--- the new row has these counters too
-pub record HasThese (old : Row) (ns : List ℕ) (new : Row) : Type 0 where
-  pub origin : new.origin ≡ old.origin
-  pub exact : (n : ℕ) → has_counter new n ≡ (has_key nat_cmp ns n || has_counter old n)
-  pub kept : IsKept new
-
 -- the row has this counter alone
 pub record IsOne (d : Dot) (row : Row) : Type 0 where
   pub origin : row.origin ≡ d.origin
@@ -156,6 +150,11 @@ pub record IsOne (d : Dot) (row : Row) : Type 0 where
 pub record IsLastOf (row : Row) (last : ℕ) : Type 0 where
   pub above : (n : ℕ) → has_counter row n ≡ true → n ≤ last
   pub there : (last ≡ 0) ⊎ (has_counter row last ≡ true)
+
+-- no counter of the list is greater, and it is one of them, or 0 where there is none
+pub record IsGreatest (counters : List ℕ) (last : ℕ) : Type 0 where
+  pub above : (n : ℕ) → has_key nat_cmp counters n ≡ true → n ≤ last
+  pub there : (last ≡ 0) ⊎ (has_key nat_cmp counters last ≡ true)
 
 -- each counter of the first row is one of the second
 abbrev pub IsWithinRow : Row → Row → Type 0

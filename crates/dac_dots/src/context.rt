@@ -203,24 +203,35 @@ impl Context {
         ensures rising { IfOk result (λ dots. IsRising dot_cmp dots.items) }
         ensures same { IfOk result (λ dots. set.from_list dots.items ≡ self.now) }
     {
-        let mut dots = Vec::new(*self.rows.allocator());
+        let alloc = *self.rows.allocator();
+        let mut dots = Vec::new(alloc);
         for row in &self.rows {
-            row.put_dots(&mut dots)?;
+            row.put_dots(alloc, &mut dots)?;
         }
         Ok(dots)
     }
 
+    /// How many origins have dots.
+    pub fn rows(&self) -> usize
+        ensures { result ≡ length (rows_of self.now) }
+    {
+        self.rows.len()
+    }
+
     /// The row of the `i`-th origin that has dots, by the order of origins: the origin, how far its counters
-    /// go 1, 2, 3, .. without a gap, and the further ones in rising order.
-    pub fn row(&self, i: usize) -> Option<(Origin, u64, &[u64])>
-        ensures value { MatchOption result (length (rows_of self.now) ≤ i) (λ row. slice_get (rows_of self.now) i ≡ Some (record { origin = row.0; upto = row.1; further = row.2.now })) }
+    /// go 1, 2, 3, .. without a gap, and the further ones in rising order. [`NoMemory`] is the only error.
+    pub fn row(&self, i: usize) -> Result<Option<(Origin, u64, Vec<u64>)>, NoMemory>
+        ensures value { IfOk result (λ found. MatchOption found (length (rows_of self.now) ≤ i) (λ row. slice_get (rows_of self.now) i ≡ Some (record { origin = row.0; upto = row.1; further = row.2.items }))) }
         // There are fewer than there are numbers of places.
         ensures few { length (rows_of self.now) < 2 ^ 63 }
         // What these rows are.
         ensures rows { AreRowsOf self.now (rows_of self.now) }
     {
-        let row = self.rows.get(i)?;
-        Some((row.origin, row.upto, &row.further))
+        let Some(row) = self.rows.get(i) else {
+            return Ok(None);
+        };
+        let further = row.further(*self.rows.allocator())?;
+        Ok(Some((row.origin, row.upto(), further)))
     }
 
     /// Whether the origin is above all that have dots.
@@ -260,11 +271,7 @@ impl Context {
             return Ok(false);
         }
         let alloc = *self.rows.allocator();
-        let row = OriginRow {
-            origin,
-            upto,
-            further: Vec::from_slice(alloc, further)?,
-        };
+        let row = OriginRow::of(alloc, origin, upto, further)?;
         self.rows.push(row)?;
         Ok(true)
     }

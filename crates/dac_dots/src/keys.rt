@@ -1,12 +1,10 @@
 //! Keys of maps and sets, and sorted lists of keys.
-ghost use Rattle.std.specs.Prelude.{◌≡◌, ◌||◌, ◌&&◌, IfOk, OnOk, OnErr, false, not};
+ghost use Rattle.std.specs.Prelude.{◌≡◌, ◌||◌, ◌&&◌, OnOk, OnErr, false, not};
 ghost use Rattle.std.specs.Ordering.{eq_by_cmp};
 ghost use Rattle.std.proofs.lemmas.Map.Lookups.{CmpEqualImpliesEq};
-ghost use Rattle.dac_dots.specs.Keys.{IsRising, has_key, merged};
+ghost use Rattle.dac_dots.specs.Keys.{IsRising, has_key};
 
 use dac_base::{AppId, NoMemory, NodeId};
-use std::alloc::Global;
-use std::cmp::Ordering;
 
 /// A type of keys: copied, and ordered so that only equal keys tie. Any type whose order is derived from
 /// numbers qualifies.
@@ -83,33 +81,4 @@ pub fn remove_key<K: MapKey>(keys: &mut Vec<K>, key: K)
     if let Ok(place) = keys.binary_search(&key) {
         keys.remove(place);
     }
-}
-
-/// The keys of both sorted lists without repeats, in one pass: sorted, each once.
-pub fn merge_keys<K: MapKey>(alloc: Global, xs: &[K], ys: &[K]) -> Result<Vec<K>, NoMemory>
-    ensures { IfOk result (λ keys. keys.items ≡ merged K.cmp xs.now ys.now) }
-{
-    let mut keys = Vec::new(alloc);
-    let mut i = 0;
-    let mut j = 0;
-    'both: while i < xs.len() && j < ys.len() {
-        match xs[i].cmp(&ys[j]) {
-            Ordering::Less => {
-                keys.push(xs[i])?;
-                i += 1;
-            }
-            Ordering::Equal => {
-                keys.push(xs[i])?;
-                i += 1;
-                j += 1;
-            }
-            Ordering::Greater => {
-                keys.push(ys[j])?;
-                j += 1;
-            }
-        }
-    }
-    keys.extend_from_slice(&xs[i..])?;
-    keys.extend_from_slice(&ys[j..])?;
-    Ok(keys)
 }

@@ -5,9 +5,9 @@
 //! finite set of dots and nothing of how it is kept, so this crate promises the sets' own laws: what a
 //! set contains, that equal sets are equal values, and which dot of an origin comes next.
 //!
-//! A context is kept by origin: how far the counters go 1, 2, 3, .. without a gap, and the further ones. So
-//! calls cost by the number of origins and of further counters, and not by that of dots; only the list of
-//! all dots does.
+//! A context is kept by origin, as runs of counters that follow one another. So calls cost by the number of
+//! origins and of gaps, and not by that of dots. Only the list of all dots, and that of the further counters
+//! of a row, cost by what they list.
 #![tactic(auto)]
 
 pub use context::Context;
@@ -15,6 +15,7 @@ pub use dot::{Dot, Origin};
 pub use keys::MapKey;
 
 mod context;
+mod counters;
 mod dot;
 pub mod keys;
 mod row;

@@ -2,7 +2,7 @@
 use crate::sample::{dot, heard, origin};
 use dac_base::{AppId, NoMemory};
 use dac_dots::Context;
-use dac_dots::keys::{MapKey, holds_key, insert_key, merge_keys};
+use dac_dots::keys::{MapKey, holds_key, insert_key, remove_key};
 use std::alloc::Global;
 
 /// Whether the next dot of node 0 has this counter, and the context is a vector or not.
@@ -11,8 +11,12 @@ fn goes_on(context: &Context, next: u64, is_vector: bool) -> bool {
 }
 
 /// Whether the context is the one row of node 0 with these counters.
-fn is_row(context: &Context, upto: u64, further: &[u64]) -> bool {
-    context.row(0) == Some((origin(0), upto, further)) && context.row(1).is_none()
+fn is_row(context: &Context, upto: u64, further: &[u64]) -> Result<bool, NoMemory> {
+    let Some(row) = context.row(0)? else {
+        return Ok(false);
+    };
+    let is_own = row.0 == origin(0) && row.1 == upto && row.2.as_slice() == further;
+    Ok(is_own && context.rows() == 1)
 }
 
 /// Whether a context that these counters were put into goes on so, and has this one row.
@@ -25,7 +29,7 @@ fn is_kept(
     further: &[u64],
 ) -> Result<bool, NoMemory> {
     let context = heard(alloc, counters)?;
-    Ok(goes_on(&context, next, is_vector) && is_row(&context, upto, further))
+    Ok(goes_on(&context, next, is_vector) && is_row(&context, upto, further)?)
 }
 
 /// Counters of dots of node 0; the counter that comes next, whether they are a vector, and their row.
@@ -81,17 +85,18 @@ fn rows_are_appended(rt: HostRuntime) {
     assert!(rt; pushed(rt.alloc(), 1, &[2]) == Ok(None));
 }
 
-/// Whether two keys are listed, the greater one first, and three are in the list that goes with others.
-fn are_merged<K: MapKey>(alloc: Global, low: K, high: K, others: &[K]) -> Result<bool, NoMemory> {
+/// Whether two keys are listed, the greater one first, and found, and the lower one is taken out again.
+fn are_listed<K: MapKey>(alloc: Global, low: K, high: K) -> Result<bool, NoMemory> {
     let mut keys = Vec::new(alloc);
     insert_key(&mut keys, high)?;
     insert_key(&mut keys, low)?;
-    let found = holds_key(&keys, low);
-    Ok(found && merge_keys(alloc, &keys, others)?.len() == 3)
+    let found = holds_key(&keys, low) && keys.len() == 2;
+    remove_key(&mut keys, low);
+    Ok(found && !holds_key(&keys, low) && holds_key(&keys, high))
 }
 
 #[test]
-fn keys_are_merged(rt: HostRuntime) {
-    let answer = are_merged(rt.alloc(), AppId(2), AppId(7), &[AppId(2), AppId(5)]);
+fn keys_are_listed(rt: HostRuntime) {
+    let answer = are_listed(rt.alloc(), AppId(2), AppId(7));
     assert!(rt; matches!(answer, Ok(true)));
 }

@@ -1,4 +1,4 @@
-use Rattle.std.proofs.Common.{◌≡◌, length, vec_len, arith, rules, ◌∙◌}
+use Rattle.std.proofs.Common.{◌≡◌, length, arith, rules, ◌∙◌}
 use Rattle.std.proofs.lemmas.Bool.{leb-true}
 use Rattle.dac_dots.proofs.LenLemmas.{rows_within}
 use Rattle.dac_dots.proofs.context.Context.has_at_most.Goals as goal
