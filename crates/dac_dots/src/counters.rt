@@ -1,11 +1,10 @@
 //! Sets of counters, kept as runs of counters that follow one another.
-ghost use Rattle.std.specs.Prelude.{◌≡◌, ◌↔◌, ◌+◌, ◌-◌, ◌^◌, ◌<◌, ◌≤◌, ◌⊎◌, ◌||◌, ◌&&◌, ◌∷◌, [], false, true, length, max, min, nat_le, nat_lt, nat_eq, take, drop, vec_capacity, IfOk, IsTrue, OnErr, OnOk};
+ghost use Rattle.std.specs.Prelude.{◌≡◌, ◌↔◌, ◌+◌, ◌-◌, ◌^◌, ◌<◌, ◌≤◌, ◌⊎◌, ◌||◌, ◌&&◌, ◌∷◌, [], false, true, length, nat_le, nat_lt, take, drop, vec_capacity, IfOk, IsTrue, OnErr, OnOk};
 ghost use Rattle.std.specs.Ordering.{eq_by_cmp, nat_cmp};
 ghost use Rattle.dac_dots.specs.Keys.{IsRising, has_key};
 ghost use Rattle.dac_dots.specs.Rows.{IsGreatest, further_of, reach_of};
 ghost use Rattle.dac_dots.specs.Runs.{AreRuns, any_past, any_run, run_has, joined, absorbed};
 
-use crate::dot::{Dot, Origin};
 use crate::keys::insert_key;
 use dac_base::NoMemory;
 use std::alloc::Global;
