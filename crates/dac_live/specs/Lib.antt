@@ -1,0 +1,4 @@
+pub mod Journals
+pub mod Seats
+pub mod Told
+pub mod laws

@@ -1,0 +1,72 @@
+//! What the calls of a site rest on.
+
+ghost use Rattle.std.specs.Prelude.{◌≡◌, ◌≢◌, true, false, ◌<◌, ◌^◌, length, IfOk, IfErr, Ok, MatchOption};
+ghost use Rattle.dac_live.specs.Journals.{call_of, calls_of, DifferAt};
+ghost use Rattle.dac_live.specs.Told.{Added, AddedRefused};
+
+use crate::faults::LiveFault;
+use crate::journal::Journal;
+use crate::record::{Call, Record};
+use dac_messages::{Event, Reply};
+use std::sync::Wait;
+
+/// Asks the node of a locked journal and adds the record, if any. It answers what a call of the site answers. (Pages
+/// will be published here, for which it may wait.)
+pub fn add_record<R: Wait>(
+    _rt: &R,
+    journal: &mut Journal,
+    seat: u16,
+    event: Event,
+) -> Result<(u64, Reply), LiveFault>
+    ensures opening { journal.new.opening ≡ journal.old.opening }
+    ensures ok { IfOk result (λ r. Added journal.old.records journal.new.records seat event r.0 (Ok r.1)) }
+    ensures err { IfErr result (λ e. AddedRefused e journal.old.records journal.new.records seat event) }
+{
+    if journal.is_full() {
+        return Err(LiveFault::JournalFull);
+    }
+    match journal.ask(seat, event) {
+        Ok((call, Ok(reply))) => Ok((call.place, reply)),
+        Ok((call, Err(why))) => Err(LiveFault::Refused {
+            place: call.place,
+            why,
+        }),
+        Err(_) => Err(LiveFault::NoMemory),
+    }
+}
+
+/// Where the seat's records, with their places and in the journal's order, are not the list of calls: the place of the
+/// first difference.
+pub fn same_calls(records: &[Record], seat: u16, calls: &[Call]) -> Option<u64>
+    requires { length records.now < 2 ^ 32 }
+    ensures { MatchOption result (calls_of seat records.now ≡ calls.now) (λ p. DifferAt p (calls_of seat records.now) calls.now) }
+{
+    let mut next = 0;
+    for i in 0..records.len() {
+        let record = &records[i];
+        if record.seat == seat {
+            let place = i as u64 + 1;
+            if next >= calls.len() {
+                return Some(place);
+            }
+            if !is_record(&calls[next], place, record) {
+                return Some(place.min(calls[next].place));
+            }
+            next += 1;
+        }
+    }
+    if next < calls.len() {
+        return Some(calls[next].place);
+    }
+    None
+}
+
+// Whether the call is this record at this place.
+fn is_record(call: &Call, place: u64, record: &Record) -> bool
+    ensures yes { result ≡ true → call.now ≡ call_of place record.now.event record.now.answer }
+    ensures no { result ≡ false → call.now ≢ call_of place record.now.event record.now.answer }
+{
+    // OPEN: events and answers are compared here once they have `==`.
+    let _ = record;
+    call.place == place
+}

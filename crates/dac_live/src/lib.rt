@@ -1,0 +1,15 @@
+//! A site: one controller under a lock, with a journal of all that was asked of it.
+#![tactic(auto)]
+
+pub use closed::Closed;
+pub use faults::{CloseFault, LiveFault, OpenFault};
+pub use journal::{Journal, MAX_RECORDS};
+pub use record::{Answer, Call, Record};
+pub use site::{Receipt, Seat, Site, SiteBlank, SiteName, blank_site, open_site};
+
+mod closed;
+mod faults;
+mod journal;
+pub mod laws;
+mod record;
+mod site;
