@@ -1,6 +1,6 @@
 //! The journal of a node, with the node.
 
-ghost use Rattle.std.specs.Prelude.{◌≡◌, ◌≤◌, ◌<◌, ◌+◌, ◌++◌, ◌∷◌, [], length, true, false, IfOk, OnErr};
+ghost use Rattle.std.specs.Prelude.{◌≡◌, ◌≢◌, ◌≤◌, ◌<◌, ◌+◌, ◌++◌, ◌∷◌, [], length, true, false, IfOk, OnErr};
 ghost use Rattle.dac_rules.specs.Step.{Steps};
 ghost use Rattle.dac_live.specs.Journals.{call_of, record_of, opening_of};
 
@@ -154,7 +154,19 @@ fn asked(
             let reply = node.apply(change)?;
             Ok((Ok(reply), Ok(second), Ok(third)))
         }
-        Err(Refusal::NoMemory) => Err(NoMemory),
-        Err(why) => Ok((Err(why), Err(why), Err(why))),
+        Err(why) => {
+            if is_no_memory(why) {
+                return Err(NoMemory);
+            }
+            Ok((Err(why), Err(why), Err(why)))
+        }
     }
+}
+
+// Whether memory is wanting, so that nothing was answered.
+fn is_no_memory(why: Refusal) -> bool
+    ensures yes { result ≡ true → why ≡ Refusal.NoMemory }
+    ensures no { result ≡ false → why ≢ Refusal.NoMemory }
+{
+    why == Refusal::NoMemory
 }

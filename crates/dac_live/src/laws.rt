@@ -1,6 +1,6 @@
 //! What the calls of a site rest on.
 
-ghost use Rattle.std.specs.Prelude.{◌≡◌, ◌≢◌, true, false, ◌<◌, ◌^◌, length, IfOk, IfErr, Ok, MatchOption};
+ghost use Rattle.std.specs.Prelude.{◌≡◌, ◌≢◌, true, false, IfOk, IfErr, Ok, MatchOption};
 ghost use Rattle.dac_live.specs.Journals.{call_of, calls_of, DifferAt};
 ghost use Rattle.dac_live.specs.Told.{Added, AddedRefused};
 
@@ -38,7 +38,6 @@ pub fn add_record<R: Wait>(
 /// Where the seat's records, with their places and in the journal's order, are not the list of calls: the place of the
 /// first difference.
 pub fn same_calls(records: &[Record], seat: u16, calls: &[Call]) -> Option<u64>
-    requires { length records.now < 2 ^ 32 }
     ensures { MatchOption result (calls_of seat records.now ≡ calls.now) (λ p. DifferAt p (calls_of seat records.now) calls.now) }
 {
     let mut next = 0;

@@ -1,9 +1,10 @@
 //! A site: a journal under a lock, and the seats of its callers.
 
-ghost use Rattle.std.specs.Prelude.{◌≡◌, ◌+◌, ◌<◌, ◌^◌, [], length, true, Ok, IfOk, IfErr, IfNone, All, sum_by, vec_len};
+ghost use Rattle.std.specs.Prelude.{◌≡◌, ◌+◌, ◌<◌, [], length, true, Ok, IfOk, IfErr, IfNone, All, sum_by, vec_len};
 ghost use Rattle.dac_live.specs.Journals.{calls_of, opening_of};
 ghost use Rattle.dac_live.specs.Told.{Told, ToldRefused};
 ghost use Rattle.dac_live.specs.Seats.{IsOneOf};
+ghost use Rattle.dac_live.specs.Sites.{IsBlankOf};
 
 use crate::closed::Closed;
 use crate::faults::{CloseFault, LiveFault, OpenFault};
@@ -132,9 +133,9 @@ pub struct Site<L: SiteName> {
 /// A site that has no name yet.
 #[derive(Drop)]
 pub struct SiteBlank {
-    pub(crate) blank: Blank,
-    pub(crate) journal: Journal,
-    pub(crate) seats: u16,
+    pub blank: Blank,
+    pub journal: Journal,
+    pub seats: u16,
     alloc: Global,
     pub ghost parts: { blank.parts ≡ seats },
     pub ghost some: { 0 < seats },
@@ -204,7 +205,7 @@ pub fn open_site<L: SiteName, R: Wait>(
     _rt: &R,
     blank: SiteBlank,
 ) -> Result<(Site<L>, Vec<Seat<L>>), NoMemory>
-    requires { (blank.blank.name ≡ L.name) × (blank.blank.parts ≡ L.parts) × (L.seats ≡ L.parts) × (blank.journal.opening ≡ L.opening) }
+    requires { IsBlankOf blank L.name L.parts L.seats L.opening }
     ensures { IfOk result (λ r. (vec_len r.1 ≡ blank.seats) × All (λ s. s.calls.items ≡ []) r.1.items) }
 {
     let SiteBlank {
@@ -224,7 +225,6 @@ pub fn open_site<L: SiteName, R: Wait>(
 
 // The place at which a seat's calls and its records differ.
 fn mismatch<L: SiteName>(records: &[Record], seats: &[Seat<L>]) -> Option<u64>
-    requires { length records.now < 2 ^ 32 }
     ensures { IfNone result (All (λ s. calls_of s.number records.now ≡ s.calls.items) seats.now) }
 {
     for seat in seats {
@@ -249,7 +249,6 @@ fn has_seat<L: SiteName>(seats: &[Seat<L>], number: u16) -> bool
 
 // The place of a record that is none of these seats'.
 fn stranger<L: SiteName>(records: &[Record], seats: &[Seat<L>]) -> Option<u64>
-    requires { length records.now < 2 ^ 32 }
     ensures { IfNone result (All (λ r. IsOneOf r.seat (λ s. s.number) seats.now) records.now) }
 {
     for i in 0..records.len() {
