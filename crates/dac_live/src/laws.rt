@@ -26,11 +26,13 @@ pub fn add_record<R: Wait>(
         return Err(LiveFault::JournalFull);
     }
     match journal.ask(seat, event) {
-        Ok((call, Ok(reply))) => Ok((call.place, reply)),
-        Ok((call, Err(why))) => Err(LiveFault::Refused {
-            place: call.place,
-            why,
-        }),
+        Ok((call, answer)) => match answer {
+            Ok(reply) => Ok((call.place, reply)),
+            Err(why) => Err(LiveFault::Refused {
+                place: call.place,
+                why,
+            }),
+        },
         Err(_) => Err(LiveFault::NoMemory),
     }
 }
@@ -42,13 +44,13 @@ pub fn same_calls(records: &[Record], seat: u16, calls: &[Call]) -> Option<u64>
 {
     let mut next = 0;
     for i in 0..records.len() {
-        let record = &records[i];
-        if record.seat == seat {
+        let one = &records[i];
+        if one.seat == seat {
             let place = i as u64 + 1;
             if next >= calls.len() {
                 return Some(place);
             }
-            if !is_record(&calls[next], place, record) {
+            if !is_record(&calls[next], place, one) {
                 return Some(place.min(calls[next].place));
             }
             next += 1;
@@ -61,11 +63,11 @@ pub fn same_calls(records: &[Record], seat: u16, calls: &[Call]) -> Option<u64>
 }
 
 // Whether the call is this record at this place.
-fn is_record(call: &Call, place: u64, record: &Record) -> bool
-    ensures yes { result ≡ true → call.now ≡ call_of place record.now.event record.now.answer }
-    ensures no { result ≡ false → call.now ≢ call_of place record.now.event record.now.answer }
+fn is_record(call: &Call, place: u64, one: &Record) -> bool
+    ensures yes { result ≡ true → call.now ≡ call_of place one.now.event one.now.answer }
+    ensures no { result ≡ false → call.now ≢ call_of place one.now.event one.now.answer }
 {
     // OPEN: events and answers are compared here once they have `==`.
-    let _ = record;
+    let _ = one;
     call.place == place
 }

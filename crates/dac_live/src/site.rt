@@ -1,6 +1,6 @@
 //! A site: a journal under a lock, and the seats of its callers.
 
-ghost use Rattle.std.specs.Prelude.{◌≡◌, ◌+◌, ◌<◌, [], length, true, Ok, IfOk, IfErr, IfNone, All, sum_by, vec_len};
+ghost use Rattle.std.specs.Prelude.{◌≡◌, ◌+◌, ◌<◌, [], length, true, Ok, IfOk, IfErr, IfSome, IfNone, All, sum_by, vec_len};
 ghost use Rattle.dac_live.specs.Journals.{calls_of, opening_of};
 ghost use Rattle.dac_live.specs.Told.{Told, ToldRefused};
 ghost use Rattle.dac_live.specs.Seats.{IsOneOf};
@@ -139,7 +139,7 @@ pub struct SiteBlank {
     alloc: Global,
     pub ghost parts: { blank.parts ≡ seats },
     pub ghost some: { 0 < seats },
-    ghost empty: { journal.records ≡ [] },
+    ghost empty: { length journal.records ≡ 0 },
 }
 
 /// A node that is off, with an empty journal, for so many seats. There are no readers yet: a site that is to have some
@@ -235,16 +235,17 @@ fn mismatch<L: SiteName>(records: &[Record], seats: &[Seat<L>]) -> Option<u64>
     None
 }
 
-// Whether one of the seats has this number.
-fn has_seat<L: SiteName>(seats: &[Seat<L>], number: u16) -> bool
-    ensures { result ≡ true → IsOneOf number (λ s. s.number) seats.now }
+// Where among the seats the one of this number is.
+fn seat_at<L: SiteName>(seats: &[Seat<L>], number: u16) -> Option<usize>
+    ensures { IfSome result (λ _. IsOneOf number (λ s. s.number) seats.now) }
 {
-    for seat in seats {
-        if seat.number == number {
-            return true;
+    for i in 0..seats.len() {
+        let one = &seats[i];
+        if one.number == number {
+            return Some(i);
         }
     }
-    false
+    None
 }
 
 // The place of a record that is none of these seats'.
@@ -252,8 +253,9 @@ fn stranger<L: SiteName>(records: &[Record], seats: &[Seat<L>]) -> Option<u64>
     ensures { IfNone result (All (λ r. IsOneOf r.seat (λ s. s.number) seats.now) records.now) }
 {
     for i in 0..records.len() {
-        if !has_seat(seats, records[i].seat) {
-            return Some(i as u64 + 1);
+        match seat_at(seats, records[i].seat) {
+            Some(_) => {}
+            None => return Some(i as u64 + 1),
         }
     }
     None
