@@ -50,14 +50,16 @@ pub fn same_calls(records: &[Record], seat: u16, calls: &[Call]) -> Option<u64>
             if next >= calls.len() {
                 return Some(place);
             }
-            if !is_record(&calls[next], place, one) {
-                return Some(place.min(calls[next].place));
+            let wanted = &calls[next];
+            if !is_record(wanted, place, one) {
+                return Some(place.min(wanted.place));
             }
             next += 1;
         }
     }
     if next < calls.len() {
-        return Some(calls[next].place);
+        let wanted = &calls[next];
+        return Some(wanted.place);
     }
     None
 }

@@ -1,43 +1,23 @@
 //! A site: a journal under a lock, and the seats of its callers.
 
 ghost use Rattle.std.specs.Prelude.{◌≡◌, ◌+◌, ◌<◌, [], length, true, Ok, IfOk, IfErr, IfSome, IfNone, All, sum_by, vec_len};
-ghost use Rattle.dac_live.specs.Journals.{calls_of, opening_of};
+ghost use Rattle.dac_live.specs.Journals.{calls_of};
 ghost use Rattle.dac_live.specs.Told.{Told, ToldRefused};
 ghost use Rattle.dac_live.specs.Seats.{IsOneOf};
 ghost use Rattle.dac_live.specs.Sites.{IsBlankOf};
 
+use crate::blank::{SiteBlank, SiteName};
 use crate::closed::Closed;
-use crate::faults::{CloseFault, LiveFault, OpenFault};
+use crate::faults::{CloseFault, LiveFault};
 use crate::journal::Journal;
 use crate::laws::same_calls;
 use crate::record::{Call, Record};
-use dac_base::{NoMemory, NodeId};
-use dac_config::Config;
+use dac_base::NoMemory;
 use dac_messages::{Event, Reply};
 use std::alloc::Global;
-use std::marker::{Brand, PhantomData};
+use std::marker::PhantomData;
 use std::sync::ledger::{Blank, Book, Ledger, Share};
 use std::sync::{Mutex, MutexGuard, Wait};
-
-/// The name of a site. Seats and receipts carry it, so that those of another site are of another type.
-pub trait SiteName: Ledger {
-    ghost use Rattle.std.specs.Prelude.{ℕ};
-    ghost use Rattle.dac_live.specs.Journals.{Opening};
-
-    /// How many seats it has.
-    ghost seats: { ℕ };
-
-    /// Where its journal begins.
-    ghost opening: { Opening };
-}
-
-impl SiteName for Brand {
-    ghost use Rattle.dac_live.specs.Journals.{nowhere};
-
-    ghost seats = { 0 };
-
-    ghost opening = { nowhere };
-}
 
 /// What lies under the lock: the journal, and the sum of the seats' shares.
 #[derive(Drop)]
@@ -128,46 +108,6 @@ pub struct Site<L: SiteName> {
     locked: Mutex<Locked<L>>,
     seats: usize,
     ghost all: { seats ≡ L.seats },
-}
-
-/// A site that has no name yet.
-#[derive(Drop)]
-pub struct SiteBlank {
-    pub blank: Blank,
-    pub journal: Journal,
-    pub seats: u16,
-    alloc: Global,
-    pub ghost parts: { blank.parts ≡ seats },
-    pub ghost some: { 0 < seats },
-    ghost empty: { length journal.records ≡ 0 },
-}
-
-/// A node that is off, with an empty journal, for so many seats. There are no readers yet: a site that is to have some
-/// is refused.
-pub fn blank_site<R: Wait>(
-    _rt: &R,
-    alloc: Global,
-    config: &Config,
-    me: NodeId,
-    last: u32,
-    seats: u16,
-    readers: u16,
-) -> Result<SiteBlank, OpenFault>
-    requires { 0 < seats }
-    ensures ok { IfOk result (λ b. (b.seats ≡ seats) × (b.journal.opening ≡ opening_of config.now me last)) }
-{
-    if readers > 0 {
-        return Err(OpenFault::NoReader);
-    }
-    let Ok(config) = config.copy() else {
-        return Err(OpenFault::NoMemory);
-    };
-    Ok(SiteBlank {
-        blank: Blank::new(u64::from(seats)),
-        journal: Journal::new(alloc, config, me, last),
-        seats,
-        alloc,
-    })
 }
 
 // The book, and a seat for each part.

@@ -1,4 +1,4 @@
-use Rattle.std.proofs.Common.{Ok, sym, subst, refl}
+use Rattle.std.proofs.Common.{Ok, sym, subst}
 use Rattle.dac_messages.specs.declared.reply.Reply.{Reply}
 use Rattle.dac_rules.specs.NodeValue.{NodeValue}
 use Rattle.dac_rules.specs.Step.{Steps}
@@ -14,5 +14,5 @@ returns-in_ok-reply-in-Ok-clause-steps c =
     subst (λ (x : NodeValue × Reply). Steps t c.args.me old c.args.event.now x.0 (Ok x.1)) (λ i. (sym c.in_ok-reply-in-Ok.ensures.new i, sym c.in_ok-reply-in-Ok.ensures.reply i))
     (steps t c.args.me old c.args.event.now (changed old change) change.reply c.in-Ok.ensures.ok)
 
-pub returns-in-Err-clause-steps : goal.returns-in-Err-clause-steps
-returns-in-Err-clause-steps c = answered_steps c.args.config.now c.args.me c.args.node.now c.args.event.now c.in-Err.why c.in-Err.ensures.err (c.is_no_memory.ensures.no c.if-is_no_memory.false)
+pub returns-else-is_no_memory-clause-steps : goal.returns-else-is_no_memory-clause-steps
+returns-else-is_no_memory-clause-steps c = answered_steps c.args.config.now c.args.me c.args.node.now c.args.event.now c.in-Err.why c.in-Err.ensures.err (c.is_no_memory.ensures.no c.if-is_no_memory.false)
