@@ -1,3 +1,4 @@
 pub mod Calls
+pub mod Every
 pub mod Going
 pub mod Seats

@@ -1,12 +1,13 @@
 //! What the calls of a site rest on.
 
-ghost use Rattle.std.specs.Prelude.{◌≡◌, ◌≢◌, true, false, IfOk, IfErr, Ok, MatchOption};
-ghost use Rattle.dac_live.specs.Journals.{call_of, calls_of, DifferAt};
+ghost use Rattle.std.specs.Prelude.{◌≡◌, IfOk, IfErr, Ok, MatchOption};
+ghost use Rattle.dac_live.specs.Journals.{calls_of, DifferAt};
 ghost use Rattle.dac_live.specs.Told.{Added, AddedRefused};
 
 use crate::faults::LiveFault;
 use crate::journal::Journal;
 use crate::record::{Call, Record};
+use crate::same::is_record;
 use dac_messages::{Event, Reply};
 use std::sync::Wait;
 
@@ -62,14 +63,4 @@ pub fn same_calls(records: &[Record], seat: u16, calls: &[Call]) -> Option<u64>
         return Some(wanted.place);
     }
     None
-}
-
-// Whether the call is this record at this place.
-fn is_record(call: &Call, place: u64, one: &Record) -> bool
-    ensures yes { result ≡ true → call.now ≡ call_of place one.now.event one.now.answer }
-    ensures no { result ≡ false → call.now ≢ call_of place one.now.event one.now.answer }
-{
-    // OPEN: events and answers are compared here once they have `==`.
-    let _ = one;
-    call.place == place
 }

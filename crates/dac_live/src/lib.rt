@@ -14,4 +14,5 @@ mod faults;
 mod journal;
 pub mod laws;
 mod record;
+mod same;
 mod site;

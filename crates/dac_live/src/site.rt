@@ -193,7 +193,8 @@ fn stranger<L: SiteName>(records: &[Record], seats: &[Seat<L>]) -> Option<u64>
     ensures { IfNone result (All (λ r. IsOneOf r.seat (λ s. s.number) seats.now) records.now) }
 {
     for i in 0..records.len() {
-        match seat_at(seats, records[i].seat) {
+        let one = &records[i];
+        match seat_at(seats, one.seat) {
             Some(_) => {}
             None => return Some(i as u64 + 1),
         }
