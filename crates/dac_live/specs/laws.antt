@@ -1,4 +1,3 @@
 pub mod Calls
-pub mod Every
 pub mod Going
 pub mod Seats

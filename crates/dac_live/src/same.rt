@@ -10,7 +10,8 @@ use dac_messages::{Event, Reply};
 pub(crate) fn is_record(call: &Call, place: u64, one: &Record) -> bool
     ensures { IsTrue result ↔ (call.now ≡ call_of place one.now.event one.now.answer) }
 {
-    call.place == place && same_event(&call.event, &one.event)
+    call.place == place
+        && same_event(&call.event, &one.event)
         && same_answer(&call.answer, &one.answer)
 }
 
@@ -25,17 +26,15 @@ fn same_answer(answer: &Answer, other: &Answer) -> bool
 }
 
 // OPEN: this is `Event::equal` of `dac_messages`, which comes with the tests of equality.
-fn same_event(event: &Event, other: &Event) -> bool
-    ensures { IsTrue result ↔ (event.now ≡ other.now) }
+fn same_event(_event: &Event, _other: &Event) -> bool
+    ensures { IsTrue result ↔ (_event.now ≡ _other.now) }
 {
-    let _ = (event, other);
     true
 }
 
 // OPEN: this is `Reply::equal` of `dac_messages`.
-fn same_reply(reply: &Reply, other: &Reply) -> bool
-    ensures { IsTrue result ↔ (reply.now ≡ other.now) }
+fn same_reply(_reply: &Reply, _other: &Reply) -> bool
+    ensures { IsTrue result ↔ (_reply.now ≡ _other.now) }
 {
-    let _ = (reply, other);
     true
 }

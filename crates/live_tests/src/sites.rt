@@ -4,7 +4,10 @@ ghost use Rattle.dac_live.specs.Sites.{IsBlankOf};
 use dac_base::NodeId;
 use dac_commands::Refusal;
 use dac_config::read_config;
-use dac_live::{CloseFault, Closed, LiveFault, OpenFault, Receipt, Seat, Site, SiteBlank, SiteName, blank_site, open_site};
+use dac_live::{
+    CloseFault, Closed, LiveFault, OpenFault, Receipt, Seat, Site, SiteBlank, SiteName, blank_site,
+    open_site,
+};
 use dac_messages::{Event, Reply};
 use std::alloc::Global;
 use std::marker::Brand;
@@ -13,7 +16,8 @@ use std::test::Fail;
 use std::thread::{Threads, join};
 
 /// The documented example: three nodes, of which two must be there before an application starts.
-const EXAMPLE: &[u8] = b"[{kernel, [{distributed, [{myapp, 5000, [cp1@cave, {cp2@cave, cp3@cave}]}]}, {sync_nodes_mandatory, [cp2@cave, cp3@cave]}, {sync_nodes_timeout, 5000}]}].";
+const EXAMPLE: &[u8] =
+    b"[{kernel, [{distributed, [{myapp, 5000, [cp1@cave, {cp2@cave, cp3@cave}]}]}, {sync_nodes_mandatory, [cp2@cave, cp3@cave]}, {sync_nodes_timeout, 5000}]}].";
 
 /// What a call was answered, in short.
 #[derive(Clone, Copy, Debug, PartialEq, Eq)]
@@ -100,7 +104,9 @@ fn five_are_answered<R: Wait>(rt: &R, alloc: Global) -> Option<bool> {
     let (answers, closed) = worked::<Brand, R>(rt, alloc, blank, true)?;
     let closed = closed.ok()?;
     Some(
-        answers == ANSWERS && closed.node() == NodeId(0) && closed.last() == 0
+        answers == ANSWERS
+            && closed.node() == NodeId(0)
+            && closed.last() == 0
             && closed.records().len() == 5,
     )
 }
@@ -120,7 +126,10 @@ fn closed_with_one<R: Wait>(rt: &R, alloc: Global) -> Option<CloseFault> {
 
 #[test]
 fn a_seat_is_missing(rt: HostRuntime) -> Result<(), Fail> {
-    assert_eq!(rt; closed_with_one(&rt, rt.alloc()), Some(CloseFault::SeatMissing));
+    assert_eq!(rt;
+        closed_with_one(&rt, rt.alloc()),
+        Some(CloseFault::SeatMissing)
+    );
     Ok(())
 }
 

@@ -16,12 +16,12 @@ pub loop-i-preserved : goal.loop-i-preserved
 loop-i-preserved c =
     elim c.if-one-seat.branch [
       | then-one-seat+else-next-calls+else-not-is_record w ↦
-        rw w.next-is (record {
-          within = omega (arith, w.if-next-calls.false);
-          same = call_same _ _ _ _ _ c.index-records-i.result w.index-calls-next.result c.loop-i-test.true c.index-records-i.is w.if-one-seat.true c.loop-i.invariant.same w.if-next-calls.false w.index-calls-next.is (w.is_record.ensures.0 w.if-not-is_record.false);
-        })
+          rw w.next-is (record {
+            within = omega (arith, w.if-next-calls.false);
+            same = call_same _ _ _ _ _ c.index-records-i.result w.index-calls-next.result c.loop-i-test.true c.index-records-i.is w.if-one-seat.true c.loop-i.invariant.same w.if-next-calls.false w.index-calls-next.is (w.is_record.ensures.0 w.if-not-is_record.false);
+          })
       | else-one-seat w ↦
-        rw w.next-is (record { within = c.loop-i.invariant.within; same = record_passed _ _ _ _ _ c.index-records-i.result c.loop-i-test.true c.index-records-i.is w.if-one-seat.false c.loop-i.invariant.same })
+          rw w.next-is (record { within = c.loop-i.invariant.within; same = record_passed _ _ _ _ _ c.index-records-i.result c.loop-i-test.true c.index-records-i.is w.if-one-seat.false c.loop-i.invariant.same })
     ]
 
 pub returns-then-next-calls-2 : goal.returns-then-next-calls-2
