@@ -1,5 +1,0 @@
-pub mod Journals
-pub mod Seats
-pub mod Sites
-pub mod Told
-pub mod laws
