@@ -1,6 +1,6 @@
 //! What happens at a node.
 
-ghost use Rattle.std.specs.Prelude.{◌≡◌, IfOk};
+ghost use Rattle.std.specs.Prelude.{◌≡◌, ◌↔◌, IfOk, IsTrue};
 
 use crate::message::Message;
 use dac_base::{NoMemory, NodeId};
@@ -36,6 +36,24 @@ pub enum Event {
 }
 
 impl Event {
+    /// Whether the two are one event. It takes no memory.
+    pub fn equal(&self, other: &Self) -> bool
+        ensures { IsTrue result ↔ (self.now ≡ other.now) }
+    {
+        match (self, other) {
+            (Event::Boot { now }, Event::Boot { now: other_now }) => now == other_now,
+            (Event::Crash, Event::Crash) => true,
+            (Event::Command(command), Event::Command(other_command)) => command == other_command,
+            (Event::Tick { now }, Event::Tick { now: other_now }) => now == other_now,
+            (Event::Ship { to }, Event::Ship { to: other_to }) => to == other_to,
+            (Event::Hear(message), Event::Hear(other_message)) => message.equal(other_message),
+            (Event::HearOp(operation), Event::HearOp(other_operation)) => {
+                operation.equal(other_operation)
+            }
+            _ => false,
+        }
+    }
+
     /// An equal event.
     pub fn copy(&self) -> Result<Self, NoMemory>
         ensures { IfOk result (λ event. event ≡ self.now) }

@@ -4,6 +4,7 @@
 //! acknowledgement, or nothing; and it acknowledges what the sender got of the receiver. An [`Event`] is anything that
 //! happens at a node: a boot, a crash, a command, a shipment, a message or a single operation that comes. A [`Reply`] is
 //! the answer to an event that is accepted. Nothing here does anything: each value can be copied, and a copy is equal.
+//! Two values can be compared, and the answer is true exactly where they are equal.
 #![tactic(auto)]
 
 pub use event::Event;

@@ -1,5 +1,5 @@
 //! Lists in replies.
-ghost use Rattle.std.specs.Prelude.{◌≡◌, IfOk};
+ghost use Rattle.std.specs.Prelude.{◌≡◌, ◌↔◌, IfOk, IsTrue};
 
 use dac_base::{AppId, NoMemory};
 use dac_state::Op;
@@ -55,6 +55,21 @@ impl OpList {
         self.operations.as_slice()
     }
 
+    /// Whether the two are one list. It takes no memory.
+    pub fn equal(&self, other: &Self) -> bool
+        ensures { IsTrue result ↔ (self.now ≡ other.now) }
+    {
+        if self.operations.len() != other.operations.len() {
+            return false;
+        }
+        for i in 0..self.operations.len() {
+            if !self.operations[i].equal(&other.operations[i]) {
+                return false;
+            }
+        }
+        true
+    }
+
     /// An equal list.
     pub fn copy(&self) -> Result<Self, NoMemory>
         ensures { IfOk result (λ copied. copied ≡ self.now) }
@@ -104,6 +119,13 @@ impl AppList {
         ensures { result.now ≡ self.now }
     {
         self.apps.as_slice()
+    }
+
+    /// Whether the two are one list. It takes no memory.
+    pub fn equal(&self, other: &Self) -> bool
+        ensures { IsTrue result ↔ (self.now ≡ other.now) }
+    {
+        self.apps.as_slice() == other.apps.as_slice()
     }
 
     /// An equal list.

@@ -1,6 +1,6 @@
 //! What one controller ships to another.
 
-ghost use Rattle.std.specs.Prelude.{◌≡◌, IfOk};
+ghost use Rattle.std.specs.Prelude.{◌≡◌, ◌↔◌, IfOk, IsTrue};
 
 use dac_base::{NoMemory, NodeId};
 use dac_dots::Origin;
@@ -29,6 +29,18 @@ impl Body {
         match self {
             Body::Whole(state) | Body::Interval(state) => Some(state),
             Body::Nothing => None,
+        }
+    }
+
+    /// Whether the two are one body. It takes no memory.
+    pub fn equal(&self, other: &Self) -> bool
+        ensures { IsTrue result ↔ (self.now ≡ other.now) }
+    {
+        match (self, other) {
+            (Body::Whole(state), Body::Whole(other_state))
+            | (Body::Interval(state), Body::Interval(other_state)) => state.equal(other_state),
+            (Body::Nothing, Body::Nothing) => true,
+            _ => false,
         }
     }
 
@@ -70,6 +82,18 @@ pub struct Message {
 }
 
 impl Message {
+    /// Whether the two are one message. It takes no memory.
+    pub fn equal(&self, other: &Self) -> bool
+        ensures { IsTrue result ↔ (self.now ≡ other.now) }
+    {
+        self.from == other.from
+            && self.to == other.to
+            && self.only == other.only
+            && self.up_to == other.up_to
+            && self.ack == other.ack
+            && self.body.equal(&other.body)
+    }
+
     /// An equal message.
     pub fn copy(&self) -> Result<Self, NoMemory>
         ensures { IfOk result (λ message. message ≡ self.now) }

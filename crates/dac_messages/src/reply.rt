@@ -1,6 +1,6 @@
 //! What a node answers.
 
-ghost use Rattle.std.specs.Prelude.{◌≡◌, IfOk};
+ghost use Rattle.std.specs.Prelude.{◌≡◌, ◌↔◌, IfOk, IsTrue};
 
 use crate::lists::{AppList, OpList};
 use crate::message::Message;
@@ -34,6 +34,33 @@ pub enum Reply {
 }
 
 impl Reply {
+    /// Whether the two are one reply. It takes no memory.
+    pub fn equal(&self, other: &Self) -> bool
+        ensures { IsTrue result ↔ (self.now ≡ other.now) }
+    {
+        match (self, other) {
+            (Reply::Booted(operation), Reply::Booted(other_operation))
+            | (Reply::Issued(operation), Reply::Issued(other_operation)) => {
+                operation.equal(other_operation)
+            }
+            (Reply::Crashed, Reply::Crashed)
+            | (Reply::Held, Reply::Held)
+            | (Reply::GaveUp, Reply::GaveUp) => true,
+            (
+                Reply::Ticked { ops, passed },
+                Reply::Ticked {
+                    ops: other_ops,
+                    passed: other_passed,
+                },
+            ) => ops.equal(other_ops) && passed.equal(other_passed),
+            (Reply::Shipped(message), Reply::Shipped(other_message)) => {
+                message.equal(other_message)
+            }
+            (Reply::Heard(fresh), Reply::Heard(other_fresh)) => fresh == other_fresh,
+            _ => false,
+        }
+    }
+
     /// An equal reply.
     pub fn copy(&self) -> Result<Self, NoMemory>
         ensures { IfOk result (λ reply. reply ≡ self.now) }

@@ -1,5 +1,5 @@
 //! Acts.
-ghost use Rattle.std.specs.Prelude.{◌≡◌, IfOk};
+ghost use Rattle.std.specs.Prelude.{◌≡◌, ◌↔◌, IfOk, IsTrue};
 ghost use Rattle.dac_operations.specs.Operations.{is_up, over_list};
 
 use dac_base::{AppId, NoMemory, NodeId};
@@ -79,6 +79,59 @@ impl Act {
     {
         match self {
             Act::Up => true,
+            _ => false,
+        }
+    }
+
+    /// Whether the two are one act. It takes no memory.
+    pub fn equal(&self, other: &Self) -> bool
+        ensures { IsTrue result ↔ (self.now ≡ other.now) }
+    {
+        match (self, other) {
+            (Act::Up, Act::Up) => true,
+            (
+                Act::Down { node, inc },
+                Act::Down {
+                    node: other_node,
+                    inc: other_inc,
+                },
+            ) => node == other_node && inc == other_inc,
+            (
+                Act::Permit { key, value, over },
+                Act::Permit {
+                    key: other_key,
+                    value: other_value,
+                    over: other_over,
+                },
+            ) => key == other_key && value == other_value && over.equal(other_over),
+            (
+                Act::Start { key, over },
+                Act::Start {
+                    key: other_key,
+                    over: other_over,
+                },
+            ) => key == other_key && over.equal(other_over),
+            (
+                Act::Stop { key, over },
+                Act::Stop {
+                    key: other_key,
+                    over: other_over,
+                },
+            ) => key == other_key && over.equal(other_over),
+            (
+                Act::Claim {
+                    app,
+                    term,
+                    how,
+                    from,
+                },
+                Act::Claim {
+                    app: other_app,
+                    term: other_term,
+                    how: other_how,
+                    from: other_from,
+                },
+            ) => app == other_app && term == other_term && how == other_how && from == other_from,
             _ => false,
         }
     }

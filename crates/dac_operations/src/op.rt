@@ -1,5 +1,5 @@
 //! Operations.
-ghost use Rattle.std.specs.Prelude.{◌≡◌, IfOk, MatchOption, Ok, Err};
+ghost use Rattle.std.specs.Prelude.{◌≡◌, ◌↔◌, IfOk, IsTrue, MatchOption, Ok, Err};
 ghost use Rattle.std.specs.Ordering.{is_lt};
 ghost use Rattle.dac_dots.specs.Dots.{dot_cmp};
 ghost use Rattle.dac_dots.specs.Keys.{is_rising, has_key};
@@ -84,6 +84,13 @@ impl Op {
         ensures { result.now ≡ self.now.act }
     {
         &self.act
+    }
+
+    /// Whether the two are one operation. It takes no memory.
+    pub fn equal(&self, other: &Self) -> bool
+        ensures { IsTrue result ↔ (self.now ≡ other.now) }
+    {
+        self.dot == other.dot && self.act.equal(&other.act)
     }
 
     /// An equal operation. [`NoMemory`] is the only error.

@@ -3,3 +3,4 @@ pub mod Naming
 pub mod WishStoring
 pub mod PermitStoring
 pub mod DeltaStoring
+pub mod SameDots

@@ -1,5 +1,5 @@
 //! Lists of dots.
-ghost use Rattle.std.specs.Prelude.{◌≡◌, IfOk};
+ghost use Rattle.std.specs.Prelude.{◌≡◌, ◌↔◌, IfOk, IsTrue};
 
 use dac_base::NoMemory;
 use dac_dots::Dot;
@@ -48,6 +48,13 @@ impl DotList {
         ensures { result.now ≡ self.now }
     {
         self.dots.as_slice()
+    }
+
+    /// Whether the two are one list. It takes no memory.
+    pub fn equal(&self, other: &Self) -> bool
+        ensures { IsTrue result ↔ (self.now ≡ other.now) }
+    {
+        self.dots.as_slice() == other.dots.as_slice()
     }
 
     /// An equal list.

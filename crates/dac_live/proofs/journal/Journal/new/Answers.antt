@@ -1,0 +1,14 @@
+use Rattle.std.proofs.Common.{◌≡◌, List, length, refl, sym, ap, subst, arith}
+use Rattle.dac_rules.specs.NodeValue.{NodeValue}
+use Rattle.dac_worlds.specs.Histories.{off_after}
+use Rattle.dac_live.specs.declared.record.Record.{Record}
+use Rattle.dac_live.specs.Journals.{EndsAt, opening_of}
+use Rattle.dac_live.proofs.journal.Journal.new.Goals as goal
+
+pub invariant_of-result : goal.invariant_of-result
+invariant_of-result c =
+    let o = opening_of c.args.config c.args.me c.args.last in
+    let none : length c.new.result.items ≡ 0 = ap length c.new.ensures.items in (
+      subst (λ (x : List Record × NodeValue). EndsAt o x.0 x.1) (λ i. (sym c.new.ensures.items i, sym c.off.ensures.value i)) (record { final = off_after c.args.last; history = refl; shows = refl }),
+      omega (arith, none),
+    )

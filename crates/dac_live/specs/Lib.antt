@@ -1,0 +1,5 @@
+pub mod Journals
+pub mod Seats
+pub mod Sites
+pub mod Told
+pub mod laws

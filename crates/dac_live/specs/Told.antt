@@ -1,0 +1,29 @@
+-- What a call did, by its answer.
+use Rattle.std.specs.Prelude.{◌≡◌, ℕ, ◌+◌, List, [], ◌∷◌, ◌++◌, length, Result, Err}
+use Rattle.dac_messages.specs.declared.event.Event.{Event}
+use Rattle.dac_messages.specs.declared.reply.Reply.{Reply}
+use Rattle.dac_commands.specs.declared.refusal.Refusal.{Refusal}
+use Rattle.dac_live.specs.declared.record.Record.{Record}
+use Rattle.dac_live.specs.declared.record.Call.{Call}
+use Rattle.dac_live.specs.declared.faults.LiveFault.{LiveFault}
+use Rattle.dac_live.specs.declared.faults.LiveFault.TheVariants.{JournalFull, Refused, NoMemory}
+use Rattle.dac_live.specs.Journals.{record_of, call_of}
+
+-- the record of this answer, at this place, is all that was added
+abbrev pub Added : List Record → List Record → ℕ → Event → ℕ → Result Reply Refusal → Type 0
+Added old new seat event place answer = (new ≡ old ++ record_of seat event answer ∷ []) × (place ≡ length old + 1)
+
+-- a refusal of the node is a record too
+abbrev pub AddedRefused : LiveFault → List Record → List Record → ℕ → Event → Type 0
+AddedRefused JournalFull old new seat event = (new ≡ old) × (length old ≡ 65536)
+AddedRefused (Refused place why) old new seat event = Added old new seat event place (Err why)
+AddedRefused NoMemory old new seat event = new ≡ old
+
+-- the same of a seat's calls
+abbrev pub Told : List Call → List Call → ℕ → Event → Result Reply Refusal → Type 0
+Told old new place event answer = new ≡ old ++ call_of place event answer ∷ []
+
+abbrev pub ToldRefused : LiveFault → List Call → List Call → Event → Type 0
+ToldRefused JournalFull old new event = new ≡ old
+ToldRefused (Refused place why) old new event = Told old new place event (Err why)
+ToldRefused NoMemory old new event = new ≡ old

@@ -1,0 +1,31 @@
+-- A journal goes on by one record.
+use Rattle.std.proofs.Common.{◌≡◌, ℕ, List, [], ◌∷◌, ◌++◌, map, Result, refl, sym, ap, ◌∙◌, subst}
+use Rattle.dac_messages.specs.declared.reply.Reply.{Reply}
+use Rattle.dac_messages.specs.declared.event.Event.{Event}
+use Rattle.dac_commands.specs.declared.refusal.Refusal.{Refusal}
+use Rattle.dac_rules.specs.NodeValue.{NodeValue}
+use Rattle.dac_rules.specs.Step.{Steps, model_step}
+use Rattle.dac_worlds.specs.Histories.{Entry, IsHistory, off_after}
+use Rattle.dac_worlds.specs.laws.Histories.{IsHistory-push}
+use Rattle.dac_live.specs.declared.record.Record.{Record}
+use Rattle.dac_live.specs.Journals.{Opening, entry_of, record_of, EndsAt, AreHistory}
+
+entries_push : (rs : List Record) (r : Record) → map entry_of (rs ++ r ∷ []) ≡ map entry_of rs ++ entry_of r ∷ []
+entries_push [] r = refl
+entries_push (x ∷ rs) r = ap (λ l. entry_of x ∷ l) (entries_push rs r)
+
+-- a step of the program's node, recorded
+pub goes_on : (o : Opening) (rs : List Record) (old new : NodeValue) (seat : ℕ) (event : Event) (answer : Result Reply Refusal) → EndsAt o rs old → Steps o.table o.node old event new answer
+    → EndsAt o (rs ++ record_of seat event answer ∷ []) new
+goes_on o rs old new seat event answer ends step =
+    let by = step.by ends.final ends.shows in
+    record {
+      final = (model_step o.table o.node ends.final event).node;
+      history = subst (λ (es : List Entry). IsHistory o.table o.node (off_after o.last) es (model_step o.table o.node ends.final event).node) (sym (entries_push rs (record_of seat event answer)))
+          (IsHistory-push o.table o.node (off_after o.last) (map entry_of rs) ends.final (entry_of (record_of seat event answer)) ends.history by.1);
+      shows = by.0;
+    }
+
+-- where a journal ends it is a history
+pub is_history : (o : Opening) (rs : List Record) (v : NodeValue) → EndsAt o rs v → AreHistory o rs
+is_history o rs v ends = record { final = ends.final; history = ends.history }

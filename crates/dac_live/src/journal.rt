@@ -1,0 +1,172 @@
+//! The journal of a node, with the node.
+
+ghost use Rattle.std.specs.Prelude.{◌≡◌, ◌≢◌, ◌≤◌, ◌<◌, ◌+◌, ◌++◌, ◌∷◌, [], length, true, false, IfOk, OnErr};
+ghost use Rattle.dac_rules.specs.Step.{Steps};
+ghost use Rattle.dac_live.specs.Journals.{call_of, record_of, opening_of};
+
+use crate::closed::Closed;
+use crate::record::{Answer, Call, Record};
+use dac_base::{NoMemory, NodeId};
+use dac_commands::Refusal;
+use dac_config::Config;
+use dac_messages::Event;
+use dac_node::Node;
+use std::alloc::Global;
+use std::marker::Model;
+
+/// The most records of a journal.
+pub const MAX_RECORDS: usize = 65536;
+
+/// A node and all that happened at it. The records are a history of the node, and it stands for where that ends.
+pub struct Journal {
+    config: Config,
+    me: NodeId,
+    last: u32,
+    records: Vec<Record>,
+    node: Node,
+}
+
+/// Written out: a drop is one call for a proof, wherever it stands.
+impl Drop for Journal {
+    fn drop(self) {
+        let Journal {
+            config: _config,
+            me: _me,
+            last: _last,
+            records: _records,
+            node: _node,
+        } = self;
+    }
+}
+
+impl Model for Journal {
+    ghost use Rattle.std.specs.Prelude.{length, ◌≤◌};
+    ghost use Rattle.dac_config.specs.contracts.config.Config as config_row;
+    ghost use Rattle.dac_live.specs.contracts.record.Record as record_row;
+    ghost use Rattle.dac_live.specs.Journals.{JournalValue, coded_journal, EndsAt, opening_of};
+
+    ghost Value = { JournalValue };
+
+    ghost coded = { coded_journal config_row.the_row.coded record_row.the_row.coded };
+
+    ghost view = { λ j. record { opening = opening_of j.config j.me j.last; records = j.records.items } };
+
+    ghost invariant = { λ j. EndsAt (opening_of j.config j.me j.last) j.records.items j.node × (length j.records.items ≤ 65536) };
+}
+
+impl Journal {
+    /// A journal with no records, of a node that is off.
+    pub fn new(alloc: Global, config: Config, me: NodeId, last: u32) -> Self
+        ensures opening { result.opening ≡ opening_of config me last }
+        ensures records { result.records ≡ [] }
+    {
+        Journal {
+            config,
+            me,
+            last,
+            records: Vec::new(alloc),
+            node: Node::off(alloc, last),
+        }
+    }
+
+    /// Whether no record more fits.
+    pub(crate) fn is_full(&self) -> bool
+        ensures full { result ≡ true → length self.now.records ≡ 65536 }
+        ensures room { result ≡ false → length self.now.records < 65536 }
+    {
+        self.records.len() >= MAX_RECORDS
+    }
+
+    /// The records, the oldest first.
+    pub fn records(&self) -> &[Record]
+        ensures { result.now ≡ self.now.records }
+    {
+        self.records.as_slice()
+    }
+
+    /// The journal, when nothing more is asked.
+    pub(crate) fn close(self) -> Closed
+        ensures { result ≡ self }
+    {
+        let Journal {
+            config,
+            me,
+            last,
+            records,
+            node: _,
+        } = self;
+        Closed {
+            config,
+            node: me,
+            last,
+            records,
+        }
+    }
+
+    /// Asks the node, and adds the record of it. It gives what a seat keeps of it, and the answer.
+    pub(crate) fn ask(&mut self, seat: u16, event: Event) -> Result<(Call, Answer), NoMemory>
+        requires { length self.old.records < 65536 }
+        ensures opening { self.new.opening ≡ self.old.opening }
+        ensures ok { IfOk result (λ r. self.new.records ≡ self.old.records ++ record_of seat event r.1 ∷ []) }
+        ensures call { IfOk result (λ r. r.0 ≡ call_of (length self.old.records + 1) event r.1) }
+        ensures unchanged { OnErr result (self.new ≡ self.old) }
+    {
+        let Journal {
+            config,
+            me,
+            last: _,
+            records,
+            node,
+        } = self;
+        records.reserve(1)?;
+        let kept = event.copy()?;
+        let place = records.len() as u64 + 1;
+        let (answer, second, third) = asked(config, *me, node, &event)?;
+        records.push_reserved(Record {
+            seat,
+            event,
+            answer,
+        });
+        let call = Call {
+            place,
+            event: kept,
+            answer: second,
+        };
+        Ok((call, third))
+    }
+}
+
+// The answer of the node, three times. At `Err` it is as before.
+fn asked(
+    config: &Config,
+    me: NodeId,
+    node: &mut Node,
+    event: &Event,
+) -> Result<(Answer, Answer, Answer), NoMemory>
+    ensures steps { IfOk result (λ a. Steps config.now me node.old event.now node.new a.0) }
+    ensures same { IfOk result (λ a. (a.1 ≡ a.0) × (a.2 ≡ a.0)) }
+    ensures unchanged { OnErr result (node.new ≡ node.old) }
+{
+    match node.prepare(config, me, event) {
+        Ok(change) => {
+            let second = change.reply().copy()?;
+            let third = change.reply().copy()?;
+            let reply = node.apply(change)?;
+            Ok((Ok(reply), Ok(second), Ok(third)))
+        }
+        Err(why) => {
+            if is_no_memory(why) {
+                return Err(NoMemory);
+            }
+            Ok((Err(why), Err(why), Err(why)))
+        }
+    }
+}
+
+// Whether memory is wanting, so that nothing was answered.
+fn is_no_memory(why: Refusal) -> bool
+    ensures yes { result ≡ true → why ≡ Refusal.NoMemory }
+    ensures no { result ≡ false → why ≢ Refusal.NoMemory }
+{
+    why == Refusal::NoMemory
+}

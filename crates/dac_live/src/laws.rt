@@ -1,0 +1,66 @@
+//! What the calls of a site rest on.
+
+ghost use Rattle.std.specs.Prelude.{◌≡◌, IfOk, IfErr, Ok, MatchOption};
+ghost use Rattle.dac_live.specs.Journals.{calls_of, DifferAt};
+ghost use Rattle.dac_live.specs.Told.{Added, AddedRefused};
+
+use crate::faults::LiveFault;
+use crate::journal::Journal;
+use crate::record::{Call, Record};
+use crate::same::is_record;
+use dac_messages::{Event, Reply};
+use std::sync::Wait;
+
+/// Asks the node of a locked journal and adds the record, if any. It answers what a call of the site answers. (Pages
+/// will be published here, for which it may wait.)
+pub fn add_record<R: Wait>(
+    _rt: &R,
+    journal: &mut Journal,
+    seat: u16,
+    event: Event,
+) -> Result<(u64, Reply), LiveFault>
+    ensures opening { journal.new.opening ≡ journal.old.opening }
+    ensures ok { IfOk result (λ r. Added journal.old.records journal.new.records seat event r.0 (Ok r.1)) }
+    ensures err { IfErr result (λ e. AddedRefused e journal.old.records journal.new.records seat event) }
+{
+    if journal.is_full() {
+        return Err(LiveFault::JournalFull);
+    }
+    match journal.ask(seat, event) {
+        Ok((call, answer)) => match answer {
+            Ok(reply) => Ok((call.place, reply)),
+            Err(why) => Err(LiveFault::Refused {
+                place: call.place,
+                why,
+            }),
+        },
+        Err(_) => Err(LiveFault::NoMemory),
+    }
+}
+
+/// Where the seat's records, with their places and in the journal's order, are not the list of calls: the place of the
+/// first difference.
+pub fn same_calls(records: &[Record], seat: u16, calls: &[Call]) -> Option<u64>
+    ensures { MatchOption result (calls_of seat records.now ≡ calls.now) (λ p. DifferAt p (calls_of seat records.now) calls.now) }
+{
+    let mut next = 0;
+    for i in 0..records.len() {
+        let one = &records[i];
+        if one.seat == seat {
+            let place = i as u64 + 1;
+            if next >= calls.len() {
+                return Some(place);
+            }
+            let wanted = &calls[next];
+            if !is_record(wanted, place, one) {
+                return Some(place.min(wanted.place));
+            }
+            next += 1;
+        }
+    }
+    if next < calls.len() {
+        let wanted = &calls[next];
+        return Some(wanted.place);
+    }
+    None
+}

@@ -1,0 +1,18 @@
+//! A site: one controller under a lock, with a journal of all that was asked of it.
+#![tactic(auto)]
+
+pub use blank::{SiteBlank, SiteName, blank_site};
+pub use closed::Closed;
+pub use faults::{CloseFault, LiveFault, OpenFault};
+pub use journal::{Journal, MAX_RECORDS};
+pub use record::{Answer, Call, Record};
+pub use site::{Receipt, Seat, Site, open_site};
+
+mod blank;
+mod closed;
+mod faults;
+mod journal;
+pub mod laws;
+mod record;
+mod same;
+mod site;

@@ -1,0 +1,267 @@
+//! A site: a journal under a lock, and the seats of its callers.
+
+ghost use Rattle.std.specs.Prelude.{◌≡◌, ◌+◌, ◌<◌, [], length, true, Ok, IfOk, IfErr, IfSome, IfNone, All, sum_by, vec_len};
+ghost use Rattle.dac_live.specs.Journals.{calls_of};
+ghost use Rattle.dac_live.specs.Told.{Told, ToldRefused};
+ghost use Rattle.dac_live.specs.Seats.{IsOneOf};
+ghost use Rattle.dac_live.specs.Sites.{IsBlankOf};
+
+use crate::blank::{SiteBlank, SiteName};
+use crate::closed::Closed;
+use crate::faults::{CloseFault, LiveFault};
+use crate::journal::Journal;
+use crate::laws::same_calls;
+use crate::record::{Call, Record};
+use dac_base::NoMemory;
+use dac_messages::{Event, Reply};
+use std::alloc::Global;
+use std::marker::PhantomData;
+use std::sync::ledger::{Blank, Book, Ledger, Share};
+use std::sync::{Mutex, MutexGuard, Wait};
+
+/// What lies under the lock: the journal, and the sum of the seats' shares.
+#[derive(Drop)]
+pub struct Locked<L: SiteName> {
+    journal: Journal,
+    book: Book<L>,
+    /// The journal has as many records as the seats have calls.
+    ghost counted: { length journal.records ≡ book.total },
+    /// It begins where the site's name says.
+    ghost begins: { journal.opening ≡ L.opening },
+}
+
+/// A caller's seat, with the calls that it made.
+#[derive(Drop)]
+pub struct Seat<L: SiteName> {
+    pub(crate) number: u16,
+    pub(crate) calls: Vec<Call>,
+    share: Share<L>,
+    ghost one: { share.parts ≡ 1 },
+    ghost counted: { share.amount ≡ length calls.items },
+}
+
+impl<L: SiteName> Seat<L> {
+    /// Its number, from 1.
+    pub fn number(&self) -> u16
+        ensures { result ≡ self.now.number }
+    {
+        self.number
+    }
+
+    /// Its calls, the oldest first.
+    pub fn calls(&self) -> &[Call]
+        ensures { result.now ≡ self.now.calls.items }
+    {
+        self.calls.as_slice()
+    }
+}
+
+/// What a call was answered.
+#[derive(Drop)]
+pub struct Receipt<L: SiteName> {
+    /// The place of its record in the journal, from 1.
+    pub place: u64,
+    /// The node's reply.
+    pub reply: Reply,
+    of: PhantomData<L>,
+}
+
+impl<L: SiteName> Locked<L> {
+    /// A call of this seat.
+    fn call(&mut self, seat: &mut Seat<L>, event: Event) -> Result<Receipt<L>, LiveFault>
+        ensures number { seat.new.number ≡ seat.old.number }
+        ensures ok { IfOk result (λ r. Told seat.old.calls.items seat.new.calls.items r.place event (Ok r.reply)) }
+        ensures err { IfErr result (λ e. ToldRefused e seat.old.calls.items seat.new.calls.items event) }
+    {
+        if self.journal.is_full() {
+            return Err(LiveFault::JournalFull);
+        }
+        if seat.calls.reserve(1).is_err() {
+            return Err(LiveFault::NoMemory);
+        }
+        let Locked { journal, book } = self;
+        let Seat {
+            number,
+            calls,
+            share,
+        } = seat;
+        let Ok((call, answer)) = journal.ask(*number, event) else {
+            return Err(LiveFault::NoMemory);
+        };
+        let place = call.place;
+        book.add(share, 1);
+        calls.push_reserved(call);
+        match answer {
+            Ok(reply) => Ok(Receipt {
+                place,
+                reply,
+                of: PhantomData,
+            }),
+            Err(why) => Err(LiveFault::Refused { place, why }),
+        }
+    }
+}
+
+/// A site. Any thread may call it.
+#[derive(Drop)]
+pub struct Site<L: SiteName> {
+    locked: Mutex<Locked<L>>,
+    seats: usize,
+    ghost all: { seats ≡ L.seats },
+}
+
+// The book, and a seat for each part.
+fn deal<L: SiteName>(
+    alloc: Global,
+    blank: Blank,
+    count: u16,
+) -> Result<(Book<L>, Vec<Seat<L>>), NoMemory>
+    requires { (blank.name ≡ L.name) × (blank.parts ≡ L.parts) × (blank.parts ≡ count) }
+    ensures { IfOk result (λ r. (r.0.total ≡ 0) × (vec_len r.1 ≡ count) × All (λ s. s.calls.items ≡ []) r.1.items) }
+{
+    let (book, mut rest) = blank.open::<L>();
+    let mut seats = Vec::new(alloc);
+    for number in 0..count {
+        let share = rest.split_off(1, 0);
+        seats.push(new_seat(alloc, number + 1, share))?;
+    }
+    Ok((book, seats))
+}
+
+fn new_seat<L: SiteName>(alloc: Global, number: u16, share: Share<L>) -> Seat<L>
+    requires { (share.parts ≡ 1) × (share.amount ≡ 0) }
+    ensures { (result.number ≡ number) × (result.calls.items ≡ []) }
+{
+    Seat {
+        number,
+        calls: Vec::new(alloc),
+        share,
+    }
+}
+
+/// The site under its name, with its seats. At `Err` the blank is given up. (Pages will end here at `Err`, for which it
+/// may wait.)
+pub fn open_site<L: SiteName, R: Wait>(
+    _rt: &R,
+    blank: SiteBlank,
+) -> Result<(Site<L>, Vec<Seat<L>>), NoMemory>
+    requires { IsBlankOf blank L.name L.parts L.seats L.opening }
+    ensures { IfOk result (λ r. (vec_len r.1 ≡ blank.seats) × All (λ s. s.calls.items ≡ []) r.1.items) }
+{
+    let SiteBlank {
+        blank,
+        journal,
+        seats,
+        alloc,
+    } = blank;
+    let (book, all) = deal::<L>(alloc, blank, seats)?;
+    let locked = Mutex::new(Locked { journal, book });
+    let site = Site {
+        locked,
+        seats: usize::from(seats),
+    };
+    Ok((site, all))
+}
+
+// The place at which a seat's calls and its records differ.
+fn mismatch<L: SiteName>(records: &[Record], seats: &[Seat<L>]) -> Option<u64>
+    ensures { IfNone result (All (λ s. calls_of s.number records.now ≡ s.calls.items) seats.now) }
+{
+    for seat in seats {
+        if let Some(place) = same_calls(records, seat.number, seat.calls.as_slice()) {
+            return Some(place);
+        }
+    }
+    None
+}
+
+// Where among the seats the one of this number is.
+fn seat_at<L: SiteName>(seats: &[Seat<L>], number: u16) -> Option<usize>
+    ensures { IfSome result (λ _. IsOneOf number (λ s. s.number) seats.now) }
+{
+    for i in 0..seats.len() {
+        let one = &seats[i];
+        if one.number == number {
+            return Some(i);
+        }
+    }
+    None
+}
+
+// The place of a record that is none of these seats'.
+fn stranger<L: SiteName>(records: &[Record], seats: &[Seat<L>]) -> Option<u64>
+    ensures { IfNone result (All (λ r. IsOneOf r.seat (λ s. s.number) seats.now) records.now) }
+{
+    for i in 0..records.len() {
+        let one = &records[i];
+        match seat_at(seats, one.seat) {
+            Some(_) => {}
+            None => return Some(i as u64 + 1),
+        }
+    }
+    None
+}
+
+// All shares in one.
+fn merged<L: SiteName>(mut seats: Vec<Seat<L>>, mut all: Share<L>) -> Share<L>
+    ensures { (result.parts ≡ all.parts + vec_len seats) × (result.amount ≡ all.amount + sum_by (λ s. length s.calls.items) seats.items) }
+{
+    while let Some(seat) = seats.pop() {
+        let Seat {
+            number: _,
+            calls: _,
+            share,
+        } = seat;
+        all.merge(share);
+    }
+    all
+}
+
+impl<L: SiteName> Site<L> {
+    /// Asks the node. A refusal of the node is a record too.
+    pub fn call<R: Wait>(
+        &self,
+        rt: &R,
+        seat: &mut Seat<L>,
+        event: Event,
+    ) -> Result<Receipt<L>, LiveFault>
+        ensures number { seat.new.number ≡ seat.old.number }
+        ensures ok { IfOk result (λ r. Told seat.old.calls.items seat.new.calls.items r.place event (Ok r.reply)) }
+        ensures err { IfErr result (λ e. ToldRefused e seat.old.calls.items seat.new.calls.items event) }
+    {
+        let mut guard = self.locked.lock(rt);
+        let answer = guard.call(seat, event);
+        MutexGuard::unlock(guard);
+        answer
+    }
+
+    /// Ends the site: its journal, where each seat's calls are its records. At `Err` the site and its seats are given up.
+    pub fn close<R: Wait>(self, _rt: &R, mut seats: Vec<Seat<L>>) -> Result<Closed, CloseFault>
+        requires { (L.seats ≡ L.parts) × (0 < L.seats) }
+        ensures opening { IfOk result (λ c. c.opening ≡ L.opening) }
+        // Each seat's calls are the seat's records, with their places and in the journal's order.
+        ensures calls { IfOk result (λ c. All (λ s. calls_of s.number c.records ≡ s.calls.items) seats.items) }
+        // There are no other records.
+        ensures others { IfOk result (λ c. All (λ r. IsOneOf r.seat (λ s. s.number) seats.items) c.records) }
+        ensures count { IfOk result (λ c. length c.records ≡ sum_by (λ s. length s.calls.items) seats.items) }
+    {
+        let Site {
+            locked,
+            seats: count,
+        } = self;
+        let Locked { journal, mut book } = locked.into_inner();
+        if seats.len() != count {
+            return Err(CloseFault::SeatMissing);
+        }
+        if let Some(place) = mismatch(journal.records(), seats.as_slice()) {
+            return Err(CloseFault::Mismatch { place });
+        }
+        if let Some(place) = stranger(journal.records(), seats.as_slice()) {
+            return Err(CloseFault::Mismatch { place });
+        }
+        let none = seats[0].share.empty();
+        let mut all = merged(seats, none);
+        book.audit(&mut all);
+        Ok(journal.close())
+    }
+}

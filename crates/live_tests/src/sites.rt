@@ -1,0 +1,190 @@
+//! Sites: calls and their places, closing, and two threads.
+ghost use Rattle.dac_live.specs.Sites.{IsBlankOf};
+
+use dac_base::NodeId;
+use dac_commands::Refusal;
+use dac_config::read_config;
+use dac_live::{
+    CloseFault, Closed, LiveFault, OpenFault, Receipt, Seat, Site, SiteBlank, SiteName, blank_site,
+    open_site,
+};
+use dac_messages::{Event, Reply};
+use std::alloc::Global;
+use std::marker::Brand;
+use std::sync::Wait;
+use std::test::Fail;
+use std::thread::{Threads, join};
+
+/// The documented example: three nodes, of which two must be there before an application starts.
+const EXAMPLE: &[u8] =
+    b"[{kernel, [{distributed, [{myapp, 5000, [cp1@cave, {cp2@cave, cp3@cave}]}]}, {sync_nodes_mandatory, [cp2@cave, cp3@cave]}, {sync_nodes_timeout, 5000}]}].";
+
+/// What a call was answered, in short.
+#[derive(Clone, Copy, Debug, PartialEq, Eq)]
+enum Told {
+    Booted,
+    Held,
+    Crashed,
+    Other,
+    Refused(Refusal),
+    Fault(LiveFault),
+}
+
+fn told<L: SiteName>(answer: Result<Receipt<L>, LiveFault>) -> (u64, Told) {
+    match answer {
+        Ok(receipt) => {
+            let what = match &receipt.reply {
+                Reply::Booted(_) => Told::Booted,
+                Reply::Held => Told::Held,
+                Reply::Crashed => Told::Crashed,
+                _ => Told::Other,
+            };
+            (receipt.place, what)
+        }
+        Err(LiveFault::Refused { place, why }) => (place, Told::Refused(why)),
+        Err(fault) => (0, Told::Fault(fault)),
+    }
+}
+
+/// Five calls of two seats, at a node that boots, waits and crashes.
+fn five_calls<L: SiteName, R: Wait>(
+    rt: &R,
+    site: &Site<L>,
+    first: &mut Seat<L>,
+    second: &mut Seat<L>,
+) -> [(u64, Told); 5] {
+    let boot = told(site.call(rt, first, Event::Boot { now: 0 }));
+    let tick = told(site.call(rt, second, Event::Tick { now: 0 }));
+    let again = told(site.call(rt, first, Event::Boot { now: 1 }));
+    let crash = told(site.call(rt, second, Event::Crash));
+    let off = told(site.call(rt, second, Event::Crash));
+    [boot, tick, again, crash, off]
+}
+
+/// What the five calls were answered, and the site closed with both seats or with the first alone.
+fn worked<L: SiteName, R: Wait>(
+    rt: &R,
+    alloc: Global,
+    blank: SiteBlank,
+    with_both: bool,
+) -> Option<([(u64, Told); 5], Result<Closed, CloseFault>)>
+    requires { IsBlankOf blank L.name L.parts L.seats L.opening }
+{
+    let (site, mut seats) = open_site::<L, R>(rt, blank).ok()?;
+    let mut second = seats.pop()?;
+    let mut first = seats.pop()?;
+    let answers = five_calls(rt, &site, &mut first, &mut second);
+    let mut back = Vec::new(alloc);
+    back.push(first).ok()?;
+    if with_both {
+        back.push(second).ok()?;
+    }
+    Some((answers, site.close(rt, back)))
+}
+
+/// A site of the first node with two seats, without a name yet.
+fn two_seats<R: Wait>(rt: &R, alloc: Global, readers: u16) -> Result<SiteBlank, OpenFault> {
+    let Ok(config) = read_config(alloc, EXAMPLE) else {
+        return Err(OpenFault::NoMemory);
+    };
+    blank_site(rt, alloc, &config, NodeId(0), 0, 2, readers)
+}
+
+const ANSWERS: [(u64, Told); 5] = [
+    (1, Told::Booted),
+    (2, Told::Held),
+    (3, Told::Refused(Refusal::AlreadyOn)),
+    (4, Told::Crashed),
+    (5, Told::Refused(Refusal::Off)),
+];
+
+/// Whether the five calls are answered so, and the journal is closed with their records.
+fn five_are_answered<R: Wait>(rt: &R, alloc: Global) -> Option<bool> {
+    let blank = two_seats(rt, alloc, 0).ok()?;
+    let (answers, closed) = worked::<Brand, R>(rt, alloc, blank, true)?;
+    let closed = closed.ok()?;
+    Some(
+        answers == ANSWERS
+            && closed.node() == NodeId(0)
+            && closed.last() == 0
+            && closed.records().len() == 5,
+    )
+}
+
+#[test]
+fn five_calls_of_two_seats(rt: HostRuntime) -> Result<(), Fail> {
+    assert_eq!(rt; five_are_answered(&rt, rt.alloc()), Some(true));
+    Ok(())
+}
+
+/// Why the site isn't closed with one of its seats.
+fn closed_with_one<R: Wait>(rt: &R, alloc: Global) -> Option<CloseFault> {
+    let blank = two_seats(rt, alloc, 0).ok()?;
+    let (_, closed) = worked::<Brand, R>(rt, alloc, blank, false)?;
+    closed.err()
+}
+
+#[test]
+fn a_seat_is_missing(rt: HostRuntime) -> Result<(), Fail> {
+    assert_eq!(rt;
+        closed_with_one(&rt, rt.alloc()),
+        Some(CloseFault::SeatMissing)
+    );
+    Ok(())
+}
+
+#[test]
+fn there_are_no_readers_yet(rt: HostRuntime) -> Result<(), Fail> {
+    let fault = two_seats(&rt, rt.alloc(), 1).err();
+    assert_eq!(rt; fault, Some(OpenFault::NoReader));
+    Ok(())
+}
+
+/// A hundred ticks and boots of one seat.
+fn many_calls<L: SiteName, R: Wait>(rt: &R, site: &Site<L>, mut seat: Seat<L>) -> Seat<L> {
+    for now in 0..100u64 {
+        let event = if now % 10 == 0 {
+            Event::Boot { now }
+        } else {
+            Event::Tick { now }
+        };
+        let _ = site.call(rt, &mut seat, event);
+    }
+    seat
+}
+
+/// How many records the site has after two threads made their calls.
+fn both<L: SiteName + Send + Sync, R: Threads + Wait + Sync>(
+    rt: &R,
+    alloc: Global,
+    blank: SiteBlank,
+) -> Option<usize>
+    requires { IsBlankOf blank L.name L.parts L.seats L.opening }
+{
+    let (site, mut seats) = open_site::<L, R>(rt, blank).ok()?;
+    let second = seats.pop()?;
+    let first = seats.pop()?;
+    let lent = &site;
+    let (first, second) = join(
+        rt,
+        move || many_calls(rt, lent, first),
+        move || many_calls(rt, lent, second),
+    );
+    let mut back = Vec::new(alloc);
+    back.push(first).ok()?;
+    back.push(second).ok()?;
+    let closed = site.close(rt, back).ok()?;
+    Some(closed.records().len())
+}
+
+/// The same, from the opening on.
+fn both_are_recorded<R: Threads + Wait + Sync>(rt: &R, alloc: Global) -> Option<usize> {
+    let blank = two_seats(rt, alloc, 0).ok()?;
+    both::<Brand, R>(rt, alloc, blank)
+}
+
+#[test]
+fn two_threads(rt: HostRuntime) -> Result<(), Fail> {
+    assert_eq!(rt; both_are_recorded(&rt, rt.alloc()), Some(200));
+    Ok(())
+}
