@@ -1,5 +1,5 @@
 //! The newest deltas, by number.
-ghost use Rattle.std.specs.Prelude.{◌≡◌, ◌+◌, ◌-◌, ◌<◌, ◌≤◌, fold, drop, length, Ok, None, OnOk, OnErr, IfOk, IfSome, IsSome};
+ghost use Rattle.std.specs.Prelude.{◌≡◌, ◌+◌, ◌-◌, ◌<◌, ◌≤◌, fold, drop, length, Ok, None, OnOk, OnErr, IfOk, IfSome, IsSome, unwrap_or};
 ghost use Rattle.dac_deltas.specs.Kept.{IsBuffer, empty, pushed, trimmed, numbered_from, interval_of, IsJoinOf};
 ghost use Rattle.dac_deltas.specs.Blocks.{AreBlocks};
 
@@ -43,6 +43,29 @@ fn keep_newest<L: Bottom>(kept: &mut VecDeque<Ending<L>>)
 {
     let dropped = kept.len().saturating_sub(MOST_KEPT);
     kept.drain(..dropped);
+}
+
+/// What is joined so far, with one block more. The first block is taken as it is: what it shares stays shared.
+fn join_on<L: Bottom>(joined: Option<L>, block: &L) -> Result<L, NoMemory>
+    ensures { IfOk result (λ both. both ≡ L.join (unwrap_or joined L.bottom) block.now) }
+{
+    match joined {
+        Some(joined) => joined.join(block),
+        None => {
+            block.known();
+            block.copy()
+        }
+    }
+}
+
+/// What is joined, and the least value where nothing is.
+fn or_bottom<L: Bottom>(alloc: Global, joined: Option<L>) -> L
+    ensures { result ≡ unwrap_or joined L.bottom }
+{
+    match joined {
+        Some(joined) => joined,
+        None => L::bottom(alloc),
+    }
 }
 
 impl<L: Bottom> Buffer<L> {
@@ -137,16 +160,16 @@ impl<L: Bottom> Buffer<L> {
         if a < base {
             return Ok(None);
         }
-        let mut joined = L::bottom(self.alloc);
+        let mut joined = None;
         let mut at = a;
         while at < self.count {
             let level = level_at(at, self.count - at);
             let end = at + (1 << level);
             let last = &self.kept[(end - base) as usize - 1];
-            joined = joined.join(last.block(level))?;
+            joined = Some(join_on(joined, last.block(level))?);
             at = end;
         }
-        Ok(Some(joined))
+        Ok(Some(or_bottom(self.alloc, joined)))
     }
 
     /// The blocks that an interval joins, each as its first number and the one after its last. From `a` to the

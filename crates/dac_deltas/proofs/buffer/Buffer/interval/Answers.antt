@@ -1,3 +1,4 @@
+use Rattle.std.specs.Prelude.{unwrap_or}
 use Rattle.std.proofs.Common.{◌≡◌, ◌-◌, List, fold, drop, length, sym, ap, subst, ◌∙◌, arith}
 use Rattle.std.proofs.lemmas.List.Elements.{All-drop}
 use Rattle.std.proofs.lemmas.List.{length-map}
@@ -31,7 +32,7 @@ loop-at-preserved g c =
     let all = whole is_value join count es c.self.invariant in
     let from = c.loop-at.invariant.from in
     let there = block_there is_value join count c.base-base.result c.loop-at.at c.level_at-level.result _ es c.index-last.result.now joined (omega arith) (omega arith) c.loop-at-test.true c.level_at-level.ensures (omega arith) c.index-last.ensures in
-    joining_one is_value join g.met.L.Lattice.laws g.L.Bottom.bottom c.base-base.result c.args.a count c.loop-at.at _ c.level_at-level.result es c.loop-at.joined _ c.in_ok-joined.joined (omega arith) c.loop-at-test.true c.level_at-level.ensures (omega arith) there.1 c.loop-at.invariant (c.in_ok-joined.ensures ∙ ap (join c.loop-at.joined) c.block.ensures)
+    joining_one is_value join g.met.L.Lattice.laws g.L.Bottom.bottom c.base-base.result c.args.a count c.loop-at.at _ c.level_at-level.result es (unwrap_or c.loop-at.joined g.L.Bottom.bottom) _ _ (omega arith) c.loop-at-test.true c.level_at-level.ensures (omega arith) there.1 c.loop-at.invariant (c.in_ok-join_on.ensures ∙ ap (join (unwrap_or c.loop-at.joined g.L.Bottom.bottom)) c.block.ensures)
 
 pub returns-clause-least : goal.returns-clause-least
 returns-clause-least g c =
@@ -45,7 +46,7 @@ returns-clause-least g c =
     let all = whole is_value join count es c.self.invariant in
     let many = length-map es (λ (x : g.row.L.Denot × List g.row.L.Denot). x.0) in
     let skip : a - c.base-base.result ≡ a - (count - length ds) = omega arith in
-    let joined = joining_all is_value join g.L.Bottom.bottom c.base-base.result a count c.loop-at.at ds c.loop-at.joined (omega arith) c.loop-at-test.false c.loop-at.invariant ∙ ap (λ n. fold join g.L.Bottom.bottom (drop n ds)) skip in
+    let joined = joining_all is_value join g.L.Bottom.bottom c.base-base.result a count c.loop-at.at ds (unwrap_or c.loop-at.joined g.L.Bottom.bottom) (omega arith) c.loop-at-test.false c.loop-at.invariant ∙ ap (λ n. fold join g.L.Bottom.bottom (drop n ds)) skip in
     let rest = drop (a - (count - length ds)) ds in
     let least = joins_are_least g.met.L.Lattice.laws g.L.Bottom.bottom g.met.L.Bottom.bottom_value g.met.L.Bottom.least rest (All-drop is_value (a - (count - length ds)) ds c.self.invariant.buffer.values) in
-    subst (λ (k : Kept g.row.L.Denot). IsJoinOf is_value g.L.Lattice.below (numbered_from k a) c.loop-at.joined) c.self.view_is (subst (IsJoinOf is_value g.L.Lattice.below rest) (sym joined) least)
+    subst (λ (k : Kept g.row.L.Denot). IsJoinOf is_value g.L.Lattice.below (numbered_from k a) c.or_bottom.result) c.self.view_is (subst (IsJoinOf is_value g.L.Lattice.below rest) (sym (c.or_bottom.ensures ∙ joined)) least)
