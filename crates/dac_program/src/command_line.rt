@@ -17,17 +17,90 @@ pub enum Request {
     Sim,
 }
 
+/// What stands at the end of the program's help.
+const AFTER_HELP: &str =
+    r"Lines of a script begin with one of these verbs (`distac sim --help` says more):
+  boot crash down permit start stop takeover tick
+  ship hear hand share page state same bytes feed
+
+Exit status:
+  0  Done, also where lines of a script were refused
+  1  The input has a fault, memory ran out, or a write failed
+  2  The command line can't be read
+
+Example:
+  ./distac sim < examples/first-path.distac
+
+Documents:
+  docs/OPERATORS.md   For people who run OTP: configurations, scripts and pages
+  docs/FORMATS.md     All formats, and what to look at first for each fault and refusal
+  examples/README.md  Scripts and configurations to try";
+
+/// What stands at the end of the help of `distac check`.
+const AFTER_CHECK: &str =
+    r"The canonical text says what was read: names in order, each default written out.
+A fault is printed as `config fault 7 TwiceInList at 37`: its number, its name, and its byte, counted from 0.
+
+Exit status:
+  0  The configuration was read, and its canonical text is printed
+  1  It has a fault, which is printed, memory ran out, or a write failed
+
+Example:
+  ./distac check < examples/manual.config
+
+Documents:
+  docs/FORMATS.md    What is read, and what to look at first for each fault
+  docs/OPERATORS.md  What a configuration means here, and in OTP";
+
+/// What stands at the end of the help of `distac sim`.
+const AFTER_SIM: &str =
+    r"Lines of a script, NODE being where it happens, and NOW a moment in milliseconds:
+  boot NODE NOW           NODE boots
+  crash NODE              NODE goes down and loses what it knew
+  down NODE ABOUT         NODE is told that ABOUT is down
+  permit NODE APP ABOUT true (or false)
+                          At NODE, APP is permitted (or forbidden) at ABOUT
+  start NODE APP ABOUT    At NODE, APP is started at ABOUT
+  stop NODE APP ABOUT     At NODE, APP is stopped at ABOUT
+  takeover NODE APP       NODE takes APP over from where it runs
+  tick NODE NOW           NODE looks after its applications
+  ship NODE ABOUT         NODE ships a message to ABOUT
+  hear NODE K             Message K reaches NODE
+  hand NODE O             Operation O reaches NODE by itself
+  share                   Each running node ships to each other one, and all is heard
+  page NODE               What NODE knows, and what it would do
+  state NODE              The bytes of NODE's state
+  same NODE NODE          Whether two nodes' states have the same bytes
+  bytes K                 The bytes of message K
+  feed HEX                Whether bytes are those of a message
+Lines that begin with % and empty lines are skipped.
+
+Exit status:
+  0  The script was played, also where some of its lines were refused
+  1  The input has a fault, which is printed, memory ran out, or a write failed
+
+Example:
+  ./distac sim < examples/first-path.distac
+
+Documents:
+  docs/OPERATORS.md   How to write a script and read a page
+  docs/FORMATS.md     What each line prints, and what to look at first for each fault and refusal
+  examples/README.md  Scripts to try";
+
 fn command<'a>(alloc: Global) -> Result<Command<'a>, AllocError>
     ensures { IfOk result (λ command. app_of command ≡ distac) }
 {
-    let check = Command::new(alloc, "check").about(
-        "Checks a configuration: standard input is its text, and its canonical text is printed",
-    );
-    let sim = Command::new(alloc, "sim").about(
-        "Plays a script: standard input is a configuration, a line `--`, and the script",
-    );
+    let check = Command::new(alloc, "check")
+        .about(
+            "Checks a configuration: standard input is its text, and its canonical text is printed",
+        )
+        .after_help(AFTER_CHECK);
+    let sim = Command::new(alloc, "sim")
+        .about("Plays a script: standard input is a configuration, a line `--`, and the script")
+        .after_help(AFTER_SIM);
     let distac = Command::new(alloc, "distac")
         .about("A replicated controller for distributed applications of Erlang/OTP")
+        .after_help(AFTER_HELP)
         .subcommand_required(true);
     let distac = distac.subcommand(check)?;
     distac.subcommand(sim)

@@ -9,42 +9,11 @@ pub struct Case {
 
 /// All of them.
 pub const CASES: &[Case] = &[
-    // The example of the manual, with comments as people write them.
-    Case {
-        text: r#"%% The example of OTP's design principles, with comments as people write them.
-[{kernel,
-  [{distributed, [{myapp, 5000, [cp1@cave, {cp2@cave, cp3@cave}]}]}, % one after the other
-   {sync_nodes_mandatory, [cp2@cave, cp3@cave]},
-   {sync_nodes_timeout, 5000}
-  ]
- }
-].
-"#,
-        status: 0,
-        printed: "[{kernel,[{distributed,[{myapp,5000,[cp1@cave,{cp2@cave,cp3@cave}]}]},{permissions,[]},{sync_nodes_mandatory,[cp2@cave,cp3@cave]},{sync_nodes_optional,[]},{sync_nodes_timeout,5000}]}].\n",
-    },
     // Indented by tabs; a list of one tuple, and a sync list with a repeat.
     Case {
         text: "[\n\t{kernel, [\n\t\t{distributed, [\n\t\t\t{billing, 10000, [bill1@db01, bill2@db02]},\n\t\t\t{rating, [{bill1@db01, bill2@db02}]}\n\t\t]},\n\t\t{sync_nodes_optional, [bill2@db02, bill1@db01, bill2@db02]},\n\t\t{sync_nodes_timeout, infinity}\n\t]}\n].\n",
         status: 0,
         printed: "[{kernel,[{distributed,[{billing,10000,[bill1@db01,bill2@db02]},{rating,0,[{bill1@db01,bill2@db02}]}]},{permissions,[]},{sync_nodes_mandatory,[]},{sync_nodes_optional,[bill1@db01,bill2@db02]},{sync_nodes_timeout,infinity}]}].\n",
-    },
-    // Another section in front, and names that need quotes.
-    Case {
-        text: r#"[{sasl,
-  [{sasl_error_logger, {file, "/var/log/erlang/sasl-error.log"}},
-   {errlog_type, error},
-   {error_logger_mf_dir, "/var/log/erlang/sasl"},
-   {error_logger_mf_maxbytes, 10485760},
-   {error_logger_mf_maxfiles, 10}]},
- {kernel,
-  [{distributed, [{call_router, 3000, ['router@node-1.example.com', 'router@node-2.example.com']}]},
-   {permissions, [{call_router, true}]},
-   {sync_nodes_mandatory, ['router@node-2.example.com']},
-   {sync_nodes_timeout, 30000}]}].
-"#,
-        status: 0,
-        printed: "[{kernel,[{distributed,[{call_router,3000,['router@node-1.example.com','router@node-2.example.com']}]},{permissions,[]},{sync_nodes_mandatory,['router@node-2.example.com']},{sync_nodes_optional,[]},{sync_nodes_timeout,30000}]}].\n",
     },
     // Names with dashes and no quotes, behind parameters that aren't read.
     Case {
@@ -63,19 +32,6 @@ pub const CASES: &[Case] = &[
 "#,
         status: 1,
         printed: "config fault 4 BadShape at 205\n",
-    },
-    // Permissions before the applications, one of an unknown application and one a second time.
-    Case {
-        text: r#"[{kernel, [
-    {permissions, [{reports, false}, {ghost, false}, {gateway, true}, {reports, true}]},
-    {distributed, [{gateway, 0, [{g2@h, g1@h}]}, {reports, 60000, [g1@h, g2@h]}, {audit, [g2@h]}]},
-    {sync_nodes_mandatory, []},
-    {sync_nodes_optional, []},
-    {sync_nodes_timeout, -0}
-]}].
-"#,
-        status: 0,
-        printed: "[{kernel,[{distributed,[{gateway,0,[{g1@h,g2@h}]},{reports,60000,[g1@h,g2@h]},{audit,0,[g2@h]}]},{permissions,[{reports,false}]},{sync_nodes_mandatory,[]},{sync_nodes_optional,[]},{sync_nodes_timeout,0}]}].\n",
     },
     // Quoted names, also where they need no quotes, the word `fun` and an empty name.
     Case {

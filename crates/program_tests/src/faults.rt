@@ -103,12 +103,22 @@ pub const SCRIPT_FAULTS: &[(&str, &str)] = &[
     ("feed 4g", "script fault 1 6 BadHex\n"),
     ("feed 0x44", "script fault 1 6 BadHex\n"),
     ("feeds 44", "script fault 1 1 BadWord\n"),
+    // Carriage returns belong to words.
+    (
+        "% it stands in a comment\r\n\r\n",
+        "script fault 2 1 BadWord\n",
+    ),
+    ("share\r\n", "script fault 1 1 BadWord\n"),
+    ("crash cp1@cave\r\n", "script fault 1 3 BadName\n"),
+    ("boot cp1@cave 0\r\n", "script fault 1 4 BadNumber\n"),
+    ("feed 44\r\n", "script fault 1 6 BadHex\n"),
 ];
 
 /// Inputs of `distac sim` that no script is read of, and what is printed for them.
 pub const INPUT_FAULTS: &[(&str, &str)] = &[
     ("", "input fault 2 NoScript\n"),
     ("[].\n--x\n --\n", "input fault 2 NoScript\n"),
+    ("[].\r\n--\r\n", "input fault 2 NoScript\n"),
     ("[].\n--\njump", "config fault 5 NoDistributed at 4\n"),
     ("--", "config fault 4 BadShape at 0\n"),
     (

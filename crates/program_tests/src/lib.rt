@@ -9,6 +9,8 @@ mod command_lines;
 #[cfg(test)]
 mod configs;
 #[cfg(test)]
+mod examples;
+#[cfg(test)]
 mod faults;
 #[cfg(test)]
 mod placements;

@@ -1,5 +1,6 @@
 //! Runs of the program.
 use crate::configs::CASES;
+use crate::examples::EXAMPLES;
 use crate::faults::{CONFIG_FAULTS, INPUT_FAULTS, SCRIPT_FAULTS};
 use crate::placements::PLACEMENTS;
 use crate::scripts::{EXAMPLE, SCRIPTS};
@@ -80,6 +81,13 @@ fn plays_scripts_of_placements(rt: HostRuntime) {
 fn plays_scripts_of_wires(rt: HostRuntime) {
     for (config, script, printed) in WIRES {
         assert!(rt; plays(&rt, config, script, 0, printed), "{script}");
+    }
+}
+
+#[test]
+fn prints_what_stands_beside_each_example(rt: HostRuntime) {
+    for (word, input, printed) in EXAMPLES {
+        assert!(rt; prints(&rt, word, input.as_bytes(), 0, printed), "{input}");
     }
 }
 
