@@ -1,4 +1,5 @@
 pub mod Journals
+pub mod Limits
 pub mod Seats
 pub mod Sites
 pub mod Told

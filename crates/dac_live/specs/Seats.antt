@@ -1,5 +1,24 @@
--- Seats by their numbers.
-use Rattle.std.specs.Prelude.{◌≡◌, ℕ, List, [], ◌∷◌, ◌⊎◌}
+-- Seats by their numbers, with the calls that they made.
+use Rattle.std.specs.Prelude.{◌≡◌, ℕ, zero, suc, List, [], ◌∷◌, ◌++◌, ◌⊎◌, refl}
+use Rattle.std.specs.Coded.{Coded, code_by, coded×, coded_ℕ, coded_list}
+use Rattle.dac_live.specs.declared.record.Call.{Call}
+
+-- its number, and its calls, the oldest first
+pub record SeatValue : Type 0 where
+  pub number : ℕ
+  pub calls : List Call
+
+abbrev pub coded_seat : Coded Call → Coded SeatValue
+coded_seat call =
+    code_by (ℕ × List Call) (coded× coded_ℕ (coded_list call))
+    (λ s. (s.number, s.calls))
+    (λ p. record { number = p.0; calls = p.1 })
+    (λ _. refl)
+
+-- so many seats, numbered from 1, that made no calls
+abbrev pub new_seats : ℕ → List SeatValue
+new_seats zero = []
+new_seats (suc n) = new_seats n ++ record { number = suc n; calls = [] } ∷ []
 
 module _ {S : Type 0} where
   -- some of these numbers is this one

@@ -1,8 +1,9 @@
 -- What a call did, by its answer.
-use Rattle.std.specs.Prelude.{◌≡◌, ℕ, ◌+◌, List, [], ◌∷◌, ◌++◌, length, Result, Err}
+use Rattle.std.specs.Prelude.{◌≡◌, ◌≢◌, ℕ, ◌+◌, List, [], ◌∷◌, ◌++◌, length, Result, Err}
 use Rattle.dac_messages.specs.declared.event.Event.{Event}
 use Rattle.dac_messages.specs.declared.reply.Reply.{Reply}
 use Rattle.dac_commands.specs.declared.refusal.Refusal.{Refusal}
+use Rattle.dac_commands.specs.declared.refusal.Refusal.TheVariants.{NoMemory as WantOfMemory}
 use Rattle.dac_live.specs.declared.record.Record.{Record}
 use Rattle.dac_live.specs.declared.record.Call.{Call}
 use Rattle.dac_live.specs.declared.faults.LiveFault.{LiveFault}
@@ -13,10 +14,10 @@ use Rattle.dac_live.specs.Journals.{record_of, call_of}
 abbrev pub Added : List Record → List Record → ℕ → Event → ℕ → Result Reply Refusal → Type 0
 Added old new seat event place answer = (new ≡ old ++ record_of seat event answer ∷ []) × (place ≡ length old + 1)
 
--- a refusal of the node is a record too
+-- a refusal of the node is a record too; want of memory is none
 abbrev pub AddedRefused : LiveFault → List Record → List Record → ℕ → Event → Type 0
-AddedRefused JournalFull old new seat event = (new ≡ old) × (length old ≡ 65536)
-AddedRefused (Refused place why) old new seat event = Added old new seat event place (Err why)
+AddedRefused JournalFull old new seat event = new ≡ old
+AddedRefused (Refused place why) old new seat event = Added old new seat event place (Err why) × (why ≢ WantOfMemory)
 AddedRefused NoMemory old new seat event = new ≡ old
 
 -- the same of a seat's calls
@@ -25,5 +26,5 @@ Told old new place event answer = new ≡ old ++ call_of place event answer ∷ 
 
 abbrev pub ToldRefused : LiveFault → List Call → List Call → Event → Type 0
 ToldRefused JournalFull old new event = new ≡ old
-ToldRefused (Refused place why) old new event = Told old new place event (Err why)
+ToldRefused (Refused place why) old new event = Told old new place event (Err why) × (why ≢ WantOfMemory)
 ToldRefused NoMemory old new event = new ≡ old

@@ -1,6 +1,6 @@
 //! Names of sites, and sites that have none yet.
 
-ghost use Rattle.std.specs.Prelude.{◌≡◌, ◌<◌, length, IfOk};
+ghost use Rattle.std.specs.Prelude.{◌≡◌, ◌↔◌, ◌<◌, [], length, Err, IfOk};
 ghost use Rattle.dac_live.specs.Journals.{opening_of};
 
 use crate::faults::OpenFault;
@@ -32,11 +32,14 @@ impl SiteName for Brand {
     ghost opening = { nowhere };
 }
 
-/// A site that has no name yet.
+/// A site that has no name yet: its journal is empty.
 #[derive(Drop)]
 pub struct SiteBlank {
+    /// What the ledger of its name is opened from, with a part for each seat.
     pub blank: Blank,
+    /// The journal, with the node.
     pub journal: Journal,
+    /// How many seats it is for.
     pub seats: u16,
     pub(crate) alloc: Global,
     pub ghost parts: { blank.parts ≡ seats },
@@ -44,8 +47,10 @@ pub struct SiteBlank {
     ghost empty: { length journal.records ≡ 0 },
 }
 
-/// A node that is off, with an empty journal, for so many seats. There are no readers yet: a site that is to have some
-/// is refused.
+/// A node that is off after so many incarnations, with an empty journal, for so many seats: one at least.
+///
+/// There are no pages yet, and so no places for readers: a site that is to have some is refused as `NoReader`.
+/// `NoMemory` comes after that.
 pub fn blank_site<R: Wait>(
     _rt: &R,
     alloc: Global,
@@ -56,7 +61,8 @@ pub fn blank_site<R: Wait>(
     readers: u16,
 ) -> Result<SiteBlank, OpenFault>
     requires { 0 < seats }
-    ensures ok { IfOk result (λ b. (b.seats ≡ seats) × (b.journal.opening ≡ opening_of config.now me last)) }
+    ensures ok { IfOk result (λ b. (b.seats ≡ seats) × (b.journal ≡ record { opening = opening_of config.now me last; records = [] })) }
+    ensures no_reader { (0 < readers) ↔ (result ≡ Err OpenFault.NoReader) }
 {
     if readers > 0 {
         return Err(OpenFault::NoReader);

@@ -1,10 +1,12 @@
 //! The journal of a node, with the node.
 
-ghost use Rattle.std.specs.Prelude.{◌≡◌, ◌≢◌, ◌≤◌, ◌<◌, ◌+◌, ◌++◌, ◌∷◌, [], length, true, false, IfOk, OnErr};
+ghost use Rattle.std.specs.Prelude.{◌≡◌, ◌≢◌, ◌≤◌, ◌<◌, ◌+◌, ◌++◌, ◌∷◌, [], length, true, false, IfOk, IfErr, OnErr};
 ghost use Rattle.dac_rules.specs.Step.{Steps};
+ghost use Rattle.dac_live.specs.declared.limits.TheConstants.{MAX_RECORDS as MOST};
 ghost use Rattle.dac_live.specs.Journals.{call_of, record_of, opening_of};
 
 use crate::closed::Closed;
+use crate::limits::MAX_RECORDS;
 use crate::record::{Answer, Call, Record};
 use dac_base::{NoMemory, NodeId};
 use dac_commands::Refusal;
@@ -13,9 +15,6 @@ use dac_messages::Event;
 use dac_node::Node;
 use std::alloc::Global;
 use std::marker::Model;
-
-/// The most records of a journal.
-pub const MAX_RECORDS: usize = 65536;
 
 /// A node and all that happened at it. The records are a history of the node, and it stands for where that ends.
 pub struct Journal {
@@ -43,6 +42,7 @@ impl Model for Journal {
     ghost use Rattle.std.specs.Prelude.{length, ◌≤◌};
     ghost use Rattle.dac_config.specs.contracts.config.Config as config_row;
     ghost use Rattle.dac_live.specs.contracts.record.Record as record_row;
+    ghost use Rattle.dac_live.specs.declared.limits.TheConstants.{MAX_RECORDS as MOST};
     ghost use Rattle.dac_live.specs.Journals.{JournalValue, coded_journal, EndsAt, opening_of};
 
     ghost Value = { JournalValue };
@@ -51,12 +51,14 @@ impl Model for Journal {
 
     ghost view = { λ j. record { opening = opening_of j.config j.me j.last; records = j.records.items } };
 
-    ghost invariant = { λ j. EndsAt (opening_of j.config j.me j.last) j.records.items j.node × (length j.records.items ≤ 65536) };
+    ghost invariant = { λ j. EndsAt (opening_of j.config j.me j.last) j.records.items j.node × (length j.records.items ≤ MOST) };
 }
 
 impl Journal {
+    ghost use Rattle.dac_live.specs.Journals.{AreHistory};
+
     /// A journal with no records, of a node that is off.
-    pub fn new(alloc: Global, config: Config, me: NodeId, last: u32) -> Self
+    pub(crate) fn new(alloc: Global, config: Config, me: NodeId, last: u32) -> Self
         ensures opening { result.opening ≡ opening_of config me last }
         ensures records { result.records ≡ [] }
     {
@@ -71,15 +73,18 @@ impl Journal {
 
     /// Whether no record more fits.
     pub(crate) fn is_full(&self) -> bool
-        ensures full { result ≡ true → length self.now.records ≡ 65536 }
-        ensures room { result ≡ false → length self.now.records < 65536 }
+        ensures full { result ≡ true → length self.now.records ≡ MOST }
+        ensures room { result ≡ false → length self.now.records < MOST }
     {
         self.records.len() >= MAX_RECORDS
     }
 
-    /// The records, the oldest first.
+    /// The records, the oldest first: a history of the node, of at most [`MAX_RECORDS`] records.
     pub fn records(&self) -> &[Record]
-        ensures { result.now ≡ self.now.records }
+        ensures value { result.now ≡ self.now.records }
+        // Each answer is that of the definition's step, one after another from a node that is off.
+        ensures history { AreHistory self.now.opening self.now.records }
+        ensures few { length self.now.records ≤ MOST }
     {
         self.records.as_slice()
     }
@@ -105,10 +110,11 @@ impl Journal {
 
     /// Asks the node, and adds the record of it. It gives what a seat keeps of it, and the answer.
     pub(crate) fn ask(&mut self, seat: u16, event: Event) -> Result<(Call, Answer), NoMemory>
-        requires { length self.old.records < 65536 }
+        requires { length self.old.records < MOST }
         ensures opening { self.new.opening ≡ self.old.opening }
         ensures ok { IfOk result (λ r. self.new.records ≡ self.old.records ++ record_of seat event r.1 ∷ []) }
         ensures call { IfOk result (λ r. r.0 ≡ call_of (length self.old.records + 1) event r.1) }
+        ensures answered { IfOk result (λ r. IfErr r.1 (λ why. why ≢ Refusal.NoMemory)) }
         ensures unchanged { OnErr result (self.new ≡ self.old) }
     {
         let Journal {
@@ -145,6 +151,7 @@ fn asked(
 ) -> Result<(Answer, Answer, Answer), NoMemory>
     ensures steps { IfOk result (λ a. Steps config.now me node.old event.now node.new a.0) }
     ensures same { IfOk result (λ a. (a.1 ≡ a.0) × (a.2 ≡ a.0)) }
+    ensures answered { IfOk result (λ a. IfErr a.0 (λ why. why ≢ Refusal.NoMemory)) }
     ensures unchanged { OnErr result (node.new ≡ node.old) }
 {
     match node.prepare(config, me, event) {

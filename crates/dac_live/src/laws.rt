@@ -1,6 +1,7 @@
 //! What the calls of a site rest on.
 
-ghost use Rattle.std.specs.Prelude.{◌≡◌, IfOk, IfErr, Ok, MatchOption};
+ghost use Rattle.std.specs.Prelude.{◌≡◌, ◌↔◌, length, IfOk, IfErr, Ok, Err, MatchOption};
+ghost use Rattle.dac_live.specs.declared.limits.TheConstants.{MAX_RECORDS};
 ghost use Rattle.dac_live.specs.Journals.{calls_of, DifferAt};
 ghost use Rattle.dac_live.specs.Told.{Added, AddedRefused};
 
@@ -11,8 +12,11 @@ use crate::same::is_record;
 use dac_messages::{Event, Reply};
 use std::sync::Wait;
 
-/// Asks the node of a locked journal and adds the record, if any. It answers what a call of the site answers. (Pages
-/// will be published here, for which it may wait.)
+/// Asks the node of a locked journal for this seat and adds the record, if any. It answers what a call of the site
+/// answers: the place of the record, from 1, and the reply.
+///
+/// `JournalFull` comes exactly where the journal has [`MAX_RECORDS`](crate::MAX_RECORDS) records; a refusal of the node
+/// is a record too. `NoMemory` comes after the one and before the other. At `JournalFull` and `NoMemory` nothing changes.
 pub fn add_record<R: Wait>(
     _rt: &R,
     journal: &mut Journal,
@@ -22,6 +26,7 @@ pub fn add_record<R: Wait>(
     ensures opening { journal.new.opening ≡ journal.old.opening }
     ensures ok { IfOk result (λ r. Added journal.old.records journal.new.records seat event r.0 (Ok r.1)) }
     ensures err { IfErr result (λ e. AddedRefused e journal.old.records journal.new.records seat event) }
+    ensures full { (length journal.old.records ≡ MAX_RECORDS) ↔ (result ≡ Err LiveFault.JournalFull) }
 {
     if journal.is_full() {
         return Err(LiveFault::JournalFull);
@@ -38,8 +43,9 @@ pub fn add_record<R: Wait>(
     }
 }
 
-/// Where the seat's records, with their places and in the journal's order, are not the list of calls: the place of the
-/// first difference.
+/// Whether the seat's records, with their places and in the journal's order, are the list of calls. `None` where they
+/// are. Else the place at which the two first differ: the lesser of the two places there, or the one place where the
+/// other list has ended. Places count from 1. It takes no memory.
 pub fn same_calls(records: &[Record], seat: u16, calls: &[Call]) -> Option<u64>
     ensures { MatchOption result (calls_of seat records.now ≡ calls.now) (λ p. DifferAt p (calls_of seat records.now) calls.now) }
 {

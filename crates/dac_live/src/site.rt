@@ -1,9 +1,10 @@
 //! A site: a journal under a lock, and the seats of its callers.
 
-ghost use Rattle.std.specs.Prelude.{◌≡◌, ◌+◌, ◌<◌, [], length, true, Ok, IfOk, IfErr, IfSome, IfNone, All, sum_by, vec_len};
+ghost use Rattle.std.specs.Prelude.{◌≡◌, ◌≢◌, ◌↔◌, ◌+◌, ◌<◌, length, Ok, Err, IfOk, IfErr, IfSome, IfNone, All, sum_by, vec_len};
+ghost use Rattle.dac_live.specs.declared.limits.TheConstants.{MAX_RECORDS};
 ghost use Rattle.dac_live.specs.Journals.{calls_of};
 ghost use Rattle.dac_live.specs.Told.{Told, ToldRefused};
-ghost use Rattle.dac_live.specs.Seats.{IsOneOf};
+ghost use Rattle.dac_live.specs.Seats.{IsOneOf, new_seats};
 ghost use Rattle.dac_live.specs.Sites.{IsBlankOf};
 
 use crate::blank::{SiteBlank, SiteName};
@@ -11,12 +12,13 @@ use crate::closed::Closed;
 use crate::faults::{CloseFault, LiveFault};
 use crate::journal::Journal;
 use crate::laws::same_calls;
-use crate::record::{Call, Record};
+use crate::record::Record;
+use crate::seat::Seat;
 use dac_base::NoMemory;
 use dac_messages::{Event, Reply};
 use std::alloc::Global;
 use std::marker::PhantomData;
-use std::sync::ledger::{Blank, Book, Ledger, Share};
+use std::sync::ledger::{Blank, Book, Share};
 use std::sync::{Mutex, MutexGuard, Wait};
 
 /// What lies under the lock: the journal, and the sum of the seats' shares.
@@ -30,32 +32,6 @@ pub struct Locked<L: SiteName> {
     ghost begins: { journal.opening ≡ L.opening },
 }
 
-/// A caller's seat, with the calls that it made.
-#[derive(Drop)]
-pub struct Seat<L: SiteName> {
-    pub(crate) number: u16,
-    pub(crate) calls: Vec<Call>,
-    share: Share<L>,
-    ghost one: { share.parts ≡ 1 },
-    ghost counted: { share.amount ≡ length calls.items },
-}
-
-impl<L: SiteName> Seat<L> {
-    /// Its number, from 1.
-    pub fn number(&self) -> u16
-        ensures { result ≡ self.now.number }
-    {
-        self.number
-    }
-
-    /// Its calls, the oldest first.
-    pub fn calls(&self) -> &[Call]
-        ensures { result.now ≡ self.now.calls.items }
-    {
-        self.calls.as_slice()
-    }
-}
-
 /// What a call was answered.
 #[derive(Drop)]
 pub struct Receipt<L: SiteName> {
@@ -67,11 +43,12 @@ pub struct Receipt<L: SiteName> {
 }
 
 impl<L: SiteName> Locked<L> {
-    /// A call of this seat.
+    /// A call of this seat. All that may want memory is made before anything changes.
     fn call(&mut self, seat: &mut Seat<L>, event: Event) -> Result<Receipt<L>, LiveFault>
         ensures number { seat.new.number ≡ seat.old.number }
-        ensures ok { IfOk result (λ r. Told seat.old.calls.items seat.new.calls.items r.place event (Ok r.reply)) }
-        ensures err { IfErr result (λ e. ToldRefused e seat.old.calls.items seat.new.calls.items event) }
+        ensures ok { IfOk result (λ r. Told seat.old.calls seat.new.calls r.place event (Ok r.reply)) }
+        ensures err { IfErr result (λ e. ToldRefused e seat.old.calls seat.new.calls event) }
+        ensures full { (length self.old.journal.records ≡ MAX_RECORDS) ↔ (result ≡ Err LiveFault.JournalFull) }
     {
         if self.journal.is_full() {
             return Err(LiveFault::JournalFull);
@@ -102,12 +79,13 @@ impl<L: SiteName> Locked<L> {
     }
 }
 
-/// A site. Any thread may call it.
+/// A site: a node with its journal under one lock. Any thread that has a seat may call it.
 #[derive(Drop)]
 pub struct Site<L: SiteName> {
     locked: Mutex<Locked<L>>,
     seats: usize,
     ghost all: { seats ≡ L.seats },
+    ghost some: { 0 < L.seats },
 }
 
 // The book, and a seat for each part.
@@ -117,36 +95,25 @@ fn deal<L: SiteName>(
     count: u16,
 ) -> Result<(Book<L>, Vec<Seat<L>>), NoMemory>
     requires { (blank.name ≡ L.name) × (blank.parts ≡ L.parts) × (blank.parts ≡ count) }
-    ensures { IfOk result (λ r. (r.0.total ≡ 0) × (vec_len r.1 ≡ count) × All (λ s. s.calls.items ≡ []) r.1.items) }
+    ensures { IfOk result (λ r. (r.0.total ≡ 0) × (r.1.items ≡ new_seats count)) }
 {
     let (book, mut rest) = blank.open::<L>();
     let mut seats = Vec::new(alloc);
     for number in 0..count {
         let share = rest.split_off(1, 0);
-        seats.push(new_seat(alloc, number + 1, share))?;
+        seats.push(Seat::new(alloc, number + 1, share))?;
     }
     Ok((book, seats))
 }
 
-fn new_seat<L: SiteName>(alloc: Global, number: u16, share: Share<L>) -> Seat<L>
-    requires { (share.parts ≡ 1) × (share.amount ≡ 0) }
-    ensures { (result.number ≡ number) × (result.calls.items ≡ []) }
-{
-    Seat {
-        number,
-        calls: Vec::new(alloc),
-        share,
-    }
-}
-
-/// The site under its name, with its seats. At `Err` the blank is given up. (Pages will end here at `Err`, for which it
-/// may wait.)
+/// The site under its name, with its seats: numbered from 1, without calls. It is called in a function over the name,
+/// whose caller sees to it that the name stands for this blank. At `Err` the blank is given up.
 pub fn open_site<L: SiteName, R: Wait>(
     _rt: &R,
     blank: SiteBlank,
 ) -> Result<(Site<L>, Vec<Seat<L>>), NoMemory>
     requires { IsBlankOf blank L.name L.parts L.seats L.opening }
-    ensures { IfOk result (λ r. (vec_len r.1 ≡ blank.seats) × All (λ s. s.calls.items ≡ []) r.1.items) }
+    ensures { IfOk result (λ r. r.1.items ≡ new_seats blank.seats) }
 {
     let SiteBlank {
         blank,
@@ -165,10 +132,10 @@ pub fn open_site<L: SiteName, R: Wait>(
 
 // The place at which a seat's calls and its records differ.
 fn mismatch<L: SiteName>(records: &[Record], seats: &[Seat<L>]) -> Option<u64>
-    ensures { IfNone result (All (λ s. calls_of s.number records.now ≡ s.calls.items) seats.now) }
+    ensures { IfNone result (All (λ s. calls_of s.number records.now ≡ s.calls) seats.now) }
 {
     for seat in seats {
-        if let Some(place) = same_calls(records, seat.number, seat.calls.as_slice()) {
+        if let Some(place) = same_calls(records, seat.number(), seat.calls()) {
             return Some(place);
         }
     }
@@ -181,7 +148,7 @@ fn seat_at<L: SiteName>(seats: &[Seat<L>], number: u16) -> Option<usize>
 {
     for i in 0..seats.len() {
         let one = &seats[i];
-        if one.number == number {
+        if one.number() == number {
             return Some(i);
         }
     }
@@ -204,7 +171,7 @@ fn stranger<L: SiteName>(records: &[Record], seats: &[Seat<L>]) -> Option<u64>
 
 // All shares in one.
 fn merged<L: SiteName>(mut seats: Vec<Seat<L>>, mut all: Share<L>) -> Share<L>
-    ensures { (result.parts ≡ all.parts + vec_len seats) × (result.amount ≡ all.amount + sum_by (λ s. length s.calls.items) seats.items) }
+    ensures { (result.parts ≡ all.parts + vec_len seats) × (result.amount ≡ all.amount + sum_by (λ s. length s.calls) seats.items) }
 {
     while let Some(seat) = seats.pop() {
         let Seat {
@@ -218,7 +185,11 @@ fn merged<L: SiteName>(mut seats: Vec<Seat<L>>, mut all: Share<L>) -> Share<L>
 }
 
 impl<L: SiteName> Site<L> {
-    /// Asks the node. A refusal of the node is a record too.
+    /// Asks the node. The seat then has one call more: the place of its record, the event and the answer. A refusal of
+    /// the node is a record too.
+    ///
+    /// `JournalFull` comes where the journal has [`MAX_RECORDS`](crate::MAX_RECORDS) records. `NoMemory` comes after it,
+    /// but before a refusal of the node, since that needs room for its record. At both nothing changes.
     pub fn call<R: Wait>(
         &self,
         rt: &R,
@@ -226,8 +197,8 @@ impl<L: SiteName> Site<L> {
         event: Event,
     ) -> Result<Receipt<L>, LiveFault>
         ensures number { seat.new.number ≡ seat.old.number }
-        ensures ok { IfOk result (λ r. Told seat.old.calls.items seat.new.calls.items r.place event (Ok r.reply)) }
-        ensures err { IfErr result (λ e. ToldRefused e seat.old.calls.items seat.new.calls.items event) }
+        ensures ok { IfOk result (λ r. Told seat.old.calls seat.new.calls r.place event (Ok r.reply)) }
+        ensures err { IfErr result (λ e. ToldRefused e seat.old.calls seat.new.calls event) }
     {
         let mut guard = self.locked.lock(rt);
         let answer = guard.call(seat, event);
@@ -235,15 +206,19 @@ impl<L: SiteName> Site<L> {
         answer
     }
 
-    /// Ends the site: its journal, where each seat's calls are its records. At `Err` the site and its seats are given up.
+    /// Ends the site: its journal, in which each seat's calls stand once, and nothing else.
+    ///
+    /// `SeatMissing` comes where fewer seats come back than the site was opened with. `Mismatch` comes where a seat's
+    /// calls aren't its records, or a record is of none of these seats. At both the site and its seats are given up.
     pub fn close<R: Wait>(self, _rt: &R, mut seats: Vec<Seat<L>>) -> Result<Closed, CloseFault>
-        requires { (L.seats ≡ L.parts) × (0 < L.seats) }
+        requires { L.seats ≡ L.parts }
         ensures opening { IfOk result (λ c. c.opening ≡ L.opening) }
         // Each seat's calls are the seat's records, with their places and in the journal's order.
-        ensures calls { IfOk result (λ c. All (λ s. calls_of s.number c.records ≡ s.calls.items) seats.items) }
+        ensures calls { IfOk result (λ c. All (λ s. calls_of s.number c.records ≡ s.calls) seats.items) }
         // There are no other records.
         ensures others { IfOk result (λ c. All (λ r. IsOneOf r.seat (λ s. s.number) seats.items) c.records) }
-        ensures count { IfOk result (λ c. length c.records ≡ sum_by (λ s. length s.calls.items) seats.items) }
+        ensures count { IfOk result (λ c. length c.records ≡ sum_by (λ s. length s.calls) seats.items) }
+        ensures missing { (vec_len seats ≢ L.seats) ↔ (result ≡ Err CloseFault.SeatMissing) }
     {
         let Site {
             locked,

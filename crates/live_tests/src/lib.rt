@@ -1,5 +1,10 @@
-//! Tests of sites: worked calls and their places, closing, and calls of two threads.
+//! Tests of sites: worked calls and their places, closing, a full journal, calls of two threads, and what one journal
+//! has of a seat.
 #![tactic(auto)]
 
+#[cfg(test)]
+mod matching;
+#[cfg(test)]
+mod recording;
 #[cfg(test)]
 mod sites;

@@ -1,12 +1,12 @@
-//! Sites: calls and their places, closing, and two threads.
+//! Sites: calls and their places, closing, a full journal, and two threads.
 ghost use Rattle.dac_live.specs.Sites.{IsBlankOf};
 
 use dac_base::NodeId;
 use dac_commands::Refusal;
 use dac_config::read_config;
 use dac_live::{
-    CloseFault, Closed, LiveFault, OpenFault, Receipt, Seat, Site, SiteBlank, SiteName, blank_site,
-    open_site,
+    CloseFault, Closed, LiveFault, OpenFault, Receipt, Record, Seat, Site, SiteBlank, SiteName,
+    blank_site, open_site,
 };
 use dac_messages::{Event, Reply};
 use std::alloc::Global;
@@ -30,17 +30,18 @@ enum Told {
     Fault(LiveFault),
 }
 
-fn told<L: SiteName>(answer: Result<Receipt<L>, LiveFault>) -> (u64, Told) {
+fn of_reply(reply: &Reply) -> Told {
+    match reply {
+        Reply::Booted(_) => Told::Booted,
+        Reply::Held => Told::Held,
+        Reply::Crashed => Told::Crashed,
+        _ => Told::Other,
+    }
+}
+
+fn in_short<L: SiteName>(answer: Result<Receipt<L>, LiveFault>) -> (u64, Told) {
     match answer {
-        Ok(receipt) => {
-            let what = match &receipt.reply {
-                Reply::Booted(_) => Told::Booted,
-                Reply::Held => Told::Held,
-                Reply::Crashed => Told::Crashed,
-                _ => Told::Other,
-            };
-            (receipt.place, what)
-        }
+        Ok(receipt) => (receipt.place, of_reply(&receipt.reply)),
         Err(LiveFault::Refused { place, why }) => (place, Told::Refused(why)),
         Err(fault) => (0, Told::Fault(fault)),
     }
@@ -53,11 +54,11 @@ fn five_calls<L: SiteName, R: Wait>(
     first: &mut Seat<L>,
     second: &mut Seat<L>,
 ) -> [(u64, Told); 5] {
-    let boot = told(site.call(rt, first, Event::Boot { now: 0 }));
-    let tick = told(site.call(rt, second, Event::Tick { now: 0 }));
-    let again = told(site.call(rt, first, Event::Boot { now: 1 }));
-    let crash = told(site.call(rt, second, Event::Crash));
-    let off = told(site.call(rt, second, Event::Crash));
+    let boot = in_short(site.call(rt, first, Event::Boot { now: 0 }));
+    let tick = in_short(site.call(rt, second, Event::Tick { now: 0 }));
+    let again = in_short(site.call(rt, first, Event::Boot { now: 1 }));
+    let crash = in_short(site.call(rt, second, Event::Crash));
+    let off = in_short(site.call(rt, second, Event::Crash));
     [boot, tick, again, crash, off]
 }
 
@@ -98,6 +99,27 @@ const ANSWERS: [(u64, Told); 5] = [
     (5, Told::Refused(Refusal::Off)),
 ];
 
+/// The seats of the five records, in the journal's order.
+const SEATS: [u16; 5] = [1, 2, 1, 2, 2];
+
+/// Whether the records are these seats', with these answers.
+fn are_five(records: &[Record]) -> bool {
+    if records.len() != 5 {
+        return false;
+    }
+    for i in 0..5usize {
+        let one = &records[i];
+        let answer = match &one.answer {
+            Ok(reply) => of_reply(reply),
+            Err(why) => Told::Refused(*why),
+        };
+        if one.seat != SEATS[i] || answer != ANSWERS[i].1 {
+            return false;
+        }
+    }
+    true
+}
+
 /// Whether the five calls are answered so, and the journal is closed with their records.
 fn five_are_answered<R: Wait>(rt: &R, alloc: Global) -> Option<bool> {
     let blank = two_seats(rt, alloc, 0).ok()?;
@@ -107,7 +129,7 @@ fn five_are_answered<R: Wait>(rt: &R, alloc: Global) -> Option<bool> {
         answers == ANSWERS
             && closed.node() == NodeId(0)
             && closed.last() == 0
-            && closed.records().len() == 5,
+            && are_five(closed.records()),
     )
 }
 
@@ -137,6 +159,56 @@ fn a_seat_is_missing(rt: HostRuntime) -> Result<(), Fail> {
 fn there_are_no_readers_yet(rt: HostRuntime) -> Result<(), Fail> {
     let fault = two_seats(&rt, rt.alloc(), 1).err();
     assert_eq!(rt; fault, Some(OpenFault::NoReader));
+    Ok(())
+}
+
+/// Ticks at a node that is off, as many as a journal holds. Whether each is refused at the next place.
+fn fills<L: SiteName, R: Wait>(rt: &R, site: &Site<L>, seat: &mut Seat<L>) -> bool {
+    for now in 0..65_536u64 {
+        let answer = in_short(site.call(rt, seat, Event::Tick { now }));
+        if answer != (now + 1, Told::Refused(Refusal::Off)) {
+            return false;
+        }
+    }
+    true
+}
+
+/// A site whose journal is full: what one more call is answered, how many calls the seat then has, and how many records
+/// the journal.
+fn one_more<L: SiteName, R: Wait>(
+    rt: &R,
+    alloc: Global,
+    blank: SiteBlank,
+) -> Option<(Told, usize, usize)>
+    requires { IsBlankOf blank L.name L.parts L.seats L.opening }
+{
+    let (site, mut seats) = open_site::<L, R>(rt, blank).ok()?;
+    let second = seats.pop()?;
+    let mut first = seats.pop()?;
+    if !fills(rt, &site, &mut first) {
+        return None;
+    }
+    let (_, last) = in_short(site.call(rt, &mut first, Event::Crash));
+    let calls = first.calls().len();
+    let mut back = Vec::new(alloc);
+    back.push(first).ok()?;
+    back.push(second).ok()?;
+    let closed = site.close(rt, back).ok()?;
+    Some((last, calls, closed.records().len()))
+}
+
+/// The same, from the opening on.
+fn one_too_many<R: Wait>(rt: &R, alloc: Global) -> Option<(Told, usize, usize)> {
+    let blank = two_seats(rt, alloc, 0).ok()?;
+    one_more::<Brand, R>(rt, alloc, blank)
+}
+
+#[test]
+fn a_journal_is_full(rt: HostRuntime) -> Result<(), Fail> {
+    assert_eq!(rt;
+        one_too_many(&rt, rt.alloc()),
+        Some((Told::Fault(LiveFault::JournalFull), 65_536, 65_536))
+    );
     Ok(())
 }
 

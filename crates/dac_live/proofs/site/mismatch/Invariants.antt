@@ -3,4 +3,4 @@ use Rattle.dac_live.specs.Journals.{calls_of}
 use Rattle.dac_live.proofs.site.mismatch.Given as goal
 
 abbrev pub invariant-loop-seat : goal.invariant-loop-seat
-invariant-loop-seat g l = All (λ s. calls_of s.number l.records ≡ s.calls.items) (take l.seat-index l.seats)
+invariant-loop-seat g l = All (λ s. calls_of s.number l.records ≡ s.calls) (take l.seat-index l.seats)

@@ -1,0 +1,131 @@
+//! Where a seat's calls and its records first differ.
+use dac_commands::Refusal;
+use dac_live::laws::same_calls;
+use dac_live::{Answer, Call, Record};
+use dac_messages::{Event, Reply};
+use std::alloc::Global;
+use std::test::Fail;
+
+/// Three records: a boot and a crash of the first seat, and a tick of the second between them.
+fn three_records(alloc: Global) -> Option<Vec<Record>> {
+    let mut records = Vec::new(alloc);
+    records
+        .push(record(1, Event::Boot { now: 7 }, Ok(Reply::Held)))
+        .ok()?;
+    records
+        .push(record(2, Event::Tick { now: 8 }, Err(Refusal::MomentBack)))
+        .ok()?;
+    records
+        .push(record(1, Event::Crash, Ok(Reply::Crashed)))
+        .ok()?;
+    Some(records)
+}
+
+fn record(seat: u16, event: Event, answer: Answer) -> Record {
+    Record {
+        seat,
+        event,
+        answer,
+    }
+}
+
+fn call(place: u64, event: Event, answer: Answer) -> Call {
+    Call {
+        place,
+        event,
+        answer,
+    }
+}
+
+/// A list of calls that a seat may have.
+#[derive(Clone, Copy, Debug, PartialEq, Eq)]
+enum Calls {
+    /// Those of the first seat's records.
+    Both,
+    /// The boot alone.
+    Boot,
+    /// The same with another moment.
+    LaterBoot,
+    /// Both, with a tick in place of the crash.
+    Tick,
+    /// Both, with another answer to the crash.
+    OtherReply,
+    /// Both, with a refusal of the crash.
+    Refused,
+    /// Both, with this place of the crash.
+    At(u64),
+    /// Both, and a crash at place 7.
+    Third,
+    /// None.
+    None,
+}
+
+fn first_call(calls: Calls) -> Option<Call> {
+    match calls {
+        Calls::None => None,
+        Calls::LaterBoot => Some(call(1, Event::Boot { now: 8 }, Ok(Reply::Held))),
+        _ => Some(call(1, Event::Boot { now: 7 }, Ok(Reply::Held))),
+    }
+}
+
+fn second_call(calls: Calls) -> Option<Call> {
+    match calls {
+        Calls::None | Calls::Boot | Calls::LaterBoot => None,
+        Calls::Tick => Some(call(3, Event::Tick { now: 7 }, Ok(Reply::Crashed))),
+        Calls::OtherReply => Some(call(3, Event::Crash, Ok(Reply::GaveUp))),
+        Calls::Refused => Some(call(3, Event::Crash, Err(Refusal::Off))),
+        Calls::At(place) => Some(call(place, Event::Crash, Ok(Reply::Crashed))),
+        Calls::Both | Calls::Third => Some(call(3, Event::Crash, Ok(Reply::Crashed))),
+    }
+}
+
+/// Where these calls and the records of a seat first differ; the outer `None` for want of memory.
+fn differ(alloc: Global, seat: u16, calls: Calls) -> Option<Option<u64>> {
+    let records = three_records(alloc)?;
+    let mut list = Vec::new(alloc);
+    if let Some(first) = first_call(calls) {
+        list.push(first).ok()?;
+    }
+    if let Some(second) = second_call(calls) {
+        list.push(second).ok()?;
+    }
+    if calls == Calls::Third {
+        list.push(call(7, Event::Crash, Ok(Reply::Crashed))).ok()?;
+    }
+    Some(same_calls(records.as_slice(), seat, list.as_slice()))
+}
+
+/// A seat, its calls, and the place at which they and its records first differ.
+const ROWS: [(u16, Calls, Option<u64>); 14] = [
+    (1, Calls::Both, None),
+    (1, Calls::Boot, Some(3)),
+    (1, Calls::LaterBoot, Some(1)),
+    (1, Calls::Tick, Some(3)),
+    (1, Calls::OtherReply, Some(3)),
+    (1, Calls::Refused, Some(3)),
+    (1, Calls::At(2), Some(2)),
+    (1, Calls::At(9), Some(3)),
+    (1, Calls::Third, Some(7)),
+    (1, Calls::None, Some(1)),
+    (2, Calls::None, Some(2)),
+    (2, Calls::Both, Some(1)),
+    (3, Calls::None, None),
+    (3, Calls::Both, Some(1)),
+];
+
+/// The number of the first row that is answered otherwise.
+fn wrong_row(alloc: Global) -> Option<usize> {
+    for i in 0..ROWS.len() {
+        let (seat, calls, place) = ROWS[i];
+        if differ(alloc, seat, calls) != Some(place) {
+            return Some(i);
+        }
+    }
+    None
+}
+
+#[test]
+fn calls_and_records(rt: HostRuntime) -> Result<(), Fail> {
+    assert_eq!(rt; wrong_row(rt.alloc()), None);
+    Ok(())
+}

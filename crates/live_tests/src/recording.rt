@@ -1,0 +1,39 @@
+//! Records of a journal that is lent.
+use dac_base::NodeId;
+use dac_commands::Refusal;
+use dac_config::read_config;
+use dac_live::laws::add_record;
+use dac_live::{LiveFault, SiteBlank, blank_site};
+use dac_messages::{Event, Reply};
+use std::alloc::Global;
+use std::sync::Wait;
+use std::test::Fail;
+
+/// Whether a boot and a second one are recorded at the first two places, with the seats' numbers.
+fn are_recorded<R: Wait>(rt: &R, alloc: Global) -> Option<bool> {
+    let config = read_config(alloc, b"[{kernel,[{distributed,[{a,[b@h]}]}]}].").ok()?;
+    let blank = blank_site(rt, alloc, &config, NodeId(0), 4, 2, 0).ok()?;
+    let SiteBlank { mut journal, .. } = blank;
+    let first = add_record(rt, &mut journal, 2, Event::Boot { now: 0 });
+    let second = add_record(rt, &mut journal, 1, Event::Boot { now: 1 });
+    let boots = matches!(first, Ok((1, Reply::Booted(_))));
+    let refused = LiveFault::Refused {
+        place: 2,
+        why: Refusal::AlreadyOn,
+    };
+    let records = journal.records();
+    let both = records.len() == 2;
+    Some(
+        boots
+            && second.err() == Some(refused)
+            && both
+            && records[0].seat == 2
+            && records[1].seat == 1,
+    )
+}
+
+#[test]
+fn boots_are_recorded(rt: HostRuntime) -> Result<(), Fail> {
+    assert_eq!(rt; are_recorded(&rt, rt.alloc()), Some(true));
+    Ok(())
+}
