@@ -21,7 +21,7 @@ use Rattle.dac_dots.specs.declared.dot.Dot.{Dot}
 use Rattle.dac_dots.specs.CounterLaws.{is_eq-then}
 use Rattle.dac_dots.specs.KeyLaws.{has_is}
 use Rattle.dac_dots.specs.RowSets.{has_one_to, has_dots, has_row, has_rows, absent}
-use Rattle.dac_dots.specs.Rows.{Row, row_of, one_to, dots_in_row, dots_in, has_counter, row_has, any_row, origins, IsKept, HasSome, AreKept}
+use Rattle.dac_dots.specs.Rows.{Row, row_of, reach_of, further_of, one_to, dots_in_row, dots_in, has_counter, row_has, any_row, origins, IsKept, HasSome, AreKept}
 use Rattle.dac_dots.proofs.PlaceLemmas.{contains_is}
 use Rattle.dac_dots.proofs.RowLemmas.{row_counter, row_kept, seen_counter}
 
@@ -114,6 +114,12 @@ row_length o ns rising row view =
     ∙ sym (len_apart nat_cmp all nat_cmp_total (apart_counters own (row_kept o ns rising)))
     ∙ length-append (one_to own.upto) own.further ∙ ap (λ n. n + length own.further) (length_one_to own.upto)
     ∙ ap row_len view
+
+-- counters that rise go so far, and the further ones are the rest
+pub further_length : (ns further : List ℕ) → IsRising nat_cmp ns → further_of (reach_of ns) ns ≡ further → length ns ≡ reach_of ns + length further
+further_length ns further rising view =
+    let o : Origin = record { node = record { 0 = 0 }; inc = 0 } in
+    row_length o ns rising (row_of o ns) refl ∙ ap (λ (l : List ℕ). reach_of ns + length l) view
 
 length_rows : (rows : List Row) → length (flat_map dots_in_row rows) ≡ sum_by row_len rows
 length_rows [] = refl
