@@ -11,11 +11,12 @@ use Rattle.std.proofs.lemmas.List.Folds.{list_any-append, list_any_none, list_an
 use Rattle.dac_dots.specs.Keys.{is_below_all, is_rising, IsRising, has_key}
 use Rattle.std.proofs.lemmas.Cmp.{nat_cmp_total}
 use Rattle.std.proofs.lemmas.Map.Lookups.{exact_unsigned}
-use Rattle.dac_dots.specs.InOrder.{same_rising}
+use Rattle.dac_dots.specs.InOrder.{or_swap, same_rising}
 use Rattle.dac_dots.specs.CounterLaws.{is_less, on_the_way, ends_there, rising_filter, has_key-filter}
 use Rattle.dac_dots.specs.Rows.{IsGreatest, further_of, reach_of}
 use Rattle.dac_dots.specs.Runs.{from_on, counters_of_run, counters_in, run_has, any_run, any_past, are_apart, AreRuns, HaveEnded, IsPlaceFor, joined, absorbed}
 use Rattle.dac_dots.specs.declared.counters.Run.{Run}
+use Rattle.dac_dots.proofs.PlaceLemmas.{or_assoc}
 
 -- ---- which counters runs have
 
@@ -160,10 +161,6 @@ IsNext run (next ∷ runs) = run.first ≤ next.last + 1
 joined_has : (a b c d n : ℕ) → a ≤ b → c ≤ d → a ≤ d + 1 → c ≤ b + 1 → (nat_le (min a c) n && nat_le n (max b d)) ≡ ((nat_le a n && nat_le n b) || (nat_le c n && nat_le n d))
 joined_has a b c d n p q r s = grind (arith, nat_tests)
 
-or_assoc : (a b c : Bool) → ((a || b) || c) ≡ (a || (b || c))
-or_assoc true b c = refl
-or_assoc false b c = refl
-
 joined_next : (run next : Run) (runs : List Run) → next.first ≤ next.last → run.first ≤ next.last + 1 → are_apart (next.last + 2) runs ≡ true → IsNext (joined run next) runs
 joined_next run next [] v p h = tt
 joined_next run next (after ∷ runs) v p h =
@@ -197,11 +194,6 @@ absorbed_apart run (next ∷ runs) low v p h =
     ] refl
 
 -- ---- a run that is put at its place
-
-or_swap : (a b c : Bool) → (a || (b || c)) ≡ (b || (a || c))
-or_swap true true c = refl
-or_swap true false c = refl
-or_swap false b c = refl
 
 rest_place : (run : Run) (runs : List Run) (place first : ℕ) → IsPlaceFor (run ∷ runs) (suc place) first → IsPlaceFor runs place first
 rest_place run runs place first is = record {

@@ -1,4 +1,4 @@
-use Rattle.std.proofs.Common.{nat_lt, rules, arith}
+use Rattle.std.proofs.Common.{nat_lt, rules}
 use Rattle.std.proofs.lemmas.List.Sorted.{IsPartitionPoint-from_clause}
 use Rattle.dac_dots.specs.declared.counters.Run.{Run}
 use Rattle.dac_dots.proofs.RunLemmas.{none_ended, parted_by_end}

@@ -1,4 +1,4 @@
-use Rattle.std.proofs.Common.{◌+◌, nat_lt, rules, sym, ◌∙◌, arith}
+use Rattle.std.proofs.Common.{◌+◌, nat_lt, rules, sym, ◌∙◌}
 use Rattle.std.proofs.lemmas.List.Sorted.{IsPartitionPoint-from_clause}
 use Rattle.dac_dots.specs.declared.counters.Run.{Run}
 use Rattle.dac_dots.proofs.RunLemmas.{parted_by_gap, place_at_end, place_at_last}
