@@ -7,7 +7,7 @@ ghost use Rattle.std.specs.List.{flat_map};
 
 use crate::writer::ByteWriter;
 use dac_base::NoMemory;
-use dac_dots::{Context, Origin};
+use dac_dots::{Context, Further, Origin};
 
 fn write_numbers(mut writer: ByteWriter, numbers: &[u64]) -> Result<ByteWriter, NoMemory>
     ensures { IfOk result (λ written. written ≡ writer ++ flat_map u64_bytes numbers.now) }
@@ -24,15 +24,16 @@ fn write_row(
     writer: ByteWriter,
     origin: Origin,
     upto: u64,
-    further: &[u64],
+    further: Further<'_>,
 ) -> Result<ByteWriter, NoMemory>
-    ensures { IfOk result (λ written. written ≡ writer ++ row_bytes (record { origin = origin; upto = upto; further = further.now })) }
+    ensures { IfOk result (λ written. written ≡ writer ++ row_bytes (record { origin = origin; upto = upto; further = further.entry })) }
 {
+    let further = further.list(writer.allocator())?;
     let head = writer
         .write_origin(origin)?
         .write_u64(upto)?
         .write_count_u32(further.len())?;
-    let written = write_numbers(head, further)?;
+    let written = write_numbers(head, &further)?;
     Ok(written)
 }
 
@@ -46,8 +47,8 @@ fn write_rows(
     ensures { IfOk result (λ written. written ≡ writer ++ flat_map row_bytes (rows_of context.now)) }
 {
     for i in 0..rows {
-        if let Some((origin, upto, further)) = context.row(i)? {
-            writer = write_row(writer, origin, upto, &further)?;
+        if let Some((origin, upto, further)) = context.row(i) {
+            writer = write_row(writer, origin, upto, further)?;
         }
     }
     Ok(writer)

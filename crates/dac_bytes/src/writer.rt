@@ -35,6 +35,11 @@ impl ByteWriter {
         }
     }
 
+    /// Where the memory comes from.
+    pub(crate) fn allocator(&self) -> Global {
+        *self.bytes.allocator()
+    }
+
     /// What was written.
     pub fn into_bytes(self) -> Vec<u8>
         ensures { result.items ≡ self }

@@ -15,10 +15,11 @@ use Rattle.dac_dots.specs.InOrder.{tie, less}
 use Rattle.dac_dots.specs.Dots.{Dots, dot, dots_total, exact_dots, origin_cmp, origins_total, exact_origins, IsSubset, IsNext, IsUsedUp, IsVector}
 use Rattle.dac_dots.specs.declared.dot.Origin.{Origin}
 use Rattle.dac_dots.specs.declared.dot.Dot.{Dot}
-use Rattle.dac_dots.specs.CounterLaws.{less as number_less, same, is_same}
+use Rattle.dac_dots.specs.CounterLaws.{less as number_less, is_same}
 use Rattle.dac_dots.specs.RowSets.{kept_are, kept_ends, some_counter, alone, IsAlone, rises_to}
 use Rattle.dac_dots.specs.Rows.{Row, dots_in, rows_of, has_counter, row_has, any_row, origins, rises_on, IsKept, HasSome, AreKept, IsLastOf, IsRowIn, IsWithinRow, IsBelow, CanFollow}
 use Rattle.dac_dots.proofs.PlaceLemmas.{contains_is, row_there, some_from, at_origin, length_origins}
+use Rattle.dac_dots.proofs.RowLemmas.{above_low}
 
 -- ---- one row in a set
 
@@ -177,13 +178,6 @@ rises_from low (n ∷ ns) h =
 
 pub rises_both : (low : ℕ) (ns : List ℕ) (b : Bool) → b ≡ rises_on low ns → IsTrue b ↔ IsRising nat_cmp (low ∷ ns)
 rises_both low ns b is = (λ yes. rises_to low ns (sym is ∙ yes), λ h. is ∙ rises_from low ns h)
-
-above_low : (low : ℕ) (ns : List ℕ) (n : ℕ) → is_below_all nat_cmp low ns ≡ true → has_key nat_cmp ns n ≡ true → low < n
-above_low low [] n h e = absurd (false≢true e)
-above_low low (x ∷ ns) n h e = elim (or_cases (eq_by_cmp nat_cmp n x) (has_key nat_cmp ns n) e) [
-  | inl at ↦ let is = same n x at in let p = number_less low x (and_parts _ _ h).0 in omega arith
-  | inr past ↦ above_low low ns n (and_parts _ _ h).1 past
-]
 
 pub follows_kept : (row : Row) → IsRising nat_cmp ((row.upto + 1) ∷ row.further) → IsKept row
 follows_kept row h =

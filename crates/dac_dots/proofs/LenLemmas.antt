@@ -21,9 +21,9 @@ use Rattle.dac_dots.specs.declared.dot.Dot.{Dot}
 use Rattle.dac_dots.specs.CounterLaws.{is_eq-then}
 use Rattle.dac_dots.specs.KeyLaws.{has_is}
 use Rattle.dac_dots.specs.RowSets.{has_one_to, has_dots, has_row, has_rows, absent}
-use Rattle.dac_dots.specs.Rows.{Row, row_of, one_to, dots_in_row, dots_in, has_counter, row_has, any_row, origins, IsKept, HasSome, AreKept}
+use Rattle.dac_dots.specs.Rows.{Row, row_of, reach_of, further_of, one_to, dots_in_row, dots_in, has_counter, row_has, any_row, origins, IsKept, HasSome, AreKept}
 use Rattle.dac_dots.proofs.PlaceLemmas.{contains_is}
-use Rattle.dac_dots.proofs.RowLemmas.{row_counter, row_kept, seen_counter}
+use Rattle.dac_dots.proofs.RowLemmas.{no_range, row_counter, row_kept, seen_counter}
 
 -- ---- lists without repeats
 
@@ -115,6 +115,12 @@ row_length o ns rising row view =
     ∙ length-append (one_to own.upto) own.further ∙ ap (λ n. n + length own.further) (length_one_to own.upto)
     ∙ ap row_len view
 
+-- counters that rise go so far, and the further ones are the rest
+pub further_length : (ns further : List ℕ) → IsRising nat_cmp ns → further_of (reach_of ns) ns ≡ further → length ns ≡ reach_of ns + length further
+further_length ns further rising view =
+    let o : Origin = record { node = record { 0 = 0 }; inc = 0 } in
+    row_length o ns rising (row_of o ns) refl ∙ ap (λ (l : List ℕ). reach_of ns + length l) view
+
 length_rows : (rows : List Row) → length (flat_map dots_in_row rows) ≡ sum_by row_len rows
 length_rows [] = refl
 length_rows (row ∷ rows) =
@@ -152,9 +158,6 @@ start_dots false n old = refl
 -- no dot is put in yet
 pub none_put : (o : Origin) (old : List Dot) (q : Dot) → has_key dot_cmp old q ≡ ((eq_by_cmp origin_cmp q.origin o && ((nat_le 1 q.n && nat_le q.n 0) || false)) || has_key dot_cmp old q)
 none_put o old q = start_dots (eq_by_cmp origin_cmp q.origin o) q.n (has_key dot_cmp old q)
-
-no_range : (n : ℕ) (k : Bool) → ((nat_le 1 n && nat_le n 0) || k) ≡ k
-no_range n k = grind (arith, nat_tests)
 
 -- all dots of the row are put in
 pub row_put : (o : Origin) (ns counters : List ℕ) (row : Row) → row_of o ns ≡ row → counters ≡ ns → (i : ℕ) → length counters ≤ i → (old new : List Dot) → ((q : Dot) → has_key dot_cmp new q ≡ ((eq_by_cmp origin_cmp q.origin o && ((nat_le 1 q.n && nat_le q.n 0) || has_key nat_cmp (take i counters) q.n)) || has_key dot_cmp old q))

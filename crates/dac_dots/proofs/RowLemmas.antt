@@ -11,10 +11,11 @@ use Rattle.dac_dots.specs.Keys.{is_below_all, is_rising, IsRising, has_key}
 use Rattle.dac_dots.specs.InOrder.{same_rising, below_absent}
 use Rattle.dac_dots.specs.CounterLaws.{grows, on_the_way, ends_there, has_key-filter, rising_filter, same, is_same, less as number_less}
 use Rattle.dac_dots.specs.RowLaws.{splits}
-use Rattle.dac_dots.specs.RowSets.{some_length, some_counter}
+use Rattle.dac_dots.specs.RowSets.{some_counter}
 use Rattle.dac_dots.specs.Rows.{Row, row_of, reach_of, reach_from, further_of, has_counter, HasAlso, HasBoth, HasMore, HasSome, IsGreatest, IsKept, IsLastOf, IsOne, IsWithinRow}
 use Rattle.dac_dots.specs.declared.dot.Dot.{Dot}
 use Rattle.dac_dots.specs.declared.dot.Origin.{Origin}
+use Rattle.dac_dots.proofs.PlaceLemmas.{some_from}
 use Rattle.dac_dots.proofs.RunLemmas.{reaches}
 
 -- ---- what is settled
@@ -57,7 +58,7 @@ module _ (o : Origin) (v : ℕ) (ns : List ℕ) where
 
 -- ---- the row of counters that rise
 
-no_range : (n : ℕ) (k : Bool) → ((nat_le 1 n && nat_le n 0) || k) ≡ k
+pub no_range : (n : ℕ) (k : Bool) → ((nat_le 1 n && nat_le n 0) || k) ≡ k
 no_range n k = grind (arith, nat_tests)
 
 module _ (o : Origin) (ns : List ℕ) where
@@ -108,22 +109,12 @@ module _ (o : Origin) (ns : List ℕ) where
     pub seen_empty : (b : Bool) → IsTrue b ↔ (ns ≡ []) → IsTrue b ↔ (HasSome seen → ⊥)
     seen_empty b is = (
       λ e some. let found = some_counter seen some in false≢true (sym (ap (λ l. has_key nat_cmp l found.0) (is.0 e)) ∙ sym (seen_counter found.0) ∙ found.1),
-      λ none. is.1 (no_key ns (λ n h. none (some_of seen n (seen_counter n ∙ h)))),
+      λ none. is.1 (no_key ns (λ n h. none (some_from seen n (seen_counter n ∙ h)))),
     )
       where
         no_key : (l : List ℕ) → ((n : ℕ) → has_key nat_cmp l n ≡ true → ⊥) → l ≡ []
         no_key [] h = refl
         no_key (x ∷ l) h = absurd (h x (or_left _ _ (is_same x x refl)))
-
-        some_of : (row : Row) (n : ℕ) → has_counter row n ≡ true → HasSome row
-        some_of row n e = elim (or_cases (nat_le 1 n && nat_le n row.upto) (has_key nat_cmp row.further n) e) [
-          | inl inside ↦
-              let parts = and_parts (nat_le 1 n) (nat_le n row.upto) inside in
-              let low : 1 ≤ n = leb-true 1 n parts.0 in
-              let high : n ≤ row.upto = leb-true n row.upto parts.1 in
-              inl (omega arith)
-          | inr past ↦ inr (some_length row.further n past)
-        ]
 
 pub one_row : (d : Dot) (new : List ℕ) → IsRising nat_cmp new → ((n : ℕ) → has_key nat_cmp new n ≡ (eq_by_cmp nat_cmp n d.n || has_key nat_cmp [] n)) → IsOne d (row_of d.origin new)
 one_row d new rising is = record {
@@ -138,7 +129,7 @@ one_row d new rising is = record {
 
 -- ---- the row of 1 to upto and counters that rise from above upto + 1
 
-above_low : (low : ℕ) (ns : List ℕ) (n : ℕ) → is_below_all nat_cmp low ns ≡ true → has_key nat_cmp ns n ≡ true → low < n
+pub above_low : (low : ℕ) (ns : List ℕ) (n : ℕ) → is_below_all nat_cmp low ns ≡ true → has_key nat_cmp ns n ≡ true → low < n
 above_low low [] n h e = absurd (false≢true e)
 above_low low (x ∷ ns) n h e = elim (or_cases (eq_by_cmp nat_cmp n x) (has_key nat_cmp ns n) e) [
   | inl at ↦ let is = same n x at in let p = number_less low x (and_parts _ _ h).0 in omega arith

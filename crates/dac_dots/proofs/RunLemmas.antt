@@ -2,7 +2,7 @@
 use Rattle.std.proofs.Common.{◌≡◌, ℕ, zero, suc, ◌+◌, ◌-◌, ◌<◌, ◌≤◌, inl, inr, Bool, true, false, cond, ◌||◌, ◌&&◌, nat_le, nat_lt, nat_eq, IsTrue, List, [], ◌∷◌, ◌++◌, length, take, drop, get_or, min, max, refl, sym, ap, ◌∙◌, subst, arith, take-append-drop, length-append, length-drop}
 use Rattle.std.specs.Ordering.{nat_cmp, eq_by_cmp}
 use Rattle.std.specs.List.{flat_map, AllWithin}
-use Rattle.std.specs.List.Sorted.{IsPartitionedBy, IsPartitionPoint}
+use Rattle.std.specs.List.Sorted.{IsPartitionedBy}
 use Rattle.std.proofs.lemmas.Bool.{and_parts, and_from, or_left, or_right, or_cases, false≢true, true≢false, leb-true, le-leb, leb-false, ltb-true, cases_lt, cases_eq, cases_order, eqb-true, lt-ltb, le-ltb, false_from_ne_true, cases_Bool}
 use Rattle.std.proofs.lemmas.Bool.Decides.{nat_tests}
 use Rattle.std.proofs.lemmas.List.{take_all}
@@ -11,11 +11,12 @@ use Rattle.std.proofs.lemmas.List.Folds.{list_any-append, list_any_none, list_an
 use Rattle.dac_dots.specs.Keys.{is_below_all, is_rising, IsRising, has_key}
 use Rattle.std.proofs.lemmas.Cmp.{nat_cmp_total}
 use Rattle.std.proofs.lemmas.Map.Lookups.{exact_unsigned}
-use Rattle.dac_dots.specs.InOrder.{same_rising}
+use Rattle.dac_dots.specs.InOrder.{or_swap, same_rising}
 use Rattle.dac_dots.specs.CounterLaws.{is_less, on_the_way, ends_there, rising_filter, has_key-filter}
 use Rattle.dac_dots.specs.Rows.{IsGreatest, further_of, reach_of}
-use Rattle.dac_dots.specs.Runs.{from_on, counters_of_run, counters_in, run_has, any_run, any_past, are_apart, AreRuns, joined, absorbed}
+use Rattle.dac_dots.specs.Runs.{from_on, counters_of_run, counters_in, run_has, any_run, any_past, are_apart, AreRuns, HaveEnded, IsPlaceFor, joined, absorbed}
 use Rattle.dac_dots.specs.declared.counters.Run.{Run}
+use Rattle.dac_dots.proofs.PlaceLemmas.{or_assoc}
 
 -- ---- which counters runs have
 
@@ -160,10 +161,6 @@ IsNext run (next ∷ runs) = run.first ≤ next.last + 1
 joined_has : (a b c d n : ℕ) → a ≤ b → c ≤ d → a ≤ d + 1 → c ≤ b + 1 → (nat_le (min a c) n && nat_le n (max b d)) ≡ ((nat_le a n && nat_le n b) || (nat_le c n && nat_le n d))
 joined_has a b c d n p q r s = grind (arith, nat_tests)
 
-or_assoc : (a b c : Bool) → ((a || b) || c) ≡ (a || (b || c))
-or_assoc true b c = refl
-or_assoc false b c = refl
-
 joined_next : (run next : Run) (runs : List Run) → next.first ≤ next.last → run.first ≤ next.last + 1 → are_apart (next.last + 2) runs ≡ true → IsNext (joined run next) runs
 joined_next run next [] v p h = tt
 joined_next run next (after ∷ runs) v p h =
@@ -197,17 +194,6 @@ absorbed_apart run (next ∷ runs) low v p h =
     ] refl
 
 -- ---- a run that is put at its place
-
-or_swap : (a b c : Bool) → (a || (b || c)) ≡ (b || (a || c))
-or_swap true true c = refl
-or_swap true false c = refl
-or_swap false b c = refl
-
--- a run's place: those before end too early for it, and those from there on don't
-pub record IsPlaceFor (runs : List Run) (place first : ℕ) : Type 0 where
-  pub within : place ≤ length runs
-  pub before : AllWithin (λ (run : Run). nat_lt (run.last + 1) first ≡ true) runs 0 place
-  pub after : AllWithin (λ (run : Run). nat_lt (run.last + 1) first ≡ false) runs place (length runs)
 
 rest_place : (run : Run) (runs : List Run) (place first : ℕ) → IsPlaceFor (run ∷ runs) (suc place) first → IsPlaceFor runs place first
 rest_place run runs place first is = record {
@@ -315,6 +301,41 @@ out_after n f l p = grind (arith, nat_tests)
 out_before : (n f l : ℕ) → n < f → (nat_le f n && nat_le n l) ≡ false
 out_before n f l p = grind (arith, nat_tests)
 
+-- where the first run doesn't end before a counter, none does
+pub none_ended : (runs : List Run) → are_apart 0 runs ≡ true → (first : Run) → 0 < length runs → first ≡ get_or runs 0 first → (n : ℕ) → n ≤ first.last → HaveEnded runs 0 n
+none_ended runs h first some is n low = (
+  λ j d p q. absurd (omega arith),
+  λ j d p q.
+      let more = ends_rise 0 runs h 0 j d (omega arith) q in
+      let same : (get_or runs 0 d).last ≡ first.last = ap (λ (r : Run). r.last) (get_or_same runs 0 d first some ∙ sym is) in
+      le-ltb (get_or runs j d).last n (omega arith),
+)
+
+-- where the last run ends far before a counter, all do
+pub place_at_end : (runs : List Run) → are_apart 0 runs ≡ true → (last : Run) → 0 < length runs → last ≡ get_or runs (length runs - 1) last → (n : ℕ) → nat_lt (last.last + 1) n ≡ true → IsPlaceFor runs (length runs) n
+place_at_end runs h last some is n far = record {
+  within = omega arith;
+  before = λ j d p q.
+      let more = ends_rise 0 runs h j (length runs - 1) d (omega arith) (omega arith) in
+      let same : (get_or runs (length runs - 1) d).last ≡ last.last = ap (λ (r : Run). r.last) (get_or_same runs (length runs - 1) d last (omega arith) ∙ sym is) in
+      less_from _ _ n (omega arith) far;
+  after = λ j d p q. absurd (omega arith);
+}
+
+-- where the last run begins no later than a counter and doesn't end far before it, the others do
+pub place_at_last : (runs : List Run) → are_apart 0 runs ≡ true → (last : Run) → 0 < length runs → last ≡ get_or runs (length runs - 1) last → (n : ℕ) → nat_lt (last.last + 1) n ≡ false → last.first ≤ n → IsPlaceFor runs (length runs - 1) n
+place_at_last runs h last some is n near low = record {
+  within = omega arith;
+  before = λ j d p q.
+      let later = begins_later 0 runs h j (length runs - 1) d q (omega arith) in
+      let same : (get_or runs (length runs - 1) d).first ≡ last.first = ap (λ (r : Run). r.first) (get_or_same runs (length runs - 1) d last (omega arith) ∙ sym is) in
+      lt-ltb _ n (omega arith);
+  after = λ j d p q.
+      let at : j ≡ length runs - 1 = omega arith in
+      let same : get_or runs j d ≡ last = ap (λ k. get_or runs k d) at ∙ get_or_same runs (length runs - 1) d last (omega arith) ∙ sym is in
+      ap (λ (r : Run). nat_lt (r.last + 1) n) same ∙ near;
+}
+
 -- a number between the runs is in none
 none_between : (runs : List Run) (place n : ℕ) → AllWithin (λ (run : Run). run.last < n) runs 0 place → AllWithin (λ (run : Run). n < run.first) runs place (length runs) → any_run runs n ≡ false
 none_between runs place n low high = list_any_none (run_has n) runs (λ j d p. elim (cases_lt j place) [
@@ -333,7 +354,7 @@ module _ (runs : List Run) (h : are_apart 0 runs ≡ true) (now : List ℕ) (vie
   lacks : (n : ℕ) → run.first ≤ n → n ≤ run.last → any_run runs n ≡ false → HasAll → ⊥
   lacks n p q out all = false≢true (sym out ∙ sym (now_has n) ∙ all n (and_from _ _ (le-leb run.first n p) (le-leb n run.last q)))
 
-  module _ (place : ℕ) (point : IsPartitionPoint (λ (r : Run). nat_lt r.last run.first ≡ true) (λ (r : Run). nat_lt r.last run.first ≡ false) runs place) where
+  module _ (place : ℕ) (point : HaveEnded runs place run.first) where
     before : AllWithin (λ (r : Run). r.last < run.first) runs 0 place
     before j d p q = ltb-true _ _ (point.0 j d p q)
 

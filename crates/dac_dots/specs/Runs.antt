@@ -1,6 +1,6 @@
 -- Counters as runs: numbers that follow one another without a gap.
-use Rattle.std.specs.Prelude.{ℕ, zero, suc, ◌+◌, ◌-◌, ◌≤◌, min, max, nat_le, nat_lt, ◌&&◌, Bool, true, cond, List, [], ◌∷◌}
-use Rattle.std.specs.List.{flat_map, list_any, AllByRecursion}
+use Rattle.std.specs.Prelude.{◌≡◌, ℕ, zero, suc, ◌+◌, ◌-◌, ◌≤◌, min, max, nat_le, nat_lt, ◌&&◌, Bool, true, false, cond, List, [], ◌∷◌, length}
+use Rattle.std.specs.List.{flat_map, list_any, AllByRecursion, AllWithin}
 use Rattle.dac_dots.specs.declared.counters.Run.{Run}
 
 -- so many numbers, from the first on
@@ -36,6 +36,16 @@ are_apart low (run ∷ runs) = nat_le low run.first && (nat_le run.first run.las
 -- each run has a counter
 abbrev pub AreRuns : List Run → Type 0
 AreRuns runs = AllByRecursion (λ (run : Run). run.first ≤ run.last) runs
+
+-- a run's place: those before end too early for it, and those from there on don't
+pub record IsPlaceFor (runs : List Run) (place first : ℕ) : Type 0 where
+  pub within : place ≤ length runs
+  pub before : AllWithin (λ (run : Run). nat_lt (run.last + 1) first ≡ true) runs 0 place
+  pub after : AllWithin (λ (run : Run). nat_lt (run.last + 1) first ≡ false) runs place (length runs)
+
+-- the runs before the place end before the counter, and those from there on don't
+abbrev pub HaveEnded : List Run → ℕ → ℕ → Type 0
+HaveEnded runs place n = AllWithin (λ (run : Run). nat_lt run.last n ≡ true) runs 0 place × AllWithin (λ (run : Run). nat_lt run.last n ≡ false) runs place (length runs)
 
 -- from where the first of both begins to where the last of both ends
 abbrev pub joined : Run → Run → Run

@@ -8,7 +8,7 @@ ghost use Rattle.dac_dots.specs.Rows.{AreRowsOf, CanFollow, HasSome, IsBelow, Is
 ghost use Rattle.dac_dots.specs.declared.dot.Dot.{Dot};
 
 use crate::dot::{Dot, Origin};
-use crate::row::{OriginRow, has_no_dots, place_of, rises_from};
+use crate::row::{Further, OriginRow, has_no_dots, place_of, rises_from};
 use dac_base::{MAX_COUNTER, NoMemory};
 use std::alloc::Global;
 use std::marker::Model;
@@ -219,19 +219,16 @@ impl Context {
     }
 
     /// The row of the `i`-th origin that has dots, by the order of origins: the origin, how far its counters
-    /// go 1, 2, 3, .. without a gap, and the further ones in rising order. [`NoMemory`] is the only error.
-    pub fn row(&self, i: usize) -> Result<Option<(Origin, u64, Vec<u64>)>, NoMemory>
-        ensures value { IfOk result (λ found. MatchOption found (length (rows_of self.now) ≤ i) (λ row. slice_get (rows_of self.now) i ≡ Some (record { origin = row.0; upto = row.1; further = row.2.items }))) }
+    /// go 1, 2, 3, .. without a gap, and the further ones. It takes no memory.
+    pub fn row(&self, i: usize) -> Option<(Origin, u64, Further<'_>)>
+        ensures value { MatchOption result (length (rows_of self.now) ≤ i) (λ row. slice_get (rows_of self.now) i ≡ Some (record { origin = row.0; upto = row.1; further = row.2 })) }
         // There are fewer than there are numbers of places.
         ensures few { length (rows_of self.now) < 2 ^ 63 }
         // What these rows are.
         ensures rows { AreRowsOf self.now (rows_of self.now) }
     {
-        let Some(row) = self.rows.get(i) else {
-            return Ok(None);
-        };
-        let further = row.further(*self.rows.allocator())?;
-        Ok(Some((row.origin, row.upto(), further)))
+        let row = self.rows.get(i)?;
+        Some((row.origin, row.upto(), row.further()))
     }
 
     /// Whether the origin is above all that have dots.

@@ -3,7 +3,7 @@ ghost use Rattle.std.specs.Prelude.{◌≡◌, ◌↔◌, ◌+◌, ◌-◌, ◌^
 ghost use Rattle.std.specs.Ordering.{eq_by_cmp, nat_cmp};
 ghost use Rattle.dac_dots.specs.Keys.{IsRising, has_key};
 ghost use Rattle.dac_dots.specs.Rows.{IsGreatest, further_of, reach_of};
-ghost use Rattle.dac_dots.specs.Runs.{AreRuns, any_past, any_run, run_has, joined, absorbed};
+ghost use Rattle.dac_dots.specs.Runs.{AreRuns, HaveEnded, IsPlaceFor, any_past, any_run, are_apart, run_has, joined, absorbed};
 
 use crate::keys::insert_key;
 use dac_base::NoMemory;
@@ -12,9 +12,6 @@ use std::marker::Model;
 
 /// How many runs of another set are put in one by one. Where there are more, both sets are gone through.
 const FEW: usize = 8;
-
-/// For how many runs more a copy has room.
-const ROOM: usize = 8;
 
 /// Counters that follow one another: `first`, the one after it, and so on to `last`.
 #[derive(Clone, Copy, Debug)]
@@ -100,12 +97,37 @@ fn list_past(counters: &mut Vec<u64>, upto: u64, runs: &[Run]) -> Result<(), NoM
     Ok(())
 }
 
-/// For how many runs a copy of so many has room. None take no memory.
+/// For how many runs a copy of so many has room. A set without a gap mostly grows without one, so it gets no
+/// more room. None take no memory.
 fn room_for(runs: usize) -> usize {
-    if runs == 0 {
-        0
+    if runs <= 1 {
+        runs
     } else {
-        runs.saturating_add(ROOM)
+        runs.saturating_add(1)
+    }
+}
+
+/// How many of the runs end before a counter. A set without a gap is one run, so the first is looked at first.
+fn ended_before(runs: &[Run], n: u64) -> usize
+    requires { are_apart 0 runs.now ≡ true }
+    ensures { HaveEnded runs.now result n }
+{
+    match runs.first() {
+        Some(first) if n <= first.last => 0,
+        _ => runs.partition_point(|run| run.last < n),
+    }
+}
+
+/// Where a run is put: how many of the runs end so far before it that a counter lies between. Most runs are
+/// put behind the last one, or lengthen it, so that is looked at first.
+fn place_for(runs: &[Run], run: Run) -> usize
+    requires { are_apart 0 runs.now ≡ true }
+    ensures { IsPlaceFor runs.now result run.first }
+{
+    match runs.last() {
+        Some(last) if last.ends_before(run) => runs.len(),
+        Some(last) if last.first <= run.first => runs.len() - 1,
+        _ => runs.partition_point(|before| before.ends_before(run)),
     }
 }
 
@@ -140,7 +162,7 @@ impl Counters {
         }
     }
 
-    /// An equal set, with memory of its own. Where there are counters it has room for some more runs.
+    /// An equal set, with memory of its own. Where there are gaps it has room for one run more.
     pub(crate) fn copy(&self, alloc: Global) -> Result<Self, NoMemory>
         ensures { IfOk result (λ copied. copied ≡ self.now) }
     {
@@ -161,7 +183,7 @@ impl Counters {
         requires { run.first ≤ run.last }
         ensures { IsTrue result ↔ ((n : _) → run_has n run ≡ true → has_key nat_cmp self.now n ≡ true) }
     {
-        let place = self.runs.partition_point(|before| before.last < run.first);
+        let place = ended_before(&self.runs, run.first);
         match self.runs.get(place) {
             Some(found) => found.first <= run.first && run.last <= found.last,
             None => false,
@@ -183,7 +205,7 @@ impl Counters {
         ensures err { OnErr result (self.new ≡ self.old) }
         ensures first { OnErr result ((n : _) → run_has n run ≡ true → has_key nat_cmp self.old n ≡ false) }
     {
-        let place = self.runs.partition_point(|before| before.ends_before(run));
+        let place = place_for(&self.runs, run);
         let joined = take_touched(&mut self.runs, place, run);
         self.runs.insert(place, joined)?;
         Ok(())

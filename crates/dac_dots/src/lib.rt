@@ -13,6 +13,7 @@
 pub use context::Context;
 pub use dot::{Dot, Origin};
 pub use keys::MapKey;
+pub use row::Further;
 
 mod context;
 mod counters;

@@ -1,5 +1,5 @@
 //! The dots of one origin: how far its counters go without a gap, and the further ones.
-ghost use Rattle.std.specs.Prelude.{◌≡◌, ◌↔◌, ◌+◌, ◌^◌, ◌<◌, ◌≤◌, ◌||◌, ◌∷◌, length, false, IfOk, IsTrue, OnErr, OnOk};
+ghost use Rattle.std.specs.Prelude.{◌≡◌, ◌↔◌, ◌+◌, ◌^◌, ◌<◌, ◌≤◌, ◌||◌, ◌∷◌, [], length, false, IfOk, IsTrue, OnErr, OnOk};
 ghost use Rattle.std.specs.Ordering.{nat_cmp};
 ghost use Rattle.dac_dots.specs.Rows.{has_counter, HasBoth, HasMore, HasSome, IsLastOf, IsOne, IsPlaceOf, HasAlso, IsWithinRow, origins, rises_on, row_has};
 ghost use Rattle.dac_dots.specs.declared.dot.Dot.{Dot};
@@ -32,6 +32,49 @@ impl Model for OriginRow {
     ghost view = { λ a. row_of a.origin a.counters };
 
     ghost invariant = { λ a. IsRising nat_cmp a.counters };
+}
+
+/// The further counters of an origin: those that aren't 1, 2, 3, .. without a gap, in rising order. It is lent
+/// from a context, and takes no memory. Contracts see it as the list of these counters.
+#[derive(Debug, Drop)]
+pub struct Further<'a> {
+    counters: &'a Counters,
+}
+
+impl<'a> Model for Further<'a> {
+    ghost use Rattle.std.specs.Prelude.{ℕ, List};
+    ghost use Rattle.std.specs.Ordering.{nat_cmp};
+    ghost use Rattle.dac_dots.specs.Keys.{IsRising};
+    ghost use Rattle.dac_dots.specs.Rows.{further_of, reach_of};
+
+    ghost Value = { List ℕ };
+
+    ghost view = { λ a. further_of (reach_of a.counters.now) a.counters.now };
+
+    ghost invariant = { λ a. IsRising nat_cmp a.counters.now };
+}
+
+impl<'a> Further<'a> {
+    /// The counters in rising order. [`NoMemory`] is the only error.
+    pub fn list(&self, alloc: Global) -> Result<Vec<u64>, NoMemory>
+        ensures { IfOk result (λ further. further.items ≡ self.now) }
+    {
+        self.counters.further(alloc)
+    }
+
+    /// How many counters there are.
+    pub fn len(&self) -> u128
+        ensures { result ≡ length self.now }
+    {
+        self.counters.len() - u128::from(self.counters.upto())
+    }
+
+    /// Whether there are no counters.
+    pub fn is_empty(&self) -> bool
+        ensures { IsTrue result ↔ (self.now ≡ []) }
+    {
+        self.len() == 0
+    }
 }
 
 impl OriginRow {
@@ -134,10 +177,12 @@ impl OriginRow {
     }
 
     /// The counters besides 1 to `upto`, in rising order.
-    pub(crate) fn further(&self, alloc: Global) -> Result<Vec<u64>, NoMemory>
-        ensures { IfOk result (λ further. further.items ≡ self.now.further) }
+    pub(crate) fn further(&self) -> Further<'_>
+        ensures { result ≡ self.now.further }
     {
-        self.counters.further(alloc)
+        Further {
+            counters: &self.counters,
+        }
     }
 
     /// Whether there are counters besides 1 to `upto`.

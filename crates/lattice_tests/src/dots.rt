@@ -1,8 +1,8 @@
 //! Contexts, and sorted lists of keys.
 use crate::sample::{dot, heard, origin};
 use dac_base::{AppId, NoMemory};
-use dac_dots::Context;
 use dac_dots::keys::{MapKey, holds_key, insert_key, remove_key};
+use dac_dots::{Context, Further};
 use std::alloc::Global;
 
 /// Whether the next dot of node 0 has this counter, and the context is a vector or not.
@@ -11,12 +11,19 @@ fn goes_on(context: &Context, next: u64, is_vector: bool) -> bool {
 }
 
 /// Whether the context is the one row of node 0 with these counters.
-fn is_row(context: &Context, upto: u64, further: &[u64]) -> Result<bool, NoMemory> {
-    let Some(row) = context.row(0)? else {
+fn is_row(alloc: Global, context: &Context, upto: u64, further: &[u64]) -> Result<bool, NoMemory> {
+    let Some(row) = context.row(0) else {
         return Ok(false);
     };
-    let is_own = row.0 == origin(0) && row.1 == upto && row.2.as_slice() == further;
-    Ok(is_own && context.rows() == 1)
+    let is_own = row.0 == origin(0) && row.1 == upto && context.rows() == 1;
+    Ok(is_own && are_listed_as(alloc, &row.2, further)?)
+}
+
+/// Whether these are the further counters of a row.
+fn are_listed_as(alloc: Global, further: &Further<'_>, counters: &[u64]) -> Result<bool, NoMemory> {
+    let has_length = further.len() == counters.len() as u128;
+    let says_empty = further.is_empty() == counters.is_empty();
+    Ok(has_length && says_empty && further.list(alloc)?.as_slice() == counters)
 }
 
 /// Whether a context that these counters were put into goes on so, and has this one row.
@@ -29,7 +36,7 @@ fn is_kept(
     further: &[u64],
 ) -> Result<bool, NoMemory> {
     let context = heard(alloc, counters)?;
-    Ok(goes_on(&context, next, is_vector) && is_row(&context, upto, further)?)
+    Ok(goes_on(&context, next, is_vector) && is_row(alloc, &context, upto, further)?)
 }
 
 /// Counters of dots of node 0; the counter that comes next, whether they are a vector, and their row.

@@ -1,26 +1,24 @@
-use Rattle.std.proofs.Common.{nat_lt, inl, inr, rules, arith}
+use Rattle.std.proofs.Common.{inl, inr, arith}
 use Rattle.std.proofs.lemmas.Bool.{le-leb, leb-true, false≢true, cases_lt}
-use Rattle.std.proofs.lemmas.List.Sorted.{IsPartitionPoint-from_clause}
-use Rattle.dac_dots.specs.declared.counters.Run.{Run}
-use Rattle.dac_dots.proofs.RunLemmas.{parted_by_end, none_found, lies_within, begins_past, ends_past}
+use Rattle.dac_dots.proofs.RunLemmas.{none_found, lies_within, begins_past, ends_past}
 use Rattle.dac_dots.proofs.counters.Counters.has_run.Goals as goal
 
 pub returns-in-None : goal.returns-in-None
 returns-in-None c =
     let runs = c.self.inside.runs.items in
-    let point = IsPartitionPoint-from_clause (λ (r : Run). nat_lt r.last c.args.run.first) _ _ c.partition_point-place.ensures.partitioned (rw c.deref.ensures.value (parted_by_end c.args.run.first runs c.self.invariant)) (λ a r q k. search rules) in
-    (λ e. absurd (false≢true e), λ all. absurd (none_found runs c.self.invariant c.args.self.now c.self.view_is c.args.run c.requires _ (rw c.deref.ensures.value at point) (rw c.deref-2.ensures.value at c.in-None.ensures.lookup.3) all))
+    let point = rw c.deref.ensures.value at c.ended_before-place.ensures in
+    (λ e. absurd (false≢true e), λ all. absurd (none_found runs c.self.invariant c.args.self.now c.self.view_is c.args.run c.requires _ point (rw c.deref-2.ensures.value at c.in-None.ensures.lookup.3) all))
 
 pub returns-then-found-run : goal.returns-then-found-run
 returns-then-found-run c =
     let runs = c.self.inside.runs.items in
     let run = c.args.run in
     let found = c.in-Some.found.now in
-    let point = IsPartitionPoint-from_clause (λ (r : Run). nat_lt r.last run.first) _ _ c.partition_point-place.ensures.partitioned (rw c.deref.ensures.value (parted_by_end run.first runs c.self.invariant)) (λ a r q k. search rules) in
+    let point = rw c.deref.ensures.value at c.ended_before-place.ensures in
     let lookup = rw c.deref-2.ensures.value at c.in-Some.ensures.lookup in (
-      λ e. lies_within runs c.self.invariant c.args.self.now c.self.view_is run c.requires _ (rw c.deref.ensures.value at point) found lookup.3.0 (lookup.3.1 found) c.if-found-run.true (leb-true run.last found.last e),
+      λ e. lies_within runs c.self.invariant c.args.self.now c.self.view_is run c.requires _ point found lookup.3.0 (lookup.3.1 found) c.if-found-run.true (leb-true run.last found.last e),
       λ all. elim (cases_lt found.last run.last) [
-        | inl past ↦ absurd (ends_past runs c.self.invariant c.args.self.now c.self.view_is run c.requires _ (rw c.deref.ensures.value at point) found lookup.3.0 (lookup.3.1 found) c.if-found-run.true past all)
+        | inl past ↦ absurd (ends_past runs c.self.invariant c.args.self.now c.self.view_is run c.requires _ point found lookup.3.0 (lookup.3.1 found) c.if-found-run.true past all)
         | inr within ↦ le-leb run.last found.last within
       ],
     )
@@ -30,11 +28,11 @@ returns-else-found-run c =
     let runs = c.self.inside.runs.items in
     let run = c.args.run in
     let found = c.in-Some.found.now in
-    let point = IsPartitionPoint-from_clause (λ (r : Run). nat_lt r.last run.first) _ _ c.partition_point-place.ensures.partitioned (rw c.deref.ensures.value (parted_by_end run.first runs c.self.invariant)) (λ a r q k. search rules) in
+    let point = rw c.deref.ensures.value at c.ended_before-place.ensures in
     let lookup = rw c.deref-2.ensures.value at c.in-Some.ensures.lookup in (
       λ e. absurd (let low = leb-true found.first run.first e in let past = c.if-found-run.false in omega arith),
       λ all. elim (cases_lt run.first found.first) [
-        | inl past ↦ absurd (begins_past runs c.self.invariant c.args.self.now c.self.view_is run c.requires _ (rw c.deref.ensures.value at point) found lookup.3.0 (lookup.3.1 found) past all)
+        | inl past ↦ absurd (begins_past runs c.self.invariant c.args.self.now c.self.view_is run c.requires _ point found lookup.3.0 (lookup.3.1 found) past all)
         | inr within ↦ le-leb found.first run.first within
       ],
     )

@@ -1,27 +1,23 @@
-use Rattle.std.proofs.Common.{◌+◌, ◌++◌, nat_lt, rules, sym, ap, ◌∙◌, ◌||◌, ◌∷◌, inl, inr, arith, drop, Result, Ok, Err, OnErr}
-use Rattle.std.proofs.lemmas.List.Sorted.{IsPartitionPoint-from_clause}
+use Rattle.std.proofs.Common.{◌++◌, sym, ap, ◌∙◌, ◌||◌, ◌∷◌, inl, inr, arith, drop, Result, Ok, Err, OnErr}
 use Rattle.dac_dots.specs.Runs.{run_has}
-use Rattle.dac_dots.specs.declared.counters.Run.{Run}
-use Rattle.dac_dots.proofs.RunLemmas.{IsPlaceFor, parted_by_gap, put_has, put_apart, put_alone, rising_counters, has_counters, now_has}
+use Rattle.dac_dots.proofs.RunLemmas.{put_has, put_apart, put_alone, rising_counters, has_counters, now_has}
 use Rattle.dac_dots.proofs.counters.Counters.put.Goals as goal
 
 pub invariant_of-self-2 : goal.invariant_of-self-2
 invariant_of-self-2 c =
     let runs = c.self.inside.runs.items in
     let run = c.args.run in
-    let point = IsPartitionPoint-from_clause (λ (r : Run). nat_lt (r.last + 1) run.first) _ _ c.partition_point-place.ensures.partitioned (rw c.deref.ensures.value (parted_by_gap run.first runs c.self.invariant)) (λ a r q k. search rules) in
-    let at : IsPlaceFor runs c.partition_point-place.result run.first = record { within = rw c.deref.ensures.value at c.partition_point-place.ensures.bound; before = (rw c.deref.ensures.value at point).0; after = (rw c.deref.ensures.value at point).1 } in
+    let at = rw c.deref.ensures.value at c.place_for-place.ensures in
     let whole = c.in_ok-insert.ensures.items ∙ (λ i. c.take_touched-joined.ensures.front i ++ sym c.take_touched-joined.ensures.value i) in
-    rw whole (put_apart run runs c.partition_point-place.result 0 c.requires (omega arith) at c.self.invariant)
+    rw whole (put_apart run runs c.place_for-place.result 0 c.requires (omega arith) at c.self.invariant)
 
 pub returns-clause-ok : goal.returns-clause-ok
 returns-clause-ok c n =
     let runs = c.self.inside.runs.items in
     let run = c.args.run in
-    let point = IsPartitionPoint-from_clause (λ (r : Run). nat_lt (r.last + 1) run.first) _ _ c.partition_point-place.ensures.partitioned (rw c.deref.ensures.value (parted_by_gap run.first runs c.self.invariant)) (λ a r q k. search rules) in
-    let at : IsPlaceFor runs c.partition_point-place.result run.first = record { within = rw c.deref.ensures.value at c.partition_point-place.ensures.bound; before = (rw c.deref.ensures.value at point).0; after = (rw c.deref.ensures.value at point).1 } in
+    let at = rw c.deref.ensures.value at c.place_for-place.ensures in
     let whole = c.in_ok-insert.ensures.items ∙ (λ i. c.take_touched-joined.ensures.front i ++ sym c.take_touched-joined.ensures.value i) in
-    has_counters c.insert.new.self.items n ∙ rw whole (put_has run runs c.partition_point-place.result 0 c.requires at c.self.invariant n) ∙ ap (λ b. run_has n run || b) (sym (now_has runs c.self.invariant c.args.self.now c.self.view_is run c.requires n))
+    has_counters c.insert.new.self.items n ∙ rw whole (put_has run runs c.place_for-place.result 0 c.requires at c.self.invariant n) ∙ ap (λ b. run_has n run || b) (sym (now_has runs c.self.invariant c.args.self.now c.self.view_is run c.requires n))
 
 pub returns-clause-rising : goal.returns-clause-rising
 returns-clause-rising c = rising_counters 0 c.insert.new.self.items (invariant_of-self-2 c)
@@ -41,8 +37,7 @@ returns-in_err-insert-clause-first c = fails_so c.from_residual.result (elim c.t
   | inl same ↦
       let runs = c.self.inside.runs.items in
       let run = c.args.run in
-      let point = IsPartitionPoint-from_clause (λ (r : Run). nat_lt (r.last + 1) run.first) _ _ c.partition_point-place.ensures.partitioned (rw c.deref.ensures.value (parted_by_gap run.first runs c.self.invariant)) (λ a r q k. search rules) in
-      let at : IsPlaceFor runs c.partition_point-place.result run.first = record { within = rw c.deref.ensures.value at c.partition_point-place.ensures.bound; before = (rw c.deref.ensures.value at point).0; after = (rw c.deref.ensures.value at point).1 } in
-      λ n e. now_has runs c.self.invariant c.args.self.now c.self.view_is run c.requires n ∙ put_alone run runs c.partition_point-place.result c.requires at c.self.invariant (c.take_touched-joined.ensures.value ∙ (λ i. same.1 i ∷ drop c.partition_point-place.result (same.0 i))) n e
+      let at = rw c.deref.ensures.value at c.place_for-place.ensures in
+      λ n e. now_has runs c.self.invariant c.args.self.now c.self.view_is run c.requires n ∙ put_alone run runs c.place_for-place.result c.requires at c.self.invariant (c.take_touched-joined.ensures.value ∙ (λ i. same.1 i ∷ drop c.place_for-place.result (same.0 i))) n e
   | inr room ↦ absurd (let full = c.in_err-insert.ensures.full in omega arith)
 ])
