@@ -3,7 +3,7 @@
 ghost use Rattle.std.specs.Prelude.{◌≡◌, ◌≢◌, ◌↔◌, ◌+◌, ◌<◌, length, Ok, Err, IfOk, IfErr, IfSome, IfNone, All, sum_by, vec_len};
 ghost use Rattle.dac_live.specs.declared.limits.TheConstants.{MAX_RECORDS};
 ghost use Rattle.dac_live.specs.Journals.{calls_of};
-ghost use Rattle.dac_live.specs.Told.{Told, ToldRefused};
+ghost use Rattle.dac_live.specs.Told.{Added, AddedRefused, Told, ToldRefused};
 ghost use Rattle.dac_live.specs.Seats.{IsOneOf, new_seats};
 ghost use Rattle.dac_live.specs.Sites.{IsBlankOf};
 
@@ -48,6 +48,9 @@ impl<L: SiteName> Locked<L> {
         ensures number { seat.new.number ≡ seat.old.number }
         ensures ok { IfOk result (λ r. Told seat.old.calls seat.new.calls r.place event (Ok r.reply)) }
         ensures err { IfErr result (λ e. ToldRefused e seat.old.calls seat.new.calls event) }
+        // The journal gets the same: what the seat keeps of the call is the record.
+        ensures added { IfOk result (λ r. Added self.old.journal.records self.new.journal.records seat.old.number event r.place (Ok r.reply)) }
+        ensures refused { IfErr result (λ e. AddedRefused e self.old.journal.records self.new.journal.records seat.old.number event) }
         ensures full { (length self.old.journal.records ≡ MAX_RECORDS) ↔ (result ≡ Err LiveFault.JournalFull) }
     {
         if self.journal.is_full() {
