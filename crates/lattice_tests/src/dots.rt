@@ -76,6 +76,31 @@ fn dots_of_a_vector(rt: HostRuntime) {
     assert!(rt; matches!(has_its_dots(rt.alloc()), Ok(true)));
 }
 
+/// The counters up to 40 that leave this rest when they are halved: twenty of them, no two of which are neighbours.
+fn every_second(alloc: Global, rest: u64) -> Result<Context, NoMemory> {
+    let mut context = Context::empty(alloc);
+    for n in 1..41u64 {
+        if n % 2 == rest {
+            context.insert(dot(0, n))?;
+        }
+    }
+    Ok(context)
+}
+
+/// Whether two contexts of many gaps, each of which fills those of the other, unite to one row without a gap.
+fn are_closed_by_each_other(alloc: Global) -> Result<bool, NoMemory> {
+    let odd = every_second(alloc, 1)?;
+    let even = every_second(alloc, 0)?;
+    let both = odd.union(&even)?;
+    let gaps = !odd.is_vector() && !even.is_subset(&odd) && odd.len() == 20;
+    Ok(gaps && even.is_subset(&both) && is_row(alloc, &both, 40, &[])?)
+}
+
+#[test]
+fn gaps_of_many_runs_are_closed(rt: HostRuntime) {
+    assert!(rt; matches!(are_closed_by_each_other(rt.alloc()), Ok(true)));
+}
+
 /// How many dots a context of one row has, if the row is taken.
 fn pushed(alloc: Global, upto: u64, further: &[u64]) -> Result<Option<u128>, NoMemory> {
     let mut context = Context::empty(alloc);
