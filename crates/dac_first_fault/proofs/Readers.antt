@@ -1,5 +1,7 @@
 -- The readers of names, nodes, applications and permissions.
-use Rattle.std.proofs.Common.{◌≡◌, ℕ, Bool, true, false, not, ◌&&◌, cond, leb, List, [], ◌∷◌, length, Result, Ok, Err, refl, ap, ◌∙◌}
+use Rattle.std.proofs.Common.{◌≡◌, ℕ, Bool, true, false, not, ◌&&◌, ◌≤◌, cond, eqb, ltb, leb, List, [], ◌∷◌, length, map, Result, Ok, Err, refl, sym, ap, ◌∙◌, arith, codes}
+use Rattle.std.specs.Str.{bytes_eq}
+use Rattle.std.proofs.lemmas.Bool.{ltb-true, ltb-false, ne_eqb}
 use Rattle.dac_tokens.specs.declared.fault.ConfigFault.{ConfigFault}
 use Rattle.dac_tokens.specs.declared.fault.FaultKind.TheVariants.{BadShape, EmptyList, EmptyTuple, TwiceInList, TwiceApp, TooManyApps, TooManyNodes, NumberTooLarge, NameTooLong}
 use Rattle.dac_tokens.specs.declared.token.Symbol.TheVariants.{OpenList, CloseList, OpenTuple, CloseTuple, Comma}
@@ -10,7 +12,7 @@ use Rattle.dac_shapes.specs.Written.{App}
 use Rattle.dac_shapes.specs.Limits.{Seen, is_among, with_node, listing}
 use Rattle.dac_shapes.specs.Shape.{State, fails, is_mark, token, symbol_at, atom_of, short_name_of, value_from, timeout_of, wait_of, flag_of, app_name_of, node_of, names_at, item_at, items_at, groups_at, timeout_at, app_value_at, app_at, permission_value_at, permission_at, closed}
 use Rattle.dac_shapes.specs.laws.AgainLists.{at}
-use Rattle.dac_first_fault.specs.FirstFault.{Itself, InList, InTuple}
+use Rattle.dac_first_fault.specs.FirstFault.{IsShortName, Itself, InList, InTuple}
 use Rattle.dac_first_fault.proofs.Outcomes.{Failed, Asked, further, wants_further, Always, Plain, Reader, Gives, IsReader, Wanting, made}
 use Rattle.dac_first_fault.proofs.Alike.{same_reader, alike}
 use Rattle.dac_first_fault.proofs.Steps.{first_goes, first_taken, first_fails, wants_token, Here, here_ok, here_fails, here_if, here_then, IsLook, look_only, symbol_then, closed_reader, pair_reader, pair_end, mark_is}
@@ -36,9 +38,29 @@ atom_end t w = rw w refl
 pub atom_look : IsLook atom_of
 atom_look = record { place = λ t. atom_here t.word t.at; end = atom_end }
 
+name_is : (w : Word) (place : ℕ) (name : List ℕ) → atom_of (of w place) ≡ Ok name → w ≡ Name name
+unfolding atom_of
+name_is (Name other) place name e = let same : other ≡ name = cc in ap Name same
+name_is (Mark symbol) place name e = absurd cc
+name_is (Number negative digits) place name e = absurd cc
+name_is Text place name e = absurd cc
+name_is End place name e = absurd cc
+
 short_here : (t : Located) → Here t (short_name_of t)
 unfolding short_name_of
-short_here t = here_then t (atom_of t) _ (atom_here t.word t.at) (λ name. here_if t _ _ _ (here_fails t NameTooLong tt) (here_ok t name))
+short_here t = here_then t (atom_of t) _ (atom_here t.word t.at) (λ name is. here_if t _ _ _ (λ long. here_fails t NameTooLong (name, name_is t.word t.at name is, ltb-true 255 (length name) long)) (λ short. here_ok t name))
+
+short_is : (t : Located) (name : List ℕ) → short_name_of t ≡ Ok name → IsShortName t.word
+unfolding short_name_of
+short_is t name e = by (atom_of t) refl e
+  where
+    fits : (word : List ℕ) (c : Bool) → t.word ≡ Name word → ltb 255 (length word) ≡ c → cond c (fails NameTooLong t.at) (Ok word) ≡ Ok name → IsShortName t.word
+    fits word true w long h = absurd cc
+    fits word false w long h = (word, w, ltb-false 255 (length word) long)
+
+    by : (r : Result (List ℕ) ConfigFault) → atom_of t ≡ r → (r >>= λ word. cond (ltb 255 (length word)) (fails NameTooLong t.at) (Ok word)) ≡ Ok name → IsShortName t.word
+    by (Ok word) is h = fits word (ltb 255 (length word)) (name_is t.word t.at word is) refl h
+    by (Err d) is h = absurd cc
 
 short_end : (t : Located) → t.word ≡ End → short_name_of t ≡ fails BadShape t.at
 unfolding short_name_of
@@ -49,7 +71,7 @@ short_look = record { place = short_here; end = short_end }
 
 flag_here : (t : Located) → Here t (flag_of t)
 unfolding flag_of
-flag_here t = here_then t (atom_of t) _ (atom_here t.word t.at) (λ name. here_if t _ _ _ (here_ok t true) (here_if t _ _ _ (here_ok t false) (here_fails t BadShape tt)))
+flag_here t = here_then t (atom_of t) _ (atom_here t.word t.at) (λ name is. here_if t (bytes_eq name (codes "true")) (Ok true) (cond (bytes_eq name (codes "false")) (Ok false) (fails BadShape t.at)) (λ yes. here_ok t true) (λ other. here_if t (bytes_eq name (codes "false")) _ _ (λ no_flag. here_ok t false) (λ neither. here_fails t BadShape tt)))
 
 flag_end : (t : Located) → t.word ≡ End → flag_of t ≡ fails BadShape t.at
 unfolding flag_of
@@ -58,13 +80,22 @@ flag_end t w = rw (atom_end t w) refl
 flag_look : IsLook flag_of
 flag_look = record { place = flag_here; end = flag_end }
 
-timeout_here : (t : Located) (negative : Bool) (n : ℕ) → Here t (timeout_of t.at negative n)
-timeout_here t negative n = here_if t _ _ _ (here_fails t BadShape tt) (here_if t _ _ _ (here_ok t n) (here_fails t NumberTooLarge tt))
+not_negative : (negative : Bool) (n : ℕ) → (negative && not (eqb n 0)) ≡ false → 4294967296 ≤ n → negative ≡ false
+not_negative false n e large = refl
+not_negative true n e large = let nonzero : eqb n 0 ≡ false = ne_eqb n 0 (λ zero_is. absurd (omega arith)) in let both : true ≡ false = sym (ap not nonzero) ∙ e in absurd cc
+
+timeout_here : (place : ℕ) (negative : Bool) (digits : List ℕ) → Here (of (Number negative digits) place) (timeout_of place negative (value_from 0 digits))
+timeout_here place negative digits =
+    let t = of (Number negative digits) place in
+    let v = value_from 0 digits in
+    here_if t (negative && not (eqb v 0)) (fails BadShape place) (cond (ltb v 4294967296) (Ok v) (fails NumberTooLarge place)) (λ below. here_fails t BadShape tt) (λ above. here_if t (ltb v 4294967296) _ _ (λ small. here_ok t (value_from 0 digits)) (λ large.
+    let least : 4294967296 ≤ value_from 0 digits = ltb-false (value_from 0 digits) 4294967296 large in
+    here_fails t NumberTooLarge (digits, ap (λ (b : Bool). Number b digits) (not_negative negative (value_from 0 digits) above least), least)))
 
 wait_here : (w : Word) (place : ℕ) → Here (of w place) (wait_of (of w place))
 unfolding wait_of
-wait_here (Number negative digits) place = here_then (of (Number negative digits) place) (timeout_of place negative (value_from 0 digits)) (λ n. Ok (Ms n)) (timeout_here (of (Number negative digits) place) negative (value_from 0 digits)) (λ n. here_ok (of (Number negative digits) place) (Ms n))
-wait_here (Name name) place = here_if (of (Name name) place) _ _ _ (here_ok (of (Name name) place) Forever) (here_fails (of (Name name) place) BadShape tt)
+wait_here (Number negative digits) place = here_then (of (Number negative digits) place) (timeout_of place negative (value_from 0 digits)) (λ n. Ok (Ms n)) (timeout_here place negative digits) (λ n is. here_ok (of (Number negative digits) place) (Ms n))
+wait_here (Name name) place = here_if (of (Name name) place) _ _ _ (λ yes. here_ok (of (Name name) place) Forever) (λ other. here_fails (of (Name name) place) BadShape tt)
 wait_here (Mark symbol) place = here_fails (of (Mark symbol) place) BadShape tt
 wait_here Text place = here_fails (of Text place) BadShape tt
 wait_here End place = here_fails (of End place) BadShape tt
@@ -78,7 +109,7 @@ wait_look = record { place = λ t. wait_here t.word t.at; end = wait_end }
 
 app_name_here : (before : List App) (t : Located) → Here t (app_name_of before t)
 unfolding app_name_of
-app_name_here before t = here_then t (short_name_of t) _ (short_here t) (λ name. here_if t _ _ _ (here_fails t TwiceApp tt) (here_if t _ _ _ (here_fails t TooManyApps tt) (here_ok t name)))
+app_name_here before t = here_then t (short_name_of t) _ (short_here t) (λ name is. here_if t (is_among name (map (λ app. app.name) before)) (fails TwiceApp t.at) (cond (leb 64 (length before)) (fails TooManyApps t.at) (Ok name)) (λ twice. here_fails t TwiceApp (short_is t name is)) (λ once. here_if t (leb 64 (length before)) _ _ (λ many. here_fails t TooManyApps (short_is t name is)) (λ few. here_ok t name)))
 
 app_name_end : (before : List App) (t : Located) → t.word ≡ End → app_name_of before t ≡ fails BadShape t.at
 unfolding app_name_of
@@ -108,8 +139,8 @@ module _ (repeats : Bool) where
 
   module _ (t : Located) (b : List Located) (seen : Seen) where
     node_met : (name : List ℕ) → short_name_of t ≡ Ok name → (x y : Bool) → (not repeats && is_among name seen.listed) ≡ x → (not (is_among name seen.met) && leb 16 (length seen.met)) ≡ y → Gives node (t ∷ b) seen
-    node_met name e true y is f = first_fails node t b seen (record { kind = TwiceInList; at = t.at }) (λ last rest. node_is t (at last rest seen) ∙ ap (λ r. r >>= met t (at last rest seen)) e ∙ rw is refl) (Itself refl tt) (node_wants seen)
-    node_met name e false true is f = first_fails node t b seen (record { kind = TooManyNodes; at = t.at }) (λ last rest. node_is t (at last rest seen) ∙ ap (λ r. r >>= met t (at last rest seen)) e ∙ rw (is, f) refl) (Itself refl tt) (node_wants seen)
+    node_met name e true y is f = first_fails node t b seen (record { kind = TwiceInList; at = t.at }) (λ last rest. node_is t (at last rest seen) ∙ ap (λ r. r >>= met t (at last rest seen)) e ∙ rw is refl) (Itself refl (short_is t name e)) (node_wants seen)
+    node_met name e false true is f = first_fails node t b seen (record { kind = TooManyNodes; at = t.at }) (λ last rest. node_is t (at last rest seen) ∙ ap (λ r. r >>= met t (at last rest seen)) e ∙ rw (is, f) refl) (Itself refl (short_is t name e)) (node_wants seen)
     node_met name e false false is f = first_taken node t b seen name (with_node seen name) (λ last rest. node_is t (at last rest seen) ∙ ap (λ r. r >>= met t (at last rest seen)) e ∙ rw (is, f) refl)
 
     node_by : (r : Result (List ℕ) ConfigFault) → short_name_of t ≡ r → Gives node (t ∷ b) seen
@@ -292,7 +323,7 @@ module _ (name : List ℕ) where
       (symbol_then Comma (listed n) (listed_reader n) b seen)
   number_by negative digits place b seen (Err d) e =
       first_fails app_value (of (Number negative digits) place) b seen d (λ last rest. timed_number place negative digits (at last rest seen) ∙ ap (λ r. r >>= λ n. symbol_at Comma (at last rest seen) >>= listed n) e)
-      (timeout_here (of (Number negative digits) place) negative (value_from 0 digits) d e) (value_wants seen)
+      (timeout_here place negative digits d e) (value_wants seen)
 
   other_by : (w : Word) (place : ℕ) (b : List Located) (seen : Seen) → ((negative : Bool) (digits : List ℕ) → w ≡ Number negative digits → ⊥) → Gives app_value (of w place ∷ b) seen
   other_by w place b seen other = alike Always Always Plain (λ _. app_value) (λ _. listed 0) (of w place) b seen seen (λ i last rest room. (tt, tt, timed_other w place (at last rest seen) other)) (value_wants seen) (listed_reader 0 (of w place ∷ b) seen)

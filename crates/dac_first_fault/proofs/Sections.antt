@@ -1,13 +1,14 @@
 -- The readers of parameters and sections.
-use Rattle.std.proofs.Common.{◌≡◌, Bool, true, false, List, [], ◌∷◌, Option, Some, None, Result, Ok, refl, ap, ◌∙◌}
+use Rattle.std.proofs.Common.{◌≡◌, Bool, true, false, List, [], ◌∷◌, Option, Some, None, Result, Ok, refl, ap, ◌∙◌, cond, codes}
+use Rattle.std.specs.Str.{bytes_eq}
 use Rattle.dac_tokens.specs.declared.fault.ConfigFault.{ConfigFault}
 use Rattle.dac_tokens.specs.declared.fault.FaultKind.TheVariants.{BadShape, Unsupported}
 use Rattle.dac_tokens.specs.Gives.{◌>>=◌}
-use Rattle.dac_tokens.specs.Words.{End, Located}
+use Rattle.dac_tokens.specs.Words.{Word, Mark, Name, Number, Text, End, Located}
 use Rattle.dac_shapes.specs.declared.param.ParamName.{ParamName}
 use Rattle.dac_shapes.specs.declared.param.ParamName.TheVariants as named
 use Rattle.dac_shapes.specs.Written.{Param, Distributed, Permissions, Mandatory, Optional, Timeout, Section, Kernel}
-use Rattle.dac_shapes.specs.Limits.{Seen}
+use Rattle.dac_shapes.specs.Limits.{Seen, has_kernel}
 use Rattle.dac_shapes.specs.Shape.{State, fails, is_text, token, atom_of, list_of, app_at, permission_at, node_of, wait_of, param_named, first_param, param_name_of, param_value_at, param_rest_at, param_at, names_kernel, kernel_at, section_rest_at, section_at, pair_at}
 use Rattle.dac_shapes.specs.laws.AgainLists.{at}
 use Rattle.dac_first_fault.specs.FirstFault.{Itself}
@@ -22,11 +23,11 @@ use Rattle.dac_first_fault.proofs.Readers.{atom_look, wait_look, node_reader, no
 
 first_here : (before : List Param) (t : Located) (o : Option ParamName) → Here t (first_param before t.at o)
 first_here before t None = here_ok t None
-first_here before t (Some name) = here_if t _ _ _ (here_fails t BadShape tt) (here_ok t (Some name))
+first_here before t (Some name) = here_if t _ _ _ (λ is. here_fails t BadShape tt) (λ is. here_ok t (Some name))
 
 param_name_here : (before : List Param) (t : Located) → Here t (param_name_of before t)
 unfolding param_name_of
-param_name_here before t = here_then t (atom_of t) _ (atom_look.place t) (λ name. first_here before t (param_named name))
+param_name_here before t = here_then t (atom_of t) _ (atom_look.place t) (λ name is. first_here before t (param_named name))
 
 param_name_end : (before : List Param) (t : Located) → t.word ≡ End → param_name_of before t ≡ fails BadShape t.at
 unfolding param_name_of
@@ -58,7 +59,7 @@ param_end before = pair_end (param_name_of before) param_rest_at
 
 kernel_here : (before : List Section) (t : Located) → Here t (names_kernel before t)
 unfolding names_kernel
-kernel_here before t = here_then t (atom_of t) _ (atom_look.place t) (λ name. here_if t _ _ _ (here_if t _ _ _ (here_fails t BadShape tt) (here_ok t true)) (here_ok t false))
+kernel_here before t = here_then t (atom_of t) _ (atom_look.place t) (λ name is. here_if t (bytes_eq name (codes "kernel")) (cond (has_kernel before) (fails BadShape t.at) (Ok true)) (Ok false) (λ yes. here_if t (has_kernel before) _ _ (λ twice. here_fails t BadShape tt) (λ once. here_ok t true)) (λ other. here_ok t false))
 
 kernel_end : (before : List Section) (t : Located) → t.word ≡ End → names_kernel before t ≡ fails BadShape t.at
 unfolding names_kernel
@@ -75,6 +76,13 @@ section_rest_reader : (is : Bool) → IsReader (section_rest_at is)
 unfolding section_rest_at
 section_rest_reader true us seen = closed_reader kernel_at kernel_reader us seen
 section_rest_reader false us seen = passing_reader Section.Other us seen
+
+text_is : (w : Word) → is_text w ≡ true → w ≡ Text
+text_is Text e = refl
+text_is (Mark symbol) e = absurd cc
+text_is (Name name) e = absurd cc
+text_is (Number negative digits) e = absurd cc
+text_is End e = absurd cc
 
 module _ (before : List Section) where
   abbrev pair : Located → State → Result (Section × State) ConfigFault
@@ -98,7 +106,7 @@ module _ (before : List Section) where
   section_wants seen = wants_token (λ q. section_at before q.0 q.1) section_end seen
 
   section_by : (t : Located) (b : List Located) (seen : Seen) (c : Bool) → is_text t.word ≡ c → Gives section (t ∷ b) seen
-  section_by t b seen true e = first_fails section t b seen (record { kind = Unsupported; at = t.at }) (λ last rest. section_text t (at last rest seen) e) (Itself refl tt) (section_wants seen)
+  section_by t b seen true e = first_fails section t b seen (record { kind = Unsupported; at = t.at }) (λ last rest. section_text t (at last rest seen) e) (Itself refl (text_is t.word e)) (section_wants seen)
   section_by t b seen false e =
       alike Always Always Plain (λ _. section) (λ _ s. token s >>= λ q. pair q.0 q.1) t b seen seen (λ i last rest room. (tt, tt, section_pair t (at last rest seen) e)) (section_wants seen)
       (pair_reader (names_kernel before) section_rest_at (kernel_look before) section_rest_reader (t ∷ b) seen)

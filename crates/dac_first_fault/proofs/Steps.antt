@@ -10,7 +10,7 @@ use Rattle.dac_tokens.specs.Words.{Word, Mark, Name, Number, Text, End, Located}
 use Rattle.dac_shapes.specs.Limits.{Seen}
 use Rattle.dac_shapes.specs.Shape.{State, fails, byte_of, is_mark, token, symbol_at, pair_at, closed}
 use Rattle.dac_shapes.specs.laws.AgainLists.{at}
-use Rattle.dac_first_fault.specs.FirstFault.{StandsAt, Itself, IsNoEmpty}
+use Rattle.dac_first_fault.specs.FirstFault.{StandsAt, Itself, CanBring}
 use Rattle.dac_first_fault.proofs.Outcomes.{Took, Failed, Asked, further, Always, Plain, Reader, Gives, IsReader, Wanting, then}
 
 -- ---- a reader that begins with one token
@@ -36,17 +36,17 @@ Here t r = (e : ConfigFault) → r ≡ Err e → StandsAt [] t e
 pub here_ok : {K : Type 0} (t : Located) (x : K) → Here t (Ok x)
 here_ok t x e q = absurd cc
 
-pub here_fails : {K : Type 0} (t : Located) (kind : FaultKind) → IsNoEmpty kind → Here {K = K} t (fails kind t.at)
-here_fails t kind away e q =
+pub here_fails : {K : Type 0} (t : Located) (kind : FaultKind) → CanBring kind t.word → Here {K = K} t (fails kind t.at)
+here_fails t kind can e q =
     let d : record { kind = kind; at = t.at } ≡ e = cc in
-    Itself (sym (ap (λ (f : ConfigFault). f.at) d)) (subst (λ (f : ConfigFault). IsNoEmpty f.kind) d away)
+    Itself (sym (ap (λ (f : ConfigFault). f.at) d)) (subst (λ (f : ConfigFault). CanBring f.kind t.word) d can)
 
-pub here_if : {K : Type 0} (t : Located) (c : Bool) (r q : Result K ConfigFault) → Here t r → Here t q → Here t (cond c r q)
-here_if t true r q a b = a
-here_if t false r q a b = b
+pub here_if : {K : Type 0} (t : Located) (c : Bool) (r q : Result K ConfigFault) → (c ≡ true → Here t r) → (c ≡ false → Here t q) → Here t (cond c r q)
+here_if t true r q a b = a refl
+here_if t false r q a b = b refl
 
-pub here_then : {K L : Type 0} (t : Located) (r : Result K ConfigFault) (f : K → Result L ConfigFault) → Here t r → ((k : K) → Here t (f k)) → Here t (r >>= f)
-here_then t (Ok k) f a b = b k
+pub here_then : {K L : Type 0} (t : Located) (r : Result K ConfigFault) (f : K → Result L ConfigFault) → Here t r → ((k : K) → r ≡ Ok k → Here t (f k)) → Here t (r >>= f)
+here_then t (Ok k) f a b = b k refl
 here_then t (Err d) f a b = λ e q. a e (let same : d ≡ e = cc in ap (λ (x : ConfigFault). Err x) same)
 
 -- what a token is, read without what stands behind it

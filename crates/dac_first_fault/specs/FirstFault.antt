@@ -1,27 +1,38 @@
 -- Where the first fault of a text stands, said without a reader.
-use Rattle.std.specs.Prelude.{◌≡◌, ◌⊎◌, ℕ, ◌<◌, ◌≤◌, List, [], ◌∷◌, ◌++◌, length, map}
+use Rattle.std.specs.Prelude.{◌≡◌, ◌⊎◌, false, ℕ, ◌<◌, ◌≤◌, List, [], ◌∷◌, ◌++◌, length, map}
 use Rattle.dac_tokens.specs.declared.fault.FaultKind.{FaultKind}
-use Rattle.dac_tokens.specs.declared.fault.FaultKind.TheVariants.{TooLong, BadShape, NoDistributed, EmptyList, EmptyTuple}
+use Rattle.dac_tokens.specs.declared.fault.FaultKind.TheVariants.{TooLong, Unsupported, BadShape, NoDistributed, TwiceApp, TwiceInList, EmptyList, EmptyTuple, TooManyNodes, TooManyApps, NumberTooLarge, NameTooLong}
 use Rattle.dac_tokens.specs.declared.fault.ConfigFault.{ConfigFault}
 use Rattle.dac_tokens.specs.declared.token.Symbol.TheVariants.{OpenList, CloseList, OpenTuple, CloseTuple}
-use Rattle.dac_tokens.specs.Words.{Word, Mark, Located}
+use Rattle.dac_tokens.specs.Words.{Word, Mark, Name, Number, Text, Located}
 use Rattle.dac_tokens.specs.TokenGrammar.{AreTokensOf}
 use Rattle.dac_tokens.specs.TokenFaults.{StopAt}
-use Rattle.dac_shapes.specs.declared.limits.TheConstants.{MAX_TEXT}
+use Rattle.dac_shapes.specs.declared.limits.TheConstants.{MAX_NAME, MAX_TEXT}
+use Rattle.dac_shapes.specs.Shape.{value_from}
 use Rattle.dac_shapes.specs.Written.{Section, written}
 use Rattle.dac_shapes.specs.Grammar.{IsFile}
 use Rattle.dac_shapes.specs.Within.{AreWithinLimits, nodes_in}
 
--- the fault of brackets with nothing between them stands at the opening one
-abbrev pub IsNoEmpty : FaultKind → Type 0
-IsNoEmpty EmptyList = ⊥
-IsNoEmpty EmptyTuple = ⊥
-IsNoEmpty _ = Unit {0}
+-- a name of at most MAX_NAME bytes
+abbrev pub IsShortName : Word → Type 0
+IsShortName word = (name : List ℕ) × (word ≡ Name name) × (length name ≤ MAX_NAME)
+
+-- Which faults a token can bring at its own place. The fault of brackets with nothing between them is none of these.
+abbrev pub CanBring : FaultKind → Word → Type 0
+CanBring BadShape word = Unit {0}
+CanBring Unsupported word = word ≡ Text
+CanBring NumberTooLarge word = (digits : List ℕ) × (word ≡ Number false digits) × (4294967296 ≤ value_from 0 digits)
+CanBring NameTooLong word = (name : List ℕ) × (word ≡ Name name) × (MAX_NAME < length name)
+CanBring TwiceApp word = IsShortName word
+CanBring TwiceInList word = IsShortName word
+CanBring TooManyApps word = IsShortName word
+CanBring TooManyNodes word = IsShortName word
+CanBring _ word = ⊥
 
 -- A fault that the token t brings, behind these: it stands at t, or for empty brackets at the one before it, which t
 -- closes.
 pub data StandsAt (before : List Located) (t : Located) (e : ConfigFault) : Type 0 where
-  Itself : e.at ≡ t.at → IsNoEmpty e.kind → StandsAt before t e
+  Itself : e.at ≡ t.at → CanBring e.kind t.word → StandsAt before t e
   InList : (front : List Located) (o : Located) → before ≡ front ++ o ∷ [] → o.word ≡ Mark OpenList → t.word ≡ Mark CloseList → e ≡ record { kind = EmptyList; at = o.at } → StandsAt before t e
   InTuple : (front : List Located) (o : Located) → before ≡ front ++ o ∷ [] → o.word ≡ Mark OpenTuple → t.word ≡ Mark CloseTuple → e ≡ record { kind = EmptyTuple; at = o.at } → StandsAt before t e
 

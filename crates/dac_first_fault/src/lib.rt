@@ -1,7 +1,11 @@
 //! The first fault of a configuration text, said without a reader.
 //!
-//! [`laws`] has it as the contract of a function that does nothing. Where `dac_shapes` answers a fault, that fault is
-//! brought by one token: with it no accepted file goes on, whatever stands behind it.
+//! Where reading a text answers a fault, [`laws`] says what brought it. It is the text's length, a place where no
+//! token begins, its end, or one token. With that token no file that keeps the limits goes on, whatever stands behind
+//! it. The fault stands at that token, or at the bracket that it closes with nothing between, and its kind is one that
+//! the token can bring.
+//!
+//! Not said yet: that what stands before the token is in order, and which of the kinds that a name can bring it is.
 #![tactic(auto)]
 
 pub mod laws;
