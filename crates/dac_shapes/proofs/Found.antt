@@ -1,7 +1,6 @@
 -- What is read of a file is in the grammar, and its names may stand where they stand.
 use Rattle.std.proofs.Common.{◌≡◌, ℕ, ◌<◌, ◌≤◌, Bool, true, false, not, ◌&&◌, ◌≢◌, cond, eqb, ltb, leb, List, [], ◌∷◌, ◌++◌, length, map, Option, Some, None, Result, Ok, refl, sym, ap, subst, ◌∙◌, arith, inl, inr, codes}
 use Rattle.std.specs.Str.{bytes_eq}
-use Rattle.std.specs.Cmp.Lexicographic.{same_text}
 use Rattle.std.proofs.lemmas.Bool.{ltb-true, ltb-false, leb-false, eqb-true}
 use Rattle.dac_tokens.specs.declared.fault.ConfigFault.{ConfigFault}
 use Rattle.dac_tokens.specs.declared.token.Symbol.TheVariants.{OpenList, CloseList, OpenTuple, CloseTuple, Comma}
@@ -13,10 +12,11 @@ use Rattle.dac_shapes.specs.declared.draft.SyncWait.TheVariants.{Forever, Ms}
 use Rattle.dac_shapes.specs.declared.param.ParamName.{ParamName}
 use Rattle.dac_shapes.specs.declared.param.ParamName.TheVariants as named
 use Rattle.dac_shapes.specs.Written.{App, Permission, Param, Distributed, Permissions, Mandatory, Optional, Timeout, Section, Kernel, name_of, spelled}
-use Rattle.dac_shapes.specs.Limits.{Seen, steps, is_among, has_param, with_node, MayNode, with_nodes, MayNodes, with_groups, MayGroups, listing, with_app, MayApp, with_permission, MayPermission, with_param, MayValue, MayParam, has_kernel, with_section, MaySection}
+use Rattle.dac_shapes.specs.Limits.{Seen, is_among, has_param, with_node, MayNode, with_nodes, MayNodes, with_groups, MayGroups, listing, with_app, MayApp, with_permission, MayPermission, with_param, MayValue, MayParam, has_kernel, with_section, MaySection}
 use Rattle.dac_shapes.specs.Shape.{State, fails, is_mark, token, symbol_at, atom_of, short_name_of, node_of, names_at, item_at, items_at, groups_at, timeout_of, timeout_at, wait_of, value_from, app_name_of, app_value_at, app_at, flag_of, permission_value_at, permission_at, param_named, first_param, param_name_of, param_value_at, param_rest_at, param_at, names_kernel, kernel_at, section_rest_at, section_at, passed_at, closed, pair_at, is_text, list_of, room}
 use Rattle.dac_shapes.specs.Grammar.{between, IsListOf, IsNode, IsItem, IsNodeList, IsMs, IsTimeout, IsApp, IsFlag, IsPermission, IsWait, IsParam, IsSection}
-use Rattle.dac_shapes.proofs.Moves.{bind_ok, held, required, passed, chosen, ok_same, words_in, EndsWell, Moves, Moves-then, same_last, token_is, token_moves, word_passes, mark_is, symbol_passes, back}
+use Rattle.dac_shapes.proofs.Moves.{bind_ok, held, required, passed, ok_same, words_in, EndsWell, Moves, Moves-then, same_last, token_is, token_moves, word_passes, mark_is, symbol_passes, back}
+use Rattle.dac_shapes.specs.laws.Names.{chosen, is_named, same_seen, param_is}
 use Rattle.dac_shapes.proofs.FoundLists.{Reads, Gets, token_then, list_found, bracketed_found, pair_begun, pair_words, closed_found, pair_found}
 use Rattle.dac_shapes.proofs.FoundTerms.{passed_found}
 
@@ -218,9 +218,6 @@ app_found before = pair_found IsApp (app_name_of before) (λ k name. (k ≡ name
     (λ k name s x u well fine e. closed_found (λ ws app. IsApp (pair_begun name ws) app) (app_value_at name) with_app (MayApp before)
     (λ s x u well e. app_valued before name s x u well fine.1 e) s x u well (subst (λ (n : List ℕ). closed (app_value_at n) s ≡ Ok (x, u)) fine.0 e))
 
-pub is_named : (name wanted : List ℕ) → bytes_eq name wanted ≡ true → name ≡ wanted
-is_named name wanted e = same_text name wanted (sym e)
-
 -- ---- permissions
 
 flag_is : (t : Located) (b : Bool) → flag_of t ≡ Ok b → IsFlag (t.word ∷ []) b × (is_end t.word ≡ false)
@@ -259,35 +256,7 @@ permission_found before = pair_found IsPermission short_name_of (λ k name. (k �
     (λ k name s x u well fine e. closed_found (λ ws x. IsPermission (pair_begun name ws) x) (permission_value_at name) with_permission (MayPermission before)
     (λ s x u well e. permission_valued name s x u well fine.1 e) s x u well (subst (λ (n : List ℕ). closed (permission_value_at n) s ≡ Ok (x, u)) fine.0 e))
 
--- permissions leave the nodes as they are
-pub same_seen : (seen : Seen) (permissions : List Permission) → steps with_permission seen permissions ≡ seen
-same_seen seen [] = refl
-same_seen seen (x ∷ xs) = same_seen seen xs
-
 -- ---- parameters and sections
-
--- a known parameter has the name that stands there
-pub param_is : (name : List ℕ) (p : ParamName) → param_named name ≡ Some p → name ≡ spelled p
-param_is name p e =
-    elim (chosen (bytes_eq name (codes "distributed")) (Some named.Distributed) _ (Some p) e) [
-      | inl h ↦ is_named name _ h.0 ∙ same named.Distributed h.1
-      | inr h ↦ elim (chosen (bytes_eq name (codes "permissions")) (Some named.Permissions) _ (Some p) h.1) [
-        | inl f ↦ is_named name _ f.0 ∙ same named.Permissions f.1
-        | inr f ↦ elim (chosen (bytes_eq name (codes "sync_nodes_mandatory")) (Some named.Mandatory) _ (Some p) f.1) [
-          | inl g ↦ is_named name _ g.0 ∙ same named.Mandatory g.1
-          | inr g ↦ elim (chosen (bytes_eq name (codes "sync_nodes_optional")) (Some named.Optional) _ (Some p) g.1) [
-            | inl k ↦ is_named name _ k.0 ∙ same named.Optional k.1
-            | inr k ↦ elim (chosen (bytes_eq name (codes "sync_nodes_timeout")) (Some named.Timeout) None (Some p) k.1) [
-              | inl m ↦ is_named name _ m.0 ∙ same named.Timeout m.1
-              | inr m ↦ absurd cc
-            ]
-          ]
-        ]
-      ]
-    ]
-  where
-    same : (q : ParamName) → ◌≡◌ {A = Option ParamName} (Some q) (Some p) → spelled q ≡ spelled p
-    same q h = let r : q ≡ p = cc in ap spelled r
 
 -- what a parameter's name says of it: it is one that is read and new, or another
 data FineParam (before : List Param) (name : List ℕ) : Option ParamName → Type 0 where

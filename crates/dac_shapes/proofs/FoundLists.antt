@@ -8,7 +8,8 @@ use Rattle.dac_tokens.specs.Words.{Word, Mark, Name, Located, is_end}
 use Rattle.dac_shapes.specs.Limits.{Seen, AllMay, steps}
 use Rattle.dac_shapes.specs.Shape.{State, is_mark, token, symbol_at, more_at, comma_list, list_of, pair_at, closed, room}
 use Rattle.dac_shapes.specs.Grammar.{Parted, PartedOrNone, IsListOf, between}
-use Rattle.dac_shapes.proofs.Moves.{bind_ok, required, chosen, ok_same, words_in, EndsWell, Moves, Passes, Moves-then, still_well, same_last, token_is, token_moves, word_passes, mark_is, symbol_passes, more_passes, part, back}
+use Rattle.dac_shapes.proofs.Moves.{bind_ok, required, ok_same, words_in, EndsWell, Moves, Passes, Moves-then, still_well, same_last, token_is, token_moves, word_passes, mark_is, symbol_passes, more_passes, part, back}
+use Rattle.dac_shapes.specs.laws.Names.{chosen}
 
 -- from the token t on something was read, which may stand there
 pub record Reads {A : Type 0} (Is : List Word → A → Type 0) (step : Seen → A → Seen) (May : Seen → A → Type 0) (t : Located) (s : State) (x : A) (u : State) : Type 0 where

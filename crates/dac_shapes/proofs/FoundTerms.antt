@@ -10,7 +10,8 @@ use Rattle.dac_tokens.specs.Gives.{◌>>=◌}
 use Rattle.dac_tokens.specs.Words.{Word, Mark, Name, Number, Text, End, Located, is_end}
 use Rattle.dac_shapes.specs.Shape.{State, fails, is_mark, is_text, token, room, terms_at, terms_in, texts_at, term_by, term_at, passed_at}
 use Rattle.dac_shapes.specs.Grammar.{AreBrackets, IsTerm, AreTerms, OfList, OfTuple, Atom, Integer, Strings, Empty, Between, One, More}
-use Rattle.dac_shapes.proofs.Moves.{bind_ok, held, required, chosen, words_in, EndsWell, Moves, Moves-then, same_last, token_is, mark_is, back}
+use Rattle.dac_shapes.proofs.Moves.{bind_ok, held, required, words_in, EndsWell, Moves, Moves-then, same_last, token_is, mark_is, back}
+use Rattle.dac_shapes.specs.laws.Names.{chosen}
 use Rattle.dac_shapes.proofs.FoundLists.{token_then}
 
 -- these words were passed over from s on, and behind them the token t was read

@@ -1,6 +1,5 @@
 pub mod Faults
 pub mod Lists
-pub mod TermCases
 pub mod TermLoops
 pub mod Among
 pub mod Digits
@@ -8,9 +7,6 @@ pub mod Moves
 pub mod FoundLists
 pub mod FoundTerms
 pub mod Found
-pub mod AgainLists
-pub mod AgainTerms
-pub mod Again
 pub mod Walk
 pub mod Within
 pub mod Texts

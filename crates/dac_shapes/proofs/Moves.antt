@@ -9,6 +9,7 @@ use Rattle.dac_tokens.specs.Gives.{◌>>=◌}
 use Rattle.dac_tokens.specs.Words.{Word, Mark, Name, Number, Text, End, Located, is_end}
 use Rattle.dac_tokens.specs.Stream.{Stream, taken, taken_of}
 use Rattle.dac_shapes.specs.Shape.{State, fails, byte_of, is_mark, token, symbol_at, more_at}
+use Rattle.dac_shapes.specs.laws.Names.{chosen}
 
 pub bind_ok : {A B : Type 0} (r : Result A ConfigFault) (f : A → Result B ConfigFault) (y : B) → (r >>= f) ≡ Ok y → (x : A) × (r ≡ Ok x) × (f x ≡ Ok y)
 bind_ok (Ok x) f y e = (x, refl, e)
@@ -26,10 +27,6 @@ required false r e y h = absurd cc
 pub passed : {A : Type 0} (b : Bool) (e : ConfigFault) (r : Result A ConfigFault) (y : A) → cond b (Err e) r ≡ Ok y → (b ≡ false) × (r ≡ Ok y)
 passed true e r y h = absurd cc
 passed false e r y h = (refl, h)
-
-pub chosen : {A : Type 0} (b : Bool) (x y z : A) → cond b x y ≡ z → ((b ≡ true) × (x ≡ z)) ⊎ ((b ≡ false) × (y ≡ z))
-chosen true x y z h = inl (refl, h)
-chosen false x y z h = inr (refl, h)
 
 pub ok_same : {A : Type 0} (x y : A) (r : Result A ConfigFault) → r ≡ Ok x → r ≡ Ok y → x ≡ y
 ok_same x y r p q = cc

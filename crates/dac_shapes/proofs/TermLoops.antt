@@ -9,7 +9,7 @@ use Rattle.dac_tokens.specs.Words.{Word, Mark, Name, Number, Text, End, Located,
 use Rattle.dac_shapes.specs.Outcome.{Fails}
 use Rattle.dac_shapes.specs.Shape.{State, fails, is_mark, is_text, token, closing_of, terms_at, terms_in, texts_at, term_by, term_at, IsEnough}
 use Rattle.dac_shapes.proofs.Faults.{fails_too}
-use Rattle.dac_shapes.proofs.TermCases.{by_name, by_number, by_text, by_mark, by_other_mark, by_end}
+use Rattle.dac_shapes.specs.laws.TermCases.{by_name, by_number, by_text, by_mark, by_other_mark, by_end}
 
 -- ---- strings in a row
 

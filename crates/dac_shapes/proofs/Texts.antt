@@ -24,8 +24,8 @@ use Rattle.dac_shapes.specs.Views.{draft_of}
 use Rattle.dac_shapes.proofs.Moves.{bind_ok, held, passed, ok_same, words_in, EndsWell, still_well, token_is, symbol_passes}
 use Rattle.dac_shapes.proofs.FoundLists.{bracketed_found}
 use Rattle.dac_shapes.proofs.Found.{section_found}
-use Rattle.dac_shapes.proofs.AgainLists.{ended, at, symbol_again}
-use Rattle.dac_shapes.proofs.Again.{sections_again}
+use Rattle.dac_shapes.specs.laws.AgainLists.{ended, at, symbol_again}
+use Rattle.dac_shapes.specs.laws.Again.{sections_again}
 
 -- ---- no token is the end
 

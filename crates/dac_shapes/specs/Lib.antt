@@ -5,3 +5,4 @@ pub mod Within
 pub mod Grammar
 pub mod Views
 pub mod Outcome
+pub mod laws

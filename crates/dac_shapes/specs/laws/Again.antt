@@ -13,9 +13,9 @@ use Rattle.dac_shapes.specs.Limits.{Seen, AllMay, steps, is_among, has_param, wi
 use Rattle.dac_shapes.specs.Shape.{State, is_mark, token, atom_of, short_name_of, node_of, names_at, item_at, items_at, groups_at, timeout_of, timeout_at, wait_of, value_from, app_name_of, app_value_at, app_at, flag_of, permission_value_at, permission_at, param_named, param_name_of, param_value_at, param_rest_at, param_at, names_kernel, kernel_at, section_rest_at, section_at, passed_at, pair_at, closed, list_of}
 use Rattle.std.specs.Str.{bytes_eq}
 use Rattle.dac_shapes.specs.Grammar.{Parted, IsListOf, IsPair, IsNode, IsItem, IsNodeList, IsAppValue, IsApp, IsFlag, IsPermission, IsTerm, IsWait, IsParam, IsSection}
-use Rattle.dac_shapes.proofs.Found.{same_seen, is_named, param_is}
-use Rattle.dac_shapes.proofs.AgainLists.{words_of, cons_is, split, cut, none, Begins, at, symbol_again, whole_again, bracketed_again, rest_again, pair_again}
-use Rattle.dac_shapes.proofs.AgainTerms.{passed_again}
+use Rattle.dac_shapes.specs.laws.Names.{same_seen, is_named, param_is}
+use Rattle.dac_shapes.specs.laws.AgainLists.{words_of, cons_is, split, cut, none, Begins, at, symbol_again, whole_again, bracketed_again, rest_again, pair_again}
+use Rattle.dac_shapes.specs.laws.AgainTerms.{passed_again}
 
 -- ---- single tokens
 

@@ -1,0 +1,227 @@
+-- The fault of a whole file, and of a text.
+use Rattle.std.proofs.Common.{◌≡◌, ℕ, suc, ◌+◌, ◌≤◌, Bool, true, false, cond, eqb, ltb, List, [], ◌∷◌, ◌++◌, length, map, Result, Ok, Err, refl, sym, ap, subst, ◌∙◌, append_assoc, arith, inl, inr}
+use Rattle.std.specs.Prelude.{◌⊎◌, ◌↔◌, IfOk}
+use Rattle.std.proofs.lemmas.Bool.{ltb-true, ltb-false, eqb-true}
+use Rattle.dac_tokens.specs.declared.fault.ConfigFault.{ConfigFault}
+use Rattle.dac_tokens.specs.declared.fault.FaultKind.TheVariants.{BadShape, NoDistributed, TooLong}
+use Rattle.dac_tokens.specs.declared.token.Symbol.TheVariants.{FullStop}
+use Rattle.dac_tokens.specs.Gives.{◌>>=◌}
+use Rattle.dac_tokens.specs.Words.{Word, Mark, Name, Number, Text, End, Located, is_end}
+use Rattle.dac_tokens.specs.Stream.{Stream, tokens_of, end_at as end_of, ended as ended_by, stopped}
+use Rattle.dac_tokens.specs.TokenGrammar.{AreTokensOf, AreSpelled, Spells, depth_behind}
+use Rattle.dac_tokens.specs.TokenFaults.{StopAt}
+use Rattle.dac_shapes.specs.Written.{Section, Written, written}
+use Rattle.dac_shapes.specs.Limits.{Seen, nothing, steps, with_section, MaySections}
+use Rattle.dac_shapes.specs.Within.{AreWithinLimits, nodes_in}
+use Rattle.dac_shapes.specs.Grammar.{IsFile, IsSection, IsListOf}
+use Rattle.dac_shapes.specs.Shape.{State, fails, is_mark, list_of, section_at, end_at, file_at, draft_at}
+use Rattle.dac_shapes.specs.laws.AgainLists.{at, ended}
+use Rattle.dac_shapes.specs.laws.Again.{sections_again}
+use Rattle.dac_first_fault.specs.FirstFault.{StandsAt, Itself, words, BeginsNone, apps_in, BeginsWith, IsFaultOf, Long, NoToken, Token, Ends, Nobody}
+use Rattle.dac_first_fault.proofs.Outcomes.{Took, Failed, Asked, Takes, Always, Plain, Gives}
+use Rattle.dac_first_fault.proofs.Steps.{symbol_yes, symbol_no, symbol_none, symbol_end}
+use Rattle.dac_first_fault.proofs.Sections.{sections_reader}
+
+-- ---- the end of a file
+
+module _ (c : Located) (seen : Seen) where
+  end_no : (last : Result Located ConfigFault) (rest : List Located) → is_mark FullStop c.word ≡ false → end_at (at last (c ∷ rest) seen) ≡ fails BadShape c.at
+  unfolding end_at
+  end_no last rest e = rw (symbol_no FullStop c last rest seen e) refl
+
+  stop_more : (d : Located) (last : Result Located ConfigFault) (rest : List Located) → is_mark FullStop c.word ≡ true → is_end d.word ≡ false → end_at (at last (c ∷ d ∷ rest) seen) ≡ fails BadShape d.at
+  unfolding end_at
+  stop_more d last rest e f = rw (symbol_yes FullStop c last (d ∷ rest) seen e, f) refl
+
+  stop_none : (p : ConfigFault) → is_mark FullStop c.word ≡ true → end_at (at (Err p) (c ∷ []) seen) ≡ Err p
+  unfolding end_at
+  stop_none p e = rw (symbol_yes FullStop c (Err p) [] seen e) refl
+
+  stop_end : (t : Located) → is_mark FullStop c.word ≡ true → t.word ≡ End → end_at (at (Ok t) (c ∷ []) seen) ≡ Ok (t.at, at (Ok t) [] seen)
+  unfolding end_at
+  stop_end t e w = rw (symbol_yes FullStop c (Ok t) [] seen e, w) refl
+
+end_none : (p : ConfigFault) (seen : Seen) → end_at (at (Err p) [] seen) ≡ Err p
+unfolding end_at
+end_none p seen = rw (symbol_none FullStop p seen) refl
+
+end_end : (t : Located) (seen : Seen) → t.word ≡ End → end_at (at (Ok t) [] seen) ≡ fails BadShape t.at
+unfolding end_at
+end_end t seen w = rw (symbol_end FullStop t seen w) refl
+
+-- ---- a file
+
+abbrev judged : List Section → ℕ × State → Result Written ConfigFault
+judged sections end = cond (eqb (length (written sections end.1.seen.met).apps) 0) (fails NoDistributed end.0) (Ok (written sections end.1.seen.met))
+
+abbrev behind : List Section × State → Result Written ConfigFault
+behind x = end_at x.1 >>= judged x.0
+
+file_is : (s : State) → file_at s ≡ (list_of section_at s >>= behind)
+unfolding file_at
+file_is s = refl
+
+-- what reading a file makes of these tokens
+data Judged (ts : List Located) : Type 0 where
+  By : (a : List Located) (l : Located) (b : List Located) (e : ConfigFault) → ts ≡ a ++ l ∷ b → ((last : Result Located ConfigFault) (rest : List Located) → file_at (at last (a ++ l ∷ rest) nothing) ≡ Err e) → StandsAt a l e → Judged ts
+  Unsettled : ((p : ConfigFault) → file_at (at (Err p) ts nothing) ≡ Err p) → ((t : Located) (e : ConfigFault) → t.word ≡ End → file_at (at (Ok t) ts nothing) ≡ Err e → (e ≡ record { kind = BadShape; at = t.at }) ⊎ (e ≡ record { kind = NoDistributed; at = t.at })) → Judged ts
+
+same_err : (d e : ConfigFault) (r : Result Written ConfigFault) → r ≡ Err d → r ≡ Err e → e ≡ d
+same_err d e r p q = cc
+
+abbrev NoEnd : List Located → Type 0
+NoEnd [] = Unit {0}
+NoEnd (t ∷ ts) = (is_end t.word ≡ false) × NoEnd ts
+
+no_end_behind : (a b : List Located) → NoEnd (a ++ b) → NoEnd b
+no_end_behind [] b h = h
+no_end_behind (t ∷ a) b h = no_end_behind a b h.1
+
+no_end_word : (w : Word) (own rest : List ℕ) → Spells w own rest → is_end w ≡ false
+no_end_word (Mark symbol) own rest is = refl
+no_end_word (Name name) own rest is = refl
+no_end_word (Number negative digits) own rest is = refl
+no_end_word Text own rest is = refl
+no_end_word End own rest is = absurd is
+
+no_end_spelled : (place : ℕ) (bytes : List ℕ) (ts : List Located) → AreSpelled place bytes ts → NoEnd ts
+no_end_spelled place bytes [] is = tt
+no_end_spelled place bytes (t ∷ ts) is = (no_end_word t.word is.0 is.1 is.2.spelled, no_end_spelled (t.at + length is.0) is.1 ts is.3)
+
+no_end_stopped : (place depth : ℕ) (bytes : List ℕ) (ts : List Located) (e : ConfigFault) → StopAt place depth bytes ts e → NoEnd ts
+no_end_stopped place depth bytes [] e is = tt
+no_end_stopped place depth bytes (t ∷ ts) e is = (no_end_word t.word is.0 is.1 is.2.spelled, no_end_stopped (t.at + length is.0) (depth_behind depth t.word) is.1 ts e is.4)
+
+module _ (ts : List Located) (k : Takes Always Plain (λ _. list_of section_at) ts nothing) where
+  goes : (last : Result Located ConfigFault) (rest : List Located) → file_at (at last (k.a ++ rest) nothing) ≡ (end_at (at last rest k.after) >>= judged k.x)
+  goes last rest = file_is (at last (k.a ++ rest) nothing) ∙ ap (λ r. r >>= behind) (k.goes tt last rest tt)
+
+  last_fault : (t : Located) (e : ConfigFault) (c : Bool) (w : Written) → cond c (fails NoDistributed t.at) (Ok w) ≡ Err e → (e ≡ record { kind = BadShape; at = t.at }) ⊎ (e ≡ record { kind = NoDistributed; at = t.at })
+  last_fault t e true w h = inr (same_err (record { kind = NoDistributed; at = t.at }) e (Err (record { kind = NoDistributed; at = t.at })) refl h)
+  last_fault t e false w h = absurd cc
+
+  none_left : Judged (k.a ++ [])
+  none_left = Unsettled (λ p. goes (Err p) [] ∙ ap (λ r. r >>= judged k.x) (end_none p k.after))
+      (λ t e w h. inl (same_err (record { kind = BadShape; at = t.at }) e (file_at (at (Ok t) (k.a ++ []) nothing)) (goes (Ok t) [] ∙ ap (λ r. r >>= judged k.x) (end_end t k.after w)) h))
+
+  stopped_by : (c : Located) (b : List Located) → is_mark FullStop c.word ≡ true → NoEnd b → Judged (k.a ++ c ∷ b)
+  stopped_by c [] is no_end = Unsettled (λ p. goes (Err p) (c ∷ []) ∙ ap (λ r. r >>= judged k.x) (stop_none c k.after p is))
+      (λ t e w h. last_fault t e (eqb (length (written k.x k.after.met).apps) 0) (written k.x k.after.met) (sym (goes (Ok t) (c ∷ []) ∙ ap (λ r. r >>= judged k.x) (stop_end c k.after t is w)) ∙ h))
+  stopped_by c (d ∷ b) is no_end = By (k.a ++ c ∷ []) d b (record { kind = BadShape; at = d.at }) (sym (append_assoc k.a (c ∷ []) (d ∷ b)))
+      (λ last rest. ap (λ (l : List Located). file_at (at last l nothing)) (append_assoc k.a (c ∷ []) (d ∷ rest)) ∙ goes last (c ∷ d ∷ rest) ∙ ap (λ r. r >>= judged k.x) (stop_more c k.after d last rest is no_end.0)) (Itself refl tt)
+
+  stop_by : (c : Located) (b : List Located) (x : Bool) → is_mark FullStop c.word ≡ x → NoEnd b → Judged (k.a ++ c ∷ b)
+  stop_by c b true is no_end = stopped_by c b is no_end
+  stop_by c b false is no_end = By k.a c b (record { kind = BadShape; at = c.at }) refl (λ last rest. goes last (c ∷ rest) ∙ ap (λ r. r >>= judged k.x) (end_no c k.after last rest is)) (Itself refl tt)
+
+  took_by : (b : List Located) → NoEnd b → Judged (k.a ++ b)
+  took_by [] no_end = none_left
+  took_by (c ∷ b) no_end = stop_by c b (is_mark FullStop c.word) refl no_end.1
+
+judged_by : (ts : List Located) → NoEnd ts → Gives (list_of section_at) ts nothing → Judged ts
+judged_by ts no_end (Took k) = subst Judged (sym k.whole) (took_by ts k k.b (no_end_behind k.a k.b (subst NoEnd k.whole no_end)))
+judged_by ts no_end (Failed k) = By k.a k.l k.b k.e k.whole (λ last rest. file_is (at last (k.a ++ k.l ∷ rest) nothing) ∙ ap (λ r. r >>= behind) (k.goes tt last rest tt)) k.stands
+judged_by ts no_end (Asked w) = Unsettled (λ p. file_is (at (Err p) ts nothing) ∙ ap (λ r. r >>= behind) (w.more tt p tt))
+    (λ t e is h. inl (same_err (record { kind = BadShape; at = t.at }) e (file_at (at (Ok t) ts nothing)) (file_is (at (Ok t) ts nothing) ∙ ap (λ r. r >>= behind) (w.end tt t is tt)) h))
+
+-- ---- a file that keeps the limits is read
+
+module _ (order : (sections : List Section) → (MaySections sections ↔ AreWithinLimits sections)) (nodes : (sections : List Section) → (steps with_section nothing sections).met ≡ nodes_in sections) where
+  within_judged : (end : Located) (ts : List Located) (sections : List Section) → end.word ≡ End → IsFile (words ts) sections → AreWithinLimits sections
+      → file_at (at (Ok end) ts nothing) ≡ cond (eqb (apps_in sections) 0) (fails NoDistributed end.at) (Ok (written sections (nodes_in sections)))
+  within_judged end ts sections w file within =
+      let c = ended ts file.0 (Mark FullStop) file.1 in
+      let list : IsListOf IsSection (words c.front) sections = subst (λ (l : List Word). IsListOf IsSection l sections) (sym c.first) file.2 in
+      let seen = steps with_section nothing sections in
+      let stop : is_mark FullStop c.end.word ≡ true = ap (is_mark FullStop) c.is in
+      ap (λ (l : List Located). file_at (at (Ok end) l nothing)) c.whole ∙ file_is (at (Ok end) (c.front ++ c.end ∷ []) nothing)
+      ∙ ap (λ r. r >>= behind) (sections_again (Ok end) c.front (c.end ∷ []) sections nothing list ((order sections).1 within))
+      ∙ ap (λ r. r >>= judged sections) (stop_end c.end seen end stop w)
+      ∙ ap (λ (n : List (List ℕ)). cond (eqb (length (written sections n).apps) 0) (fails NoDistributed end.at) (Ok (written sections n))) (nodes sections)
+
+  abbrev place_at : ℕ → Word → Located
+  place_at n w = record { word = w; at = n }
+
+  placed : (n : ℕ) (ws : List Word) → words (map (place_at n) ws) ≡ ws
+  placed n [] = refl
+  placed n (w ∷ ws) = ap (λ (l : List Word). w ∷ l) (placed n ws)
+
+  words_append : (a b : List Located) → words (a ++ b) ≡ words a ++ words b
+  words_append [] b = refl
+  words_append (t ∷ a) b = ap (λ (l : List Word). t.word ∷ l) (words_append a b)
+
+  no_clash : (e : ConfigFault) (c : Bool) (w : Written) → cond c (fails NoDistributed (suc e.at)) (Ok w) ≡ Err e → ⊥
+  no_clash e true w h = let same : e.at ≡ suc e.at = ap (λ (f : ConfigFault). f.at) (same_err (record { kind = NoDistributed; at = suc e.at }) e (fails NoDistributed (suc e.at)) refl h) in absurd (omega arith)
+  no_clash e false w h = absurd cc
+
+  begins_none : (a : List Located) (l : Located) (e : ConfigFault) → ((last : Result Located ConfigFault) (rest : List Located) → file_at (at last (a ++ l ∷ rest) nothing) ≡ Err e) → BeginsNone (words a ++ l.word ∷ [])
+  begins_none a l e fault more is =
+      let rest = map (place_at 0) more in
+      let same : words (a ++ l ∷ rest) ≡ (words a ++ l.word ∷ []) ++ more = words_append a (l ∷ rest) ∙ ap (λ (m : List Word). words a ++ l.word ∷ m) (placed 0 more) ∙ sym (append_assoc (words a) (l.word ∷ []) more) in
+      let read = within_judged (end_of (suc e.at)) (a ++ l ∷ rest) is.sections refl (subst (λ (m : List Word). IsFile m is.sections) (sym same) is.file) is.within in
+      no_clash e (eqb (apps_in is.sections) 0) (written is.sections (nodes_in is.sections)) (sym read ∙ fault (Ok (end_of (suc e.at))) rest)
+
+  no_bad_shape : (place : ℕ) (c : Bool) (w : Written) → cond c (fails NoDistributed place) (Ok w) ≡ fails BadShape place → ⊥
+  no_bad_shape place true w h =
+      let same : record { kind = BadShape; at = place } ≡ record { kind = NoDistributed; at = place } = same_err (record { kind = NoDistributed; at = place }) (record { kind = BadShape; at = place }) (fails NoDistributed place) refl h in
+      let kinds : BadShape ≡ NoDistributed = ap (λ (f : ConfigFault). f.kind) same in
+      absurd cc
+  no_bad_shape place false w h = absurd cc
+
+  none_listed : (place n : ℕ) (c : Bool) (w : Written) → eqb n 0 ≡ c → cond c (fails NoDistributed place) (Ok w) ≡ fails NoDistributed place → n ≡ 0
+  none_listed place n true w e h = eqb-true n 0 e
+  none_listed place n false w e h = absurd cc
+
+  module _ (text : List ℕ) (s : Stream) (end : IfOk s.last (λ t. t ≡ end_of (length text))) (spelled : (ts : List Located) → (AreTokensOf text ts ↔ (s ≡ ended_by (length text) ts))) (stops : (ts : List Located) (e : ConfigFault) → (StopAt 0 0 text ts e ↔ (s ≡ stopped ts e)))
+      (short : length text ≤ 65536) where
+    ended_so : (t : Located) → s.last ≡ Ok t → (t ≡ end_of (length text)) × AreTokensOf text s.tokens
+    ended_so t is =
+        let e : t ≡ end_of (length text) = subst (λ (r : Result Located ConfigFault). IfOk r (λ t. t ≡ end_of (length text))) is end in
+        (e, (spelled s.tokens).1 (ap (λ (r : Result Located ConfigFault). record { tokens = s.tokens; last = r }) (is ∙ ap (λ (t : Located). Ok t) e)))
+
+    stopped_so : (p : ConfigFault) → s.last ≡ Err p → StopAt 0 0 text s.tokens p
+    stopped_so p is = (stops s.tokens p).1 (ap (λ (r : Result Located ConfigFault). record { tokens = s.tokens; last = r }) is)
+
+    no_end_by : (r : Result Located ConfigFault) → s.last ≡ r → NoEnd s.tokens
+    no_end_by (Ok t) is = no_end_spelled 0 text s.tokens (ended_so t is).1.spelled
+    no_end_by (Err p) is = no_end_stopped 0 0 text s.tokens p (stopped_so p is)
+
+    begins_by : (r : Result Located ConfigFault) → s.last ≡ r → (a : List Located) (l : Located) (b : List Located) → s.tokens ≡ a ++ l ∷ b → BeginsWith text (a ++ l ∷ [])
+    begins_by (Ok t) is a l b whole = record { rest = b; is = inl (subst (λ (ts : List Located). AreTokensOf text ts) (whole ∙ sym (append_assoc a (l ∷ []) b)) (ended_so t is).1) }
+    begins_by (Err p) is a l b whole = record { rest = b; is = inr (p, subst (λ (ts : List Located). StopAt 0 0 text ts p) (whole ∙ sym (append_assoc a (l ∷ []) b)) (stopped_so p is)) }
+
+    end_fault : (e : ConfigFault) → AreTokensOf text s.tokens → file_at (at (Ok (end_of (length text))) s.tokens nothing) ≡ Err e → (e ≡ record { kind = BadShape; at = length text }) ⊎ (e ≡ record { kind = NoDistributed; at = length text }) → IsFaultOf text e
+    end_fault e tokens h which = elim which [
+      | inl is ↦
+          Ends s.tokens short tokens
+          (λ w. no_bad_shape (length text) (eqb (apps_in w.sections) 0) (written w.sections (nodes_in w.sections)) (sym (within_judged (end_of (length text)) s.tokens w.sections refl w.file w.within) ∙ h ∙ ap (λ (f : ConfigFault). Err f) is)) is
+      | inr is ↦
+          Nobody s.tokens short tokens
+          (λ w. none_listed (length text) (apps_in w.sections) (eqb (apps_in w.sections) 0) (written w.sections (nodes_in w.sections)) refl (sym (within_judged (end_of (length text)) s.tokens w.sections refl w.file w.within) ∙ h ∙ ap (λ (f : ConfigFault). Err f) is)) is
+    ]
+
+    wanting_fault : (e : ConfigFault) (r : Result Located ConfigFault) → s.last ≡ r → file_at (at r s.tokens nothing) ≡ Err e → ((p : ConfigFault) → file_at (at (Err p) s.tokens nothing) ≡ Err p)
+        → ((t : Located) (e : ConfigFault) → t.word ≡ End → file_at (at (Ok t) s.tokens nothing) ≡ Err e → (e ≡ record { kind = BadShape; at = t.at }) ⊎ (e ≡ record { kind = NoDistributed; at = t.at })) → IsFaultOf text e
+    wanting_fault e (Err p) is h more ends = NoToken s.tokens short (subst (λ (q : ConfigFault). StopAt 0 0 text s.tokens q) (sym (same_err p e (file_at (at (Err p) s.tokens nothing)) (more p) h)) (stopped_so p is))
+    wanting_fault e (Ok t) is h more ends =
+        let so = ended_so t is in
+        let there = subst (λ (t : Located). file_at (at (Ok t) s.tokens nothing) ≡ Err e) so.0 h in
+        end_fault e so.1 there (ends (end_of (length text)) e refl there)
+
+    fault_by : (e : ConfigFault) → file_at (at s.last s.tokens nothing) ≡ Err e → Judged s.tokens → IsFaultOf text e
+    fault_by e h (By a l b d whole goes stands) =
+        let same : e ≡ d = same_err d e (file_at (at s.last s.tokens nothing)) (ap (λ (ts : List Located). file_at (at s.last ts nothing)) whole ∙ goes s.last b) h in
+        Token a l short (begins_by s.last refl a l b whole) (begins_none a l d goes) (subst (λ (f : ConfigFault). StandsAt a l f) (sym same) stands)
+    fault_by e h (Unsettled more ends) = wanting_fault e s.last refl h more ends
+
+    pub file_fault : (e : ConfigFault) → file_at (at s.last s.tokens nothing) ≡ Err e → IsFaultOf text e
+    file_fault e h = fault_by e h (judged_by s.tokens (no_end_by s.last refl) (sections_reader s.tokens nothing))
+
+  pub text_fault : (text : List ℕ) (s : Stream) → s ≡ tokens_of (length text) 0 text → IfOk s.last (λ t. t ≡ end_of (length text)) → ((ts : List Located) → (AreTokensOf text ts ↔ (s ≡ ended_by (length text) ts)))
+      → ((ts : List Located) (e : ConfigFault) → (StopAt 0 0 text ts e ↔ (s ≡ stopped ts e))) → (e : ConfigFault) → draft_at text ≡ Err e → IsFaultOf text e
+  unfolding draft_at
+  text_fault text s read end spelled stops e h = by (ltb 65536 (length text)) refl h
+    where
+      by : (c : Bool) → ltb 65536 (length text) ≡ c → cond c (fails TooLong 65536) (file_at (record { left = tokens_of (length text) 0 text; seen = nothing })) ≡ Err e → IsFaultOf text e
+      by true is h = Long (ltb-true 65536 (length text) is) (same_err (record { kind = TooLong; at = 65536 }) e (fails TooLong 65536) refl h)
+      by false is h = file_fault text s end spelled stops (ltb-false 65536 (length text) is) e (subst (λ (q : Stream). file_at (record { left = q; seen = nothing }) ≡ Err e) (sym read) h)

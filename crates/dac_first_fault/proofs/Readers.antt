@@ -1,0 +1,359 @@
+-- The readers of names, nodes, applications and permissions.
+use Rattle.std.proofs.Common.{◌≡◌, ℕ, Bool, true, false, not, ◌&&◌, ◌≤◌, cond, eqb, ltb, leb, List, [], ◌∷◌, length, map, Result, Ok, Err, refl, sym, ap, ◌∙◌, arith, codes}
+use Rattle.std.specs.Str.{bytes_eq}
+use Rattle.std.proofs.lemmas.Bool.{ltb-true, ltb-false, ne_eqb}
+use Rattle.dac_tokens.specs.declared.fault.ConfigFault.{ConfigFault}
+use Rattle.dac_tokens.specs.declared.fault.FaultKind.TheVariants.{BadShape, EmptyList, EmptyTuple, TwiceInList, TwiceApp, TooManyApps, TooManyNodes, NumberTooLarge, NameTooLong}
+use Rattle.dac_tokens.specs.declared.token.Symbol.TheVariants.{OpenList, CloseList, OpenTuple, CloseTuple, Comma}
+use Rattle.dac_tokens.specs.Gives.{◌>>=◌}
+use Rattle.dac_tokens.specs.Words.{Word, Mark, Name, Number, Text, End, Located}
+use Rattle.dac_shapes.specs.declared.draft.SyncWait.TheVariants.{Forever, Ms}
+use Rattle.dac_shapes.specs.Written.{App}
+use Rattle.dac_shapes.specs.Limits.{Seen, is_among, with_node, listing}
+use Rattle.dac_shapes.specs.Shape.{State, fails, is_mark, token, symbol_at, atom_of, short_name_of, value_from, timeout_of, wait_of, flag_of, app_name_of, node_of, names_at, item_at, items_at, groups_at, timeout_at, app_value_at, app_at, permission_value_at, permission_at, closed}
+use Rattle.dac_shapes.specs.laws.AgainLists.{at}
+use Rattle.dac_first_fault.specs.FirstFault.{IsShortName, Itself, InList, InTuple}
+use Rattle.dac_first_fault.proofs.Outcomes.{Failed, Asked, further, wants_further, Always, Plain, Reader, Gives, IsReader, Wanting, made}
+use Rattle.dac_first_fault.proofs.Alike.{same_reader, alike}
+use Rattle.dac_first_fault.proofs.Steps.{first_goes, first_taken, first_fails, wants_token, Here, here_ok, here_fails, here_if, here_then, IsLook, look_only, symbol_then, closed_reader, pair_reader, pair_end, mark_is}
+use Rattle.dac_first_fault.proofs.Lists.{regroup, as_list, whole_end}
+
+-- ---- what a token is
+
+abbrev of : Word → ℕ → Located
+of w place = record { word = w; at = place }
+
+atom_here : (w : Word) (place : ℕ) → Here (of w place) (atom_of (of w place))
+unfolding atom_of
+atom_here (Name name) place = here_ok (of (Name name) place) name
+atom_here (Mark symbol) place = here_fails (of (Mark symbol) place) BadShape tt
+atom_here (Number negative digits) place = here_fails (of (Number negative digits) place) BadShape tt
+atom_here Text place = here_fails (of Text place) BadShape tt
+atom_here End place = here_fails (of End place) BadShape tt
+
+atom_end : (t : Located) → t.word ≡ End → atom_of t ≡ fails BadShape t.at
+unfolding atom_of
+atom_end t w = rw w refl
+
+pub atom_look : IsLook atom_of
+atom_look = record { place = λ t. atom_here t.word t.at; end = atom_end }
+
+name_is : (w : Word) (place : ℕ) (name : List ℕ) → atom_of (of w place) ≡ Ok name → w ≡ Name name
+unfolding atom_of
+name_is (Name other) place name e = let same : other ≡ name = cc in ap Name same
+name_is (Mark symbol) place name e = absurd cc
+name_is (Number negative digits) place name e = absurd cc
+name_is Text place name e = absurd cc
+name_is End place name e = absurd cc
+
+short_here : (t : Located) → Here t (short_name_of t)
+unfolding short_name_of
+short_here t = here_then t (atom_of t) _ (atom_here t.word t.at) (λ name is. here_if t _ _ _ (λ long. here_fails t NameTooLong (name, name_is t.word t.at name is, ltb-true 255 (length name) long)) (λ short. here_ok t name))
+
+short_is : (t : Located) (name : List ℕ) → short_name_of t ≡ Ok name → IsShortName t.word
+unfolding short_name_of
+short_is t name e = by (atom_of t) refl e
+  where
+    fits : (word : List ℕ) (c : Bool) → t.word ≡ Name word → ltb 255 (length word) ≡ c → cond c (fails NameTooLong t.at) (Ok word) ≡ Ok name → IsShortName t.word
+    fits word true w long h = absurd cc
+    fits word false w long h = (word, w, ltb-false 255 (length word) long)
+
+    by : (r : Result (List ℕ) ConfigFault) → atom_of t ≡ r → (r >>= λ word. cond (ltb 255 (length word)) (fails NameTooLong t.at) (Ok word)) ≡ Ok name → IsShortName t.word
+    by (Ok word) is h = fits word (ltb 255 (length word)) (name_is t.word t.at word is) refl h
+    by (Err d) is h = absurd cc
+
+short_end : (t : Located) → t.word ≡ End → short_name_of t ≡ fails BadShape t.at
+unfolding short_name_of
+short_end t w = rw (atom_end t w) refl
+
+short_look : IsLook short_name_of
+short_look = record { place = short_here; end = short_end }
+
+flag_here : (t : Located) → Here t (flag_of t)
+unfolding flag_of
+flag_here t = here_then t (atom_of t) _ (atom_here t.word t.at) (λ name is. here_if t (bytes_eq name (codes "true")) (Ok true) (cond (bytes_eq name (codes "false")) (Ok false) (fails BadShape t.at)) (λ yes. here_ok t true) (λ other. here_if t (bytes_eq name (codes "false")) _ _ (λ no_flag. here_ok t false) (λ neither. here_fails t BadShape tt)))
+
+flag_end : (t : Located) → t.word ≡ End → flag_of t ≡ fails BadShape t.at
+unfolding flag_of
+flag_end t w = rw (atom_end t w) refl
+
+flag_look : IsLook flag_of
+flag_look = record { place = flag_here; end = flag_end }
+
+not_negative : (negative : Bool) (n : ℕ) → (negative && not (eqb n 0)) ≡ false → 4294967296 ≤ n → negative ≡ false
+not_negative false n e large = refl
+not_negative true n e large = let nonzero : eqb n 0 ≡ false = ne_eqb n 0 (λ zero_is. absurd (omega arith)) in let both : true ≡ false = sym (ap not nonzero) ∙ e in absurd cc
+
+timeout_here : (place : ℕ) (negative : Bool) (digits : List ℕ) → Here (of (Number negative digits) place) (timeout_of place negative (value_from 0 digits))
+timeout_here place negative digits =
+    let t = of (Number negative digits) place in
+    let v = value_from 0 digits in
+    here_if t (negative && not (eqb v 0)) (fails BadShape place) (cond (ltb v 4294967296) (Ok v) (fails NumberTooLarge place)) (λ below. here_fails t BadShape tt) (λ above. here_if t (ltb v 4294967296) _ _ (λ small. here_ok t (value_from 0 digits)) (λ large.
+    let least : 4294967296 ≤ value_from 0 digits = ltb-false (value_from 0 digits) 4294967296 large in
+    here_fails t NumberTooLarge (digits, ap (λ (b : Bool). Number b digits) (not_negative negative (value_from 0 digits) above least), least)))
+
+wait_here : (w : Word) (place : ℕ) → Here (of w place) (wait_of (of w place))
+unfolding wait_of
+wait_here (Number negative digits) place = here_then (of (Number negative digits) place) (timeout_of place negative (value_from 0 digits)) (λ n. Ok (Ms n)) (timeout_here place negative digits) (λ n is. here_ok (of (Number negative digits) place) (Ms n))
+wait_here (Name name) place = here_if (of (Name name) place) _ _ _ (λ yes. here_ok (of (Name name) place) Forever) (λ other. here_fails (of (Name name) place) BadShape tt)
+wait_here (Mark symbol) place = here_fails (of (Mark symbol) place) BadShape tt
+wait_here Text place = here_fails (of Text place) BadShape tt
+wait_here End place = here_fails (of End place) BadShape tt
+
+wait_end : (t : Located) → t.word ≡ End → wait_of t ≡ fails BadShape t.at
+unfolding wait_of
+wait_end t w = rw w refl
+
+pub wait_look : IsLook wait_of
+wait_look = record { place = λ t. wait_here t.word t.at; end = wait_end }
+
+app_name_here : (before : List App) (t : Located) → Here t (app_name_of before t)
+unfolding app_name_of
+app_name_here before t = here_then t (short_name_of t) _ (short_here t) (λ name is. here_if t (is_among name (map (λ app. app.name) before)) (fails TwiceApp t.at) (cond (leb 64 (length before)) (fails TooManyApps t.at) (Ok name)) (λ twice. here_fails t TwiceApp (short_is t name is)) (λ once. here_if t (leb 64 (length before)) _ _ (λ many. here_fails t TooManyApps (short_is t name is)) (λ few. here_ok t name)))
+
+app_name_end : (before : List App) (t : Located) → t.word ≡ End → app_name_of before t ≡ fails BadShape t.at
+unfolding app_name_of
+app_name_end before t w = rw (short_end t w) refl
+
+app_name_look : (before : List App) → IsLook (app_name_of before)
+app_name_look before = record { place = app_name_here before; end = app_name_end before }
+
+-- ---- nodes
+
+module _ (repeats : Bool) where
+  abbrev node : Reader (List ℕ)
+  node s = token s >>= λ q. node_of repeats q.0 q.1
+
+  abbrev met : Located → State → List ℕ → Result (List ℕ × State) ConfigFault
+  met t s name = cond (not repeats && is_among name s.seen.listed) (fails TwiceInList t.at) (cond (not (is_among name s.seen.met) && leb 16 (length s.seen.met)) (fails TooManyNodes t.at) (Ok (name, record s { seen = with_node s.seen name })))
+
+  node_is : (t : Located) (s : State) → node_of repeats t s ≡ (short_name_of t >>= met t s)
+  unfolding node_of
+  node_is t s = refl
+
+  pub node_end : (t : Located) (s : State) → t.word ≡ End → node_of repeats t s ≡ fails BadShape t.at
+  node_end t s w = node_is t s ∙ ap (λ r. r >>= met t s) (short_end t w)
+
+  node_wants : (seen : Seen) → Wanting node [] seen
+  node_wants seen = wants_token (λ q. node_of repeats q.0 q.1) node_end seen
+
+  module _ (t : Located) (b : List Located) (seen : Seen) where
+    node_met : (name : List ℕ) → short_name_of t ≡ Ok name → (x y : Bool) → (not repeats && is_among name seen.listed) ≡ x → (not (is_among name seen.met) && leb 16 (length seen.met)) ≡ y → Gives node (t ∷ b) seen
+    node_met name e true y is f = first_fails node t b seen (record { kind = TwiceInList; at = t.at }) (λ last rest. node_is t (at last rest seen) ∙ ap (λ r. r >>= met t (at last rest seen)) e ∙ rw is refl) (Itself refl (short_is t name e)) (node_wants seen)
+    node_met name e false true is f = first_fails node t b seen (record { kind = TooManyNodes; at = t.at }) (λ last rest. node_is t (at last rest seen) ∙ ap (λ r. r >>= met t (at last rest seen)) e ∙ rw (is, f) refl) (Itself refl (short_is t name e)) (node_wants seen)
+    node_met name e false false is f = first_taken node t b seen name (with_node seen name) (λ last rest. node_is t (at last rest seen) ∙ ap (λ r. r >>= met t (at last rest seen)) e ∙ rw (is, f) refl)
+
+    node_by : (r : Result (List ℕ) ConfigFault) → short_name_of t ≡ r → Gives node (t ∷ b) seen
+    node_by (Ok name) e = node_met name e (not repeats && is_among name seen.listed) (not (is_among name seen.met) && leb 16 (length seen.met)) refl refl
+    node_by (Err d) e = first_fails node t b seen d (λ last rest. node_is t (at last rest seen) ∙ ap (λ r. r >>= met t (at last rest seen)) e) (short_here t d e) (node_wants seen)
+
+  pub node_reader : IsReader node
+  node_reader [] seen = Asked (node_wants seen)
+  node_reader (t ∷ b) seen = node_by t b seen (short_name_of t) refl
+
+-- ---- items of node lists
+
+abbrev in_tuple : Located → Reader (List (List ℕ))
+in_tuple t s = token s >>= λ first. cond (is_mark CloseTuple first.0.word) (fails EmptyTuple t.at) (names_at false CloseTuple first.0 first.1)
+
+abbrev alone : Reader (List (List ℕ))
+alone s = node false s >>= λ name. Ok (name.0 ∷ [], name.1)
+
+abbrev item : Reader (List (List ℕ))
+item s = token s >>= λ q. item_at q.0 q.1
+
+item_tuple : (t : Located) (s : State) → is_mark OpenTuple t.word ≡ true → item_at t s ≡ in_tuple t s
+unfolding item_at
+item_tuple t s e = rw e refl
+
+item_alone : (t : Located) (s : State) → is_mark OpenTuple t.word ≡ false → item_at t s ≡ (node_of false t s >>= λ name. Ok (name.0 ∷ [], name.1))
+unfolding item_at
+item_alone t s e = rw e refl
+
+item_end : (t : Located) (s : State) → t.word ≡ End → item_at t s ≡ fails BadShape t.at
+item_end t s w = item_alone t s (ap (is_mark OpenTuple) w) ∙ ap (λ r. r >>= λ name. Ok (name.0 ∷ [], name.1)) (node_end false t s w)
+
+item_wants : (seen : Seen) → Wanting item [] seen
+item_wants seen = wants_token (λ q. item_at q.0 q.1) item_end seen
+
+in_tuple_end : (o t : Located) (s : State) → t.word ≡ End → cond (is_mark CloseTuple t.word) (fails EmptyTuple o.at) (names_at false CloseTuple t s) ≡ fails BadShape t.at
+in_tuple_end o t s w = let no_close : is_mark CloseTuple t.word ≡ false = ap (is_mark CloseTuple) w in rw no_close (whole_end (λ _. node_of false) CloseTuple (λ _. node_reader false) (λ _. node_end false) t s w)
+
+in_tuple_wants : (o : Located) (seen : Seen) → Wanting (in_tuple o) [] seen
+in_tuple_wants o seen = wants_token (λ first. cond (is_mark CloseTuple first.0.word) (fails EmptyTuple o.at) (names_at false CloseTuple first.0 first.1)) (in_tuple_end o) seen
+
+module _ (t : Located) (seen : Seen) (is : is_mark OpenTuple t.word ≡ true) where
+  item_leads : (i : Unit {0}) (last : Result Located ConfigFault) (rest : List Located) → Always i (length (t ∷ rest)) → (j : Unit {0}) × Always j (length rest) × (item (at last (t ∷ rest) seen) ≡ in_tuple t (at last rest seen))
+  item_leads i last rest room = (tt, tt, item_tuple t (at last rest seen) is)
+
+  item_open : Wanting item (t ∷ []) seen
+  item_open = wants_further Always Always Plain (λ _. item) (λ _. in_tuple t) (t ∷ []) seen seen item_leads [] (in_tuple_wants t seen)
+
+  tuple_by : (f : Located) (b : List Located) (c : Bool) → is_mark CloseTuple f.word ≡ c → t.word ≡ Mark OpenTuple → (is_mark CloseTuple f.word ≡ true → f.word ≡ Mark CloseTuple) → Gives item (t ∷ f ∷ b) seen
+  tuple_by f b true e w v = Failed (record { a = t ∷ []; l = f; b = b; e = record { kind = EmptyTuple; at = t.at }; whole = refl; goes = λ i last rest room. item_tuple t (at last (f ∷ rest) seen) is ∙ rw e refl; stands = InTuple [] t refl w (v e) refl; wants = item_open })
+  tuple_by f b false e w v = further Always Always Plain (λ _. item) (λ _. in_tuple t) (t ∷ []) seen seen item_leads (f ∷ b) (as_list (λ _. node_of false) CloseTuple (λ _. node_reader false) (λ _. node_end false) (in_tuple t) f b seen seen (λ last rest. rw e refl) (in_tuple_wants t seen))
+
+  tuple_reader : (b : List Located) → Gives item (t ∷ b) seen
+  tuple_reader [] = Asked item_open
+  tuple_reader (f ∷ b) = tuple_by f b (is_mark CloseTuple f.word) refl (mark_is OpenTuple t.word is) (mark_is CloseTuple f.word)
+
+item_by : (t : Located) (b : List Located) (seen : Seen) (c : Bool) → is_mark OpenTuple t.word ≡ c → Gives item (t ∷ b) seen
+item_by t b seen true e = tuple_reader t seen e b
+item_by t b seen false e =
+    alike Always Always Plain (λ _. item) (λ _. alone) t b seen seen (λ i last rest room. (tt, tt, item_alone t (at last rest seen) e)) (item_wants seen)
+    (made (node false) (λ name. Ok (name.0 ∷ [], name.1)) (λ name. name ∷ []) (λ x s. refl) (t ∷ b) seen (node_reader false (t ∷ b) seen))
+
+item_reader : IsReader item
+item_reader [] seen = Asked (item_wants seen)
+item_reader (t ∷ b) seen = item_by t b seen (is_mark OpenTuple t.word) refl
+
+-- ---- node lists
+
+abbrev groups : Reader (List (List (List ℕ)))
+groups s = token s >>= λ q. groups_at q.0 q.1
+
+abbrev in_list : Located → Reader (List (List (List ℕ)))
+in_list t s = token s >>= λ first. cond (is_mark CloseList first.0.word) (fails EmptyList t.at) (items_at first.0 (record first.1 { seen = listing first.1.seen }))
+
+groups_open : (t : Located) (s : State) → is_mark OpenList t.word ≡ true → groups_at t s ≡ in_list t s
+unfolding groups_at
+groups_open t s e = rw e refl
+
+groups_no : (t : Located) (s : State) → is_mark OpenList t.word ≡ false → groups_at t s ≡ fails BadShape t.at
+unfolding groups_at
+groups_no t s e = rw e refl
+
+groups_end : (t : Located) (s : State) → t.word ≡ End → groups_at t s ≡ fails BadShape t.at
+groups_end t s w = groups_no t s (ap (is_mark OpenList) w)
+
+groups_wants : (seen : Seen) → Wanting groups [] seen
+groups_wants seen = wants_token (λ q. groups_at q.0 q.1) groups_end seen
+
+in_list_end : (o t : Located) (s : State) → t.word ≡ End → cond (is_mark CloseList t.word) (fails EmptyList o.at) (items_at t (record s { seen = listing s.seen })) ≡ fails BadShape t.at
+in_list_end o t s w = let no_close : is_mark CloseList t.word ≡ false = ap (is_mark CloseList) w in rw no_close (whole_end (λ _. item_at) CloseList (λ _. item_reader) (λ _. item_end) t (record s { seen = listing s.seen }) w)
+
+in_list_wants : (o : Located) (seen : Seen) → Wanting (in_list o) [] seen
+in_list_wants o seen = wants_token (λ first. cond (is_mark CloseList first.0.word) (fails EmptyList o.at) (items_at first.0 (record first.1 { seen = listing first.1.seen }))) (in_list_end o) seen
+
+module _ (t : Located) (seen : Seen) (is : is_mark OpenList t.word ≡ true) where
+  groups_leads : (i : Unit {0}) (last : Result Located ConfigFault) (rest : List Located) → Always i (length (t ∷ rest)) → (j : Unit {0}) × Always j (length rest) × (groups (at last (t ∷ rest) seen) ≡ in_list t (at last rest seen))
+  groups_leads i last rest room = (tt, tt, groups_open t (at last rest seen) is)
+
+  groups_more : Wanting groups (t ∷ []) seen
+  groups_more = wants_further Always Always Plain (λ _. groups) (λ _. in_list t) (t ∷ []) seen seen groups_leads [] (in_list_wants t seen)
+
+  list_by : (f : Located) (b : List Located) (c : Bool) → is_mark CloseList f.word ≡ c → t.word ≡ Mark OpenList → (is_mark CloseList f.word ≡ true → f.word ≡ Mark CloseList) → Gives groups (t ∷ f ∷ b) seen
+  list_by f b true e w v = Failed (record { a = t ∷ []; l = f; b = b; e = record { kind = EmptyList; at = t.at }; whole = refl; goes = λ i last rest room. groups_open t (at last (f ∷ rest) seen) is ∙ rw e refl; stands = InList [] t refl w (v e) refl; wants = groups_more })
+  list_by f b false e w v = further Always Always Plain (λ _. groups) (λ _. in_list t) (t ∷ []) seen seen groups_leads (f ∷ b) (as_list (λ _. item_at) CloseList (λ _. item_reader) (λ _. item_end) (in_list t) f b seen (listing seen) (λ last rest. rw e refl) (in_list_wants t seen))
+
+  groups_open_reader : (b : List Located) → Gives groups (t ∷ b) seen
+  groups_open_reader [] = Asked groups_more
+  groups_open_reader (f ∷ b) = list_by f b (is_mark CloseList f.word) refl (mark_is OpenList t.word is) (mark_is CloseList f.word)
+
+groups_by : (t : Located) (b : List Located) (seen : Seen) (c : Bool) → is_mark OpenList t.word ≡ c → Gives groups (t ∷ b) seen
+groups_by t b seen true e = groups_open_reader t seen e b
+groups_by t b seen false e = first_fails groups t b seen (record { kind = BadShape; at = t.at }) (λ last rest. groups_no t (at last rest seen) e) (Itself refl tt) (groups_wants seen)
+
+groups_reader : IsReader groups
+groups_reader [] seen = Asked (groups_wants seen)
+groups_reader (t ∷ b) seen = groups_by t b seen (is_mark OpenList t.word) refl
+
+-- ---- applications
+
+module _ (name : List ℕ) where
+  abbrev app_with : ℕ → List (List (List ℕ)) × State → Result (App × State) ConfigFault
+  app_with n groups = Ok (record { name = name; timeout = n; groups = groups.0 }, groups.1)
+
+  -- the node list behind a timeout
+  abbrev listed : ℕ → Reader App
+  listed n s = token s >>= λ q. groups_at q.0 q.1 >>= app_with n
+
+  listed_reader : (n : ℕ) → IsReader (listed n)
+  listed_reader n us seen = same_reader (listed n) (λ s. groups s >>= app_with n) (λ s. regroup (token s) (λ q. groups_at q.0 q.1) (app_with n)) us seen
+      (made groups (app_with n) (λ groups. record { name = name; timeout = n; groups = groups }) (λ x s. refl) us seen (groups_reader us seen))
+
+  abbrev timed : Located → State → Result (App × State) ConfigFault
+  timed t s = timeout_at t s >>= λ timeout. groups_at timeout.1 timeout.2 >>= app_with timeout.0
+
+  abbrev after_timeout : Result (ℕ × Located × State) ConfigFault → Result (App × State) ConfigFault
+  after_timeout r = r >>= λ timeout. groups_at timeout.1 timeout.2 >>= app_with timeout.0
+
+  abbrev after_comma : ℕ → Result State ConfigFault → Result (ℕ × Located × State) ConfigFault
+  after_comma n r = r >>= λ comma. token comma >>= λ next. Ok (n, next.0, next.1)
+
+  abbrev with_next : ℕ → Result (Located × State) ConfigFault → Result (ℕ × Located × State) ConfigFault
+  with_next n r = r >>= λ next. Ok (n, next.0, next.1)
+
+  token_by : (n : ℕ) (r : Result (Located × State) ConfigFault) → after_timeout (with_next n r) ≡ (r >>= λ q. groups_at q.0 q.1 >>= app_with n)
+  token_by n (Ok q) = refl
+  token_by n (Err e) = refl
+
+  comma_by : (n : ℕ) (r : Result State ConfigFault) → after_timeout (after_comma n r) ≡ (r >>= listed n)
+  comma_by n (Ok s) = token_by n (token s)
+  comma_by n (Err e) = refl
+
+  timeout_by : (s : State) (r : Result ℕ ConfigFault) → after_timeout (r >>= λ n. after_comma n (symbol_at Comma s)) ≡ (r >>= λ n. symbol_at Comma s >>= listed n)
+  timeout_by s (Ok n) = comma_by n (symbol_at Comma s)
+  timeout_by s (Err e) = refl
+
+  timed_number : (place : ℕ) (negative : Bool) (digits : List ℕ) (s : State) → timed (of (Number negative digits) place) s ≡ (timeout_of place negative (value_from 0 digits) >>= λ n. symbol_at Comma s >>= listed n)
+  unfolding timeout_at
+  timed_number place negative digits s = timeout_by s (timeout_of place negative (value_from 0 digits))
+
+  timed_other : (w : Word) (place : ℕ) (s : State) → ((negative : Bool) (digits : List ℕ) → w ≡ Number negative digits → ⊥) → timed (of w place) s ≡ (groups_at (of w place) s >>= app_with 0)
+  unfolding timeout_at
+  timed_other (Number negative digits) place s other = absurd (other negative digits refl)
+  timed_other (Mark symbol) place s other = refl
+  timed_other (Name name') place s other = refl
+  timed_other Text place s other = refl
+  timed_other End place s other = refl
+
+  abbrev app_value : Reader App
+  app_value s = token s >>= λ q. timed q.0 q.1
+
+  timed_end : (t : Located) (s : State) → t.word ≡ End → timed t s ≡ fails BadShape t.at
+  timed_end t s w = timed_other t.word t.at s (λ negative digits e. absurd cc) ∙ ap (λ r. r >>= app_with 0) (groups_end t s w)
+
+  value_wants : (seen : Seen) → Wanting app_value [] seen
+  value_wants seen = wants_token (λ q. timed q.0 q.1) timed_end seen
+
+  number_by : (negative : Bool) (digits : List ℕ) (place : ℕ) (b : List Located) (seen : Seen) (r : Result ℕ ConfigFault) → timeout_of place negative (value_from 0 digits) ≡ r → Gives app_value (of (Number negative digits) place ∷ b) seen
+  number_by negative digits place b seen (Ok n) e =
+      first_goes app_value (of (Number negative digits) place) b seen (λ s. symbol_at Comma s >>= listed n) seen (λ last rest. timed_number place negative digits (at last rest seen) ∙ ap (λ r. r >>= λ n. symbol_at Comma (at last rest seen) >>= listed n) e)
+      (symbol_then Comma (listed n) (listed_reader n) b seen)
+  number_by negative digits place b seen (Err d) e =
+      first_fails app_value (of (Number negative digits) place) b seen d (λ last rest. timed_number place negative digits (at last rest seen) ∙ ap (λ r. r >>= λ n. symbol_at Comma (at last rest seen) >>= listed n) e)
+      (timeout_here place negative digits d e) (value_wants seen)
+
+  other_by : (w : Word) (place : ℕ) (b : List Located) (seen : Seen) → ((negative : Bool) (digits : List ℕ) → w ≡ Number negative digits → ⊥) → Gives app_value (of w place ∷ b) seen
+  other_by w place b seen other = alike Always Always Plain (λ _. app_value) (λ _. listed 0) (of w place) b seen seen (λ i last rest room. (tt, tt, timed_other w place (at last rest seen) other)) (value_wants seen) (listed_reader 0 (of w place ∷ b) seen)
+
+  value_by : (w : Word) (place : ℕ) (b : List Located) (seen : Seen) → Gives app_value (of w place ∷ b) seen
+  value_by (Number negative digits) place b seen = number_by negative digits place b seen (timeout_of place negative (value_from 0 digits)) refl
+  value_by (Mark symbol) place b seen = other_by (Mark symbol) place b seen (λ negative digits e. absurd cc)
+  value_by (Name name') place b seen = other_by (Name name') place b seen (λ negative digits e. absurd cc)
+  value_by Text place b seen = other_by Text place b seen (λ negative digits e. absurd cc)
+  value_by End place b seen = other_by End place b seen (λ negative digits e. absurd cc)
+
+  app_value_reader : IsReader (app_value_at name)
+  unfolding app_value_at
+  app_value_reader [] seen = Asked (value_wants seen)
+  app_value_reader (t ∷ b) seen = value_by t.word t.at b seen
+
+pub app_reader : (before : List App) → IsReader (λ s. token s >>= λ q. app_at before q.0 q.1)
+app_reader before = pair_reader (app_name_of before) (λ name. closed (app_value_at name)) (app_name_look before) (λ name. closed_reader (app_value_at name) (app_value_reader name))
+
+pub app_end : (before : List App) (t : Located) (s : State) → t.word ≡ End → app_at before t s ≡ fails BadShape t.at
+app_end before = pair_end (app_name_of before) (λ name. closed (app_value_at name))
+
+-- ---- permissions
+
+permission_value_reader : (name : List ℕ) → IsReader (permission_value_at name)
+unfolding permission_value_at
+permission_value_reader name = look_only flag_of flag_look (λ value s. Ok (record { name = name; value = value }, s)) (λ value. record { name = name; value = value }) (λ k s. refl)
+
+pub permission_reader : IsReader (λ s. token s >>= λ q. permission_at q.0 q.1)
+permission_reader = pair_reader short_name_of (λ name. closed (permission_value_at name)) short_look (λ name. closed_reader (permission_value_at name) (permission_value_reader name))
+
+pub permission_end : (t : Located) (s : State) → t.word ≡ End → permission_at t s ≡ fails BadShape t.at
+permission_end = pair_end short_name_of (λ name. closed (permission_value_at name))

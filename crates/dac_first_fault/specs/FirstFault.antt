@@ -1,0 +1,71 @@
+-- Where the first fault of a text stands, said without a reader.
+use Rattle.std.specs.Prelude.{◌≡◌, ◌⊎◌, false, ℕ, ◌<◌, ◌≤◌, List, [], ◌∷◌, ◌++◌, length, map}
+use Rattle.dac_tokens.specs.declared.fault.FaultKind.{FaultKind}
+use Rattle.dac_tokens.specs.declared.fault.FaultKind.TheVariants.{TooLong, Unsupported, BadShape, NoDistributed, TwiceApp, TwiceInList, EmptyList, EmptyTuple, TooManyNodes, TooManyApps, NumberTooLarge, NameTooLong}
+use Rattle.dac_tokens.specs.declared.fault.ConfigFault.{ConfigFault}
+use Rattle.dac_tokens.specs.declared.token.Symbol.TheVariants.{OpenList, CloseList, OpenTuple, CloseTuple}
+use Rattle.dac_tokens.specs.Words.{Word, Mark, Name, Number, Text, Located}
+use Rattle.dac_tokens.specs.TokenGrammar.{AreTokensOf}
+use Rattle.dac_tokens.specs.TokenFaults.{StopAt}
+use Rattle.dac_shapes.specs.declared.limits.TheConstants.{MAX_NAME, MAX_TEXT}
+use Rattle.dac_shapes.specs.Shape.{value_from}
+use Rattle.dac_shapes.specs.Written.{Section, written}
+use Rattle.dac_shapes.specs.Grammar.{IsFile}
+use Rattle.dac_shapes.specs.Within.{AreWithinLimits, nodes_in}
+
+-- a name of at most MAX_NAME bytes
+abbrev pub IsShortName : Word → Type 0
+IsShortName word = (name : List ℕ) × (word ≡ Name name) × (length name ≤ MAX_NAME)
+
+-- Which faults a token can bring at its own place. The fault of brackets with nothing between them is none of these.
+abbrev pub CanBring : FaultKind → Word → Type 0
+CanBring BadShape word = Unit {0}
+CanBring Unsupported word = word ≡ Text
+CanBring NumberTooLarge word = (digits : List ℕ) × (word ≡ Number false digits) × (4294967296 ≤ value_from 0 digits)
+CanBring NameTooLong word = (name : List ℕ) × (word ≡ Name name) × (MAX_NAME < length name)
+CanBring TwiceApp word = IsShortName word
+CanBring TwiceInList word = IsShortName word
+CanBring TooManyApps word = IsShortName word
+CanBring TooManyNodes word = IsShortName word
+CanBring _ word = ⊥
+
+-- A fault that the token t brings, behind these: it stands at t, or for empty brackets at the one before it, which t
+-- closes.
+pub data StandsAt (before : List Located) (t : Located) (e : ConfigFault) : Type 0 where
+  Itself : e.at ≡ t.at → CanBring e.kind t.word → StandsAt before t e
+  InList : (front : List Located) (o : Located) → before ≡ front ++ o ∷ [] → o.word ≡ Mark OpenList → t.word ≡ Mark CloseList → e ≡ record { kind = EmptyList; at = o.at } → StandsAt before t e
+  InTuple : (front : List Located) (o : Located) → before ≡ front ++ o ∷ [] → o.word ≡ Mark OpenTuple → t.word ≡ Mark CloseTuple → e ≡ record { kind = EmptyTuple; at = o.at } → StandsAt before t e
+
+abbrev pub words : List Located → List Word
+words ts = map (λ t. t.word) ts
+
+-- these words are a file that keeps the limits
+pub record IsWithin (ws : List Word) : Type 0 where
+  pub sections : List Section
+  pub file : IsFile ws sections
+  pub within : AreWithinLimits sections
+
+-- no file that keeps the limits begins with these words
+abbrev pub BeginsNone : List Word → Type 0
+BeginsNone ws = (more : List Word) → ¬ IsWithin (ws ++ more)
+
+abbrev pub apps_in : List Section → ℕ
+apps_in sections = length (written sections (nodes_in sections)).apps
+
+-- a text begins with these tokens, and ends behind more of them, or stops where no token begins
+pub record BeginsWith (text : List ℕ) (ts : List Located) : Type 0 where
+  pub rest : List Located
+  pub is : AreTokensOf text (ts ++ rest) ⊎ ((e : ConfigFault) × StopAt 0 0 text (ts ++ rest) e)
+
+-- What brings the fault of a text.
+pub data IsFaultOf (text : List ℕ) (e : ConfigFault) : Type 0 where
+  -- the text is too long
+  Long : MAX_TEXT < length text → e ≡ record { kind = TooLong; at = MAX_TEXT } → IsFaultOf text e
+  -- behind these tokens no token begins
+  NoToken : (before : List Located) → length text ≤ MAX_TEXT → StopAt 0 0 text before e → IsFaultOf text e
+  -- with the token t no file that keeps the limits goes on
+  Token : (before : List Located) (t : Located) → length text ≤ MAX_TEXT → BeginsWith text (before ++ t ∷ []) → BeginsNone (words before ++ t.word ∷ []) → StandsAt before t e → IsFaultOf text e
+  -- the end came where no such file is at its end
+  Ends : (ts : List Located) → length text ≤ MAX_TEXT → AreTokensOf text ts → ¬ IsWithin (words ts) → e ≡ record { kind = BadShape; at = length text } → IsFaultOf text e
+  -- no application is listed
+  Nobody : (ts : List Located) → length text ≤ MAX_TEXT → AreTokensOf text ts → ((is : IsWithin (words ts)) → apps_in is.sections ≡ 0) → e ≡ record { kind = NoDistributed; at = length text } → IsFaultOf text e

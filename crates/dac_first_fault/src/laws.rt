@@ -1,0 +1,18 @@
+//! The law of the first fault, as the contract of a function that only looks at a text.
+
+ghost use Rattle.std.specs.Prelude.{◌≡◌, Err};
+ghost use Rattle.dac_tokens.specs.declared.fault.ConfigFault.{ConfigFault};
+ghost use Rattle.dac_shapes.specs.Shape.{draft_at};
+ghost use Rattle.dac_first_fault.specs.FirstFault.{IsFaultOf};
+
+use dac_shapes::laws::limits_in_text_order;
+use dac_tokens::Tokens;
+
+/// What brings the fault that reading this text has. Mostly it is one token, with which no file that keeps the limits
+/// goes on, whatever stands behind it.
+pub fn first_fault(text: &[u8])
+    ensures first { (e : ConfigFault) → draft_at text.now ≡ Err e → IsFaultOf text.now e }
+{
+    limits_in_text_order();
+    let _tokens = Tokens::new(text);
+}
