@@ -5,4 +5,8 @@ pub mod Lists
 pub mod Terms
 pub mod Readers
 pub mod Sections
+pub mod Begun
+pub mod BegunTerms
+pub mod BegunReaders
+pub mod BegunSections
 pub mod Files

@@ -5,7 +5,10 @@
 //! it. The fault stands at that token, or at the bracket that it closes with nothing between, and its kind is one that
 //! the token can bring.
 //!
-//! Not said yet: that what stands before the token is in order, and which of the kinds that a name can bring it is.
+//! What stands before the token is in order: some file begins so. So no token before it is one with which no file at
+//! all goes on, and a fault of shape is the first of its kind.
+//!
+//! Not said yet: that what stands before the token keeps the limits, and which of the kinds that a name can bring it is.
 #![tactic(auto)]
 
 pub mod laws;
