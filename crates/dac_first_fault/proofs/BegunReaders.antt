@@ -61,7 +61,7 @@ app_looks before t =
     (λ name e. looks_if (IsName t.word) (is_among name (map (λ app. app.name) before)) (fails TwiceApp t.at) (cond (leb 64 (length before)) (fails TooManyApps t.at) (Ok name)) (λ twice h. h)
     (λ once. looks_if (IsName t.word) (leb 64 (length before)) (fails TooManyApps t.at) (Ok name) (λ many h. h) (λ few. e)))
 
-flag_looks : (t : Located) → Looks (λ value. IsFlag (t.word ∷ []) value) (flag_of t)
+pub flag_looks : (t : Located) → Looks (λ value. IsFlag (t.word ∷ []) value) (flag_of t)
 unfolding flag_of
 flag_looks t =
     looks_then (IsName t.word) (λ value. IsFlag (t.word ∷ []) value) (atom_of t) (λ name. cond (bytes_eq name (codes "true")) (Ok true) (cond (bytes_eq name (codes "false")) (Ok false) (fails BadShape t.at))) (atom_looks t)
@@ -76,7 +76,7 @@ not_less true true v e f z = z refl
 not_less true false v e f z = absurd cc
 not_less false d v e f z = absurd cc
 
-ms_looks : (place : ℕ) (negative : Bool) (digits : List ℕ) → Looks (IsMs (Number negative digits)) (timeout_of place negative (value_from 0 digits))
+pub ms_looks : (place : ℕ) (negative : Bool) (digits : List ℕ) → Looks (IsMs (Number negative digits)) (timeout_of place negative (value_from 0 digits))
 ms_looks place negative digits =
     let v = value_from 0 digits in
     looks_if (IsMs (Number negative digits)) (negative && not (eqb v 0)) (fails BadShape place) (cond (ltb v 4294967296) (Ok v) (fails NumberTooLarge place)) (λ below h. h)
@@ -171,7 +171,7 @@ groups_sees t s short =
 
 -- ---- applications
 
-abbrev by_timeout : Via (ℕ × Located × State)
+abbrev pub by_timeout : Via (ℕ × Located × State)
 by_timeout = record { rest = λ x. x.1.word ∷ words_in x.2; state = λ x. x.2 }
 
 abbrev Time : List Word → ℕ × Located × State → Type 0

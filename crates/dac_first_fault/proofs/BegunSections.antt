@@ -22,14 +22,14 @@ use Rattle.dac_first_fault.proofs.BegunReaders.{made_sees, word_before, pair_of,
 -- ---- names of parameters
 
 -- what a parameter's name says of it
-abbrev IsFor : List ℕ → Option ParamName → Type 0
+abbrev pub IsFor : List ℕ → Option ParamName → Type 0
 IsFor name (Some known) = name ≡ spelled known
 IsFor name None = (known : ParamName) → name ≢ spelled known
 
 abbrev Says : Word → Option ParamName → Type 0
 Says w o = (name : List ℕ) × (w ≡ Name name) × IsFor name o
 
-unknown_is : (name : List ℕ) → param_named name ≡ None → (known : ParamName) → name ≢ spelled known
+pub unknown_is : (name : List ℕ) → param_named name ≡ None → (known : ParamName) → name ≢ spelled known
 unknown_is name e known same = absurd (no_name known (sym (ap param_named same) ∙ e))
   where
     no_name : (p : ParamName) → param_named (spelled p) ≡ None → ⊥
@@ -123,7 +123,7 @@ IsForSection name false = name ≢ codes "kernel"
 abbrev Tells : Word → Bool → Type 0
 Tells w k = (name : List ℕ) × (w ≡ Name name) × IsForSection name k
 
-no_kernel : (name : List ℕ) → bytes_eq name (codes "kernel") ≡ false → name ≢ codes "kernel"
+pub no_kernel : (name : List ℕ) → bytes_eq name (codes "kernel") ≡ false → name ≢ codes "kernel"
 no_kernel name other same = let wrong : true ≡ false = ap (λ (n : List ℕ). bytes_eq n (codes "kernel")) (sym same) ∙ other in cc
 
 kernel_looks : (before : List Section) (t : Located) → Looks (Tells t.word) (names_kernel before t)

@@ -23,6 +23,7 @@ use Rattle.dac_first_fault.proofs.Steps.{symbol_yes, symbol_no, symbol_none, sym
 use Rattle.dac_first_fault.proofs.Sections.{sections_reader}
 use Rattle.dac_first_fault.proofs.Begun.{halt}
 use Rattle.dac_first_fault.proofs.BegunSections.{file_begun}
+use Rattle.dac_first_fault.proofs.HeldFile.{file_kept}
 
 -- ---- the end of a file
 
@@ -132,13 +133,23 @@ judged_by ts no_end (Failed k) = By k.a k.l k.b k.e k.whole (λ last rest. file_
 judged_by ts no_end (Asked w) = Unsettled (λ p. file_is (at (Err p) ts nothing) ∙ ap (λ r. r >>= behind) (w.more tt p tt))
     (λ t e is h. inl (same_err (record { kind = BadShape; at = t.at }) e (file_at (at (Ok t) ts nothing)) (file_is (at (Ok t) ts nothing) ∙ ap (λ r. r >>= behind) (w.end tt t is tt)) h))
 
--- tokens whose reader comes to their end are in order
-well : (ts : List Located) → file_at (at (Err halt) ts nothing) ≡ Err halt → IsWell (words ts)
-well ts e = let b = file_begun ts e in record { more = b.more; sections = b.x; file = b.is; keeps = tt }
-
 -- ---- a file that keeps the limits is read
 
 module _ (order : (sections : List Section) → (MaySections sections ↔ AreWithinLimits sections)) (nodes : (sections : List Section) → (steps with_section nothing sections).met ≡ nodes_in sections) where
+  -- tokens whose reader comes to their end are in order
+  well : (ts : List Located) → file_at (at (Err halt) ts nothing) ≡ Err halt → IsWell (words ts)
+  well ts e =
+      let b = file_begun ts e in
+      let k = file_kept ts e in
+      record {
+        goes_on = record { more = b.more; sections = b.x; file = b.is; keeps = tt };
+        named = k.named;
+        rest = k.rest;
+        parts = k.parts;
+        no_name = k.no_name;
+        keeps = record { more = k.begun.more; sections = k.begun.x; file = k.begun.is.0; keeps = (order k.begun.x).0 k.begun.is.1 };
+      }
+
   within_judged : (end : Located) (ts : List Located) (sections : List Section) → end.word ≡ End → IsFile (words ts) sections → AreWithinLimits sections
       → file_at (at (Ok end) ts nothing) ≡ cond (eqb (apps_in sections) 0) (fails NoDistributed end.at) (Ok (written sections (nodes_in sections)))
   within_judged end ts sections w file within =

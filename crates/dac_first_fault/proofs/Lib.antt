@@ -9,4 +9,8 @@ pub mod Begun
 pub mod BegunTerms
 pub mod BegunReaders
 pub mod BegunSections
+pub mod Held
+pub mod HeldReaders
+pub mod HeldSections
+pub mod HeldFile
 pub mod Files

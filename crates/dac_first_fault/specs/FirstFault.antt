@@ -1,5 +1,5 @@
 -- Where the first fault of a text stands, said without a reader.
-use Rattle.std.specs.Prelude.{◌≡◌, ◌⊎◌, false, ℕ, ◌<◌, ◌≤◌, List, [], ◌∷◌, ◌++◌, length, map}
+use Rattle.std.specs.Prelude.{◌≡◌, ◌⊎◌, false, ℕ, ◌<◌, ◌≤◌, List, [], ◌∷◌, ◌++◌, length, map, All}
 use Rattle.dac_tokens.specs.declared.fault.FaultKind.{FaultKind}
 use Rattle.dac_tokens.specs.declared.fault.FaultKind.TheVariants.{TooLong, Unsupported, BadShape, NoDistributed, TwiceApp, TwiceInList, EmptyList, EmptyTuple, TooManyNodes, TooManyApps, NumberTooLarge, NameTooLong}
 use Rattle.dac_tokens.specs.declared.fault.ConfigFault.{ConfigFault}
@@ -55,10 +55,21 @@ pub record CanBegin (Keeps : List Section → Type 0) (ws : List Word) : Type 0 
 abbrev pub Anything : List Section → Type 0
 Anything sections = Unit {0}
 
--- These words are in order so far: a file begins with them, so no word of them is one with which no file goes on. The
--- file need not keep the limits.
-abbrev pub IsWell : List Word → Type 0
-IsWell ws = CanBegin Anything ws
+-- a word that names nothing
+abbrev pub IsNoName : Word → Type 0
+IsNoName (Name name) = ⊥
+IsNoName _ = Unit {0}
+
+-- These words are in order so far: a file begins with them, and up to the last name one that keeps the limits. With
+-- what stands behind that name none need go on: so it is with MAX_APPS applications and a comma. A name that is the
+-- first to break a limit, or a token with which no file goes on, is in no such words.
+pub record IsWell (ws : List Word) : Type 0 where
+  pub goes_on : CanBegin Anything ws
+  pub named : List Word
+  pub rest : List Word
+  pub parts : ws ≡ named ++ rest
+  pub no_name : All IsNoName rest
+  pub keeps : CanBegin AreWithinLimits named
 
 -- no file that keeps the limits begins with these words
 abbrev pub BeginsNone : List Word → Type 0
@@ -78,7 +89,8 @@ pub data IsFaultOf (text : List ℕ) (e : ConfigFault) : Type 0 where
   Long : MAX_TEXT < length text → e ≡ record { kind = TooLong; at = MAX_TEXT } → IsFaultOf text e
   -- these tokens are in order, and behind them no token begins
   NoToken : (before : List Located) → length text ≤ MAX_TEXT → IsWell (words before) → StopAt 0 0 text before e → IsFaultOf text e
-  -- what is before the token t is in order, and with it no file that keeps the limits goes on
+  -- What is before the token t is in order, and with it no file that keeps the limits goes on. It can be a comma or a
+  -- bracket, if only a name that breaks a limit could come behind it.
   Token : (before : List Located) (t : Located) → length text ≤ MAX_TEXT → BeginsWith text (before ++ t ∷ []) → IsWell (words before) → BeginsNone (words before ++ t.word ∷ []) → StandsAt before t e → IsFaultOf text e
   -- all is in order, and the end came where no file that keeps the limits is at its end
   Ends : (ts : List Located) → length text ≤ MAX_TEXT → AreTokensOf text ts → IsWell (words ts) → ¬ IsWithin (words ts) → e ≡ record { kind = BadShape; at = length text } → IsFaultOf text e

@@ -5,10 +5,11 @@
 //! it. The fault stands at that token, or at the bracket that it closes with nothing between, and its kind is one that
 //! the token can bring.
 //!
-//! What stands before the token is in order: some file begins so. So no token before it is one with which no file at
-//! all goes on, and a fault of shape is the first of its kind.
+//! What stands before the token is in order: some file begins so, and up to the last name one that keeps the limits.
+//! So no place later than that of the first fault fits the law.
 //!
-//! Not said yet: that what stands before the token keeps the limits, and which of the kinds that a name can bring it is.
+//! Not said yet: that with a token that is no name no file at all goes on. So a comma or a bracket fits too if only a
+//! name that breaks a limit could come behind it. Nor is it said which of the kinds that a name can bring it is.
 #![tactic(auto)]
 
 pub mod laws;
