@@ -19,11 +19,13 @@ use Rattle.dac_shapes.specs.laws.AgainLists.{at, ended}
 use Rattle.dac_shapes.specs.laws.Again.{sections_again}
 use Rattle.dac_first_fault.specs.FirstFault.{StandsAt, Itself, words, IsWell, BeginsNone, apps_in, BeginsWith, IsFaultOf, Long, NoToken, Token, Ends, Nobody}
 use Rattle.dac_first_fault.proofs.Outcomes.{Took, Failed, Asked, Takes, Always, Plain, Gives}
-use Rattle.dac_first_fault.proofs.Steps.{symbol_yes, symbol_no, symbol_none, symbol_end}
+use Rattle.dac_first_fault.proofs.Steps.{mark_is, symbol_yes, symbol_no, symbol_none, symbol_end}
 use Rattle.dac_first_fault.proofs.Sections.{sections_reader}
-use Rattle.dac_first_fault.proofs.Begun.{halt}
+use Rattle.dac_first_fault.proofs.Begun.{halt, Read, by_pair}
 use Rattle.dac_first_fault.proofs.BegunSections.{file_begun}
-use Rattle.dac_first_fault.proofs.HeldFile.{file_kept}
+use Rattle.dac_first_fault.proofs.Held.{Holds}
+use Rattle.dac_first_fault.proofs.HeldSections.{AreSections, sections_held}
+use Rattle.dac_first_fault.proofs.HeldFile.{MayFile, file_kept}
 
 -- ---- the end of a file
 
@@ -64,10 +66,18 @@ file_is : (s : State) → file_at s ≡ (list_of section_at s >>= behind)
 unfolding file_at
 file_is s = refl
 
+-- these tokens are a file that keeps the limits
+abbrev Done : List Located → Type 0
+Done ts = (sections : List Section) × MayFile (words ts) sections
+
+-- what fault reading can have where the end is behind these tokens
+abbrev AtEnd : List Located → ℕ → ConfigFault → Type 0
+AtEnd ts place e = (e ≡ record { kind = BadShape; at = place }) ⊎ ((e ≡ record { kind = NoDistributed; at = place }) × Done ts)
+
 -- what reading a file makes of these tokens
 data Judged (ts : List Located) : Type 0 where
   By : (a : List Located) (l : Located) (b : List Located) (e : ConfigFault) → ts ≡ a ++ l ∷ b → ((last : Result Located ConfigFault) (rest : List Located) → file_at (at last (a ++ l ∷ rest) nothing) ≡ Err e) → StandsAt a l e → ((p : ConfigFault) → file_at (at (Err p) a nothing) ≡ Err p) → Judged ts
-  Unsettled : ((p : ConfigFault) → file_at (at (Err p) ts nothing) ≡ Err p) → ((t : Located) (e : ConfigFault) → t.word ≡ End → file_at (at (Ok t) ts nothing) ≡ Err e → (e ≡ record { kind = BadShape; at = t.at }) ⊎ (e ≡ record { kind = NoDistributed; at = t.at })) → Judged ts
+  Unsettled : ((p : ConfigFault) → file_at (at (Err p) ts nothing) ≡ Err p) → ((t : Located) (e : ConfigFault) → t.word ≡ End → file_at (at (Ok t) ts nothing) ≡ Err e → AtEnd ts t.at e) → Judged ts
 
 same_err : (d e : ConfigFault) (r : Result Written ConfigFault) → r ≡ Err d → r ≡ Err e → e ≡ d
 same_err d e r p q = cc
@@ -99,9 +109,9 @@ module _ (ts : List Located) (k : Takes Always Plain (λ _. list_of section_at) 
   goes : (last : Result Located ConfigFault) (rest : List Located) → file_at (at last (k.a ++ rest) nothing) ≡ (end_at (at last rest k.after) >>= judged k.x)
   goes last rest = file_is (at last (k.a ++ rest) nothing) ∙ ap (λ r. r >>= behind) (k.goes tt last rest tt)
 
-  last_fault : (t : Located) (e : ConfigFault) (c : Bool) (w : Written) → cond c (fails NoDistributed t.at) (Ok w) ≡ Err e → (e ≡ record { kind = BadShape; at = t.at }) ⊎ (e ≡ record { kind = NoDistributed; at = t.at })
-  last_fault t e true w h = inr (same_err (record { kind = NoDistributed; at = t.at }) e (Err (record { kind = NoDistributed; at = t.at })) refl h)
-  last_fault t e false w h = absurd cc
+  last_fault : (ts : List Located) → Done ts → (t : Located) (e : ConfigFault) (c : Bool) (w : Written) → cond c (fails NoDistributed t.at) (Ok w) ≡ Err e → AtEnd ts t.at e
+  last_fault ts done t e true w h = inr (same_err (record { kind = NoDistributed; at = t.at }) e (Err (record { kind = NoDistributed; at = t.at })) refl h, done)
+  last_fault ts done t e false w h = absurd cc
 
   none_left : Judged (k.a ++ [])
   none_left = Unsettled (λ p. goes (Err p) [] ∙ ap (λ r. r >>= judged k.x) (end_none p k.after))
@@ -113,9 +123,17 @@ module _ (ts : List Located) (k : Takes Always Plain (λ _. list_of section_at) 
   list_wants : (p : ConfigFault) → file_at (at (Err p) k.a nothing) ≡ Err p
   list_wants p = ap (λ (l : List Located). file_at (at (Err p) l nothing)) (sym (append-nil k.a)) ∙ goes (Err p) [] ∙ ap (λ r. r >>= judged k.x) (end_none p k.after)
 
+  -- what was read is a file that keeps the limits
+  done : (c : Located) → is_mark FullStop c.word ≡ true → Done (k.a ++ c ∷ [])
+  done c is =
+      let ts = k.a ++ c ∷ [] in
+      let q : Read by_pair AreSections (words ts) (k.x, at (Err halt) (c ∷ []) k.after) =
+      subst (λ (r : Result (List Section × State) ConfigFault). Holds by_pair AreSections (words ts) r) (k.goes tt (Err halt) (c ∷ []) tt) (sections_held ts) in
+      (k.x, ((q.own, q.whole ∙ ap (λ (w : Word). q.own ++ w ∷ []) (mark_is FullStop c.word is), q.is.0), q.is.1))
+
   stopped_by : (c : Located) (b : List Located) → is_mark FullStop c.word ≡ true → NoEnd b → Judged (k.a ++ c ∷ b)
   stopped_by c [] is no_end = Unsettled (stop_wants c is)
-      (λ t e w h. last_fault t e (eqb (length (written k.x k.after.met).apps) 0) (written k.x k.after.met) (sym (goes (Ok t) (c ∷ []) ∙ ap (λ r. r >>= judged k.x) (stop_end c k.after t is w)) ∙ h))
+      (λ t e w h. last_fault (k.a ++ c ∷ []) (done c is) t e (eqb (length (written k.x k.after.met).apps) 0) (written k.x k.after.met) (sym (goes (Ok t) (c ∷ []) ∙ ap (λ r. r >>= judged k.x) (stop_end c k.after t is w)) ∙ h))
   stopped_by c (d ∷ b) is no_end = By (k.a ++ c ∷ []) d b (record { kind = BadShape; at = d.at }) (sym (append_assoc k.a (c ∷ []) (d ∷ b)))
       (λ last rest. ap (λ (l : List Located). file_at (at last l nothing)) (append_assoc k.a (c ∷ []) (d ∷ rest)) ∙ goes last (c ∷ d ∷ rest) ∙ ap (λ r. r >>= judged k.x) (stop_more c k.after d last rest is no_end.0)) (Itself refl tt) (stop_wants c is)
 
@@ -213,18 +231,18 @@ module _ (order : (sections : List Section) → (MaySections sections ↔ AreWit
     begins_by (Ok t) is a l b whole = record { rest = b; is = inl (subst (λ (ts : List Located). AreTokensOf text ts) (whole ∙ sym (append_assoc a (l ∷ []) b)) (ended_so t is).1) }
     begins_by (Err p) is a l b whole = record { rest = b; is = inr (p, subst (λ (ts : List Located). StopAt 0 0 text ts p) (whole ∙ sym (append_assoc a (l ∷ []) b)) (stopped_so p is)) }
 
-    end_fault : (e : ConfigFault) → AreTokensOf text s.tokens → IsWell (words s.tokens) → file_at (at (Ok (end_of (length text))) s.tokens nothing) ≡ Err e → (e ≡ record { kind = BadShape; at = length text }) ⊎ (e ≡ record { kind = NoDistributed; at = length text }) → IsFaultOf text e
+    end_fault : (e : ConfigFault) → AreTokensOf text s.tokens → IsWell (words s.tokens) → file_at (at (Ok (end_of (length text))) s.tokens nothing) ≡ Err e → AtEnd s.tokens (length text) e → IsFaultOf text e
     end_fault e tokens so_far h which = elim which [
       | inl is ↦
           Ends s.tokens short tokens so_far
           (λ w. no_bad_shape (length text) (eqb (apps_in w.sections) 0) (written w.sections (nodes_in w.sections)) (sym (within_judged (end_of (length text)) s.tokens w.sections refl w.file w.within) ∙ h ∙ ap (λ (f : ConfigFault). Err f) is)) is
       | inr is ↦
-          Nobody s.tokens short tokens
-          (λ w. none_listed (length text) (apps_in w.sections) (eqb (apps_in w.sections) 0) (written w.sections (nodes_in w.sections)) refl (sym (within_judged (end_of (length text)) s.tokens w.sections refl w.file w.within) ∙ h ∙ ap (λ (f : ConfigFault). Err f) is)) is
+          Nobody s.tokens short tokens (record { sections = is.1.0; file = is.1.1.0; within = (order is.1.0).0 is.1.1.1 })
+          (λ w. none_listed (length text) (apps_in w.sections) (eqb (apps_in w.sections) 0) (written w.sections (nodes_in w.sections)) refl (sym (within_judged (end_of (length text)) s.tokens w.sections refl w.file w.within) ∙ h ∙ ap (λ (f : ConfigFault). Err f) is.0)) is.0
     ]
 
     wanting_fault : (e : ConfigFault) (r : Result Located ConfigFault) → s.last ≡ r → file_at (at r s.tokens nothing) ≡ Err e → ((p : ConfigFault) → file_at (at (Err p) s.tokens nothing) ≡ Err p)
-        → ((t : Located) (e : ConfigFault) → t.word ≡ End → file_at (at (Ok t) s.tokens nothing) ≡ Err e → (e ≡ record { kind = BadShape; at = t.at }) ⊎ (e ≡ record { kind = NoDistributed; at = t.at })) → IsFaultOf text e
+        → ((t : Located) (e : ConfigFault) → t.word ≡ End → file_at (at (Ok t) s.tokens nothing) ≡ Err e → AtEnd s.tokens t.at e) → IsFaultOf text e
     wanting_fault e (Err p) is h more ends = NoToken s.tokens short (well s.tokens (more halt)) (subst (λ (q : ConfigFault). StopAt 0 0 text s.tokens q) (sym (same_err p e (file_at (at (Err p) s.tokens nothing)) (more p) h)) (stopped_so p is))
     wanting_fault e (Ok t) is h more ends =
         let so = ended_so t is in

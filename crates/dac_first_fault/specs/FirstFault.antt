@@ -94,5 +94,5 @@ pub data IsFaultOf (text : List ℕ) (e : ConfigFault) : Type 0 where
   Token : (before : List Located) (t : Located) → length text ≤ MAX_TEXT → BeginsWith text (before ++ t ∷ []) → IsWell (words before) → BeginsNone (words before ++ t.word ∷ []) → StandsAt before t e → IsFaultOf text e
   -- all is in order, and the end came where no file that keeps the limits is at its end
   Ends : (ts : List Located) → length text ≤ MAX_TEXT → AreTokensOf text ts → IsWell (words ts) → ¬ IsWithin (words ts) → e ≡ record { kind = BadShape; at = length text } → IsFaultOf text e
-  -- no application is listed
-  Nobody : (ts : List Located) → length text ≤ MAX_TEXT → AreTokensOf text ts → ((is : IsWithin (words ts)) → apps_in is.sections ≡ 0) → e ≡ record { kind = NoDistributed; at = length text } → IsFaultOf text e
+  -- all is a file that keeps the limits, and no application is listed
+  Nobody : (ts : List Located) → length text ≤ MAX_TEXT → AreTokensOf text ts → IsWithin (words ts) → ((is : IsWithin (words ts)) → apps_in is.sections ≡ 0) → e ≡ record { kind = NoDistributed; at = length text } → IsFaultOf text e
