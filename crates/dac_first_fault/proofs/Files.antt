@@ -1,5 +1,5 @@
 -- The fault of a whole file, and of a text.
-use Rattle.std.proofs.Common.{◌≡◌, ℕ, suc, ◌+◌, ◌≤◌, Bool, true, false, cond, eqb, ltb, List, [], ◌∷◌, ◌++◌, length, map, Result, Ok, Err, refl, sym, ap, subst, ◌∙◌, append_assoc, arith, inl, inr}
+use Rattle.std.proofs.Common.{◌≡◌, ℕ, suc, ◌+◌, ◌≤◌, Bool, true, false, cond, eqb, ltb, List, [], ◌∷◌, ◌++◌, length, map, Result, Ok, Err, refl, sym, ap, subst, ◌∙◌, append_assoc, append-nil, arith, inl, inr}
 use Rattle.std.specs.Prelude.{◌⊎◌, ◌↔◌, IfOk}
 use Rattle.std.proofs.lemmas.Bool.{ltb-true, ltb-false, eqb-true}
 use Rattle.dac_tokens.specs.declared.fault.ConfigFault.{ConfigFault}
@@ -17,10 +17,15 @@ use Rattle.dac_shapes.specs.Grammar.{IsFile, IsSection, IsListOf}
 use Rattle.dac_shapes.specs.Shape.{State, fails, is_mark, list_of, section_at, end_at, file_at, draft_at}
 use Rattle.dac_shapes.specs.laws.AgainLists.{at, ended}
 use Rattle.dac_shapes.specs.laws.Again.{sections_again}
-use Rattle.dac_first_fault.specs.FirstFault.{StandsAt, Itself, words, BeginsNone, apps_in, BeginsWith, IsFaultOf, Long, NoToken, Token, Ends, Nobody}
+use Rattle.dac_first_fault.specs.FirstFault.{StandsAt, Itself, words, IsWell, BeginsNone, apps_in, BeginsWith, IsFaultOf, Long, NoToken, Token, Ends, Nobody}
 use Rattle.dac_first_fault.proofs.Outcomes.{Took, Failed, Asked, Takes, Always, Plain, Gives}
-use Rattle.dac_first_fault.proofs.Steps.{symbol_yes, symbol_no, symbol_none, symbol_end}
+use Rattle.dac_first_fault.proofs.Steps.{mark_is, symbol_yes, symbol_no, symbol_none, symbol_end}
 use Rattle.dac_first_fault.proofs.Sections.{sections_reader}
+use Rattle.dac_first_fault.proofs.Begun.{halt, Read, by_pair}
+use Rattle.dac_first_fault.proofs.BegunSections.{file_begun}
+use Rattle.dac_first_fault.proofs.Held.{Holds}
+use Rattle.dac_first_fault.proofs.HeldSections.{AreSections, sections_held}
+use Rattle.dac_first_fault.proofs.HeldFile.{MayFile, file_kept}
 
 -- ---- the end of a file
 
@@ -61,10 +66,18 @@ file_is : (s : State) → file_at s ≡ (list_of section_at s >>= behind)
 unfolding file_at
 file_is s = refl
 
+-- these tokens are a file that keeps the limits
+abbrev Done : List Located → Type 0
+Done ts = (sections : List Section) × MayFile (words ts) sections
+
+-- what fault reading can have where the end is behind these tokens
+abbrev AtEnd : List Located → ℕ → ConfigFault → Type 0
+AtEnd ts place e = (e ≡ record { kind = BadShape; at = place }) ⊎ ((e ≡ record { kind = NoDistributed; at = place }) × Done ts)
+
 -- what reading a file makes of these tokens
 data Judged (ts : List Located) : Type 0 where
-  By : (a : List Located) (l : Located) (b : List Located) (e : ConfigFault) → ts ≡ a ++ l ∷ b → ((last : Result Located ConfigFault) (rest : List Located) → file_at (at last (a ++ l ∷ rest) nothing) ≡ Err e) → StandsAt a l e → Judged ts
-  Unsettled : ((p : ConfigFault) → file_at (at (Err p) ts nothing) ≡ Err p) → ((t : Located) (e : ConfigFault) → t.word ≡ End → file_at (at (Ok t) ts nothing) ≡ Err e → (e ≡ record { kind = BadShape; at = t.at }) ⊎ (e ≡ record { kind = NoDistributed; at = t.at })) → Judged ts
+  By : (a : List Located) (l : Located) (b : List Located) (e : ConfigFault) → ts ≡ a ++ l ∷ b → ((last : Result Located ConfigFault) (rest : List Located) → file_at (at last (a ++ l ∷ rest) nothing) ≡ Err e) → StandsAt a l e → ((p : ConfigFault) → file_at (at (Err p) a nothing) ≡ Err p) → Judged ts
+  Unsettled : ((p : ConfigFault) → file_at (at (Err p) ts nothing) ≡ Err p) → ((t : Located) (e : ConfigFault) → t.word ≡ End → file_at (at (Ok t) ts nothing) ≡ Err e → AtEnd ts t.at e) → Judged ts
 
 same_err : (d e : ConfigFault) (r : Result Written ConfigFault) → r ≡ Err d → r ≡ Err e → e ≡ d
 same_err d e r p q = cc
@@ -96,23 +109,37 @@ module _ (ts : List Located) (k : Takes Always Plain (λ _. list_of section_at) 
   goes : (last : Result Located ConfigFault) (rest : List Located) → file_at (at last (k.a ++ rest) nothing) ≡ (end_at (at last rest k.after) >>= judged k.x)
   goes last rest = file_is (at last (k.a ++ rest) nothing) ∙ ap (λ r. r >>= behind) (k.goes tt last rest tt)
 
-  last_fault : (t : Located) (e : ConfigFault) (c : Bool) (w : Written) → cond c (fails NoDistributed t.at) (Ok w) ≡ Err e → (e ≡ record { kind = BadShape; at = t.at }) ⊎ (e ≡ record { kind = NoDistributed; at = t.at })
-  last_fault t e true w h = inr (same_err (record { kind = NoDistributed; at = t.at }) e (Err (record { kind = NoDistributed; at = t.at })) refl h)
-  last_fault t e false w h = absurd cc
+  last_fault : (ts : List Located) → Done ts → (t : Located) (e : ConfigFault) (c : Bool) (w : Written) → cond c (fails NoDistributed t.at) (Ok w) ≡ Err e → AtEnd ts t.at e
+  last_fault ts done t e true w h = inr (same_err (record { kind = NoDistributed; at = t.at }) e (Err (record { kind = NoDistributed; at = t.at })) refl h, done)
+  last_fault ts done t e false w h = absurd cc
 
   none_left : Judged (k.a ++ [])
   none_left = Unsettled (λ p. goes (Err p) [] ∙ ap (λ r. r >>= judged k.x) (end_none p k.after))
       (λ t e w h. inl (same_err (record { kind = BadShape; at = t.at }) e (file_at (at (Ok t) (k.a ++ []) nothing)) (goes (Ok t) [] ∙ ap (λ r. r >>= judged k.x) (end_end t k.after w)) h))
 
+  stop_wants : (c : Located) → is_mark FullStop c.word ≡ true → (p : ConfigFault) → file_at (at (Err p) (k.a ++ c ∷ []) nothing) ≡ Err p
+  stop_wants c is p = goes (Err p) (c ∷ []) ∙ ap (λ r. r >>= judged k.x) (stop_none c k.after p is)
+
+  list_wants : (p : ConfigFault) → file_at (at (Err p) k.a nothing) ≡ Err p
+  list_wants p = ap (λ (l : List Located). file_at (at (Err p) l nothing)) (sym (append-nil k.a)) ∙ goes (Err p) [] ∙ ap (λ r. r >>= judged k.x) (end_none p k.after)
+
+  -- what was read is a file that keeps the limits
+  done : (c : Located) → is_mark FullStop c.word ≡ true → Done (k.a ++ c ∷ [])
+  done c is =
+      let ts = k.a ++ c ∷ [] in
+      let q : Read by_pair AreSections (words ts) (k.x, at (Err halt) (c ∷ []) k.after) =
+      subst (λ (r : Result (List Section × State) ConfigFault). Holds by_pair AreSections (words ts) r) (k.goes tt (Err halt) (c ∷ []) tt) (sections_held ts) in
+      (k.x, ((q.own, q.whole ∙ ap (λ (w : Word). q.own ++ w ∷ []) (mark_is FullStop c.word is), q.is.0), q.is.1))
+
   stopped_by : (c : Located) (b : List Located) → is_mark FullStop c.word ≡ true → NoEnd b → Judged (k.a ++ c ∷ b)
-  stopped_by c [] is no_end = Unsettled (λ p. goes (Err p) (c ∷ []) ∙ ap (λ r. r >>= judged k.x) (stop_none c k.after p is))
-      (λ t e w h. last_fault t e (eqb (length (written k.x k.after.met).apps) 0) (written k.x k.after.met) (sym (goes (Ok t) (c ∷ []) ∙ ap (λ r. r >>= judged k.x) (stop_end c k.after t is w)) ∙ h))
+  stopped_by c [] is no_end = Unsettled (stop_wants c is)
+      (λ t e w h. last_fault (k.a ++ c ∷ []) (done c is) t e (eqb (length (written k.x k.after.met).apps) 0) (written k.x k.after.met) (sym (goes (Ok t) (c ∷ []) ∙ ap (λ r. r >>= judged k.x) (stop_end c k.after t is w)) ∙ h))
   stopped_by c (d ∷ b) is no_end = By (k.a ++ c ∷ []) d b (record { kind = BadShape; at = d.at }) (sym (append_assoc k.a (c ∷ []) (d ∷ b)))
-      (λ last rest. ap (λ (l : List Located). file_at (at last l nothing)) (append_assoc k.a (c ∷ []) (d ∷ rest)) ∙ goes last (c ∷ d ∷ rest) ∙ ap (λ r. r >>= judged k.x) (stop_more c k.after d last rest is no_end.0)) (Itself refl tt)
+      (λ last rest. ap (λ (l : List Located). file_at (at last l nothing)) (append_assoc k.a (c ∷ []) (d ∷ rest)) ∙ goes last (c ∷ d ∷ rest) ∙ ap (λ r. r >>= judged k.x) (stop_more c k.after d last rest is no_end.0)) (Itself refl tt) (stop_wants c is)
 
   stop_by : (c : Located) (b : List Located) (x : Bool) → is_mark FullStop c.word ≡ x → NoEnd b → Judged (k.a ++ c ∷ b)
   stop_by c b true is no_end = stopped_by c b is no_end
-  stop_by c b false is no_end = By k.a c b (record { kind = BadShape; at = c.at }) refl (λ last rest. goes last (c ∷ rest) ∙ ap (λ r. r >>= judged k.x) (end_no c k.after last rest is)) (Itself refl tt)
+  stop_by c b false is no_end = By k.a c b (record { kind = BadShape; at = c.at }) refl (λ last rest. goes last (c ∷ rest) ∙ ap (λ r. r >>= judged k.x) (end_no c k.after last rest is)) (Itself refl tt) list_wants
 
   took_by : (b : List Located) → NoEnd b → Judged (k.a ++ b)
   took_by [] no_end = none_left
@@ -120,13 +147,27 @@ module _ (ts : List Located) (k : Takes Always Plain (λ _. list_of section_at) 
 
 judged_by : (ts : List Located) → NoEnd ts → Gives (list_of section_at) ts nothing → Judged ts
 judged_by ts no_end (Took k) = subst Judged (sym k.whole) (took_by ts k k.b (no_end_behind k.a k.b (subst NoEnd k.whole no_end)))
-judged_by ts no_end (Failed k) = By k.a k.l k.b k.e k.whole (λ last rest. file_is (at last (k.a ++ k.l ∷ rest) nothing) ∙ ap (λ r. r >>= behind) (k.goes tt last rest tt)) k.stands
+judged_by ts no_end (Failed k) = By k.a k.l k.b k.e k.whole (λ last rest. file_is (at last (k.a ++ k.l ∷ rest) nothing) ∙ ap (λ r. r >>= behind) (k.goes tt last rest tt)) k.stands (λ p. file_is (at (Err p) k.a nothing) ∙ ap (λ r. r >>= behind) (k.wants.more tt p tt))
 judged_by ts no_end (Asked w) = Unsettled (λ p. file_is (at (Err p) ts nothing) ∙ ap (λ r. r >>= behind) (w.more tt p tt))
     (λ t e is h. inl (same_err (record { kind = BadShape; at = t.at }) e (file_at (at (Ok t) ts nothing)) (file_is (at (Ok t) ts nothing) ∙ ap (λ r. r >>= behind) (w.end tt t is tt)) h))
 
 -- ---- a file that keeps the limits is read
 
 module _ (order : (sections : List Section) → (MaySections sections ↔ AreWithinLimits sections)) (nodes : (sections : List Section) → (steps with_section nothing sections).met ≡ nodes_in sections) where
+  -- tokens whose reader comes to their end are in order
+  well : (ts : List Located) → file_at (at (Err halt) ts nothing) ≡ Err halt → IsWell (words ts)
+  well ts e =
+      let b = file_begun ts e in
+      let k = file_kept ts e in
+      record {
+        goes_on = record { more = b.more; sections = b.x; file = b.is; keeps = tt };
+        named = k.named;
+        rest = k.rest;
+        parts = k.parts;
+        no_name = k.no_name;
+        keeps = record { more = k.begun.more; sections = k.begun.x; file = k.begun.is.0; keeps = (order k.begun.x).0 k.begun.is.1 };
+      }
+
   within_judged : (end : Located) (ts : List Located) (sections : List Section) → end.word ≡ End → IsFile (words ts) sections → AreWithinLimits sections
       → file_at (at (Ok end) ts nothing) ≡ cond (eqb (apps_in sections) 0) (fails NoDistributed end.at) (Ok (written sections (nodes_in sections)))
   within_judged end ts sections w file within =
@@ -190,28 +231,28 @@ module _ (order : (sections : List Section) → (MaySections sections ↔ AreWit
     begins_by (Ok t) is a l b whole = record { rest = b; is = inl (subst (λ (ts : List Located). AreTokensOf text ts) (whole ∙ sym (append_assoc a (l ∷ []) b)) (ended_so t is).1) }
     begins_by (Err p) is a l b whole = record { rest = b; is = inr (p, subst (λ (ts : List Located). StopAt 0 0 text ts p) (whole ∙ sym (append_assoc a (l ∷ []) b)) (stopped_so p is)) }
 
-    end_fault : (e : ConfigFault) → AreTokensOf text s.tokens → file_at (at (Ok (end_of (length text))) s.tokens nothing) ≡ Err e → (e ≡ record { kind = BadShape; at = length text }) ⊎ (e ≡ record { kind = NoDistributed; at = length text }) → IsFaultOf text e
-    end_fault e tokens h which = elim which [
+    end_fault : (e : ConfigFault) → AreTokensOf text s.tokens → IsWell (words s.tokens) → file_at (at (Ok (end_of (length text))) s.tokens nothing) ≡ Err e → AtEnd s.tokens (length text) e → IsFaultOf text e
+    end_fault e tokens so_far h which = elim which [
       | inl is ↦
-          Ends s.tokens short tokens
+          Ends s.tokens short tokens so_far
           (λ w. no_bad_shape (length text) (eqb (apps_in w.sections) 0) (written w.sections (nodes_in w.sections)) (sym (within_judged (end_of (length text)) s.tokens w.sections refl w.file w.within) ∙ h ∙ ap (λ (f : ConfigFault). Err f) is)) is
       | inr is ↦
-          Nobody s.tokens short tokens
-          (λ w. none_listed (length text) (apps_in w.sections) (eqb (apps_in w.sections) 0) (written w.sections (nodes_in w.sections)) refl (sym (within_judged (end_of (length text)) s.tokens w.sections refl w.file w.within) ∙ h ∙ ap (λ (f : ConfigFault). Err f) is)) is
+          Nobody s.tokens short tokens (record { sections = is.1.0; file = is.1.1.0; within = (order is.1.0).0 is.1.1.1 })
+          (λ w. none_listed (length text) (apps_in w.sections) (eqb (apps_in w.sections) 0) (written w.sections (nodes_in w.sections)) refl (sym (within_judged (end_of (length text)) s.tokens w.sections refl w.file w.within) ∙ h ∙ ap (λ (f : ConfigFault). Err f) is.0)) is.0
     ]
 
     wanting_fault : (e : ConfigFault) (r : Result Located ConfigFault) → s.last ≡ r → file_at (at r s.tokens nothing) ≡ Err e → ((p : ConfigFault) → file_at (at (Err p) s.tokens nothing) ≡ Err p)
-        → ((t : Located) (e : ConfigFault) → t.word ≡ End → file_at (at (Ok t) s.tokens nothing) ≡ Err e → (e ≡ record { kind = BadShape; at = t.at }) ⊎ (e ≡ record { kind = NoDistributed; at = t.at })) → IsFaultOf text e
-    wanting_fault e (Err p) is h more ends = NoToken s.tokens short (subst (λ (q : ConfigFault). StopAt 0 0 text s.tokens q) (sym (same_err p e (file_at (at (Err p) s.tokens nothing)) (more p) h)) (stopped_so p is))
+        → ((t : Located) (e : ConfigFault) → t.word ≡ End → file_at (at (Ok t) s.tokens nothing) ≡ Err e → AtEnd s.tokens t.at e) → IsFaultOf text e
+    wanting_fault e (Err p) is h more ends = NoToken s.tokens short (well s.tokens (more halt)) (subst (λ (q : ConfigFault). StopAt 0 0 text s.tokens q) (sym (same_err p e (file_at (at (Err p) s.tokens nothing)) (more p) h)) (stopped_so p is))
     wanting_fault e (Ok t) is h more ends =
         let so = ended_so t is in
         let there = subst (λ (t : Located). file_at (at (Ok t) s.tokens nothing) ≡ Err e) so.0 h in
-        end_fault e so.1 there (ends (end_of (length text)) e refl there)
+        end_fault e so.1 (well s.tokens (more halt)) there (ends (end_of (length text)) e refl there)
 
     fault_by : (e : ConfigFault) → file_at (at s.last s.tokens nothing) ≡ Err e → Judged s.tokens → IsFaultOf text e
-    fault_by e h (By a l b d whole goes stands) =
+    fault_by e h (By a l b d whole goes stands wants) =
         let same : e ≡ d = same_err d e (file_at (at s.last s.tokens nothing)) (ap (λ (ts : List Located). file_at (at s.last ts nothing)) whole ∙ goes s.last b) h in
-        Token a l short (begins_by s.last refl a l b whole) (begins_none a l d goes) (subst (λ (f : ConfigFault). StandsAt a l f) (sym same) stands)
+        Token a l short (begins_by s.last refl a l b whole) (well a (wants halt)) (begins_none a l d goes) (subst (λ (f : ConfigFault). StandsAt a l f) (sym same) stands)
     fault_by e h (Unsettled more ends) = wanting_fault e s.last refl h more ends
 
     pub file_fault : (e : ConfigFault) → file_at (at s.last s.tokens nothing) ≡ Err e → IsFaultOf text e

@@ -5,4 +5,12 @@ pub mod Lists
 pub mod Terms
 pub mod Readers
 pub mod Sections
+pub mod Begun
+pub mod BegunTerms
+pub mod BegunReaders
+pub mod BegunSections
+pub mod Held
+pub mod HeldReaders
+pub mod HeldSections
+pub mod HeldFile
 pub mod Files

@@ -1,5 +1,5 @@
 -- Where the first fault of a text stands, said without a reader.
-use Rattle.std.specs.Prelude.{◌≡◌, ◌⊎◌, false, ℕ, ◌<◌, ◌≤◌, List, [], ◌∷◌, ◌++◌, length, map}
+use Rattle.std.specs.Prelude.{◌≡◌, ◌⊎◌, false, ℕ, ◌<◌, ◌≤◌, List, [], ◌∷◌, ◌++◌, length, map, All}
 use Rattle.dac_tokens.specs.declared.fault.FaultKind.{FaultKind}
 use Rattle.dac_tokens.specs.declared.fault.FaultKind.TheVariants.{TooLong, Unsupported, BadShape, NoDistributed, TwiceApp, TwiceInList, EmptyList, EmptyTuple, TooManyNodes, TooManyApps, NumberTooLarge, NameTooLong}
 use Rattle.dac_tokens.specs.declared.fault.ConfigFault.{ConfigFault}
@@ -45,6 +45,32 @@ pub record IsWithin (ws : List Word) : Type 0 where
   pub file : IsFile ws sections
   pub within : AreWithinLimits sections
 
+-- a file that keeps this begins with these words
+pub record CanBegin (Keeps : List Section → Type 0) (ws : List Word) : Type 0 where
+  pub more : List Word
+  pub sections : List Section
+  pub file : IsFile (ws ++ more) sections
+  pub keeps : Keeps sections
+
+abbrev pub Anything : List Section → Type 0
+Anything sections = Unit {0}
+
+-- a word that names nothing
+abbrev pub IsNoName : Word → Type 0
+IsNoName (Name name) = ⊥
+IsNoName _ = Unit {0}
+
+-- These words are in order so far: a file begins with them, and up to the last name one that keeps the limits. With
+-- what stands behind that name none need go on: so it is with MAX_APPS applications and a comma. A name that is the
+-- first to break a limit, or a token with which no file goes on, is in no such words.
+pub record IsWell (ws : List Word) : Type 0 where
+  pub goes_on : CanBegin Anything ws
+  pub named : List Word
+  pub rest : List Word
+  pub parts : ws ≡ named ++ rest
+  pub no_name : All IsNoName rest
+  pub keeps : CanBegin AreWithinLimits named
+
 -- no file that keeps the limits begins with these words
 abbrev pub BeginsNone : List Word → Type 0
 BeginsNone ws = (more : List Word) → ¬ IsWithin (ws ++ more)
@@ -61,11 +87,12 @@ pub record BeginsWith (text : List ℕ) (ts : List Located) : Type 0 where
 pub data IsFaultOf (text : List ℕ) (e : ConfigFault) : Type 0 where
   -- the text is too long
   Long : MAX_TEXT < length text → e ≡ record { kind = TooLong; at = MAX_TEXT } → IsFaultOf text e
-  -- behind these tokens no token begins
-  NoToken : (before : List Located) → length text ≤ MAX_TEXT → StopAt 0 0 text before e → IsFaultOf text e
-  -- with the token t no file that keeps the limits goes on
-  Token : (before : List Located) (t : Located) → length text ≤ MAX_TEXT → BeginsWith text (before ++ t ∷ []) → BeginsNone (words before ++ t.word ∷ []) → StandsAt before t e → IsFaultOf text e
-  -- the end came where no such file is at its end
-  Ends : (ts : List Located) → length text ≤ MAX_TEXT → AreTokensOf text ts → ¬ IsWithin (words ts) → e ≡ record { kind = BadShape; at = length text } → IsFaultOf text e
-  -- no application is listed
-  Nobody : (ts : List Located) → length text ≤ MAX_TEXT → AreTokensOf text ts → ((is : IsWithin (words ts)) → apps_in is.sections ≡ 0) → e ≡ record { kind = NoDistributed; at = length text } → IsFaultOf text e
+  -- these tokens are in order, and behind them no token begins
+  NoToken : (before : List Located) → length text ≤ MAX_TEXT → IsWell (words before) → StopAt 0 0 text before e → IsFaultOf text e
+  -- What is before the token t is in order, and with it no file that keeps the limits goes on. It can be a comma or a
+  -- bracket, if only a name that breaks a limit could come behind it.
+  Token : (before : List Located) (t : Located) → length text ≤ MAX_TEXT → BeginsWith text (before ++ t ∷ []) → IsWell (words before) → BeginsNone (words before ++ t.word ∷ []) → StandsAt before t e → IsFaultOf text e
+  -- all is in order, and the end came where no file that keeps the limits is at its end
+  Ends : (ts : List Located) → length text ≤ MAX_TEXT → AreTokensOf text ts → IsWell (words ts) → ¬ IsWithin (words ts) → e ≡ record { kind = BadShape; at = length text } → IsFaultOf text e
+  -- all is a file that keeps the limits, and no application is listed
+  Nobody : (ts : List Located) → length text ≤ MAX_TEXT → AreTokensOf text ts → IsWithin (words ts) → ((is : IsWithin (words ts)) → apps_in is.sections ≡ 0) → e ≡ record { kind = NoDistributed; at = length text } → IsFaultOf text e

@@ -5,7 +5,11 @@
 //! it. The fault stands at that token, or at the bracket that it closes with nothing between, and its kind is one that
 //! the token can bring.
 //!
-//! Not said yet: that what stands before the token is in order, and which of the kinds that a name can bring it is.
+//! What stands before the token is in order: some file begins so, and up to the last name one that keeps the limits.
+//! So no place later than that of the first fault fits the law.
+//!
+//! Not said yet: that with a token that is no name no file at all goes on. So a comma or a bracket fits too if only a
+//! name that breaks a limit could come behind it. Nor is it said which of the kinds that a name can bring it is.
 #![tactic(auto)]
 
 pub mod laws;
