@@ -8,8 +8,8 @@ ghost use Rattle.dac_first_fault.specs.FirstFault.{IsFaultOf};
 use dac_shapes::laws::limits_in_text_order;
 use dac_tokens::Tokens;
 
-/// What brings the fault that reading this text has. Mostly it is one token, with which no file that keeps the limits
-/// goes on, whatever stands behind it.
+/// What brings the fault that reading this text has. Mostly it is one token: what stands before it is in order, and
+/// with it no longer, whatever stands behind it.
 pub fn first_fault(text: &[u8])
     ensures first { (e : ConfigFault) → draft_at text.now ≡ Err e → IsFaultOf text.now e }
 {
