@@ -17,4 +17,5 @@ pub mod Past
 pub mod PastReaders
 pub mod PastSections
 pub mod Places
+pub mod Order
 pub mod Files
