@@ -13,4 +13,9 @@ pub mod Held
 pub mod HeldReaders
 pub mod HeldSections
 pub mod HeldFile
+pub mod Past
+pub mod PastReaders
+pub mod PastSections
+pub mod Places
+pub mod Order
 pub mod Files

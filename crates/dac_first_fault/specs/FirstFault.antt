@@ -71,10 +71,6 @@ pub record IsWell (ws : List Word) : Type 0 where
   pub no_name : All IsNoName rest
   pub keeps : CanBegin AreWithinLimits named
 
--- no file that keeps the limits begins with these words
-abbrev pub BeginsNone : List Word → Type 0
-BeginsNone ws = (more : List Word) → ¬ IsWithin (ws ++ more)
-
 abbrev pub apps_in : List Section → ℕ
 apps_in sections = length (written sections (nodes_in sections)).apps
 
@@ -89,10 +85,10 @@ pub data IsFaultOf (text : List ℕ) (e : ConfigFault) : Type 0 where
   Long : MAX_TEXT < length text → e ≡ record { kind = TooLong; at = MAX_TEXT } → IsFaultOf text e
   -- these tokens are in order, and behind them no token begins
   NoToken : (before : List Located) → length text ≤ MAX_TEXT → IsWell (words before) → StopAt 0 0 text before e → IsFaultOf text e
-  -- What is before the token t is in order, and with it no file that keeps the limits goes on. It can be a comma or a
-  -- bracket, if only a name that breaks a limit could come behind it.
-  Token : (before : List Located) (t : Located) → length text ≤ MAX_TEXT → BeginsWith text (before ++ t ∷ []) → IsWell (words before) → BeginsNone (words before ++ t.word ∷ []) → StandsAt before t e → IsFaultOf text e
-  -- all is in order, and the end came where no file that keeps the limits is at its end
-  Ends : (ts : List Located) → length text ≤ MAX_TEXT → AreTokensOf text ts → IsWell (words ts) → ¬ IsWithin (words ts) → e ≡ record { kind = BadShape; at = length text } → IsFaultOf text e
+  -- What is before the token t is in order, and with t it isn't. If t is a name, no file that keeps the limits goes on
+  -- with it, and if not, no file at all.
+  Token : (before : List Located) (t : Located) → length text ≤ MAX_TEXT → BeginsWith text (before ++ t ∷ []) → IsWell (words before) → ¬ IsWell (words before ++ t.word ∷ []) → StandsAt before t e → IsFaultOf text e
+  -- all is in order, and the end came where no file is at its end
+  Ends : (ts : List Located) → length text ≤ MAX_TEXT → AreTokensOf text ts → IsWell (words ts) → ((sections : List Section) → ¬ IsFile (words ts) sections) → e ≡ record { kind = BadShape; at = length text } → IsFaultOf text e
   -- all is a file that keeps the limits, and no application is listed
   Nobody : (ts : List Located) → length text ≤ MAX_TEXT → AreTokensOf text ts → IsWithin (words ts) → ((is : IsWithin (words ts)) → apps_in is.sections ≡ 0) → e ≡ record { kind = NoDistributed; at = length text } → IsFaultOf text e

@@ -1,0 +1,232 @@
+-- Nodes, node lists, applications and permissions are read, or a name in them brings a fault.
+use Rattle.std.proofs.Common.{◌≡◌, ℕ, ◌<◌, Bool, true, false, not, ◌&&◌, cond, eqb, ltb, leb, List, [], ◌∷◌, ◌++◌, length, map, Result, Ok, refl, sym, ap, subst, ◌∙◌, append_assoc, arith, codes, inl, inr}
+use Rattle.std.proofs.lemmas.Bool.{lt-ltb, eq-eqb}
+use Rattle.dac_tokens.specs.declared.fault.ConfigFault.{ConfigFault}
+use Rattle.dac_tokens.specs.declared.fault.FaultKind.TheVariants.{TwiceApp, TwiceInList, TooManyNodes, TooManyApps, NameTooLong}
+use Rattle.dac_tokens.specs.declared.token.Symbol.TheVariants.{OpenList, CloseList, OpenTuple, CloseTuple, Comma}
+use Rattle.dac_tokens.specs.Gives.{◌>>=◌}
+use Rattle.dac_tokens.specs.Words.{Word, Mark, Name, Number, Located}
+use Rattle.dac_shapes.specs.Written.{App, Permission}
+use Rattle.dac_shapes.specs.Limits.{Seen, is_among, with_node, listing}
+use Rattle.dac_shapes.specs.Shape.{State, fails, is_mark, atom_of, short_name_of, node_of, names_at, item_at, items_at, groups_at, timeout_of, timeout_at, value_from, app_name_of, app_value_at, app_at, flag_of, permission_value_at, permission_at, closed}
+use Rattle.dac_shapes.specs.Grammar.{Parted, IsNode, IsItem, IsNodeList, IsAppValue, IsApp, IsFlag, IsPermission}
+use Rattle.dac_shapes.specs.laws.AgainLists.{words_of, cons_is, split, cut, none, Begins, at, symbol_again}
+use Rattle.dac_first_fault.proofs.Past.{Fine, fine_front, Met, Said, met_then, said_then, said_said, said_if, met_is, parted_begins, whole_met, pair_met}
+
+-- ---- single tokens
+
+pub atom_is : (w : Word) (place : ℕ) (name : List ℕ) → w ≡ Name name → atom_of (record { word = w; at = place }) ≡ Ok name
+unfolding atom_of
+atom_is w place name e = rw e refl
+
+pub ms_is : (place : ℕ) (negative : Bool) (v n : ℕ) → n ≡ v → n < 4294967296 → (negative ≡ true → n ≡ 0) → timeout_of place negative v ≡ Ok n
+ms_is place negative v n e few zero_if =
+    let small : ltb v 4294967296 ≡ true = lt-ltb v 4294967296 (omega arith) in
+    rw (negative_zero negative v (λ f. sym e ∙ zero_if f), small) (ap (λ (m : ℕ). Ok m) (sym e))
+  where
+    negative_zero : (b : Bool) (v : ℕ) → (b ≡ true → v ≡ 0) → (b && not (eqb v 0)) ≡ false
+    negative_zero true v f = let z : eqb v 0 ≡ true = eq-eqb v 0 (f refl) in rw z refl
+    negative_zero false v f = refl
+
+flag_is : (t : Located) (b : Bool) → IsFlag (t.word ∷ []) b → flag_of t ≡ Ok b
+unfolding flag_of
+flag_is t true is = rw (atom_is t.word t.at (codes "true") (cons_is t.word (Name (codes "true")) [] [] is).0) refl
+flag_is t false is = rw (atom_is t.word t.at (codes "false") (cons_is t.word (Name (codes "false")) [] [] is).0) refl
+
+-- `true` or `false` is one word
+flag_word : (ws : List Word) (b : Bool) → IsFlag ws b → (w : Word) × (ws ≡ w ∷ [])
+flag_word ws true is = (Name (codes "true"), is)
+flag_word ws false is = (Name (codes "false"), is)
+
+module _ (last : Result Located ConfigFault) (bad : ℕ) where
+  short_said : (t : Located) (name : List ℕ) → t.word ≡ Name name → Said bad name (short_name_of t)
+  unfolding short_name_of
+  short_said t name e = rw (atom_is t.word t.at name e) (said_if last bad name (ltb 255 (length name)) (fails NameTooLong t.at) (Ok name) tt refl)
+
+  -- ---- nodes and node lists
+
+  pub node_begins : (ws : List Word) (name : List ℕ) → IsNode ws name → Begins ws
+  node_begins ws name is = record { head = Name name; tail = []; whole = is; no_list = refl; no_tuple = refl }
+
+  node_met : (repeats : Bool) (t : Located) (us : List Located) (seen : Seen) (name : List ℕ) → t.word ≡ Name name → Met last bad name us (node_of repeats t (at last us seen))
+  unfolding node_of
+  node_met repeats t us seen name w =
+      let twice = not repeats && is_among name seen.listed in
+      let many = not (is_among name seen.met) && leb 16 (length seen.met) in
+      let s = at last us seen in
+      said_then last bad name name us (short_name_of t)
+      (λ name. cond (not repeats && is_among name seen.listed) (fails TwiceInList t.at) (cond (not (is_among name seen.met) && leb 16 (length seen.met)) (fails TooManyNodes t.at) (Ok (name, at last us (with_node seen name))))) (short_said t name w)
+      (met_if' twice many)
+    where
+      met_if' : (c d : Bool) → Met last bad name us (cond c (fails TwiceInList t.at) (cond d (fails TooManyNodes t.at) (Ok (name, at last us (with_node seen name)))))
+      met_if' true d = tt
+      met_if' false true = tt
+      met_if' false false = (with_node seen name, refl)
+
+  pub nodes_met : (repeats : Bool) (before : List (List ℕ)) (t : Located) (ts us : List Located) (seen : Seen) (name : List ℕ) → IsNode (words_of (t ∷ ts)) name → Fine bad (t ∷ ts) → Met last bad name us (node_of repeats t (at last (ts ++ us) seen))
+  nodes_met repeats before t ts us seen name is fine =
+      let c = cons_is t.word (Name name) (words_of ts) [] is in
+      subst (λ (l : List Located). Met last bad name us (node_of repeats t (at last (l ++ us) seen))) (sym (none ts c.1)) (node_met repeats t us seen name c.0)
+
+  item_begins : (ws : List Word) (group : List (List ℕ)) → IsItem ws group → Begins ws
+  item_begins ws group is = elim is [
+    | inl h ↦ record { head = Name h.0; tail = []; whole = h.1; no_list = refl; no_tuple = refl }
+    | inr h ↦ record { head = Mark OpenTuple; tail = h.0 ++ Mark CloseTuple ∷ []; whole = h.1; no_list = refl; no_tuple = refl }
+  ]
+
+  alone_is : (t : Located) (s : State) (name : List ℕ) → t.word ≡ Name name → item_at t s ≡ (node_of false t s >>= λ name. Ok (name.0 ∷ [], name.1))
+  unfolding item_at
+  alone_is t s name w = rw w refl
+
+  tuple_is : (t f : Located) (ts : List Located) (seen : Seen) → t.word ≡ Mark OpenTuple → is_mark CloseTuple f.word ≡ false → item_at t (at last (f ∷ ts) seen) ≡ names_at false CloseTuple f (at last ts seen)
+  unfolding item_at
+  tuple_is t f ts seen w e = rw (w, e) refl
+
+  -- tokens from a mark on, up to the mark that closes it: things parted by commas are between
+  record Within (ts : List Located) (inner : List Word) (right : Word) : Type 0 where
+    pub first : Located
+    pub mid : List Located
+    pub close_at : Located
+    pub whole : ts ≡ (first ∷ mid) ++ close_at ∷ []
+    pub is : inner ≡ words_of (first ∷ mid)
+    pub closes : close_at.word ≡ right
+    pub no_list : is_mark CloseList first.word ≡ false
+    pub no_tuple : is_mark CloseTuple first.word ≡ false
+
+  within : (t : Located) (ts : List Located) (left : Word) (inner : List Word) (right : Word) → words_of (t ∷ ts) ≡ left ∷ inner ++ right ∷ [] → Begins inner → Within ts inner right
+  within t ts left inner right e b =
+      let c = cons_is t.word left (words_of ts) (inner ++ right ∷ []) e in
+      let s = split ts inner (right ∷ []) c.1 in
+      let d = cut s.rest right [] s.second in
+      let f = cut s.front b.head b.tail (s.first ∙ b.whole) in
+      record {
+        first = f.head;
+        mid = f.tail;
+        close_at = d.head;
+        whole = s.whole ∙ ap (λ (l : List Located). l ++ s.rest) f.whole ∙ ap (λ (l : List Located). f.head ∷ (f.tail ++ l)) (d.whole ∙ ap (λ (l : List Located). d.head ∷ l) (none d.tail d.rest));
+        is = sym s.first ∙ ap words_of f.whole;
+        closes = d.is;
+        no_list = ap (is_mark CloseList) f.is ∙ b.no_list;
+        no_tuple = ap (is_mark CloseTuple) f.is ∙ b.no_tuple;
+      }
+
+  within_fine : (ts : List Located) (inner : List Word) (right : Word) (w : Within ts inner right) → Fine bad ts → Fine bad (w.first ∷ w.mid)
+  within_fine ts inner right w fine = fine_front bad (w.first ∷ w.mid) (w.close_at ∷ []) (subst (λ (l : List Located). Fine bad l) w.whole fine)
+
+  within_apart : (ts us : List Located) (inner : List Word) (right : Word) (w : Within ts inner right) → ts ++ us ≡ w.first ∷ (w.mid ++ w.close_at ∷ us)
+  within_apart ts us inner right w = ap (λ (l : List Located). l ++ us) w.whole ∙ ap (λ (l : List Located). w.first ∷ l) (append_assoc w.mid (w.close_at ∷ []) us)
+
+  item_met : (before : List (List (List ℕ))) (t : Located) (ts us : List Located) (seen : Seen) (group : List (List ℕ)) → IsItem (words_of (t ∷ ts)) group → Fine bad (t ∷ ts) → Met last bad group us (item_at t (at last (ts ++ us) seen))
+  item_met before t ts us seen group is fine = elim is [
+    | inl h ↦
+        let c = cons_is t.word (Name h.0) (words_of ts) [] h.1 in
+        let s = at last us seen in
+        let next : List ℕ × State → Result (List (List ℕ) × State) ConfigFault = λ name. Ok (name.0 ∷ [], name.1) in
+        subst (λ (g : List (List ℕ)). Met last bad g us (item_at t (at last (ts ++ us) seen))) (sym h.2)
+        (met_is last bad (h.0 ∷ []) us (item_at t (at last (ts ++ us) seen)) (node_of false t s >>= next) (ap (λ (l : List Located). item_at t (at last (l ++ us) seen)) (none ts c.1) ∙ alone_is t s h.0 c.0)
+        (met_then last bad h.0 us (h.0 ∷ []) us (node_of false t s) next (node_met false t us seen h.0 c.0) (λ after. (after, refl))))
+    | inr h ↦
+        let w = within t ts (Mark OpenTuple) h.0 (Mark CloseTuple) h.1 (parted_begins last bad IsNode node_begins h.0 group h.2) in
+        let begun = cons_is t.word (Mark OpenTuple) (words_of ts) (h.0 ++ Mark CloseTuple ∷ []) h.1 in
+        let vs = w.mid ++ w.close_at ∷ us in
+        met_is last bad group us (item_at t (at last (ts ++ us) seen)) (names_at false CloseTuple w.first (at last vs seen)) (ap (λ (l : List Located). item_at t (at last l seen)) (within_apart ts us h.0 (Mark CloseTuple) w) ∙ tuple_is t w.first vs seen begun.0 w.no_tuple)
+        (whole_met last bad IsNode node_begins (λ _. node_of false) (nodes_met false) CloseTuple refl refl w.first w.mid w.close_at us seen group (subst (λ (l : List Word). Parted IsNode l group) w.is h.2) (within_fine ts h.0 (Mark CloseTuple) w fine.1) w.closes)
+  ]
+
+  list_opened : (t f : Located) (ts : List Located) (seen : Seen) → t.word ≡ Mark OpenList → is_mark CloseList f.word ≡ false → groups_at t (at last (f ∷ ts) seen) ≡ items_at f (at last ts (listing seen))
+  unfolding groups_at
+  list_opened t f ts seen w e = rw (w, e) refl
+
+  groups_met : (t : Located) (ts us : List Located) (seen : Seen) (groups : List (List (List ℕ))) → IsNodeList (words_of (t ∷ ts)) groups → Fine bad (t ∷ ts) → Met last bad groups us (groups_at t (at last (ts ++ us) seen))
+  groups_met t ts us seen groups is fine =
+      let w = within t ts (Mark OpenList) is.0 (Mark CloseList) is.1 (parted_begins last bad IsItem item_begins is.0 groups is.2) in
+      let begun = cons_is t.word (Mark OpenList) (words_of ts) (is.0 ++ Mark CloseList ∷ []) is.1 in
+      let vs = w.mid ++ w.close_at ∷ us in
+      met_is last bad groups us (groups_at t (at last (ts ++ us) seen)) (items_at w.first (at last vs (listing seen))) (ap (λ (l : List Located). groups_at t (at last l seen)) (within_apart ts us is.0 (Mark CloseList) w) ∙ list_opened t w.first vs seen begun.0 w.no_list)
+      (whole_met last bad IsItem item_begins (λ _. item_at) item_met CloseList refl refl w.first w.mid w.close_at us (listing seen) groups (subst (λ (l : List Word). Parted IsItem l groups) w.is is.2) (within_fine ts is.0 (Mark CloseList) w fine.1) w.closes)
+
+  -- ---- applications
+
+  untimed_is : (w : Word) (place : ℕ) (s : State) → w ≡ Mark OpenList → timeout_at (record { word = w; at = place }) s ≡ Ok (0, record { word = w; at = place }, s)
+  unfolding timeout_at
+  untimed_is w place s e = rw e refl
+
+  timed_is : (place : ℕ) (c f : Located) (ts : List Located) (seen : Seen) (negative : Bool) (digits : List ℕ) (n : ℕ) → timeout_of place negative (value_from 0 digits) ≡ Ok n → c.word ≡ Mark Comma
+      → timeout_at (record { word = Number negative digits; at = place }) (at last (c ∷ f ∷ ts) seen) ≡ Ok (n, f, at last ts seen)
+  unfolding timeout_at
+  timed_is place c f ts seen negative digits n e w = rw (e, symbol_again last Comma c (f ∷ ts) seen refl w) refl
+
+  abbrev app_with : List ℕ → ℕ → List (List (List ℕ)) × State → Result (App × State) ConfigFault
+  app_with name n groups = Ok (record { name = name; timeout = n; groups = groups.0 }, groups.1)
+
+  app_value_is : (name : List ℕ) (n : ℕ) (first f : Located) (ts vs : List Located) (seen : Seen) → timeout_at first (at last vs seen) ≡ Ok (n, f, at last ts seen) → app_value_at name (at last (first ∷ vs) seen) ≡ (groups_at f (at last ts seen) >>= app_with name n)
+  unfolding app_value_at
+  app_value_is name n first f ts vs seen e = rw e refl
+
+  -- a node list behind a timeout
+  listed_met : (app : App) (f : Located) (ts us : List Located) (seen : Seen) → IsNodeList (words_of (f ∷ ts)) app.groups → Fine bad (f ∷ ts) → Met last bad app us (groups_at f (at last (ts ++ us) seen) >>= app_with app.name app.timeout)
+  listed_met app f ts us seen list fine = met_then last bad app.groups us app us (groups_at f (at last (ts ++ us) seen)) (app_with app.name app.timeout) (groups_met f ts us seen app.groups list fine) (λ after. (after, refl))
+
+  app_value_met : (vs us : List Located) (seen : Seen) (app : App) → IsAppValue (words_of vs) app → Fine bad vs → Met last bad app us (app_value_at app.name (at last (vs ++ us) seen))
+  app_value_met vs us seen app is fine = elim is.3 [
+    | inl h ↦
+        let whole : words_of vs ≡ is.1 = is.2 ∙ ap (λ (l : List Word). l ++ is.1) h.0 in
+        let c = cut vs (Mark OpenList) (is.4.0 ++ Mark CloseList ∷ []) (whole ∙ is.4.1) in
+        let list : IsNodeList (words_of (c.head ∷ c.tail)) app.groups = subst (λ (l : List Word). IsNodeList l app.groups) (sym whole ∙ ap words_of c.whole) is.4 in
+        let ts = c.tail ++ us in
+        let time : timeout_at c.head (at last ts seen) ≡ Ok (app.timeout, c.head, at last ts seen) = untimed_is c.head.word c.head.at (at last ts seen) c.is ∙ ap (λ (n : ℕ). Ok (n, c.head, at last ts seen)) (sym h.1) in
+        met_is last bad app us (app_value_at app.name (at last (vs ++ us) seen)) (groups_at c.head (at last ts seen) >>= app_with app.name app.timeout)
+        (ap (λ (l : List Located). app_value_at app.name (at last (l ++ us) seen)) c.whole ∙ app_value_is app.name app.timeout c.head c.head ts ts seen time)
+        (listed_met app c.head c.tail us seen list (subst (λ (l : List Located). Fine bad l) c.whole fine))
+    | inr h ↦
+        let ms = h.2 in
+        let whole : words_of vs ≡ h.0 ∷ Mark Comma ∷ is.1 = is.2 ∙ ap (λ (l : List Word). l ++ is.1) h.1 in
+        let c = cut vs h.0 (Mark Comma ∷ is.1) whole in
+        let d = cut c.tail (Mark Comma) is.1 c.rest in
+        let f = cut d.tail (Mark OpenList) (is.4.0 ++ Mark CloseList ∷ []) (d.rest ∙ is.4.1) in
+        let list : IsNodeList (words_of (f.head ∷ f.tail)) app.groups = subst (λ (l : List Word). IsNodeList l app.groups) (sym d.rest ∙ ap words_of f.whole) is.4 in
+        let apart : vs ≡ c.head ∷ d.head ∷ f.head ∷ f.tail = c.whole ∙ ap (λ (l : List Located). c.head ∷ l) (d.whole ∙ ap (λ (l : List Located). d.head ∷ l) f.whole) in
+        let number : c.head.word ≡ Number ms.0 ms.1 = c.is ∙ ms.2 in
+        let ts = f.tail ++ us in
+        let time = timed_is c.head.at d.head f.head ts seen ms.0 ms.1 app.timeout (ms_is c.head.at ms.0 (value_from 0 ms.1) app.timeout ms.3 ms.4 ms.5) d.is in
+        let timed : timeout_at c.head (at last (d.head ∷ f.head ∷ ts) seen) ≡ Ok (app.timeout, f.head, at last ts seen) = ap (λ (w : Word). timeout_at (record { word = w; at = c.head.at }) (at last (d.head ∷ f.head ∷ ts) seen)) number ∙ time in
+        met_is last bad app us (app_value_at app.name (at last (vs ++ us) seen)) (groups_at f.head (at last ts seen) >>= app_with app.name app.timeout)
+        (ap (λ (l : List Located). app_value_at app.name (at last (l ++ us) seen)) apart ∙ app_value_is app.name app.timeout c.head f.head ts (d.head ∷ f.head ∷ ts) seen timed)
+        (listed_met app f.head f.tail us seen list (subst (λ (l : List Located). Fine bad l) apart fine).1.1)
+  ]
+
+  pub app_begins : (ws : List Word) (app : App) → IsApp ws app → Begins ws
+  app_begins ws app is = record { head = Mark OpenTuple; tail = Name app.name ∷ Mark Comma ∷ is.0 ++ Mark CloseTuple ∷ []; whole = is.1; no_list = refl; no_tuple = refl }
+
+  app_named : (before : List App) (t : Located) (name : List ℕ) → t.word ≡ Name name → Said bad name (app_name_of before t)
+  unfolding app_name_of
+  app_named before t name w =
+      said_said last bad name name (short_name_of t) (λ name. cond (is_among name (map (λ (a : App). a.name) before)) (fails TwiceApp t.at) (cond (leb 64 (length before)) (fails TooManyApps t.at) (Ok name))) (short_said t name w)
+      (said_if last bad name (is_among name (map (λ (a : App). a.name) before)) (fails TwiceApp t.at) (cond (leb 64 (length before)) (fails TooManyApps t.at) (Ok name)) tt (said_if last bad name (leb 64 (length before)) (fails TooManyApps t.at) (Ok name) tt refl))
+
+  pub app_met : (before : List App) (t : Located) (ts us : List Located) (seen : Seen) (app : App) → IsApp (words_of (t ∷ ts)) app → Fine bad (t ∷ ts) → Met last bad app us (app_at before t (at last (ts ++ us) seen))
+  app_met before t ts us seen app is fine =
+      pair_met last bad (app_name_of before) (λ name. closed (app_value_at name)) app.name app.name app seen (λ n w ok. app_named before n app.name w)
+      (app_value_at app.name) (λ value. IsAppValue value app) (λ s. refl) (λ vs us' value f. app_value_met vs us' seen app value f) t ts us is fine
+
+  -- ---- permissions
+
+  pub permission_begins : (ws : List Word) (x : Permission) → IsPermission ws x → Begins ws
+  permission_begins ws x is = record { head = Mark OpenTuple; tail = Name x.name ∷ Mark Comma ∷ is.0 ++ Mark CloseTuple ∷ []; whole = is.1; no_list = refl; no_tuple = refl }
+
+  permission_value_is : (t : Located) (us : List Located) (seen : Seen) (x : Permission) → flag_of t ≡ Ok x.value → permission_value_at x.name (at last (t ∷ us) seen) ≡ Ok (x, at last us seen)
+  unfolding permission_value_at
+  permission_value_is t us seen x e = rw e refl
+
+  permission_value_met : (vs us : List Located) (seen : Seen) (x : Permission) → IsFlag (words_of vs) x.value → Met last bad x us (permission_value_at x.name (at last (vs ++ us) seen))
+  permission_value_met vs us seen x is =
+      let w = flag_word (words_of vs) x.value is in
+      let c = cut vs w.0 [] w.1 in
+      let only : vs ≡ c.head ∷ [] = c.whole ∙ ap (λ (l : List Located). c.head ∷ l) (none c.tail c.rest) in
+      let said : IsFlag (c.head.word ∷ []) x.value = subst (λ (l : List Located). IsFlag (words_of l) x.value) only is in
+      met_is last bad x us (permission_value_at x.name (at last (vs ++ us) seen)) (Ok (x, at last us seen)) (ap (λ (l : List Located). permission_value_at x.name (at last (l ++ us) seen)) only ∙ permission_value_is c.head us seen x (flag_is c.head x.value said)) (seen, refl)
+
+  pub permission_met : (before : List Permission) (t : Located) (ts us : List Located) (seen : Seen) (x : Permission) → IsPermission (words_of (t ∷ ts)) x → Fine bad (t ∷ ts) → Met last bad x us (permission_at t (at last (ts ++ us) seen))
+  permission_met before t ts us seen x is fine =
+      pair_met last bad short_name_of (λ name. closed (permission_value_at name)) x.name x.name x seen (λ n w ok. short_said n x.name w)
+      (permission_value_at x.name) (λ value. IsFlag value x.value) (λ s. refl) (λ vs us' value f. permission_value_met vs us' seen x value) t ts us is fine

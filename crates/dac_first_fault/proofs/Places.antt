@@ -1,0 +1,109 @@
+-- Where the names of a text stand, and where a fault that they don't bring.
+use Rattle.std.proofs.Common.{◌≡◌, ℕ, ◌+◌, ◌<◌, ◌≤◌, List, [], ◌∷◌, ◌++◌, length, refl, sym, ap, subst, ◌∙◌, append_assoc, length-append, arith, inl, inr}
+use Rattle.std.specs.Prelude.{◌⊎◌, All}
+use Rattle.std.specs.Char.{IsAsciiLowercase}
+use Rattle.std.proofs.lemmas.List.Elements.{All-head, All-tail}
+use Rattle.dac_tokens.specs.declared.fault.ConfigFault.{ConfigFault}
+use Rattle.dac_tokens.specs.declared.fault.FaultKind.{FaultKind}
+use Rattle.dac_tokens.specs.declared.fault.FaultKind.TheVariants as kind
+use Rattle.dac_tokens.specs.Words.{Word, Mark, Name, Number, Text, End, Located}
+use Rattle.dac_tokens.specs.TokenGrammar.{AreSpelled, Spells, Begins, depth_behind}
+use Rattle.dac_tokens.specs.TokenFaults.{StopAt}
+use Rattle.dac_first_fault.specs.FirstFault.{StandsAt, Itself, InList, InTuple, CanBring, IsNoName, BeginsWith}
+use Rattle.dac_first_fault.proofs.Past.{OfName, Fine}
+
+pub fine_both : (bad : ℕ) (a b : List Located) → Fine bad a → Fine bad b → Fine bad (a ++ b)
+fine_both bad [] b f g = g
+fine_both bad (t ∷ a) b f g = (f.0, fine_both bad a b f.1 g)
+
+-- ---- names
+
+pub name_or_not : (w : Word) → ((name : List ℕ) × (w ≡ Name name)) ⊎ IsNoName w
+name_or_not (Name name) = inl (name, refl)
+name_or_not (Mark symbol) = inr tt
+name_or_not (Number negative digits) = inr tt
+name_or_not Text = inr tt
+name_or_not End = inr tt
+
+cons_tail : (v w : Word) (a b : List Word) → v ∷ a ≡ w ∷ b → a ≡ b
+cons_tail v w a b e = cc
+
+all_last : (a : List Word) (w : Word) → All IsNoName (a ++ w ∷ []) → IsNoName w
+all_last [] w all = All-head IsNoName w [] all
+all_last (v ∷ a) w all = all_last a w (All-tail IsNoName v (a ++ w ∷ []) all)
+
+none_behind : (a b : List Word) → [] ≡ a ++ b → b ≡ []
+none_behind [] b e = sym e
+none_behind (v ∷ a) b e = absurd cc
+
+-- behind words of which the last is a name there is nothing without names
+pub last_named : (a : List Word) (w : Word) (name : List ℕ) (named rest : List Word) → w ≡ Name name → a ++ w ∷ [] ≡ named ++ rest → All IsNoName rest → rest ≡ []
+last_named a w name [] rest is e all = absurd (subst IsNoName is (all_last a w (subst (λ (l : List Word). All IsNoName l) (sym e) all)))
+last_named [] w name (v ∷ named) rest is e all = none_behind named rest (cons_tail w v [] (named ++ rest) e)
+last_named (u ∷ a) w name (v ∷ named) rest is e all = last_named a w name named rest is (cons_tail u v (a ++ w ∷ []) (named ++ rest) e) all
+
+-- a fault at a token that is no name is none of a name
+kind_not : (k : FaultKind) (w : Word) (bad place : ℕ) → place ≡ bad → CanBring k w → IsNoName w → OfName bad k place → ⊥
+kind_not kind.BadShape w bad place e can plain of = of e
+kind_not kind.TwiceApp w bad place e can plain of = absurd (subst IsNoName can.1 plain)
+kind_not kind.TwiceInList w bad place e can plain of = absurd (subst IsNoName can.1 plain)
+kind_not kind.TooManyApps w bad place e can plain of = absurd (subst IsNoName can.1 plain)
+kind_not kind.TooManyNodes w bad place e can plain of = absurd (subst IsNoName can.1 plain)
+kind_not kind.NameTooLong w bad place e can plain of = absurd (subst IsNoName can.1 plain)
+kind_not kind.Unsupported w bad place e can plain of = of
+kind_not kind.NumberTooLarge w bad place e can plain of = of
+kind_not _ w bad place e can plain of = absurd can
+
+pub not_name : (a : List Located) (l : Located) (e : ConfigFault) → StandsAt a l e → IsNoName l.word → OfName l.at e.kind e.at → ⊥
+not_name a l e (Itself place can) plain of = kind_not e.kind l.word l.at e.at place can plain of
+not_name a l e (InList front o is w v f) plain of = subst (λ (f : ConfigFault). OfName l.at f.kind f.at) f of
+not_name a l e (InTuple front o is w v f) plain of = subst (λ (f : ConfigFault). OfName l.at f.kind f.at) f of
+
+-- ---- places
+
+begins_some : (name : List ℕ) → Begins IsAsciiLowercase name → 0 < length name
+begins_some [] is = absurd is
+begins_some (b ∷ bytes) is = omega arith
+
+name_some : (w : Word) (name own rest : List ℕ) → w ≡ Name name → Spells w own rest → 0 < length own
+name_some w name own rest is spelled = elim (subst (λ (w : Word). Spells w own rest) is spelled) [
+  | inl bare ↦ omega (arith, begins_some name bare.1.begins, ap length bare.0)
+  | inr quoted ↦ omega (arith, ap length quoted.0)
+]
+
+-- the names of a text stand before its end
+pub spelled_fine : (bad place : ℕ) (bytes : List ℕ) (ts : List Located) → AreSpelled place bytes ts → place + length bytes ≤ bad → Fine bad ts
+spelled_fine bad place bytes [] is le = tt
+spelled_fine bad place bytes (t ∷ ts) is le =
+    let k = is.2 in
+    let long = ap length k.parts ∙ length-append k.gap (is.0 ++ is.1) in
+    let own = length-append is.0 is.1 in
+    (λ name w e. absurd (omega (arith, le, long, own, k.place, e, name_some t.word name is.0 is.1 w k.spelled)), spelled_fine bad (t.at + length is.0) is.1 ts is.3 (omega (arith, le, long, own, k.place)))
+
+-- tokens one behind another
+abbrev Apart : ℕ → List Located → Type 0
+Apart place [] = Unit {0}
+Apart place (t ∷ ts) = (next : ℕ) × (place ≤ t.at) × (t.at ≤ next) × ((name : List ℕ) → t.word ≡ Name name → t.at < next) × Apart next ts
+
+apart_spelled : (place : ℕ) (bytes : List ℕ) (ts : List Located) → AreSpelled place bytes ts → Apart place ts
+apart_spelled place bytes [] is = tt
+apart_spelled place bytes (t ∷ ts) is = (t.at + length is.0, omega (arith, is.2.place), omega arith, λ name w. omega (arith, name_some t.word name is.0 is.1 w is.2.spelled), apart_spelled (t.at + length is.0) is.1 ts is.3)
+
+apart_stopped : (place depth : ℕ) (bytes : List ℕ) (ts : List Located) (e : ConfigFault) → StopAt place depth bytes ts e → Apart place ts
+apart_stopped place depth bytes [] e is = tt
+apart_stopped place depth bytes (t ∷ ts) e is = (t.at + length is.0, omega (arith, is.2.place), omega arith, λ name w. omega (arith, name_some t.word name is.0 is.1 w is.2.spelled), apart_stopped (t.at + length is.0) (depth_behind depth t.word) is.1 ts e is.4)
+
+apart_later : (place : ℕ) (a : List Located) (l : Located) (b : List Located) → Apart place (a ++ l ∷ b) → place ≤ l.at
+apart_later place [] l b is = is.1
+apart_later place (t ∷ a) l b is = let later = apart_later is.0 a l b is.4 in omega (arith, later, is.1, is.2)
+
+apart_fine : (place : ℕ) (a : List Located) (l : Located) (b : List Located) → Apart place (a ++ l ∷ b) → Fine l.at a
+apart_fine place [] l b is = tt
+apart_fine place (t ∷ a) l b is = let later = apart_later is.0 a l b is.4 in (λ name w e. absurd (omega (arith, later, is.3 name w, e)), apart_fine is.0 a l b is.4)
+
+-- no name before a token of a text stands at its place
+pub text_fine : (text : List ℕ) (a : List Located) (l : Located) → BeginsWith text (a ++ l ∷ []) → Fine l.at a
+text_fine text a l is = apart_fine 0 a l is.rest (subst (λ (ts : List Located). Apart 0 ts) (append_assoc a (l ∷ []) is.rest) (elim is.is [
+  | inl tokens ↦ apart_spelled 0 text ((a ++ l ∷ []) ++ is.rest) tokens.spelled
+  | inr stopped ↦ apart_stopped 0 0 text ((a ++ l ∷ []) ++ is.rest) stopped.0 stopped.1
+]))
