@@ -10,7 +10,7 @@ use std::alloc::{AllocError, AllocFailed};
 
 mod limits;
 
-/// Memory was refused. A call that answers this has left all as it was, unless its own words say otherwise.
+/// Memory was refused. Whatever answers this has left all as it was.
 #[derive(Clone, Copy, Debug, PartialEq, Eq, Hash)]
 pub struct NoMemory;
 

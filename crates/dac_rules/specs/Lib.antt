@@ -8,6 +8,5 @@ pub mod Shipping
 pub mod Hearing
 pub mod Refused
 pub mod Writing
-pub mod Keeping
 pub mod Again
 pub mod laws
