@@ -10,11 +10,11 @@ use Rattle.std.proofs.lemmas.Map.Lookups.{CmpEqualImpliesEq, exact_unsigned}
 use Rattle.dac_base.specs.declared.NodeId.{NodeId}
 use Rattle.dac_base.specs.declared.AppId.{AppId}
 
--- by number
+-- nodes by their numbers
 abbrev pub node_cmp : NodeId → NodeId → Ordering
 node_cmp a b = nat_cmp a.0 b.0
 
--- by number
+-- applications by their numbers
 abbrev pub app_cmp : AppId → AppId → Ordering
 app_cmp a b = nat_cmp a.0 b.0
 

@@ -1,4 +1,4 @@
-//! What every crate of the controller speaks of: numbers of nodes and applications, limits, and want of memory.
+//! What every crate of the controller speaks of: numbers of nodes and applications, limits, and running out of memory.
 //!
 //! A configuration numbers its nodes in the byte order of their names and its applications in the order
 //! of the file, both from 0. These numbers are small types of their own, so that neither can stand for
@@ -10,7 +10,7 @@ use std::alloc::{AllocError, AllocFailed};
 
 mod limits;
 
-/// Memory was refused. Whatever answers this has left all as it was.
+/// Memory was refused. A call that changes one value has then left it as it was.
 #[derive(Clone, Copy, Debug, PartialEq, Eq, Hash)]
 pub struct NoMemory;
 

@@ -44,12 +44,12 @@ abbrev pub Reads : {X Y : Type 0} → (X → Y) → Result X ReadFault → Resul
 Reads view (Ok x) read = read ≡ Ok (view x)
 Reads view (Err e) read = read ≡ Err e
 
--- A fault is the one that reading gives, unless it is want of memory, which stands at 0 and says nothing of the bytes.
+-- A fault is the one that reading gives, unless it is `NoMemory`, which stands at 0 and says nothing of the bytes.
 abbrev pub Fails : {Y : Type 0} → ReadFaultKind → ReadFault → Result Y ReadFault → Type 0
 Fails NoMemory e read = e.at ≡ 0
 Fails _ e read = read ≡ Err e
 
--- What a function returned has no want of memory.
+-- What a function returned isn't `NoMemory`.
 abbrev pub IsOfBytes : {X : Type 0} → Result X ReadFault → Type 0
 IsOfBytes result = IfErr result (λ e. ¬ (e.kind ≡ NoMemory))
 

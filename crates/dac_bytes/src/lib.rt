@@ -10,8 +10,8 @@
 //! beside them: what is read of a field is spelled so and is in range, and what is in range is read from
 //! its spelling, whatever follows. So of each field, and of contexts, there is one spelling that is read.
 //!
-//! Want of memory stands at 0, and says nothing of the bytes. A count that doesn't fit its field is written
-//! by its lowest bits. Reading a context reserves nothing for a count.
+//! `NoMemory` stands at 0, and says nothing of the bytes. A count that doesn't fit its field is written by
+//! its lowest bits. Reading a context reserves nothing for a count.
 #![tactic(auto)]
 
 mod context;

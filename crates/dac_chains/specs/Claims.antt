@@ -1,4 +1,6 @@
--- The greatest claim of each application. Who claims an application says that it runs there, and how it came there: started or moved, after a failover or by a takeover (the ways are those of OTP's distributed applications, the order of claims is this project's own).
+-- The greatest claim of each application. Who claims an application says that it runs there, and how it came there:
+-- started or moved, after a failover or by a takeover. (The ways are those of OTP's distributed applications. The
+-- order of claims is this project's own.)
 use Rattle.std.specs.Prelude.{◌≡◌, ℕ, List, Option, None, Some, refl}
 use Rattle.std.proofs.Common.{zero, suc, ap}
 use Rattle.std.specs.declared.cmp.Ordering.{Ordering}

@@ -1,4 +1,5 @@
--- The life of each node: the greatest of what was said of it, by incarnation, and Up below Down at one incarnation. So who went down stays down until it comes up as a later incarnation. (The order is this project's own.)
+-- The life of each node: the greatest of what was said of it, by incarnation, and Up below Down at one incarnation.
+-- So who went down stays down until it comes up as a later incarnation. (The order is this project's own.)
 use Rattle.std.specs.Prelude.{◌≡◌, ℕ, List, Option, None, Some, option_and_then, refl}
 use Rattle.std.proofs.Common.{ap}
 use Rattle.std.specs.declared.cmp.Ordering.{Ordering}

@@ -73,7 +73,8 @@ claim_act s app how from = Claims app (next_term s app) how from
 abbrev pub next_operation : StateValue → Origin → Act → Operation
 next_operation s own act = operation (dot own (greatest_counter own s.known + 1)) act
 
--- What a command issues. A Down is of the live incarnation, a takeover claims from where the application runs, and the others replace exactly what stands of their kind at the key.
+-- What a command issues. A Down is of the live incarnation, and a takeover claims from where the application runs.
+-- The others replace exactly what stands of their kind at the key.
 abbrev pub act_of : Table → StateValue → Command → Act
 act_of t s (Down node) = Downs node (live_or_none s node)
 act_of t s (Permit app node value) = let key = key_at s app node in Permits key value (standing_permits s key)

@@ -73,7 +73,9 @@ pub record TakesOver (t : Table) (s : StateValue) (app : AppId) (act : Act) : Ty
   pub runs : RunsAt t s app runner
   pub claims : IsNextClaim s app TakenOver (Some runner) act
 
--- The act says the command. A Down names the live incarnation of the node, and a takeover claims the application from where it runs. The others write at the key of the application at the node's live incarnation, and replace exactly what stands there of their kind.
+-- The act says the command. A Down names the live incarnation of the node, and a takeover claims the application from
+-- where it runs. The others write at the key of the application at the node's live incarnation. They replace exactly
+-- what stands there of their kind.
 abbrev pub Says : Table → StateValue → Command → Act → Type 0
 Says t s (Down node) act = (inc : ℕ) × ((act ≡ Downs node inc) × IsLive s.lives node inc)
 Says t s (Permit app node value) act = WritesAt s app node (PermitStands s) (λ key over. Permits key value over) act

@@ -56,7 +56,7 @@ fn refusal_to_declare(config: &Config, own: Origin, state: &State, node: NodeId)
     None
 }
 
-/// Why nothing is said of whether an application may run at a node, if nothing is.
+/// Why a permit is refused, if it is.
 fn refusal_to_permit(
     config: &Config,
     own: Origin,
@@ -73,7 +73,7 @@ fn refusal_to_permit(
     refusal_to_issue(own, state, state.permissions().dots(key).len())
 }
 
-/// Why no start is wished, if none is.
+/// Why a start is refused, if it is.
 fn refusal_to_start(
     config: &Config,
     own: Origin,
@@ -90,7 +90,7 @@ fn refusal_to_start(
     refusal_to_issue(own, state, state.wishes().dots(key).len())
 }
 
-/// Why no start wish is ended, if none is.
+/// Why a stop is refused, if it is.
 fn refusal_to_stop(
     config: &Config,
     own: Origin,

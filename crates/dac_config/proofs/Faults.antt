@@ -13,6 +13,6 @@ unless_memory _ P Q f h = f h
 pub fails_then : {A B : Type 0} (e : ConfigFault) (r : Result A ConfigFault) (f : A → Result B ConfigFault) → Fails e r → Fails e (r >>= f)
 fails_then e r f h = unless_memory e.kind _ _ (λ p. ap (λ q. q >>= f) p) h
 
--- want of memory is never a fault of the text
+-- running out of memory is never a fault of the text
 pub at_memory : (e : ConfigFault) (P : Type 0) → e.kind ≡ NoMemory → UnlessMemory e.kind P
 at_memory e P h = rw h tt

@@ -5,9 +5,10 @@
 //! has all controllers of a configuration, every operation that they issued and every message that they
 //! shipped; messages and single operations may be lost, repeated and reordered, and controllers may crash.
 //!
-//! The promise is convergence, on [`World::run`]: after any list of events each running controller's state
-//! is the meaning of the set of operations that it has heard, so controllers that heard the same set hold
-//! equal states.
+//! The promises are convergence and settling, on [`World::run`]. After any list of events each running
+//! controller's state is the meaning of the set of operations that it has heard. So controllers that heard
+//! the same set hold equal states. Where the events end in enough rounds, each application is settled at each
+//! running controller.
 #![tactic(auto)]
 
 pub use dac_commands::Refusal;

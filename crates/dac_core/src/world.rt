@@ -207,7 +207,7 @@ impl World {
         }
     }
 
-    /// Does what a node prepared, and says want of memory as a refusal. A crash wants none.
+    /// Does what a node prepared, and answers memory that is refused as a refusal. A crash takes none.
     fn go_on(&mut self, node: NodeId, change: Change) -> Result<Reply, WorldFault>
         requires inside { node.0 < length self.old.nodes }
         requires ready { IsReadyAt self.old.nodes node change }
@@ -222,7 +222,7 @@ impl World {
         }
     }
 
-    /// Does what a node prepared. All that may want memory comes before what can't be taken back.
+    /// Does what a node prepared. All that takes memory comes before what can't be taken back.
     fn change(&mut self, node: NodeId, change: Change) -> Result<Reply, NoMemory>
         requires inside { node.0 < length self.old.nodes }
         requires ready { IsReadyAt self.old.nodes node change }

@@ -1,4 +1,6 @@
--- The wait of a failover. After OTP's kernel manual, parameter `distributed`: when a node goes down, its applications are restarted elsewhere after their time. (That each controller counts it from its own ticks is this project's own.)
+-- The wait of a failover. After OTP's kernel manual, parameter `distributed`: when a node goes down, its applications
+-- are restarted elsewhere after their time. (That each controller counts it from its own ticks is this project's
+-- own.)
 use Rattle.std.specs.Prelude.{◌≡◌, ◌⊎◌, ℕ, ◌+◌, ◌≤◌, Bool, true, false, ◌&&◌, ◌||◌, ◌==◌, nat_le, List, [], ◌∷◌, ◌++◌, map as list_map, get_or, Option, None, Some, if◌then◌else◌, ⊤, refl}
 use Rattle.std.specs.List.{All}
 use Rattle.std.specs.Option.{option_map, option_map_or, option_and_then}
@@ -33,7 +35,8 @@ abbrev pub IsLostByNewest : List Note → AppId → Claim → Type 0
 IsLostByNewest [] app claim = ⊥
 IsLostByNewest (note ∷ older) app claim = IsLost note.state app claim
 
--- The newest notes are an unbroken row that found the claim lost, and this is the moment of the oldest of the row: the note before it, if any, didn't find it lost.
+-- The newest notes are an unbroken row that found the claim lost, and this is the moment of the oldest of the row.
+-- The note before it, if any, didn't find it lost.
 pub record IsNotedSince (notes : List Note) (app : AppId) (claim : Claim) (since : ℕ) : Type 0 where
   pub row : List Note
   pub begin : Note
@@ -65,7 +68,8 @@ IsDueBy table notes s app now (Takeover n) = ⊤
 IsDueBy table notes s app now (Kept n) = ⊥
 IsDueBy table notes s app now Nobody = ⊥
 
--- What is to become of an application is to be carried out now: whatever but a failover at once, a failover where its lost holder's node is to have it again, or else when its wait is over.
+-- What is to become of an application is to be carried out now. All but a failover is, at once. A failover is at once
+-- where its lost holder's node is to have it again, and else when its wait is over.
 abbrev pub IsDue : Table → List Note → StateValue → AppId → ℕ → Type 0
 IsDue table notes s app now = IsDueBy table notes s app now (verdict_of table s app)
 

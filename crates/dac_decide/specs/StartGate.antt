@@ -1,4 +1,7 @@
--- The start gate. After OTP's kernel manual, parameters `sync_nodes_mandatory`, `sync_nodes_optional` and `sync_nodes_timeout`: a starting node waits for all mandatory and optional nodes. It goes on when all of them are up, or when the time is over and all mandatory ones are up. When the time is over and a mandatory one isn't up, it terminates. Where no time is defined, it doesn't wait.
+-- The start gate. It follows OTP's kernel manual, parameters `sync_nodes_mandatory`, `sync_nodes_optional` and
+-- `sync_nodes_timeout`. A starting node waits for all mandatory and optional nodes. It goes on when all of them are
+-- up, or when the time is over and all mandatory ones are up. When the time is over and a mandatory one isn't up, it
+-- terminates. Where no time is defined, it doesn't wait.
 use Rattle.std.specs.Prelude.{◌≡◌, ◌⊎◌, ℕ, ◌<◌, Bool, IsTrue, not, ◌&&◌, ◌||◌, nat_lt, is_some, if◌then◌else◌, ⊤}
 use Rattle.std.specs.List.{list_all}
 use Rattle.dac_base.specs.declared.NodeId.{NodeId}

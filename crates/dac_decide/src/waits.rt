@@ -63,8 +63,8 @@ impl Waits {
         Ok(Waits { noted })
     }
 
-    /// Notes which claims are lost at this moment. Waits that were made for another configuration stay as
-    /// many as they are. It takes no memory.
+    /// Notes which claims are lost at this moment. Where the configuration isn't the one that the waits were made for,
+    /// their number stays. It takes no memory.
     pub fn note(&mut self, config: &Config, state: &State, now: u64)
         ensures value { (notes : List Note) → self.old ≡ waits_of config.now notes
             → self.new ≡ waits_of config.now (record { state = state.now; moment = now } ∷ notes) }

@@ -1,4 +1,5 @@
--- Aligned blocks of deltas: 2^level of them, at most 256, where the first number is a multiple of 2^level. (That intervals are joined by blocks is this project's own.)
+-- Aligned blocks of deltas: 2^level of them, at most 256, where the first number is a multiple of 2^level. (That
+-- intervals are joined by blocks is this project's own.)
 use Rattle.std.specs.Prelude.{◌≡◌, ℕ, ◌+◌, ◌-◌, ◌%◌, ◌≤◌, ◌^◌, List, [], ◌∷◌}
 
 -- of the blocks that begin at a place, or that end there, and have at most so many deltas, the longest has 2^level

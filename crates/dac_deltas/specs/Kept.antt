@@ -1,4 +1,5 @@
--- What a buffer keeps of a log of deltas, which are numbered from 0. (Delta intervals are after delta-state replicated data types; that 256 are kept is this project's own.)
+-- What a buffer keeps of a log of deltas, which are numbered from 0. (Delta intervals are after delta-state
+-- replicated data types. That 256 are kept is this project's own.)
 use Rattle.std.specs.Prelude.{◌≡◌, ℕ, ◌+◌, ◌-◌, ◌≤◌, List, [], ◌∷◌, ◌++◌, length, drop, fold, min, cond, nat_lt, Option, Some, None}
 use Rattle.std.specs.List.{All}
 use Rattle.dac_base.specs.declared.limits.TheConstants.{MAX_COUNTER}

@@ -89,7 +89,7 @@ impl<L: Lattice> Ending<L> {
         Ok(Ending { delta, joins })
     }
 
-    /// An equal one, with memory of its own. [`NoMemory`] is the only error.
+    /// A copy. [`NoMemory`] is the only error.
     pub(crate) fn copy(&self) -> Result<Self, NoMemory>
         ensures { IfOk result (λ copied. copied ≡ self.now) }
     {

@@ -21,7 +21,7 @@ pub struct Origin {
 pub struct Dot {
     /// Who issued the operation.
     pub origin: Origin,
-    /// How many operations the origin had issued with it.
+    /// Its number among the origin's operations, counted from 1.
     pub n: u64,
 }
 

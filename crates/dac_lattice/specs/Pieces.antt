@@ -20,7 +20,8 @@ pub record AreOperations {A : Type 0} (fits : Dot → A → Type 0) (os : List (
   pub fit : (o : Dot × A) → In o os → fits o.0 o.1
   pub agree : Agree os
 
--- What operations mean is a statement about them all, which holds of one value at most. To add an operation is to join its delta. (Deltas are after delta-state replicated data types.)
+-- What operations mean is a statement about them all, which holds of one value at most. To add an operation is to
+-- join its delta. (Deltas are after delta-state replicated data types.)
 pub record IsPiece {V A : Type 0} (is_value : V → Type 0) (join : V → V → V) (bottom : V) (fits : Dot → A → Type 0) (delta : Dot → A → V) (means : List (Dot × A) → V → Type 0) : Type 0 where
   pub delta_value : (d : Dot) (a : A) → is_value (delta d a)
   pub start : means [] bottom

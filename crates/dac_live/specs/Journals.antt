@@ -49,7 +49,8 @@ call_of place event answer = record { place = place; event = event; answer = ans
 abbrev pub entry_of : Record → Entry
 entry_of r = record { event = r.event; answer = r.answer }
 
--- each answer is that of the definition's step, one after another from where the journal begins, and its node comes to final
+-- each answer is that of the model's step, one after another from where the journal begins, and its node comes to
+-- final
 abbrev pub IsHistoryFrom : Opening → List Record → ModelNode → Type 0
 IsHistoryFrom o rs final = IsHistory o.table o.node (off_after o.last) (map entry_of rs) final
 

@@ -14,7 +14,7 @@ use Rattle.dac_live.specs.Journals.{record_of, call_of}
 abbrev pub Added : List Record → List Record → ℕ → Event → ℕ → Result Reply Refusal → Type 0
 Added old new seat event place answer = (new ≡ old ++ record_of seat event answer ∷ []) × (place ≡ length old + 1)
 
--- a refusal of the node is a record too; want of memory is none
+-- a refusal of the node is a record too; `NoMemory` is none
 abbrev pub AddedRefused : LiveFault → List Record → List Record → ℕ → Event → Type 0
 AddedRefused JournalFull old new seat event = new ≡ old
 AddedRefused (Refused place why) old new seat event = Added old new seat event place (Err why) × (why ≢ WantOfMemory)

@@ -61,7 +61,7 @@ impl Closed {
     /// The records, the oldest first: a history of the node.
     pub fn records(&self) -> &[Record]
         ensures value { result.now ≡ self.now.records }
-        // Each answer is that of the definition's step, one after another from a node that is off.
+        // Each answer is that of the model's step, one after another from a node that is off.
         ensures history { AreHistory self.now.opening self.now.records }
     {
         self.records.as_slice()

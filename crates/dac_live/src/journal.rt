@@ -82,7 +82,7 @@ impl Journal {
     /// The records, the oldest first: a history of the node, of at most [`MAX_RECORDS`] records.
     pub fn records(&self) -> &[Record]
         ensures value { result.now ≡ self.now.records }
-        // Each answer is that of the definition's step, one after another from a node that is off.
+        // Each answer is that of the model's step, one after another from a node that is off.
         ensures history { AreHistory self.now.opening self.now.records }
         ensures few { length self.now.records ≤ MOST }
     {
@@ -170,7 +170,7 @@ fn asked(
     }
 }
 
-// Whether memory is wanting, so that nothing was answered.
+// Whether memory was refused, so that nothing was answered.
 fn is_no_memory(why: Refusal) -> bool
     ensures yes { result ≡ true → why ≡ Refusal.NoMemory }
     ensures no { result ≡ false → why ≢ Refusal.NoMemory }

@@ -43,7 +43,7 @@ pub struct Receipt<L: SiteName> {
 }
 
 impl<L: SiteName> Locked<L> {
-    /// A call of this seat. All that may want memory is made before anything changes.
+    /// A call of this seat. All that takes memory is made before anything changes.
     fn call(&mut self, seat: &mut Seat<L>, event: Event) -> Result<Receipt<L>, LiveFault>
         ensures number { seat.new.number ≡ seat.old.number }
         ensures ok { IfOk result (λ r. Told seat.old.calls seat.new.calls r.place event (Ok r.reply)) }

@@ -1,4 +1,5 @@
--- The parts of a meaning are what its pieces make of the operations: the joined deltas of each piece. So a piece's own definition of what operations mean is that part of their meaning.
+-- The parts of a meaning are what its pieces make of the operations: the joined deltas of each piece. So a piece's
+-- own definition of what operations mean is that part of their meaning.
 use Rattle.std.specs.Prelude.{◌≡◌, List, map as list_map}
 use Rattle.std.specs.FinMap as map
 use Rattle.dac_dots.specs.declared.dot.Dot.{Dot}

@@ -13,7 +13,8 @@ use Rattle.dac_wishes.specs.Writes.{Writes, coded_write}
 use Rattle.dac_wishes.specs.WishesValue.{WishesValue, AreWishes, IsBelow as AreWishesBelow, join_wishes}
 use Rattle.dac_wishes.specs.PermissionsValue.{Permits, PermissionsValue, ArePermissions, IsPermissionsBelow, join_permissions}
 
--- What a controller keeps of the operations that it has heard. (`heard` and what stands are after dot stores and causal contexts of delta-state replicated data types; the rest is this project's own.)
+-- What a controller keeps of the operations that it has heard. (`heard` and what stands are after dot stores and
+-- causal contexts of delta-state replicated data types. The rest is this project's own.)
 pub record StateValue : Type 0 where
   -- the dots of the operations
   pub heard : Dots
@@ -55,7 +56,8 @@ pub record IsState (s : StateValue) : Type 0 where
   pub permits : ArePermissions (permissions_of s)
   pub starts : AreWishes (wishes_of s)
 
--- x is below y: y has heard all that x has, what stands in y and is known to x stands in x with a value that isn't above, and no life and no claim is greater in x. Written without join.
+-- x is below y: y has heard all that x has, and no life and no claim is greater in x. What stands in y and is known
+-- to x stands in x too, with a value that isn't above. This is written without join.
 pub record IsBelow (x y : StateValue) : Type 0 where
   pub heard : IsSubset x.heard y.heard
   pub permits : IsPermissionsBelow (permissions_of x) (permissions_of y)

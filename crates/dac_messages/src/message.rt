@@ -44,7 +44,7 @@ impl Body {
         }
     }
 
-    /// An equal one.
+    /// A copy.
     pub fn copy(&self) -> Result<Self, NoMemory>
         ensures { IfOk result (λ body. body ≡ self.now) }
     {

@@ -20,11 +20,11 @@ use std::marker::Model;
 /// What runs after a change.
 #[derive(Drop)]
 pub(crate) enum After {
-    /// Nothing.
+    /// Nothing: the node is off.
     Off,
-    /// This, which came up.
+    /// A node that came up.
     Boots(Running),
-    /// What ran before, which goes on so.
+    /// What ran before, with these changes.
     GoesOn(Next),
 }
 

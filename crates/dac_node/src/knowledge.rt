@@ -102,7 +102,7 @@ impl Knowledge {
         Ok((knowledge, operation, delta))
     }
 
-    /// An equal one.
+    /// A copy.
     pub(crate) fn copy(&self) -> Result<Self, NoMemory>
         ensures { IfOk result (λ copied. copied ≡ self.now) }
     {

@@ -2,7 +2,7 @@
 //!
 //! A [`Node`] changes by [`Node::step`] alone, one event at a time. A step has two halves. [`Node::prepare`] finds why
 //! the event is refused, or makes what it does, as a [`Change`]. [`Node::apply`] does the change: it first adds to the
-//! newest deltas those that come, which may want memory, and nothing else of it does. So a caller that keeps more than a
+//! newest deltas those that come, which takes memory, and nothing else of it does. So a caller that keeps more than a
 //! node can make room for all of it before anything changes.
 //!
 //! At a tick a node looks after the applications: once its start gate is open it notes which claims are lost, and claims

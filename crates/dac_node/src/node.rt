@@ -63,8 +63,7 @@ impl Node {
     /// A controller that is off and whose last incarnation had this number; 0 for one that never booted.
     pub fn off(alloc: Global, last: u32) -> Self
         ensures value { result ≡ off last }
-        // Under each configuration some node of the definition shows it, so what a step promises of each such node says
-        // something.
+        // Under each configuration some model node shows it, so what a step promises of each such node says something.
         ensures shown { (t : Table) → IsShown t result }
     {
         Node {
@@ -122,7 +121,7 @@ impl Node {
         ensures crash { IfErr result (λ why. event ≡ Event.Crash → why ≡ Refusal.Off) }
         ensures unchanged { OnErr result (self.new ≡ self.old) }
         ensures ok { IfOk result (λ reply. Steps config.now self_id self.old event self.new (Ok reply)) }
-        // A refusal, other than want of memory, is a step too, which changes nothing.
+        // A refusal other than `NoMemory` is a step too, which changes nothing.
         ensures refused { IfErr result (λ why. (why ≡ Refusal.NoMemory → ⊥) → Steps config.now self_id self.old event self.new (Err why)) }
         // A command is answered by the operation that says it: under the next dot, at the key of the live incarnation, in
         // the place of exactly what stands there. A tick is answered by the claims of exactly the applications that are
@@ -133,7 +132,7 @@ impl Node {
         ensures ships { IfOk result (λ reply. ShipsSo config.now self.old event reply) }
         // What it has heard grows by the dots that the event brings, and by no more.
         ensures heard { IfOk result (λ reply. HearsExactly self.old event reply self.new) }
-        // Where some node of the definition shows it, one shows what it becomes.
+        // Where some model node shows it, one shows what it becomes.
         ensures shown { IsShown config.now self.old → IsShown config.now self.new }
     {
         let change = self.prepare(config, self_id, &event)?;
@@ -151,7 +150,7 @@ impl Node {
         }
     }
 
-    /// What an event would do at node `self_id`, or why it is refused. Nothing changes yet. A crash wants no memory.
+    /// What an event would do at node `self_id`, or why it is refused. Nothing changes yet. A crash takes no memory.
     pub fn prepare(
         &self,
         config: &Config,
@@ -211,8 +210,9 @@ impl Node {
         Ok(Change::hear_op(self.last, run, operation)?)
     }
 
-    /// Does what was prepared, and gives the reply. It is a step of the event where this node prepared the change, and has
-    /// been as it is since then. Want of memory is the only error, and leaves all as it was; a node that goes off wants none.
+    /// Does what was prepared, and gives the reply. It is a step of the event where this node prepared the change, and
+    /// has been as it is since then. [`NoMemory`] is the only error, and leaves all as it was. A node that goes off
+    /// takes none.
     pub fn apply(&mut self, change: Change) -> Result<Reply, NoMemory>
         requires { Fits self.old change }
         ensures new { OnOk result (self.new ≡ changed self.old change) }

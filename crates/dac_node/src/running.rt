@@ -80,7 +80,7 @@ impl Running {
         &self.knowledge.state
     }
 
-    /// An equal one.
+    /// A copy.
     pub(crate) fn copy(&self) -> Result<Self, NoMemory>
         ensures { IfOk result (λ copied. copied ≡ self.now) }
     {
@@ -105,7 +105,7 @@ impl Running {
         Ok((Running { knowledge, buffer }, operation))
     }
 
-    /// Goes on so. Only the deltas that come may want memory, and all is as before where it is refused.
+    /// Goes on so. Only the deltas that come take memory, and all is as before where it is refused.
     pub(crate) fn go_on(&mut self, next: Next) -> Result<(), NoMemory>
         requires { self.old.kept.count + length next.deltas ≤ LAST_NUMBER }
         ensures ok { OnOk result (self.new ≡ gone_on next self.old) }

@@ -1,4 +1,5 @@
--- What permits and start wishes have to be so that they can be read: of keys that the configuration has, by dots that are known, and so many that the counts fit their fields.
+-- What permits and start wishes have to be so that they can be read. They are of keys that the configuration has, by
+-- dots that are known, and so many that the counts fit their fields.
 use Rattle.std.specs.Prelude.{◌≡◌, ◌<◌, ◌^◌, true, length, is_some}
 use Rattle.std.specs.FinSet as set
 use Rattle.std.specs.FinMap as map

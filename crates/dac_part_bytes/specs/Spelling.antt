@@ -1,4 +1,5 @@
--- The parts of a state as bytes: permits, start wishes, lives and claims. Numbers are written as in `dac_bytes`, the highest byte first, and one that doesn't fit by its lowest bits.
+-- The parts of a state as bytes: permits, start wishes, lives and claims. Numbers are written as in `dac_bytes`, the
+-- highest byte first, and one that doesn't fit by its lowest bits.
 use Rattle.std.specs.Prelude.{ℕ, ◌+◌, List, ◌++◌, length, Option, None, Some}
 use Rattle.std.specs.List.{flat_map}
 use Rattle.std.specs.FinMap as map

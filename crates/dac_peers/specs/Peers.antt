@@ -1,4 +1,5 @@
--- What a controller keeps of its peers, and from where it ships to them. (After the anti-entropy algorithm for delta intervals of Almeida, Shoker and Baquero. That acknowledgements belong to incarnations is this project's own.)
+-- What a controller keeps of its peers, and from where it ships to them. (After the anti-entropy algorithm for delta
+-- intervals of Almeida, Shoker and Baquero. That acknowledgements belong to incarnations is this project's own.)
 use Rattle.std.specs.Prelude.{ℕ, zero, suc, Bool, false, cond, nat_eq, nat_le, nat_lt, ◌&&◌, min, max, List, [], ◌∷◌, ◌++◌, not, map as list_map, fold, Option, Some, None, unwrap_or, refl}
 use Rattle.std.specs.Option.{option_map, option_and_then}
 use Rattle.std.specs.FinSet as set
@@ -16,7 +17,8 @@ use Rattle.dac_messages.specs.declared.message.Body.{Body}
 use Rattle.dac_messages.specs.declared.message.Body.TheVariants.{Nothing}
 use Rattle.dac_messages.specs.declared.message.Message.{Message}
 
--- Of each incarnation of another node, how many of the own deltas it acknowledged; of each node, the place in its deltas up to which something was got from it last; and the nodes that are owed an answer.
+-- Of each incarnation of another node, how many of the own deltas it acknowledged. Of each node, the place in its
+-- deltas up to which something was got from it last. Beside these, the nodes that are owed an answer.
 pub record PeersValue : Type 0 where
   pub acked : Numbers
   pub got : map.FinMap node_cmp Place

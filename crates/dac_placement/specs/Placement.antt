@@ -1,4 +1,8 @@
--- Where an application runs and where it belongs, read off a configuration and a state. After OTP's Design Principles, chapter Distributed Applications, and application(3): an application is started at the first node of its list that is up, and within a tuple at the one that runs the fewest; when its node goes down it fails over, a stopped one isn't moved, a forbidden one is, and a node of an earlier group takes it over from a later one. (That wishes and permissions are of one incarnation, and that a tie goes by name, is this project's own.)
+-- Where an application runs and where it belongs, read off a configuration and a state. This follows OTP's Design
+-- Principles, chapter Distributed Applications, and application(3). An application is started at the first node of
+-- its list that is up, and within a tuple at the one that runs the fewest. When its node goes down, it fails over. A
+-- stopped application isn't moved, and a forbidden one is. A node of an earlier group takes it over from a later one.
+-- (This project's own: wishes and permissions are of one incarnation, and a tie goes by name.)
 use Rattle.std.specs.Prelude.{◌≡◌, ◌⊎◌, ℕ, ◌<◌, ◌≤◌, Bool, false, not, ◌&&◌, ◌==◌, nat_lt, List, length, map as list_map, filter, Option, None, Some, IsSome, is_some, if◌then◌else◌}
 use Rattle.std.specs.List.{range_with_len, filter_map, reduce}
 use Rattle.std.specs.Option.{option_map, option_map_or, option_and_then}
@@ -115,7 +119,9 @@ is_earlier table app m n = is_less (group_of table app m) (group_of table app n)
 abbrev pub IsPreferred : Table → StateValue → AppId → NodeId → NodeId → Type 0
 IsPreferred table s app n m = (load_of table s app n < load_of table s app m) ⊎ ((load_of table s app n ≡ load_of table s app m) × (n.0 ≤ m.0))
 
--- The first choice is an eligible node. No eligible node is of an earlier group, and of its own group it is preferred to each (OTP: within a tuple, the node with the fewest applications; the tie by name is this project's own).
+-- The first choice is an eligible node. No eligible node is of an earlier group, and of its own group it is preferred
+-- to each. (OTP: within a tuple, the node with the fewest applications. That a tie goes by name is this project's
+-- own.)
 pub record IsFirst (table : Table) (s : StateValue) (app : AppId) (n : NodeId) : Type 0 where
   pub node : n.0 < node_count table
   pub eligible : IsEligible table s app n
@@ -146,7 +152,8 @@ HeldBy s app P = (o : Origin) × (holder_of s app ≡ Some o) × P o
 abbrev pub key_of : AppId → Origin → Key
 key_of app o = key_at app o.node o.inc
 
--- How an application stands at its holder, by what is the matter there first: it has none, this one isn't live, it was stopped there, or it isn't permitted there; otherwise all is well.
+-- How an application stands at its holder, by what is the matter there first. It has no holder, its holder isn't
+-- live, it was stopped there, or it isn't permitted there. Otherwise all is well.
 abbrev pub IsStanding : Table → StateValue → AppId → Standing → Type 0
 IsStanding table s app Unclaimed = holder_of s app ≡ None
 IsStanding table s app Lost = HeldBy s app (λ o. ¬ IsUp s o)
@@ -154,7 +161,9 @@ IsStanding table s app (Stopped n) = HeldBy s app (λ o. (o.node ≡ n) × IsUp 
 IsStanding table s app Barred = HeldBy s app (λ o. IsUp s o × IsStartedAt s (key_of app o) × ¬ IsPermittedAt table s (key_of app o))
 IsStanding table s app (Upheld n) = HeldBy s app (λ o. (o.node ≡ n) × IsUp s o × IsStartedAt s (key_of app o) × IsPermittedAt table s (key_of app o))
 
--- What is to become of the application. It is to be started, to fail over or to be moved at the first choice, where there is one. A stopped one is left alone. Where all is well it is taken over, exactly where an eligible node's group is earlier than the holder's.
+-- What is to become of the application. It is to be started, to fail over or to be moved at the first choice, where
+-- there is one. A stopped one is left alone. Where all is well, it is taken over exactly where an eligible node's
+-- group is earlier than the holder's.
 abbrev pub IsVerdict : Table → StateValue → AppId → Verdict → Type 0
 IsVerdict table s app (Start n) = IsStanding table s app Unclaimed × IsFirst table s app n
 IsVerdict table s app (Failover n) = IsStanding table s app Lost × IsFirst table s app n

@@ -9,7 +9,7 @@ use dac_base::{AppId, NodeId};
 use dac_config::Config;
 use dac_state::{Key, State};
 
-/// How an application stands at its holder, by what is the matter there first.
+/// The first thing wrong at the holder, if any.
 #[derive(Clone, Copy, Debug, PartialEq, Eq)]
 pub(crate) enum Standing {
     /// It has no holder.

@@ -43,7 +43,7 @@ event_plays table old new event answer counts text follows enough operations mes
       p.1.0;
 }
 
--- the same of what may want memory
+-- the same where memory may be refused
 pub event_plays_if : {X E : Type 0} (items : X → List ℕ) (r : Result X E) (table : Table) (old new : WorldValue) (event : WorldEvent) (answer : Result Reply WorldFault) (counts : Counts) → Follows table old (λ w. happens table w event) answer new
     → counts.operations ≡ length new.operations → counts.messages ≡ length new.messages → IfOk r (λ x. items x ≡ answer_text table event answer counts) → OnOk r (answer ≢ out_of_memory)
     → IfOk r (λ x. PlaysLine table old (says.Event event) (items x) new)

@@ -31,7 +31,7 @@ accepts table old new event answer follows enough = record {
       p.1.0;
 }
 
--- the same of what may want memory
+-- the same where memory may be refused
 pub accepts_if : {E : Type 0} (r : Result Bool E) (table : Table) (old new : WorldValue) (event : WorldEvent) (answer : Result Reply WorldFault) → Follows table old (λ w. happens table w event) answer new → IfOk r (λ a. a ≡ is_ok answer) → OnOk r (answer ≢ out_of_memory)
     → IfOk r (λ a. IsAnswered table old event a new)
 accepts_if (Ok a) table old new event answer follows known enough = subst (λ b. IsAnswered table old event b new) (sym known) (accepts table old new event answer follows enough)
@@ -89,7 +89,7 @@ same_having f g (suc n) same =
     ∙ ap₂ (λ l b. l ++ cond b (numbered n ∷ []) []) (same_having f g n (λ k lt. same k (omega arith))) (ap is_some (same n (omega arith)))
     ∙ sym (having_more g n) ∙ ap (having_state g) (add-one n)
 
--- those that run in the program's world run in the definition's
+-- those that run in the program's world run in the model world
 runs_shown : (table : Table) (w : ModelWorld) (v : WorldValue) → Shows table w v → having_state (state_at v) (length v.nodes) ≡ having_state (state_in w) w.count
 runs_shown table w v shows = same_having (state_at v) (state_in w) (length v.nodes) (λ k lt. state_shown table w v (numbered k) shows lt) ∙ ap (having_state (state_in w)) shows.count
 

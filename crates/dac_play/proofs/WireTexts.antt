@@ -13,7 +13,7 @@ use Rattle.dac_play.specs.Texts.{hex_text}
 use Rattle.dac_play.specs.Wires.{wire_ok_text, wire_fault_text, too_long, spelled_text, fed_text}
 
 -- ---- a packet that is written
--- where it isn't, and memory wasn't wanting, its bytes are too many
+-- where it isn't, and memory wasn't refused, its bytes are too many
 too_many : (kind : WireFaultKind) (at count : ℕ) → IsEncodeFault count (record { kind = kind; at = at }) → kind ≢ NoMemory → (kind ≡ TooLong) × (MAX_MESSAGE < count) × (at ≡ MAX_MESSAGE)
 too_many TooLong at count fails known = (refl, fails.0, fails.1)
 too_many NoMemory at count fails known = absurd (known refl)

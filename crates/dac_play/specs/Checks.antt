@@ -19,8 +19,8 @@ pub record IsCanonicalOf (bytes text : List ℕ) : Type 0 where
   pub says : IsConfigOf bytes table
   pub text_is : text ≡ canonical_text table
 
--- Why an input isn't checked. What it says is looked at only where it isn't too long. Of a failed read and of want of
--- memory the input says nothing.
+-- Why an input isn't checked. What it says is looked at only where it isn't too long. Of a failed read, and where
+-- memory is refused, the input says nothing.
 abbrev pub IsUnchecked : List ℕ → Failure → Type 0
 IsUnchecked bytes (failure.Input TooLong) = max_input < length bytes
 IsUnchecked bytes (failure.Input NoScript) = ⊥

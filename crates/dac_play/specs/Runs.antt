@@ -57,7 +57,8 @@ events_in t lines = events_from t (start t) lines
 abbrev pub answers_in : Table → List ScriptLine → List (Result Reply WorldFault)
 answers_in t lines = answers_of t (start t) (events_in t lines)
 
--- The program's world after these lines is where a run from the start comes to by their events, and it converges. No event is answered by want of memory.
+-- The program's world after these lines is where a run from the start comes to by their events, and it converges. No
+-- event is answered by `NoMemory`.
 pub record IsRunOf (t : Table) (lines : List ScriptLine) (v : WorldValue) : Type 0 where
   pub ran : RanAs t (events_in t lines) (answers_in t lines) v
   pub converges : Converges t (events_in t lines) (answers_in t lines) v

@@ -1,4 +1,4 @@
--- What `share` does in the definition's world.
+-- What `share` does in the model world.
 use Rattle.std.specs.Prelude.{◌≡◌, ℕ, Bool, List, length, map, filter, fold, Option, if◌then◌else◌}
 use Rattle.std.specs.List.{range_with_len}
 use Rattle.std.specs.Option.{is_some, option_map}
@@ -14,11 +14,11 @@ use Rattle.dac_rules.specs.ModelNode.{ModelRun, joined}
 use Rattle.dac_worlds.specs.ModelWorld.{ModelWorld, WorldStepped, Shows, happens, numbered}
 use Rattle.dac_play.specs.Pairs.{pairs}
 
--- the state of a node of the definition's world, where it runs
+-- the state of a node of the model world, where it runs
 abbrev pub state_in : ModelWorld → NodeId → Option StateValue
 state_in w node = option_map (λ (r : ModelRun). joined r.log) (w.node node).run
 
--- the present incarnation of a node of the definition's world, where it runs
+-- the present incarnation of a node of the model world, where it runs
 abbrev pub origin_in : ModelWorld → NodeId → Option Origin
 origin_in w node = option_map (λ (r : ModelRun). r.origin) (w.node node).run
 
@@ -49,11 +49,11 @@ told table w pair = delivered table pair.1 (happens table w (shipping pair))
 abbrev pub shared : Table → ModelWorld → ModelWorld
 shared table w = fold (told table) w (pairs (having_state (state_in w) w.count))
 
--- From old, the program's world goes on to new as each of the definition's worlds that shows old does.
+-- From old, the program's world goes on to new as each model world that shows old does.
 pub record Leads (table : Table) (old : WorldValue) (by : ModelWorld → ModelWorld) (new : WorldValue) : Type 0 where
   pub each : (w : ModelWorld) → Shows table w old → Shows table (by w) new
 
--- From old, the program's world accepts this event or refuses it, as each of the definition's worlds that shows
--- old does, and goes on to new.
+-- From old, the program's world accepts this event or refuses it, as each model world that shows old does, and goes
+-- on to new.
 pub record IsAnswered (table : Table) (old : WorldValue) (event : WorldEvent) (accepted : Bool) (new : WorldValue) : Type 0 where
   pub each : (w : ModelWorld) → Shows table w old → (accepted ≡ is_ok (happens table w event).answer) × Shows table (happens table w event).world new

@@ -83,7 +83,7 @@ fn asked_number(what: What) -> u64
     }
 }
 
-/// The line for a fault. Want of memory is no line: it ends the run.
+/// The line for a fault. `NoMemory` is no line: it ends the run.
 fn fault_line(alloc: Global, what: What, fault: WorldFault) -> Result<Vec<u8>, NoMemory>
     ensures text { IfOk result (λ line. line.items ≡ fault_text what fault) }
     ensures enough { OnOk result (fault ≢ WorldFault.Refused Refusal.NoMemory) }

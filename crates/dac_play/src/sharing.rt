@@ -38,7 +38,7 @@ fn running(alloc: Global, config: &Config, world: &World) -> Result<Vec<NodeId>,
     Ok(nodes)
 }
 
-/// Whether an event was accepted. Want of memory is no answer: such an event is no event.
+/// Whether an event was accepted. `NoMemory` is no answer: such an event is no event.
 fn accepted(answer: &Result<Reply, WorldFault>) -> Result<bool, NoMemory>
     ensures known { IfOk result (λ accepted. accepted ≡ is_ok answer.now) }
     ensures enough { OnOk result (answer.now ≢ out_of_memory) }
@@ -81,10 +81,10 @@ fn tell(config: &Config, world: &mut World, pair: (NodeId, NodeId)) -> Result<()
     Ok(())
 }
 
-/// Each node that runs ships to each other one, in the order of their names, and each message is delivered at
-/// once. What a node refuses is passed over.
+/// Each node that runs ships to each other one, in the order of their names. Each message is delivered at
+/// once. Where a node refuses either, the next pair follows.
 ///
-/// [`NoMemory`] ends it; the world is then as after some of the pairs.
+/// [`NoMemory`] ends it; some of the pairs are then done, and the others aren't.
 pub fn share(alloc: Global, config: &Config, world: &mut World) -> Result<(), NoMemory>
     requires { length world.old.nodes ≡ node_count config.now }
     ensures count { length world.new.nodes ≡ length world.old.nodes }

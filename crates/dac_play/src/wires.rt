@@ -21,7 +21,7 @@ pub fn wire_ok_line() -> &'static str
     "wire ok\n"
 }
 
-/// What is wrong with bytes, and where. Want of memory is no line: it ends the run.
+/// What is wrong with bytes, and where. `NoMemory` is no line: it ends the run.
 pub fn wire_fault_line(alloc: Global, fault: WireFault) -> Result<Vec<u8>, NoMemory>
     ensures text { IfOk result (λ line. line.items ≡ wire_fault_text fault) }
     ensures enough { OnOk result (fault.kind ≢ WireFaultKind.NoMemory) }

@@ -27,7 +27,9 @@ use Rattle.dac_messages.specs.declared.reply.Reply.TheVariants.{Crashed, Issued,
 use Rattle.dac_commands.specs.Commands.{next_operation, act_of}
 use Rattle.dac_rules.specs.NodeValue.{RunValue}
 
--- what an event does: its reply, the states that it adds, whether the node goes off by it, the last moment and the gate from then on, whether the lost claims were noted, what is kept of peers from then on, and the number below which no state is kept any more
+-- What an event does: its reply, the states that it adds, and whether the node goes off by it. Then the last moment
+-- and the gate from then on, whether the lost claims were noted, and what is kept of peers. No state below the number
+-- `trim` is kept any more.
 pub record Deed : Type 0 where
   pub reply : Reply
   pub adds : List StateValue

@@ -57,7 +57,8 @@ causes_to_hear r m = (nat_eq m.from.node.0 r.origin.node.0, OnSelf) ∷ (not (is
 abbrev pub refusal_to_hear : RunValue → Message → Option Refusal
 refusal_to_hear r m = first (causes_to_hear r m)
 
--- Why a running node doesn't hear an operation that comes by itself, if it doesn't. It is taken to need a number whatever it adds: whether it adds anything can't be told where memory is refused.
+-- Why a running node doesn't hear an operation that comes by itself, if it doesn't. It is taken to need a number
+-- whatever it adds: whether it adds anything can't be told where memory is refused.
 abbrev pub refusal_to_hear_op : RunValue → Option Refusal
 refusal_to_hear_op r = first ((too_many_deltas r 1, DotsUsedUp) ∷ [])
 

@@ -1,4 +1,5 @@
--- The definition's node. It keeps each state that it issued or heard since it booted, and each note that its ticks made; the program keeps their join, the newest of them and the waits alone.
+-- The model node: each state that it issued or heard since it booted, and each note that its ticks made. The program
+-- keeps their join, the newest of them and the waits alone.
 use Rattle.std.specs.Prelude.{ℕ, ◌-◌, min, max, Bool, List, Option, fold}
 use Rattle.std.specs.Option.{option_map}
 use Rattle.dac_dots.specs.declared.dot.Origin.{Origin}
@@ -10,7 +11,10 @@ use Rattle.dac_decide.specs.FailoverWait.{Note, waits_of}
 use Rattle.dac_rules.specs.declared.moments.Moments.{Moments}
 use Rattle.dac_rules.specs.NodeValue.{NodeValue, RunValue}
 
--- A node that runs: its present incarnation, when it was booted and ticked last, and whether its start gate is open; the notes of its ticks, newest first; and each state that it issued or heard, oldest first. Neither list is ever cut. The base is the number of the first state from which an interval may begin; beside it stands what is kept of peers.
+-- A node that runs: its present incarnation, when it was booted and ticked last, and whether its start gate is open.
+-- It keeps the notes of its ticks, newest first, and each state that it issued or heard, oldest first. Neither list
+-- is ever cut. The base is the number of the first state from which an interval may begin. Beside it stands what is
+-- kept of peers.
 pub record ModelRun : Type 0 where
   pub origin : Origin
   pub moments : Moments

@@ -1,4 +1,5 @@
--- Why an event is refused, in words: which causes an event can have, when each holds, and that the least of those that hold is answered. (The causes and their order are this project's own.)
+-- Why an event is refused, in words: which causes an event can have, when each holds, and that the least of those
+-- that hold is answered. (The causes and their order are this project's own.)
 use Rattle.std.specs.Prelude.{◌≡◌, ◌⊎◌, ℕ, ◌+◌, ◌-◌, ◌^◌, ◌<◌, ◌≤◌, true, false, List, [], ◌∷◌, length, Option, None, Some, IfSome}
 use Rattle.std.specs.Option.{option_map}
 use Rattle.std.specs.FinSet as set
@@ -29,7 +30,7 @@ use Rattle.dac_rules.specs.NodeValue.{NodeValue, RunValue}
 use Rattle.dac_rules.specs.EventRefusals.{needed, refusal_of}
 use Rattle.dac_rules.specs.Shipping.{IsPlace}
 
--- ---- which causes an event can have, beside want of memory
+-- ---- which causes an event can have, beside running out of memory
 
 abbrev pub causes_of_command : Command → List Refusal
 causes_of_command (Down node) = Off ∷ DeclaredDown ∷ UnknownNode ∷ OnSelf ∷ NotLive ∷ DotsUsedUp ∷ []
@@ -118,7 +119,9 @@ LeavesFewer dots own count = (n : ℕ) × (((n ≡ 0) ⊎ (set.contains dots (do
 abbrev pub LacksNumbers : RunValue → ℕ → Type 0
 LacksNumbers r more = MAX_COUNTER < r.kept.count + more
 
--- The counters or the numbers of deltas that are left are too few. A tick is taken to need one for each application and one at least, whatever it does; a command needs one, and an operation that comes by itself is taken to need a number; what a message brings needs one where it is added.
+-- The counters or the numbers of deltas that are left are too few. A tick is taken to need one for each application
+-- and one at least, whatever it does. A command needs one. An operation that comes by itself is taken to need a
+-- number. What a message brings needs one where it is added.
 abbrev pub Lacks : Table → RunValue → Event → Type 0
 Lacks t r (Told c) = IsUsedUp r.state.known r.origin ⊎ LacksNumbers r 1
 Lacks t r (Tick now) = LeavesFewer r.state.known r.origin (needed t) ⊎ LacksNumbers r (needed t)
@@ -179,7 +182,7 @@ IsFree t v e = NoneHolds (Holds t v e) (causes_of_event e)
 abbrev pub IsRefused : Table → NodeValue → Event → Refusal → Type 0
 IsRefused t v e why = IsLeastOf (Holds t v e) (causes_of_event e) why
 
--- the least cause is answered where one holds, and want of memory only where none does
+-- the least cause is answered where one holds, and `NoMemory` only where none does
 abbrev pub IsAnsweredBy : Table → NodeValue → Event → Refusal → Type 0
 IsAnsweredBy t v e why = IsRefused t v e why ⊎ ((why ≡ NoMemory) × IsFree t v e)
 
@@ -191,6 +194,6 @@ AnswersTheLeast = (t : Table) (v : NodeValue) (e : Event) (why : Refusal) → re
 abbrev pub RefusesNoOther : Type 0
 RefusesNoOther = (t : Table) (v : NodeValue) (e : Event) → refusal_of t v e ≡ None → IsFree t v e
 
--- want of memory is no cause of the table
+-- running out of memory is no cause of the table
 abbrev pub NeverWantsMemory : Type 0
 NeverWantsMemory = (t : Table) (v : NodeValue) (e : Event) → ¬ (refusal_of t v e ≡ Some NoMemory)

@@ -1,4 +1,4 @@
--- What is shipped, in words and by the definition's log.
+-- What is shipped, in words and by the log of the model node.
 use Rattle.std.specs.Prelude.{◌≡◌, ℕ, ◌<◌, ◌≤◌, drop, length, Option, None, Some, Ok}
 use Rattle.std.specs.FinMap as map
 use Rattle.dac_base.specs.declared.NodeId.{NodeId}
@@ -17,7 +17,8 @@ use Rattle.dac_rules.specs.NodeValue.{NodeValue, RunValue}
 use Rattle.dac_rules.specs.Step.{model_step}
 use Rattle.dac_rules.specs.ModelNode.{ModelNode, ModelRun, joined, run_shown, shown}
 
--- The place is that from which an interval for a node may begin: the incarnation is that of the node's greatest life, it acknowledged the number, and nothing from there on is dropped.
+-- The place is that from which an interval for a node may begin. The incarnation is that of the node's greatest life,
+-- it acknowledged the number, and nothing from there on is dropped.
 pub record IsPlace (r : RunValue) (to : NodeId) (p : Place) : Type 0 where
   pub life : Life
   pub lives : map.get r.state.lives to ≡ Some life
@@ -25,7 +26,8 @@ pub record IsPlace (r : RunValue) (to : NodeId) (p : Place) : Type 0 where
   pub acked : map.get r.peers.acked (record { node = to; inc = p.inc }) ≡ Some p.number
   pub kept : r.kept.base ≤ p.number
 
--- The whole state, for any incarnation, exactly where there is no such place. Else, for the incarnation of the place alone, what the log got from the place on, or nothing where the log ends there.
+-- The whole state, for any incarnation, exactly where there is no such place. Else the body is for the incarnation of
+-- the place alone. It is what the log got from the place on, or nothing where the log ends there.
 abbrev pub IsBody : Table → ModelRun → NodeId → Option ℕ → Body → Type 0
 IsBody t r to only (Whole s) = (only ≡ None) × ((s ≡ joined r.log) × ((p : Place) → ¬ IsPlace (run_shown t r) to p))
 IsBody t r to only (Interval s) = (p : Place) × (IsPlace (run_shown t r) to p × ((only ≡ Some p.inc) × ((p.number < length r.log) × (s ≡ joined (drop p.number r.log)))))
@@ -51,10 +53,10 @@ ShipsBy t (Some r) (Ship to) _ = ⊥
 ShipsBy t None (Ship to) reply = ⊥
 ShipsBy t run e reply = Unit {0}
 
--- so it is by each of the definition's nodes that shows the value
+-- so it is by each model node that shows the value
 abbrev pub ShipsSo : Table → NodeValue → Event → Reply → Type 0
 ShipsSo t old e reply = (d : ModelNode) → shown t d ≡ old → ShipsBy t d.run e reply
 
--- whatever the definition's node answers to a ship that it accepts is such a message
+-- whatever the model node answers to a ship that it accepts is such a message
 abbrev pub ShipsInWords : Type 0
 ShipsInWords = (t : Table) (me : NodeId) (d : ModelNode) (e : Event) (reply : Reply) → (model_step t me d e).answer ≡ Ok reply → ShipsBy t d.run e reply

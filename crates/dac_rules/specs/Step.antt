@@ -1,4 +1,4 @@
--- The step of the definition's node.
+-- The step of the model node.
 use Rattle.std.specs.Prelude.{◌≡◌, ℕ, ◌+◌, false, cond, [], ◌∷◌, ◌++◌, length, Option, Some, None, Result, Ok, Err}
 use Rattle.dac_base.specs.declared.NodeId.{NodeId}
 use Rattle.dac_dots.specs.declared.dot.Origin.{Origin}
@@ -38,7 +38,7 @@ goes_on r note deed = cond deed.goes_off None (Some (record {
   peers = deed.peers;
 }))
 
--- what an accepted event does at a running node of the definition
+-- what an accepted event does at a running model node
 abbrev pub deed_on : Table → ModelRun → Event → Deed
 deed_on t r e = deed_of t (run_shown t r) (waits_of t (note_of (joined r.log) e ∷ r.notes)) e
 
@@ -61,10 +61,10 @@ step_by None t me d e = accepted t me d.last d.run e
 abbrev pub model_step : Table → NodeId → ModelNode → Event → Stepped
 model_step t me d e = step_by (refusal_of t (shown t d) e) t me d e
 
--- From old, the program's node answers and goes on to new as each of the definition's nodes that shows old.
+-- From old, the program's node answers and goes on to new as each model node that shows old.
 pub record Steps (t : Table) (me : NodeId) (old : NodeValue) (e : Event) (new : NodeValue) (answer : Result Reply Refusal) : Type 0 where
   pub by : (d : ModelNode) → shown t d ≡ old → (shown t (model_step t me d e).node ≡ new) × ((model_step t me d e).answer ≡ answer)
 
--- some node of the definition shows the value
+-- some model node shows the value
 abbrev pub IsShown : Table → NodeValue → Type 0
 IsShown t v = (d : ModelNode) × (shown t d ≡ v)

@@ -22,7 +22,9 @@ use Rattle.dac_rules.specs.Refused.{Running, Some! }
 abbrev pub IsAsked : Table → RunValue → ℕ → Opening → Type 0
 IsAsked t r now opening = (r.is_open ≡ false) × IsOpening t r.state (now - r.moments.booted) opening
 
--- What an accepted tick of a running node does. Where the gate is open or opens now, it claims what is to be claimed now by the notes of its ticks, this one among them, application by application. Where it is shut the tick does nothing, and where it gives up the node goes down.
+-- What an accepted tick of a running node does. Where the gate is open or opens now, it claims what is to be claimed
+-- now, application by application. It goes by the notes of its ticks, this one among them. Where the gate is shut,
+-- the tick does nothing. Where it gives up, the node goes down.
 abbrev pub TicksSo : Table → RunValue → ℕ → Reply → Type 0
 TicksSo t r now (Ticked ops passed) =
     ((r.is_open ≡ true) ⊎ IsAsked t r now Opened)
@@ -31,7 +33,8 @@ TicksSo t r now Held = IsAsked t r now Shut
 TicksSo t r now GaveUp = IsAsked t r now GiveUp
 TicksSo t r now _ = ⊥
 
--- A boot of node me is answered by the first operation of the incarnation after the last, an Up; a command by the operation that says it; and a tick by its claims.
+-- A boot of node me is answered by the first operation of the incarnation after the last, an Up. A command is
+-- answered by the operation that says it, and a tick by its claims.
 abbrev pub Writes : Table → NodeId → NodeValue → Event → Reply → Type 0
 Writes t me v (Boot now) (Booted o) = (o.dot ≡ dot (record { node = me; inc = v.last + 1 }) 1) × (o.act ≡ Up)
 Writes t me v (Boot now) _ = ⊥

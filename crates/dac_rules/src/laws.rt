@@ -3,8 +3,8 @@ ghost use Rattle.dac_rules.specs.Refused.{AnswersTheLeast, RefusesNoOther, Never
 ghost use Rattle.dac_rules.specs.Again.{SecondTickClaimsNothing};
 ghost use Rattle.dac_rules.specs.Shipping.{ShipsInWords};
 
-/// The table of causes answers, of the causes that the event can have and that hold in words, the one with the
-/// least number; it lets an event through only where none of them holds; and it never answers want of memory.
+/// The table of causes answers, of the causes that the event can have and that hold in words, the one with the least
+/// number. It lets an event through only where none of them holds, and it never answers `NoMemory`.
 pub fn refusals_in_words()
     ensures least { AnswersTheLeast }
     ensures free { RefusesNoOther }

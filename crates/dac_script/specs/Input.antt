@@ -46,7 +46,7 @@ pub record Takes {T E : Type 0} (had left : Option (List ℕ)) (room : ℕ) (old
   pub few : length bytes ≤ room
   pub kept : OnOk result (new ≡ old ++ bytes)
 
--- why an input of at most so many bytes isn't read to its end: it is too long, a read failed, or want of memory
+-- why an input of at most so many bytes isn't read to its end: it is too long, a read failed, or memory is refused
 abbrev pub IsReadFailure : ℕ → Option (List ℕ) → Failure → Type 0
 IsReadFailure most had (failure.Input TooLong) = IfSome had (λ bytes. most < length bytes)
 IsReadFailure most had (failure.Input NoScript) = ⊥

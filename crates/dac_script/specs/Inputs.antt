@@ -36,7 +36,8 @@ pub record HasScriptFault (text : List ℕ) (fault : ScriptFault) : Type 0 where
   pub table_is : IsConfigOf config table
   pub fault_is : IsFirstFault table (lines_of script) fault
 
--- why the parts of a text aren't read: it has only one, its configuration or its script has a fault, or want of memory
+-- why the parts of a text aren't read: it has only one, its configuration or its script has a fault, or memory is
+-- refused
 abbrev pub IsPartsFailure : List ℕ → Failure → Type 0
 IsPartsFailure text (failure.Input TooLong) = ⊥
 IsPartsFailure text (failure.Input NoScript) = All (λ line. line ≢ mark) (lines_of text)
@@ -50,8 +51,8 @@ pub record Says (bytes : List ℕ) (table : Table) (lines : List ScriptLine) : T
   pub taken : IsTaken bytes
   pub parts : HasParts bytes table lines
 
--- Why an input isn't read. What it says is looked at only where it isn't too long. Of a failed read and of want of
--- memory the input says nothing.
+-- Why an input isn't read. What it says is looked at only where it isn't too long. Of a failed read, and where memory
+-- is refused, the input says nothing.
 abbrev pub IsFailureOf : List ℕ → Failure → Type 0
 IsFailureOf bytes (failure.Input TooLong) = max_input < length bytes
 IsFailureOf bytes (failure.Input NoScript) = IsTaken bytes × All (λ line. line ≢ mark) (lines_of bytes)

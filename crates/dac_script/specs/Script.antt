@@ -44,14 +44,14 @@ pub record IsFirstFault (table : Table) (lines : List (List ℕ)) (fault : Scrip
   pub answered : line_in table line ≡ Err fault.kind
   pub least : IsLeast (HasFault table (words_of line)) fault.kind
 
--- why a script isn't read: its first fault, or want of memory
+-- why a script isn't read: its first fault, or `NoMemory`
 abbrev pub IsScriptFailure : Table → List (List ℕ) → Failure → Type 0
 IsScriptFailure table lines (failure.Input fault) = ⊥
 IsScriptFailure table lines (failure.Config fault) = ⊥
 IsScriptFailure table lines (failure.Script fault) = IsFirstFault table lines fault
 IsScriptFailure table lines failure.NoMemory = Unit {0}
 
--- why the line of this number isn't read: its fault, or want of memory
+-- why the line of this number isn't read: its fault, or `NoMemory`
 abbrev pub IsLineFailure : Table → ℕ → List ℕ → Failure → Type 0
 IsLineFailure table number line (failure.Input fault) = ⊥
 IsLineFailure table number line (failure.Config fault) = ⊥

@@ -1,4 +1,5 @@
--- Rounds over the sets of operations that nodes hold, whatever placement is: what is used of it stands in `IsPlacement`. In a round each running node ticks, and what is delivered is a copy that was shipped in the round.
+-- Rounds over the sets of operations that nodes hold, whatever placement is: what is used of it stands in
+-- `IsPlacement`. In a round each running node ticks, and what is delivered is a copy that was shipped in the round.
 use Rattle.std.specs.Prelude.{◌≡◌, ◌⊎◌, ℕ, cond, nat_eq, List, [], ◌∷◌, ◌++◌, Option, Some, None, IsSome}
 use Rattle.std.proofs.Common.{zero, suc}
 use Rattle.dac_base.specs.declared.NodeId.{NodeId}

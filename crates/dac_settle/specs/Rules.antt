@@ -1,4 +1,5 @@
--- The rule of verdicts that settling is of, and a rule that it refuses: an application is taken over inside a tuple too, where another node of its holder's group runs fewer.
+-- The rule of verdicts that settling is of, and a rule that it refuses. By that one an application is taken over
+-- inside a tuple too, where another node of its holder's group runs fewer.
 use Rattle.std.specs.Prelude.{ℕ, Bool, false, ◌&&◌, ◌==◌, nat_lt, Option, Some, if◌then◌else◌}
 use Rattle.std.specs.Option.{option_map_or}
 use Rattle.dac_base.specs.declared.NodeId.{NodeId}

@@ -1,4 +1,6 @@
--- Settling: where all running controllers know the same and go on to tick, each application soon has its place. In a round each running controller ticks, and they share what they know. (Rounds are this project's own; nothing says that they happen.)
+-- Settling: where all running controllers know the same and go on to tick, each application soon has its place. In a
+-- round each running controller ticks, and they share what they know. (Rounds are this project's own; nothing says
+-- that they happen.)
 use Rattle.std.specs.Prelude.{◌≡◌, ◌⊎◌, ℕ, ◌+◌, ◌<◌, ◌≤◌, cond, nat_eq, List, [], ◌∷◌, ◌++◌, Option, Some, IsSome}
 use Rattle.std.proofs.Common.{zero, suc}
 use Rattle.dac_base.specs.declared.NodeId.{NodeId}
@@ -118,7 +120,8 @@ IsSettled (Takeover n) = ⊥
 IsSettled (Kept n) = Unit {0}
 IsSettled Nobody = Unit {0}
 
--- As many rounds as there are applications, begun in a ready world, settle each application at each running node. By the rule it is kept, halted, or no node may run it.
+-- As many rounds as there are applications, begun in a ready world, settle each application at each running node. By
+-- the rule it is kept, halted, or no node may run it.
 abbrev pub RoundsSettleBy : (Table → StateValue → AppId → Verdict) → Type 0
 RoundsSettleBy rule = (t : Table) (node final : NodeId → Option Member) → IsReady node → Rounds t (app_count t) node final
     → (m : NodeId) (d : Member) → final m ≡ Some d → (app : AppId) → app.0 < app_count t → IsSettled (rule t (meaning_of d.held) app)

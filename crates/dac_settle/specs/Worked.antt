@@ -66,7 +66,8 @@ worked_nodes n = cond (nat_eq n.0 0) (Some worked_member) (cond (nat_eq n.0 1) (
 
 -- ---- what is so of it
 
--- Rounds can be. The nodes are ready, the application isn't settled, and there are as many rounds as applications. After them both nodes still run, and it is settled at each.
+-- Rounds can be. The nodes are ready, the application isn't settled, and there are as many rounds as applications.
+-- After them both nodes still run, and it is settled at each.
 pub record RoundsCanBe : Type 0 where
   pub ready : IsReady worked_nodes
   pub unsettled : ¬ IsSettled (verdict_of worked_table (meaning_of worked_set) the_app)

@@ -1,4 +1,4 @@
--- A worked run of the definition's world: a node comes up, and its tick is a round.
+-- A worked run of the model world: a node comes up, and its tick is a round.
 use Rattle.std.specs.Prelude.{List, [], ◌∷◌, IsSome, Result}
 use Rattle.dac_config.specs.Table.{app_count}
 use Rattle.dac_events.specs.declared.WorldEvent.{WorldEvent}
@@ -29,7 +29,8 @@ up_world = world_after worked_table (start worked_table) coming_up up_answers
 abbrev pub up_sets : SetWorld
 up_sets = set_run no_sets coming_up up_answers
 
--- Runs can end in rounds: the definition's world answers so, it is ready after the boot, with a node that runs, and the tick is as many rounds as there are applications.
+-- Runs can end in rounds, and the model world answers so. It is ready after the boot, with a node that runs. The tick
+-- is as many rounds as there are applications.
 pub record RunsCanEnd : Type 0 where
   pub answered : AnsweredAs worked_table (start worked_table) coming_up up_answers
   pub ready : IsReadyWorld up_world up_sets

@@ -1,4 +1,4 @@
--- Ready worlds and rounds, of the definition's world beside the world of sets.
+-- Ready worlds and rounds, of the model world beside the world of sets.
 use Rattle.std.specs.Prelude.{◌≡◌, ◌⊎◌, ℕ, ◌<◌, List, [], ◌∷◌, ◌++◌, length, Option, Some, None, IsSome, Result, Ok, Err}
 use Rattle.std.proofs.Common.{zero, suc}
 use Rattle.dac_base.specs.declared.NodeId.{NodeId}
@@ -47,7 +47,9 @@ abbrev pub IsSince : ℕ → What → Type 0
 IsSince before (Deliver k) = before < k
 IsSince before _ = ⊥
 
--- What may be accepted in a round before which so much was shipped: a tick, a ship, and a delivery of what was shipped in the round. The tick comes when all that was noted has waited its time, and it passes no application. Whatever is refused may come.
+-- What may be accepted in a round before which so much was shipped. It is a tick, a ship, or a delivery of what was
+-- shipped in the round. The tick comes when all that was noted has waited its time, and it passes no application.
+-- Whatever is refused may come.
 abbrev pub InRound : Table → ℕ → ModelWorld → NodeId → What → Result Reply WorldFault → Type 0
 InRound t before w n what (Err why) = Unit {0}
 InRound t before w n what (Ok (Ticked ops passed)) = (passed ≡ []) × IsLateBy t (w.node n).run what

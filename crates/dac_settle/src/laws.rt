@@ -11,7 +11,7 @@ ghost use Rattle.dac_worlds.specs.ModelWorld.{InEachRun};
 /// application at each running controller. It is kept, halted, or no node may run it.
 pub fn rounds_settle()
     ensures members { RoundsSettle }
-    // The same of every run of the definition's world that ends in such rounds.
+    // The same of every run of the model world that ends in such rounds.
     ensures runs { InEachRun Settles }
 {}
 
@@ -19,7 +19,7 @@ pub fn rounds_settle()
 pub fn rounds_can_be()
     // Two nodes are ready, and a round settles their application.
     ensures members { RoundsCanBe }
-    // The world of the definition is ready once a node has come up, and its tick is a round.
+    // The model world is ready once a node has come up, and its tick is a round.
     ensures runs { RunsCanEnd }
 {}
 

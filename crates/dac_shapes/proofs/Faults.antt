@@ -17,17 +17,17 @@ or_memory _ at P Q f h = f h
 pub fails_too : {A B : Type 0} (e : ConfigFault) (r : Result A ConfigFault) (q : Result B ConfigFault) → (r ≡ Err e → q ≡ Err e) → Fails e r → Fails e q
 fails_too e r q f h = or_memory e.kind e.at _ _ f h
 
--- a claim about a fault that is no want of memory
+-- a claim about a fault that isn't `NoMemory`
 pub unless_memory : (k : FaultKind) (at : ℕ) (P : Type 0) → OrMemory k at P → UnlessMemory k P
 unless_memory NoMemory at P h = tt
 unless_memory _ at P h = h
 
--- want of memory stands at 0
+-- `NoMemory` stands at 0
 pub at_start : (k : FaultKind) (at : ℕ) (P : Type 0) → k ≡ NoMemory → OrMemory k at P → at ≡ 0
 at_start NoMemory at P e h = h
 at_start _ at P e h = absurd cc
 
--- a token's own fault is no want of memory
+-- a token's own fault isn't `NoMemory`
 of_token : (k : FaultKind) (at : ℕ) (P Q : Type 0) → IsTokenFault k → (P → Q) → UnlessMemory k P → OrMemory k at Q
 of_token BadToken at P Q is f h = f h
 of_token Unsupported at P Q is f h = f h

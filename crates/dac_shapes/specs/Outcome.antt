@@ -4,12 +4,12 @@ use Rattle.dac_tokens.specs.declared.fault.FaultKind.{FaultKind}
 use Rattle.dac_tokens.specs.declared.fault.FaultKind.TheVariants.{NoMemory}
 use Rattle.dac_tokens.specs.declared.fault.ConfigFault.{ConfigFault}
 
--- want of memory stands at 0 and says nothing of the text; of any other fault, a claim
+-- `NoMemory` stands at 0 and says nothing of the text; of any other fault, a claim
 abbrev pub OrMemory : FaultKind → ℕ → Type 0 → Type 0
 OrMemory NoMemory at P = at ≡ 0
 OrMemory _ at P = P
 
--- reading has this fault, unless it is want of memory
+-- reading has this fault, unless it is `NoMemory`
 abbrev pub Fails : {Y : Type 0} → ConfigFault → Result Y ConfigFault → Type 0
 Fails e read = OrMemory e.kind e.at (read ≡ Err e)
 

@@ -1,4 +1,5 @@
--- What a controller knows, in short: how much it has heard, the life of each node, and for each application who holds it, what is to become of it, and how each node stands for it. (This project's own.)
+-- What a controller knows, in short: how much it has heard, and the life of each node. Of each application: who holds
+-- it, what is to become of it, and how each node stands for it. (This project's own.)
 use Rattle.std.specs.Prelude.{ℕ, ◌-◌, not, List, ◌++◌, length, map as list_map, replicate, Option, None, Some, if◌then◌else◌}
 use Rattle.std.specs.FinSet as set
 use Rattle.std.specs.FinMap as map
@@ -22,7 +23,8 @@ placed places blank items = items ++ replicate (places - length items) blank
 
 -- ---- marks
 
--- What keeps an application from a node, by the first that does: the node isn't live, the application is not permitted there, or it wasn't started there. Where nothing does, all is well.
+-- What keeps an application from a node, by the first that does. The node isn't live, the application isn't permitted
+-- there, or it wasn't started there. Where nothing does, all is well.
 abbrev pub IsMark : Table → StateValue → AppId → NodeId → Mark → Type 0
 IsMark table s app node Down = (inc : ℕ) → ¬ IsLive s.lives node inc
 IsMark table s app node Barred = (inc : ℕ) × IsLive s.lives node inc × ¬ IsPermittedAt table s (key_at app node inc)

@@ -44,7 +44,9 @@ pub record IsClaimOf (own : Origin) (s : StateValue) (app : AppId) (verdict : Ve
   pub comes : ComesBy s app verdict how from
   pub claims : IsNextClaim s app how from o.act
 
--- Of these applications in turn exactly those are claimed that are the node's to claim and whose terms aren't used up, and exactly those passed that are and whose are; each claim is heard before the next application is looked at.
+-- Of these applications in turn, exactly those are claimed that are the node's to claim and whose terms aren't used
+-- up. Exactly those are passed that are the node's to claim and whose terms are used up. Each claim is heard before
+-- the next application is looked at.
 abbrev pub IsTurn : Table → Origin → List Note → ℕ → StateValue → List AppId → List Operation → List AppId → Type 0
 IsTurn t own notes now s [] ops passed = (ops ≡ []) × (passed ≡ [])
 IsTurn t own notes now s (app ∷ apps) ops passed =

@@ -33,7 +33,8 @@ so_far first p = record { ops = p.ops.items; passed = p.passed.items; state = un
 abbrev pub IsSparing : Progress → Type 0
 IsSparing p = MatchOption p.left (p.ops.items ≡ []) (λ after. ¬ (p.ops.items ≡ []))
 
--- What is answered is the turn of a tick that began with this state. There is a state in it exactly where something was claimed, and it is the one that the turn leaves.
+-- What is answered is the turn of a tick that began with this state. There is a state in it exactly where something
+-- was claimed, and it is the one that the turn leaves.
 pub record IsMade (first : StateValue) (turn : Turn) (made : Made) : Type 0 where
   pub ops : made.ops ≡ turn.ops
   pub passed : made.passed ≡ turn.passed

@@ -1,4 +1,6 @@
--- What a tick claims: the applications of the configuration in the order of its file, each on the state that the claims before it left. (OTP starts, restarts and moves distributed applications as soon as nodes come and go; that a controller looks after them at its ticks is this project's own.)
+-- What a tick claims: the applications of the configuration in the order of its file, each on the state that the
+-- claims before it left. (OTP starts, restarts and moves distributed applications as soon as nodes come and go. That
+-- a controller looks after them at its ticks is this project's own.)
 use Rattle.std.specs.Prelude.{ℕ, Bool, false, ◌&&◌, ◌==◌, List, [], ◌∷◌, ◌++◌, Option, None, fold, if◌then◌else◌}
 use Rattle.std.specs.Option.{option_map, option_map_or}
 use Rattle.dac_base.specs.declared.NodeId.{NodeId}

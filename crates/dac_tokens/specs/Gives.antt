@@ -15,12 +15,12 @@ abbrev pub Reads : {X Y : Type 0} → (X → Y) → Result X ConfigFault → Res
 Reads view (Ok x) read = read ≡ Ok (view x)
 Reads view (Err e) read = read ≡ Err e
 
--- a claim about any kind of fault but want of memory
+-- a claim about any kind of fault but `NoMemory`
 abbrev pub UnlessMemory : FaultKind → Type 0 → Type 0
 UnlessMemory NoMemory P = Unit {0}
 UnlessMemory _ P = P
 
--- reading has this fault, unless it is want of memory, which says nothing of the text
+-- reading has this fault, unless it is `NoMemory`, which says nothing of the text
 abbrev pub Fails : {Y : Type 0} → ConfigFault → Result Y ConfigFault → Type 0
 Fails e read = UnlessMemory e.kind (read ≡ Err e)
 

@@ -18,7 +18,7 @@ use Rattle.dac_wire.specs.Spelling.{spelling_of}
 use Rattle.dac_wire.specs.laws.Fronts.{IsReal, front_real}
 use Rattle.dac_wire.specs.laws.PacketLaws.{packet_found, packet_again}
 
--- what isn't want of memory is the fault that reading gives
+-- what isn't `NoMemory` is the fault that reading gives
 fails_with : {X : Type 0} (kind : WireFaultKind) (e : WireFault) (read : Result X WireFault) → ¬ (kind ≡ NoMemory) → read ≡ Err e → Fails kind e read
 fails_with TooLong e read real h = h
 fails_with BadMagic e read real h = h

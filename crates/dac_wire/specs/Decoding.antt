@@ -17,7 +17,8 @@ use Rattle.dac_wire.specs.Spelling.{magic, version, preamble_bytes}
 abbrev pub wrong : WireFaultKind → ℕ → Option WireFault
 wrong kind at = Some (record { kind = kind; at = at })
 
--- What is wrong with the front of the bytes, the first that holds: they are too many; they don't begin with the name of the format, or not with its version; the mark isn't whole, or another.
+-- What is wrong with the front of the bytes, the first that holds. They are too many. They don't begin with the name
+-- of the format, or not with its version. The mark isn't whole, or it is another.
 unfoldable pub front_fault : Table → List ℕ → Option WireFault
 front_fault t bytes =
     if nat_lt MAX_MESSAGE (length bytes) then wrong TooLong MAX_MESSAGE

@@ -57,7 +57,7 @@ abbrev pub in_packet : {X : Type 0} → Result X ReadFault → Result X WireFaul
 in_packet (Ok x) = Ok x
 in_packet (Err e) = Err (fault_of_field e)
 
--- A fault is the one that reading gives, unless it is want of memory, which stands at 0 and says nothing of the bytes.
+-- A fault is the one that reading gives, unless it is `NoMemory`, which stands at 0 and says nothing of the bytes.
 abbrev pub Fails : {X : Type 0} → WireFaultKind → WireFault → Result X WireFault → Type 0
 Fails NoMemory e read = e.at ≡ 0
 Fails _ e read = read ≡ Err e

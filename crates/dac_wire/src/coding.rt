@@ -109,9 +109,9 @@ fn spell(alloc: Global, config: &Config, packet: &Packet) -> Result<Vec<u8>, NoM
 
 /// The bytes of a packet under a configuration, version 1. Equal packets have equal bytes.
 ///
-/// More than 4,194,304 bytes are `TooLong` at 4,194,304, and want of memory is `NoMemory` at 0; there is no other
-/// fault. All bytes are written before they are counted, so a packet that is too long may want memory first. A count
-/// that doesn't fit its field is written by its lowest bits.
+/// More than 4,194,304 bytes are `TooLong` at 4,194,304, and memory that is refused is `NoMemory` at 0. There is no
+/// other fault. All bytes are written before they are counted, so memory may be refused for a packet that is too long.
+/// A count that doesn't fit its field is written by its lowest bits.
 pub fn encode(alloc: Global, config: &Config, packet: &Packet) -> Result<Vec<u8>, WireFault>
     ensures ok { IfOk result (λ bytes. (bytes.items ≡ spelling_of config.now packet.now) × (length bytes.items ≤ MAX_MESSAGE)) }
     ensures err { IfErr result (λ fault. IsEncodeFault (length (spelling_of config.now packet.now)) fault) }

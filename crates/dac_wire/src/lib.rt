@@ -7,7 +7,7 @@
 //!
 //! A packet has one spelling under a configuration. [`decode`] answers a packet exactly for the spelling of one
 //! whose names, list places, numbers, orders and counts are those that its bytes can say. For any other bytes it
-//! answers the first fault from left to right, with its byte. Want of memory stands at 0, and says nothing of the
+//! answers the first fault from left to right, with its byte. `NoMemory` stands at 0, and says nothing of the
 //! bytes. No count makes a reader take memory that the bytes don't pay for.
 #![tactic(auto)]
 

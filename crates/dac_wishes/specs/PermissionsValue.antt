@@ -1,4 +1,5 @@
--- What permissions are: the permits that stand, with their values, beside the dots that are known. Equal parts are equal values. A permission's true is Up, and its false Down.
+-- What permissions are: the permits that stand, with their values, beside the dots that are known. Equal parts are
+-- equal values. A permission's true is Up, and its false Down.
 use Rattle.std.specs.Prelude.{◌≡◌, ◌⊎◌, Bool, true, false, ◌||◌, List, filter, map as list_map, Option, None, Some, is_some, if◌then◌else◌, refl}
 use Rattle.std.proofs.Common.{sym, ap, subst, ◌∙◌, inl, inr}
 use Rattle.std.specs.List.{list_all}

@@ -21,7 +21,7 @@ pub record HearsAt (old : WorldValue) (node : NodeId) (e : Event) (reply : Reply
 abbrev pub HearsIn : WorldValue → WorldEvent → Reply → WorldValue → Type 0
 HearsIn old w reply new = (e : Event) → event_of old.operations old.messages w.what ≡ Ok e → HearsAt old w.node e reply new
 
--- the node's event happens as in the definition's worlds, and the node hears what it brings
+-- the node's event happens as in the model worlds, and the node hears what it brings
 pub record HappensAt (t : Table) (old : WorldValue) (node : NodeId) (what : Result Event WorldFault) (answer : Result Reply WorldFault) (new : WorldValue) : Type 0 where
   pub follows : Follows t old (λ w. happens_by t w node what) answer new
   pub hears : (reply : Reply) → answer ≡ Ok reply → (e : Event) → what ≡ Ok e → HearsAt old node e reply new

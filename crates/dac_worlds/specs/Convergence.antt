@@ -34,7 +34,8 @@ heard_among heard os = filter (λ (o : Operation). set.contains heard o.dot) os
 pub record EachIsMeaning (v : WorldValue) : Type 0 where
   pub each : (n : ℕ) (s : StateValue) → RunsWith v n s → s ≡ meaning_of (heard_among s.heard v.operations)
 
--- two states are alike: they are equal, so are their bytes, and under each configuration they name the same holder of each application and the same next candidate
+-- Two states are alike: they are equal, and so are their bytes. Under each configuration they name the same holder of
+-- each application and the same next candidate.
 pub record Alike (s u : StateValue) : Type 0 where
   pub states : s ≡ u
   pub bytes : spelling_of s ≡ spelling_of u

@@ -28,11 +28,13 @@ pub record Converges (t : Table) (events : List WorldEvent) (answers : List (Res
   pub listed : ListsAll v (set_run no_sets events answers)
   -- each shipped message carries the meaning of a set of issued operations
   pub bodies : CarryMeanings v
-  -- Each shipped message puts a copy of its sender's whole set on its way. Each delivery unites the receiver's set with all of the copy, whatever part of it the message carries.
+  -- Each shipped message puts a copy of its sender's whole set on its way. Each delivery unites the receiver's set
+  -- with all of the copy, whatever part of it the message carries.
   pub unite : AllUnite no_sets events answers
   -- each answer to what was heard tells whether it brought a dot that the controller hadn't heard
   pub news : AnswersNews no_sets events answers
-  -- what comes to a running controller is heard, a message shipped to it or an issued operation, unless memory is wanting or its numbers of deltas are used up
+  -- What comes to a running controller is heard, unless memory is refused or its numbers of deltas are used up. What
+  -- comes is a message shipped to it, or an issued operation.
   pub heard : HearsAllThatFits no_sets no_deltas events answers
   -- each ship that isn't refused is answered by a message to the node that it names
   pub addressed : AreAddressed events answers

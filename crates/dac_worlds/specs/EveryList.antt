@@ -1,4 +1,4 @@
--- The definition's own run of a list of events, where memory is never wanting, and what it leaves.
+-- The model's run of a list of events, where memory is never refused, and what it leaves.
 use Rattle.std.specs.Prelude.{◌≡◌, List, [], ◌∷◌, map, Result}
 use Rattle.std.specs.List.{AllByRecursion, range_with_len}
 use Rattle.dac_config.specs.Table.{Table}
@@ -31,7 +31,7 @@ shown_world t w = record {
   messages = w.messages;
 }
 
--- memory was never wanting
+-- memory was never refused
 abbrev pub IsEnough : List (Result Reply WorldFault) → Type 0
 IsEnough answers = AllByRecursion (λ (answer : Result Reply WorldFault). ¬ (answer ≡ out_of_memory)) answers
 
@@ -39,10 +39,10 @@ IsEnough answers = AllByRecursion (λ (answer : Result Reply WorldFault). ¬ (an
 abbrev pub OfEachList : (Table → List WorldEvent → List (Result Reply WorldFault) → WorldValue → Type 0) → Type 0
 OfEachList P = (t : Table) (events : List WorldEvent) → P t events (answers_of t (start t) events) (shown_world t (model_run t events))
 
--- the definition's own run of each list is a run
+-- the model's run of each list is a run
 abbrev pub RunsEachList : Type 0
 RunsEachList = (t : Table) (events : List WorldEvent) → Run t (start t) events (answers_of t (start t) events) (model_run t events)
 
--- each world of the definition is shown
+-- each model world is shown
 abbrev pub IsShownWorld : Type 0
 IsShownWorld = (t : Table) (w : ModelWorld) → Shows t w (shown_world t w)

@@ -1,4 +1,5 @@
--- That what comes to a running node is heard: a copy that reaches its addressee and an operation that is handed are refused only where memory or numbers of deltas are wanting.
+-- That what comes to a running node is heard: a copy that reaches its addressee, and an operation that is handed.
+-- Each is refused only where memory is refused or the numbers of deltas are used up.
 use Rattle.std.specs.Prelude.{◌≡◌, ◌⊎◌, ◌≤◌, ℕ, ◌+◌, nat_eq, cond, Bool, List, [], ◌∷◌, length, Some, Result, Ok, Err}
 use Rattle.dac_base.specs.declared.limits.TheConstants.{MAX_COUNTER}
 use Rattle.dac_base.specs.declared.NodeId.{NodeId}
@@ -36,7 +37,8 @@ Fits w n _ = ⊥
 abbrev pub IsHeard : Result Reply WorldFault → Type 0
 IsHeard a = (fresh : Bool) × (a ≡ Ok (Heard fresh))
 
--- How many deltas a node has after an answer, if it had so many before. A boot begins with one. Each operation that is issued is one more, and so is what is heard if it brings anything new.
+-- How many deltas a node has after an answer, if it had so many before. A boot begins with one. Each operation that
+-- is issued is one more, and so is what is heard if it brings anything new.
 abbrev pub deltas_after : ℕ → Result Reply WorldFault → ℕ
 deltas_after before (Err fault) = before
 deltas_after before (Ok (Booted o)) = 1
@@ -55,7 +57,7 @@ no_deltas n = 0
 abbrev pub IsFull : ℕ → Result Reply WorldFault → Type 0
 IsFull deltas a = (a ≡ Err (Refused DotsUsedUp)) × (MAX_COUNTER ≤ deltas)
 
--- what fits a running node is heard, unless memory is wanting or its numbers of deltas are used up
+-- what fits a running node is heard, unless memory is refused or its numbers of deltas are used up
 abbrev pub HearsWhatFits : SetWorld → (NodeId → ℕ) → WorldEvent → Result Reply WorldFault → Type 0
 HearsWhatFits w deltas e a = RunsIn w e.node → Fits w e.node e.what → IsHeard a ⊎ ((a ≡ out_of_memory) ⊎ IsFull (deltas e.node) a)
 

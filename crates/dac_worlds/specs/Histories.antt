@@ -8,7 +8,7 @@ use Rattle.dac_commands.specs.declared.refusal.Refusal.{Refusal}
 use Rattle.dac_rules.specs.ModelNode.{ModelNode}
 use Rattle.dac_rules.specs.Step.{model_step}
 
--- a node of the definition that is off after so many incarnations
+-- a model node that is off after so many incarnations
 abbrev pub off_after : ℕ → ModelNode
 off_after last = record { last = last; run = None }
 

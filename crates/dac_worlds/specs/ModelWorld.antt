@@ -1,4 +1,4 @@
--- The definition's world: each node, what was issued and what was shipped, and its runs.
+-- The model world: each node, what was issued and what was shipped, and its runs.
 use Rattle.std.specs.Prelude.{◌≡◌, ℕ, ◌-◌, cond, nat_eq, nat_lt, List, [], ◌∷◌, ◌++◌, length, Option, Some, None, Result, Ok, Err, IsOk, ◌⊎◌}
 use Rattle.std.specs.List.{slice_get}
 use Rattle.dac_base.specs.declared.NodeId.{NodeId}
@@ -105,7 +105,7 @@ abbrev pub happens : Table → ModelWorld → WorldEvent → WorldStepped
 happens t w e = cond (nat_lt e.node.0 w.count) (happens_by t w e.node (event_of w.operations w.messages e.what)) (record { world = w; answer = Err NoSuchNode })
 
 -- ---- runs
--- the answer for want of memory
+-- the answer where memory is refused
 abbrev pub out_of_memory : Result Reply WorldFault
 out_of_memory = Err (Refused NoMemory)
 
@@ -114,7 +114,7 @@ pub record Done (by : WorldStepped) (answer : Result Reply WorldFault) (next : M
   pub answered : answer ≡ by.answer
   pub went_on : next ≡ by.world
 
--- memory was wanting for an event that would have been accepted: it is no event. A crash wants none.
+-- Memory was refused for an event that would have been accepted: it is no event. A crash takes none.
 pub record Lacked (w : ModelWorld) (by : WorldStepped) (answer : Result Reply WorldFault) (next : ModelWorld) : Type 0 where
   pub answered : answer ≡ out_of_memory
   pub accepted : IsOk by.answer
@@ -125,16 +125,16 @@ pub record Lacked (w : ModelWorld) (by : WorldStepped) (answer : Result Reply Wo
 abbrev pub Step : ModelWorld → WorldStepped → Result Reply WorldFault → ModelWorld → Type 0
 Step w by answer next = Done by answer next ⊎ Lacked w by answer next
 
--- memory may be wanting for an event that would have been accepted and is no crash
+-- memory may be refused for an event that would have been accepted and is no crash
 pub record MayLack (by : WorldStepped) : Type 0 where
   pub accepted : IsOk by.answer
   pub wants : by.answer ≡ Ok Crashed → ⊥
 
--- the answer is that of the rules, or want of memory
+-- the answer is that of the rules, or `NoMemory`
 abbrev pub IsAnswer : WorldStepped → Result Reply WorldFault → Type 0
 IsAnswer by answer = (answer ≡ by.answer) ⊎ ((answer ≡ out_of_memory) × MayLack by)
 
--- the world after an event with this answer: as before where memory was wanting, else as the rules say
+-- the world after an event with this answer: as before where memory was refused, else as the rules say
 abbrev pub went : Table → ModelWorld → WorldEvent → Result Reply WorldFault → ModelWorld
 went t w e (Err (Refused NoMemory)) = w
 went t w e _ = (happens t w e).world
@@ -156,12 +156,12 @@ AnsweredAs t w (e ∷ es) (a ∷ answers) = IsAnswer (happens t w e) a × Answer
 abbrev pub Run : Table → ModelWorld → List WorldEvent → List (Result Reply WorldFault) → ModelWorld → Type 0
 Run t w es answers final = AnsweredAs t w es answers × (final ≡ world_after t w es answers)
 
--- From old, the program's world answers and goes on to new as each of the definition's worlds that shows old may.
+-- From old, the program's world answers and goes on to new as each model world that shows old may.
 pub record Follows (t : Table) (old : WorldValue) (by : ModelWorld → WorldStepped) (answer : Result Reply WorldFault) (new : WorldValue) : Type 0 where
   pub each : (w : ModelWorld) → Shows t w old → (next : ModelWorld) × (Step w (by w) answer next × Shows t next new)
 
--- The program's world answered these events so, one after another from the start, and is where the
--- definition's world comes to by them.
+-- The program's world answered these events so, one after another from the start, and is where the model world comes
+-- to by them.
 pub record RanAs (t : Table) (events : List WorldEvent) (answers : List (Result Reply WorldFault)) (v : WorldValue) : Type 0 where
   pub final : ModelWorld
   pub run : Run t (start t) events answers final

@@ -79,7 +79,7 @@ fn second_call(calls: Calls) -> Option<Call> {
     }
 }
 
-/// Where these calls and the records of a seat first differ; the outer `None` for want of memory.
+/// Where these calls and the records of a seat first differ; the outer `None` where memory is refused.
 fn differ(alloc: Global, seat: u16, calls: Calls) -> Option<Option<u64>> {
     let records = three_records(alloc)?;
     let mut list = Vec::new(alloc);

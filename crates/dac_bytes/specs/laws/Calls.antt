@@ -11,7 +11,7 @@ use Rattle.dac_bytes.specs.Takes.{Takes, TakesAs, Again, IsFoundAs, IsReadAgain,
 abbrev given : {A : Type 0} → A → Result A ReadFault
 given x = Ok x
 
--- a fault where something can be read is want of memory, whatever can be read
+-- a fault where something can be read is `NoMemory`, whatever can be read
 pub no_fault : {A B : Type 0} (kind : ReadFaultKind) (e : ReadFault) (x : A) (y : B) → Fails kind e (given x) → Fails kind e (given y)
 no_fault kind e x y h = Fails-on kind e (given x) (given y) h (λ bad. absurd cc)
 

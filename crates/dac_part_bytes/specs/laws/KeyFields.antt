@@ -1,4 +1,5 @@
--- The laws of the fields of permits and start wishes: keys, dots that are known, and permits. What is read is spelled so and in form, and what is in form is read from its spelling.
+-- The laws of the fields of permits and start wishes: keys, dots that are known, and permits. What is read is spelled
+-- so and in form, and what is in form is read from its spelling.
 use Rattle.std.specs.Prelude.{◌≡◌, ℕ, zero, suc, ◌^◌, ◌<◌, ◌≤◌, true, ◌++◌, Option, refl}
 use Rattle.std.specs.Int.{w8}
 use Rattle.std.specs.FinSet as set

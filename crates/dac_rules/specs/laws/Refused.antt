@@ -274,6 +274,6 @@ answered_by t v e why (Some least) some is = inl (subst (IsRefused t v e) (sym i
 pub answered_is : (t : Table) (v : NodeValue) (e : Event) (why : Refusal) → why ≡ unwrap_or (refusal_of t v e) NoMemory → IsAnsweredBy t v e why
 answered_is t v e why is = answered_by t v e why (refusal_of t v e) refl is
 
--- the table never answers want of memory
+-- the table never answers `NoMemory`
 pub never_memory : NeverWantsMemory
 never_memory t v e is = (refused_is t v e NoMemory is).holds

@@ -1,4 +1,4 @@
--- What an accepted ship answers is what the definition's log says.
+-- What an accepted ship answers is what the log of the model node says.
 use Rattle.std.proofs.Common.{◌≡◌, ◌≤◌, ℕ, ◌+◌, ◌-◌, Bool, true, false, cond, drop, length, Option, Some, None, Ok, refl, sym, ap, subst, ◌∙◌, arith, drop-drop}
 use Rattle.std.specs.Prelude.{fold, nat_le}
 use Rattle.std.specs.Option.{option_map}
@@ -80,6 +80,6 @@ by_run t me last None (HearOp o) reply is = tt
 pub ships_in_words : ShipsInWords
 ships_in_words t me d e reply is = by_run t me d.last d.run e reply is
 
--- so does each of the definition's nodes that shows a value, where the value is accepted so
+-- so does each model node that shows a value, where the value is accepted so
 pub ships_so : (t : Table) (me : NodeId) (old : NodeValue) (e : Event) (new : NodeValue) (reply : Reply) → AcceptedAs t me old e new reply → ShipsSo t old e reply
 ships_so t me old e new reply p d same = ships_in_words t me d e reply ((steps t me old e new reply p).by d same).1

@@ -1,4 +1,4 @@
--- The definition's node and what it shows.
+-- The model node and what it shows.
 use Rattle.std.proofs.Common.{◌≡◌, ℕ, ◌-◌, Bool, true, false, cond, List, ◌∷◌, ◌++◌, length, Option, Some, None, Ok, Err, refl, sym, ap, subst, ◌∙◌, arith, true≢false}
 use Rattle.std.specs.Prelude.{fold, max, unwrap_or, IfSome}
 use Rattle.std.specs.Option.{option_map}
@@ -68,7 +68,7 @@ same_deed t r n m e same =
       | false ↦ λ h. (quiet_deed t r n m e h, quiet_run r n m (deed_of t r n e) h ∙ ap (run_by r m) (quiet_deed t r n m e h))
     ] refl
 
--- ---- what the definition's node shows after a deed
+-- ---- what the model node shows after a deed
 
 -- the deltas that are kept after some more and a trim are those of the log
 kept-after : (base : ℕ) (log adds : List StateValue) (trim : ℕ) → AreNewest (kept_of base log) → kept_of (base_after base (length (log ++ adds)) trim) (log ++ adds) ≡ trimmed (fold pushed (kept_of base log) adds) trim
@@ -79,7 +79,7 @@ kept-after base log adds trim newest =
     sym (ap (λ k. trimmed k trim) (pushes_append_all base log adds (omega arith) (omega arith)) ∙ trims_move_the_base (max base (length (log ++ adds) - 256)) (log ++ adds) trim)
 
 module _ (t : Table) (r : ModelRun) (newest : AreNewest (kept_of r.base r.log)) (note : Note) (last : ℕ) (is_open : Bool) (adds : List StateValue) (peers : PeersValue) (trim : ℕ) where
-  -- the definition's node with these notes
+  -- the model node with these notes
   abbrev later : List Note → ModelRun
   later notes = record { origin = r.origin; moments = record { booted = r.moments.booted; last = last }; is_open = is_open; notes = notes; log = r.log ++ adds; base = base_after r.base (length (r.log ++ adds)) trim; peers = peers }
 
@@ -125,7 +125,7 @@ answer_accepted t me last (Some r) noted e newest noting = ap (λ (deed : Deed).
 pub step_accepted : (t : Table) (me : NodeId) (d : ModelNode) (e : Event) → refusal_of t (shown t d) e ≡ None → model_step t me d e ≡ accepted t me d.last d.run e
 step_accepted t me d e none = ap (λ r. step_by r t me d e) none
 
--- a value that is accepted so is a step of each of the definition's nodes that shows the old one
+-- a value that is accepted so is a step of each model node that shows the old one
 pub steps : (t : Table) (me : NodeId) (old : NodeValue) (e : Event) (new : NodeValue) (reply : Reply) → AcceptedAs t me old e new reply → Steps t me old e new (Ok reply)
 steps t me old e new reply p = record { by = λ d same. subst (λ v. AcceptedAs t me v e new reply → (shown t (model_step t me d e).node ≡ new) × ((model_step t me d e).answer ≡ Ok reply)) same (from d) p }
   where
@@ -144,7 +144,7 @@ refused_steps t me v e why is = record {
       (ap (λ (s : Stepped). shown t s.node) st ∙ same, ap (λ (s : Stepped). s.answer) st);
 }
 
--- so is one that is answered by another cause than want of memory
+-- so is one that is answered by another cause than `NoMemory`
 pub answered_steps : (t : Table) (me : NodeId) (v : NodeValue) (e : Event) (why : Refusal) → why ≡ unwrap_or (refusal_of t v e) NoMemory → (why ≡ NoMemory → ⊥) → Steps t me v e v (Err why)
 answered_steps t me v e why is other = by_refusal (refusal_of t v e) refl is
   where

@@ -1,4 +1,7 @@
--- Each round settles one application more, where one is left. What a node holds in a round is the common set of its beginning with claims that are well made beside it. Such a claim settles its application for good. The candidate of an unsettled application runs and ticks. It knows such a claim by then, or makes one, since what it knows otherwise is the common set itself.
+-- Each round settles one application more, where one is left. What a node holds in a round is the common set of its
+-- beginning with claims that are well made beside it. Such a claim settles its application for good. The candidate of
+-- an unsettled application runs and ticks. It knows such a claim by then, or makes one, since what it knows otherwise
+-- is the common set itself.
 use Rattle.std.proofs.Common.{◌≡◌, ◌⊎◌, ℕ, ◌+◌, ◌<◌, ◌≤◌, Bool, true, false, cond, List, [], ◌∷◌, ◌++◌, length, Option, Some, None, zero, suc, refl, sym, ap, subst, ◌∙◌, arith, inl, inr, append_assoc, append-nil}
 use Rattle.std.specs.Prelude.{IsSome, nat_eq}
 use Rattle.std.specs.Option.{is_some}

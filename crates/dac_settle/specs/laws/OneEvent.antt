@@ -1,4 +1,4 @@
--- What settling sees of one event of the definition's world: a tick, a ship or a delivery of a member, or nothing.
+-- What settling sees of one event of the model world: a tick, a ship or a delivery of a member, or nothing.
 use Rattle.std.proofs.Common.{◌≡◌, ℕ, ◌-◌, ◌<◌, ◌≤◌, Bool, true, false, not, cond, List, [], ◌∷◌, ◌++◌, length, drop, map as list_map, Option, Some, None, Ok, Err, nat_eq, zero, suc, refl, sym, ap, subst, ◌∙◌, arith, inl, inr}
 use Rattle.std.specs.Prelude.{nat_lt}
 use Rattle.std.specs.Option.{option_map}

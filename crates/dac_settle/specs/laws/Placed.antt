@@ -49,7 +49,8 @@ term_after c = option_map_or (λ (x : Claim). x.term) c 0 + 1
 
 -- ---- placement by verdicts
 
--- Beside s, the operation is the next claim of the application, which isn't settled in s. Its node is live at its incarnation and eligible, and no eligible node is of an earlier group.
+-- Beside s, the operation is the next claim of the application, which isn't settled in s. Its node is live at its
+-- incarnation and eligible, and no eligible node is of an earlier group.
 pub record IsGood (t : Table) (s : List Operation) (app : AppId) (o : Operation) : Type 0 where
   pub open_app : IsSome (candidate_of (verdict_of t (meaning_of s) app))
   pub claim : Claim

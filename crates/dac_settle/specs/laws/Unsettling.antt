@@ -1,4 +1,6 @@
--- A takeover inside a tuple unsettles: a runs at the first of two nodes of a tuple, and no other runs. Then b is claimed at the first node, where alone it may run. So fewer run at the second, and it is to take a over.
+-- A takeover inside a tuple unsettles. The application a runs at the first of two nodes of a tuple, and no other
+-- runs. Then b is claimed at the first node, where alone it may run. So fewer run at the second, and it is to take a
+-- over.
 use Rattle.std.proofs.Common.{◌≡◌, ℕ, ◌<◌, Bool, true, false, cond, ◌&&◌, List, [], ◌∷◌, ◌++◌, length, Option, Some, None, option_map, refl, sym, ap, subst, ◌∙◌, arith, inl, inr}
 use Rattle.std.specs.Prelude.{nat_eq, nat_lt, IsSome, ◌==◌}
 use Rattle.std.specs.Option.{is_some, option_map_or}

@@ -1,4 +1,4 @@
--- Rounds of the definition's world are rounds of its members, so they settle all.
+-- Rounds of the model world are rounds of its members, so they settle all.
 use Rattle.std.proofs.Common.{◌≡◌, ℕ, ◌<◌, ◌≤◌, true, List, [], ◌∷◌, ◌++◌, length, Option, Some, None, Ok, zero, suc, refl, sym, subst, ◌∙◌, arith, inl, inr, length-append, le_refl}
 use Rattle.std.specs.Option.{is_some, option_map}
 use Rattle.dac_base.specs.declared.NodeId.{NodeId}

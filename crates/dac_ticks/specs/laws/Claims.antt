@@ -1,4 +1,5 @@
--- What a turn issues: each claim is the next operation of its incarnation in the state that those before it left, and the state that all of them leave is the first one with what each means.
+-- What a turn issues. Each claim is the next operation of its incarnation in the state that those before it left. The
+-- state that all of them leave is the first one with what each means.
 use Rattle.std.proofs.Common.{◌≡◌, ℕ, ◌+◌, ◌≤◌, false, List, [], ◌∷◌, ◌++◌, Option, length, refl, sym, ap, subst, ◌∙◌, arith, suc, append-nil, append_assoc}
 use Rattle.std.specs.Prelude.{◌<◌, nat_le, map as list_map, fold}
 use Rattle.std.proofs.lemmas.Bool.{false_from_ne_true, leb-true}

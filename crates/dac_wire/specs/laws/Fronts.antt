@@ -61,7 +61,7 @@ table : (long named versioned short marked : Bool) → Option WireFault
 table long named versioned short marked =
     cond long (wrong TooLong MAX_MESSAGE) (cond (not named) (wrong BadMagic 0) (cond (not versioned) (wrong BadVersion 3) (cond short (wrong Short 4) (cond (not marked) (wrong OtherConfig 4) None))))
 
--- a fault that isn't want of memory
+-- a fault that isn't `NoMemory`
 abbrev pub IsReal : Option WireFault → Type 0
 IsReal None = Unit {0}
 IsReal (Some e) = ¬ (e.kind ≡ NoMemory)
@@ -85,7 +85,7 @@ table_none false true true false false h = absurd cc
 table_none false true true false true h = (refl, refl, refl)
 
 module _ (t : Table) (bytes : List ℕ) where
-  -- what is wrong with a front isn't want of memory
+  -- what is wrong with a front isn't `NoMemory`
   pub front_real : IsReal (front_fault t bytes)
   unfolding front_fault table u8_bytes
   front_real = table_real (nat_lt MAX_MESSAGE (length bytes)) (starts_with nat_eq bytes name) (starts_with nat_eq bytes name_and_version) (nat_lt (length bytes) 12) (starts_with nat_eq bytes (preamble_bytes t))

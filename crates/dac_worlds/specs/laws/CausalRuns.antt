@@ -241,7 +241,7 @@ causal_step : (t : Table) (w : ModelWorld) (s : SetWorld) (e : WorldEvent) (a : 
 causal_step t w s e a next h c (inl d) unhanded = subst (λ x. IsNoHanding e.what x → Causal (set_step s e.node e.what x)) (sym d.answered) (causal_happens t w s e h c (sound_happens t w s e h)) unhanded
 causal_step t w s e a next h c (inr l) unhanded = subst (λ x. Causal (set_step s e.node e.what x)) (sym l.answered) c
 
--- after every run of the definition's world in which nothing is handed
+-- after every run of the model world in which nothing is handed
 pub causal_run : (t : Table) (w : ModelWorld) (s : SetWorld) (es : List WorldEvent) (answers : List Answer) (final : ModelWorld) → Sound w s → Causal s → Run t w es answers final → HandsNothing es answers → Causal (set_run s es answers)
 causal_run t w s [] answers final h c r unhanded = c
 causal_run t w s (e ∷ es) [] final h c r unhanded = c

@@ -1,4 +1,5 @@
--- What a node has of another's log. A node is seen with its last incarnation, its set where it runs, and the sets that the states of its log mean, the oldest first.
+-- What a node has of another's log. A node is seen with its last incarnation, its set where it runs, and the sets
+-- that the states of its log mean, the oldest first.
 use Rattle.std.proofs.Common.{◌≡◌, ℕ, ◌<◌, ◌≤◌, ◌⊎◌, true, false, inl, inr, List, [], ◌++◌, length, take, max, Option, Some, refl, sym, ap, subst, ◌∙◌, append-nil, le_trans, le_refl, arith, leb, leb-true, leb-false}
 use Rattle.std.proofs.lemmas.List.{take-append-le, length-append}
 use Rattle.dac_operations.specs.Operations.{Operation}

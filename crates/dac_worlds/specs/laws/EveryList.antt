@@ -1,4 +1,4 @@
--- The definition's own run of a list is a run, and what every run leaves holds of it.
+-- The model's run of a list is a run, and what every run leaves holds of it.
 use Rattle.std.proofs.Common.{◌≡◌, ℕ, ◌<◌, ◌≤◌, true, false, cond, List, [], ◌∷◌, map, Some, None, inl, refl, sym, ap, subst, ◌∙◌, arith, ltb-true, ltb-false}
 use Rattle.std.specs.Prelude.{nat_lt}
 use Rattle.std.specs.List.{slice_get, range_with_len}
@@ -14,7 +14,7 @@ use Rattle.dac_worlds.specs.laws.Memory.{enough_memory}
 use Rattle.dac_worlds.specs.laws.Runs.{run_from_first}
 use Rattle.dac_worlds.specs.laws.Headline.{converged}
 
--- ---- the definition's own
+-- ---- the model's run
 pub own_run : (t : Table) (w : ModelWorld) (es : List WorldEvent) → Run t w es (answers_of t w es) (run_from t w es)
 own_run t w [] = (tt, refl)
 own_run t w (e ∷ es) =

@@ -1,4 +1,4 @@
--- How the program's world follows the definition's worlds that it shows.
+-- How the program's world follows the model worlds that it shows.
 use Rattle.std.proofs.Common.{◌≡◌, ℕ, ◌<◌, ◌-◌, Bool, true, false, cond, inl, inr, List, ◌∷◌, ◌++◌, Option, Some, None, Result, Ok, Err, length, nat_eq, refl, sym, ap, subst, ◌∙◌, lt-ltb, eq-eqb, get_or, true≢false}
 use Rattle.std.specs.Prelude.{nat_lt, unwrap_or, IsOk, IfOk, IfErr, IfSome, OnErr}
 use Rattle.std.specs.Option.{option_map}
@@ -84,7 +84,7 @@ crash_goes_off t me old e new own p is = ap (λ (x : NodeValue). x.run) p.left �
     by_run last (Some r) (Tick now) h = absurd (tick_stays (opening_at t r now) t r p.noted now (ap (λ x. Ok x) h))
     by_run last (Some r) _ h = cc
 
--- memory was wanting for an event that isn't refused and is no crash
+-- memory was refused for an event that isn't refused and is no crash
 lacked_follows : (t : Table) (v : WorldValue) (me : NodeId) (e : Event) (old : NodeValue) → Here v me old → refusal_of t old e ≡ None → (e ≡ Crash → ⊥) → Follows t v (λ w. happens_by t w me (Ok e)) out_of_memory v
 lacked_follows t v me e old here none stays = record {
   each = λ w h.
@@ -192,7 +192,7 @@ counted_there xs k x some lt read =
     ap (λ b. cond b None (slice_get xs (k - 1))) (false_from_ne_true (nat_eq k 0) (λ e. some (exact_unsigned_eq k 0 e)))
     ∙ slice_get_read xs (length xs) (k - 1) x refl lt read
 
--- what comes of a prepared change: all of it, or want of memory and nothing
+-- what comes of a prepared change: all of it, or `NoMemory` and nothing
 gone_follows : (t : Table) (v u : WorldValue) (me : NodeId) (e : Event) (old : NodeValue) (become : NodeValue → NodeValue) (own : Reply) (answer : Result Reply WorldFault) → Here v me old → AcceptedAs t me old e (become old) own →
     IfOk answer (λ reply. Goes v me become own reply u) → IfErr answer (λ fault. Err fault ≡ out_of_memory) → IfErr answer (λ _. own ≡ Crashed → ⊥) → OnErr answer (u ≡ v) → Follows t v (λ w. happens_by t w me (Ok e)) answer u
 gone_follows t v u me e old become own (Ok reply) here p goes lacked stays same = ok_follows t v u me e old become own reply here p goes

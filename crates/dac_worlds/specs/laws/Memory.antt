@@ -1,4 +1,4 @@
--- The definition's world never answers that memory is wanting.
+-- The model world never answers `NoMemory`.
 use Rattle.std.proofs.Common.{◌≡◌, true, false, cond, List, Option, Some, None, Result, Ok, Err, refl, ap, ◌∙◌}
 use Rattle.std.specs.Prelude.{nat_lt}
 use Rattle.dac_base.specs.declared.NodeId.{NodeId}
@@ -23,7 +23,7 @@ use Rattle.dac_worlds.specs.ModelWorld.{ModelWorld, happens, happens_by, answere
 abbrev Answer : Type 0
 Answer = Result Reply WorldFault
 
--- the answer isn't want of memory
+-- the answer isn't `NoMemory`
 abbrev Enough : Answer → Type 0
 Enough a = a ≡ out_of_memory → ⊥
 

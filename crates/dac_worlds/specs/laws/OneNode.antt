@@ -1,6 +1,6 @@
--- One node of the definition's world beside the set that it holds: what holds of the two together after
--- every event. A running node's state is the meaning of its set, and what makes dots new is kept: it holds
--- all that its present incarnation issued, and no operation is of a later incarnation of it than the last.
+-- One node of the model world beside the set that it holds: what holds of the two together after every event. A
+-- running node's state is the meaning of its set, and what makes dots new is kept. It holds all that its present
+-- incarnation issued, and no operation is of a later incarnation of it than the last.
 use Rattle.std.proofs.Common.{◌≡◌, ℕ, ◌≤◌, ◌+◌, true, false, ◌||◌, inl, inr, List, [], ◌∷◌, ◌++◌, Option, Some, None, refl, sym, ap, subst, ◌∙◌, append_assoc, append-nil, arith}
 use Rattle.std.specs.Prelude.{fold}
 use Rattle.std.specs.Option.{option_map}

@@ -88,7 +88,7 @@ module _ (t : Table) (n : NodeId) (rest : List Entry) (final : ModelNode) where
         | false ↦ from_nothing (w.node n) (records_of n w e (Err NoSuchNode)) (either_way (nat_eq n.0 e.node.0) [])
       ]
 
-  -- an event that is answered so, by want of memory perhaps
+  -- an event that is answered so, by `NoMemory` perhaps
   answered_first : (w : ModelWorld) (e : WorldEvent) (a : Result Reply WorldFault) → IsAnswer (happens t w e) a → From ((went t w e a).node n) [] → From (w.node n) (records_of n w e a)
   answered_first w e a (inl is) h =
       subst (λ x. From (w.node n) (records_of n w e x)) (sym is)

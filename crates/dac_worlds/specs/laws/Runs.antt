@@ -17,7 +17,7 @@ use Rattle.dac_worlds.specs.ModelWorld.{ModelWorld, Step, IsAnswer, Run, RanAs, 
 use Rattle.dac_worlds.specs.laws.Memory.{enough_memory}
 
 -- ---- one event
--- the world goes on as the rules say, where memory isn't wanting
+-- the world goes on as the rules say, where memory isn't refused
 pub went_by_rules : (t : Table) (w : ModelWorld) (e : WorldEvent) (a : Result Reply WorldFault) → (a ≡ out_of_memory → ⊥) → went t w e a ≡ (happens t w e).world
 went_by_rules t w e (Err (Refused NoMemory)) enough = absurd (enough refl)
 went_by_rules t w e _ enough = refl

@@ -1,6 +1,6 @@
--- The definition's world is the world of sets: what holds of the two together after every event. Each node
--- stands beside its set (see OneNode), each message beside its copy, what is kept of peers holds of their logs (see
--- Carried), and no two operations have one dot.
+-- The model world is the world of sets: what holds of the two together after every event. Each node stands beside its
+-- set (see OneNode), and each message beside its copy. What is kept of peers holds of their logs (see Carried), and
+-- no two operations have one dot.
 use Rattle.std.proofs.Common.{◌≡◌, ℕ, zero, suc, ◌≤◌, ◌+◌, ◌-◌, Bool, true, false, not, cond, ◌&&◌, ◌⊎◌, inl, inr, List, [], ◌∷◌, ◌++◌, length, drop, drop-drop, Option, Some, None, Result, Ok, Err, nat_eq, nat_le, refl, sym, ap, subst, ◌∙◌, append-nil, true≢false, eq-eqb, le_refl, arith}
 use Rattle.std.specs.Prelude.{nat_lt}
 use Rattle.std.specs.Option.{option_map, option_map_or}
@@ -562,7 +562,7 @@ pub sound_step : (t : Table) (w : ModelWorld) (s : SetWorld) (e : WorldEvent) (a
 sound_step t w s e a next h (inl d) = subst (λ (p : ModelWorld × Answer). Sound p.0 (set_step s e.node e.what p.1)) (λ i. (sym d.went_on i, sym d.answered i)) (sound_happens t w s e h)
 sound_step t w s e a next h (inr l) = subst (λ (p : ModelWorld × Answer). Sound p.0 (set_step s e.node e.what p.1)) (λ i. (sym l.stayed i, sym l.answered i)) h
 
--- after every run of the definition's world, the world of sets stands beside it
+-- after every run of the model world, the world of sets stands beside it
 pub sound_run : (t : Table) (w : ModelWorld) (s : SetWorld) (es : List WorldEvent) (answers : List Answer) (final : ModelWorld) → Sound w s → Run t w es answers final → Sound final (set_run s es answers)
 sound_run t w s [] [] final h r = subst (λ (x : ModelWorld). Sound x s) (sym r.1) h
 sound_run t w s [] (a ∷ answers) final h r = absurd r.0
