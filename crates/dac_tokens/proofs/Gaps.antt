@@ -3,11 +3,10 @@ use Rattle.std.proofs.Common.{◌≡◌, ◌⊎◌, inl, inr, ℕ, ◌≤◌, Bo
 use Rattle.std.proofs.lemmas.Bool.{eqb-true}
 use Rattle.std.proofs.lemmas.Bool.Decides.{nat_tests}
 use Rattle.std.proofs.lemmas.List.{append-nil}
-use Rattle.std.proofs.lemmas.List.Elements.{All-nil, All-cons}
+use Rattle.std.proofs.lemmas.List.Elements.{All-nil, All-cons, All-head, All-tail}
 use Rattle.dac_tokens.specs.Scan.{is_blank, after_gap}
 use Rattle.dac_tokens.specs.TokenGrammar.{IsBlank, StartsGap, IsLine, IsGap, Nothing, Blank, Comment, IsLastGap, Closed, Open, Begins}
 use Rattle.dac_tokens.proofs.Bytes.{tells_blank}
-use Rattle.dac_tokens.proofs.Runs.{all_first, all_more}
 
 pub length_after_gap : (comment : Bool) (bs : List ℕ) → length (after_gap comment bs) ≤ length bs
 length_after_gap comment [] = omega arith
@@ -95,11 +94,11 @@ feed_false b h = grind (arith, nat_tests)
 
 line_read : (line more : List ℕ) → IsLine line → after_gap true (line ++ 10 ∷ more) ≡ after_gap false more
 line_read [] more h = refl
-line_read (b ∷ line) more h = ap (λ (c : Bool). after_gap (not c) (line ++ 10 ∷ more)) (feed_false b (all_first (λ b. b ≡ 10 → ⊥) b line h)) ∙ line_read line more (all_more (λ b. b ≡ 10 → ⊥) b line h)
+line_read (b ∷ line) more h = ap (λ (c : Bool). after_gap (not c) (line ++ 10 ∷ more)) (feed_false b (All-head (λ b. b ≡ 10 → ⊥) b line h)) ∙ line_read line more (All-tail (λ b. b ≡ 10 → ⊥) b line h)
 
 line_ends : (line : List ℕ) → IsLine line → after_gap true line ≡ []
 line_ends [] h = refl
-line_ends (b ∷ line) h = ap (λ (c : Bool). after_gap (not c) line) (feed_false b (all_first (λ b. b ≡ 10 → ⊥) b line h)) ∙ line_ends line (all_more (λ b. b ≡ 10 → ⊥) b line h)
+line_ends (b ∷ line) h = ap (λ (c : Bool). after_gap (not c) line) (feed_false b (All-head (λ b. b ≡ 10 → ⊥) b line h)) ∙ line_ends line (All-tail (λ b. b ≡ 10 → ⊥) b line h)
 
 blank_read : (b : ℕ) (bs : List ℕ) → IsBlank b → after_gap false (b ∷ bs) ≡ after_gap false bs
 blank_read b bs blank = ap (λ (c : Bool). cond c (after_gap true bs) (cond (is_blank b) (after_gap false bs) (b ∷ bs))) (no_percent b blank) ∙ ap (λ (c : Bool). cond c (after_gap false bs) (b ∷ bs)) ((tells_blank b).1 blank)
