@@ -98,13 +98,12 @@ line_read (b ∷ line) more h = ap (λ (c : Bool). after_gap (not c) (line ++ 10
 
 line_ends : (line : List ℕ) → IsLine line → after_gap true line ≡ []
 line_ends [] h = refl
-line_ends (b ∷ line) h = ap (λ (c : Bool). after_gap (not c) line) (feed_false b (All-head (λ b. b ≡ 10 → ⊥) b line h)) ∙ line_ends line (All-tail (λ b. b ≡ 10 → ⊥) b line h)
+line_ends (b ∷ line) h = rw (feed_false b (All-head (λ b. b ≡ 10 → ⊥) b line h)) (line_ends line (All-tail (λ b. b ≡ 10 → ⊥) b line h))
 
 blank_read : (b : ℕ) (bs : List ℕ) → IsBlank b → after_gap false (b ∷ bs) ≡ after_gap false bs
-blank_read b bs blank = ap (λ (c : Bool). cond c (after_gap true bs) (cond (is_blank b) (after_gap false bs) (b ∷ bs))) (no_percent b blank) ∙ ap (λ (c : Bool). cond c (after_gap false bs) (b ∷ bs)) ((tells_blank b).1 blank)
-  where
-    no_percent : (b : ℕ) → IsBlank b → eqb b 37 ≡ false
-    no_percent b h = grind (arith, nat_tests)
+blank_read b bs blank =
+    let no_percent : eqb b 37 ≡ false = grind (arith, nat_tests) in
+    rw (no_percent, (tells_blank b).1 blank) refl
 
 gap_passed : (gap rest : List ℕ) → IsGap gap → after_gap false (gap ++ rest) ≡ after_gap false rest
 gap_passed _ rest Nothing = refl
@@ -113,13 +112,10 @@ gap_passed _ rest (Comment line more is_line gap) = ap (after_gap true) (append_
 
 no_gap : (rest : List ℕ) → (Begins StartsGap rest → ⊥) → after_gap false rest ≡ rest
 no_gap [] stops = refl
-no_gap (b ∷ bs) stops = ap (λ (c : Bool). cond c (after_gap true bs) (cond (is_blank b) (after_gap false bs) (b ∷ bs))) (no_percent b stops) ∙ ap (λ (c : Bool). cond c (after_gap false bs) (b ∷ bs)) (no_blank b stops)
-  where
-    no_percent : (b : ℕ) → (StartsGap b → ⊥) → eqb b 37 ≡ false
-    no_percent b h = grind (arith, nat_tests)
-
-    no_blank : (b : ℕ) → (StartsGap b → ⊥) → is_blank b ≡ false
-    no_blank b h = grind (arith, nat_tests)
+no_gap (b ∷ bs) stops =
+    let no_percent : eqb b 37 ≡ false = grind (arith, nat_tests) in
+    let no_blank : is_blank b ≡ false = grind (arith, nat_tests) in
+    rw (no_percent, no_blank) refl
 
 -- a gap is passed over, where none goes on behind it
 pub gap_read : (gap rest : List ℕ) → IsGap gap → (Begins StartsGap rest → ⊥) → after_gap false (gap ++ rest) ≡ rest

@@ -82,16 +82,16 @@ atom_found at b bs letter =
     begins zero lt = absurd (omega arith)
     begins (suc n) lt = letter
 
-bracket_found : (symbol : Symbol) (at b : ℕ) (bs : List ℕ) → class_of b ≡ class.Bracket symbol → Spells (Mark symbol) (b ∷ []) bs
-bracket_found OpenList at b bs e = tells_class (class.Bracket OpenList) b e
-bracket_found CloseList at b bs e = tells_class (class.Bracket CloseList) b e
-bracket_found OpenTuple at b bs e = tells_class (class.Bracket OpenTuple) b e
-bracket_found CloseTuple at b bs e = tells_class (class.Bracket CloseTuple) b e
-bracket_found Comma at b bs e = tells_class (class.Bracket Comma) b e
-bracket_found FullStop at b bs e = absurd (no_stop_bracket b e)
+bracket_spelled : (symbol : Symbol) (b : ℕ) (bs : List ℕ) → class_of b ≡ class.Bracket symbol → Spells (Mark symbol) (b ∷ []) bs
+bracket_spelled OpenList b bs e = tells_class (class.Bracket OpenList) b e
+bracket_spelled CloseList b bs e = tells_class (class.Bracket CloseList) b e
+bracket_spelled OpenTuple b bs e = tells_class (class.Bracket OpenTuple) b e
+bracket_spelled CloseTuple b bs e = tells_class (class.Bracket CloseTuple) b e
+bracket_spelled Comma b bs e = tells_class (class.Bracket Comma) b e
+bracket_spelled FullStop b bs e = absurd (no_stop_bracket b e)
 
 pub word_found : (c : Class) (at b : ℕ) (bs : List ℕ) → class_of b ≡ c → Found at (b ∷ bs) (token_of c at b bs)
-word_found (class.Bracket symbol) at b bs e = record { own = b ∷ []; parts = refl; spelled = bracket_found symbol at b bs e }
+word_found (class.Bracket symbol) at b bs e = record { own = b ∷ []; parts = refl; spelled = bracket_spelled symbol b bs e }
 word_found class.Comma at b bs e = record { own = b ∷ []; parts = refl; spelled = ap (λ (k : ℕ). k ∷ []) (tells_class class.Comma b e) }
 word_found class.Dot at b bs e = let is : b ≡ 46 = tells_class class.Dot b e in rw is (dot_found at bs (ends_stop bs) refl)
 word_found class.Letter at b bs e = atom_found at b bs (tells_class class.Letter b e)

@@ -86,25 +86,15 @@ string_found at bs = by (two_quotes bs) refl
     by true two = here at (34 ∷ bs) Unsupported (λ _. ThreeQuotes (two_in_row bs two).0 (ap (λ (xs : List ℕ). 34 ∷ xs) (two_in_row bs two).1))
     by false two = let h = (inside_found at (at + 1) bs).0 in inside two h.0 h.1 h.2 h.3 (inside_string at (at + 1) false bs) h.4
 
-plain_read : (at place b : ℕ) (bs : List ℕ) → (b ≡ 34 → ⊥) → (b ≡ 92 → ⊥) → inside_string at place false (b ∷ bs) ≡ inside_string at (place + 1) false bs
-plain_read at place b bs no_end no_escape =
-    ap (λ (c : Bool). cond c (Ok (Text, bs)) (inside_string at (place + 1) (eqb b 92) bs)) (is_false b 34 no_end)
-    ∙ ap (λ (c : Bool). inside_string at (place + 1) c bs) (is_false b 92 no_escape)
-
-escape_read : (at place b : ℕ) (bs : List ℕ) → (b ≡ 94 → ⊥) → inside_string at place false (92 ∷ b ∷ bs) ≡ inside_string at (place + 1 + 1) false bs
-escape_read at place b bs no_control = ap (λ (c : Bool). cond c (unsupported (place + 1 - 1)) (inside_string at (place + 1 + 1) false bs)) (is_false b 94 no_control)
-
 -- a string's text is passed over
 inside_read : (at place : ℕ) (inner more : List ℕ) → IsStringText inner → inside_string at place false (inner ++ more) ≡ inside_string at (place + length inner) false more
 inside_read at place _ more Empty = ap (λ (k : ℕ). inside_string at k false more) (omega arith)
 inside_read at place _ more (Plain b inner no_end no_escape text) =
-    plain_read at place b (inner ++ more) no_end no_escape
-    ∙ inside_read at (place + 1) inner more text
-    ∙ ap (λ (k : ℕ). inside_string at k false more) (omega arith)
+    let further : place + 1 + length inner ≡ place + length (b ∷ inner) = omega arith in
+    rw (is_false b 34 no_end, is_false b 92 no_escape, inside_read at (place + 1) inner more text, further) refl
 inside_read at place _ more (Escape b inner no_control text) =
-    escape_read at place b (inner ++ more) no_control
-    ∙ inside_read at (place + 1 + 1) inner more text
-    ∙ ap (λ (k : ℕ). inside_string at k false more) (omega arith)
+    let further : place + 1 + 1 + length inner ≡ place + length (92 ∷ b ∷ inner) = omega arith in
+    rw (is_false b 94 no_control, inside_read at (place + 1 + 1) inner more text, further) refl
 
 other_first : (b : ℕ) (bs : List ℕ) → (b ≡ 34 → ⊥) → two_quotes (b ∷ bs) ≡ false
 other_first b [] h = refl

@@ -19,7 +19,7 @@ use Rattle.dac_tokens.proofs.Reading.{token_read, own_some, no_gap, no_end}
 use Rattle.dac_tokens.proofs.Spelling.{word_found}
 use Rattle.dac_tokens.proofs.Stops.{step, stop_read, stop_kind, no_gap_stop}
 
--- the depth behind a word: as the grammar has it, or that of a bracket too many
+-- what the depth behind a word is: as the grammar has it, or a fault at a 65th open bracket
 data Depth (at depth : ℕ) : Word → Result ℕ ConfigFault → Type 0 where
   Within : (w : Word) → depth_behind depth w ≤ 64 → Depth at depth w (Ok (depth_behind depth w))
   List65 : 64 ≤ depth → Depth at depth (Mark OpenList) (Err (record { kind = Unsupported; at = at }))
@@ -110,13 +110,14 @@ abbrev IsText : ℕ → ℕ → ℕ → List ℕ → List Located → Result Loc
 IsText at end depth bytes ts (Ok t) = (t ≡ end_at end) × AreSpelled at bytes ts × NestWell depth ts
 IsText at end depth bytes ts (Err e) = StopAt at depth bytes ts e
 
-one_more : (at end depth : ℕ) (bytes : List ℕ) (t : Located) (own rest : List ℕ) (ts : List Located) (last : Result Located ConfigFault) → IsNextToken at bytes t own rest → depth_behind depth t.word ≤ 64 → IsText (t.at + length own) end (depth_behind depth t.word) rest ts last → IsText at end depth bytes (t ∷ ts) last
-one_more at end depth bytes t own rest ts (Ok _) next within (is, spelled, nested) = (is, (own, rest, next, spelled), (within, nested))
-one_more at end depth bytes t own rest ts (Err e) next within stop = (own, rest, next, within, stop)
+-- a token before such a text makes one, and of one that begins with a token the rest is one
+add_first : (at end depth : ℕ) (bytes : List ℕ) (t : Located) (own rest : List ℕ) (ts : List Located) (last : Result Located ConfigFault) → IsNextToken at bytes t own rest → depth_behind depth t.word ≤ 64 → IsText (t.at + length own) end (depth_behind depth t.word) rest ts last → IsText at end depth bytes (t ∷ ts) last
+add_first at end depth bytes t own rest ts (Ok _) next within (is, spelled, nested) = (is, (own, rest, next, spelled), (within, nested))
+add_first at end depth bytes t own rest ts (Err e) next within stop = (own, rest, next, within, stop)
 
-one_less : (at end depth : ℕ) (bytes : List ℕ) (t : Located) (ts : List Located) (last : Result Located ConfigFault) → IsText at end depth bytes (t ∷ ts) last → (own rest : List ℕ) × IsNextToken at bytes t own rest × (depth_behind depth t.word ≤ 64) × IsText (t.at + length own) end (depth_behind depth t.word) rest ts last
-one_less at end depth bytes t ts (Ok _) (is, (own, rest, next, spelled), (within, nested)) = (own, rest, next, within, (is, spelled, nested))
-one_less at end depth bytes t ts (Err e) (own, rest, next, within, stop) = (own, rest, next, within, stop)
+split_first : (at end depth : ℕ) (bytes : List ℕ) (t : Located) (ts : List Located) (last : Result Located ConfigFault) → IsText at end depth bytes (t ∷ ts) last → (own rest : List ℕ) × IsNextToken at bytes t own rest × (depth_behind depth t.word ≤ 64) × IsText (t.at + length own) end (depth_behind depth t.word) rest ts last
+split_first at end depth bytes t ts (Ok _) (is, (own, rest, next, spelled), (within, nested)) = (own, rest, next, within, (is, spelled, nested))
+split_first at end depth bytes t ts (Err e) (own, rest, next, within, stop) = (own, rest, next, within, stop)
 
 -- fewer bytes are behind a token, and they begin where it ends
 behind_token : (at end : ℕ) (bytes : List ℕ) (t : Located) (own rest : List ℕ) → IsNextToken at bytes t own rest → at + length bytes ≡ end → (length rest < length bytes) × (t.at + length own + length rest ≡ end)
@@ -129,12 +130,13 @@ behind_token at end bytes t own rest next whole =
 abbrev IsStream : ℕ → ℕ → ℕ → List ℕ → Stream → Type 0
 IsStream at end depth bytes s = IsText at end depth bytes s.tokens s.last
 
+-- what is first, and what was found behind it
 then_found : (at end depth : ℕ) (bytes : List ℕ) (f : ℕ → List ℕ → Stream) (r : Result (Located × ℕ × List ℕ) ConfigFault) → at + length bytes ≡ end → ((at' depth' : ℕ) (rest : List ℕ) → length rest < length bytes → at' + length rest ≡ end → depth' ≤ 64 → IsStream at' end depth' rest (f depth' rest)) → First at end depth bytes r → IsStream at end depth bytes (and_then r f)
 then_found at end depth bytes f _ whole more (AtEnd gap) = (refl, gap, tt)
 then_found at end depth bytes f _ whole more (Next t own rest next within) =
     let h = behind_token at end bytes t own rest next whole in
     let s = f (depth_behind depth t.word) rest in
-    rw (no_end t.word own rest next.spelled) (one_more at end depth bytes t own rest s.tokens s.last next within (more (t.at + length own) (depth_behind depth t.word) rest h.0 h.1 within))
+    rw (no_end t.word own rest next.spelled) (add_first at end depth bytes t own rest s.tokens s.last next within (more (t.at + length own) (depth_behind depth t.word) rest h.0 h.1 within))
 then_found at end depth bytes f _ whole more (Fault e fault) = fault
 
 within_found : (n at end depth : ℕ) (bytes : List ℕ) → length bytes < n → at + length bytes ≡ end → depth ≤ 64 → IsStream at end depth bytes (tokens_within n end depth bytes)
@@ -149,7 +151,7 @@ within_read ts last zero at end depth bytes lt whole le text = absurd (omega ari
 within_read [] (Ok t) (suc n) at end depth bytes lt whole le (is, gap, _) = rw (first_read at end depth bytes _ whole le (AtEnd gap), is) refl
 within_read [] (Err e) (suc n) at end depth bytes lt whole le fault = rw (first_read at end depth bytes _ whole le (Fault e fault)) refl
 within_read (t ∷ ts) last (suc n) at end depth bytes lt whole le text =
-    let (own, rest, next, within, more) = one_less at end depth bytes t ts last text in
+    let (own, rest, next, within, more) = split_first at end depth bytes t ts last text in
     let h = behind_token at end bytes t own rest next whole in
     rw (first_read at end depth bytes _ whole le (Next t own rest next within), no_end t.word own rest next.spelled, within_read ts last n (t.at + length own) end (depth_behind depth t.word) rest (omega (arith, h.0)) h.1 within more) refl
 
@@ -196,7 +198,7 @@ first_taken at end depth bytes s _ whole le is (AtEnd gap) =
 first_taken at end depth bytes s _ whole le is (Next t own rest next within) =
     let h = behind_token at end bytes t own rest next whole in
     let more = tokens_of end (depth_behind depth t.word) rest in
-    let now : s ≡ record { tokens = t ∷ more.tokens; last = more.last } = sym is ∙ stream_read at end depth bytes _ whole le (one_more at end depth bytes t own rest more.tokens more.last next within (stream_found (t.at + length own) end (depth_behind depth t.word) rest h.1 within)) in
+    let now : s ≡ record { tokens = t ∷ more.tokens; last = more.last } = sym is ∙ stream_read at end depth bytes _ whole le (add_first at end depth bytes t own rest more.tokens more.last next within (stream_found (t.at + length own) end (depth_behind depth t.word) rest h.1 within)) in
     rw now (refl, omega arith, λ _. omega arith)
 first_taken at end depth bytes s _ whole le is (Fault e fault) =
     let now : s ≡ stopped [] e = sym is ∙ stream_read at end depth bytes (stopped [] e) whole le fault in
