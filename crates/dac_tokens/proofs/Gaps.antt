@@ -3,11 +3,10 @@ use Rattle.std.proofs.Common.{◌≡◌, ◌⊎◌, inl, inr, ℕ, ◌≤◌, Bo
 use Rattle.std.proofs.lemmas.Bool.{eqb-true}
 use Rattle.std.proofs.lemmas.Bool.Decides.{nat_tests}
 use Rattle.std.proofs.lemmas.List.{append-nil}
-use Rattle.std.proofs.lemmas.List.Elements.{All-nil, All-cons}
+use Rattle.std.proofs.lemmas.List.Elements.{All-nil, All-cons, All-head, All-tail}
 use Rattle.dac_tokens.specs.Scan.{is_blank, after_gap}
 use Rattle.dac_tokens.specs.TokenGrammar.{IsBlank, StartsGap, IsLine, IsGap, Nothing, Blank, Comment, IsLastGap, Closed, Open, Begins}
 use Rattle.dac_tokens.proofs.Bytes.{tells_blank}
-use Rattle.dac_tokens.proofs.Runs.{all_first, all_more}
 
 pub length_after_gap : (comment : Bool) (bs : List ℕ) → length (after_gap comment bs) ≤ length bs
 length_after_gap comment [] = omega arith
@@ -95,17 +94,16 @@ feed_false b h = grind (arith, nat_tests)
 
 line_read : (line more : List ℕ) → IsLine line → after_gap true (line ++ 10 ∷ more) ≡ after_gap false more
 line_read [] more h = refl
-line_read (b ∷ line) more h = ap (λ (c : Bool). after_gap (not c) (line ++ 10 ∷ more)) (feed_false b (all_first (λ b. b ≡ 10 → ⊥) b line h)) ∙ line_read line more (all_more (λ b. b ≡ 10 → ⊥) b line h)
+line_read (b ∷ line) more h = ap (λ (c : Bool). after_gap (not c) (line ++ 10 ∷ more)) (feed_false b (All-head (λ b. b ≡ 10 → ⊥) b line h)) ∙ line_read line more (All-tail (λ b. b ≡ 10 → ⊥) b line h)
 
 line_ends : (line : List ℕ) → IsLine line → after_gap true line ≡ []
 line_ends [] h = refl
-line_ends (b ∷ line) h = ap (λ (c : Bool). after_gap (not c) line) (feed_false b (all_first (λ b. b ≡ 10 → ⊥) b line h)) ∙ line_ends line (all_more (λ b. b ≡ 10 → ⊥) b line h)
+line_ends (b ∷ line) h = rw (feed_false b (All-head (λ b. b ≡ 10 → ⊥) b line h)) (line_ends line (All-tail (λ b. b ≡ 10 → ⊥) b line h))
 
 blank_read : (b : ℕ) (bs : List ℕ) → IsBlank b → after_gap false (b ∷ bs) ≡ after_gap false bs
-blank_read b bs blank = ap (λ (c : Bool). cond c (after_gap true bs) (cond (is_blank b) (after_gap false bs) (b ∷ bs))) (no_percent b blank) ∙ ap (λ (c : Bool). cond c (after_gap false bs) (b ∷ bs)) ((tells_blank b).1 blank)
-  where
-    no_percent : (b : ℕ) → IsBlank b → eqb b 37 ≡ false
-    no_percent b h = grind (arith, nat_tests)
+blank_read b bs blank =
+    let no_percent : eqb b 37 ≡ false = grind (arith, nat_tests) in
+    rw (no_percent, (tells_blank b).1 blank) refl
 
 gap_passed : (gap rest : List ℕ) → IsGap gap → after_gap false (gap ++ rest) ≡ after_gap false rest
 gap_passed _ rest Nothing = refl
@@ -114,13 +112,10 @@ gap_passed _ rest (Comment line more is_line gap) = ap (after_gap true) (append_
 
 no_gap : (rest : List ℕ) → (Begins StartsGap rest → ⊥) → after_gap false rest ≡ rest
 no_gap [] stops = refl
-no_gap (b ∷ bs) stops = ap (λ (c : Bool). cond c (after_gap true bs) (cond (is_blank b) (after_gap false bs) (b ∷ bs))) (no_percent b stops) ∙ ap (λ (c : Bool). cond c (after_gap false bs) (b ∷ bs)) (no_blank b stops)
-  where
-    no_percent : (b : ℕ) → (StartsGap b → ⊥) → eqb b 37 ≡ false
-    no_percent b h = grind (arith, nat_tests)
-
-    no_blank : (b : ℕ) → (StartsGap b → ⊥) → is_blank b ≡ false
-    no_blank b h = grind (arith, nat_tests)
+no_gap (b ∷ bs) stops =
+    let no_percent : eqb b 37 ≡ false = grind (arith, nat_tests) in
+    let no_blank : is_blank b ≡ false = grind (arith, nat_tests) in
+    rw (no_percent, no_blank) refl
 
 -- a gap is passed over, where none goes on behind it
 pub gap_read : (gap rest : List ℕ) → IsGap gap → (Begins StartsGap rest → ⊥) → after_gap false (gap ++ rest) ≡ rest

@@ -1,11 +1,10 @@
 pub mod Bytes
-pub mod Faults
+pub mod Found
 pub mod Gaps
 pub mod Quotes
+pub mod Reading
 pub mod Runs
-pub mod Shorter
 pub mod Spelling
-pub mod StopTexts
 pub mod Stops
 pub mod Strings
 pub mod Texts

@@ -1,206 +1,210 @@
--- Whole texts: what is read is spelled so, and what is spelled so is read.
-use Rattle.std.proofs.Common.{◌≡◌, ℕ, zero, suc, ◌+◌, ◌-◌, ◌<◌, ◌≤◌, Bool, true, false, cond, leb, List, [], ◌∷◌, ◌++◌, length, Result, Ok, Err, refl, sym, ap, subst, ◌∙◌, arith, length-append}
+-- Whole texts: what is read is what the grammar and the table of faults have, and the other way round.
+use Rattle.std.proofs.Common.{◌≡◌, inl, inr, ℕ, zero, suc, ◌+◌, ◌-◌, ◌<◌, ◌≤◌, Bool, true, false, cond, leb, List, [], ◌∷◌, ◌++◌, length, Result, Ok, Err, refl, sym, ap, subst, ◌∙◌, arith, length-append}
 use Rattle.std.specs.Prelude.{IfOk, ◌↔◌}
-use Rattle.std.proofs.lemmas.Bool.{leb-false, lt-leb}
+use Rattle.std.proofs.lemmas.Bool.{leb-true, leb-false, true≢false}
+use Rattle.dac_tokens.specs.declared.fault.FaultKind.{FaultKind}
+use Rattle.dac_tokens.specs.declared.fault.FaultKind.TheVariants.{Unsupported, NoMemory}
 use Rattle.dac_tokens.specs.declared.fault.ConfigFault.{ConfigFault}
 use Rattle.dac_tokens.specs.declared.token.Symbol.TheVariants.{OpenList, CloseList, OpenTuple, CloseTuple, Comma, FullStop}
-use Rattle.dac_tokens.specs.Gives.{◌>>=◌}
+use Rattle.dac_tokens.specs.Faults.{IsTokenFault}
+use Rattle.dac_tokens.specs.Gives.{◌>>=◌, UnlessMemory, Fails}
 use Rattle.dac_tokens.specs.Words.{Word, Mark, Name, Number, Text, End, is_end, Located}
 use Rattle.dac_tokens.specs.Scan.{after_gap, class_of, unsupported, token_of, word_at}
-use Rattle.dac_tokens.specs.Stream.{Stream, depth_after, opened, token_from, and_then, tokens_within, tokens_of, end_at, ended}
-use Rattle.dac_tokens.specs.TokenGrammar.{IsLastGap, Spells, IsNextToken, AreSpelled, depth_behind, NestWell, AreTokensOf}
-use Rattle.dac_tokens.proofs.Gaps.{IsPassed, last_gap, gap_before, gap_read, last_read}
-use Rattle.dac_tokens.proofs.Runs.{true_false}
-use Rattle.dac_tokens.proofs.Shorter.{IsFirst, token_is_first, bind_if_ok}
-use Rattle.dac_tokens.proofs.Spelling.{IsToken, token_found, token_read, own_some, no_gap, no_end}
+use Rattle.dac_tokens.specs.Stream.{Stream, depth_after, token_from, and_then, tokens_within, tokens_of, end_at, ended, stopped, taken}
+use Rattle.dac_tokens.specs.TokenGrammar.{Begins, Nothing, IsLastGap, Closed, IsNextToken, AreSpelled, depth_behind, NestWell, AreTokensOf}
+use Rattle.dac_tokens.specs.TokenFaults.{IsOpening, TooDeep, IsFaultAt, StopAt}
+use Rattle.dac_tokens.proofs.Found.{IsToken, StopsThere, Found}
+use Rattle.dac_tokens.proofs.Gaps.{IsPassed, length_after_gap, last_gap, gap_before, gap_read, last_read}
+use Rattle.dac_tokens.proofs.Reading.{token_read, own_some, no_gap, no_end}
+use Rattle.dac_tokens.proofs.Spelling.{word_found}
+use Rattle.dac_tokens.proofs.Stops.{step, stop_read, stop_kind, no_gap_stop}
 
--- the depth as it is read, and as the grammar has it
-abbrev DeeperBy : ℕ → Word → ℕ → Type 0
-DeeperBy depth w d = (d ≡ depth_behind depth w) × (depth_behind depth w ≤ 64)
+-- what the depth behind a word is: as the grammar has it, or a fault at a 65th open bracket
+data Depth (at depth : ℕ) : Word → Result ℕ ConfigFault → Type 0 where
+  Within : (w : Word) → depth_behind depth w ≤ 64 → Depth at depth w (Ok (depth_behind depth w))
+  List65 : 64 ≤ depth → Depth at depth (Mark OpenList) (Err (record { kind = Unsupported; at = at }))
+  Tuple65 : 64 ≤ depth → Depth at depth (Mark OpenTuple) (Err (record { kind = Unsupported; at = at }))
 
-opened_found : (at depth : ℕ) (c : Bool) → leb 64 depth ≡ c → IfOk (cond c (unsupported at) (Ok (depth + 1))) (λ d. (d ≡ depth + 1) × (depth + 1 ≤ 64))
-opened_found at depth true e = tt
-opened_found at depth false e = let lt : depth < 64 = leb-false 64 depth e in (refl, omega arith)
+depth_found : (at depth : ℕ) (w : Word) → depth ≤ 64 → Depth at depth w (depth_after at depth w)
+depth_found at depth (Mark OpenList) le = by (leb 64 depth) refl
+  where
+    by : (c : Bool) → leb 64 depth ≡ c → Depth at depth (Mark OpenList) (cond c (unsupported at) (Ok (depth + 1)))
+    by true e = List65 (leb-true 64 depth e)
+    by false e = let lt : depth < 64 = leb-false 64 depth e in Within (Mark OpenList) (omega arith)
+depth_found at depth (Mark OpenTuple) le = by (leb 64 depth) refl
+  where
+    by : (c : Bool) → leb 64 depth ≡ c → Depth at depth (Mark OpenTuple) (cond c (unsupported at) (Ok (depth + 1)))
+    by true e = Tuple65 (leb-true 64 depth e)
+    by false e = let lt : depth < 64 = leb-false 64 depth e in Within (Mark OpenTuple) (omega arith)
+depth_found at depth (Mark CloseList) le = Within (Mark CloseList) (omega arith)
+depth_found at depth (Mark CloseTuple) le = Within (Mark CloseTuple) (omega arith)
+depth_found at depth (Mark Comma) le = Within (Mark Comma) le
+depth_found at depth (Mark FullStop) le = Within (Mark FullStop) le
+depth_found at depth (Name name) le = Within (Name name) le
+depth_found at depth (Number negative digits) le = Within (Number negative digits) le
+depth_found at depth Text le = Within Text le
+depth_found at depth End le = Within End le
 
-depth_found : (at depth : ℕ) (w : Word) → depth ≤ 64 → IfOk (depth_after at depth w) (DeeperBy depth w)
-depth_found at depth (Mark OpenList) le = opened_found at depth (leb 64 depth) refl
-depth_found at depth (Mark OpenTuple) le = opened_found at depth (leb 64 depth) refl
-depth_found at depth (Mark CloseList) le = (refl, omega arith)
-depth_found at depth (Mark CloseTuple) le = (refl, omega arith)
-depth_found at depth (Mark Comma) le = (refl, le)
-depth_found at depth (Mark FullStop) le = (refl, le)
-depth_found at depth (Name name) le = (refl, le)
-depth_found at depth (Number negative digits) le = (refl, le)
-depth_found at depth Text le = (refl, le)
-depth_found at depth End le = (refl, le)
+depth_read : (at depth : ℕ) (w : Word) → depth ≤ 64 → depth_behind depth w ≤ 64 → depth_after at depth w ≡ Ok (depth_behind depth w)
+depth_read at depth w le within = by w (depth_after at depth w) within (depth_found at depth w le)
+  where
+    by : (w : Word) (r : Result ℕ ConfigFault) → depth_behind depth w ≤ 64 → Depth at depth w r → r ≡ Ok (depth_behind depth w)
+    by _ _ within (Within w le) = refl
+    by _ _ within (List65 deep) = absurd (omega (arith, within, deep))
+    by _ _ within (Tuple65 deep) = absurd (omega (arith, within, deep))
 
-opened_read : (at depth : ℕ) → depth + 1 ≤ 64 → opened at depth ≡ Ok (depth + 1)
-opened_read at depth le = ap (λ (c : Bool). cond c (unsupported at) (Ok (depth + 1))) (lt-leb 64 depth (omega arith))
+opening_begins : (bytes own rest : List ℕ) (b : ℕ) → bytes ≡ own ++ rest → own ≡ b ∷ [] → IsOpening b → Begins IsOpening bytes
+opening_begins bytes own rest b parts is h = rw (parts, is) h
 
-depth_read : (at depth : ℕ) (w : Word) → depth_behind depth w ≤ 64 → depth_after at depth w ≡ Ok (depth_behind depth w)
-depth_read at depth (Mark OpenList) le = opened_read at depth le
-depth_read at depth (Mark OpenTuple) le = opened_read at depth le
-depth_read at depth (Mark CloseList) le = refl
-depth_read at depth (Mark CloseTuple) le = refl
-depth_read at depth (Mark Comma) le = refl
-depth_read at depth (Mark FullStop) le = refl
-depth_read at depth (Name name) le = refl
-depth_read at depth (Number negative digits) le = refl
-depth_read at depth Text le = refl
-depth_read at depth End le = refl
+-- what stands first in bytes that begin at the offset `at`: the end behind a gap, a token, or a fault
+data First (at end depth : ℕ) (bytes : List ℕ) : Result (Located × ℕ × List ℕ) ConfigFault → Type 0 where
+  AtEnd : IsLastGap bytes → First at end depth bytes (Ok (end_at end, depth, []))
+  Next : (t : Located) (own rest : List ℕ) → IsNextToken at bytes t own rest → depth_behind depth t.word ≤ 64 → First at end depth bytes (Ok (t, depth_behind depth t.word, rest))
+  Fault : (e : ConfigFault) → IsFaultAt at depth bytes e → First at end depth bytes (Err e)
 
--- the next token as it was read, for the grammar
-pub record IsRead (at end depth : ℕ) (bytes : List ℕ) (x : Located × ℕ × List ℕ) : Type 0 where
-  pub own : List ℕ
-  pub token : IsNextToken at bytes x.0 own x.2
-  pub deeper : x.1 ≡ depth_behind depth x.0.word
-  pub within : depth_behind depth x.0.word ≤ 64
-  pub place : x.0.at + length own + length x.2 ≡ end
-
--- the next token, or that there is a gap alone
-pub record IsStep (at end depth : ℕ) (bytes : List ℕ) (x : Located × ℕ × List ℕ) : Type 0 where
-  pub ends : is_end x.0.word ≡ true → IsLastGap bytes
-  pub goes_on : is_end x.0.word ≡ false → IsRead at end depth bytes x
-
--- reads one token from bytes without a gap before them
-abbrev pub step : ℕ → ℕ → ℕ → List ℕ → Result (Located × ℕ × List ℕ) ConfigFault
-step end depth at rest = word_at at rest >>= λ word. depth_after at depth word.0 >>= λ after. Ok (record { word = word.0; at = at }, after, word.1)
-
-step_found : (at end depth : ℕ) (bytes rest : List ℕ) → after_gap false bytes ≡ rest → at + length bytes ≡ end → depth ≤ 64 → IfOk (step end depth (end - length rest) rest) (IsStep at end depth bytes)
+step_found : (at end depth place : ℕ) (bytes rest : List ℕ) → after_gap false bytes ≡ rest → at + length bytes ≡ end → place + length rest ≡ end → depth ≤ 64 → First at end depth bytes (step depth place rest)
 unfolding word_at
-step_found at end depth bytes [] left whole le = record { ends = λ _. last_gap bytes left; goes_on = λ e. true_false e }
-step_found at end depth bytes (b ∷ bs) left whole le =
-    let place = end - length (b ∷ bs) in
-    let passed : IsPassed bytes (b ∷ bs) = gap_before bytes b bs left in
-    bind_if_ok (λ x. IsToken (b ∷ bs) x.0 x.1) (IsStep at end depth bytes) (token_of (class_of b) place b bs) _ (token_found (class_of b) place b bs refl)
-    (λ word h. bind_if_ok (DeeperBy depth word.0) (IsStep at end depth bytes) (depth_after place depth word.0) _ (depth_found place depth word.0 le)
-    (λ after d.
-    let size = ap length passed.parts ∙ length-append passed.gap (b ∷ bs) in
-    let own_size = ap length h.parts ∙ length-append h.own word.1 in
-    record {
-      ends = λ e. true_false (sym e ∙ no_end word.0 h.own word.1 h.spelled);
-      goes_on = λ e. record {
-        own = h.own;
-        token = record {
-          gap = passed.gap;
-          parts = passed.parts ∙ ap (λ (r : List ℕ). passed.gap ++ r) h.parts;
-          is_gap = passed.is_gap;
-          place = omega (arith, size, whole);
-          spelled = h.spelled;
-        };
-        deeper = d.0;
-        within = d.1;
-        place = omega (arith, size, own_size, whole);
-      };
-    }))
+step_found at end depth place bytes [] left whole more le = let same : place ≡ end = omega (arith, more) in rw same (AtEnd (last_gap bytes left))
+step_found at end depth place bytes (b ∷ bs) left whole more le = word (gap_before bytes b bs left) (token_of (class_of b) place b bs) (word_found (class_of b) place b bs refl)
+  where
+    stop : IsPassed bytes (b ∷ bs) → (e : ConfigFault) → StopsThere place depth (b ∷ bs) e → First at end depth bytes (Err e)
+    stop passed e h =
+        let size = ap length passed.parts ∙ length-append passed.gap (b ∷ bs) in
+        Fault e (record { gap = passed.gap; rest = b ∷ bs; parts = passed.parts; is_gap = passed.is_gap; behind = h.0; place = omega (arith, size, whole, more, h.1); fault = h.2 })
 
-pub first_found : (at end depth : ℕ) (bytes : List ℕ) → at + length bytes ≡ end → depth ≤ 64 → IfOk (token_from end depth bytes) (IsStep at end depth bytes)
+    deep : IsPassed bytes (b ∷ bs) → (w : Word) (rest : List ℕ) → IsToken (b ∷ bs) w rest → (r : Result ℕ ConfigFault) → Depth place depth w r → First at end depth bytes (r >>= λ after. Ok (record { word = w; at = place }, after, rest))
+    deep passed _ rest t _ (Within w within) =
+        let size = ap length passed.parts ∙ length-append passed.gap (b ∷ bs) in
+        Next (record { word = w; at = place }) t.own rest (record { gap = passed.gap; parts = passed.parts ∙ ap (λ (r : List ℕ). passed.gap ++ r) t.parts; is_gap = passed.is_gap; place = omega (arith, size, whole, more); spelled = t.spelled }) within
+    deep passed _ rest t _ (List65 high) = stop passed _ (0, omega arith, TooDeep high (opening_begins (b ∷ bs) t.own rest 91 t.parts t.spelled (inl refl)))
+    deep passed _ rest t _ (Tuple65 high) = stop passed _ (0, omega arith, TooDeep high (opening_begins (b ∷ bs) t.own rest 123 t.parts t.spelled (inr refl)))
+
+    word : IsPassed bytes (b ∷ bs) → (r : Result (Word × List ℕ) ConfigFault) → Found place (b ∷ bs) r → First at end depth bytes (r >>= λ x. depth_after place depth x.0 >>= λ after. Ok (record { word = x.0; at = place }, after, x.1))
+    word passed (Ok x) t = deep passed x.0 x.1 t (depth_after place depth x.0) (depth_found place depth x.0 le)
+    word passed (Err e) h = stop passed e (h passed.stops depth)
+
+first_found : (at end depth : ℕ) (bytes : List ℕ) → at + length bytes ≡ end → depth ≤ 64 → First at end depth bytes (token_from end depth bytes)
 unfolding token_from
-first_found at end depth bytes whole le = step_found at end depth bytes (after_gap false bytes) refl whole le
+first_found at end depth bytes whole le =
+    let no_more = length_after_gap false bytes in
+    step_found at end depth (end - length (after_gap false bytes)) bytes (after_gap false bytes) refl whole (omega (arith, no_more, whole)) le
 
-step_read : (end depth : ℕ) (t : Located) (own rest : List ℕ) → Spells t.word own rest → depth_behind depth t.word ≤ 64 → step end depth t.at (own ++ rest) ≡ Ok (t, depth_behind depth t.word, rest)
-step_read end depth t own rest spelled le =
-    ap (λ (r : Result (Word × List ℕ) ConfigFault). r >>= λ word. depth_after t.at depth word.0 >>= λ after. Ok (record { word = word.0; at = t.at }, after, word.1)) (token_read t.word t.at own rest spelled)
-    ∙ ap (λ (r : Result ℕ ConfigFault). r >>= λ after. Ok (record { word = t.word; at = t.at }, after, rest)) (depth_read t.at depth t.word le)
-
-pub first_read : (at end depth : ℕ) (bytes : List ℕ) (t : Located) (own rest : List ℕ) → IsNextToken at bytes t own rest → at + length bytes ≡ end → depth_behind depth t.word ≤ 64 → token_from end depth bytes ≡ Ok (t, depth_behind depth t.word, rest)
-unfolding token_from
-first_read at end depth bytes t own rest next whole le =
+first_read : (at end depth : ℕ) (bytes : List ℕ) (r : Result (Located × ℕ × List ℕ) ConfigFault) → at + length bytes ≡ end → depth ≤ 64 → First at end depth bytes r → token_from end depth bytes ≡ r
+unfolding token_from word_at
+first_read at end depth bytes _ whole le (AtEnd gap) =
+    let place : end - 0 ≡ end = omega arith in
+    ap (λ (r : List ℕ). step depth (end - length r) r) (last_read bytes gap) ∙ ap (λ (k : ℕ). step depth k []) place
+first_read at end depth bytes _ whole le (Next t own rest next within) =
     let left : after_gap false bytes ≡ own ++ rest = rw next.parts (gap_read next.gap (own ++ rest) next.is_gap (no_gap t.word own rest next.spelled)) in
     let size = ap length next.parts ∙ length-append next.gap (own ++ rest) in
     let place : end - length (own ++ rest) ≡ t.at = omega (arith, size, whole, next.place) in
-    ap (λ (r : List ℕ). step end depth (end - length r) r) left
-    ∙ ap (λ (k : ℕ). step end depth k (own ++ rest)) place
-    ∙ step_read end depth t own rest next.spelled le
+    rw (left, place, token_read t.word t.at own rest next.spelled, depth_read t.at depth t.word le within) refl
+first_read at end depth bytes _ whole le (Fault e h) =
+    let left : after_gap false bytes ≡ h.rest = rw h.parts (gap_read h.gap h.rest h.is_gap (no_gap_stop depth h.rest h.behind e.kind h.fault)) in
+    let size = ap length h.parts ∙ length-append h.gap h.rest in
+    let place : end - length h.rest + h.behind ≡ e.at = omega (arith, size, whole, h.place) in
+    rw (left, stop_read (end - length h.rest) depth h.rest h.behind e.kind h.fault, place) refl
 
-last_gap_read : (end depth : ℕ) (bytes : List ℕ) → IsLastGap bytes → token_from end depth bytes ≡ Ok (end_at end, depth, [])
-unfolding token_from word_at
-last_gap_read end depth bytes gap =
-    let left : after_gap false bytes ≡ [] = last_read bytes gap in
-    let place : end - 0 ≡ end = omega arith in
-    ap (λ (r : List ℕ). step end depth (end - length r) r) left ∙ ap (λ (k : ℕ). step end depth k []) place
+-- what bytes that begin at the offset `at` are: tokens up to the end, or up to a fault
+abbrev IsText : ℕ → ℕ → ℕ → List ℕ → List Located → Result Located ConfigFault → Type 0
+IsText at end depth bytes ts (Ok t) = (t ≡ end_at end) × AreSpelled at bytes ts × NestWell depth ts
+IsText at end depth bytes ts (Err e) = StopAt at depth bytes ts e
 
--- the tokens of bytes that begin at the offset `at`, up to the end
-pub record IsWhole (at end depth : ℕ) (bytes : List ℕ) (s : Stream) : Type 0 where
-  pub spelled : AreSpelled at bytes s.tokens
-  pub nested : NestWell depth s.tokens
-  pub ends : s.last ≡ Ok (end_at end)
+-- a token before such a text makes one, and of one that begins with a token the rest is one
+add_first : (at end depth : ℕ) (bytes : List ℕ) (t : Located) (own rest : List ℕ) (ts : List Located) (last : Result Located ConfigFault) → IsNextToken at bytes t own rest → depth_behind depth t.word ≤ 64 → IsText (t.at + length own) end (depth_behind depth t.word) rest ts last → IsText at end depth bytes (t ∷ ts) last
+add_first at end depth bytes t own rest ts (Ok _) next within (is, spelled, nested) = (is, (own, rest, next, spelled), (within, nested))
+add_first at end depth bytes t own rest ts (Err e) next within stop = (own, rest, next, within, stop)
 
-abbrev IfEnded : ℕ → ℕ → ℕ → List ℕ → Stream → Type 0
-IfEnded at end depth bytes s = IfOk s.last (λ _. IsWhole at end depth bytes s)
+split_first : (at end depth : ℕ) (bytes : List ℕ) (t : Located) (ts : List Located) (last : Result Located ConfigFault) → IsText at end depth bytes (t ∷ ts) last → (own rest : List ℕ) × IsNextToken at bytes t own rest × (depth_behind depth t.word ≤ 64) × IsText (t.at + length own) end (depth_behind depth t.word) rest ts last
+split_first at end depth bytes t ts (Ok _) (is, (own, rest, next, spelled), (within, nested)) = (own, rest, next, within, (is, spelled, nested))
+split_first at end depth bytes t ts (Err e) (own, rest, next, within, stop) = (own, rest, next, within, stop)
 
-first_whole : (at end depth : ℕ) (bytes : List ℕ) (x : Located × ℕ × List ℕ) → IsFirst end (length bytes) x → IsStep at end depth bytes x → is_end x.0.word ≡ true → IsWhole at end depth bytes (record { tokens = []; last = Ok x.0 })
-first_whole at end depth bytes x first step e = record { spelled = step.ends e; nested = tt; ends = ap (λ (t : Located). Ok t) (first.at_end e).1 }
-
-more_whole : (at end depth : ℕ) (bytes : List ℕ) (x : Located × ℕ × List ℕ) (s : Stream) → (read : IsRead at end depth bytes x) → IfEnded (x.0.at + length read.own) end x.1 x.2 s → IfEnded at end depth bytes (record { tokens = x.0 ∷ s.tokens; last = s.last })
-more_whole at end depth bytes x s read h = by s.last refl h
-  where
-    by : (r : Result Located ConfigFault) → s.last ≡ r → IfOk r (λ _. IsWhole (x.0.at + length read.own) end x.1 x.2 s) → IfOk r (λ _. IsWhole at end depth bytes (record { tokens = x.0 ∷ s.tokens; last = s.last }))
-    by (Err e) is h = tt
-    by (Ok t) is h =
-        let P : ℕ → Type 0 = λ d. NestWell d s.tokens in
-        record { spelled = (read.own, x.2, read.token, h.spelled); nested = (read.within, subst P read.deeper h.nested); ends = h.ends }
-
-then_whole : (at end depth : ℕ) (bytes : List ℕ) (r : Result (Located × ℕ × List ℕ) ConfigFault) (f : ℕ → List ℕ → Stream) → IfOk r (IsFirst end (length bytes)) → IfOk r (IsStep at end depth bytes) → ((at' depth' : ℕ) (rest : List ℕ) → length rest < length bytes → at' + length rest ≡ end → depth' ≤ 64 → IfEnded at' end depth' rest (f depth' rest)) → IfEnded at end depth bytes (and_then r f)
-then_whole at end depth bytes (Err e) f first step more = tt
-then_whole at end depth bytes (Ok x) f first step more = by (is_end x.0.word) refl
-  where
-    by : (c : Bool) → is_end x.0.word ≡ c → IfEnded at end depth bytes (cond c (record { tokens = []; last = Ok x.0 }) (record { tokens = x.0 ∷ (f x.1 x.2).tokens; last = (f x.1 x.2).last }))
-    by true e = first_whole at end depth bytes x first step e
-    by false e =
-        let read = step.goes_on e in
-        more_whole at end depth bytes x (f x.1 x.2) read (more (x.0.at + length read.own) x.1 x.2 (first.less e) read.place (omega (arith, read.deeper, read.within)))
-
-within_whole : (n at end depth : ℕ) (bytes : List ℕ) → length bytes < n → at + length bytes ≡ end → depth ≤ 64 → IfEnded at end depth bytes (tokens_within n end depth bytes)
-unfolding tokens_within
-within_whole zero at end depth bytes lt whole le = absurd (omega arith)
-within_whole (suc n) at end depth bytes lt whole le =
-    then_whole at end depth bytes (token_from end depth bytes) (tokens_within n end) (token_is_first end depth bytes) (first_found at end depth bytes whole le)
-    (λ at' depth' rest less whole' le'. within_whole n at' end depth' rest (omega arith) whole' le')
-
-within_read : (ts : List Located) (n at end depth : ℕ) (bytes : List ℕ) → length bytes < n → at + length bytes ≡ end → AreSpelled at bytes ts → NestWell depth ts → tokens_within n end depth bytes ≡ ended end ts
-unfolding tokens_within
-within_read ts zero at end depth bytes lt whole spelled nested = absurd (omega arith)
-within_read [] (suc n) at end depth bytes lt whole spelled nested = ap (λ (r : Result (Located × ℕ × List ℕ) ConfigFault). and_then r (tokens_within n end)) (last_gap_read end depth bytes spelled)
-within_read (t ∷ ts) (suc n) at end depth bytes lt whole spelled nested =
-    let own = spelled.0 in
-    let rest = spelled.1 in
-    let next : IsNextToken at bytes t own rest = spelled.2 in
+-- fewer bytes are behind a token, and they begin where it ends
+behind_token : (at end : ℕ) (bytes : List ℕ) (t : Located) (own rest : List ℕ) → IsNextToken at bytes t own rest → at + length bytes ≡ end → (length rest < length bytes) × (t.at + length own + length rest ≡ end)
+behind_token at end bytes t own rest next whole =
     let size = ap length next.parts ∙ length-append next.gap (own ++ rest) in
     let inner = length-append own rest in
     let some = own_some t.word own rest next.spelled in
-    let more : tokens_within n end (depth_behind depth t.word) rest ≡ ended end ts = within_read ts n (t.at + length own) end (depth_behind depth t.word) rest (omega (arith, size, inner, some)) (omega (arith, size, inner, next.place, whole)) spelled.3 nested.1 in
-    let joined : Stream → Bool → Stream = λ s c. cond c (record { tokens = []; last = Ok t }) (record { tokens = t ∷ s.tokens; last = s.last }) in
-    ap (λ (r : Result (Located × ℕ × List ℕ) ConfigFault). and_then r (tokens_within n end)) (first_read at end depth bytes t own rest next whole nested.0)
-    ∙ ap (joined (tokens_within n end (depth_behind depth t.word) rest)) (no_end t.word own rest next.spelled)
-    ∙ ap (λ (s : Stream). joined s false) more
+    (omega (arith, size, inner, some), omega (arith, size, inner, next.place, whole))
 
--- what the tokens of a text are, where they go up to the end
-pub whole_of : (text : List ℕ) → IfOk (tokens_of (length text) 0 text).last (λ _. IsWhole 0 (length text) 0 text (tokens_of (length text) 0 text))
+abbrev IsStream : ℕ → ℕ → ℕ → List ℕ → Stream → Type 0
+IsStream at end depth bytes s = IsText at end depth bytes s.tokens s.last
+
+-- what is first, and what was found behind it
+then_found : (at end depth : ℕ) (bytes : List ℕ) (f : ℕ → List ℕ → Stream) (r : Result (Located × ℕ × List ℕ) ConfigFault) → at + length bytes ≡ end → ((at' depth' : ℕ) (rest : List ℕ) → length rest < length bytes → at' + length rest ≡ end → depth' ≤ 64 → IsStream at' end depth' rest (f depth' rest)) → First at end depth bytes r → IsStream at end depth bytes (and_then r f)
+then_found at end depth bytes f _ whole more (AtEnd gap) = (refl, gap, tt)
+then_found at end depth bytes f _ whole more (Next t own rest next within) =
+    let h = behind_token at end bytes t own rest next whole in
+    let s = f (depth_behind depth t.word) rest in
+    rw (no_end t.word own rest next.spelled) (add_first at end depth bytes t own rest s.tokens s.last next within (more (t.at + length own) (depth_behind depth t.word) rest h.0 h.1 within))
+then_found at end depth bytes f _ whole more (Fault e fault) = fault
+
+within_found : (n at end depth : ℕ) (bytes : List ℕ) → length bytes < n → at + length bytes ≡ end → depth ≤ 64 → IsStream at end depth bytes (tokens_within n end depth bytes)
+unfolding tokens_within
+within_found zero at end depth bytes lt whole le = absurd (omega arith)
+within_found (suc n) at end depth bytes lt whole le =
+    then_found at end depth bytes (tokens_within n end) (token_from end depth bytes) whole (λ at' depth' rest less whole' le'. within_found n at' end depth' rest (omega arith) whole' le') (first_found at end depth bytes whole le)
+
+within_read : (ts : List Located) (last : Result Located ConfigFault) (n at end depth : ℕ) (bytes : List ℕ) → length bytes < n → at + length bytes ≡ end → depth ≤ 64 → IsText at end depth bytes ts last → tokens_within n end depth bytes ≡ record { tokens = ts; last = last }
+unfolding tokens_within
+within_read ts last zero at end depth bytes lt whole le text = absurd (omega arith)
+within_read [] (Ok t) (suc n) at end depth bytes lt whole le (is, gap, _) = rw (first_read at end depth bytes _ whole le (AtEnd gap), is) refl
+within_read [] (Err e) (suc n) at end depth bytes lt whole le fault = rw (first_read at end depth bytes _ whole le (Fault e fault)) refl
+within_read (t ∷ ts) last (suc n) at end depth bytes lt whole le text =
+    let (own, rest, next, within, more) = split_first at end depth bytes t ts last text in
+    let h = behind_token at end bytes t own rest next whole in
+    rw (first_read at end depth bytes _ whole le (Next t own rest next within), no_end t.word own rest next.spelled, within_read ts last n (t.at + length own) end (depth_behind depth t.word) rest (omega (arith, h.0)) h.1 within more) refl
+
+stream_found : (at end depth : ℕ) (bytes : List ℕ) → at + length bytes ≡ end → depth ≤ 64 → IsStream at end depth bytes (tokens_of end depth bytes)
 unfolding tokens_of
-whole_of text = within_whole (suc (length text)) 0 (length text) 0 text (omega arith) (omega arith) (omega arith)
+stream_found at end depth bytes whole le = within_found (suc (length bytes)) at end depth bytes (omega arith) whole le
 
-pub text_read : (text : List ℕ) (ts : List Located) → AreTokensOf text ts → tokens_of (length text) 0 text ≡ ended (length text) ts
+stream_read : (at end depth : ℕ) (bytes : List ℕ) (s : Stream) → at + length bytes ≡ end → depth ≤ 64 → IsStream at end depth bytes s → tokens_of end depth bytes ≡ s
 unfolding tokens_of
-text_read text ts are = within_read ts (suc (length text)) 0 (length text) 0 text (omega arith) (omega arith) are.spelled are.nested
-
-pub text_found : (text : List ℕ) (ts : List Located) → tokens_of (length text) 0 text ≡ ended (length text) ts → AreTokensOf text ts
-text_found text ts e =
-    let P : Stream → Type 0 = λ s. IfOk s.last (λ _. IsWhole 0 (length text) 0 text s) in
-    let h : IsWhole 0 (length text) 0 text (ended (length text) ts) = subst P e (whole_of text) in
-    record { spelled = h.spelled; nested = h.nested }
-
-pub text_ends : (text : List ℕ) (s : Stream) → tokens_of (length text) 0 text ≡ s → IfOk s.last (λ t. t ≡ end_at (length text))
-text_ends text s e =
-    let P : Stream → Type 0 = λ q. IfOk q.last (λ _. IsWhole 0 (length text) 0 text q) in
-    by s.last refl (subst P e (whole_of text))
-  where
-    same : (t u : Located) → ◌≡◌ {A = Result Located ConfigFault} (Ok t) (Ok u) → t ≡ u
-    same t u e = cc
-
-    by : (r : Result Located ConfigFault) → s.last ≡ r → IfOk r (λ _. IsWhole 0 (length text) 0 text s) → IfOk r (λ t. t ≡ end_at (length text))
-    by (Err f) is h = tt
-    by (Ok t) is h = same t (end_at (length text)) (sym is ∙ h.ends)
+stream_read at end depth bytes s whole le text = within_read s.tokens s.last (suc (length bytes)) at end depth bytes (omega arith) whole le text
 
 pub text_spelled : (text : List ℕ) (ts : List Located) → AreTokensOf text ts ↔ (tokens_of (length text) 0 text ≡ ended (length text) ts)
-text_spelled text ts = (text_read text ts, text_found text ts)
+text_spelled text ts = (λ are. stream_read 0 (length text) 0 text (ended (length text) ts) (omega arith) (omega arith) (refl, are.spelled, are.nested), found)
+  where
+    found : tokens_of (length text) 0 text ≡ ended (length text) ts → AreTokensOf text ts
+    found e =
+        let h = subst (IsStream 0 (length text) 0 text) e (stream_found 0 (length text) 0 text (omega arith) (omega arith)) in
+        record { spelled = h.1; nested = h.2 }
+
+pub text_stops : (text : List ℕ) (ts : List Located) (e : ConfigFault) → StopAt 0 0 text ts e ↔ (tokens_of (length text) 0 text ≡ stopped ts e)
+text_stops text ts e = (λ stop. stream_read 0 (length text) 0 text (stopped ts e) (omega arith) (omega arith) stop, λ is. subst (IsStream 0 (length text) 0 text) is (stream_found 0 (length text) 0 text (omega arith) (omega arith)))
+
+pub text_ends : (text : List ℕ) → IfOk (tokens_of (length text) 0 text).last (λ t. t ≡ end_at (length text))
+text_ends text = by (tokens_of (length text) 0 text).tokens (tokens_of (length text) 0 text).last (stream_found 0 (length text) 0 text (omega arith) (omega arith))
+  where
+    by : (ts : List Located) (last : Result Located ConfigFault) → IsText 0 (length text) 0 text ts last → IfOk last (λ t. t ≡ end_at (length text))
+    by ts (Ok t) h = h.0
+    by ts (Err e) h = tt
+
+-- what `next` answers, where these tokens are left: the first and fewer, or the fault
+abbrev pub IsTaken : ℕ → Stream → Result (Located × ℕ × List ℕ) ConfigFault → Type 0
+IsTaken end s (Ok x) = (taken s ≡ Ok (x.0, tokens_of end x.1 x.2)) × (length (tokens_of end x.1 x.2).tokens ≤ length s.tokens) × (is_end x.0.word ≡ false → length (tokens_of end x.1 x.2).tokens < length s.tokens)
+IsTaken end s (Err e) = Fails e (taken s) × IsTokenFault e.kind
+
+unless_memory : (k : FaultKind) {P : Type 0} → P → UnlessMemory k P
+unless_memory NoMemory h = tt
+unless_memory _ h = h
+
+first_taken : (at end depth : ℕ) (bytes : List ℕ) (s : Stream) (r : Result (Located × ℕ × List ℕ) ConfigFault) → at + length bytes ≡ end → depth ≤ 64 → tokens_of end depth bytes ≡ s → First at end depth bytes r → IsTaken end s r
+first_taken at end depth bytes s _ whole le is (AtEnd gap) =
+    let now : s ≡ ended end [] = sym is ∙ stream_read at end depth bytes (ended end []) whole le (refl, gap, tt) in
+    let after : tokens_of end depth [] ≡ ended end [] = stream_read end end depth [] (ended end []) (omega arith) le (refl, Closed Nothing, tt) in
+    rw (now, after) (refl, omega arith, λ f. absurd (true≢false f))
+first_taken at end depth bytes s _ whole le is (Next t own rest next within) =
+    let h = behind_token at end bytes t own rest next whole in
+    let more = tokens_of end (depth_behind depth t.word) rest in
+    let now : s ≡ record { tokens = t ∷ more.tokens; last = more.last } = sym is ∙ stream_read at end depth bytes _ whole le (add_first at end depth bytes t own rest more.tokens more.last next within (stream_found (t.at + length own) end (depth_behind depth t.word) rest h.1 within)) in
+    rw now (refl, omega arith, λ _. omega arith)
+first_taken at end depth bytes s _ whole le is (Fault e fault) =
+    let now : s ≡ stopped [] e = sym is ∙ stream_read at end depth bytes (stopped [] e) whole le fault in
+    (unless_memory e.kind (ap taken now), stop_kind depth fault.rest fault.behind e.kind fault.fault)
+
+pub next_taken : (end depth : ℕ) (bytes : List ℕ) (s : Stream) (r : Result (Located × ℕ × List ℕ) ConfigFault) → length bytes ≤ end → depth ≤ 64 → tokens_of end depth bytes ≡ s → token_from end depth bytes ≡ r → IsTaken end s r
+next_taken end depth bytes s r no_more le is read =
+    let whole : end - length bytes + length bytes ≡ end = omega arith in
+    first_taken (end - length bytes) end depth bytes s r whole le is (subst (First (end - length bytes) end depth bytes) read (first_found (end - length bytes) end depth bytes whole le))

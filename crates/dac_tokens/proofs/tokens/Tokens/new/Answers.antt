@@ -1,11 +1,8 @@
-use Rattle.std.proofs.Common.{length, refl}
-use Rattle.dac_tokens.specs.Stream.{tokens_of}
-use Rattle.dac_tokens.proofs.StopTexts.{text_stops}
-use Rattle.dac_tokens.proofs.Texts.{text_ends, text_spelled}
+use Rattle.dac_tokens.proofs.Texts.{text_ends, text_spelled, text_stops}
 use Rattle.dac_tokens.proofs.tokens.Tokens.new.Goals as goal
 
 pub returns-clause-end : goal.returns-clause-end
-returns-clause-end c = text_ends c.args.text.now (tokens_of (length c.args.text.now) 0 c.args.text.now) refl
+returns-clause-end c = text_ends c.args.text.now
 
 pub returns-clause-spelled : goal.returns-clause-spelled
 returns-clause-spelled c = λ ts. text_spelled c.args.text.now ts
