@@ -1,12 +1,17 @@
 -- What is written keeps the limits where its sections do.
-use Rattle.std.proofs.Common.{◌≡◌, ℕ, suc, ◌<◌, ◌≤◌, Bool, true, false, ◌||◌, cond, List, [], ◌∷◌, ◌++◌, length, length-append, map, fold, inl, inr, Result, Ok, Err, refl, sym, ap, subst, ◌∙◌, arith}
+use Rattle.std.proofs.Common.{◌≡◌, ℕ, ◌<◌, ◌≤◌, true, false, List, [], ◌∷◌, ◌++◌, length, length-append, map, fold, inl, inr, Result, Ok, Err, refl, sym, subst, ◌∙◌, arith}
 use Rattle.std.specs.Prelude.{All, IfOk}
-use Rattle.std.specs.List.{IsDistinct, AllByRecursion}
+use Rattle.std.specs.List.{IsDistinct, AllByRecursion as Each}
+use Rattle.std.specs.Set.{is_member}
+use Rattle.std.specs.Cmp.{IsEquivalence}
 use Rattle.std.specs.Cmp.Lexicographic.{same_text}
 use Rattle.std.specs.Str.{bytes_eq}
+use Rattle.std.proofs.lemmas.Bool.{cond_both, or_left, or_right, or_cases}
+use Rattle.std.proofs.lemmas.Cmp.{nat_list_eq_equiv}
 use Rattle.std.proofs.lemmas.List.Folds.{list_any-append}
-use Rattle.std.proofs.lemmas.Slice.Eq.{bytes_eq-Decides}
-use Rattle.std.proofs.lemmas.List.Elements.{All-nil}
+use Rattle.std.proofs.lemmas.List.Sums.{fold-append}
+use Rattle.std.proofs.lemmas.List.Elements.{All-nil, All-from_recursion as each_all, recursion_from_All as all_each}
+use Rattle.std.proofs.lemmas.Map.Made.{length-le_from_is_member}
 use Rattle.dac_tokens.specs.declared.fault.ConfigFault.{ConfigFault}
 use Rattle.dac_shapes.specs.declared.draft.Draft.{Draft}
 use Rattle.dac_shapes.specs.Written.{App, Param, Distributed, Permissions, Mandatory, Optional, Timeout, Section, Kernel, Written, unsaid, put, put_all, put_section}
@@ -15,105 +20,54 @@ use Rattle.dac_shapes.specs.Within.{joined, params_in, names_of_app, names_of_pa
 use Rattle.dac_tokens.specs.Words.{Word}
 use Rattle.dac_shapes.specs.Grammar.{Parted, IsListOf, IsNode, IsItem, IsApp, IsParam, IsSection, IsFile, IsTextOf}
 use Rattle.dac_shapes.specs.Views.{draft_of}
-use Rattle.dac_shapes.proofs.Walk.{Each, each_append, each_left, each_right, IsShort, with_all, AllNew, new_append}
-use Rattle.dac_shapes.proofs.Within.{all_each, each_all, each_by, new_distinct}
+use Rattle.dac_shapes.proofs.Walk.{each_append, each_left, each_right, IsShort, with_all, AllNew, new_append}
+use Rattle.dac_shapes.proofs.Within.{each_by, new_distinct}
 
 -- ---- each name where it first stands
 
-with_name_new : (b : Bool) (met : List (List ℕ)) (name : List ℕ) → is_among name met ≡ b → AllNew [] met → AllNew [] (cond b met (met ++ name ∷ []))
-with_name_new true met name e new = new
-with_name_new false met name e new = new_append [] met (name ∷ []) new (e, tt)
-
 all_new : (met names : List (List ℕ)) → AllNew [] met → AllNew [] (with_all met names)
 all_new met [] new = new
-all_new met (name ∷ names) new = all_new (with_name met name) names (with_name_new (is_among name met) met name refl new)
-
-with_name_short : (b : Bool) (met : List (List ℕ)) (name : List ℕ) → Each IsShort met → IsShort name → Each IsShort (cond b met (met ++ name ∷ []))
-with_name_short true met name all short = all
-with_name_short false met name all short = each_append IsShort met (name ∷ []) all (short, tt)
+all_new met (name ∷ names) new = all_new (with_name met name) names (cond_both (is_among name met) met (met ++ name ∷ []) (AllNew []) (λ _. new) (λ apart. new_append [] met (name ∷ []) new (apart, tt)))
 
 all_short : (met names : List (List ℕ)) → Each IsShort met → Each IsShort names → Each IsShort (with_all met names)
 all_short met [] met_short short = met_short
-all_short met (name ∷ names) met_short short = all_short (with_name met name) names (with_name_short (is_among name met) met name met_short short.0) short.1
+all_short met (name ∷ names) met_short short = all_short (with_name met name) names (cond_both (is_among name met) met (met ++ name ∷ []) (Each IsShort) (λ _. met_short) (λ _. each_append IsShort met (name ∷ []) met_short (short.0, tt))) short.1
 
 -- this name is one of these
 abbrev IsOf : List (List ℕ) → List ℕ → Type 0
 IsOf names name = is_among name names ≡ true
 
-or_left : (a b : Bool) → a ≡ true → (a || b) ≡ true
-or_left true b e = refl
-or_left false b e = absurd cc
-
-or_rest : (a b : Bool) → (a || b) ≡ true → a ≡ false → b ≡ true
-or_rest true b e f = absurd cc
-or_rest false b e f = e
-
-or_then : (a b c : Bool) → (a || b) ≡ true → (b ≡ true → c ≡ true) → (a || c) ≡ true
-or_then true b c e k = refl
-or_then false b c e k = k e
-
-or_right : (a b : Bool) → b ≡ true → (a || b) ≡ true
-or_right true b e = refl
-or_right false b e = e
-
-still_among : (met more : List (List ℕ)) (name : List ℕ) → IsOf met name → IsOf (met ++ more) name
-still_among met more name e = list_any-append (λ other. bytes_eq other name) met more ∙ or_left (is_among name met) (is_among name more) e
-
-itself : (name : List ℕ) → bytes_eq name name ≡ true
-itself name = (bytes_eq-Decides name name).1 refl
-
-one_kept : (b : Bool) (met : List (List ℕ)) (name other : List ℕ) → IsOf met other → IsOf (cond b met (met ++ name ∷ [])) other
-one_kept true met name other e = e
-one_kept false met name other e = still_among met (name ∷ []) other e
-
 all_kept : (met names : List (List ℕ)) (other : List ℕ) → IsOf met other → IsOf (with_all met names) other
 all_kept met [] other e = e
-all_kept met (name ∷ names) other e = all_kept (with_name met name) names other (one_kept (is_among name met) met name other e)
+all_kept met (name ∷ names) other e =
+    let kept = cond_both (is_among name met) met (met ++ name ∷ []) (λ l. IsOf l other) (λ _. e) (λ _. list_any-append (λ n. bytes_eq n other) met (name ∷ []) ∙ or_left (is_among other met) (is_among other (name ∷ [])) e) in
+    all_kept (with_name met name) names other kept
 
-one_among : (b : Bool) (met : List (List ℕ)) (name : List ℕ) → is_among name met ≡ b → IsOf (cond b met (met ++ name ∷ [])) name
-one_among true met name e = e
-one_among false met name e = list_any-append (λ other. bytes_eq other name) met (name ∷ []) ∙ or_right (is_among name met) (bytes_eq name name || false) (or_left (bytes_eq name name) false (itself name))
+bytes_laws : IsEquivalence bytes_eq
+bytes_laws = nat_list_eq_equiv
 
 all_among : (met names : List (List ℕ)) → Each (IsOf (with_all met names)) names
 all_among met [] = tt
-all_among met (name ∷ names) = (all_kept (with_name met name) names name (one_among (is_among name met) met name refl), all_among (with_name met name) names)
+all_among met (name ∷ names) =
+    let last = or_left (bytes_eq name name) false (bytes_laws.refl name) in
+    let here = cond_both (is_among name met) met (met ++ name ∷ []) (λ l. IsOf l name) (λ e. e) (λ _. list_any-append (λ n. bytes_eq n name) met (name ∷ []) ∙ or_right (is_among name met) (is_among name (name ∷ [])) last) in
+    (all_kept (with_name met name) names name here, all_among (with_name met name) names)
 
--- ---- a list has no more different names than there are
+-- ---- different names that are all among others are no more than those
 
--- these names, but the first that is this one
-without : List ℕ → List (List ℕ) → List (List ℕ)
-without name [] = []
-without name (n ∷ ns) = cond (bytes_eq n name) ns (n ∷ without name ns)
+member_is : (name : List ℕ) (names : List (List ℕ)) → is_member bytes_eq names name ≡ is_among name names
+member_is name [] = refl
+member_is name (n ∷ ns) = rw (bytes_laws.symm name n, member_is name ns) refl
 
-without_first : (b : Bool) (n : List ℕ) (ns rest : List (List ℕ)) (m : ℕ) → (b ≡ false → suc (length rest) ≡ m) → length ns ≡ m → suc (length (cond b ns (n ∷ rest))) ≡ suc m
-without_first true n ns rest m h e = ap suc e
-without_first false n ns rest m h e = ap suc (h refl)
-
-one_less : (name : List ℕ) (names : List (List ℕ)) → IsOf names name → suc (length (without name names)) ≡ length names
-unfolding without
-one_less name [] e = absurd cc
-one_less name (n ∷ ns) e = without_first (bytes_eq n name) n ns (without name ns) (length ns) (λ f. one_less name ns (or_rest (bytes_eq n name) (is_among name ns) e f)) refl
-
-not_first : (b : Bool) (n other : List ℕ) (ns rest : List (List ℕ)) → (b ≡ true → bytes_eq n other ≡ false) → (bytes_eq n other || is_among other ns) ≡ true → (is_among other ns ≡ true → IsOf rest other) → IsOf (cond b ns (n ∷ rest)) other
-not_first true n other ns rest h e k = or_rest (bytes_eq n other) (is_among other ns) e (h refl)
-not_first false n other ns rest h e k = or_then (bytes_eq n other) (is_among other ns) (is_among other rest) e k
-
-others_stay : (name other : List ℕ) (names : List (List ℕ)) → bytes_eq name other ≡ false → IsOf names other → IsOf (without name names) other
-unfolding without
-others_stay name other [] apart e = absurd cc
-others_stay name other (n ∷ ns) apart e =
-    not_first (bytes_eq n name) n other ns (without name ns) (λ f. ap (λ (x : List ℕ). bytes_eq x other) (same_text n name (sym f)) ∙ apart) e (others_stay name other ns apart)
+one_of : (names nodes : List (List ℕ)) (name : List ℕ) → Each (IsOf nodes) names → IsOf names name → IsOf nodes name
+one_of [] nodes name of e = absurd cc
+one_of (n ∷ ns) nodes name of e = elim (or_cases (bytes_eq n name) (is_among name ns) e) [
+  | inl h ↦ subst (IsOf nodes) (same_text n name (sym h)) of.0
+  | inr h ↦ one_of ns nodes name of.1 h
+]
 
 few_of : (names nodes : List (List ℕ)) → IsDistinct bytes_eq names → Each (IsOf nodes) names → length names ≤ length nodes
-unfolding IsDistinct
-few_of [] nodes distinct of = omega arith
-few_of (name ∷ names) nodes distinct of =
-    let rest = few_of names (without name nodes) distinct.1 (others names distinct.0 of.1) in
-    omega (arith, rest, one_less name nodes of.0)
-  where
-    others : (ys : List (List ℕ)) → AllByRecursion (λ y. bytes_eq name y ≡ false) ys → Each (IsOf nodes) ys → Each (IsOf (without name nodes)) ys
-    others [] d h = tt
-    others (y ∷ ys) d h = (others_stay name y nodes d.0 h.0, others ys d.1 h.1)
+few_of names nodes distinct of = length-le_from_is_member bytes_laws names nodes distinct (λ name e. member_is name nodes ∙ one_of names nodes name of (sym (member_is name names) ∙ e))
 
 -- ---- no group is empty
 
@@ -125,11 +79,7 @@ HasMembers app = Each HasMember app.groups
 
 abbrev ParamHasMembers : Param → Type 0
 ParamHasMembers (Distributed apps) = Each HasMembers apps
-ParamHasMembers (Permissions permissions) = Unit {0}
-ParamHasMembers (Mandatory names) = Unit {0}
-ParamHasMembers (Optional names) = Unit {0}
-ParamHasMembers (Timeout wait) = Unit {0}
-ParamHasMembers Param.Other = Unit {0}
+ParamHasMembers _ = Unit {0}
 
 abbrev SectionHasMembers : Section → Type 0
 SectionHasMembers (Kernel params) = Each ParamHasMembers params
@@ -158,11 +108,7 @@ some_app words app h = let list = h.2.4 in each_parted IsItem HasMember some_ite
 
 some_param : (words : List Word) (param : Param) → IsParam words param → ParamHasMembers param
 some_param words (Distributed apps) h = each_listed IsApp HasMembers some_app h.0 apps h.2
-some_param words (Permissions permissions) h = tt
-some_param words (Mandatory names) h = tt
-some_param words (Optional names) h = tt
-some_param words (Timeout wait) h = tt
-some_param words Param.Other h = tt
+some_param words _ h = tt
 
 some_section : (words : List Word) (section : Section) → IsSection words section → SectionHasMembers section
 some_section words (Kernel params) h = each_listed IsParam ParamHasMembers some_param h.0 params h.2
@@ -208,11 +154,7 @@ put_all_keeps nodes w (param ∷ params) within some named k =
 -- sections say what their parameters say
 said : (w : Written) (sections : List Section) → fold put_section w sections ≡ put_all w (params_in sections)
 said w [] = refl
-said w (Kernel params ∷ sections) = said (put_all w params) sections ∙ sym (put_both w params (params_in sections))
-  where
-    put_both : (v : Written) (xs ys : List Param) → put_all v (xs ++ ys) ≡ put_all (put_all v xs) ys
-    put_both v [] ys = refl
-    put_both v (x ∷ xs) ys = put_both (put v x) xs ys
+said w (Kernel params ∷ sections) = said (put_all w params) sections ∙ sym (fold-append put w params (params_in sections))
 said w (Section.Other ∷ sections) = said w sections
 
 nodes_stay : (w : Written) (params : List Param) → (put_all w params).nodes ≡ w.nodes
@@ -221,11 +163,7 @@ nodes_stay w (param ∷ params) = nodes_stay (put w param) params ∙ by param
   where
     by : (p : Param) → (put w p).nodes ≡ w.nodes
     by (Distributed apps) = refl
-    by (Permissions permissions) = refl
-    by (Mandatory names) = refl
-    by (Optional names) = refl
-    by (Timeout wait) = refl
-    by Param.Other = refl
+    by _ = refl
 
 no_apps : AreAppsWithin []
 unfolding IsDistinct

@@ -1,5 +1,5 @@
 -- Faults that are passed on.
-use Rattle.std.proofs.Common.{◌≡◌, ℕ, Result, Ok, Err, ap}
+use Rattle.std.proofs.Common.{◌≡◌, ℕ, Result, Ok, Err, sym, ap, ◌∙◌}
 use Rattle.dac_tokens.specs.declared.fault.FaultKind.{FaultKind}
 use Rattle.dac_tokens.specs.declared.fault.FaultKind.TheVariants.{BadToken, Unsupported, NoMemory}
 use Rattle.dac_tokens.specs.declared.fault.ConfigFault.{ConfigFault}
@@ -16,6 +16,14 @@ or_memory _ at P Q f h = f h
 -- where one reading fails, another does, if its fault is the other's
 pub fails_too : {A B : Type 0} (e : ConfigFault) (r : Result A ConfigFault) (q : Result B ConfigFault) → (r ≡ Err e → q ≡ Err e) → Fails e r → Fails e q
 fails_too e r q f h = or_memory e.kind e.at _ _ f h
+
+-- where the first of two steps fails, both do
+pub fails_then : {A B : Type 0} (e : ConfigFault) (r : Result A ConfigFault) (f : A → Result B ConfigFault) (total : Result B ConfigFault) → (r >>= f) ≡ total → Fails e r → Fails e total
+fails_then e r f total whole h = fails_too e r total (λ q. sym whole ∙ ap (λ x. x >>= f) q) h
+
+-- where it gives something, the second step is left
+pub then_is : {A B : Type 0} (r : Result A ConfigFault) (f : A → Result B ConfigFault) (x : A) (total : Result B ConfigFault) → (r >>= f) ≡ total → r ≡ Ok x → f x ≡ total
+then_is r f x total whole is = sym (ap (λ q. q >>= f) is) ∙ whole
 
 -- a claim about a fault that isn't `NoMemory`
 pub unless_memory : (k : FaultKind) (at : ℕ) (P : Type 0) → OrMemory k at P → UnlessMemory k P

@@ -4,16 +4,16 @@ use Rattle.std.specs.Str.{bytes_eq}
 use Rattle.std.proofs.lemmas.Bool.{ltb-true, ltb-false, leb-false, eqb-true}
 use Rattle.dac_tokens.specs.declared.fault.ConfigFault.{ConfigFault}
 use Rattle.dac_tokens.specs.declared.token.Symbol.TheVariants.{OpenList, CloseList, OpenTuple, CloseTuple, Comma}
-use Rattle.dac_tokens.specs.declared.fault.FaultKind.TheVariants.{BadShape, EmptyList, EmptyTuple, TwiceInList, TwiceApp, TooManyApps, TooManyNodes, NumberTooLarge, NameTooLong}
+use Rattle.dac_tokens.specs.declared.fault.FaultKind.TheVariants.{BadShape, EmptyTuple, NumberTooLarge, NameTooLong}
 use Rattle.dac_tokens.specs.Gives.{◌>>=◌}
-use Rattle.dac_tokens.specs.Words.{Word, Mark, Name, Number, Text, End, Located, is_end}
+use Rattle.dac_tokens.specs.Words.{Word, Mark, Name, Number, Located, is_end}
 use Rattle.dac_shapes.specs.declared.draft.SyncWait.{SyncWait}
-use Rattle.dac_shapes.specs.declared.draft.SyncWait.TheVariants.{Forever, Ms}
+use Rattle.dac_shapes.specs.declared.draft.SyncWait.TheVariants.{Ms}
 use Rattle.dac_shapes.specs.declared.param.ParamName.{ParamName}
 use Rattle.dac_shapes.specs.declared.param.ParamName.TheVariants as named
 use Rattle.dac_shapes.specs.Written.{App, Permission, Param, Distributed, Permissions, Mandatory, Optional, Timeout, Section, Kernel, name_of, spelled}
-use Rattle.dac_shapes.specs.Limits.{Seen, is_among, has_param, with_node, MayNode, with_nodes, MayNodes, with_groups, MayGroups, listing, with_app, MayApp, with_permission, MayPermission, with_param, MayValue, MayParam, has_kernel, with_section, MaySection}
-use Rattle.dac_shapes.specs.Shape.{State, fails, is_mark, token, symbol_at, atom_of, short_name_of, node_of, names_at, item_at, items_at, groups_at, timeout_of, timeout_at, wait_of, value_from, app_name_of, app_value_at, app_at, flag_of, permission_value_at, permission_at, param_named, first_param, param_name_of, param_value_at, param_rest_at, param_at, names_kernel, kernel_at, section_rest_at, section_at, passed_at, closed, pair_at, is_text, list_of, room}
+use Rattle.dac_shapes.specs.Limits.{Seen, AllMay, steps, is_among, has_param, with_node, MayNode, with_nodes, MayNodes, with_groups, MayGroups, listing, with_app, MayApp, with_permission, MayPermission, with_param, MayValue, MayParam, has_kernel, with_section, MaySection}
+use Rattle.dac_shapes.specs.Shape.{State, fails, is_mark, token, atom_of, short_name_of, node_of, names_at, item_at, groups_at, timeout_of, timeout_at, wait_of, value_from, app_name_of, app_value_at, app_at, flag_of, permission_value_at, permission_at, param_named, first_param, param_name_of, param_value_at, param_rest_at, param_at, names_kernel, kernel_at, section_rest_at, section_at, closed, list_of, room}
 use Rattle.dac_shapes.specs.Grammar.{between, IsListOf, IsNode, IsItem, IsNodeList, IsMs, IsTimeout, IsApp, IsFlag, IsPermission, IsWait, IsParam, IsSection}
 use Rattle.dac_shapes.proofs.Moves.{bind_ok, held, required, passed, ok_same, words_in, EndsWell, Moves, Moves-then, same_last, token_is, token_moves, word_passes, mark_is, symbol_passes, back}
 use Rattle.dac_shapes.specs.laws.Names.{chosen, is_named, same_seen, param_is}
@@ -25,10 +25,7 @@ use Rattle.dac_shapes.proofs.FoundTerms.{passed_found}
 atom_is : (w : Word) (at : ℕ) (name : List ℕ) → atom_of (record { word = w; at = at }) ≡ Ok name → w ≡ Name name
 unfolding atom_of
 atom_is (Name n) at name e = ap Name (ok_same n name (Ok n) refl e)
-atom_is (Mark x) at name e = absurd cc
-atom_is (Number b ds) at name e = absurd cc
-atom_is Text at name e = absurd cc
-atom_is End at name e = absurd cc
+atom_is _ at name e = absurd cc
 
 short_name_is : (t : Located) (name : List ℕ) → short_name_of t ≡ Ok name → (t.word ≡ Name name) × (length name ≤ 255)
 unfolding short_name_of
@@ -43,14 +40,13 @@ unless_first : (a b : Bool) → (not a && b) ≡ false → a ≡ false → b ≡
 unless_first true b e f = absurd cc
 unless_first false b e f = e
 
-pub node_found : (repeats : Bool) (t : Located) (s : State) (name : List ℕ) (u : State) → node_of repeats t s ≡ Ok (name, u) → Reads IsNode with_node (MayNode repeats) t s name u
+pub node_found : (repeats : Bool) (before : List (List ℕ)) (t : Located) (s : State) (name : List ℕ) (u : State) → EndsWell s → node_of repeats t s ≡ Ok (name, u) → Reads IsNode with_node (MayNode repeats) t s name u
 unfolding node_of
-node_found repeats t s name u e =
-    let f2 : List ℕ → Result (List ℕ × State) ConfigFault = λ n. cond (not (is_among n s.seen.met) && leb 16 (length s.seen.met)) (fails TooManyNodes t.at) (Ok (n, record s { seen = with_node s.seen n })) in
-    let b = bind_ok (short_name_of t) (λ n. cond (not repeats && is_among n s.seen.listed) (fails TwiceInList t.at) (f2 n)) (name, u) e in
+node_found repeats before t s name u well e =
+    let b = bind_ok _ _ _ e in
     let w = short_name_is t b.0 b.1 in
-    let p = passed (not repeats && is_among b.0 s.seen.listed) _ (f2 b.0) (name, u) b.2 in
-    let q = passed (not (is_among b.0 s.seen.met) && leb 16 (length s.seen.met)) _ (Ok (b.0, record s { seen = with_node s.seen b.0 })) (name, u) p.1 in
+    let p = passed _ _ _ _ b.2 in
+    let q = passed _ _ _ _ p.1 in
     subst (λ (y : List ℕ × State). Reads IsNode with_node (MayNode repeats) t s y.0 y.1) (ok_same (b.0, record s { seen = with_node s.seen b.0 }) (name, u) _ refl q.1) (record {
       ws = Name b.0 ∷ [];
       is = refl;
@@ -63,9 +59,6 @@ node_found repeats t s name u e =
       };
       seen = refl;
     })
-
-pub nodes_found : (repeats : Bool) (before : List (List ℕ)) (t : Located) (s : State) (name : List ℕ) (u : State) → EndsWell s → node_of repeats t s ≡ Ok (name, u) → Reads IsNode with_node (MayNode repeats) t s name u
-nodes_found repeats before t s name u well e = node_found repeats t s name u e
 
 -- ---- node lists
 
@@ -85,7 +78,7 @@ item_found before t s group u well e =
           let w = mark_is OpenTuple t.word h.0 in
           let k = bind_ok (token s) f1 (group, u) h.1 in
           let p = passed (is_mark CloseTuple k.0.0.word) _ (names_at false CloseTuple k.0.0 k.0.1) (group, u) k.2 in
-          let l = list_found IsNode (λ _. node_of false) CloseTuple with_node (λ _. MayNode false) (nodes_found false) (room k.0.1) [] k.0.0 k.0.1 group u (same_last s k.0.0 k.0.1 well k.1) p.1 in
+          let l = list_found IsNode (λ _. node_of false) CloseTuple with_node (λ _. MayNode false) (node_found false) (room k.0.1) [] k.0.0 k.0.1 group u (same_last s k.0.0 k.0.1 well k.1) p.1 in
           let same : k.0.1.seen ≡ s.seen = (token_is s k.0.0 k.0.1 k.1).1 in
           subst (λ (g : List (List ℕ)). Reads IsItem with_nodes (MayNodes false) t s g u) (sym l.whole) (record {
             ws = between OpenTuple l.ws CloseTuple;
@@ -97,7 +90,7 @@ item_found before t s group u well e =
           })
       | inr h ↦
           let k = bind_ok (node_of false t s) (λ name. Ok (name.0 ∷ [], name.1)) (group, u) h.1 in
-          let r = node_found false t s k.0.0 k.0.1 k.1 in
+          let r = node_found false [] t s k.0.0 k.0.1 well k.1 in
           let q = ok_same (k.0.0 ∷ [], k.0.1) (group, u) _ refl k.2 in
           subst (λ (p : List (List ℕ) × State). Reads IsItem with_nodes (MayNodes false) t s p.0 p.1) q (record { ws = r.ws; is = inl (k.0.0, r.is, refl); moves = r.moves; begun = r.begun; may = (r.may, tt); seen = r.seen })
     ]
@@ -113,11 +106,10 @@ pub groups_found : (t : Located) (s : State) (groups : List (List (List ℕ))) (
 unfolding groups_at
 groups_found t s groups u well e =
     let fresh : State → State = λ v. record v { seen = listing v.seen } in
-    let f1 : Located × State → Result (List (List (List ℕ)) × State) ConfigFault = λ first. cond (is_mark CloseList first.0.word) (fails EmptyList t.at) (items_at first.0 (fresh first.1)) in
-    let h = required (is_mark OpenList t.word) (token s >>= f1) _ (groups, u) e in
+    let h = required _ _ _ _ e in
     let w = mark_is OpenList t.word h.0 in
-    let k = bind_ok (token s) f1 (groups, u) h.1 in
-    let p = passed (is_mark CloseList k.0.0.word) _ (items_at k.0.0 (fresh k.0.1)) (groups, u) k.2 in
+    let k = bind_ok _ _ _ h.1 in
+    let p = passed _ _ _ _ k.2 in
     let l = list_found IsItem (λ _. item_at) CloseList with_nodes (λ _. MayNodes false) item_found (room (fresh k.0.1)) [] k.0.0 (fresh k.0.1) groups u (same_last s k.0.0 k.0.1 well k.1) p.1 in
     let same : k.0.1.seen ≡ s.seen = (token_is s k.0.0 k.0.1 k.1).1 in
     subst (λ (g : List (List (List ℕ))). Reads IsNodeList with_list MayList t s g u) (sym l.whole) (record {
@@ -156,15 +148,11 @@ untimed t s n t1 u well e =
 
 timed : (w : Word) (at : ℕ) (s : State) (n : ℕ) (t1 : Located) (u : State) → EndsWell s → timeout_at (record { word = w; at = at }) s ≡ Ok (n, t1, u) → Timed (record { word = w; at = at }) s n t1 u
 unfolding timeout_at
-timed (Name name) at s n t1 u well e = untimed (record { word = Name name; at = at }) s n t1 u well e
-timed (Mark x) at s n t1 u well e = untimed (record { word = Mark x; at = at }) s n t1 u well e
-timed Text at s n t1 u well e = untimed (record { word = Text; at = at }) s n t1 u well e
-timed End at s n t1 u well e = untimed (record { word = End; at = at }) s n t1 u well e
 timed (Number negative digits) at s n t1 u well e =
-    let a = bind_ok (timeout_of at negative (value_from 0 digits)) (λ m. symbol_at Comma s >>= λ comma. token comma >>= λ next. Ok (m, next.0, next.1)) (n, t1, u) e in
-    let b = bind_ok (symbol_at Comma s) (λ comma. token comma >>= λ next. Ok (a.0, next.0, next.1)) (n, t1, u) a.2 in
+    let a = bind_ok _ _ _ e in
+    let b = bind_ok _ _ _ a.2 in
     let m = symbol_passes Comma s b.0 well b.1 in
-    let k = bind_ok (token b.0) (λ next. Ok (a.0, next.0, next.1)) (n, t1, u) b.2 in
+    let k = bind_ok _ _ _ b.2 in
     let q = ok_same (a.0, k.0.0, k.0.1) (n, t1, u) _ refl k.2 in
     subst (λ (p : ℕ × Located × State). Timed (record { word = Number negative digits; at = at }) s p.0 p.1 p.2) q (record {
       well = same_last b.0 k.0.0 k.0.1 m.well k.1;
@@ -173,6 +161,7 @@ timed (Number negative digits) at s n t1 u well e =
           let next = token_moves b.0 k.0.0 k.0.1 m.well k.1 begun in
           (Number negative digits ∷ Mark Comma ∷ [], inr (Number negative digits, refl, ms_is at negative digits a.0 a.1), record { words = ap (λ (v : List Word). Number negative digits ∷ v) (m.moves.words ∙ ap (λ (v : List Word). Mark Comma ∷ v) next.words); last = next.last ∙ m.moves.last }, refl);
     })
+timed w at s n t1 u well e = untimed (record { word = w; at = at }) s n t1 u well e
 
 -- a name that is short, new, and not the 65th
 record FineApp (before : List App) (name : List ℕ) : Type 0 where
@@ -183,9 +172,9 @@ record FineApp (before : List App) (name : List ℕ) : Type 0 where
 app_named : (before : List App) (t : Located) (name : List ℕ) → app_name_of before t ≡ Ok name → (t.word ≡ Name name) × FineApp before name
 unfolding app_name_of
 app_named before t name e =
-    let b = bind_ok (short_name_of t) (λ n. cond (is_among n (map (λ a. a.name) before)) (fails TwiceApp t.at) (cond (leb 64 (length before)) (fails TooManyApps t.at) (Ok n))) name e in
-    let p = passed (is_among b.0 (map (λ a. a.name) before)) _ (cond (leb 64 (length before)) (fails TooManyApps t.at) (Ok b.0)) name b.2 in
-    let q = passed (leb 64 (length before)) _ (Ok b.0) name p.1 in
+    let b = bind_ok _ _ _ e in
+    let p = passed _ _ _ _ b.2 in
+    let q = passed _ _ _ _ p.1 in
     let w = short_name_is t b.0 b.1 in
     subst (λ (n : List ℕ). (t.word ≡ Name n) × FineApp before n) (ok_same b.0 name (Ok b.0) refl q.1) (w.0, record { short = w.1; once = p.0; few = leb-false 64 (length before) q.0 })
 
@@ -193,13 +182,10 @@ app_valued : (before : List App) (name : List ℕ) (s : State) (app : App) (u : 
 unfolding app_value_at
 app_valued before name s app u well fine e =
     let made : ℕ → List (List (List ℕ)) → App = λ n groups. record { name = name; timeout = n; groups = groups } in
-    let f3 : ℕ → List (List (List ℕ)) × State → Result (App × State) ConfigFault = λ n g. Ok (made n g.0, g.1) in
-    let f2 : ℕ × Located × State → Result (App × State) ConfigFault = λ x. groups_at x.1 x.2 >>= f3 x.0 in
-    let f1 : Located × State → Result (App × State) ConfigFault = λ first. timeout_at first.0 first.1 >>= f2 in
-    let a = bind_ok (token s) f1 (app, u) e in
-    let b = bind_ok (timeout_at a.0.0 a.0.1) f2 (app, u) a.2 in
+    let a = bind_ok _ _ _ e in
+    let b = bind_ok _ _ _ a.2 in
     let time : Timed a.0.0 a.0.1 b.0.0 b.0.1 b.0.2 = timed a.0.0.word a.0.0.at a.0.1 b.0.0 b.0.1 b.0.2 (same_last s a.0.0 a.0.1 well a.1) b.1 in
-    let c = bind_ok (groups_at b.0.1 b.0.2) (f3 b.0.0) (app, u) b.2 in
+    let c = bind_ok _ _ _ b.2 in
     let list = groups_found b.0.1 b.0.2 c.0.0 c.0.1 time.well c.1 in
     let moved = time.moved list.begun in
     let m = token_then s a.0.0 a.0.1 moved.0 (back b.0.1 b.0.2) well a.1 moved.3 moved.2 in
@@ -237,9 +223,8 @@ permission_valued : (name : List ℕ) (s : State) (x : Permission) (u : State) �
 unfolding permission_value_at
 permission_valued name s x u well short e =
     let made : Bool → Permission = λ value. record { name = name; value = value } in
-    let f1 : Located × State → Result (Permission × State) ConfigFault = λ t. flag_of t.0 >>= λ value. Ok (made value, t.1) in
-    let a = bind_ok (token s) f1 (x, u) e in
-    let b = bind_ok (flag_of a.0.0) (λ value. Ok (made value, a.0.1)) (x, u) a.2 in
+    let a = bind_ok _ _ _ e in
+    let b = bind_ok _ _ _ a.2 in
     let w = flag_is a.0.0 b.0 b.1 in
     let m = word_passes s a.0.0 a.0.1 a.0.0.word well a.1 refl w.1 in
     subst (λ (y : Permission × State). Gets (λ ws x. IsPermission (pair_words name ws) x) with_permission (MayPermission []) s y.0 y.1) (ok_same (made b.0, a.0.1) (x, u) _ refl b.2) (record {
@@ -266,27 +251,25 @@ data FineParam (before : List Param) (name : List ℕ) : Option ParamName → Ty
 first_is : (before : List Param) (at : ℕ) (name : List ℕ) (o : Option ParamName) (k : Option ParamName) → param_named name ≡ o → first_param before at o ≡ Ok k → FineParam before name k
 first_is before at name None k is e = subst (FineParam before name) (ok_same None k _ refl e) (Unknown is)
 first_is before at name (Some p) k is e =
-    let h = passed (has_param p before) _ (Ok (Some p)) k e in
+    let h = passed _ _ _ _ e in
     subst (FineParam before name) (ok_same (Some p) k _ refl h.1) (Known p (param_is name p is) h.0)
 
 params_named : (before : List Param) (t : Located) (k : Option ParamName) → param_name_of before t ≡ Ok k → (name : List ℕ) × (t.word ≡ Name name) × FineParam before name k
 unfolding param_name_of
 params_named before t k e =
-    let b = bind_ok (atom_of t) (λ name. first_param before t.at (param_named name)) k e in
+    let b = bind_ok _ _ _ e in
     (b.0, atom_is t.word t.at b.0 b.1, first_is before t.at b.0 (param_named b.0) k refl b.2)
 
 wait_is : (w : Word) (at : ℕ) (wait : SyncWait) → wait_of (record { word = w; at = at }) ≡ Ok wait → IsWait (w ∷ []) wait × (is_end w ≡ false)
 unfolding wait_of
 wait_is (Number negative digits) at wait e =
-    let b = bind_ok (timeout_of at negative (value_from 0 digits)) (λ n. Ok (Ms n)) wait e in
+    let b = bind_ok _ _ _ e in
     let q : Ms b.0 ≡ wait = ok_same (Ms b.0) wait _ refl b.2 in
     (subst (IsWait (Number negative digits ∷ [])) q (Number negative digits, refl, ms_is at negative digits b.0 b.1), refl)
 wait_is (Name name) at wait e =
-    let h = held (bytes_eq name (codes "infinity")) Forever _ wait e in
+    let h = held _ _ _ _ e in
     (subst (IsWait (Name name ∷ [])) h.1 (ap (λ (n : List ℕ). Name n ∷ []) (is_named name _ h.0)), refl)
-wait_is (Mark x) at wait e = absurd cc
-wait_is Text at wait e = absurd cc
-wait_is End at wait e = absurd cc
+wait_is _ at wait e = absurd cc
 
 -- a value of the parameter of this name
 abbrev GetsParam : List Param → ParamName → State → Param → State → Type 0
@@ -296,48 +279,32 @@ GetsParam before name s p u = Gets (λ ws x. IsParam (pair_words (spelled name) 
 once_as : (before : List Param) (name : ParamName) → has_param name before ≡ false → (other : ParamName) → ◌≡◌ {A = Option ParamName} (Some name) (Some other) → has_param other before ≡ false
 once_as before name once other e = let same : name ≡ other = cc in subst (λ (n : ParamName). has_param n before ≡ false) same once
 
-names_valued : (before : List Param) (name : ParamName) (made : List (List ℕ) → Param) → ((ns : List (List ℕ)) → name_of (made ns) ≡ Some name) → ((ws : List Word) (ns : List (List ℕ)) → IsListOf IsNode ws ns → IsParam (pair_words (spelled name) ws) (made ns))
-    → ((seen : Seen) (ns : List (List ℕ)) → MayNodes true seen ns → MayValue seen (made ns)) → ((seen : Seen) (ns : List (List ℕ)) → with_nodes seen ns ≡ with_param seen (made ns))
-    → (s : State) (p : Param) (u : State) → EndsWell s → has_param name before ≡ false → ◌>>=◌ {B = Param × State} (list_of (λ _. node_of true) s) (λ names. Ok (made names.0, names.1)) ≡ Ok (p, u) → GetsParam before name s p u
-names_valued before name made named_so valued may seen s p u well once e =
-    let b = bind_ok (list_of (λ _. node_of true) s) (λ names. Ok (made names.0, names.1)) (p, u) e in
-    let g = bracketed_found IsNode (λ _. node_of true) with_node (λ _. MayNode true) (nodes_found true) s b.0.0 b.0.1 well b.1 in
-    subst (λ (y : Param × State). GetsParam before name s y.0 y.1) (ok_same (made b.0.0, b.0.1) (p, u) _ refl b.2) (record {
-      ws = g.ws;
-      is = valued g.ws b.0.0 g.is;
-      moves = g.moves;
-      may = record { once = λ other is. once_as before name once other (sym (named_so b.0.0) ∙ is); value = may s.seen b.0.0 g.may };
-      seen = g.seen ∙ seen s.seen b.0.0;
-    })
+module _ {A : Type 0} (Is : List Word → A → Type 0) (read : List A → Located → State → Result (A × State) ConfigFault) (step : Seen → A → Seen) (May : List A → Seen → A → Type 0)
+    (reads : (before : List A) (t : Located) (s : State) (x : A) (u : State) → EndsWell s → read before t s ≡ Ok (x, u) → Reads Is step (May before) t s x u) where
+  -- a list as the value of the parameter of this name
+  list_valued : (before : List Param) (name : ParamName) (made : List A → Param) → ((xs : List A) → name_of (made xs) ≡ Some name) → ((ws : List Word) (xs : List A) → IsListOf Is ws xs → IsParam (pair_words (spelled name) ws) (made xs))
+      → ((seen : Seen) (xs : List A) → AllMay step May [] seen xs → MayValue seen (made xs)) → ((seen : Seen) (xs : List A) → steps step seen xs ≡ with_param seen (made xs))
+      → (s : State) (p : Param) (u : State) → EndsWell s → has_param name before ≡ false → ◌>>=◌ {B = Param × State} (list_of read s) (λ xs. Ok (made xs.0, xs.1)) ≡ Ok (p, u) → GetsParam before name s p u
+  list_valued before name made named_so valued may seen s p u well once e =
+      let b = bind_ok _ _ _ e in
+      let g = bracketed_found Is read step May reads s b.0.0 b.0.1 well b.1 in
+      subst (λ (y : Param × State). GetsParam before name s y.0 y.1) (ok_same (made b.0.0, b.0.1) (p, u) _ refl b.2) (record {
+        ws = g.ws;
+        is = valued g.ws b.0.0 g.is;
+        moves = g.moves;
+        may = record { once = λ other is. once_as before name once other (sym (named_so b.0.0) ∙ is); value = may s.seen b.0.0 g.may };
+        seen = g.seen ∙ seen s.seen b.0.0;
+      })
 
 param_valued : (before : List Param) (name : ParamName) (s : State) (p : Param) (u : State) → EndsWell s → has_param name before ≡ false → param_value_at name s ≡ Ok (p, u) → GetsParam before name s p u
 unfolding param_value_at
-param_valued before named.Distributed s p u well once e =
-    let b = bind_ok (list_of app_at s) (λ apps. Ok (Distributed apps.0, apps.1)) (p, u) e in
-    let g = bracketed_found IsApp app_at with_app MayApp app_found s b.0.0 b.0.1 well b.1 in
-    subst (λ (y : Param × State). GetsParam before named.Distributed s y.0 y.1) (ok_same (Distributed b.0.0, b.0.1) (p, u) _ refl b.2) (record {
-      ws = g.ws;
-      is = (g.ws, refl, g.is);
-      moves = g.moves;
-      may = record { once = once_as before named.Distributed once; value = g.may };
-      seen = g.seen;
-    })
-param_valued before named.Permissions s p u well once e =
-    let b = bind_ok (list_of (λ _. permission_at) s) (λ permissions. Ok (Permissions permissions.0, permissions.1)) (p, u) e in
-    let g = bracketed_found IsPermission (λ _. permission_at) with_permission MayPermission permission_found s b.0.0 b.0.1 well b.1 in
-    subst (λ (y : Param × State). GetsParam before named.Permissions s y.0 y.1) (ok_same (Permissions b.0.0, b.0.1) (p, u) _ refl b.2) (record {
-      ws = g.ws;
-      is = (g.ws, refl, g.is);
-      moves = g.moves;
-      may = record { once = once_as before named.Permissions once; value = g.may };
-      seen = g.seen ∙ same_seen s.seen b.0.0;
-    })
-param_valued before named.Mandatory s p u well once e = names_valued before named.Mandatory Mandatory (λ _. refl) (λ ws _ h. (ws, refl, h)) (λ _ _ h. h) (λ _ _. refl) s p u well once e
-param_valued before named.Optional s p u well once e = names_valued before named.Optional Optional (λ _. refl) (λ ws _ h. (ws, refl, h)) (λ _ _ h. h) (λ _ _. refl) s p u well once e
+param_valued before named.Distributed s p u well once e = list_valued IsApp app_at with_app MayApp app_found before named.Distributed Distributed (λ _. refl) (λ ws _ h. (ws, refl, h)) (λ _ _ h. h) (λ _ _. refl) s p u well once e
+param_valued before named.Permissions s p u well once e = list_valued IsPermission (λ _. permission_at) with_permission MayPermission permission_found before named.Permissions Permissions (λ _. refl) (λ ws _ h. (ws, refl, h)) (λ _ _ h. h) same_seen s p u well once e
+param_valued before named.Mandatory s p u well once e = list_valued IsNode (λ _. node_of true) with_node (λ _. MayNode true) (node_found true) before named.Mandatory Mandatory (λ _. refl) (λ ws _ h. (ws, refl, h)) (λ _ _ h. h) (λ _ _. refl) s p u well once e
+param_valued before named.Optional s p u well once e = list_valued IsNode (λ _. node_of true) with_node (λ _. MayNode true) (node_found true) before named.Optional Optional (λ _. refl) (λ ws _ h. (ws, refl, h)) (λ _ _ h. h) (λ _ _. refl) s p u well once e
 param_valued before named.Timeout s p u well once e =
-    let f1 : Located × State → Result (Param × State) ConfigFault = λ t. wait_of t.0 >>= λ wait. Ok (Timeout wait, t.1) in
-    let a = bind_ok (token s) f1 (p, u) e in
-    let b = bind_ok (wait_of a.0.0) (λ wait. Ok (Timeout wait, a.0.1)) (p, u) a.2 in
+    let a = bind_ok _ _ _ e in
+    let b = bind_ok _ _ _ a.2 in
     let w = wait_is a.0.0.word a.0.0.at b.0 b.1 in
     let m = word_passes s a.0.0 a.0.1 a.0.0.word well a.1 refl w.1 in
     subst (λ (y : Param × State). GetsParam before named.Timeout s y.0 y.1) (ok_same (Timeout b.0, a.0.1) (p, u) _ refl b.2) (record {
@@ -354,10 +321,7 @@ unknown_is name e known same = absurd (no_name known (sym (ap param_named same) 
   where
     no_name : (p : ParamName) → param_named (spelled p) ≡ None → ⊥
     no_name named.Distributed h = absurd cc
-    no_name named.Permissions h = absurd cc
-    no_name named.Mandatory h = absurd cc
-    no_name named.Optional h = absurd cc
-    no_name named.Timeout h = absurd cc
+    no_name _ h = absurd cc
 
 param_rested : (before : List Param) (k : Option ParamName) (name : List ℕ) (s : State) (p : Param) (u : State) → EndsWell s → FineParam before name k → param_rest_at k s ≡ Ok (p, u) → Gets (λ ws x. IsParam (pair_begun name ws) x) with_param (MayParam before) s p u
 unfolding param_rest_at
@@ -365,7 +329,7 @@ param_rested before (Some _) name s p u well (Known known is once) e =
     let g = closed_found (λ ws x. IsParam (pair_begun (spelled known) ws) x) (param_value_at known) with_param (MayParam before) (λ s x u well e. param_valued before known s x u well once e) s p u well e in
     subst (λ (n : List ℕ). Gets (λ ws x. IsParam (pair_begun n ws) x) with_param (MayParam before) s p u) (sym is) g
 param_rested before None name s p u well (Unknown other) e =
-    let a = bind_ok (passed_at s) (λ behind. Ok (Param.Other, behind)) (p, u) e in
+    let a = bind_ok _ _ _ e in
     let m = passed_found s a.0 well a.1 in
     subst (λ (y : Param × State). Gets (λ ws x. IsParam (pair_begun name ws) x) with_param (MayParam before) s y.0 y.1) (ok_same (Param.Other, a.0) (p, u) _ refl a.2) (record {
       ws = m.ws ++ Mark CloseTuple ∷ [];
@@ -402,7 +366,7 @@ section_named before t k e =
 kernel_valued : (before : List Section) (s : State) (x : Section) (u : State) → EndsWell s → has_kernel before ≡ false → kernel_at s ≡ Ok (x, u) → Gets (λ ws x. IsSection (pair_words (codes "kernel") ws) x) with_section (MaySection before) s x u
 unfolding kernel_at
 kernel_valued before s x u well once e =
-    let a = bind_ok (list_of param_at s) (λ params. Ok (Kernel params.0, params.1)) (x, u) e in
+    let a = bind_ok _ _ _ e in
     let g = bracketed_found IsParam param_at with_param MayParam param_found s a.0.0 a.0.1 well a.1 in
     subst (λ (y : Section × State). Gets (λ ws x. IsSection (pair_words (codes "kernel") ws) x) with_section (MaySection before) s y.0 y.1) (ok_same (Kernel a.0.0, a.0.1) (x, u) _ refl a.2)
     (record { ws = g.ws; is = (g.ws, refl, g.is); moves = g.moves; may = record { once = once; params = g.may }; seen = g.seen })
@@ -413,7 +377,7 @@ section_rested before true name s x u well (IsKernel is once) e =
     let g = closed_found (λ ws x. IsSection (pair_begun (codes "kernel") ws) x) kernel_at with_section (MaySection before) (λ s x u well e. kernel_valued before s x u well once e) s x u well e in
     subst (λ (n : List ℕ). Gets (λ ws x. IsSection (pair_begun n ws) x) with_section (MaySection before) s x u) (sym is) g
 section_rested before false name s x u well (IsOther other) e =
-    let a = bind_ok (passed_at s) (λ behind. Ok (Section.Other, behind)) (x, u) e in
+    let a = bind_ok _ _ _ e in
     let m = passed_found s a.0 well a.1 in
     subst (λ (y : Section × State). Gets (λ ws x. IsSection (pair_begun name ws) x) with_section (MaySection before) s y.0 y.1) (ok_same (Section.Other, a.0) (x, u) _ refl a.2)
     (record { ws = m.ws ++ Mark CloseTuple ∷ []; is = (name, no_kernel, (m.ws, refl, m.term)); moves = m.moves; may = tt; seen = m.seen })
@@ -424,5 +388,5 @@ section_rested before false name s x u well (IsOther other) e =
 pub section_found : (before : List Section) (t : Located) (s : State) (x : Section) (u : State) → EndsWell s → section_at before t s ≡ Ok (x, u) → Reads IsSection with_section (MaySection before) t s x u
 unfolding section_at
 section_found before t s x u well e =
-    let p = passed (is_text t.word) _ (pair_at (names_kernel before) section_rest_at t s) (x, u) e in
+    let p = passed _ _ _ _ e in
     pair_found IsSection (names_kernel before) (λ k name. FineSection before name k) section_rest_at with_section (MaySection before) (section_named before) (section_rested before) t s x u well p.1

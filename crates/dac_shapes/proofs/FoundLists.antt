@@ -154,10 +154,9 @@ module _ {A : Type 0} (Is : List Word → A → Type 0) (value : State → Resul
   -- a value, and the brace that closes its pair
   pub closed_found : (s : State) (x : A) (u : State) → EndsWell s → closed value s ≡ Ok (x, u) → Gets Is step May s x u
   closed_found s x u well e =
-      let f1 : A × State → Result (A × State) ConfigFault = λ one. symbol_at CloseTuple one.1 >>= λ close. Ok (one.0, close) in
-      let a = bind_ok (value s) f1 (x, u) e in
+      let a = bind_ok _ _ _ e in
       let v = valued s a.0.0 a.0.1 well a.1 in
-      let b = bind_ok (symbol_at CloseTuple a.0.1) (λ close. Ok (a.0.0, close)) (x, u) a.2 in
+      let b = bind_ok _ _ _ a.2 in
       let r = symbol_passes CloseTuple a.0.1 b.0 (still_well s a.0.1 v.ws well v.moves) b.1 in
       subst (λ (y : A × State). Gets Is step May s y.0 y.1) (ok_same (a.0.0, b.0) (x, u) _ refl b.2) (record {
         ws = v.ws ++ Mark CloseTuple ∷ [];
@@ -176,16 +175,13 @@ module _ {K A : Type 0} (Is : List Word → A → Type 0) (name_of : Located →
   pub pair_found : (t : Located) (s : State) (x : A) (u : State) → EndsWell s → pair_at name_of rest t s ≡ Ok (x, u) → Reads Is step May t s x u
   unfolding pair_at
   pair_found t s x u well e =
-      let f3 : K → State → Result (A × State) ConfigFault = λ name comma. rest name comma in
-      let f2 : State → K → Result (A × State) ConfigFault = λ v name. symbol_at Comma v >>= f3 name in
-      let f1 : Located × State → Result (A × State) ConfigFault = λ first. name_of first.0 >>= f2 first.1 in
-      let h = required (is_mark OpenTuple t.word) (token s >>= f1) _ (x, u) e in
+      let h = required _ _ _ _ e in
       let begins = mark_is OpenTuple t.word h.0 in
-      let a = bind_ok (token s) f1 (x, u) h.1 in
-      let b = bind_ok (name_of a.0.0) (f2 a.0.1) (x, u) a.2 in
+      let a = bind_ok _ _ _ h.1 in
+      let b = bind_ok _ _ _ a.2 in
       let n = named a.0.0 b.0 b.1 in
       let p = word_passes s a.0.0 a.0.1 (Name n.0) well a.1 n.1 refl in
-      let c = bind_ok (symbol_at Comma a.0.1) (f3 b.0) (x, u) b.2 in
+      let c = bind_ok _ _ _ b.2 in
       let q = symbol_passes Comma a.0.1 c.0 p.well c.1 in
       let v = rested b.0 n.0 c.0 x u q.well n.2 c.2 in
       let before : c.0.seen ≡ s.seen = q.seen ∙ p.seen in

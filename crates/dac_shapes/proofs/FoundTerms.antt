@@ -5,9 +5,9 @@ use Rattle.std.proofs.lemmas.List.Elements.{All-nil, All-cons}
 use Rattle.dac_tokens.specs.declared.fault.ConfigFault.{ConfigFault}
 use Rattle.dac_tokens.specs.declared.fault.FaultKind.TheVariants.{BadShape}
 use Rattle.dac_tokens.specs.declared.token.Symbol.{Symbol}
-use Rattle.dac_tokens.specs.declared.token.Symbol.TheVariants.{OpenList, CloseList, OpenTuple, CloseTuple, Comma, FullStop}
+use Rattle.dac_tokens.specs.declared.token.Symbol.TheVariants.{OpenList, CloseList, OpenTuple, CloseTuple, Comma}
 use Rattle.dac_tokens.specs.Gives.{◌>>=◌}
-use Rattle.dac_tokens.specs.Words.{Word, Mark, Name, Number, Text, End, Located, is_end}
+use Rattle.dac_tokens.specs.Words.{Word, Mark, Name, Number, Text, Located, is_end}
 use Rattle.dac_shapes.specs.Shape.{State, fails, is_mark, is_text, token, room, terms_at, terms_in, texts_at, term_by, term_at, passed_at}
 use Rattle.dac_shapes.specs.Grammar.{AreBrackets, IsTerm, AreTerms, OfList, OfTuple, Atom, Integer, Strings, Empty, Between, One, More}
 use Rattle.dac_shapes.proofs.Moves.{bind_ok, held, required, words_in, EndsWell, Moves, Moves-then, same_last, token_is, mark_is, back}
@@ -60,10 +60,7 @@ AreTexts words = All (λ word. word ≡ Text) words
 
 text_is : (w : Word) → is_text w ≡ true → w ≡ Text
 text_is Text e = refl
-text_is (Mark x) e = absurd cc
-text_is (Name name) e = absurd cc
-text_is (Number negative digits) e = absurd cc
-text_is End e = absurd cc
+text_is _ e = absurd cc
 
 texts_found : (n : ℕ) (s : State) (t : Located) (u : State) → EndsWell s → texts_at n s ≡ Ok (t, u) → Jumps AreTexts s t u
 unfolding texts_at AreTexts
@@ -183,11 +180,7 @@ module _ (pass : Located → State → Result (Located × State) ConfigFault)
   }
   term_by_found (Mark OpenList) place n s t u well e = brackets_found pass CloseList passes n OpenList place s t u OfList well e
   term_by_found (Mark OpenTuple) place n s t u well e = brackets_found pass CloseTuple passes n OpenTuple place s t u OfTuple well e
-  term_by_found (Mark CloseList) place n s t u well e = absurd cc
-  term_by_found (Mark CloseTuple) place n s t u well e = absurd cc
-  term_by_found (Mark Comma) place n s t u well e = absurd cc
-  term_by_found (Mark FullStop) place n s t u well e = absurd cc
-  term_by_found End place n s t u well e = absurd cc
+  term_by_found _ place n s t u well e = absurd cc
 
 term_found : (n : ℕ) (b : Located) (s : State) (t : Located) (u : State) → EndsWell s → term_at n b s ≡ Ok (t, u) → Skips IsTerm b s t u
 unfolding term_at
@@ -204,11 +197,9 @@ pub record PassesTerm (s : State) (u : State) : Type 0 where
 pub passed_found : (s : State) (u : State) → EndsWell s → passed_at s ≡ Ok u → PassesTerm s u
 unfolding passed_at
 passed_found s u well e =
-    let f2 : Located × State → Result State ConfigFault = λ behind. cond (is_mark CloseTuple behind.0.word) (Ok behind.1) (fails BadShape behind.0.at) in
-    let f1 : Located × State → Result State ConfigFault = λ first. term_at (suc (room s)) first.0 first.1 >>= f2 in
-    let a = bind_ok (token s) f1 u e in
-    let b = bind_ok (term_at (suc (room s)) a.0.0 a.0.1) f2 u a.2 in
-    let h = held (is_mark CloseTuple b.0.0.word) b.0.1 _ u b.2 in
+    let a = bind_ok _ _ _ e in
+    let b = bind_ok _ _ _ a.2 in
+    let h = held _ _ _ _ b.2 in
     let w = mark_is CloseTuple b.0.0.word h.0 in
     let k = term_found (suc (room s)) a.0.0 a.0.1 b.0.0 b.0.1 (same_last s a.0.0 a.0.1 well a.1) b.1 in
     let j = taken_before IsTerm s a.0.0 a.0.1 b.0.0 b.0.1 well a.1 k in

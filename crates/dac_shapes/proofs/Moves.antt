@@ -6,7 +6,7 @@ use Rattle.dac_tokens.specs.declared.token.Symbol.{Symbol}
 use Rattle.dac_tokens.specs.declared.token.Symbol.TheVariants.{OpenList, CloseList, OpenTuple, CloseTuple, Comma, FullStop}
 use Rattle.dac_tokens.specs.declared.fault.FaultKind.TheVariants.{BadShape}
 use Rattle.dac_tokens.specs.Gives.{◌>>=◌}
-use Rattle.dac_tokens.specs.Words.{Word, Mark, Name, Number, Text, End, Located, is_end}
+use Rattle.dac_tokens.specs.Words.{Word, Mark, End, Located, is_end}
 use Rattle.dac_tokens.specs.Stream.{Stream, taken, taken_of}
 use Rattle.dac_shapes.specs.Shape.{State, fails, byte_of, is_mark, token, symbol_at, more_at}
 use Rattle.dac_shapes.specs.laws.Names.{chosen}
@@ -55,30 +55,26 @@ Moves-then s u v a b m n = record { words = m.words ∙ ap (λ (w : List Word). 
 pub still_well : (s u : State) (ws : List Word) → EndsWell s → Moves s ws u → EndsWell u
 still_well s u ws well m = subst (λ r. IfOk r (λ t. t.word ≡ End)) (sym m.last) well
 
-taken_is : (tokens : List Located) (last : Result Located ConfigFault) (t : Located) (r : Stream) → taken_of tokens last ≡ Ok (t, r) → ((tokens ≡ t ∷ r.tokens) × (r.last ≡ last)) ⊎ (last ≡ Ok t)
+taken_is : (tokens : List Located) (last : Result Located ConfigFault) (t : Located) (r : Stream) → taken_of tokens last ≡ Ok (t, r) → (r.last ≡ last) × ((tokens ≡ t ∷ r.tokens) ⊎ (last ≡ Ok t))
 taken_is [] (Err e) t r h = absurd cc
-taken_is [] (Ok u) t r h = inr (ap (λ (p : Located × Stream). Ok p.0) (ok_same (u, record { tokens = []; last = Ok u }) (t, r) _ refl h))
-taken_is (x ∷ xs) last t r h = let e = ok_same (x, record { tokens = xs; last = last }) (t, r) _ refl h in inl (ap (λ (p : Located × Stream). p.0 ∷ p.1.tokens) e, sym (ap (λ (p : Located × Stream). p.1.last) e))
+taken_is [] (Ok u) t r h = let e = ok_same (u, record { tokens = []; last = Ok u }) (t, r) _ refl h in (sym (ap (λ (p : Located × Stream). p.1.last) e), inr (ap (λ (p : Located × Stream). Ok p.0) e))
+taken_is (x ∷ xs) last t r h = let e = ok_same (x, record { tokens = xs; last = last }) (t, r) _ refl h in (sym (ap (λ (p : Located × Stream). p.1.last) e), inl (ap (λ (p : Located × Stream). p.0 ∷ p.1.tokens) e))
 
 pub token_is : (s : State) (t : Located) (u : State) → token s ≡ Ok (t, u) → (taken s.left ≡ Ok (t, u.left)) × (u.seen ≡ s.seen)
 token_is s t u e =
-    let b = bind_ok (taken s.left) (λ x. Ok (x.0, record s { left = x.1 })) (t, u) e in
+    let b = bind_ok _ _ _ e in
     let q = ok_same (b.0.0, record s { left = b.0.1 }) (t, u) _ refl b.2 in
     (b.1 ∙ ap (λ (p : Located × State). Ok (p.0, p.1.left)) q, sym (ap (λ (p : Located × State). p.1.seen) q))
 
-last_is : (tokens : List Located) (last : Result Located ConfigFault) (t : Located) (r : Stream) → taken_of tokens last ≡ Ok (t, r) → r.last ≡ last
-last_is [] (Err e) t r h = absurd cc
-last_is [] (Ok u) t r h = sym (ap (λ (p : Located × Stream). p.1.last) (ok_same (u, record { tokens = []; last = Ok u }) (t, r) _ refl h))
-last_is (x ∷ xs) last t r h = sym (ap (λ (p : Located × Stream). p.1.last) (ok_same (x, record { tokens = xs; last = last }) (t, r) _ refl h))
-
 -- a token leaves the end as it is
 pub same_last : (s : State) (t : Located) (u : State) → EndsWell s → token s ≡ Ok (t, u) → EndsWell u
-same_last s t u well e = subst (λ r. IfOk r (λ x. x.word ≡ End)) (sym (last_is s.left.tokens s.left.last t u.left (token_is s t u e).0)) well
+same_last s t u well e = subst (λ r. IfOk r (λ x. x.word ≡ End)) (sym (taken_is s.left.tokens s.left.last t u.left (token_is s t u e).0).0) well
 
 pub token_moves : (s : State) (t : Located) (u : State) → EndsWell s → token s ≡ Ok (t, u) → is_end t.word ≡ false → Moves s (t.word ∷ []) u
 token_moves s t u well e more =
-    elim (taken_is s.left.tokens s.left.last t u.left (token_is s t u e).0) [
-      | inl h ↦ record { words = ap (map (λ x. x.word)) h.0; last = h.1 }
+    let is = taken_is s.left.tokens s.left.last t u.left (token_is s t u e).0 in
+    elim is.1 [
+      | inl h ↦ record { words = ap (map (λ x. x.word)) h; last = is.0 }
       | inr h ↦ let ends : t.word ≡ End = subst (λ r. IfOk r (λ x. x.word ≡ End)) h well in absurd (no_end t.word ends more)
     ]
   where
@@ -104,16 +100,13 @@ same_byte _ _ e = absurd cc
 
 pub mark_is : (x : Symbol) (w : Word) → is_mark x w ≡ true → w ≡ Mark x
 mark_is x (Mark y) e = ap Mark (same_byte x y e)
-mark_is x (Name name) e = absurd cc
-mark_is x (Number negative digits) e = absurd cc
-mark_is x Text e = absurd cc
-mark_is x End e = absurd cc
+mark_is x _ e = absurd cc
 
 pub symbol_passes : (x : Symbol) (s u : State) → EndsWell s → symbol_at x s ≡ Ok u → Passes s (Mark x ∷ []) u
 unfolding symbol_at
 symbol_passes x s u well e =
-    let b = bind_ok (token s) (λ t. cond (is_mark x t.0.word) (Ok t.1) (fails BadShape t.0.at)) u e in
-    let h = held (is_mark x b.0.0.word) b.0.1 _ u b.2 in
+    let b = bind_ok _ _ _ e in
+    let h = held _ _ _ _ b.2 in
     subst (λ (v : State). Passes s (Mark x ∷ []) v) h.1 (word_passes s b.0.0 b.0.1 (Mark x) well b.1 (mark_is x b.0.0.word h.0) refl)
 
 -- the mark that parts or closes

@@ -8,71 +8,69 @@ use Rattle.dac_tokens.specs.Gives.{◌>>=◌}
 use Rattle.dac_tokens.specs.Words.{Word, Mark, Name, Number, Text, End, Located, is_end}
 use Rattle.dac_shapes.specs.Outcome.{Fails}
 use Rattle.dac_shapes.specs.Shape.{State, fails, is_mark, is_text, token, closing_of, terms_at, terms_in, texts_at, term_by, term_at, IsEnough}
-use Rattle.dac_shapes.proofs.Faults.{fails_too}
+use Rattle.dac_shapes.proofs.Faults.{fails_then, then_is}
 use Rattle.dac_shapes.specs.laws.TermCases.{by_name, by_number, by_text, by_mark, by_other_mark, by_end}
 
+-- what a choice is, where its test is known
+when_true : {A : Type 0} (b : Bool) (x y z : A) → cond b x y ≡ z → b ≡ true → x ≡ z
+when_true true x y z e is = e
+when_true false x y z e is = absurd cc
+
+when_false : {A : Type 0} (b : Bool) (x y z : A) → cond b x y ≡ z → b ≡ false → y ≡ z
+when_false true x y z e is = absurd cc
+when_false false x y z e is = e
+
 -- ---- strings in a row
+
+-- what is passed over from a token on
+abbrev texts_from : ℕ → Located × State → Result (Located × State) ConfigFault
+texts_from n t = cond (is_text t.0.word) (texts_at n t.1) (Ok t)
 
 -- what is passed over on from here is what is passed over in all
 pub record GoesTexts (total : Result (Located × State) ConfigFault) (t : Located) (s : State) : Type 0 where
   pub n : ℕ
   pub enough : is_end t.word ≡ false → length s.left.tokens < n
-  pub same : cond (is_text t.word) (texts_at n s) (Ok (t, s)) ≡ total
+  pub same : texts_from n (t, s) ≡ total
 
-texts_opened : (n : ℕ) (s : State) → texts_at (suc n) s ≡ (token s >>= λ t. cond (is_text t.0.word) (texts_at n t.1) (Ok t))
+texts_opened : (n : ℕ) (s : State) → (token s >>= texts_from n) ≡ texts_at (suc n) s
 unfolding texts_at
 texts_opened n s = refl
 
 pub texts_fail : (e : ConfigFault) (n : ℕ) (s : State) → length s.left.tokens < n → Fails e (token s) → Fails e (texts_at n s)
 texts_fail e zero s lt h = absurd (omega arith)
-texts_fail e (suc n) s lt h = fails_too e (token s) (texts_at (suc n) s) (λ q. texts_opened n s ∙ ap (λ r. r >>= λ t. cond (is_text t.0.word) (texts_at n t.1) (Ok t)) q) h
+texts_fail e (suc n) s lt h = fails_then e (token s) (texts_from n) (texts_at (suc n) s) (texts_opened n s) h
 
 pub texts_begin : (n : ℕ) (s : State) (t : Located) (u : State) → length s.left.tokens < n → token s ≡ Ok (t, u) → (is_end t.word ≡ false → length u.left.tokens < length s.left.tokens) → GoesTexts (texts_at n s) t u
 texts_begin zero s t u lt e fewer = absurd (omega arith)
 texts_begin (suc n) s t u lt e fewer = record {
   n = n;
   enough = λ no_end. (let less = fewer no_end in omega arith);
-  same = sym (texts_opened n s ∙ ap (λ r. r >>= λ x. cond (is_text x.0.word) (texts_at n x.1) (Ok x)) e);
+  same = then_is (token s) (texts_from n) (t, u) (texts_at (suc n) s) (texts_opened n s) e;
 }
 
 text_no_end : (w : Word) → is_text w ≡ true → is_end w ≡ false
-text_no_end Text e = refl
-text_no_end (Mark x) e = refl
-text_no_end (Name name) e = refl
-text_no_end (Number negative digits) e = refl
 text_no_end End e = absurd cc
+text_no_end _ e = refl
 
-on_text : (total : Result (Located × State) ConfigFault) (t : Located) (s : State) (g : GoesTexts total t s) → is_text t.word ≡ true → texts_at g.n s ≡ total
-on_text total t s g is = sym (ap (λ (b : Bool). cond b (texts_at g.n s) (Ok (t, s))) is) ∙ g.same
+module _ {total : Result (Located × State) ConfigFault} {t : Located} {s : State} (g : GoesTexts total t s) (is : is_text t.word ≡ true) where
+  on_text : texts_at g.n s ≡ total
+  on_text = when_true _ _ _ _ g.same is
 
-pub texts_fail_more : (e : ConfigFault) (total : Result (Located × State) ConfigFault) (t : Located) (s : State) → GoesTexts total t s → is_text t.word ≡ true → Fails e (token s) → Fails e total
-texts_fail_more e total t s g is h = subst (Fails e) (on_text total t s g is) (texts_fail e g.n s (g.enough (text_no_end t.word is)) h)
+  pub texts_fail_more : (e : ConfigFault) → Fails e (token s) → Fails e total
+  texts_fail_more e h = subst (Fails e) on_text (texts_fail e g.n s (g.enough (text_no_end t.word is)) h)
 
-pub texts_go : (total : Result (Located × State) ConfigFault) (t : Located) (s : State) (next : Located) (u : State) → GoesTexts total t s → is_text t.word ≡ true → token s ≡ Ok (next, u) → (is_end next.word ≡ false → length u.left.tokens < length s.left.tokens) → GoesTexts total next u
-texts_go total t s next u g is e fewer = subst (λ r. GoesTexts r next u) (on_text total t s g is) (texts_begin g.n s next u (g.enough (text_no_end t.word is)) e fewer)
+  pub texts_go : {next : Located} {u : State} → token s ≡ Ok (next, u) → (is_end next.word ≡ false → length u.left.tokens < length s.left.tokens) → GoesTexts total next u
+  texts_go {next} {u} e fewer = subst (λ r. GoesTexts r next u) on_text (texts_begin g.n s next u (g.enough (text_no_end t.word is)) e fewer)
 
-pub texts_done : (total : Result (Located × State) ConfigFault) (t : Located) (s : State) → GoesTexts total t s → is_text t.word ≡ false → total ≡ Ok (t, s)
-texts_done total t s g is = sym g.same ∙ ap (λ (b : Bool). cond b (texts_at g.n s) (Ok (t, s))) is
-
--- what is left to pass over falls
+-- what is left to pass over
 abbrev pub weight : Bool → ℕ → ℕ
 weight end left = cond end 0 (suc left)
-
-pub lighter : (now was : Bool) (left before : ℕ) → was ≡ false → (now ≡ false → left < before) → weight now left < weight was before
-lighter true was left before e f = rw e (omega arith)
-lighter false was left before e f = let less = f refl in rw e (omega arith)
-
-pub text_lighter : (t : Word) (now : Bool) (left before : ℕ) → is_text t ≡ true → (now ≡ false → left < before) → weight now left < weight (is_end t) before
-text_lighter t now left before is f = lighter now (is_end t) left before (text_no_end t is) f
 
 -- ---- terms between brackets
 
 pub comma_no_end : (w : Word) → is_mark Comma w ≡ true → is_end w ≡ false
-comma_no_end (Mark x) e = refl
-comma_no_end (Name name) e = refl
-comma_no_end (Number negative digits) e = refl
-comma_no_end Text e = refl
 comma_no_end End e = absurd cc
+comma_no_end _ e = refl
 
 module _ (pass : Located → State → Result (Located × State) ConfigFault) (close : Symbol) where
   -- what is passed over on from here is what is passed over in all
@@ -81,73 +79,76 @@ module _ (pass : Located → State → Result (Located × State) ConfigFault) (c
     pub enough : length s.left.tokens < n
     pub same : terms_at pass close n t s ≡ total
 
-  abbrev after : ℕ → Located × State → Result (Located × State) ConfigFault
-  after n b = cond (is_mark close b.0.word) (token b.1) (cond (is_mark Comma b.0.word) (token b.1 >>= λ next. terms_at pass close n next.0 next.1) (fails BadShape b.0.at))
+  -- what is passed over from a term's first token on, from behind a term, and from behind the opening mark
+  abbrev from_token : ℕ → Located × State → Result (Located × State) ConfigFault
+  from_token n t = terms_at pass close n t.0 t.1
 
-  terms_opened : (n : ℕ) (t : Located) (s : State) → terms_at pass close (suc n) t s ≡ (pass t s >>= after n)
-  unfolding terms_at
-  terms_opened n t s = refl
+  abbrev from_behind : ℕ → Located × State → Result (Located × State) ConfigFault
+  from_behind n b = cond (is_mark close b.0.word) (token b.1) (cond (is_mark Comma b.0.word) (token b.1 >>= from_token n) (fails BadShape b.0.at))
 
-  in_opened : (n : ℕ) (s : State) → terms_in pass close n s ≡ (token s >>= λ first. cond (is_mark close first.0.word) (token first.1) (terms_at pass close n first.0 first.1))
+  abbrev from_mark : ℕ → Located × State → Result (Located × State) ConfigFault
+  from_mark n t = cond (is_mark close t.0.word) (token t.1) (from_token n t)
+
+  in_opened : (n : ℕ) (s : State) → (token s >>= from_mark n) ≡ terms_in pass close n s
   unfolding terms_in
   in_opened n s = refl
 
   pub in_fail : (e : ConfigFault) (n : ℕ) (s : State) → Fails e (token s) → Fails e (terms_in pass close n s)
-  in_fail e n s h = fails_too e (token s) (terms_in pass close n s) (λ q. in_opened n s ∙ ap (λ r. r >>= λ first. cond (is_mark close first.0.word) (token first.1) (terms_at pass close n first.0 first.1)) q) h
+  in_fail e n s h = fails_then e (token s) (from_mark n) (terms_in pass close n s) (in_opened n s) h
 
-  in_is : (n : ℕ) (s : State) (first : Located × State) → token s ≡ Ok first → terms_in pass close n s ≡ cond (is_mark close first.0.word) (token first.1) (terms_at pass close n first.0 first.1)
-  in_is n s first e = in_opened n s ∙ ap (λ r. r >>= λ x. cond (is_mark close x.0.word) (token x.1) (terms_at pass close n x.0 x.1)) e
+  module _ (n : ℕ) (s : State) {t : Located} {u : State} (e : token s ≡ Ok (t, u)) where
+    first_is : from_mark n (t, u) ≡ terms_in pass close n s
+    first_is = then_is (token s) (from_mark n) (t, u) (terms_in pass close n s) (in_opened n s) e
 
-  pub in_empty : (n : ℕ) (s : State) (t : Located) (u : State) → token s ≡ Ok (t, u) → is_mark close t.word ≡ true → terms_in pass close n s ≡ token u
-  in_empty n s t u e is = in_is n s (t, u) e ∙ ap (λ (b : Bool). cond b (token u) (terms_at pass close n t u)) is
+    pub in_empty : is_mark close t.word ≡ true → terms_in pass close n s ≡ token u
+    in_empty is = sym (when_true _ _ _ _ first_is is)
 
-  pub in_begin : (n : ℕ) (s : State) (t : Located) (u : State) → token s ≡ Ok (t, u) → is_mark close t.word ≡ false → length u.left.tokens < n → GoesTerms (terms_in pass close n s) t u
-  in_begin n s t u e is lt = record { n = n; enough = lt; same = sym (in_is n s (t, u) e ∙ ap (λ (b : Bool). cond b (token u) (terms_at pass close n t u)) is) }
+    pub in_begin : is_mark close t.word ≡ false → length u.left.tokens < n → GoesTerms (terms_in pass close n s) t u
+    in_begin is lt = record { n = n; enough = lt; same = when_false _ _ _ _ first_is is }
 
   -- the first step, with the room that is left after it
-  step : (total : Result (Located × State) ConfigFault) (t : Located) (s : State) → GoesTerms total t s → (n : ℕ) × (length s.left.tokens ≤ n) × ((pass t s >>= after n) ≡ total)
-  step total t s g = by g.n g.enough g.same
-    where
-      by : (n : ℕ) → length s.left.tokens < n → terms_at pass close n t s ≡ total → (m : ℕ) × (length s.left.tokens ≤ m) × ((pass t s >>= after m) ≡ total)
-      by zero lt same = absurd (omega arith)
-      by (suc n) lt same = (n, omega arith, sym (terms_opened n t s) ∙ same)
+  first_step : (total : Result (Located × State) ConfigFault) (n : ℕ) (t : Located) (s : State) → length s.left.tokens < n → terms_at pass close n t s ≡ total → (m : ℕ) × (length s.left.tokens ≤ m) × ((pass t s >>= from_behind m) ≡ total)
+  unfolding terms_at
+  first_step total zero t s lt same = absurd (omega arith)
+  first_step total (suc n) t s lt same = (n, omega arith, same)
 
-  pub terms_fail : (e : ConfigFault) (total : Result (Located × State) ConfigFault) (t : Located) (s : State) → GoesTerms total t s → Fails e (pass t s) → Fails e total
-  terms_fail e total t s g h = let p = step total t s g in fails_too e (pass t s) total (λ q. sym p.2 ∙ ap (λ r. r >>= after p.0) q) h
+  module _ {total : Result (Located × State) ConfigFault} {t : Located} {s : State} (g : GoesTerms total t s) where
+    term : (n : ℕ) × (length s.left.tokens ≤ n) × ((pass t s >>= from_behind n) ≡ total)
+    term = first_step total g.n t s g.enough g.same
 
-  behind : (total : Result (Located × State) ConfigFault) (t : Located) (s : State) (b : Located × State) → GoesTerms total t s → pass t s ≡ Ok b → (n : ℕ) × (length s.left.tokens ≤ n) × (after n b ≡ total)
-  behind total t s b g e = let p = step total t s g in (p.0, p.1, sym (ap (λ r. r >>= after p.0) e) ∙ p.2)
+    pub terms_fail : (e : ConfigFault) → Fails e (pass t s) → Fails e total
+    terms_fail e h = fails_then e (pass t s) (from_behind term.0) total term.2 h
 
-  pub terms_end : (total : Result (Located × State) ConfigFault) (t : Located) (s : State) (b : Located) (u : State) → GoesTerms total t s → pass t s ≡ Ok (b, u) → is_mark close b.word ≡ true → total ≡ token u
-  terms_end total t s b u g e is = let p = behind total t s (b, u) g e in sym p.2 ∙ ap (λ (x : Bool). cond x (token u) (cond (is_mark Comma b.word) (token u >>= λ next. terms_at pass close p.0 next.0 next.1) (fails BadShape b.at))) is
+    module _ {b : Located} {u : State} (e : pass t s ≡ Ok (b, u)) where
+      behind : from_behind term.0 (b, u) ≡ total
+      behind = then_is (pass t s) (from_behind term.0) (b, u) total term.2 e
 
-  no_end : (total : Result (Located × State) ConfigFault) (t : Located) (s : State) (b : Located) (u : State) → GoesTerms total t s → pass t s ≡ Ok (b, u) → is_mark close b.word ≡ false
-      → (n : ℕ) × (length s.left.tokens ≤ n) × (cond (is_mark Comma b.word) (token u >>= λ next. terms_at pass close n next.0 next.1) (fails BadShape b.at) ≡ total)
-  no_end total t s b u g e is =
-      let p = behind total t s (b, u) g e in
-      (p.0, p.1, sym (ap (λ (x : Bool). cond x (token u) (cond (is_mark Comma b.word) (token u >>= λ next. terms_at pass close p.0 next.0 next.1) (fails BadShape b.at))) is) ∙ p.2)
+      pub terms_end : is_mark close b.word ≡ true → total ≡ token u
+      terms_end is = sym (when_true _ _ _ _ behind is)
 
-  pub terms_bad : (total : Result (Located × State) ConfigFault) (t : Located) (s : State) (b : Located) (u : State) → GoesTerms total t s → pass t s ≡ Ok (b, u) → is_mark close b.word ≡ false → is_mark Comma b.word ≡ false → total ≡ fails BadShape b.at
-  terms_bad total t s b u g e is comma = let p = no_end total t s b u g e is in sym p.2 ∙ ap (λ (x : Bool). cond x (token u >>= λ next. terms_at pass close p.0 next.0 next.1) (fails BadShape b.at)) comma
+      module _ (is : is_mark close b.word ≡ false) where
+        more : cond (is_mark Comma b.word) (token u >>= from_token term.0) (fails BadShape b.at) ≡ total
+        more = when_false _ _ _ _ behind is
 
-  on_comma : (total : Result (Located × State) ConfigFault) (t : Located) (s : State) (b : Located) (u : State) → GoesTerms total t s → pass t s ≡ Ok (b, u) → is_mark close b.word ≡ false → is_mark Comma b.word ≡ true
-      → (n : ℕ) × (length s.left.tokens ≤ n) × ((token u >>= λ next. terms_at pass close n next.0 next.1) ≡ total)
-  on_comma total t s b u g e is comma =
-      let p = no_end total t s b u g e is in
-      (p.0, p.1, sym (ap (λ (x : Bool). cond x (token u >>= λ next. terms_at pass close p.0 next.0 next.1) (fails BadShape b.at)) comma) ∙ p.2)
+        pub terms_bad : is_mark Comma b.word ≡ false → total ≡ fails BadShape b.at
+        terms_bad comma = sym (when_false _ _ _ _ more comma)
 
-  pub terms_fail_more : (e : ConfigFault) (total : Result (Located × State) ConfigFault) (t : Located) (s : State) (b : Located) (u : State) → GoesTerms total t s → pass t s ≡ Ok (b, u) → is_mark close b.word ≡ false → is_mark Comma b.word ≡ true → Fails e (token u) → Fails e total
-  terms_fail_more e total t s b u g r is comma h =
-      let p = on_comma total t s b u g r is comma in
-      fails_too e (token u) total (λ q. sym p.2 ∙ ap (λ x. x >>= λ next. terms_at pass close p.0 next.0 next.1) q) h
+        module _ (comma : is_mark Comma b.word ≡ true) where
+          after : (token u >>= from_token term.0) ≡ total
+          after = when_true _ _ _ _ more comma
 
-  pub terms_go : (total : Result (Located × State) ConfigFault) (t : Located) (s : State) (b : Located) (u : State) (next : Located) (v : State) → GoesTerms total t s → pass t s ≡ Ok (b, u) → is_mark close b.word ≡ false → is_mark Comma b.word ≡ true → token u ≡ Ok (next, v)
-      → length v.left.tokens < length s.left.tokens → GoesTerms total next v
-  terms_go total t s b u next v g r is comma k lt =
-      let p = on_comma total t s b u g r is comma in
-      record { n = p.0; enough = omega arith; same = sym (ap (λ x. x >>= λ y. terms_at pass close p.0 y.0 y.1) k) ∙ p.2 }
+          pub terms_fail_more : (e : ConfigFault) → Fails e (token u) → Fails e total
+          terms_fail_more e h = fails_then e (token u) (from_token term.0) total after h
+
+          pub terms_go : {next : Located} {v : State} → token u ≡ Ok (next, v) → length v.left.tokens < length s.left.tokens → GoesTerms total next v
+          terms_go {next} {v} k less =
+              let room = term.1 in
+              record { n = term.0; enough = omega (arith, room, less); same = then_is (token u) (from_token term.0) (next, v) total after k }
 
 -- ---- one term
+
+pub is_enough : {t : Located} {s : State} (left n : ℕ) → left < n → length s.left.tokens ≤ left → (is_end t.word ≡ false → length s.left.tokens < left) → IsEnough t s n
+is_enough left n lt le fewer = record { end = omega arith; token = λ no_end. (let less = fewer no_end in omega arith) }
 
 -- a term is opened by one step
 pub opens : (n : ℕ) (t : Located) (s : State) → IsEnough t s n → (m : ℕ) × (is_end t.word ≡ false → length s.left.tokens < m) × (term_at n t s ≡ term_by (term_at m) m t s)

@@ -5,9 +5,9 @@ use Rattle.std.specs.List.{AllByRecursion}
 use Rattle.std.proofs.lemmas.Bool.{eqb-false, ne_eqb}
 use Rattle.dac_tokens.specs.declared.fault.ConfigFault.{ConfigFault}
 use Rattle.dac_tokens.specs.declared.fault.FaultKind.{FaultKind}
-use Rattle.dac_tokens.specs.declared.fault.FaultKind.TheVariants.{BadShape, NoDistributed, NoMemory}
+use Rattle.dac_tokens.specs.declared.fault.FaultKind.TheVariants.{NoMemory}
 use Rattle.dac_tokens.specs.declared.token.Symbol.TheVariants.{FullStop}
-use Rattle.dac_tokens.specs.Gives.{◌>>=◌, Gives as GivesOrNone}
+use Rattle.dac_tokens.specs.Gives.{Gives as GivesOrNone}
 use Rattle.dac_shapes.specs.Outcome.{OrMemory, Gives}
 use Rattle.dac_shapes.proofs.Faults.{unless_memory, at_start}
 use Rattle.dac_tokens.specs.TokenGrammar.{AreTokensOf}
@@ -18,7 +18,7 @@ use Rattle.dac_shapes.specs.Written.{Section, Written, written}
 use Rattle.dac_shapes.specs.Limits.{Seen, nothing, AllMay, steps, with_section, MaySection}
 use Rattle.dac_shapes.specs.Within.{nodes_in, AreWithinLimits}
 use Rattle.dac_shapes.proofs.Within.{within_from, may_from, seen_is}
-use Rattle.dac_shapes.specs.Shape.{State, fails, token, symbol_at, list_of, section_at, end_at, file_at}
+use Rattle.dac_shapes.specs.Shape.{State, list_of, section_at, end_at, file_at}
 use Rattle.dac_shapes.specs.Grammar.{IsSection, IsListOf, IsFile, IsTextOf}
 use Rattle.dac_shapes.specs.Views.{draft_of}
 use Rattle.dac_shapes.proofs.Moves.{bind_ok, held, passed, ok_same, words_in, EndsWell, still_well, token_is, symbol_passes}
@@ -76,11 +76,10 @@ record Ends (s : State) (v : State) : Type 0 where
 end_found : (s : State) (place : ℕ) (v : State) → EndsWell s → NoEnd (words_in s) → end_at s ≡ Ok (place, v) → Ends s v
 unfolding end_at
 end_found s place v well no_end e =
-    let f1 : State → Result (ℕ × State) ConfigFault = λ stop. token stop >>= λ t. cond (is_end t.0.word) (Ok (t.0.at, t.1)) (fails BadShape t.0.at) in
-    let a = bind_ok (symbol_at FullStop s) f1 (place, v) e in
+    let a = bind_ok _ _ _ e in
     let m = symbol_passes FullStop s a.0 well a.1 in
-    let b = bind_ok (token a.0) (λ t. cond (is_end t.0.word) (Ok (t.0.at, t.1)) (fails BadShape t.0.at)) (place, v) a.2 in
-    let h = held (is_end b.0.0.word) (b.0.0.at, b.0.1) _ (place, v) b.2 in
+    let b = bind_ok _ _ _ a.2 in
+    let h = held _ _ _ _ b.2 in
     let is = token_is a.0 b.0.0 b.0.1 b.1 in
     let none = at_last a.0.left.tokens a.0.left.last b.0.0 b.0.1.left (no_end_behind (Mark FullStop ∷ []) (words_in a.0) (subst NoEnd m.moves.words no_end)) is.0 h.0 in
     record {
@@ -103,14 +102,12 @@ record Files (s : State) (draft : Written) : Type 0 where
 file_found : (s : State) (draft : Written) → EndsWell s → NoEnd (words_in s) → s.seen ≡ nothing → file_at s ≡ Ok draft → Files s draft
 unfolding file_at
 file_found s draft well no_end fresh e =
-    let f2 : List Section → ℕ × State → Result Written ConfigFault = λ ss end. cond (eqb (length (written ss end.1.seen.met).apps) 0) (fails NoDistributed end.0) (Ok (written ss end.1.seen.met)) in
-    let f1 : List Section × State → Result Written ConfigFault = λ ss. end_at ss.1 >>= f2 ss.0 in
-    let a = bind_ok (list_of section_at s) f1 draft e in
+    let a = bind_ok _ _ _ e in
     let g = bracketed_found IsSection section_at with_section MaySection section_found s a.0.0 a.0.1 well a.1 in
-    let b = bind_ok (end_at a.0.1) (f2 a.0.0) draft a.2 in
+    let b = bind_ok _ _ _ a.2 in
     let ends = end_found a.0.1 b.0.0 b.0.1 (still_well s a.0.1 g.ws well g.moves) (no_end_behind g.ws (words_in a.0.1) (subst NoEnd g.moves.words no_end)) b.1 in
     let met : b.0.1.seen.met ≡ nodes_in a.0.0 = ap (λ (q : Seen). q.met) (ends.seen ∙ g.seen ∙ ap (λ (q : Seen). steps with_section q a.0.0) fresh) ∙ seen_is a.0.0 in
-    let p = passed (eqb (length (written a.0.0 b.0.1.seen.met).apps) 0) _ (Ok (written a.0.0 b.0.1.seen.met)) draft b.2 in
+    let p = passed _ _ _ _ b.2 in
     let is : written a.0.0 b.0.1.seen.met ≡ draft = ok_same (written a.0.0 b.0.1.seen.met) draft _ refl p.1 in
     record {
       sections = a.0.0;

@@ -1,64 +1,37 @@
 -- Sections may come one after another exactly where they keep the limits in plain words.
 use Rattle.std.proofs.Common.{◌≡◌, ℕ, ◌+◌, ◌<◌, ◌≤◌, Bool, true, false, ◌||◌, cond, eqb, List, [], ◌∷◌, ◌++◌, length, map, Option, None, Some, refl, sym, ap, subst, ◌∙◌, append_assoc, append-nil, length-append, arith}
-use Rattle.std.specs.Prelude.{All, count_by}
-use Rattle.std.specs.List.{IsDistinct, AllByRecursion, list_any}
+use Rattle.std.specs.Prelude.{count_by}
+use Rattle.std.specs.List.{IsDistinct, AllByRecursion as Each, list_any}
 use Rattle.std.specs.Str.{bytes_eq}
+use Rattle.std.proofs.Math.Bool.{or-false}
+use Rattle.std.proofs.lemmas.Bool.{or_parts, or_from}
 use Rattle.std.proofs.lemmas.List.{map_push}
-use Rattle.std.proofs.lemmas.List.Sums.{sum_by-cons}
-use Rattle.std.proofs.lemmas.List.Elements.{All-from_recursion, recursion_from_All}
+use Rattle.std.proofs.lemmas.List.Sums.{sum_by-cons, sum_by-append}
+use Rattle.std.proofs.lemmas.List.Elements.{All-from_recursion as each_all, recursion_from_All as all_each}
 use Rattle.std.proofs.lemmas.List.Folds.{list_any-append}
 use Rattle.dac_shapes.specs.declared.param.ParamName.{ParamName}
 use Rattle.dac_shapes.specs.declared.param.ParamName.TheVariants as named
-use Rattle.dac_shapes.specs.Written.{App, Permission, Param, Distributed, Permissions, Mandatory, Optional, Timeout, Section, Kernel, name_of}
+use Rattle.dac_shapes.specs.Written.{App, Permission, Param, Distributed, Permissions, Mandatory, Optional, Section, Kernel, name_of}
 use Rattle.dac_shapes.specs.Limits.{Seen, nothing, AllMay, steps, is_among, number_of, is_named, has_param, is_kernel, has_kernel, listing, with_app, MayApp, with_permission, MayPermission, with_param, MayValue, MayParam, with_section, MaySection, MaySections}
 use Rattle.dac_shapes.specs.Within.{joined, params_in, names_of_app, names_of_param, names_in, nodes_in, AreAppsWithin, IsValueWithin, AreWithinLimits}
-use Rattle.dac_shapes.proofs.Walk.{Each, IsShort, IsFew, with_all, AllNew, nodes_met, nodes_to, nodes_from, groups_met, groups_to, groups_from, AllKeep, all_met, all_to, all_from}
+use Rattle.dac_shapes.proofs.Walk.{IsShort, IsFew, Fit, with_all, AllNew, nodes_met, nodes_to, nodes_from, groups_met, groups_to, groups_from, AllKeep, IsWalk, all_met, all_to, all_from}
 
 -- ---- between words
-
-pub all_each : {A : Type 0} (P : A → Type 0) (xs : List A) → All P xs → Each P xs
-all_each P xs h = by xs (recursion_from_All P xs h)
-  where
-    by : (ys : List _) → AllByRecursion P ys → Each P ys
-    by [] h = tt
-    by (y ∷ ys) h = (h.0, by ys h.1)
-
-pub each_all : {A : Type 0} (P : A → Type 0) (xs : List A) → Each P xs → All P xs
-each_all P xs h = All-from_recursion P xs (by xs h)
-  where
-    by : (ys : List _) → Each P ys → AllByRecursion P ys
-    by [] h = tt
-    by (y ∷ ys) h = (h.0, by ys h.1)
 
 pub each_by : {A : Type 0} (P Q : A → Type 0) → ((x : A) → P x → Q x) → (xs : List A) → Each P xs → Each Q xs
 each_by P Q f [] h = tt
 each_by P Q f (x ∷ xs) h = (f x h.0, each_by P Q f xs h.1)
-
-or_false : (a b : Bool) → (a || b) ≡ false → (a ≡ false) × (b ≡ false)
-or_false true b e = absurd cc
-or_false false b e = (refl, e)
-
-both_false : (a b : Bool) → a ≡ false → b ≡ false → (a || b) ≡ false
-both_false a b e f = rw (e, f) refl
-
--- whether a name is among these and one more
-among_push : (name : List ℕ) (names : List (List ℕ)) (last : List ℕ) → is_among name (names ++ last ∷ []) ≡ (is_among name names || (bytes_eq last name || false))
-among_push name names last = list_any-append (λ other. bytes_eq other name) names (last ∷ [])
-
-or_nothing : (b : Bool) → (b || false) ≡ b
-or_nothing true = refl
-or_nothing false = refl
 
 abbrev pub IsApart : List (List ℕ) → List ℕ → Type 0
 IsApart before x = is_among x before ≡ false
 
 apart_push : (before : List (List ℕ)) (x y : List ℕ) → IsApart (before ++ x ∷ []) y → IsApart before y × (bytes_eq x y ≡ false)
 apart_push before x y e =
-    let h = or_false (is_among y before) (bytes_eq x y || false) (sym (among_push y before x) ∙ e) in
-    (h.0, sym (or_nothing (bytes_eq x y)) ∙ h.1)
+    let h = or_parts (is_among y before) (bytes_eq x y || false) (sym (list_any-append (λ other. bytes_eq other y) before (x ∷ [])) ∙ e) in
+    (h.0, sym (or-false (bytes_eq x y)) ∙ h.1)
 
 push_apart : (before : List (List ℕ)) (x y : List ℕ) → IsApart before y → bytes_eq x y ≡ false → IsApart (before ++ x ∷ []) y
-push_apart before x y e f = among_push y before x ∙ both_false (is_among y before) (bytes_eq x y || false) e (or_nothing (bytes_eq x y) ∙ f)
+push_apart before x y e f = list_any-append (λ other. bytes_eq other y) before (x ∷ []) ∙ or_from (is_among y before) (bytes_eq x y || false) e (or-false (bytes_eq x y) ∙ f)
 
 -- names that are new one after another are distinct, and apart from those before
 distinct_from : (before xs : List (List ℕ)) → AllNew before xs → IsDistinct bytes_eq xs × Each (IsApart before) xs
@@ -66,18 +39,15 @@ unfolding IsDistinct
 distinct_from before [] new = (tt, tt)
 distinct_from before (x ∷ xs) new =
     let rest = distinct_from (before ++ x ∷ []) xs new.1 in
-    ((others xs rest.1, rest.0), (new.0, each_by (IsApart (before ++ x ∷ [])) (IsApart before) (λ y e. (apart_push before x y e).0) xs rest.1))
-  where
-    others : (ys : List (List ℕ)) → Each (IsApart (before ++ x ∷ [])) ys → AllByRecursion (λ y. bytes_eq x y ≡ false) ys
-    others [] h = tt
-    others (y ∷ ys) h = ((apart_push before x y h.0).1, others ys h.1)
+    let apart = IsApart (before ++ x ∷ []) in
+    ((each_by apart (λ y. bytes_eq x y ≡ false) (λ y e. (apart_push before x y e).1) xs rest.1, rest.0), (new.0, each_by apart (IsApart before) (λ y e. (apart_push before x y e).0) xs rest.1))
 
 new_from : (before xs : List (List ℕ)) → IsDistinct bytes_eq xs → Each (IsApart before) xs → AllNew before xs
 unfolding IsDistinct
 new_from before [] distinct apart = tt
 new_from before (x ∷ xs) distinct apart = (apart.0, new_from (before ++ x ∷ []) xs distinct.1 (others xs distinct.0 apart.1))
   where
-    others : (ys : List (List ℕ)) → AllByRecursion (λ y. bytes_eq x y ≡ false) ys → Each (IsApart before) ys → Each (IsApart (before ++ x ∷ [])) ys
+    others : (ys : List (List ℕ)) → Each (λ y. bytes_eq x y ≡ false) ys → Each (IsApart before) ys → Each (IsApart (before ++ x ∷ [])) ys
     others [] d h = tt
     others (y ∷ ys) d h = (push_apart before x y h.0 d.0, others ys d.1 h.1)
 
@@ -100,16 +70,14 @@ record KeepsApp (before : List App) (app : App) : Type 0 where
   pub few : length before < 64
   pub nodes : AllNew [] (names_of_app app)
 
-app_met : (seen : Seen) (app : App) → (with_app seen app).met ≡ with_all seen.met (names_of_app app)
-app_met seen app = groups_met (listing seen) app.groups
-
-app_to : (before : List App) (seen : Seen) (app : App) → IsFew seen.met → MayApp before seen app → KeepsApp before app × Each IsShort (names_of_app app) × IsFew (with_all seen.met (names_of_app app))
-app_to before seen app few may =
-    let g = groups_to [] (listing seen) app.groups few may.nodes in
-    (record { short = may.short; once = may.once; few = may.few; nodes = g.0 }, g.1, g.2)
-
-app_from : (before : List App) (seen : Seen) (app : App) → KeepsApp before app → Each IsShort (names_of_app app) → IsFew (with_all seen.met (names_of_app app)) → MayApp before seen app
-app_from before seen app keep short few = record { short = keep.short; once = keep.once; few = keep.few; nodes = groups_from [] (listing seen) app.groups keep.nodes short few }
+app_walk : IsWalk with_app MayApp names_of_app KeepsApp
+app_walk = record {
+  met = λ seen app. groups_met (listing seen) app.groups;
+  to = λ before seen app few may.
+      let g = groups_to [] (listing seen) app.groups few may.nodes in
+      (record { short = may.short; once = may.once; few = may.few; nodes = g.0 }, g.1);
+  from = λ before seen app keep fit. record { short = keep.short; once = keep.once; few = keep.few; nodes = groups_from [] (listing seen) app.groups keep.nodes fit };
+}
 
 -- what applications one after another keep
 record KeepApps (before apps : List App) : Type 0 where
@@ -169,73 +137,77 @@ record KeepsParam (before : List Param) (param : Param) : Type 0 where
   pub value : IsValueWithin param
 
 param_met : (seen : Seen) (param : Param) → (with_param seen param).met ≡ with_all seen.met (names_of_param param)
-param_met seen (Distributed apps) = all_met with_app MayApp names_of_app KeepsApp app_met seen apps
-param_met seen (Permissions permissions) = refl
+param_met seen (Distributed apps) = all_met app_walk seen apps
 param_met seen (Mandatory names) = nodes_met seen names
 param_met seen (Optional names) = nodes_met seen names
-param_met seen (Timeout wait) = refl
-param_met seen Param.Other = refl
+param_met seen _ = refl
 
-value_to : (seen : Seen) (param : Param) → IsFew seen.met → MayValue seen param → IsValueWithin param × Each IsShort (names_of_param param) × IsFew (with_all seen.met (names_of_param param))
-value_to seen (Distributed apps) few may =
-    let a = all_to with_app MayApp names_of_app KeepsApp app_met app_to [] seen apps few may in (apps_within apps a.0, a.1, a.2)
-value_to seen (Permissions permissions) few may = (each_all (λ p. length p.name ≤ 255) permissions (permissions_to [] seen permissions may), tt, few)
-value_to seen (Mandatory names) few may = let n = nodes_to true [] seen names few may in (tt, n.1, n.2)
-value_to seen (Optional names) few may = let n = nodes_to true [] seen names few may in (tt, n.1, n.2)
-value_to seen (Timeout wait) few may = (tt, tt, few)
-value_to seen Param.Other few may = (tt, tt, few)
+value_to : (seen : Seen) (param : Param) → IsFew seen.met → MayValue seen param → IsValueWithin param × Fit seen.met (names_of_param param)
+value_to seen (Distributed apps) few may = let a = all_to app_walk [] seen apps few may in (apps_within apps a.0, a.1)
+value_to seen (Permissions permissions) few may = (each_all (λ p. length p.name ≤ 255) permissions (permissions_to [] seen permissions may), (tt, few))
+value_to seen (Mandatory names) few may = (tt, (nodes_to true [] seen names few may).1)
+value_to seen (Optional names) few may = (tt, (nodes_to true [] seen names few may).1)
+value_to seen _ few may = (tt, (tt, few))
 
-never : (names : List (List ℕ)) → true ≡ false → AllNew names []
-never names e = absurd cc
+value_from : (seen : Seen) (param : Param) → IsValueWithin param → Fit seen.met (names_of_param param) → MayValue seen param
+value_from seen (Distributed apps) within fit = all_from app_walk [] seen apps (within_apps apps within) fit
+value_from seen (Permissions permissions) within fit = permissions_from [] seen permissions (all_each (λ p. length p.name ≤ 255) permissions within)
+value_from seen (Mandatory names) within fit = nodes_from true [] seen names (λ e. absurd cc) fit
+value_from seen (Optional names) within fit = nodes_from true [] seen names (λ e. absurd cc) fit
+value_from seen _ within fit = tt
 
-value_from : (seen : Seen) (param : Param) → IsValueWithin param → Each IsShort (names_of_param param) → IsFew (with_all seen.met (names_of_param param)) → MayValue seen param
-value_from seen (Distributed apps) within short few = all_from with_app MayApp names_of_app KeepsApp app_met app_from [] seen apps (within_apps apps within) short few
-value_from seen (Permissions permissions) within short few = permissions_from [] seen permissions (all_each (λ p. length p.name ≤ 255) permissions within)
-value_from seen (Mandatory names) within short few = nodes_from true [] seen names (λ e. absurd cc) short few
-value_from seen (Optional names) within short few = nodes_from true [] seen names (λ e. absurd cc) short few
-value_from seen (Timeout wait) within short few = tt
-value_from seen Param.Other within short few = tt
-
-param_to : (before : List Param) (seen : Seen) (param : Param) → IsFew seen.met → MayParam before seen param → KeepsParam before param × Each IsShort (names_of_param param) × IsFew (with_all seen.met (names_of_param param))
-param_to before seen param few may = let v = value_to seen param few may.value in (record { once = may.once; value = v.0 }, v.1, v.2)
-
-param_from : (before : List Param) (seen : Seen) (param : Param) → KeepsParam before param → Each IsShort (names_of_param param) → IsFew (with_all seen.met (names_of_param param)) → MayParam before seen param
-param_from before seen param keep short few = record { once = keep.once; value = value_from seen param keep.value short few }
+param_walk : IsWalk with_param MayParam names_of_param KeepsParam
+param_walk = record {
+  met = param_met;
+  to = λ before seen param few may. let v = value_to seen param few may.value in (record { once = may.once; value = v.0 }, v.1);
+  from = λ before seen param keep fit. record { once = keep.once; value = value_from seen param keep.value fit };
+}
 
 -- ---- what stands once
 
 abbrev one : Bool → ℕ
 one b = cond b 1 0
 
--- how many things pass
 module _ {A : Type 0} (p : A → Bool) where
   count_cons : (x : A) (xs : List A) → count_by p (x ∷ xs) ≡ one (p x) + count_by p xs
   count_cons x xs = sum_by-cons (λ y. cond (p y) 1 0) x xs
 
   count_push : (xs : List A) (x : A) → count_by p (xs ++ x ∷ []) ≡ count_by p xs + one (p x)
-  count_push [] x = omega (arith, count_cons x [])
-  count_push (y ∷ ys) x = let e = count_push ys x in omega (arith, e, count_cons y (ys ++ x ∷ []), count_cons y ys)
-
-  passes_not : (x : A) → p x ≡ false → one (p x) ≡ 0
-  passes_not x e = rw e refl
-
-  passes_one : (x : A) → p x ≡ true → one (p x) ≡ 1
-  passes_one x e = rw e refl
-
-  fails_one : (x : A) → one (p x) ≡ 0 → p x ≡ false
-  fails_one x = by (p x)
-    where
-      by : (b : Bool) → one b ≡ 0 → b ≡ false
-      by true e = absurd (omega (arith, e))
-      by false e = refl
+  count_push xs x = omega (arith, sum_by-append (λ y. cond (p y) 1 0) xs (x ∷ []), count_cons x [])
 
   any_none : (xs : List A) → list_any p xs ≡ false → count_by p xs ≡ 0
   any_none [] e = refl
-  any_none (x ∷ xs) e = let h = or_false (p x) (list_any p xs) e in let z = any_none xs h.1 in let c = passes_not x h.0 in omega (arith, z, c, count_cons x xs)
+  any_none (x ∷ xs) e =
+      let h = or_parts (p x) (list_any p xs) e in
+      let z = any_none xs h.1 in
+      let c : one (p x) ≡ 0 = ap one h.0 in
+      omega (arith, z, c, count_cons x xs)
+
+  fails_one : (b : Bool) → one b ≡ 0 → b ≡ false
+  fails_one true e = absurd (omega (arith, e))
+  fails_one false e = refl
 
   none_any : (xs : List A) → count_by p xs ≡ 0 → list_any p xs ≡ false
   none_any [] e = refl
-  none_any (x ∷ xs) e = both_false (p x) (list_any p xs) (fails_one x (omega (arith, e, count_cons x xs))) (none_any xs (omega (arith, e, count_cons x xs)))
+  none_any (x ∷ xs) e = or_from (p x) (list_any p xs) (fails_one (p x) (omega (arith, e, count_cons x xs))) (none_any xs (omega (arith, e, count_cons x xs)))
+
+  -- at most one passes, those before counted, where none that passes stands behind another
+  once_to : (before xs : List A) → AllKeep (λ b x. p x ≡ true → list_any p b ≡ false) before xs → count_by p before ≤ 1 → count_by p before + count_by p xs ≤ 1
+  once_to before [] keep few = omega (arith, few)
+  once_to before (x ∷ xs) keep few =
+      let all = once_to (before ++ x ∷ []) xs keep.1 (by (p x) refl) in
+      omega (arith, all, count_push before x, count_cons x xs)
+    where
+      by : (b : Bool) → p x ≡ b → count_by p (before ++ x ∷ []) ≤ 1
+      by false f = let c : one (p x) ≡ 0 = ap one f in omega (arith, few, c, count_push before x)
+      by true f =
+          let c : one (p x) ≡ 1 = ap one f in
+          let none = any_none before (keep.0 f) in
+          omega (arith, none, c, count_push before x)
+
+keep_by : {A : Type 0} (P Q : List A → A → Type 0) → ((before : List A) (x : A) → P before x → Q before x) → (before xs : List A) → AllKeep P before xs → AllKeep Q before xs
+keep_by P Q f before [] h = tt
+keep_by P Q f before (x ∷ xs) h = (f before x h.0, keep_by P Q f (before ++ x ∷ []) xs h.1)
 
 same_param : (a b : ParamName) → eqb (number_of a) (number_of b) ≡ true → a ≡ b
 same_param named.Distributed named.Distributed e = refl
@@ -247,36 +219,25 @@ same_param _ _ e = absurd cc
 
 is_itself : (name : ParamName) → eqb (number_of name) (number_of name) ≡ true
 is_itself named.Distributed = refl
-is_itself named.Permissions = refl
-is_itself named.Mandatory = refl
-is_itself named.Optional = refl
-is_itself named.Timeout = refl
+is_itself _ = refl
 
 abbrev is_this : ParamName → Param → Bool
 is_this name param = is_named name (name_of param)
 
--- at most one parameter has this name, those before counted
 named_so : (name : ParamName) (o : Option ParamName) → is_named name o ≡ true → (other : ParamName) × (o ≡ Some other) × (is_named name (Some other) ≡ true)
 named_so name None e = absurd cc
 named_so name (Some other) e = (other, refl, e)
 
--- one more parameter, which may come after these
-one_more : (name : ParamName) (before : List Param) (param : Param) → KeepsParam before param → count_by (is_this name) before ≤ 1 → count_by (is_this name) (before ++ param ∷ []) ≤ 1
-one_more name before param keep few = by (is_this name param) refl
+-- at most one parameter has this name
+params_to : (name : ParamName) (params : List Param) → AllKeep KeepsParam [] params → count_by (is_this name) params ≤ 1
+params_to name params keep =
+    let all = once_to (is_this name) [] params (keep_by KeepsParam (λ b x. is_this name x ≡ true → has_param name b ≡ false) named_once [] params keep) (omega arith) in
+    omega (arith, all)
   where
-    by : (b : Bool) → is_this name param ≡ b → count_by (is_this name) (before ++ param ∷ []) ≤ 1
-    by false f = omega (arith, few, count_push (is_this name) before param, passes_not (is_this name) param f)
-    by true f =
-        let n = named_so name (name_of param) f in
-        let none = any_none (is_this name) before (subst (λ (m : ParamName). has_param m before ≡ false) (same_param n.0 name n.2) (keep.once n.0 n.1)) in
-        omega (arith, none, count_push (is_this name) before param, passes_one (is_this name) param f)
-
--- at most one parameter has this name, those before counted
-params_to : (name : ParamName) (before params : List Param) → AllKeep KeepsParam before params → count_by (is_this name) before ≤ 1 → count_by (is_this name) before + count_by (is_this name) params ≤ 1
-params_to name before [] keep few = omega (arith, few)
-params_to name before (param ∷ params) keep few =
-    let all = params_to name (before ++ param ∷ []) params keep.1 (one_more name before param keep.0 few) in
-    omega (arith, all, count_push (is_this name) before param, count_cons (is_this name) param params)
+    named_once : (before : List Param) (param : Param) → KeepsParam before param → is_this name param ≡ true → has_param name before ≡ false
+    named_once before param keep is =
+        let n = named_so name (name_of param) is in
+        subst (λ (m : ParamName). has_param m before ≡ false) (same_param n.0 name n.2) (keep.once n.0 n.1)
 
 params_from : (before params : List Param) → ((name : ParamName) → count_by (is_this name) before + count_by (is_this name) params ≤ 1) → Each IsValueWithin params → AllKeep KeepsParam before params
 params_from before [] few within = tt
@@ -286,7 +247,7 @@ params_from before (param ∷ params) few within = (
 )
   where
     none : (name : ParamName) → name_of param ≡ Some name → count_by (is_this name) before ≡ 0
-    none name is = omega (arith, few name, passes_one (is_this name) param (ap (is_named name) is ∙ is_itself name), count_cons (is_this name) param params)
+    none name is = (let c : one (is_this name param) ≡ 1 = ap one (ap (is_named name) is ∙ is_itself name) in omega (arith, few name, c, count_cons (is_this name) param params))
 
 values_of : (before params : List Param) → AllKeep KeepsParam before params → Each IsValueWithin params
 values_of before [] keep = tt
@@ -304,19 +265,21 @@ KeepsSection before Section.Other = Unit {0}
 
 section_met : (seen : Seen) (section : Section) → (with_section seen section).met ≡ with_all seen.met (names_of_section section)
 unfolding names_of_section
-section_met seen (Kernel params) = all_met with_param MayParam names_of_param KeepsParam param_met seen params
+section_met seen (Kernel params) = all_met param_walk seen params
 section_met seen Section.Other = refl
 
-section_to : (before : List Section) (seen : Seen) (section : Section) → IsFew seen.met → MaySection before seen section → KeepsSection before section × Each IsShort (names_of_section section) × IsFew (with_all seen.met (names_of_section section))
+section_to : (before : List Section) (seen : Seen) (section : Section) → IsFew seen.met → MaySection before seen section → KeepsSection before section × Fit seen.met (names_of_section section)
 unfolding names_of_section KeepsSection
-section_to before seen (Kernel params) few may =
-    let a = all_to with_param MayParam names_of_param KeepsParam param_met param_to [] seen params few may.params in ((may.once, a.0), a.1, a.2)
-section_to before seen Section.Other few may = (tt, tt, few)
+section_to before seen (Kernel params) few may = let a = all_to param_walk [] seen params few may.params in ((may.once, a.0), a.1)
+section_to before seen Section.Other few may = (tt, (tt, few))
 
-section_from : (before : List Section) (seen : Seen) (section : Section) → KeepsSection before section → Each IsShort (names_of_section section) → IsFew (with_all seen.met (names_of_section section)) → MaySection before seen section
+section_from : (before : List Section) (seen : Seen) (section : Section) → KeepsSection before section → Fit seen.met (names_of_section section) → MaySection before seen section
 unfolding names_of_section KeepsSection
-section_from before seen (Kernel params) keep short few = record { once = keep.0; params = all_from with_param MayParam names_of_param KeepsParam param_met param_from [] seen params keep.1 short few }
-section_from before seen Section.Other keep short few = tt
+section_from before seen (Kernel params) keep fit = record { once = keep.0; params = all_from param_walk [] seen params keep.1 fit }
+section_from before seen Section.Other keep fit = tt
+
+section_walk : IsWalk with_section MaySection names_of_section KeepsSection
+section_walk = record { met = section_met; to = section_to; from = section_from }
 
 joined_map : {A : Type 0} (f : A → List (List ℕ)) (xs ys : List A) → joined (map f (xs ++ ys)) ≡ joined (map f xs) ++ joined (map f ys)
 joined_map f [] ys = refl
@@ -328,48 +291,32 @@ section_names [] = refl
 section_names (Kernel params ∷ sections) = ap (λ (l : List (List ℕ)). joined (map names_of_param params) ++ l) (section_names sections) ∙ sym (joined_map names_of_param params (params_in sections))
 section_names (Section.Other ∷ sections) = section_names sections
 
-had_kernel : (before : List Section) (x : Section) → has_kernel before ≡ true → has_kernel (before ++ x ∷ []) ≡ true
-had_kernel before x e = list_any-append is_kernel before (x ∷ []) ∙ rw e refl
-
--- behind a kernel no parameter comes
-no_params : (before sections : List Section) → has_kernel before ≡ true → AllKeep KeepsSection before sections → params_in sections ≡ []
+kernels_to : (sections : List Section) → AllKeep KeepsSection [] sections → count_by is_kernel sections ≤ 1
 unfolding KeepsSection
-no_params before [] e keep = refl
-no_params before (Kernel params ∷ sections) e keep = absurd (let both : true ≡ false = sym e ∙ keep.0.0 in cc)
-no_params before (Section.Other ∷ sections) e keep = no_params (before ++ Section.Other ∷ []) sections (had_kernel before Section.Other e) keep.1
-
-now_kernel : (before : List Section) (params : List Param) → has_kernel (before ++ Kernel params ∷ []) ≡ true
-now_kernel before params = list_any-append is_kernel before (Kernel params ∷ []) ∙ or_true (has_kernel before)
+kernels_to sections keep =
+    let all = once_to is_kernel [] sections (keep_by KeepsSection (λ b x. is_kernel x ≡ true → has_kernel b ≡ false) kernel_once [] sections keep) (omega arith) in
+    omega (arith, all)
   where
-    or_true : (b : Bool) → (b || true) ≡ true
-    or_true true = refl
-    or_true false = refl
-
-params_keep : (before sections : List Section) → AllKeep KeepsSection before sections → AllKeep KeepsParam [] (params_in sections)
-unfolding KeepsSection
-params_keep before [] keep = tt
-params_keep before (Kernel params ∷ sections) keep =
-    let none = no_params (before ++ Kernel params ∷ []) sections (now_kernel before params) keep.1 in
-    subst (λ (l : List Param). AllKeep KeepsParam [] l) (sym (ap (λ (l : List Param). params ++ l) none ∙ append-nil params)) keep.0.1
-params_keep before (Section.Other ∷ sections) keep = params_keep (before ++ Section.Other ∷ []) sections keep.1
-
-kernels_to : (before sections : List Section) → AllKeep KeepsSection before sections → count_by is_kernel before ≤ 1 → count_by is_kernel before + count_by is_kernel sections ≤ 1
-unfolding KeepsSection
-kernels_to before [] keep few = omega (arith, few)
-kernels_to before (Kernel params ∷ sections) keep few =
-    let none = any_none is_kernel before keep.0.0 in
-    let e = count_push is_kernel before (Kernel params) in
-    let all = kernels_to (before ++ Kernel params ∷ []) sections keep.1 (omega (arith, none, e)) in
-    omega (arith, all, e, count_cons is_kernel (Kernel params) sections)
-kernels_to before (Section.Other ∷ sections) keep few =
-    let e = count_push is_kernel before Section.Other in
-    let all = kernels_to (before ++ Section.Other ∷ []) sections keep.1 (omega (arith, few, e)) in
-    omega (arith, all, e, count_cons is_kernel Section.Other sections)
+    kernel_once : (before : List Section) (section : Section) → KeepsSection before section → is_kernel section ≡ true → has_kernel before ≡ false
+    kernel_once before (Kernel params) keep is = keep.0
+    kernel_once before Section.Other keep is = absurd cc
 
 no_kernels : (sections : List Section) → count_by is_kernel sections ≡ 0 → params_in sections ≡ []
 no_kernels [] e = refl
 no_kernels (Kernel params ∷ sections) e = absurd (omega (arith, e, count_cons is_kernel (Kernel params) sections))
 no_kernels (Section.Other ∷ sections) e = no_kernels sections (omega (arith, e, count_cons is_kernel Section.Other sections))
+
+-- a kernel is the only one, so its parameters are all that there are
+only_params : (params : List Param) (sections : List Section) → params_in sections ≡ [] → params ++ params_in sections ≡ params
+only_params params sections none = ap (λ (l : List Param). params ++ l) none ∙ append-nil params
+
+params_keep : (before sections : List Section) → AllKeep KeepsSection before sections → count_by is_kernel sections ≤ 1 → AllKeep KeepsParam [] (params_in sections)
+unfolding KeepsSection
+params_keep before [] keep few = tt
+params_keep before (Kernel params ∷ sections) keep few =
+    let none = no_kernels sections (omega (arith, few, count_cons is_kernel (Kernel params) sections)) in
+    subst (λ (l : List Param). AllKeep KeepsParam [] l) (sym (only_params params sections none)) keep.0.1
+params_keep before (Section.Other ∷ sections) keep few = params_keep (before ++ Section.Other ∷ []) sections keep.1 (omega (arith, few, count_cons is_kernel Section.Other sections))
 
 kernels_from : (before sections : List Section) → count_by is_kernel before + count_by is_kernel sections ≤ 1 → AllKeep KeepsParam [] (params_in sections) → AllKeep KeepsSection before sections
 unfolding KeepsSection
@@ -378,7 +325,7 @@ kernels_from before (Kernel params ∷ sections) few keep =
     let e = count_push is_kernel before (Kernel params) in
     let c = count_cons is_kernel (Kernel params) sections in
     let none = no_kernels sections (omega (arith, few, c)) in (
-      (none_any is_kernel before (omega (arith, few, c)), subst (λ (l : List Param). AllKeep KeepsParam [] l) (ap (λ (l : List Param). params ++ l) none ∙ append-nil params) keep),
+      (none_any is_kernel before (omega (arith, few, c)), subst (λ (l : List Param). AllKeep KeepsParam [] l) (only_params params sections none) keep),
       kernels_from (before ++ Kernel params ∷ []) sections (omega (arith, few, e, c)) (subst (λ (l : List Param). AllKeep KeepsParam [] l) (sym none) tt),
     )
 kernels_from before (Section.Other ∷ sections) few keep =
@@ -390,15 +337,16 @@ kernels_from before (Section.Other ∷ sections) few keep =
 
 pub within_from : (sections : List Section) → MaySections sections → AreWithinLimits sections
 within_from sections may =
-    let a = all_to with_section MaySection names_of_section KeepsSection section_met section_to [] nothing sections (omega arith) may in
-    let keep = params_keep [] sections a.0 in
+    let a = all_to section_walk [] nothing sections (omega arith) may in
+    let kernel = kernels_to sections a.0 in
+    let keep = params_keep [] sections a.0 kernel in
     let names = section_names sections in
     record {
-      kernel = (let all = kernels_to [] sections a.0 (omega arith) in omega (arith, all));
-      params = λ name. (let all = params_to name [] (params_in sections) keep (omega arith) in omega (arith, all));
+      kernel = kernel;
+      params = λ name. params_to name (params_in sections) keep;
       values = each_all IsValueWithin (params_in sections) (values_of [] (params_in sections) keep);
-      short = each_all (λ name. length name ≤ 255) (names_in sections) (subst (Each IsShort) names a.1);
-      few = subst (λ (l : List (List ℕ)). IsFew (with_all [] l)) names a.2;
+      short = each_all (λ name. length name ≤ 255) (names_in sections) (subst (Each IsShort) names a.1.0);
+      few = subst (λ (l : List (List ℕ)). IsFew (with_all [] l)) names a.1.1;
     }
 
 pub may_from : (sections : List Section) → AreWithinLimits sections → MaySections sections
@@ -407,10 +355,8 @@ may_from sections w =
     let kernel = w.kernel in
     let values = all_each IsValueWithin (params_in sections) w.values in
     let keep = kernels_from [] sections (omega (arith, kernel)) (params_from [] (params_in sections) (λ name. (let all = w.params name in omega (arith, all))) values) in
-    all_from with_section MaySection names_of_section KeepsSection section_met section_from [] nothing sections keep
-    (subst (Each IsShort) (sym names) (all_each (λ name. length name ≤ 255) (names_in sections) w.short))
-    (subst (λ (l : List (List ℕ)). IsFew (with_all [] l)) (sym names) w.few)
+    all_from section_walk [] nothing sections keep (subst (Fit []) (sym names) (all_each (λ name. length name ≤ 255) (names_in sections) w.short, w.few))
 
 -- what was seen after the sections are the different names, where they first stand
 pub seen_is : (sections : List Section) → (steps with_section nothing sections).met ≡ nodes_in sections
-seen_is sections = all_met with_section MaySection names_of_section KeepsSection section_met nothing sections ∙ ap (λ (l : List (List ℕ)). with_all [] l) (section_names sections)
+seen_is sections = all_met section_walk nothing sections ∙ ap (λ (l : List (List ℕ)). with_all [] l) (section_names sections)

@@ -1,7 +1,9 @@
 -- What contracts see of the values that are read.
-use Rattle.std.specs.Prelude.{ℕ, List, map, length}
+use Rattle.std.specs.Prelude.{ℕ, List, map, length, Result}
 use Rattle.std.specs.Borrow.{Bor}
 use Rattle.std.specs.Global.{Vec}
+use Rattle.dac_tokens.specs.declared.fault.ConfigFault.{ConfigFault}
+use Rattle.dac_tokens.specs.Words.{Located}
 use Rattle.dac_shapes.specs.declared.parser.Parser.{Parser}
 use Rattle.dac_shapes.specs.declared.draft.DraftApp.{DraftApp}
 use Rattle.dac_shapes.specs.declared.draft.Draft.{Draft}
@@ -59,3 +61,7 @@ state_of p = record { left = p.tokens; seen = record { met = names_of p.met.item
 
 abbrev pub tokens_left : Parser → ℕ
 tokens_left p = length p.tokens.tokens
+
+-- how an element of a list is read, after those before it, from its first token on
+abbrev pub Reading : Type 0 → Type 0
+Reading A = List A → Located → State → Result (A × State) ConfigFault

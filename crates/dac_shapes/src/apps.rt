@@ -1,13 +1,14 @@
 //! The applications of the parameter `distributed`.
 
-ghost use Rattle.std.specs.Prelude.{◌≡◌, ◌≤◌, []};
-ghost use Rattle.dac_tokens.specs.declared.token.Symbol.TheVariants.{CloseList};
+ghost use Rattle.std.specs.Prelude.{◌≡◌, ◌≤◌};
 ghost use Rattle.dac_shapes.specs.Outcome.{Gives};
 ghost use Rattle.dac_tokens.specs.Words.{located_of};
-ghost use Rattle.dac_shapes.specs.Shape.{timeout_at, app_value_at, app_at, comma_list, list_of, room};
-ghost use Rattle.dac_shapes.specs.Views.{app_of, apps_of, state_of, tokens_left};
+ghost use Rattle.dac_shapes.specs.Shape.{timeout_at, app_value_at, app_at};
+ghost use Rattle.dac_shapes.specs.Views.{app_of, state_of, tokens_left};
+ghost use Rattle.dac_shapes.specs.Written.{App};
 
 use crate::draft::DraftApp;
+use crate::list::Elements;
 use crate::names::{app_name_of, fault, is_mark};
 use crate::numbers::timeout_of;
 use crate::parser::Parser;
@@ -45,57 +46,36 @@ impl<'a> Parser<'a> {
             groups,
         })
     }
+}
 
-    /// An application that is not among those before it, from its first token on.
+/// Applications, each with another name.
+pub struct Apps;
+
+impl<'a> Elements<'a> for Apps {
+    type Element = DraftApp<'a>;
+
+    ghost Said = { App };
+
+    ghost said = { app_of };
+
+    ghost read_at = { λ _. app_at };
+
     #[tactic(auto, unfolding(crate::specs::Shape::pair_at))]
-    fn app(
-        &mut self,
+    fn read(
+        &self,
+        parser: &mut Parser<'a>,
         alloc: Global,
         before: &[DraftApp<'a>],
         token: Located<'a>,
-    ) -> Result<DraftApp<'a>, ConfigFault>
-        ensures read { Gives (λ app. (app_of app, state_of self.new)) result (app_at (apps_of before.now) (located_of token.entry) (state_of self.old)) }
-        ensures left { tokens_left self.new ≤ tokens_left self.old }
-    {
+    ) -> Result<DraftApp<'a>, ConfigFault> {
         if !is_mark(Symbol::OpenTuple, token.token) {
             return Err(fault(FaultKind::BadShape, token.at));
         }
-        let first = self.next()?;
+        let first = parser.next()?;
         let name = app_name_of(before, first)?;
-        self.symbol(Symbol::Comma)?;
-        let app = self.app_value(alloc, name)?;
-        self.symbol(Symbol::CloseTuple)?;
+        parser.symbol(Symbol::Comma)?;
+        let app = parser.app_value(alloc, name)?;
+        parser.symbol(Symbol::CloseTuple)?;
         Ok(app)
-    }
-
-    /// The applications from the first one's first token on.
-    fn apps(&mut self, alloc: Global, first: Located<'a>) -> Result<Vec<DraftApp<'a>>, ConfigFault>
-        ensures read { Gives (λ apps. (apps_of apps.items, state_of self.new)) result (comma_list app_at CloseList (room (state_of self.old)) [] (located_of first.entry) (state_of self.old)) }
-        ensures left { tokens_left self.new ≤ tokens_left self.old }
-    {
-        let mut apps = Vec::new(alloc);
-        let mut token = first;
-        loop {
-            let app = self.app(alloc, &apps, token)?;
-            apps.push(app)?;
-            if !self.more(Symbol::CloseList)? {
-                return Ok(apps);
-            }
-            token = self.next()?;
-        }
-    }
-
-    /// The value of `distributed`.
-    #[tactic(auto, unfolding(crate::specs::Shape::list_of))]
-    pub fn distributed(&mut self, alloc: Global) -> Result<Vec<DraftApp<'a>>, ConfigFault>
-        ensures read { Gives (λ apps. (apps_of apps.items, state_of self.new)) result (list_of app_at (state_of self.old)) }
-        ensures left { tokens_left self.new ≤ tokens_left self.old }
-    {
-        self.symbol(Symbol::OpenList)?;
-        let first = self.next()?;
-        if is_mark(Symbol::CloseList, first.token) {
-            return Ok(Vec::new(alloc));
-        }
-        self.apps(alloc, first)
     }
 }

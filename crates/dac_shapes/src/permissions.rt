@@ -1,13 +1,14 @@
 //! The permissions of the parameter `permissions`.
 
-ghost use Rattle.std.specs.Prelude.{◌≡◌, ◌≤◌, []};
-ghost use Rattle.dac_tokens.specs.declared.token.Symbol.TheVariants.{CloseList};
+ghost use Rattle.std.specs.Prelude.{◌≡◌, ◌≤◌};
 ghost use Rattle.dac_tokens.specs.Words.{located_of};
 ghost use Rattle.dac_shapes.specs.Outcome.{Gives};
-ghost use Rattle.dac_shapes.specs.Shape.{flag_of, permission_value_at, permission_at, comma_list, list_of, room};
-ghost use Rattle.dac_shapes.specs.Views.{permission_of, permissions_of, state_of, tokens_left};
+ghost use Rattle.dac_shapes.specs.Shape.{flag_of, permission_value_at, permission_at};
+ghost use Rattle.dac_shapes.specs.Views.{permission_of, state_of, tokens_left};
+ghost use Rattle.dac_shapes.specs.Written.{Permission as WrittenPermission};
 
 use crate::draft::Permission;
+use crate::list::Elements;
 use crate::names::{atom_of, fault, is_mark, short_name_of};
 use crate::parser::Parser;
 use dac_tokens::{ConfigFault, FaultKind, Located, Symbol};
@@ -39,56 +40,36 @@ impl<'a> Parser<'a> {
         let value = flag_of(next)?;
         Ok(Permission { name, value })
     }
+}
 
-    /// A permission from its first token on.
+/// Permissions, also several of one application.
+pub struct Permissions;
+
+impl<'a> Elements<'a> for Permissions {
+    type Element = Permission<'a>;
+
+    ghost Said = { WrittenPermission };
+
+    ghost said = { permission_of };
+
+    ghost read_at = { λ _ _. permission_at };
+
     #[tactic(auto, unfolding(crate::specs::Shape::pair_at))]
-    fn permission(&mut self, token: Located<'a>) -> Result<Permission<'a>, ConfigFault>
-        ensures read { Gives (λ permission. (permission_of permission, state_of self.new)) result (permission_at (located_of token.entry) (state_of self.old)) }
-        ensures left { tokens_left self.new ≤ tokens_left self.old }
-    {
+    fn read(
+        &self,
+        parser: &mut Parser<'a>,
+        _alloc: Global,
+        _before: &[Permission<'a>],
+        token: Located<'a>,
+    ) -> Result<Permission<'a>, ConfigFault> {
         if !is_mark(Symbol::OpenTuple, token.token) {
             return Err(fault(FaultKind::BadShape, token.at));
         }
-        let first = self.next()?;
+        let first = parser.next()?;
         let name = short_name_of(first)?;
-        self.symbol(Symbol::Comma)?;
-        let permission = self.permission_value(name)?;
-        self.symbol(Symbol::CloseTuple)?;
+        parser.symbol(Symbol::Comma)?;
+        let permission = parser.permission_value(name)?;
+        parser.symbol(Symbol::CloseTuple)?;
         Ok(permission)
-    }
-
-    /// The permissions from the first one's first token on.
-    fn permissions_from(
-        &mut self,
-        alloc: Global,
-        first: Located<'a>,
-    ) -> Result<Vec<Permission<'a>>, ConfigFault>
-        ensures read { Gives (λ permissions. (permissions_of permissions.items, state_of self.new)) result (comma_list (λ _. permission_at) CloseList (room (state_of self.old)) [] (located_of first.entry) (state_of self.old)) }
-        ensures left { tokens_left self.new ≤ tokens_left self.old }
-    {
-        let mut permissions = Vec::new(alloc);
-        let mut token = first;
-        loop {
-            let permission = self.permission(token)?;
-            permissions.push(permission)?;
-            if !self.more(Symbol::CloseList)? {
-                return Ok(permissions);
-            }
-            token = self.next()?;
-        }
-    }
-
-    /// The value of `permissions`.
-    #[tactic(auto, unfolding(crate::specs::Shape::list_of))]
-    pub fn permissions(&mut self, alloc: Global) -> Result<Vec<Permission<'a>>, ConfigFault>
-        ensures read { Gives (λ permissions. (permissions_of permissions.items, state_of self.new)) result (list_of (λ _. permission_at) (state_of self.old)) }
-        ensures left { tokens_left self.new ≤ tokens_left self.old }
-    {
-        self.symbol(Symbol::OpenList)?;
-        let first = self.next()?;
-        if is_mark(Symbol::CloseList, first.token) {
-            return Ok(Vec::new(alloc));
-        }
-        self.permissions_from(alloc, first)
     }
 }

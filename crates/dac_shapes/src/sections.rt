@@ -1,35 +1,25 @@
 //! The sections of a text and their parameters.
 
-ghost use Rattle.std.specs.Prelude.{◌≡◌, ◌≤◌, [], true};
-ghost use Rattle.dac_tokens.specs.declared.token.Symbol.TheVariants.{CloseList};
+ghost use Rattle.std.specs.Prelude.{◌≡◌, ◌≤◌, true};
 ghost use Rattle.dac_shapes.specs.Outcome.{Gives};
 ghost use Rattle.dac_tokens.specs.Words.{located_of};
-ghost use Rattle.dac_shapes.specs.Shape.{node_of, comma_list, list_of, room, param_value_at, param_rest_at, param_at, kernel_at, section_rest_at, section_at, end_at, file_at};
-ghost use Rattle.dac_shapes.specs.Views.{names_of, param_of, params_of, section_of, sections_of, draft_of, state_of, tokens_left};
+ghost use Rattle.dac_shapes.specs.Shape.{param_value_at, param_rest_at, param_at, kernel_at, section_rest_at, section_at, end_at, file_at};
+ghost use Rattle.dac_shapes.specs.Views.{param_of, section_of, draft_of, state_of, tokens_left};
+ghost use Rattle.dac_shapes.specs.Written.{Param as WrittenParam, Section as WrittenSection};
 
+use crate::apps::Apps;
 use crate::draft::Draft;
+use crate::list::Elements;
 use crate::names::{fault, is_mark, is_text, names_kernel, param_name_of};
+use crate::nodes::Nodes;
 use crate::numbers::wait_of;
 use crate::param::{Param, ParamName, Section};
 use crate::parser::Parser;
+use crate::permissions::Permissions;
 use dac_tokens::{ConfigFault, FaultKind, Located, Symbol, Token};
 use std::alloc::Global;
 
 impl<'a> Parser<'a> {
-    /// The nodes to wait for, which may repeat.
-    #[tactic(auto, unfolding(crate::specs::Shape::list_of))]
-    fn sync_nodes(&mut self, alloc: Global) -> Result<Vec<&'a [u8]>, ConfigFault>
-        ensures read { Gives (λ names. (names_of names.items, state_of self.new)) result (list_of (λ _. node_of true) (state_of self.old)) }
-        ensures left { tokens_left self.new ≤ tokens_left self.old }
-    {
-        self.symbol(Symbol::OpenList)?;
-        let first = self.next()?;
-        if is_mark(Symbol::CloseList, first.token) {
-            return Ok(Vec::new(alloc));
-        }
-        self.names(alloc, true, Symbol::CloseList, first)
-    }
-
     /// The value of the parameter of this name.
     #[tactic(auto, unfolding(crate::specs::Shape::param_value_at))]
     fn param_value(&mut self, alloc: Global, name: ParamName) -> Result<Param<'a>, ConfigFault>
@@ -38,19 +28,19 @@ impl<'a> Parser<'a> {
     {
         match name {
             ParamName::Distributed => {
-                let apps = self.distributed(alloc)?;
+                let apps = self.list(alloc, &Apps)?;
                 Ok(Param::Distributed(apps))
             }
             ParamName::Permissions => {
-                let permissions = self.permissions(alloc)?;
+                let permissions = self.list(alloc, &Permissions)?;
                 Ok(Param::Permissions(permissions))
             }
             ParamName::Mandatory => {
-                let names = self.sync_nodes(alloc)?;
+                let names = self.list(alloc, &Nodes { repeats: true })?;
                 Ok(Param::Mandatory(names))
             }
             ParamName::Optional => {
-                let names = self.sync_nodes(alloc)?;
+                let names = self.list(alloc, &Nodes { repeats: true })?;
                 Ok(Param::Optional(names))
             }
             ParamName::Timeout => {
@@ -80,57 +70,6 @@ impl<'a> Parser<'a> {
         Ok(param)
     }
 
-    /// A parameter after these, from its first token on.
-    #[tactic(auto, unfolding(crate::specs::Shape::pair_at))]
-    fn param(
-        &mut self,
-        alloc: Global,
-        before: &[Param<'a>],
-        token: Located<'a>,
-    ) -> Result<Param<'a>, ConfigFault>
-        ensures read { Gives (λ param. (param_of param, state_of self.new)) result (param_at (params_of before.now) (located_of token.entry) (state_of self.old)) }
-        ensures left { tokens_left self.new ≤ tokens_left self.old }
-    {
-        if !is_mark(Symbol::OpenTuple, token.token) {
-            return Err(fault(FaultKind::BadShape, token.at));
-        }
-        let first = self.next()?;
-        let name = param_name_of(before, first)?;
-        self.symbol(Symbol::Comma)?;
-        self.param_rest(alloc, name)
-    }
-
-    /// The parameters from the first one's first token on.
-    fn params(&mut self, alloc: Global, first: Located<'a>) -> Result<Vec<Param<'a>>, ConfigFault>
-        ensures read { Gives (λ params. (params_of params.items, state_of self.new)) result (comma_list param_at CloseList (room (state_of self.old)) [] (located_of first.entry) (state_of self.old)) }
-        ensures left { tokens_left self.new ≤ tokens_left self.old }
-    {
-        let mut params = Vec::new(alloc);
-        let mut token = first;
-        loop {
-            let param = self.param(alloc, &params, token)?;
-            params.push(param)?;
-            if !self.more(Symbol::CloseList)? {
-                return Ok(params);
-            }
-            token = self.next()?;
-        }
-    }
-
-    /// The list of the parameters of the section `kernel`.
-    #[tactic(auto, unfolding(crate::specs::Shape::list_of))]
-    fn param_list(&mut self, alloc: Global) -> Result<Vec<Param<'a>>, ConfigFault>
-        ensures read { Gives (λ params. (params_of params.items, state_of self.new)) result (list_of param_at (state_of self.old)) }
-        ensures left { tokens_left self.new ≤ tokens_left self.old }
-    {
-        self.symbol(Symbol::OpenList)?;
-        let first = self.next()?;
-        if is_mark(Symbol::CloseList, first.token) {
-            return Ok(Vec::new(alloc));
-        }
-        self.params(alloc, first)
-    }
-
     /// What stands behind the name of a section, with the brace that closes it.
     #[tactic(auto, unfolding(crate::specs::Shape::kernel_at, crate::specs::Shape::section_rest_at))]
     fn section_rest(&mut self, alloc: Global, kernel: bool) -> Result<Section<'a>, ConfigFault>
@@ -141,66 +80,9 @@ impl<'a> Parser<'a> {
             self.pass()?;
             return Ok(Section::Other);
         }
-        let params = self.param_list(alloc)?;
+        let params = self.list(alloc, &Params)?;
         self.symbol(Symbol::CloseTuple)?;
         Ok(Section::Kernel(params))
-    }
-
-    /// A section after these, from its first token on.
-    #[tactic(auto, unfolding(crate::specs::Shape::pair_at, crate::specs::Shape::section_at))]
-    fn section(
-        &mut self,
-        alloc: Global,
-        before: &[Section<'a>],
-        token: Located<'a>,
-    ) -> Result<Section<'a>, ConfigFault>
-        ensures read { Gives (λ section. (section_of section, state_of self.new)) result (section_at (sections_of before.now) (located_of token.entry) (state_of self.old)) }
-        ensures left { tokens_left self.new ≤ tokens_left self.old }
-    {
-        if is_text(token.token) {
-            return Err(fault(FaultKind::Unsupported, token.at));
-        }
-        if !is_mark(Symbol::OpenTuple, token.token) {
-            return Err(fault(FaultKind::BadShape, token.at));
-        }
-        let first = self.next()?;
-        let kernel = names_kernel(before, first)?;
-        self.symbol(Symbol::Comma)?;
-        self.section_rest(alloc, kernel)
-    }
-
-    /// The sections from the first one's first token on.
-    fn sections(
-        &mut self,
-        alloc: Global,
-        first: Located<'a>,
-    ) -> Result<Vec<Section<'a>>, ConfigFault>
-        ensures read { Gives (λ sections. (sections_of sections.items, state_of self.new)) result (comma_list section_at CloseList (room (state_of self.old)) [] (located_of first.entry) (state_of self.old)) }
-        ensures left { tokens_left self.new ≤ tokens_left self.old }
-    {
-        let mut sections = Vec::new(alloc);
-        let mut token = first;
-        loop {
-            let section = self.section(alloc, &sections, token)?;
-            sections.push(section)?;
-            if !self.more(Symbol::CloseList)? {
-                return Ok(sections);
-            }
-            token = self.next()?;
-        }
-    }
-
-    /// The list of the sections.
-    #[tactic(auto, unfolding(crate::specs::Shape::list_of))]
-    fn section_list(&mut self, alloc: Global) -> Result<Vec<Section<'a>>, ConfigFault>
-        ensures { Gives (λ sections. (sections_of sections.items, state_of self.new)) result (list_of section_at (state_of self.old)) }
-    {
-        self.symbol(Symbol::OpenList)?;
-        let first = self.next()?;
-        if is_mark(Symbol::CloseList, first.token) {
-            return Ok(Vec::new(alloc));
-        }
-        self.sections(alloc, first)
     }
 
     /// The full stop and the end behind it, and the place of the end.
@@ -221,12 +103,75 @@ impl<'a> Parser<'a> {
     pub fn file(mut self, alloc: Global) -> Result<Draft<'a>, ConfigFault>
         ensures { Gives draft_of result (file_at (state_of self.entry)) }
     {
-        let sections = self.section_list(alloc)?;
+        let sections = self.list(alloc, &Sections)?;
         let end = self.end()?;
         let draft = Draft::of_sections(alloc, sections, self.met);
         if draft.apps.is_empty() {
             return Err(fault(FaultKind::NoDistributed, end));
         }
         Ok(draft)
+    }
+}
+
+/// Parameters, of which each that is read stands once.
+pub struct Params;
+
+impl<'a> Elements<'a> for Params {
+    type Element = Param<'a>;
+
+    ghost Said = { WrittenParam };
+
+    ghost said = { param_of };
+
+    ghost read_at = { λ _. param_at };
+
+    #[tactic(auto, unfolding(crate::specs::Shape::pair_at))]
+    fn read(
+        &self,
+        parser: &mut Parser<'a>,
+        alloc: Global,
+        before: &[Param<'a>],
+        token: Located<'a>,
+    ) -> Result<Param<'a>, ConfigFault> {
+        if !is_mark(Symbol::OpenTuple, token.token) {
+            return Err(fault(FaultKind::BadShape, token.at));
+        }
+        let first = parser.next()?;
+        let name = param_name_of(before, first)?;
+        parser.symbol(Symbol::Comma)?;
+        parser.param_rest(alloc, name)
+    }
+}
+
+/// Sections, of which `kernel` stands once.
+pub struct Sections;
+
+impl<'a> Elements<'a> for Sections {
+    type Element = Section<'a>;
+
+    ghost Said = { WrittenSection };
+
+    ghost said = { section_of };
+
+    ghost read_at = { λ _. section_at };
+
+    #[tactic(auto, unfolding(crate::specs::Shape::pair_at, crate::specs::Shape::section_at))]
+    fn read(
+        &self,
+        parser: &mut Parser<'a>,
+        alloc: Global,
+        before: &[Section<'a>],
+        token: Located<'a>,
+    ) -> Result<Section<'a>, ConfigFault> {
+        if is_text(token.token) {
+            return Err(fault(FaultKind::Unsupported, token.at));
+        }
+        if !is_mark(Symbol::OpenTuple, token.token) {
+            return Err(fault(FaultKind::BadShape, token.at));
+        }
+        let first = parser.next()?;
+        let kernel = names_kernel(before, first)?;
+        parser.symbol(Symbol::Comma)?;
+        parser.section_rest(alloc, kernel)
     }
 }

@@ -7,33 +7,18 @@ use Rattle.dac_shapes.proofs.Texts.{Tokenizes, whole, found_in, only_in, exact_i
 use Rattle.dac_shapes.proofs.DraftLimits.{limits_in}
 use Rattle.dac_shapes.proofs.reading.read_draft.Goals as goal
 
-pub returns-clause-found : goal.returns-clause-found
-returns-clause-found c =
-    let known : Tokenizes c.args.text.now c.new.result = record { read = c.new.ensures.read; end = c.new.ensures.end; spelled = c.new.ensures.spelled } in
-    let read : Gives draft_of c.file.result (file_at (whole c.new.result)) = rw (c.new-2.ensures.items, c.new-3.ensures.items) at c.file.ensures in
-    found_in c.args.text.now c.new.result c.file.result known (omega arith) read
-
-pub returns-clause-limits : goal.returns-clause-limits
-returns-clause-limits c =
-    let known : Tokenizes c.args.text.now c.new.result = record { read = c.new.ensures.read; end = c.new.ensures.end; spelled = c.new.ensures.spelled } in
-    let read : Gives draft_of c.file.result (file_at (whole c.new.result)) = rw (c.new-2.ensures.items, c.new-3.ensures.items) at c.file.ensures in
-    limits_in c.args.text.now c.file.result (found_in c.args.text.now c.new.result c.file.result known (omega arith) read)
-
-pub returns-clause-only : goal.returns-clause-only
-returns-clause-only c =
-    let known : Tokenizes c.args.text.now c.new.result = record { read = c.new.ensures.read; end = c.new.ensures.end; spelled = c.new.ensures.spelled } in
-    let read : Gives draft_of c.file.result (file_at (whole c.new.result)) = rw (c.new-2.ensures.items, c.new-3.ensures.items) at c.file.ensures in
-    λ draft is. only_in c.args.text.now c.new.result c.file.result known read draft is
-
-pub returns-clause-exact : goal.returns-clause-exact
+pub returns : goal.returns
 unfolding draft_at
-returns-clause-exact c =
+returns c =
+    let known : Tokenizes c.args.text.now c.new.result = record { read = c.new.ensures.read; end = c.new.ensures.end; spelled = c.new.ensures.spelled } in
     let read : Gives draft_of c.file.result (file_at (whole c.new.result)) = rw (c.new-2.ensures.items, c.new-3.ensures.items) at c.file.ensures in
     let short : length c.args.text.now ≤ 65536 = omega arith in
+    let found = found_in c.args.text.now c.new.result c.file.result known short read in
     let fits : ltb 65536 (length c.args.text.now) ≡ false = le-ltb 65536 (length c.args.text.now) short in
-    rw fits (rw c.new.ensures.read at (exact_in c.new.result c.file.result read))
-
-pub returns-clause-memory : goal.returns-clause-memory
-returns-clause-memory c =
-    let read : Gives draft_of c.file.result (file_at (whole c.new.result)) = rw (c.new-2.ensures.items, c.new-3.ensures.items) at c.file.ensures in
-    memory_in c.new.result c.file.result read
+    record {
+      found = found;
+      only = λ draft is. only_in c.args.text.now c.new.result c.file.result known read draft is;
+      limits = limits_in c.args.text.now c.file.result found;
+      exact = rw fits (rw c.new.ensures.read at (exact_in c.new.result c.file.result read));
+      memory = memory_in c.new.result c.file.result read;
+    }

@@ -2,9 +2,9 @@ use Rattle.std.proofs.Common.{◌≡◌, ◌<◌, ◌∙◌, sym, ap, true, fals
 use Rattle.std.proofs.lemmas.Result.{err_from_is_err_and}
 use Rattle.dac_tokens.specs.declared.token.Symbol.TheVariants.{Comma}
 use Rattle.dac_tokens.specs.Words.{located_of, word_of}
-use Rattle.dac_shapes.specs.Shape.{IsEnough, is_mark, terms_in, term_at}
+use Rattle.dac_shapes.specs.Shape.{is_mark, term_at}
 use Rattle.dac_shapes.specs.Views.{state_of, tokens_left}
-use Rattle.dac_shapes.proofs.TermLoops.{comma_no_end, in_fail, in_empty, in_begin, terms_fail, terms_end, terms_bad, terms_fail_more, terms_go, on_name, on_number, on_texts, on_mark, on_other_mark, on_end}
+use Rattle.dac_shapes.proofs.TermLoops.{comma_no_end, is_enough, in_fail, in_empty, in_begin, terms_fail, terms_end, terms_bad, terms_fail_more, terms_go, on_name, on_number, on_texts, on_mark, on_other_mark, on_end}
 use Rattle.dac_shapes.proofs.parser.Parser.+terms.Goals as goal
 
 pub behind_term-returns-in-Atom-clause-read : goal.behind_term-returns-in-Atom-clause-read
@@ -39,44 +39,37 @@ behind_terms-returns-in_err-token-clause-read t c = λ n lt.
 pub behind_terms-returns-then-is_mark-clause-read : goal.behind_terms-returns-then-is_mark-clause-read
 behind_terms-returns-then-is_mark-clause-read t c = λ n lt.
     let is : is_mark c.args.close (word_of c.in_ok-token.token.token) ≡ true = sym c.is_mark.ensures ∙ c.if-is_mark.true in
-    rw (in_empty (term_at n) c.args.close n (state_of c.args.self.now) (located_of c.in_ok-token.token) (state_of c.next.new.self) c.in_ok-token.ensures.read is) c.next-then-is_mark.ensures.read
+    rw (in_empty (term_at n) c.args.close n (state_of c.args.self.now) c.in_ok-token.ensures.read is) c.next-then-is_mark.ensures.read
 
 pub behind_terms-loop-behind-init : goal.behind_terms-loop-behind-init
-behind_terms-loop-behind-init t c =
-    let is : is_mark c.args.close (word_of c.in_ok-token.token.token) ≡ false = sym c.is_mark.ensures ∙ c.if-is_mark.false in
-    record {
-      goes = λ n lt. in_begin (term_at n) c.args.close n (state_of c.args.self.now) (located_of c.in_ok-token.token) (state_of c.next.new.self) c.in_ok-token.ensures.read is (omega (arith, lt, c.in_ok-token.ensures.left));
-      left = c.in_ok-token.ensures.left;
-      fewer = c.in_ok-token.ensures.fewer;
-    }
+behind_terms-loop-behind-init t c = record {
+  goes = λ n lt. in_begin (term_at n) c.args.close n (state_of c.args.self.now) c.in_ok-token.ensures.read (sym c.is_mark.ensures ∙ c.if-is_mark.false) (omega (arith, lt, c.in_ok-token.ensures.left));
+  left = c.in_ok-token.ensures.left;
+  fewer = c.in_ok-token.ensures.fewer;
+}
 
 pub behind_terms-returns-in_err-behind-clause-read : goal.behind_terms-returns-in_err-behind-clause-read
 behind_terms-returns-in_err-behind-clause-read t c = λ n lt.
     let p = err_from_is_err_and c.from_residual-in_err-behind.result c.from_residual-in_err-behind.ensures.1 in
-    let enough : IsEnough (located_of c.loop-behind.token) (state_of c.loop-behind.self) n = record { end = omega (arith, lt, c.loop-behind.invariant.left); token = λ no_end. (let less = c.loop-behind.invariant.fewer no_end in omega (arith, lt, less)) } in
-    rw (p.1, p.2) (terms_fail (term_at n) c.args.close _ (terms_in (term_at n) c.args.close n (state_of c.args.self.now)) (located_of c.loop-behind.token) (state_of c.loop-behind.self) (c.loop-behind.invariant.goes n lt) (c.in_err-behind.ensures.read n enough))
+    rw (p.1, p.2) (terms_fail (term_at n) c.args.close (c.loop-behind.invariant.goes n lt) _ (c.in_err-behind.ensures.read n (is_enough _ n lt c.loop-behind.invariant.left c.loop-behind.invariant.fewer)))
 
 pub behind_terms-returns-then-is_mark-2-clause-read : goal.behind_terms-returns-then-is_mark-2-clause-read
 behind_terms-returns-then-is_mark-2-clause-read t c = λ n lt.
-    let enough : IsEnough (located_of c.loop-behind.token) (state_of c.loop-behind.self) n = record { end = omega (arith, lt, c.loop-behind.invariant.left); token = λ no_end. (let less = c.loop-behind.invariant.fewer no_end in omega (arith, lt, less)) } in
     let is : is_mark c.args.close (word_of c.in_ok-behind.behind.token) ≡ true = sym c.is_mark-in-loop-behind.ensures ∙ c.if-is_mark-2.true in
-    rw (terms_end (term_at n) c.args.close (terms_in (term_at n) c.args.close n (state_of c.args.self.now)) (located_of c.loop-behind.token) (state_of c.loop-behind.self) (located_of c.in_ok-behind.behind) (state_of c.behind_term.new.self) (c.loop-behind.invariant.goes n lt) (c.in_ok-behind.ensures.read n enough) is)
-    c.next-then-is_mark-2.ensures.read
+    rw (terms_end (term_at n) c.args.close (c.loop-behind.invariant.goes n lt) (c.in_ok-behind.ensures.read n (is_enough _ n lt c.loop-behind.invariant.left c.loop-behind.invariant.fewer)) is) c.next-then-is_mark-2.ensures.read
 
 pub behind_terms-returns-then-not-is_mark-clause-read : goal.behind_terms-returns-then-not-is_mark-clause-read
 behind_terms-returns-then-not-is_mark-clause-read t c = λ n lt.
-    let enough : IsEnough (located_of c.loop-behind.token) (state_of c.loop-behind.self) n = record { end = omega (arith, lt, c.loop-behind.invariant.left); token = λ no_end. (let less = c.loop-behind.invariant.fewer no_end in omega (arith, lt, less)) } in
     let is : is_mark c.args.close (word_of c.in_ok-behind.behind.token) ≡ false = sym c.is_mark-in-loop-behind.ensures ∙ c.if-is_mark-2.false in
     let comma : is_mark Comma (word_of c.in_ok-behind.behind.token) ≡ false = sym c.is_mark-in-loop-behind-2.ensures ∙ c.if-not-is_mark.true in
-    rw c.fault.ensures (terms_bad (term_at n) c.args.close (terms_in (term_at n) c.args.close n (state_of c.args.self.now)) (located_of c.loop-behind.token) (state_of c.loop-behind.self) (located_of c.in_ok-behind.behind) (state_of c.behind_term.new.self) (c.loop-behind.invariant.goes n lt) (c.in_ok-behind.ensures.read n enough) is comma)
+    rw c.fault.ensures (terms_bad (term_at n) c.args.close (c.loop-behind.invariant.goes n lt) (c.in_ok-behind.ensures.read n (is_enough _ n lt c.loop-behind.invariant.left c.loop-behind.invariant.fewer)) is comma)
 
 pub behind_terms-returns-in_err-token-2-clause-read : goal.behind_terms-returns-in_err-token-2-clause-read
 behind_terms-returns-in_err-token-2-clause-read t c = λ n lt.
     let p = err_from_is_err_and c.from_residual-in_err-token-2.result c.from_residual-in_err-token-2.ensures.1 in
-    let enough : IsEnough (located_of c.loop-behind.token) (state_of c.loop-behind.self) n = record { end = omega (arith, lt, c.loop-behind.invariant.left); token = λ no_end. (let less = c.loop-behind.invariant.fewer no_end in omega (arith, lt, less)) } in
     let is : is_mark c.args.close (word_of c.in_ok-behind.behind.token) ≡ false = sym c.is_mark-in-loop-behind.ensures ∙ c.if-is_mark-2.false in
     let comma : is_mark Comma (word_of c.in_ok-behind.behind.token) ≡ true = sym c.is_mark-in-loop-behind-2.ensures ∙ c.if-not-is_mark.false in
-    rw (p.1, p.2) (terms_fail_more (term_at n) c.args.close _ (terms_in (term_at n) c.args.close n (state_of c.args.self.now)) (located_of c.loop-behind.token) (state_of c.loop-behind.self) (located_of c.in_ok-behind.behind) (state_of c.behind_term.new.self) (c.loop-behind.invariant.goes n lt) (c.in_ok-behind.ensures.read n enough) is comma c.in_err-token-2.ensures.read)
+    rw (p.1, p.2) (terms_fail_more (term_at n) c.args.close (c.loop-behind.invariant.goes n lt) (c.in_ok-behind.ensures.read n (is_enough _ n lt c.loop-behind.invariant.left c.loop-behind.invariant.fewer)) is comma _ c.in_err-token-2.ensures.read)
 
 pub behind_terms-loop-behind-preserved : goal.behind_terms-loop-behind-preserved
 behind_terms-loop-behind-preserved t c =
@@ -84,10 +77,7 @@ behind_terms-loop-behind-preserved t c =
     let comma : is_mark Comma (word_of c.in_ok-behind.behind.token) ≡ true = sym c.is_mark-in-loop-behind-2.ensures ∙ c.if-not-is_mark.false in
     let fewer : tokens_left c.behind_term.new.self < tokens_left c.loop-behind.self = c.in_ok-behind.ensures.fewer (comma_no_end (word_of c.in_ok-behind.behind.token) comma) in
     record {
-      goes = λ n lt.
-          let enough : IsEnough (located_of c.loop-behind.token) (state_of c.loop-behind.self) n = record { end = omega (arith, lt, c.loop-behind.invariant.left); token = λ no_end. (let less = c.loop-behind.invariant.fewer no_end in omega (arith, lt, less)) } in
-          terms_go (term_at n) c.args.close (terms_in (term_at n) c.args.close n (state_of c.args.self.now)) (located_of c.loop-behind.token) (state_of c.loop-behind.self) (located_of c.in_ok-behind.behind) (state_of c.behind_term.new.self) (located_of c.in_ok-token-2.token) (state_of c.next-in-loop-behind.new.self)
-          (c.loop-behind.invariant.goes n lt) (c.in_ok-behind.ensures.read n enough) is comma c.in_ok-token-2.ensures.read (omega (arith, fewer, c.in_ok-token-2.ensures.left));
+      goes = λ n lt. terms_go (term_at n) c.args.close (c.loop-behind.invariant.goes n lt) (c.in_ok-behind.ensures.read n (is_enough _ n lt c.loop-behind.invariant.left c.loop-behind.invariant.fewer)) is comma c.in_ok-token-2.ensures.read (omega (arith, fewer, c.in_ok-token-2.ensures.left));
       left = omega (arith, fewer, c.in_ok-token-2.ensures.left, c.loop-behind.invariant.left);
       fewer = λ no_end. omega (arith, fewer, c.in_ok-token-2.ensures.left, c.loop-behind.invariant.left);
     }

@@ -1,7 +1,7 @@
 use Rattle.std.proofs.Common.{◌≡◌, ◌∙◌, sym, arith, true}
 use Rattle.std.proofs.lemmas.Result.{err_from_is_err_and}
 use Rattle.dac_tokens.specs.Words.{located_of, word_of}
-use Rattle.dac_shapes.specs.Shape.{texts_at, is_text}
+use Rattle.dac_shapes.specs.Shape.{is_text}
 use Rattle.dac_shapes.specs.Views.{state_of}
 use Rattle.dac_shapes.proofs.TermLoops.{texts_fail, texts_begin, texts_fail_more, texts_go}
 use Rattle.dac_shapes.proofs.parser.Parser.behind_texts.Goals as goal
@@ -22,14 +22,13 @@ pub returns-in_err-next-2-clause-read : goal.returns-in_err-next-2-clause-read
 returns-in_err-next-2-clause-read c = λ n lt.
     let p = err_from_is_err_and c.from_residual-in_err-next-2.result c.from_residual-in_err-next-2.ensures.1 in
     let is : is_text (word_of c.loop-next.next.token) ≡ true = sym c.is_text.ensures ∙ c.loop-next-test.true in
-    rw (p.1, p.2) (texts_fail_more _ (texts_at n (state_of c.args.self.now)) (located_of c.loop-next.next) (state_of c.loop-next.self) (c.loop-next.invariant.goes n lt) is c.in_err-next-2.ensures.read)
+    rw (p.1, p.2) (texts_fail_more (c.loop-next.invariant.goes n lt) is _ c.in_err-next-2.ensures.read)
 
 pub loop-next-preserved : goal.loop-next-preserved
 loop-next-preserved c =
     let is : is_text (word_of c.loop-next.next.token) ≡ true = sym c.is_text.ensures ∙ c.loop-next-test.true in
     record {
-      goes = λ n lt. texts_go (texts_at n (state_of c.args.self.now)) (located_of c.loop-next.next) (state_of c.loop-next.self) (located_of c.in_ok-next-2.next) (state_of c.next-in-loop-next.new.self)
-          (c.loop-next.invariant.goes n lt) is c.in_ok-next-2.ensures.read c.in_ok-next-2.ensures.fewer;
+      goes = λ n lt. texts_go (c.loop-next.invariant.goes n lt) is c.in_ok-next-2.ensures.read c.in_ok-next-2.ensures.fewer;
       left = omega (arith, c.in_ok-next-2.ensures.left, c.loop-next.invariant.left);
       fewer = λ no_end. (let less = c.in_ok-next-2.ensures.fewer no_end in omega (arith, less, c.loop-next.invariant.left));
     }

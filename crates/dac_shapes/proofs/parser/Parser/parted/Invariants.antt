@@ -1,0 +1,17 @@
+use Rattle.std.proofs.Common.{◌≤◌, [], map}
+use Rattle.dac_tokens.specs.Words.{located_of}
+use Rattle.dac_shapes.specs.Shape.{comma_list, room}
+use Rattle.dac_shapes.specs.Views.{state_of, tokens_left}
+use Rattle.dac_shapes.proofs.Lists.{Goes}
+use Rattle.dac_shapes.proofs.parser.Parser.parted.Given as goal
+
+abbrev pub invariant-loop-all : goal.invariant-loop-all
+invariant-loop-all g l =
+    let read = g.E.Elements.read_at l.fn.elements in
+    record {
+      goes : Goes read l.fn.close (comma_list read l.fn.close (room (state_of l.fn.self)) [] (located_of l.fn.first) (state_of l.fn.self)) (map g.E.Elements.said l.all.items) (located_of l.token) (state_of l.self);
+      left : tokens_left l.self ≤ tokens_left l.fn.self;
+    }
+
+abbrev pub decreases-loop-all : goal.decreases-loop-all
+decreases-loop-all g l = tokens_left l.self

@@ -1,0 +1,81 @@
+//! Lists of any elements, parted by commas.
+
+ghost use Rattle.std.specs.Prelude.{◌≡◌, ◌≤◌, [], List, map};
+ghost use Rattle.dac_tokens.specs.declared.token.Symbol.TheVariants.{CloseList};
+ghost use Rattle.dac_tokens.specs.Words.{located_of};
+ghost use Rattle.dac_shapes.specs.Outcome.{Gives};
+ghost use Rattle.dac_shapes.specs.Shape.{comma_list, list_of, room};
+ghost use Rattle.dac_shapes.specs.Views.{Reading, state_of, tokens_left};
+
+use crate::names::is_mark;
+use crate::parser::Parser;
+use dac_tokens::{ConfigFault, Located, Symbol};
+use std::alloc::Global;
+
+/// A kind of thing that may stand in a list: how one element is read, after those before it.
+pub trait Elements<'a> {
+    /// An element, with the names that lie in the text.
+    type Element: Drop;
+
+    // what an element says, without where its names lie
+    ghost Said: { Type 0 };
+
+    ghost said: { Self.Element → Said };
+
+    // what the definition of the shapes reads
+    ghost read_at: { Self → Reading Said };
+
+    /// The element that begins with this token.
+    fn read(
+        &self,
+        parser: &mut Parser<'a>,
+        alloc: Global,
+        before: &[Self::Element],
+        token: Located<'a>,
+    ) -> Result<Self::Element, ConfigFault>
+        ensures read { Gives (λ x. (said x, state_of parser.new)) result (read_at self.now (map said before.now) (located_of token.entry) (state_of parser.old)) }
+        ensures left { tokens_left parser.new ≤ tokens_left parser.old };
+}
+
+impl<'a> Parser<'a> {
+    /// Elements parted by commas, from the first one's first token on up to the closing symbol.
+    pub fn parted<E: Elements<'a>>(
+        &mut self,
+        alloc: Global,
+        elements: &E,
+        close: Symbol,
+        first: Located<'a>,
+    ) -> Result<Vec<E::Element>, ConfigFault>
+        ensures read { Gives (λ all. (map E.said all.items, state_of self.new)) result (comma_list (E.read_at elements.now) close (room (state_of self.old)) [] (located_of first.entry) (state_of self.old)) }
+        ensures left { tokens_left self.new ≤ tokens_left self.old }
+    {
+        let mut all = Vec::new(alloc);
+        let mut token = first;
+        loop {
+            let element = elements.read(self, alloc, &all, token)?;
+            all.push(element)?;
+            if !self.more(close)? {
+                return Ok(all);
+            }
+            token = self.next()?;
+        }
+    }
+
+    /// A list in brackets, which may be empty.
+    #[tactic(auto, unfolding(crate::specs::Shape::list_of))]
+    pub fn list<E: Elements<'a>>(
+        &mut self,
+        alloc: Global,
+        elements: &E,
+    ) -> Result<Vec<E::Element>, ConfigFault>
+        ensures read { Gives (λ all. (map E.said all.items, state_of self.new)) result (list_of (E.read_at elements.now) (state_of self.old)) }
+        ensures left { tokens_left self.new ≤ tokens_left self.old }
+    {
+        self.symbol(Symbol::OpenList)?;
+        let first = self.next()?;
+        if is_mark(Symbol::CloseList, first.token) {
+            return Ok(Vec::new(alloc));
+        }
+        self.parted(alloc, elements, Symbol::CloseList, first)
+    }
+}
