@@ -12,6 +12,9 @@ module _ {S : Type 0} {H : S → List ℕ → Type 0} where
   pub then : {a b c : S} {xs ys : List ℕ} → Gains H a b xs → Gains H b c ys → Gains H a c (xs ++ ys)
   then {c = c} {xs = xs} {ys = ys} p q = record { held = λ text h. subst (H c) (append_assoc text xs ys) (q.held (text ++ xs) (p.held text h)) }
 
+  pub as_text : {a b : S} {xs ys : List ℕ} → Gains H a b xs → xs ≡ ys → Gains H a b ys
+  as_text {a} {b} p is = subst (Gains H a b) is p
+
   pub nothing_more : {a : S} → Gains H a a []
   nothing_more {a} = record { held = λ text h. subst (H a) (sym (append-nil text)) h }
 

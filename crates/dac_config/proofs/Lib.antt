@@ -1,6 +1,6 @@
+pub mod Names
 pub mod Tables
 pub mod Copies
-pub mod Names
 pub mod Numbers
 pub mod Apps
 pub mod Numberable
@@ -9,12 +9,7 @@ pub mod SaysLemmas
 pub mod Faults
 pub mod Gaining
 pub mod Words
-pub mod Written
-pub mod Spelled
-pub mod MetNames
+pub mod Writes
 pub mod Quotable
-pub mod InOrder
-pub mod MayAgain
-pub mod Parts
-pub mod ReadAgain
-pub mod SameAgain
+pub mod Said
+pub mod Again

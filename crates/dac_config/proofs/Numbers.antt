@@ -13,11 +13,12 @@ use Rattle.dac_shapes.specs.Written.{Written}
 use Rattle.dac_shapes.specs.Views.{names_of}
 use Rattle.dac_shapes.specs.Limits.{is_among}
 use Rattle.dac_shapes.specs.Grammar.{IsTextOf}
+use Rattle.dac_shapes.specs.Within.{IsWithinLimits}
 use Rattle.dac_config.specs.Table.{NodeRow}
 use Rattle.dac_config.specs.Says.{By, IsTable}
 use Rattle.dac_config.specs.declared.config.Config.TheInside.{Inside}
 use Rattle.dac_config.specs.ConfigView.{node_row, app_row, table_of}
-use Rattle.dac_config.specs.Numbering.{name_cmp, in_byte_order, numbers_from, numbered_node, numbered_nodes, numbered_app, numbered, IsNumberable}
+use Rattle.dac_config.specs.Numbering.{name_cmp, in_byte_order, numbers_from, numbered_node, numbered_nodes, numbered_app, numbered}
 use Rattle.dac_config.proofs.SaysLemmas.{numbered_says}
 
 -- where the bytes of a name lie doesn't matter for its place
@@ -74,15 +75,15 @@ numbers_below n limit (node ∷ nodes) group h =
     ]
 
 -- a configuration that is numbered is within the limits
-pub small_numbered : (w : Written) → IsNumberable w → (text : List ℕ) × IsTextOf text w → IsTable (numbered w)
-small_numbered w can spelled = record {
-  nodes = omega (arith, can.nodes, length-inserted [] w.nodes, length-map (in_byte_order w.nodes) (numbered_node w));
-  apps = omega (arith, can.apps, length-map w.apps (numbered_app w.permissions (numbered_nodes w)));
-  groups = All-map (λ row. length row.groups ≤ 16) (numbered_app w.permissions (numbered_nodes w)) w.apps (λ i d within. subst (λ n. n ≤ 16) (sym (length-map (get_or w.apps i d).groups (numbers_from 0 (numbered_nodes w)))) (can.groups i d within));
+pub small_numbered : (w : Written) → IsWithinLimits w → (text : List ℕ) × IsTextOf text w → IsTable (numbered w)
+small_numbered w limits spelled = record {
+  nodes = omega (arith, limits.few, length-inserted [] w.nodes, length-map (in_byte_order w.nodes) (numbered_node w));
+  apps = omega (arith, limits.apps.few, length-map w.apps (numbered_app w.permissions (numbered_nodes w)));
+  groups = All-map (λ row. length row.groups ≤ 16) (numbered_app w.permissions (numbered_nodes w)) w.apps (λ i d within. subst (λ n. n ≤ 16) (sym (length-map (get_or w.apps i d).groups (numbers_from 0 (numbered_nodes w)))) (limits.groups i d within));
   members = (let below : ℕ → Type 0 = λ number. number < length (numbered_nodes w) in
       All-map (λ row. All (λ group. All below group) row.groups) (numbered_app w.permissions (numbered_nodes w)) w.apps (λ i d _.
       All-map (All below) (numbers_from 0 (numbered_nodes w)) (get_or w.apps i d).groups (λ j e _. numbers_below 0 (length (numbered_nodes w)) (numbered_nodes w) (get_or (get_or w.apps i d).groups j e) (omega arith))));
-  said = By spelled.0 (record { written = w; spelled = spelled.1; numbers = numbered_says w });
+  said = By spelled.0 (record { written = w; spelled = spelled.1; numbers = numbered_says w }) limits;
 }
 
 -- tables whose nodes and applications are numbered are the configuration that the text says

@@ -1,6 +1,7 @@
 -- What a text says can be spelled: its names by their bytes, and its numbers below 2 ^ 32.
 use Rattle.std.proofs.Common.{inl, inr, ℕ, ◌+◌, ◌<◌, List, [], ◌∷◌, ◌++◌, length, map, sym, subst, arith}
 use Rattle.std.specs.Prelude.{All, codes}
+use Rattle.std.specs.List.{AllByRecursion as Each}
 use Rattle.dac_tokens.specs.declared.token.Symbol.TheVariants.{OpenList, CloseList, OpenTuple, CloseTuple, Comma, FullStop}
 use Rattle.dac_tokens.specs.Words.{Word, Mark, Name, Number, Text, End, Located}
 use Rattle.dac_tokens.specs.TokenGrammar.{IsQuotable, Spells, AreSpelled}
@@ -8,10 +9,10 @@ use Rattle.dac_shapes.specs.declared.draft.SyncWait.{SyncWait}
 use Rattle.dac_shapes.specs.declared.param.ParamName.TheVariants as named
 use Rattle.dac_shapes.specs.declared.draft.SyncWait.TheVariants.{NoSync, Forever, Ms}
 use Rattle.dac_shapes.specs.Written.{App, Permission, Param, Distributed, Permissions, Mandatory, Optional, Timeout, Section, Kernel, spelled}
+use Rattle.dac_shapes.specs.Within.{params_in}
 use Rattle.dac_shapes.specs.Grammar.{Parted, between, IsListOf, IsPair, IsNode, IsItem, IsTimeout, IsApp, IsPermission, IsWait, IsParam, IsSection, IsFile}
 use Rattle.dac_config.proofs.Words.{name_bytes_quotable}
-use Rattle.dac_config.proofs.Numberable.{Each}
-use Rattle.dac_config.proofs.Written.{CanSpellGroup, CanSpellApp, CanSpellWait, CanSpell}
+use Rattle.dac_config.proofs.Writes.{CanSpellGroup, CanSpellApp, CanSpellWait, CanSpell}
 
 -- ---- names in words
 
@@ -30,7 +31,7 @@ word_quotes (Number negative digits) own rest h = tt
 word_quotes Text own rest h = tt
 word_quotes End own rest h = tt
 
-pub tokens_quote : (at : ℕ) (bytes : List ℕ) (tokens : List Located) → AreSpelled at bytes tokens → Each Quotes (map (λ t. t.word) tokens)
+tokens_quote : (at : ℕ) (bytes : List ℕ) (tokens : List Located) → AreSpelled at bytes tokens → Each Quotes (map (λ t. t.word) tokens)
 tokens_quote at bytes [] h = tt
 tokens_quote at bytes (t ∷ tokens) h = (word_quotes t.word h.0 h.1 h.2.spelled, tokens_quote (t.at + length h.0) h.1 tokens h.3)
 
@@ -106,16 +107,7 @@ wait_spells words NoSync h = h
 wait_spells words Forever h = tt
 wait_spells words (Ms n) h = h.2.4
 
--- what is read of a parameter can be spelled
-abbrev pub CanRead : Param → Type 0
-CanRead (Distributed apps) = CanSpell (Distributed apps)
-CanRead (Permissions permissions) = CanSpell (Permissions permissions)
-CanRead (Mandatory names) = CanSpell (Mandatory names)
-CanRead (Optional names) = CanSpell (Optional names)
-CanRead (Timeout wait) = CanSpell (Timeout wait)
-CanRead Param.Other = Unit {0}
-
-param_spells : (words : List Word) (param : Param) → Each Quotes words → IsParam words param → CanRead param
+param_spells : (words : List Word) (param : Param) → Each Quotes words → IsParam words param → CanSpell param
 param_spells words (Distributed apps) quotes h = listed_spells IsApp CanSpellApp app_spells h.0 apps (pair_spells (spelled named.Distributed) _ words quotes h).1 h.2
 param_spells words (Permissions permissions) quotes h = listed_spells IsPermission (λ permission. All IsQuotable permission.name) permission_spells h.0 permissions (pair_spells (spelled named.Permissions) _ words quotes h).1 h.2
 param_spells words (Mandatory names) quotes h = listed_spells IsNode (All IsQuotable) node_spells h.0 names (pair_spells (spelled named.Mandatory) _ words quotes h).1 h.2
@@ -123,15 +115,25 @@ param_spells words (Optional names) quotes h = listed_spells IsNode (All IsQuota
 param_spells words (Timeout wait) quotes h = wait_spells h.0 wait h.2
 param_spells words Param.Other quotes h = tt
 
-abbrev pub SectionReads : Section → Type 0
-SectionReads (Kernel params) = Each CanRead params
-SectionReads Section.Other = Unit {0}
+abbrev CanSpellSection : Section → Type 0
+CanSpellSection (Kernel params) = Each CanSpell params
+CanSpellSection Section.Other = Unit {0}
 
-section_spells : (words : List Word) (section : Section) → Each Quotes words → IsSection words section → SectionReads section
-section_spells words (Kernel params) quotes h = listed_spells IsParam CanRead param_spells h.0 params (pair_spells (codes "kernel") _ words quotes h).1 h.2
+section_spells : (words : List Word) (section : Section) → Each Quotes words → IsSection words section → CanSpellSection section
+section_spells words (Kernel params) quotes h = listed_spells IsParam CanSpell param_spells h.0 params (pair_spells (codes "kernel") _ words quotes h).1 h.2
 section_spells words Section.Other quotes h = tt
 
-pub file_spells : (words : List Word) (sections : List Section) → Each Quotes words → IsFile words sections → Each SectionReads sections
-file_spells words sections quotes h =
-    let parts : Each Quotes (h.0 ++ Mark FullStop ∷ []) = subst (Each Quotes) h.1 quotes in
-    listed_spells IsSection SectionReads section_spells h.0 sections (each_left Quotes h.0 (Mark FullStop ∷ []) parts) h.2
+each_append : {A : Type 0} (P : A → Type 0) (xs ys : List A) → Each P xs → Each P ys → Each P (xs ++ ys)
+each_append P [] ys h k = k
+each_append P (x ∷ xs) ys h k = (h.0, each_append P xs ys h.1 k)
+
+params_spell : (sections : List Section) → Each CanSpellSection sections → Each CanSpell (params_in sections)
+params_spell [] h = tt
+params_spell (Kernel params ∷ sections) h = each_append CanSpell params (params_in sections) h.0 (params_spell sections h.1)
+params_spell (Section.Other ∷ sections) h = params_spell sections h.1
+
+-- what the tokens of a file say can be spelled
+pub file_spells : (bytes : List ℕ) (tokens : List Located) (sections : List Section) → AreSpelled 0 bytes tokens → IsFile (map (λ t. t.word) tokens) sections → Each CanSpell (params_in sections)
+file_spells bytes tokens sections spelled h =
+    let parts : Each Quotes (h.0 ++ Mark FullStop ∷ []) = subst (Each Quotes) h.1 (tokens_quote 0 bytes tokens spelled) in
+    params_spell sections (listed_spells IsSection CanSpellSection section_spells h.0 sections (each_left Quotes h.0 (Mark FullStop ∷ []) parts) h.2)

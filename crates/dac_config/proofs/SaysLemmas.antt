@@ -4,20 +4,21 @@ use Rattle.std.specs.Prelude.{All}
 use Rattle.std.specs.declared.cmp.Ordering.TheVariants.{Less}
 use Rattle.std.specs.Ordering.{nat_cmp}
 use Rattle.std.specs.Str.{bytes_eq}
+use Rattle.std.specs.Cmp.{unsigned_ties}
+use Rattle.std.specs.Cmp.Lexicographic.{texts_ties}
 use Rattle.std.specs.FinMap.{nat_cmp-IsAntisymmetric, slice_cmp-IsAntisymmetric}
-use Rattle.std.specs.Cmp.Lexicographic.{same_text}
 use Rattle.std.specs.List.{list_any, AllZip, AllByRecursion}
 use Rattle.std.specs.List.Sorted.{IsStrictlySortedBy}
 use Rattle.std.proofs.lemmas.Cmp.{nat_cmp_total, nat_list_cmp_total}
-use Rattle.std.proofs.lemmas.Bool.{lt-ltb, eqb-true}
+use Rattle.std.proofs.lemmas.Bool.{lt-ltb}
 use Rattle.std.proofs.lemmas.Bool.Decides.{nat_tests}
-use Rattle.std.proofs.lemmas.List.Elements.{All-map}
+use Rattle.std.proofs.lemmas.List.Elements.{All-map, All-head, All-tail}
 use Rattle.dac_shapes.specs.Written.{App, Permission, Written}
 use Rattle.dac_shapes.specs.Limits.{is_among}
 use Rattle.dac_config.specs.Table.{NodeRow, AppRow, Table}
 use Rattle.dac_config.specs.Numbering.{name_cmp, in_byte_order, numbers_from, numbered_node, numbered_nodes, permitted, numbered_app, numbered}
 use Rattle.dac_config.specs.Says.{is_named, IsGroup, IsUnmentioned, IsPermitted, IsApp, IsTableOf}
-use Rattle.dac_config.proofs.Names.{itself}
+use Rattle.dac_config.proofs.Names.{itself, same_name}
 use Rattle.dac_config.proofs.Rising.{rising_all, any_all, same_rising}
 
 -- ---- the numbers of a group
@@ -81,14 +82,11 @@ zip_map : {A B : Type 0} (P : A → B → Type 0) (f : A → B) → ((x : A) →
 zip_map P f each [] = tt
 zip_map P f each (x ∷ xs) = (each x, zip_map P f each xs)
 
-bytes_exact : (x y : List ℕ) → bytes_eq x y ≡ true → x ≡ y
-bytes_exact x y h = same_text x y (sym h)
-
 -- the first permission of a name, if there is one
 pub permission_found : (permissions : List Permission) (name : List ℕ) → IsPermitted permissions name (permitted permissions name)
 permission_found [] name = inr (refl, refl)
 permission_found (p ∷ ps) name = elim (bytes_eq p.name name) as (λ b. bytes_eq p.name name ≡ b → IsPermitted (p ∷ ps) name (cond b p.value (permitted ps name))) [
-  | true ↦ λ h. inl ([], ps, (λ i. record { name = bytes_exact p.name name h i; value = p.value } ∷ ps), refl)
+  | true ↦ λ h. inl ([], ps, (λ i. record { name = same_name p.name name h i; value = p.value } ∷ ps), refl)
   | false ↦ λ h. behind h (permission_found ps name)
 ] refl
   where
@@ -110,10 +108,16 @@ none : IsStrictlySortedBy name_cmp []
 unfolding IsStrictlySortedBy
 none = tt
 
+pub sorted_rising : (names : List (List ℕ)) → IsStrictlySortedBy name_cmp (in_byte_order names)
+sorted_rising names = rising_all nat_list_cmp_total (slice_cmp-IsAntisymmetric nat_cmp-IsAntisymmetric) [] names none
+
+pub sorted_names : (names : List (List ℕ)) (name : List ℕ) → is_among name (in_byte_order names) ≡ is_among name names
+sorted_names names name = any_all nat_list_cmp_total (slice_cmp-IsAntisymmetric nat_cmp-IsAntisymmetric) (λ other. bytes_eq other name) [] names
+
 pub numbered_says : (w : Written) → IsTableOf w (numbered w)
 numbered_says w = record {
-  rising = subst (IsStrictlySortedBy name_cmp) (sym (names_numbered w)) (rising_all nat_list_cmp_total (slice_cmp-IsAntisymmetric nat_cmp-IsAntisymmetric) [] w.nodes none);
-  nodes = λ name. ap (is_among name) (names_numbered w) ∙ any_all nat_list_cmp_total (slice_cmp-IsAntisymmetric nat_cmp-IsAntisymmetric) (λ other. bytes_eq other name) [] w.nodes;
+  rising = subst (IsStrictlySortedBy name_cmp) (sym (names_numbered w)) (sorted_rising w.nodes);
+  nodes = λ name. ap (is_among name) (names_numbered w) ∙ sorted_names w.nodes name;
   mandatory = All-map (λ node. node.mandatory ≡ is_among node.name w.mandatory) (numbered_node w) (in_byte_order w.nodes) (λ _ _ _. refl);
   optional = All-map (λ node. node.optional ≡ is_among node.name w.optional) (numbered_node w) (in_byte_order w.nodes) (λ _ _ _. refl);
   apps = zip_map (IsApp w.permissions (numbered_nodes w)) (numbered_app w.permissions (numbered_nodes w)) (app_numbered w.permissions (numbered_nodes w)) w.apps;
@@ -128,13 +132,10 @@ zip_same P f each [] (y ∷ ys) z = absurd z
 zip_same P f each (x ∷ xs) [] z = absurd z
 zip_same P f each (x ∷ xs) (y ∷ ys) z = λ i. each x y z.0 i ∷ zip_same P f each xs ys z.1 i
 
-number_itself : (n : ℕ) → eqb n n ≡ true
-number_itself n = grind (arith, nat_tests)
-
 group_same : (nodes : List NodeRow) (group : List (List ℕ)) (numbers : List ℕ) → IsGroup nodes group numbers → numbers ≡ numbers_from 0 nodes group
 group_same nodes group numbers is =
     let one = group_numbered nodes group in
-    same_rising nat_cmp_total nat_cmp-IsAntisymmetric eqb number_itself eqb-true numbers (numbers_from 0 nodes group) is.rising one.rising (λ q. is.members q ∙ sym (one.members q))
+    same_rising nat_cmp_total nat_cmp-IsAntisymmetric eqb unsigned_ties numbers (numbers_from 0 nodes group) is.rising one.rising (λ q. is.members q ∙ sym (one.members q))
 
 -- the first permission of a name decides
 permission_first : (before after : List Permission) (name : List ℕ) (value : Bool) → IsUnmentioned before name → permitted (before ++ record { name = name; value = value } ∷ after) name ≡ value
@@ -161,19 +162,13 @@ app_same permissions nodes app row is =
     let groups = zip_same (IsGroup nodes) (numbers_from 0 nodes) (group_same nodes) app.groups row.groups is.groups in
     λ i. record { name = is.name i; timeout = is.timeout i; groups = groups i; permission = permission i }
 
-all_head : {A : Type 0} (P : A → Type 0) (x : A) (xs : List A) → All P (x ∷ xs) → P x
-all_head P x xs all = all 0 x (omega arith)
-
-all_tail : {A : Type 0} (P : A → Type 0) (x : A) (xs : List A) → All P (x ∷ xs) → All P xs
-all_tail P x xs all = λ k d h. all (suc k) d (omega (arith, h))
-
 rows_same : (w : Written) (rows : List NodeRow) → All (λ node. node.mandatory ≡ is_among node.name w.mandatory) rows → All (λ node. node.optional ≡ is_among node.name w.optional) rows
     → rows ≡ map (numbered_node w) (map (λ node. node.name) rows)
 rows_same w [] mandatory optional = refl
 rows_same w (row ∷ rows) mandatory optional =
-    let m = all_head (λ node. node.mandatory ≡ is_among node.name w.mandatory) row rows mandatory in
-    let o = all_head (λ node. node.optional ≡ is_among node.name w.optional) row rows optional in
-    let rest = rows_same w rows (all_tail (λ node. node.mandatory ≡ is_among node.name w.mandatory) row rows mandatory) (all_tail (λ node. node.optional ≡ is_among node.name w.optional) row rows optional) in
+    let m = All-head (λ node. node.mandatory ≡ is_among node.name w.mandatory) row rows mandatory in
+    let o = All-head (λ node. node.optional ≡ is_among node.name w.optional) row rows optional in
+    let rest = rows_same w rows (All-tail (λ node. node.mandatory ≡ is_among node.name w.mandatory) row rows mandatory) (All-tail (λ node. node.optional ≡ is_among node.name w.optional) row rows optional) in
     λ i. record { name = row.name; mandatory = m i; optional = o i } ∷ rest i
 
 -- the tables that say what is written are those that are numbered
@@ -181,7 +176,7 @@ pub table_same : (w : Written) (table : Table) → IsTableOf w table → table �
 table_same w table is =
     let one = numbered_says w in
     let names : map (λ node. node.name) table.nodes ≡ in_byte_order w.nodes =
-    same_rising nat_list_cmp_total (slice_cmp-IsAntisymmetric nat_cmp-IsAntisymmetric) bytes_eq itself bytes_exact (map (λ node. node.name) table.nodes) (map (λ node. node.name) (numbered_nodes w)) is.rising one.rising (λ q. is.nodes q ∙ sym (one.nodes q))
+    same_rising nat_list_cmp_total (slice_cmp-IsAntisymmetric nat_cmp-IsAntisymmetric) bytes_eq texts_ties (map (λ node. node.name) table.nodes) (map (λ node. node.name) (numbered_nodes w)) is.rising one.rising (λ q. is.nodes q ∙ sym (one.nodes q))
     ∙ names_numbered w in
     let nodes : table.nodes ≡ numbered_nodes w = rows_same w table.nodes is.mandatory is.optional ∙ ap (map (numbered_node w)) names in
     let apps : table.apps ≡ map (numbered_app w.permissions (numbered_nodes w)) w.apps = zip_same (IsApp w.permissions table.nodes) (numbered_app w.permissions table.nodes) (app_same w.permissions table.nodes) w.apps table.apps is.apps ∙ ap (λ rows. map (numbered_app w.permissions rows) w.apps) nodes in

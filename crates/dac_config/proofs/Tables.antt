@@ -1,12 +1,12 @@
 -- What the tables that are kept say at a number and of a name.
-use Rattle.std.proofs.Common.{◌≡◌, ℕ, suc, ◌+◌, ◌<◌, ◌≤◌, drop, Bool, true, false, cond, eqb, not, List, [], ◌∷◌, length, map, Option, Some, None, option_map, slice_get, refl, sym, ap, subst, ◌∙◌, arith}
+use Rattle.std.proofs.Common.{◌≡◌, ℕ, ◌+◌, ◌<◌, ◌≤◌, drop, Bool, true, false, cond, eqb, not, List, [], ◌∷◌, length, map, Option, Some, None, option_map, slice_get, refl, sym, ap, subst, ◌∙◌, arith}
 use Rattle.std.specs.Prelude.{position, filter, unwrap_or, All}
 use Rattle.std.specs.Global.{Vec}
 use Rattle.std.specs.List.{prefix_len, list_any}
 use Rattle.std.specs.Map.{keys_of, values_of}
 use Rattle.std.specs.Str.{bytes_eq}
-use Rattle.std.proofs.lemmas.List.{drop_more}
-use Rattle.std.proofs.lemmas.List.Elements.{All-nil, All-cons, All-head, All-tail, All-weaker}
+use Rattle.std.proofs.lemmas.List.{drop_more, length-map}
+use Rattle.std.proofs.lemmas.List.Elements.{All-weaker}
 use Rattle.std.proofs.lemmas.Option.{slice_get-map, slice_get_within, get_or_from_slice_get}
 use Rattle.dac_base.specs.declared.NodeId.{NodeId}
 use Rattle.dac_base.specs.declared.AppId.{AppId}
@@ -16,18 +16,15 @@ use Rattle.dac_config.specs.declared.config.Config.TheInside.{Inside}
 use Rattle.dac_config.specs.Table.{AppRow, app_name, node_named, app_named, group_of, timeout_of, default_permission}
 use Rattle.dac_config.specs.Says.{IsTable}
 use Rattle.dac_config.specs.ConfigView.{node_row, app_row, table_of, HasMembersBelow}
+use Rattle.dac_config.proofs.Names.{all_mapped}
 
 prefix_len-map : {A B : Type 0} (f : A → B) (p : B → Bool) (xs : List A) → prefix_len p (map f xs) ≡ prefix_len (λ x. p (f x)) xs
 prefix_len-map f p [] = refl
 prefix_len-map f p (x ∷ xs) = ap (λ n. cond (p (f x)) (1 + n) 0) (prefix_len-map f p xs)
 
-map_length : {A B : Type 0} (f : A → B) (xs : List A) → length (map f xs) ≡ length xs
-map_length f [] = refl
-map_length f (x ∷ xs) = ap suc (map_length f xs)
-
 -- the place in a mapped list
 pub position-map : {A B : Type 0} (f : A → B) (p : B → Bool) (xs : List A) → position p (map f xs) ≡ position (λ x. p (f x)) xs
-position-map f p xs = rw (prefix_len-map f (λ x. not (p x)) xs, map_length f xs) refl
+position-map f p xs = rw (prefix_len-map f (λ x. not (p x)) xs, length-map xs f) refl
 
 -- what is true of all is true of the one at a place
 pub all_at : {X : Type 0} (P : X → Type 0) (xs : List X) (i : ℕ) (x : X) → All P xs → slice_get xs i ≡ Some x → P x
@@ -80,7 +77,7 @@ pub few_groups : (c : Inside) (i : ℕ) (app : App) → All (λ row. length row.
 few_groups c i app small e =
     let row = row_at c.apps.entries i app e in
     let few : length (map (λ group. group.items) app.groups.items) ≤ 16 = all_at (λ (r : AppRow). length r.groups ≤ 16) (map app_row c.apps.entries) i (app_row (row.0, app)) small row.1 in
-    omega (arith, few, map_length (λ group. group.items) app.groups.items)
+    omega (arith, few, length-map app.groups.items (λ group. group.items))
 
 -- what is left of a list from the place of an element
 pub left_from : {X : Type 0} (xs : List X) (i : ℕ) (x : X) → slice_get xs i ≡ Some x → drop i xs ≡ x ∷ drop (i + 1) xs
@@ -93,19 +90,14 @@ left_out p x xs h = rw h refl
 pub stays_in : {X : Type 0} (p : X → Bool) (x : X) (xs : List X) → p x ≡ true → filter p (x ∷ xs) ≡ x ∷ filter p xs
 stays_in p x xs h = rw h refl
 
--- what is true of all that is seen
-all_unmap : {X Y : Type 0} (P : Y → Type 0) (f : X → Y) (xs : List X) → All P (map f xs) → All (λ x. P (f x)) xs
-all_unmap P f [] all = All-nil (λ x. P (f x))
-all_unmap P f (x ∷ xs) all = All-cons (λ x. P (f x)) x xs (All-head P (f x) (map f xs) all) (all_unmap P f xs (All-tail P (f x) (map f xs) all))
-
 -- the groups that are kept are of nodes that are kept
 pub kept_members : (c : Inside) (nodes : List Node) → nodes ≡ c.nodes.items → IsTable (table_of c) → All (λ entry. HasMembersBelow (length nodes) entry.1) c.apps.entries
 kept_members c nodes same is =
     let Below : List ℕ → Type 0 = All (λ number. number < length nodes) in
-    let count : length (map node_row c.nodes.items) ≡ length nodes = map_length node_row c.nodes.items ∙ ap length (sym same) in
+    let count : length (map node_row c.nodes.items) ≡ length nodes = length-map c.nodes.items node_row ∙ ap length (sym same) in
     let members : All (λ app. All Below app.groups) (map app_row c.apps.entries) = subst (λ n. All (λ app. All (λ group. All (λ number. number < n) group) app.groups) (map app_row c.apps.entries)) count is.members in
-    All-weaker (λ entry. All Below (app_row entry).groups) (λ entry. HasMembersBelow (length nodes) entry.1) (λ entry h. all_unmap Below (λ group. group.items) entry.1.groups.items h)
-    c.apps.entries (all_unmap (λ app. All Below app.groups) app_row c.apps.entries members)
+    All-weaker (λ entry. All Below (app_row entry).groups) (λ entry. HasMembersBelow (length nodes) entry.1) (λ entry h. all_mapped Below (λ group. group.items) entry.1.groups.items h)
+    c.apps.entries (all_mapped (λ app. All Below app.groups) app_row c.apps.entries members)
 
 -- the table of what is kept
 pub kept_table : (c : Inside) (nodes : List Node) → nodes ≡ c.nodes.items → record { nodes = map node_row nodes; apps = map app_row c.apps.entries; sync_wait = c.sync_wait } ≡ table_of c

@@ -1,5 +1,5 @@
 -- Words and their one spelling: where each can stand, the text is these words.
-use Rattle.std.proofs.Common.{◌≡◌, ◌⊎◌, inl, inr, ℕ, ◌+◌, ◌≤◌, Bool, true, false, cond, not, ◌&&◌, List, [], ◌∷◌, ◌++◌, length, refl, arith, append_assoc}
+use Rattle.std.proofs.Common.{◌≡◌, ◌⊎◌, inl, inr, ℕ, ◌+◌, ◌≤◌, Bool, true, false, cond, not, ◌&&◌, List, [], ◌∷◌, ◌++◌, length, map, refl, ap, arith, append_assoc}
 use Rattle.std.specs.Prelude.{All, codes}
 use Rattle.std.specs.Str.{bytes_eq}
 use Rattle.std.specs.List.{list_all}
@@ -184,3 +184,7 @@ words_nested at depth (word ∷ words) h = (h.1, words_nested (at + length (spel
 -- words that can stand so are the tokens of their spelling and a line feed
 pub words_read : (words : List Word) → Stand 0 words → AreTokensOf (spelled_words words ++ codes "\n") (located 0 words)
 words_read words h = record { spelled = words_spelled 0 0 words h; nested = words_nested 0 0 words h }
+
+pub words_located : (at : ℕ) (words : List Word) → map (λ (t : Located). t.word) (located at words) ≡ words
+words_located at [] = refl
+words_located at (word ∷ words) = ap (λ (ws : List Word). word ∷ ws) (words_located (at + length (spelling_of word)) words)

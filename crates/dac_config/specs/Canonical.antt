@@ -26,7 +26,7 @@ is_bare name = begins_small name && not (bytes_eq name (codes "fun")) && list_al
 abbrev pub name_text : List ℕ → List ℕ
 name_text name = if is_bare name then name else codes "'" ++ (name ++ codes "'")
 
--- ---- lists
+-- ---- texts between brackets
 
 -- these texts, the first behind `before` and each further one behind a comma
 abbrev pub parted_behind : List ℕ → List (List ℕ) → List ℕ
@@ -37,55 +37,50 @@ parted_behind before (text ∷ texts) = before ++ (text ++ parted_behind (codes 
 abbrev pub parted : List (List ℕ) → List ℕ
 parted texts = parted_behind [] texts
 
+abbrev pub list_text : List (List ℕ) → List ℕ
+list_text texts = codes "[" ++ (parted texts ++ codes "]")
+
+abbrev pub tuple_text : List (List ℕ) → List ℕ
+tuple_text texts = codes "{" ++ (parted texts ++ codes "}")
+
+abbrev pub pair_text : List ℕ → List ℕ → List ℕ
+pair_text name value = codes "{" ++ (name ++ (codes "," ++ (value ++ codes "}")))
+
 -- ---- the parts of a configuration
 
 -- the name of the node with this number
 abbrev pub node_text : List NodeRow → ℕ → List ℕ
 node_text nodes number = name_text (unwrap_or (option_map (λ node. node.name) (slice_get nodes number)) [])
 
--- several nodes
-abbrev pub tuple_text : List NodeRow → List ℕ → List ℕ
-tuple_text nodes numbers = codes "{" ++ (parted (map (node_text nodes) numbers) ++ codes "}")
-
 -- a group: one node by itself, any more as a tuple
 abbrev pub group_text : List NodeRow → List ℕ → List ℕ
 group_text nodes (number ∷ []) = node_text nodes number
-group_text nodes numbers = tuple_text nodes numbers
+group_text nodes numbers = tuple_text (map (node_text nodes) numbers)
 
 -- an application with its timeout and its groups
 abbrev pub app_text : List NodeRow → AppRow → List ℕ
-app_text nodes app =
-    codes "{" ++ (name_text app.name ++ (codes "," ++ (decimal app.timeout ++ (codes ",[" ++ (parted (map (group_text nodes) app.groups) ++ codes "]}")))))
+app_text nodes app = pair_text (name_text app.name) (decimal app.timeout ++ (codes "," ++ list_text (map (group_text nodes) app.groups)))
 
 -- an application that may not run unless it is permitted
 abbrev pub ban_text : List ℕ → List ℕ
-ban_text name = codes "{" ++ (name_text name ++ codes ",false}")
-
-abbrev pub apps_text : Table → List ℕ
-apps_text table = parted (map (app_text table.nodes) table.apps)
-
-abbrev pub bans_text : Table → List ℕ
-bans_text table = parted (map (λ app. ban_text app.name) (filter (λ app. not app.permission) table.apps))
-
-abbrev pub mandatory_text : Table → List ℕ
-mandatory_text table = parted (map (λ node. name_text node.name) (filter (λ node. node.mandatory) table.nodes))
-
-abbrev pub optional_text : Table → List ℕ
-optional_text table = parted (map (λ node. name_text node.name) (filter (λ node. node.optional) table.nodes))
+ban_text name = pair_text (name_text name) (codes "false")
 
 -- the parameter of the wait, where it is defined
-abbrev pub wait_text : SyncWait → List ℕ
-wait_text NoSync = []
-wait_text Forever = codes ",{sync_nodes_timeout,infinity}"
-wait_text (Ms n) = codes ",{sync_nodes_timeout," ++ (decimal n ++ codes "}")
+abbrev pub wait_texts : SyncWait → List (List ℕ)
+wait_texts NoSync = []
+wait_texts Forever = pair_text (codes "sync_nodes_timeout") (codes "infinity") ∷ []
+wait_texts (Ms n) = pair_text (codes "sync_nodes_timeout") (decimal n) ∷ []
 
--- what follows the applications: those that are not permitted by themselves, the nodes to wait for, and the wait
-abbrev pub rest_text : Table → List ℕ
-rest_text table =
-    codes "]},{permissions,[" ++ (bans_text table ++ (codes "]},{sync_nodes_mandatory,[" ++ (mandatory_text table
-    ++ (codes "]},{sync_nodes_optional,[" ++ (optional_text table ++ (codes "]}" ++ (wait_text table.sync_wait ++ codes "]}].\n")))))))
+-- the parameters: the applications, those that are not permitted by themselves, the nodes to wait for, and the wait
+abbrev pub param_texts : Table → List (List ℕ)
+param_texts table =
+    pair_text (codes "distributed") (list_text (map (app_text table.nodes) table.apps))
+    ∷ pair_text (codes "permissions") (list_text (map (λ app. ban_text app.name) (filter (λ app. not app.permission) table.apps)))
+    ∷ pair_text (codes "sync_nodes_mandatory") (list_text (map (λ node. name_text node.name) (filter (λ node. node.mandatory) table.nodes)))
+    ∷ pair_text (codes "sync_nodes_optional") (list_text (map (λ node. name_text node.name) (filter (λ node. node.optional) table.nodes)))
+    ∷ wait_texts table.sync_wait
 
 -- A configuration's one text: the applications stand in the order of the file, nodes to wait for in the order of
 -- their names.
 abbrev pub canonical_text : Table → List ℕ
-canonical_text table = codes "[{kernel,[{distributed,[" ++ (apps_text table ++ rest_text table)
+canonical_text table = list_text (pair_text (codes "kernel") (list_text (param_texts table)) ∷ []) ++ codes ".\n"

@@ -1,11 +1,10 @@
 -- From what a text says, by names, to the tables of a configuration, by numbers.
-use Rattle.std.specs.Prelude.{◌≡◌, ℕ, ◌+◌, ◌≤◌, Bool, true, false, List, [], ◌∷◌, ◌++◌, map, fold, length, if◌then◌else◌, All}
+use Rattle.std.specs.Prelude.{◌≡◌, ℕ, ◌+◌, Bool, true, false, List, [], ◌∷◌, ◌++◌, map, fold, if◌then◌else◌}
 use Rattle.std.specs.declared.cmp.Ordering.{Ordering}
 use Rattle.std.specs.Ordering.{nat_cmp}
 use Rattle.std.specs.Cmp.Lexicographic.{slice_cmp}
 use Rattle.std.specs.Str.{bytes_eq}
 use Rattle.std.specs.BTreeSet.{insert_key}
-use Rattle.dac_base.specs.declared.limits.TheConstants.{MAX_APPS, MAX_NODES}
 use Rattle.dac_shapes.specs.Written.{App, Permission, Written}
 use Rattle.dac_shapes.specs.Limits.{is_among}
 use Rattle.dac_config.specs.Table.{NodeRow, AppRow, Table}
@@ -49,10 +48,3 @@ numbered w = record { nodes = numbered_nodes w; apps = map (numbered_app w.permi
 abbrev pub AllNew : List (List ℕ) → List (List ℕ) → Type 0
 AllNew before [] = Unit {0}
 AllNew before (name ∷ names) = (is_among name before ≡ false) × AllNew (before ++ name ∷ []) names
-
--- what holds of each text that is read: the limits, and that no application stands twice
-pub record IsNumberable (w : Written) : Type 0 where
-  pub nodes : length w.nodes ≤ MAX_NODES
-  pub apps : length w.apps ≤ MAX_APPS
-  pub groups : All (λ app. length app.groups ≤ MAX_NODES) w.apps
-  pub once : AllNew [] (map (λ app. app.name) w.apps)

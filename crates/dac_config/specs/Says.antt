@@ -7,6 +7,7 @@ use Rattle.dac_base.specs.declared.limits.TheConstants.{MAX_APPS, MAX_NODES}
 use Rattle.dac_shapes.specs.Written.{App, Permission, Written}
 use Rattle.dac_shapes.specs.Limits.{is_among}
 use Rattle.dac_shapes.specs.Grammar.{IsTextOf}
+use Rattle.dac_shapes.specs.Within.{IsWithinLimits}
 use Rattle.dac_config.specs.Table.{NodeRow, AppRow, Table, node_count, app_count}
 use Rattle.dac_config.specs.Numbering.{name_cmp}
 
@@ -53,9 +54,9 @@ pub record IsConfigOf (text : List ℕ) (table : Table) : Type 0 where
   pub spelled : IsTextOf text written
   pub numbers : IsTableOf written table
 
--- some text says this configuration
+-- some text says this configuration, and what is written in it keeps the limits
 pub data IsSaid (table : Table) : Type 0 where
-  By : (text : List ℕ) → IsConfigOf text table → IsSaid table
+  By : (text : List ℕ) (is : IsConfigOf text table) → IsWithinLimits is.written → IsSaid table
 
 -- what holds of each configuration: its limits, that its groups are of nodes that there are, and that some text says it
 pub record IsTable (table : Table) : Type 0 where

@@ -11,7 +11,6 @@ use crate::SyncWait;
 use crate::mark::Mark;
 use dac_base::{AppId, MAX_APPS, MAX_NODES, NoMemory, NodeId};
 use dac_shapes::MAX_TEXT;
-use dac_shapes::laws::limits_in_text_order;
 use indexmap::IndexMap;
 use std::marker::Model;
 use text::put_config;
@@ -199,7 +198,6 @@ impl Config {
         // What is written is read again as an equal configuration, where it isn't too long to be read.
         ensures read_again { IfOk result (λ text. length text.items ≤ MAX_TEXT → IsConfigOf text.items self.now) }
     {
-        limits_in_text_order();
         let mut text = Vec::new(*self.nodes.allocator());
         put_config(&mut text, &self.nodes, &self.apps, self.sync_wait)?;
         Ok(text)

@@ -3,7 +3,8 @@ ghost use Rattle.std.specs.Prelude.{◌≡◌, ◌≤◌, ℕ, List, [], map, le
 ghost use Rattle.dac_shapes.specs.Views.{names_of, groups_of, app_of, apps_of, permissions_of, draft_of};
 ghost use Rattle.dac_shapes.specs.Limits.{is_among};
 ghost use Rattle.dac_shapes.specs.Grammar.{IsTextOf};
-ghost use Rattle.dac_config.specs.Numbering.{in_byte_order, numbers_from, numbered_node, numbered_nodes, permitted, numbered_app, numbered, AllNew, IsNumberable};
+ghost use Rattle.dac_shapes.specs.Within.{IsWithinLimits};
+ghost use Rattle.dac_config.specs.Numbering.{in_byte_order, numbers_from, numbered_node, numbered_nodes, permitted, numbered_app, numbered, AllNew};
 ghost use Rattle.dac_config.specs.ConfigView.{node_row, app_row};
 
 use super::{App, Config, Node};
@@ -144,7 +145,7 @@ fn apps_of(
 impl Config {
     /// What a text says, with numbers in place of names.
     pub(crate) fn of_draft(alloc: Global, draft: &Draft<'_>) -> Result<Config, NoMemory>
-        requires numberable { IsNumberable (draft_of draft.now) }
+        requires limits { IsWithinLimits (draft_of draft.now) }
         requires said { (text : List ℕ) × IsTextOf text (draft_of draft.now) }
         ensures { IfOk result (λ config. config ≡ numbered (draft_of draft.now)) }
     {

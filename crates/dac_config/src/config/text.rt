@@ -1,10 +1,10 @@
 //! The canonical text, piece by piece.
 
-ghost use Rattle.std.specs.Prelude.{◌≡◌, ◌<◌, ◌≤◌, not, length, map, filter, All, OnOk};
+ghost use Rattle.std.specs.Prelude.{◌≡◌, ◌<◌, ◌≤◌, not, codes, length, map, filter, All, OnOk};
 ghost use Rattle.std.specs.Fmt.{decimal};
 ghost use Rattle.dac_shapes.specs.declared.draft.SyncWait.TheVariants.{Ms};
 ghost use Rattle.dac_config.specs.Sinks.{Gains};
-ghost use Rattle.dac_config.specs.Canonical.{name_text, parted, node_text, tuple_text, group_text, app_text, ban_text, wait_text, rest_text, canonical_text};
+ghost use Rattle.dac_config.specs.Canonical.{name_text, parted_behind, parted, node_text, tuple_text, group_text, app_text, ban_text, wait_texts, param_texts, canonical_text};
 ghost use Rattle.dac_config.specs.ConfigView.{node_row, named_row, app_row, HasMembersBelow, is_in};
 
 use super::{App, Node};
@@ -65,7 +65,7 @@ fn put_group<S: Sink>(sink: &mut S, nodes: &[Node], group: &[u8]) -> Result<(), 
 
 fn put_tuple<S: Sink>(sink: &mut S, nodes: &[Node], group: &[u8]) -> Result<(), S::Fault>
     requires { All (λ number. number < length nodes.now) group.now }
-    ensures { OnOk result (Gains S.holds sink.old sink.new (tuple_text (map node_row nodes.now) group.now)) }
+    ensures { OnOk result (Gains S.holds sink.old sink.new (tuple_text (map (node_text (map node_row nodes.now)) group.now))) }
 {
     sink.put(b"{")?;
     put_members(sink, nodes, group)?;
@@ -179,7 +179,7 @@ fn put_sync_list<S: Sink>(sink: &mut S, nodes: &[Node], list: SyncList) -> Resul
 }
 
 fn put_milliseconds<S: Sink>(sink: &mut S, milliseconds: u32) -> Result<(), S::Fault>
-    ensures { OnOk result (Gains S.holds sink.old sink.new (wait_text (Ms milliseconds))) }
+    ensures { OnOk result (Gains S.holds sink.old sink.new (parted_behind (codes ",") (wait_texts (Ms milliseconds)))) }
 {
     sink.put(b",{sync_nodes_timeout,")?;
     put_number(sink, milliseconds)?;
@@ -188,7 +188,7 @@ fn put_milliseconds<S: Sink>(sink: &mut S, milliseconds: u32) -> Result<(), S::F
 }
 
 fn put_wait<S: Sink>(sink: &mut S, wait: SyncWait) -> Result<(), S::Fault>
-    ensures { OnOk result (Gains S.holds sink.old sink.new (wait_text wait)) }
+    ensures { OnOk result (Gains S.holds sink.old sink.new (parted_behind (codes ",") (wait_texts wait))) }
 {
     match wait {
         SyncWait::NoSync => sink.put(b""),
@@ -197,15 +197,18 @@ fn put_wait<S: Sink>(sink: &mut S, wait: SyncWait) -> Result<(), S::Fault>
     }
 }
 
-/// What follows the applications.
-fn put_rest<S: Sink>(
+/// The parameters, with a comma between any two.
+fn put_params<S: Sink>(
     sink: &mut S,
     nodes: &[Node],
     apps: &IndexMap<Vec<u8>, App>,
     wait: SyncWait,
 ) -> Result<(), S::Fault>
-    ensures { OnOk result (Gains S.holds sink.old sink.new (rest_text (record { nodes = map node_row nodes.now; apps = map app_row apps.now.entries; sync_wait = wait }))) }
+    requires { All (λ entry. HasMembersBelow (length nodes.now) entry.1) apps.now.entries }
+    ensures { OnOk result (Gains S.holds sink.old sink.new (parted (param_texts (record { nodes = map node_row nodes.now; apps = map app_row apps.now.entries; sync_wait = wait })))) }
 {
+    sink.put(b"{distributed,[")?;
+    put_apps(sink, nodes, apps)?;
     sink.put(b"]},{permissions,[")?;
     put_bans(sink, apps)?;
     sink.put(b"]},{sync_nodes_mandatory,[")?;
@@ -214,7 +217,6 @@ fn put_rest<S: Sink>(
     put_sync_list(sink, nodes, SyncList::Optional)?;
     sink.put(b"]}")?;
     put_wait(sink, wait)?;
-    sink.put(b"]}].\n")?;
     Ok(())
 }
 
@@ -228,8 +230,8 @@ pub(crate) fn put_config<S: Sink>(
     requires { All (λ entry. HasMembersBelow (length nodes.now) entry.1) apps.now.entries }
     ensures { OnOk result (Gains S.holds sink.old sink.new (canonical_text (record { nodes = map node_row nodes.now; apps = map app_row apps.now.entries; sync_wait = wait }))) }
 {
-    sink.put(b"[{kernel,[{distributed,[")?;
-    put_apps(sink, nodes, apps)?;
-    put_rest(sink, nodes, apps, wait)?;
+    sink.put(b"[{kernel,[")?;
+    put_params(sink, nodes, apps, wait)?;
+    sink.put(b"]}].\n")?;
     Ok(())
 }

@@ -6,7 +6,6 @@ use Rattle.dac_shapes.specs.Views.{draft_of}
 use Rattle.dac_config.specs.Numbering.{numbered}
 use Rattle.dac_config.specs.Says.{IsTableOf}
 use Rattle.dac_config.proofs.Faults.{fails_then}
-use Rattle.dac_config.proofs.Numberable.{numberable}
 use Rattle.dac_config.proofs.SaysLemmas.{numbered_says, table_same}
 use Rattle.dac_config.proofs.read.read_config.Goals as goal
 
@@ -22,9 +21,6 @@ returns-in_err-draft-clause-exact c =
 
 pub of_draft-requires-clause-said : goal.of_draft-requires-clause-said
 of_draft-requires-clause-said c = (c.args.text.now, c.in_ok-draft.ensures.found)
-
-pub of_draft-requires-clause-numberable : goal.of_draft-requires-clause-numberable
-of_draft-requires-clause-numberable c = numberable (draft_of c.in_ok-draft.draft) c.in_ok-draft.ensures.limits
 
 pub returns-clause-found : goal.returns-clause-found
 returns-clause-found c = record {

@@ -3,8 +3,7 @@ use Rattle.dac_config.specs.Table.{Table}
 use Rattle.dac_config.specs.Canonical.{canonical_text}
 use Rattle.dac_config.specs.Says.{IsConfigOf, IsSaid}
 use Rattle.dac_config.proofs.Tables.{kept_members, kept_table}
-use Rattle.dac_config.proofs.Parts.{Laws}
-use Rattle.dac_config.proofs.SameAgain.{canonical_says}
+use Rattle.dac_config.proofs.Again.{canonical_says}
 use Rattle.dac_config.proofs.config.Config.canonical_text.Goals as goal
 
 pub put_config-requires : goal.put_config-requires
@@ -18,6 +17,5 @@ returns-clause-bytes c =
 pub returns-clause-read_again : goal.returns-clause-read_again
 returns-clause-read_again c =
     let bytes = returns-clause-bytes c in
-    let laws : Laws = record { order = c.limits_in_text_order.ensures.order; nodes = c.limits_in_text_order.ensures.nodes } in
     let said = subst IsSaid c.self.view_is c.self.invariant.said in
-    subst (λ (text : List ℕ). length text ≤ 65536 → IsConfigOf text c.args.self.now) (sym bytes) (canonical_says laws c.args.self.now said)
+    subst (λ (text : List ℕ). length text ≤ 65536 → IsConfigOf text c.args.self.now) (sym bytes) (canonical_says c.args.self.now said)

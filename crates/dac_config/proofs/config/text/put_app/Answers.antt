@@ -1,7 +1,8 @@
+use Rattle.std.proofs.Common.{append_assoc}
 use Rattle.dac_config.proofs.Gaining.{then}
 use Rattle.dac_config.proofs.config.text.put_app.Goals as goal
 
 pub returns : goal.returns
 returns g c =
     let groups = rw c.deref.ensures.value at c.in_ok-put_groups.ensures in
-    then c.in_ok-put.ensures (then c.in_ok-put_name.ensures (then c.in_ok-put-2.ensures (then c.in_ok-put_number.ensures (then c.in_ok-put-3.ensures (then groups c.in_ok-put-4.ensures)))))
+    simp append_assoc (then c.in_ok-put.ensures (then c.in_ok-put_name.ensures (then c.in_ok-put-2.ensures (then c.in_ok-put_number.ensures (then c.in_ok-put-3.ensures (then groups c.in_ok-put-4.ensures))))))

@@ -1,0 +1,13 @@
+use Rattle.std.proofs.Common.{◌≡◌, ℕ, List, [], ◌∷◌, ◌++◌, map, codes, append_assoc, append-nil}
+use Rattle.dac_config.specs.Canonical.{parted, list_text, pair_text, param_texts}
+use Rattle.dac_config.specs.ConfigView.{node_row, app_row}
+use Rattle.dac_config.proofs.Gaining.{then, as_text}
+use Rattle.dac_config.proofs.config.text.put_config.Goals as goal
+
+in_file : (params : List ℕ) → codes "[{kernel,[" ++ (params ++ codes "]}].\n") ≡ list_text (pair_text (codes "kernel") (codes "[" ++ (params ++ codes "]")) ∷ []) ++ codes ".\n"
+in_file params = simp (append_assoc, append-nil)
+
+pub returns : goal.returns
+returns g c =
+    as_text (then c.in_ok-put.ensures (then c.in_ok-put_params.ensures c.in_ok-put-2.ensures))
+    (in_file (parted (param_texts (record { nodes = map node_row c.args.nodes.now; apps = map app_row c.args.apps.now.entries; sync_wait = c.args.wait }))))

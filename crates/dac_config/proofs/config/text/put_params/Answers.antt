@@ -1,0 +1,21 @@
+use Rattle.std.proofs.Common.{◌≡◌, ℕ, List, ◌++◌, map, filter, not, codes, append_assoc}
+use Rattle.dac_config.specs.Table.{NodeRow, AppRow}
+use Rattle.dac_config.specs.Canonical.{name_text, parted_behind, parted, pair_text, app_text, ban_text, wait_texts}
+use Rattle.dac_config.specs.ConfigView.{node_row, app_row}
+use Rattle.dac_config.proofs.Gaining.{then, as_text}
+use Rattle.dac_config.proofs.config.text.put_params.Goals as goal
+
+in_row : (apps bans mandatory optional wait : List ℕ) → codes "{distributed,[" ++ (apps ++ (codes "]},{permissions,[" ++ (bans ++ (codes "]},{sync_nodes_mandatory,[" ++ (mandatory ++ (codes "]},{sync_nodes_optional,[" ++ (optional ++ (codes "]}" ++ wait))))))))
+    ≡ pair_text (codes "distributed") (codes "[" ++ (apps ++ codes "]")) ++ (codes "," ++ (pair_text (codes "permissions") (codes "[" ++ (bans ++ codes "]"))
+    ++ (codes "," ++ (pair_text (codes "sync_nodes_mandatory") (codes "[" ++ (mandatory ++ codes "]")) ++ (codes "," ++ (pair_text (codes "sync_nodes_optional") (codes "[" ++ (optional ++ codes "]")) ++ wait))))))
+in_row apps bans mandatory optional wait = simp append_assoc
+
+pub returns : goal.returns
+returns g c =
+    let nodes : List NodeRow = map node_row c.args.nodes.now in
+    let apps : List AppRow = map app_row c.args.apps.now.entries in
+    as_text
+    (then c.in_ok-put.ensures (then c.in_ok-put_apps.ensures (then c.in_ok-put-2.ensures (then c.in_ok-put_bans.ensures (then c.in_ok-put-3.ensures (then c.in_ok-put_sync_list.ensures
+    (then c.in_ok-put-4.ensures (then c.in_ok-put_sync_list-2.ensures (then c.in_ok-put-5.ensures c.in_ok-put_wait.ensures)))))))))
+    (in_row (parted (map (app_text nodes) apps)) (parted (map (λ row. ban_text row.name) (filter (λ row. not row.permission) apps))) (parted (map (λ row. name_text row.name) (filter (λ row. row.mandatory) nodes)))
+    (parted (map (λ row. name_text row.name) (filter (λ row. row.optional) nodes))) (parted_behind (codes ",") (wait_texts c.args.wait)))
