@@ -1,4 +1,5 @@
 pub mod Faults
+pub mod FieldCodecs
 pub mod Items
 pub mod Numbers
 pub mod Ranges

@@ -25,6 +25,15 @@ TakesAs {X = X} read text Is = (r : Rest) (x : X × Rest) → IsBytes r.bytes �
 abbrev pub Again : {X : Type 0} → (Rest → Field X) → List ℕ → X → Type 0
 Again read text x = (at : ℕ) (rest : List ℕ) → read (record { at = at; bytes = text ++ rest }) ≡ Ok (x, record { at = at + length text; bytes = rest })
 
+-- What is read is spelled so and in form, and what is in form is read from its spelling, wherever it stands.
+pub record IsCodec {X : Type 0} (read : Rest → Field X) (text : X → List ℕ) (Is : X → Type 0) : Type 0 where
+  pub takes : TakesAs read text Is
+  pub again : (x : X) → Is x → Again read (text x) x
+
+-- what has to pass a test
+abbrev pub Passes : {X : Type 0} → (X → Type 0) → (X → Bool) → X → Type 0
+Passes Is good x = Is x × (good x ≡ true)
+
 -- What a call read of r, as view shows it, is spelled by text, and Is holds of it.
 abbrev pub IsFoundAs : {X Y : Type 0} → (X → Y × Rest) → (Y → List ℕ) → (Y → Type 0) → Rest → Result X ReadFault → Type 0
 IsFoundAs view text Is r result = IsBytes r.bytes → IfOk result (λ x. Takes r (text (view x).0) (view x).1 × Is (view x).0)

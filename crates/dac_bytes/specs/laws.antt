@@ -1,7 +1,7 @@
+pub mod Ascending
 pub mod Calls
 pub mod Codecs
 pub mod ContextLaws
-pub mod FieldCodecs
 pub mod Fields
 pub mod FurtherLaws
 pub mod RisingLaws

@@ -6,9 +6,9 @@
 //! value, so a value has one spelling, and of a context it is proved that its rows tell which dots it has.
 //!
 //! Each call of [`ByteReader`] gives exactly the value that its bytes spell, or the first fault from left
-//! to right with the place of its byte, as the reading functions of `specs/` have it. Their laws stand
-//! beside them: what is read of a field is spelled so and is in range, and what is in range is read from
-//! its spelling, whatever follows. So of each field, and of contexts, there is one spelling that is read.
+//! to right with the place of its byte, as the reading functions of `specs/` have it. The contract of
+//! [`laws::fields_have_one_spelling`] says that what is read of a field is spelled so and is in range, and that
+//! what is in range is read from its spelling. So of each field, and of contexts, there is one spelling that is read.
 //!
 //! `NoMemory` stands at 0, and says nothing of the bytes. A count that doesn't fit its field is written by
 //! its lowest bits. Reading a context reserves nothing for a count.
@@ -16,6 +16,7 @@
 
 mod context;
 mod fault;
+pub mod laws;
 mod reader;
 mod rows;
 mod writer;

@@ -1,3 +1,16 @@
+pub mod Apps
+pub mod ChainClaims
+pub mod ChainEntries
+pub mod ChainLaws
+pub mod ChainLives
+pub mod Entries
+pub mod InOrder
 pub mod Kept
+pub mod KeyFields
+pub mod KeyedLaws
+pub mod KeyedLists
+pub mod KeyedPermits
+pub mod KeyedStarts
+pub mod PartCodecs
 pub mod ReadFacts
 pub mod ReadLoops

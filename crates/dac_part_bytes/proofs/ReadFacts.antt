@@ -28,8 +28,8 @@ use Rattle.dac_bytes.specs.declared.fault.ReadFaultKind.TheVariants.{BadNumber, 
 use Rattle.dac_bytes.specs.Reading.{Rest, fault, ◌>>=◌, number_at, range_at, node_at, dot_at, dot_above_at, items_at, is_above}
 use Rattle.dac_bytes.specs.Takes.{bind_ok, guard_ok, wanted_ok, ok_is}
 use Rattle.dac_part_bytes.specs.Reading.{known_dot_at, permit_at, value_of, some_at, permits_of_key_at, key_at, listed_key_at, keyed_permits_at, dots_of_key_at, keyed_dots_at, node_above_at, inc_and_flag_at, life_at, claim_at, listed_claim_at}
-use Rattle.dac_part_bytes.specs.laws.Ascending.{IsNext, counted_chain, items_chain, chain_each}
-use Rattle.dac_part_bytes.specs.laws.InOrder.{not_empty, not_empty_set}
+use Rattle.dac_bytes.specs.laws.Ascending.{IsNext, counted_chain, items_chain, chain_each}
+use Rattle.dac_part_bytes.proofs.InOrder.{not_empty, not_empty_set}
 
 -- ---- dots
 

@@ -19,7 +19,7 @@ use Rattle.dac_store.specs.Appending.{is_above_dots, is_above_entries, rising_ap
 use Rattle.dac_chains.specs.Greatest.{greater, get-greater}
 use Rattle.dac_bytes.specs.Reading.{Rest, Field, items_at}
 use Rattle.dac_bytes.specs.Items.{with_front}
-use Rattle.dac_part_bytes.specs.laws.Ascending.{Reaches}
+use Rattle.dac_bytes.specs.laws.Ascending.{Reaches}
 
 with_none : {X : Type 0} (read : Field (List X)) → with_front [] read ≡ read
 with_none (Ok y) = refl

@@ -1,18 +1,20 @@
 -- What permits and start wishes have to be so that they can be read. They are of keys that the configuration has, by
 -- dots that are known, and so many that the counts fit their fields.
-use Rattle.std.specs.Prelude.{◌≡◌, ◌<◌, ◌^◌, true, length, is_some}
+use Rattle.std.specs.Prelude.{◌≡◌, ◌<◌, ◌^◌, true, length, Option, is_some}
 use Rattle.std.specs.FinSet as set
 use Rattle.std.specs.FinMap as map
 use Rattle.dac_dots.specs.declared.dot.Dot.{Dot}
 use Rattle.dac_dots.specs.Dots.{Dots}
 use Rattle.dac_dots.specs.InOrder.{in_order}
 use Rattle.dac_wishes.specs.declared.key.Key.{Key}
+use Rattle.dac_wishes.specs.Keys.{key_cmp}
 use Rattle.dac_wishes.specs.Writes.{Write, Writes, dots_at}
 use Rattle.dac_wishes.specs.PermissionsValue.{Permits, permits_at}
 use Rattle.dac_wishes.specs.PermitsByKey.{permits_by_key}
 use Rattle.dac_wishes.specs.StartsByKey.{starts_by_key}
 use Rattle.dac_config.specs.Table.{Table, node_count, app_count}
 use Rattle.dac_bytes.specs.Ranges.{IsOrigin, IsDot}
+use Rattle.dac_bytes.specs.Reading.{is_above}
 use Rattle.dac_part_bytes.specs.Reading.{is_listed}
 use Rattle.dac_part_bytes.specs.Spelling.{origin_of}
 
@@ -21,6 +23,10 @@ pub record IsKey (t : Table) (key : Key) : Type 0 where
   pub app : key.app.0 < app_count t
   pub origin : IsOrigin (node_count t) (origin_of key)
   pub listed : is_listed t key.app key.node ≡ true
+
+-- a key above the one before it
+abbrev pub IsKeyAbove : Table → Option Key → Key → Type 0
+IsKeyAbove t before key = IsKey t key × (is_above key_cmp before key ≡ true)
 
 -- a dot that there can be, and that is known
 pub record IsKnownDot (t : Table) (known : Dots) (d : Dot) : Type 0 where

@@ -26,14 +26,7 @@ use Rattle.dac_wishes.specs.StoredPermits.{DotFlags, permits_of}
 use Rattle.dac_wishes.specs.StoredWishes.{writes_of}
 use Rattle.dac_config.specs.Table.{Table, node_count, app_count, group_of}
 use Rattle.dac_bytes.specs.declared.fault.ReadFaultKind.TheVariants.{BadNumber, BadOrder, BadName, NotInList, NotKnown}
-use Rattle.dac_bytes.specs.Reading.{Rest, Field, fault, ◌>>=◌, number_at, range_at, node_at, incarnation_at, counter_at, origin_at, dot_above_at, items_at, is_above}
-
--- a count, and so many items, each above the one before it by its key
-unfoldable pub counted_at : {K X : Type 0} → (Rest → Field ℕ) → (Option K → Rest → Field X) → (X → K) → Rest → Field (List X)
-counted_at count item key r = do
-  n ← count r
-  xs ← items_at item (λ x. Some (key x)) n.0 None n.1
-  Ok (xs.0, xs.1)
+use Rattle.dac_bytes.specs.Reading.{Rest, Field, fault, ◌>>=◌, number_at, range_at, node_at, incarnation_at, counter_at, origin_at, dot_above_at, is_above, counted_at}
 
 -- ---- keys
 

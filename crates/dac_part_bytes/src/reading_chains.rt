@@ -55,7 +55,7 @@ fn read_counted_lives<'a>(
 }
 
 /// The lives.
-#[tactic(auto, unfolding(crate::specs::Reading::all_lives_at, crate::specs::Reading::lives_in_order_at, crate::specs::Reading::counted_at))]
+#[tactic(auto, unfolding(crate::specs::Reading::all_lives_at, crate::specs::Reading::lives_in_order_at, dac_bytes::specs::Reading::counted_at))]
 fn read_all_lives<'a>(
     reader: ByteReader<'a>,
     alloc: Global,
@@ -205,7 +205,7 @@ fn read_counted_claims<'a>(
 }
 
 /// The claims.
-#[tactic(auto, unfolding(crate::specs::Reading::all_claims_at, crate::specs::Reading::claims_in_order_at, crate::specs::Reading::counted_at))]
+#[tactic(auto, unfolding(crate::specs::Reading::all_claims_at, crate::specs::Reading::claims_in_order_at, dac_bytes::specs::Reading::counted_at))]
 fn read_all_claims<'a>(
     reader: ByteReader<'a>,
     alloc: Global,

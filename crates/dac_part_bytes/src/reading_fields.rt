@@ -2,6 +2,10 @@
 ghost use Rattle.std.specs.Prelude.{◌≡◌, ◌<◌, IfOk};
 ghost use Rattle.dac_config.specs.Table.{app_count};
 ghost use Rattle.dac_bytes.specs.Reading.{IsOfBytes};
+ghost use Rattle.dac_bytes.specs.Takes.{IsFoundAs, IsReadAgain};
+ghost use Rattle.dac_part_bytes.specs.ChainForm.{IsFromFor};
+ghost use Rattle.dac_part_bytes.specs.KeyedForm.{IsKeyAbove};
+ghost use Rattle.dac_part_bytes.specs.Spelling.{app_bytes, key_bytes, manner_bytes};
 ghost use Rattle.dac_part_bytes.specs.Reading.{app_at, fitting_code_at, flag_of, from_at, from_code_at, from_of, how_at, how_of, inc_and_flag_at, is_from_of, is_listed, key_at, key_fields_at, known_dot_at, listed_key_at, manner_at, node_above_at, permit_at, some_at, value_of};
 
 use dac_base::{AppId, NodeId};
@@ -12,10 +16,11 @@ use dac_dots::{Context, Dot};
 use dac_lattice::Flag;
 use dac_wishes::Key;
 
-/// An application in two bytes. One that isn't below the number of applications is `BadName` at its first
-/// byte.
 #[tactic(auto, unfolding(crate::specs::Reading::app_at))]
-pub fn read_app<'a>(reader: ByteReader<'a>, apps: u16) -> Result<(AppId, ByteReader<'a>), ReadFault>
+fn read_app_below<'a>(
+    reader: ByteReader<'a>,
+    apps: u16,
+) -> Result<(AppId, ByteReader<'a>), ReadFault>
     ensures exact { result ≡ app_at apps reader.entry }
     ensures real { IsOfBytes result }
     ensures below { IfOk result (λ x. x.0.0 < apps) }
@@ -30,6 +35,20 @@ pub fn read_app<'a>(reader: ByteReader<'a>, apps: u16) -> Result<(AppId, ByteRea
             at,
         })
     }
+}
+
+/// An application in two bytes. One that isn't below the number of applications is `BadName` at its first
+/// byte.
+pub fn read_app<'a>(reader: ByteReader<'a>, apps: u16) -> Result<(AppId, ByteReader<'a>), ReadFault>
+    ensures exact { result ≡ app_at apps reader.entry }
+    ensures real { IsOfBytes result }
+    ensures below { IfOk result (λ x. x.0.0 < apps) }
+    // What is read is spelled so, and one that there is.
+    ensures found { IsFoundAs (λ x. x) app_bytes (λ app. app.0 < apps) reader.entry result }
+    // One that there is is read from its spelling.
+    ensures again { IsReadAgain (λ x. x) app_bytes (λ app. app.0 < apps) reader.entry result }
+{
+    read_app_below(reader, apps)
 }
 
 /// Whether the node is in the application's list.
@@ -79,12 +98,8 @@ fn read_listed_key<'a>(
     }
 }
 
-/// A key above the one before it, where there is one. Its application and its node are `BadName` at their
-/// first byte where the configuration hasn't them, and its incarnation `BadNumber` where it is 0. Then the
-/// key is `NotInList` at its first byte where the node isn't in the application's list, and `BadOrder`
-/// there where it isn't above.
 #[tactic(auto, unfolding(crate::specs::Reading::key_at))]
-pub fn read_key<'a>(
+fn read_key_above<'a>(
     reader: ByteReader<'a>,
     config: &Config,
     before: Option<Key>,
@@ -102,6 +117,28 @@ pub fn read_key<'a>(
             at,
         })
     }
+}
+
+/// A key above the one before it, where there is one. Its application and its node are `BadName` at their
+/// first byte where the configuration hasn't them, and its incarnation `BadNumber` where it is 0. Then the
+/// key is `NotInList` at its first byte where the node isn't in the application's list, and `BadOrder`
+/// there where it isn't above.
+pub fn read_key<'a>(
+    reader: ByteReader<'a>,
+    config: &Config,
+    before: Option<Key>,
+) -> Result<(Key, ByteReader<'a>), ReadFault>
+    ensures exact { result ≡ key_at config.now before reader.entry }
+    ensures real { IsOfBytes result }
+    // What is read is spelled so, and in form.
+    ensures found { IsFoundAs (λ x. x) key_bytes (IsKeyAbove config.now before) reader.entry result }
+    // What is spelled so and in form is read.
+    ensures again { IsReadAgain (λ x. x) key_bytes (IsKeyAbove config.now before) reader.entry result }
+{
+    // Nodes are numbered in one byte, and applications in two.
+    let _nodes = config.nodes();
+    let _apps = config.apps();
+    read_key_above(reader, config, before)
 }
 
 /// A dot above the one before it, which is known.
@@ -297,11 +334,8 @@ fn read_from<'a>(
     Ok((from_of(code), rest))
 }
 
-/// How an application came to its node, and from which. The first is `BadNumber` at its byte where it isn't
-/// 1 to 3. The second is `BadName` at its byte where it is above the number of nodes, and else `BadNumber`
-/// where it isn't 0 exactly for a start.
 #[tactic(auto, unfolding(crate::specs::Reading::manner_at))]
-pub fn read_manner<'a>(
+fn read_how_and_from<'a>(
     reader: ByteReader<'a>,
     nodes: u8,
 ) -> Result<((How, Option<NodeId>), ByteReader<'a>), ReadFault>
@@ -311,4 +345,21 @@ pub fn read_manner<'a>(
     let (how, rest) = read_how(reader)?;
     let (from, rest) = read_from(rest, nodes, how)?;
     Ok(((how, from), rest))
+}
+
+/// How an application came to its node, and from which. The first is `BadNumber` at its byte where it isn't
+/// 1 to 3. The second is `BadName` at its byte where it is above the number of nodes, and else `BadNumber`
+/// where it isn't 0 exactly for a start.
+pub fn read_manner<'a>(
+    reader: ByteReader<'a>,
+    nodes: u8,
+) -> Result<((How, Option<NodeId>), ByteReader<'a>), ReadFault>
+    ensures exact { result ≡ manner_at nodes reader.entry }
+    ensures real { IsOfBytes result }
+    // What is read is spelled so, and where it came from fits how it came.
+    ensures found { IsFoundAs (λ x. x) (λ m. manner_bytes m.0 m.1) (λ m. IsFromFor nodes m.0 m.1) reader.entry result }
+    // What fits is read from its spelling.
+    ensures again { IsReadAgain (λ x. x) (λ m. manner_bytes m.0 m.1) (λ m. IsFromFor nodes m.0 m.1) reader.entry result }
+{
+    read_how_and_from(reader, nodes)
 }

@@ -45,7 +45,7 @@ fn read_permits<'a>(
 }
 
 /// The permits of a key.
-#[tactic(auto, unfolding(crate::specs::Reading::permits_of_key_at, crate::specs::Reading::counted_at))]
+#[tactic(auto, unfolding(crate::specs::Reading::permits_of_key_at, dac_bytes::specs::Reading::counted_at))]
 fn read_permits_of_key<'a>(
     reader: ByteReader<'a>,
     alloc: Global,
@@ -99,7 +99,7 @@ fn read_keys_of_permits<'a>(
 }
 
 /// The permits, by key.
-#[tactic(auto, unfolding(crate::specs::Reading::permits_by_key_at, crate::specs::Reading::counted_at))]
+#[tactic(auto, unfolding(crate::specs::Reading::permits_by_key_at, dac_bytes::specs::Reading::counted_at))]
 fn read_permits_by_key<'a>(
     reader: ByteReader<'a>,
     alloc: Global,
@@ -190,7 +190,7 @@ fn read_dots<'a>(
 }
 
 /// The dots of a key.
-#[tactic(auto, unfolding(crate::specs::Reading::dots_of_key_at, crate::specs::Reading::counted_at))]
+#[tactic(auto, unfolding(crate::specs::Reading::dots_of_key_at, dac_bytes::specs::Reading::counted_at))]
 fn read_dots_of_key<'a>(
     reader: ByteReader<'a>,
     alloc: Global,
@@ -244,7 +244,7 @@ fn read_keys_of_dots<'a>(
 }
 
 /// The start wishes, by key.
-#[tactic(auto, unfolding(crate::specs::Reading::starts_by_key_at, crate::specs::Reading::counted_at))]
+#[tactic(auto, unfolding(crate::specs::Reading::starts_by_key_at, dac_bytes::specs::Reading::counted_at))]
 fn read_starts_by_key<'a>(
     reader: ByteReader<'a>,
     alloc: Global,

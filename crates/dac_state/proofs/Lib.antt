@@ -1,2 +1,4 @@
 mod Making
 mod Reading
+mod StateCodec
+mod StatePieces

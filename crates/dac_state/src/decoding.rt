@@ -2,13 +2,13 @@
 ghost use Rattle.std.specs.Prelude.{◌≡◌, IfOk, Ok};
 ghost use Rattle.dac_dots.specs.Dots.{IsSubset};
 ghost use Rattle.dac_bytes.specs.Reading.{Gives};
-ghost use Rattle.dac_bytes.specs.Takes.{IsBytes, IsFoundAs, IsReadAgain};
+ghost use Rattle.dac_bytes.specs.Takes.{IsFoundAs, IsReadAgain};
 ghost use Rattle.dac_meaning.specs.StateValue.{StateValue};
 ghost use Rattle.dac_state.specs.StateForm.{IsInForm};
-ghost use Rattle.dac_state.specs.StatePieces.{AreChains, AreDots, ArePieces, AreStanding, chains_bytes, dots_bytes, pieces_bytes, standing_bytes};
 ghost use Rattle.dac_state.specs.StateSpelling.{spelling_of};
 ghost use Rattle.dac_state.specs.StateReading.{dots_at, standing_at, chains_at, pieces_at, parts_at, state_at};
 
+use crate::laws::states_have_one_spelling;
 use crate::parts::Parts;
 use crate::state::State;
 use dac_bytes::{ByteReader, ReadFault, ReadFaultKind};
@@ -29,8 +29,6 @@ fn read_dots<'a>(
 ) -> Result<((Context, Context), ByteReader<'a>), ReadFault>
     ensures exact { Gives (λ x. x) result (dots_at nodes reader.entry) }
     ensures within { IfOk result (λ x. IsSubset x.0.0 x.0.1) }
-    ensures found { IsFoundAs (λ x. x) dots_bytes (AreDots nodes) reader.entry result }
-    ensures again { IsReadAgain (λ x. x) dots_bytes (AreDots nodes) reader.entry result }
 {
     let (heard, rest) = reader.read_context(alloc, nodes)?;
     let (known, rest) = rest.read_context(alloc, nodes)?;
@@ -54,8 +52,6 @@ fn read_standing<'a>(
     ensures exact { Gives (λ x. ((x.0.0.standing, x.0.1.standing), x.1)) result (standing_at config.now known.now reader.entry) }
     ensures permitted { IfOk result (λ x. x.0.0.known ≡ known.now) }
     ensures wished { IfOk result (λ x. x.0.1.known ≡ known.now) }
-    ensures found { IsFoundAs (λ x. ((x.0.0.standing, x.0.1.standing), x.1)) standing_bytes (AreStanding config.now known.now) reader.entry result }
-    ensures again { IsReadAgain (λ x. ((x.0.0.standing, x.0.1.standing), x.1)) standing_bytes (AreStanding config.now known.now) reader.entry result }
 {
     let (permissions, rest) = read_permissions(reader, alloc, config, known)?;
     let (wishes, rest) = read_wishes(rest, alloc, config, known)?;
@@ -69,9 +65,7 @@ fn read_chains<'a>(
     alloc: Global,
     config: &Config,
 ) -> Result<((Lives, Claims), ByteReader<'a>), ReadFault>
-    ensures exact { Gives (λ x. x) result (chains_at config.now reader.entry) }
-    ensures found { IsFoundAs (λ x. x) chains_bytes (AreChains config.now) reader.entry result }
-    ensures again { IsReadAgain (λ x. x) chains_bytes (AreChains config.now) reader.entry result }
+    ensures { Gives (λ x. x) result (chains_at config.now reader.entry) }
 {
     let (lives, rest) = read_lives(reader, alloc, config)?;
     let (claims, rest) = read_claims(rest, alloc, config)?;
@@ -92,8 +86,6 @@ fn read_pieces<'a>(
     ensures exact { Gives (λ x. (((x.0.0.0.standing, x.0.0.1.standing), x.0.1), x.1)) result (pieces_at config.now known.now reader.entry) }
     ensures permitted { IfOk result (λ x. x.0.0.0.known ≡ known.now) }
     ensures wished { IfOk result (λ x. x.0.0.1.known ≡ known.now) }
-    ensures found { IsFoundAs (λ x. (((x.0.0.0.standing, x.0.0.1.standing), x.0.1), x.1)) pieces_bytes (ArePieces config.now known.now) reader.entry result }
-    ensures again { IsReadAgain (λ x. (((x.0.0.0.standing, x.0.0.1.standing), x.0.1), x.1)) pieces_bytes (ArePieces config.now known.now) reader.entry result }
 {
     let (standing, rest) = read_standing(reader, alloc, config, known)?;
     let (chains, rest) = read_chains(rest, alloc, config)?;
@@ -107,9 +99,7 @@ fn read_parts<'a>(
     alloc: Global,
     config: &Config,
 ) -> Result<(Parts, ByteReader<'a>), ReadFault>
-    ensures exact { Gives (λ x. x) result (parts_at config.now reader.entry) }
-    ensures found { IsFoundAs (λ x. x) spelling_of (IsInForm config.now) reader.entry result }
-    ensures again { IsReadAgain (λ x. x) spelling_of (IsInForm config.now) reader.entry result }
+    ensures { Gives (λ x. x) result (parts_at config.now reader.entry) }
 {
     let ((heard, known), rest) = read_dots(reader, alloc, config.nodes())?;
     let (pieces, rest) = read_pieces(rest, alloc, config, &known)?;
@@ -120,12 +110,23 @@ fn read_parts<'a>(
     Ok((parts, rest))
 }
 
+/// A state.
+fn read_next<'a>(
+    reader: ByteReader<'a>,
+    alloc: Global,
+    config: &Config,
+) -> Result<(State, ByteReader<'a>), ReadFault>
+    ensures { Gives (λ x. x) result (parts_at config.now reader.entry) }
+{
+    let (parts, rest) = read_parts(reader, alloc, config)?;
+    let state = State::of(parts)?;
+    Ok((state, rest))
+}
+
 /// A state, and no byte after it.
 #[tactic(auto, unfolding(crate::specs::StateReading::state_at))]
 fn read_state(alloc: Global, config: &Config, bytes: &[u8]) -> Result<State, ReadFault>
-    ensures exact { Gives (λ s. s) result (state_at config.now bytes.now) }
-    ensures found { IsBytes bytes.now → IfOk result (λ s. IsInForm config.now s × (bytes.now ≡ spelling_of s)) }
-    ensures again { (s : StateValue) → IsInForm config.now s → bytes.now ≡ spelling_of s → Gives (λ s. s) result (Ok s) }
+    ensures { Gives (λ s. s) result (state_at config.now bytes.now) }
 {
     let (parts, rest) = read_parts(ByteReader::new(bytes), alloc, config)?;
     if rest.is_at_end() {
@@ -153,9 +154,8 @@ impl State {
         // What is spelled so and in form is read, unless memory runs out.
         ensures again { IsReadAgain (λ x. x) spelling_of (IsInForm config.now) reader.entry result }
     {
-        let (parts, rest) = read_parts(reader, alloc, config)?;
-        let state = State::of(parts)?;
-        Ok((state, rest))
+        states_have_one_spelling(config);
+        read_next(reader, alloc, config)
     }
 
     /// The state that the bytes spell, version 1, under a configuration.
@@ -173,6 +173,7 @@ impl State {
         // Which fault it is.
         ensures exact { Gives (λ s. s) result (state_at config.now bytes.now) }
     {
+        states_have_one_spelling(config);
         read_state(alloc, config, bytes)
     }
 }

@@ -9,6 +9,8 @@
 //! operations.
 #![tactic(auto)]
 
+pub mod laws;
+
 pub use dac_bytes::{ReadFault as StateFault, ReadFaultKind as StateFaultKind};
 pub use dac_chains::{Claim, Claims, How, Life, Lives};
 pub use dac_operations::{Act, Op, OpFault};

@@ -1,10 +1,14 @@
 -- What a call gives, by what the calls that it makes give.
-use Rattle.std.proofs.Common.{◌≡◌, ℕ, ◌<◌, ◌≤◌, ◌^◌, List, length, None, Some, Result, Ok, Err, refl, sym, ap, subst}
+use Rattle.std.proofs.Common.{◌≡◌, ℕ, ◌≤◌, List, length, None, Some, Result, Ok, Err, refl, sym, ap, subst}
 use Rattle.std.specs.Prelude.{IfOk}
-use Rattle.dac_config.specs.Table.{Table, node_count, app_count}
+use Rattle.dac_config.specs.Table.{Table}
 use Rattle.dac_bytes.specs.Reading.{after, whole}
-use Rattle.dac_bytes.specs.Takes.{IsBytes}
+use Rattle.dac_bytes.specs.Takes.{IsBytes, IsCodec}
 use Rattle.dac_bytes.specs.declared.fault.ReadFault.{ReadFault}
+use Rattle.dac_part_bytes.specs.PartCodecs.{PartCodecs}
+use Rattle.dac_state.specs.StateForm.{IsInForm}
+use Rattle.dac_state.specs.StateReading.{parts_at}
+use Rattle.dac_state.specs.StateSpelling as state
 use Rattle.dac_wire.specs.Decoding.{front_fault, unless, packet_at}
 use Rattle.dac_wire.specs.Faults.{Fails, Gives, in_packet}
 use Rattle.dac_wire.specs.Reading.{fields_at}
@@ -49,13 +53,13 @@ module _ (t : Table) (bytes : List ℕ) where
   unfolding packet_at
   gives_fields result is gives = subst (Gives result) (sym (ap (λ f. unless f (in_packet (fields_at t (after 12 (whole bytes))))) is)) gives
 
-  module _ (few_nodes : node_count t < 2 ^ 8) (few_apps : app_count t ≤ 2 ^ 16) where
+  module _ (parts : PartCodecs t) (states : IsCodec (parts_at t) state.spelling_of (IsInForm t)) where
     -- what the fields give is spelled by the bytes, and in form
     pub found_fields : IsBytes bytes → front_fault t bytes ≡ None → (result : Result Packet WireFault) → Gives result (in_packet (fields_at t (after 12 (whole bytes))))
         → IfOk result (λ p. IsPacket t p × (bytes ≡ spelling_of t p) × (length bytes ≤ MAX_MESSAGE))
-    found_fields fits is (Ok p) gives = packet_found t few_nodes few_apps bytes p fits is (given_ok (fields_at t (after 12 (whole bytes))) p gives)
+    found_fields fits is (Ok p) gives = packet_found t parts states bytes p fits is (given_ok (fields_at t (after 12 (whole bytes))) p gives)
     found_fields fits is (Err e) gives = tt
 
     -- what is spelled so and in form is given
     pub only_packet : (result : Result Packet WireFault) → Gives result (packet_at t bytes) → (p : Packet) → IsPacket t p → bytes ≡ spelling_of t p → length bytes ≤ MAX_MESSAGE → Gives result (Ok p)
-    only_packet result gives p is text short = subst (Gives result) (packet_again t few_nodes few_apps bytes p is text short) gives
+    only_packet result gives p is text short = subst (Gives result) (packet_again t parts states bytes p is text short) gives

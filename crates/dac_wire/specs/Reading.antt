@@ -11,8 +11,8 @@ use Rattle.dac_wishes.specs.declared.key.Key.{Key}
 use Rattle.dac_config.specs.Table.{Table, node_count, app_count}
 use Rattle.dac_bytes.specs.declared.fault.ReadFault.{ReadFault}
 use Rattle.dac_bytes.specs.declared.fault.ReadFaultKind.TheVariants.{BadNumber, NotInList, Trailing}
-use Rattle.dac_bytes.specs.Reading.{Rest, Field, fault, ◌>>=◌, number_at, range_at, node_at, counter_at, origin_at, dot_at, dot_above_at}
-use Rattle.dac_part_bytes.specs.Reading.{counted_at, app_at, key_at, manner_at, is_listed}
+use Rattle.dac_bytes.specs.Reading.{Rest, Field, fault, ◌>>=◌, number_at, range_at, node_at, counter_at, origin_at, dot_at, dot_above_at, counted_at}
+use Rattle.dac_part_bytes.specs.Reading.{app_at, key_at, manner_at, is_listed}
 use Rattle.dac_meaning.specs.StateValue.{StateValue}
 use Rattle.dac_state.specs.StateReading.{parts_at}
 use Rattle.dac_messages.specs.declared.message.Body.{Body}

@@ -17,6 +17,8 @@ use crate::writing::write_content;
 use dac_base::NoMemory;
 use dac_bytes::{ByteReader, ByteWriter};
 use dac_config::Config;
+use dac_part_bytes::laws::parts_have_one_spelling;
+use dac_state::laws::states_have_one_spelling;
 use std::alloc::Global;
 
 /// The name of the format.
@@ -86,9 +88,8 @@ pub fn decode(alloc: Global, config: &Config, bytes: &[u8]) -> Result<Packet, Wi
     // Which fault it is.
     ensures exact { Gives result (packet_at config.now bytes.now) }
 {
-    // Nodes are numbered in one byte, and applications in two.
-    let _nodes = config.nodes();
-    let _apps = config.apps();
+    parts_have_one_spelling(config);
+    states_have_one_spelling(config);
     match front_fault(config, bytes) {
         Some(fault) => Err(fault),
         None => decode_fields(alloc, config, bytes),

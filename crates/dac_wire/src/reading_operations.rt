@@ -38,7 +38,7 @@ fn read_dots<'a>(
 }
 
 /// The dots that an act replaces.
-#[tactic(auto, unfolding(crate::specs::Reading::over_at, dac_part_bytes::specs::Reading::counted_at))]
+#[tactic(auto, unfolding(crate::specs::Reading::over_at, dac_bytes::specs::Reading::counted_at))]
 fn read_over<'a>(
     reader: ByteReader<'a>,
     alloc: Global,

@@ -1,14 +1,9 @@
--- Fields whose values and spellings are one to one, and how one is made of others.
+-- How fields whose values and spellings are one to one are made of others.
 use Rattle.std.specs.Prelude.{◌≡◌, ℕ, ◌+◌, Bool, true, false, cond, List, ◌++◌, length, Result, Ok, Err, refl}
 use Rattle.std.proofs.Common.{sym, ap, subst, ◌∙◌}
 use Rattle.dac_bytes.specs.declared.fault.ReadFault.{ReadFault}
 use Rattle.dac_bytes.specs.Reading.{Rest, Field, ◌>>=◌}
-use Rattle.dac_bytes.specs.Takes.{Takes, TakesAs, TakesAs-more, TakesAs-made, TakesAs-both, Again, Again-made, Again-both, bind_ok}
-
--- What is read is spelled so and in form, and what is in form is read from its spelling, wherever it stands.
-pub record IsCodec {X : Type 0} (read : Rest → Field X) (text : X → List ℕ) (Is : X → Type 0) : Type 0 where
-  pub takes : TakesAs read text Is
-  pub again : (x : X) → Is x → Again read (text x) x
+use Rattle.dac_bytes.specs.Takes.{IsCodec, Passes, Takes, TakesAs-more, TakesAs-made, TakesAs-both, Again, Again-made, Again-both, bind_ok}
 
 -- what reads alike is one to one alike
 pub codec_alike : {X : Type 0} (read other : Rest → Field X) (text : X → List ℕ) (Is : X → Type 0) → ((r : Rest) → other r ≡ read r) → IsCodec read text Is → IsCodec other text Is
@@ -21,10 +16,6 @@ codec_alike read other text Is alike codec = record {
 pub bind_bind : {A B C : Type 0} (m : Result A ReadFault) (f : A → Result B ReadFault) (g : B → Result C ReadFault) → ((m >>= f) >>= g) ≡ (m >>= λ x. f x >>= g)
 bind_bind (Ok x) f g = refl
 bind_bind (Err e) f g = refl
-
--- what has to pass a test
-abbrev pub Passes : {X : Type 0} → (X → Type 0) → (X → Bool) → X → Type 0
-Passes Is good x = Is x × (good x ≡ true)
 
 module _ {X : Type 0} (read : Rest → Field X) (text : X → List ℕ) (Is : X → Type 0) (codec : IsCodec read text Is) where
   -- the same form in other words

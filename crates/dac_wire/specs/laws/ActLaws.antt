@@ -13,19 +13,20 @@ use Rattle.dac_wishes.specs.declared.key.Key.{Key}
 use Rattle.dac_config.specs.Table.{Table, node_count, app_count}
 use Rattle.dac_bytes.specs.declared.fault.ReadFault.{ReadFault}
 use Rattle.dac_bytes.specs.declared.fault.ReadFaultKind.TheVariants.{BadNumber, NotInList}
-use Rattle.dac_bytes.specs.laws.Codecs.{IsCodec, Passes, codec_same, codec_wanted, codec_both, codec_pair}
-use Rattle.dac_bytes.specs.laws.FieldCodecs.{u8_in_codec, u16_codec, counter_codec, origin_codec, dot_codec, dot_above_codec}
+use Rattle.dac_bytes.specs.FieldCodecs.{FieldCodecs}
+use Rattle.dac_bytes.specs.laws.Ascending.{AreCounted, counted_codec}
+use Rattle.dac_bytes.specs.laws.Codecs.{codec_same, codec_wanted, codec_both, codec_pair}
 use Rattle.dac_bytes.specs.Numbers.{u8_bytes, u16_bytes, u64_bytes}
 use Rattle.dac_bytes.specs.Ranges.{IsOrigin, IsDot}
 use Rattle.dac_bytes.specs.Reading.{Rest, number_at, range_at, counter_at, origin_at, dot_at, dot_above_at}
 use Rattle.dac_bytes.specs.Spelling.{dot_bytes, origin_bytes}
-use Rattle.dac_bytes.specs.Takes.{Takes, TakesAs, Takes-none, TakesAs-made, Again, Again-made, ok_is}
+use Rattle.dac_bytes.specs.Takes.{IsCodec, Passes, Takes, TakesAs, Takes-none, TakesAs-made, Again, Again-made, ok_is}
 use Rattle.dac_part_bytes.specs.ChainForm.{IsFromFor}
-use Rattle.dac_part_bytes.specs.KeyedForm.{IsKey}
+use Rattle.dac_part_bytes.specs.KeyedForm.{IsKey, IsKeyAbove}
 use Rattle.dac_part_bytes.specs.Reading.{app_at, key_at, manner_at, is_listed}
 use Rattle.dac_part_bytes.specs.Spelling.{app_bytes, key_bytes, manner_bytes}
-use Rattle.dac_part_bytes.specs.laws.InOrder.{each_itself}
-use Rattle.dac_part_bytes.specs.laws.PartCodecs.{AreCounted, counted_codec, app_codec, key_codec, manner_codec}
+use Rattle.std.proofs.lemmas.List.{map-id}
+use Rattle.dac_part_bytes.specs.PartCodecs.{PartCodecs}
 use Rattle.dac_operations.specs.declared.act.Act.{Act}
 use Rattle.dac_operations.specs.declared.act.Act.TheVariants.{Up as UpAct, Down as DownAct, Permit as PermitAct, Start as StartAct, Stop as StopAct, Claim as ClaimAct}
 use Rattle.dac_operations.specs.Operations.{Operation, operation, fault_of}
@@ -39,7 +40,7 @@ use Rattle.dac_wire.specs.laws.CodeLaws.{IsAny, act_kind_bytes, act_kind_codec, 
 
 -- ---- the dots that an act replaces
 
-module _ (nodes : ℕ) (few : nodes ≤ 2 ^ 8) where
+module _ (nodes : ℕ) (fields : FieldCodecs nodes) where
   abbrev itself : Dot → Dot
   itself d = d
 
@@ -50,16 +51,16 @@ module _ (nodes : ℕ) (few : nodes ≤ 2 ^ 8) where
   AreDots = AreCounted dots_total itself (IsDot nodes) (dot_above_at nodes) (number_at w16) u16_bytes dot_bytes IsCount
 
   over_is : (over : List Dot) → AreDots over → AreOver nodes over
-  over_is over is = record { each = is.1; rising = subst (IsRising dot_cmp) (each_itself over) is.2; count = is.0 }
+  over_is over is = record { each = is.1; rising = subst (IsRising dot_cmp) (map-id over) is.2; count = is.0 }
 
   dots_are : (over : List Dot) → AreOver nodes over → AreDots over
-  dots_are over is = (is.count, is.each, subst (IsRising dot_cmp) (sym (each_itself over)) is.rising)
+  dots_are over is = (is.count, is.each, subst (IsRising dot_cmp) (sym (map-id over)) is.rising)
 
   pub over_codec : IsCodec (over_at nodes) over_bytes (AreOver nodes)
   unfolding over_at over_bytes
   over_codec =
       codec_same (over_at nodes) over_bytes AreDots
-      (counted_codec dots_total itself (IsDot nodes) (dot_above_at nodes) (number_at w16) u16_bytes dot_bytes IsCount u16_codec (dot_above_codec nodes few))
+      (counted_codec dots_total itself (IsDot nodes) (dot_above_at nodes) (number_at w16) u16_bytes dot_bytes IsCount fields.u16 fields.dot_above)
       (AreOver nodes) over_is dots_are
 
   -- ---- what a permit says
@@ -79,7 +80,7 @@ module _ (nodes : ℕ) (few : nodes ≤ 2 ^ 8) where
   valued_over_codec : IsCodec (valued_over_at nodes) valued_bytes IsValued
   unfolding valued_over_at
   valued_over_codec =
-      codec_both (range_at w8 0 1) u8_bytes (λ n. (0 ≤ n) × (n ≤ 1)) (u8_in_codec 0 1 (omega arith)) (λ _ r. over_at nodes r) (λ _. over_bytes) (λ _. AreOver nodes) (λ _ _. over_codec)
+      codec_both (range_at w8 0 1) u8_bytes (λ n. (0 ≤ n) × (n ≤ 1)) (fields.u8_in 0 1 (omega arith)) (λ _ r. over_at nodes r) (λ _. over_bytes) (λ _. AreOver nodes) (λ _ _. over_codec)
       (λ n over. (value_of_code n, over)) valued_bytes IsValued
       (λ n over is so. (ap (λ n. u8_bytes n ++ over_bytes over) (value_number n is.1), so)) (λ v is. (value_code v.0, v.1, value_fits v.0, is, (λ i. (value_back v.0 i, v.1))))
 
@@ -101,12 +102,16 @@ is_none_from : {X : Type 0} (o : Option X) → is_none o ≡ true → o ≡ None
 is_none_from None e = refl
 is_none_from (Some x) e = absurd cc
 
-module _ (t : Table) (few_nodes : node_count t < 2 ^ 8) (few_apps : app_count t ≤ 2 ^ 16) where
+module _ (t : Table) (parts : PartCodecs t) where
   abbrev nodes : ℕ
   nodes = node_count t
 
-  few : nodes ≤ 2 ^ 8
-  few = omega arith
+  abbrev fields : FieldCodecs nodes
+  fields = parts.fields
+
+  -- a key alone
+  key_codec : IsCodec (key_at t None) key_bytes (IsKey t)
+  key_codec = codec_same (key_at t None) key_bytes (IsKeyAbove t None) (parts.key None) (IsKey t) (λ key is. is.0) (λ key is. (is, refl))
 
   -- ---- keys with dots
 
@@ -118,10 +123,10 @@ module _ (t : Table) (few_nodes : node_count t < 2 ^ 8) (few_apps : app_count t 
 
   keyed_over_codec : IsCodec (keyed_over_at t) keyed_bytes IsKeyed
   unfolding keyed_over_at
-  keyed_over_codec = codec_pair (key_at t None) key_bytes (IsKey t) (key_codec t few_nodes few_apps) (λ _ r. over_at nodes r) (λ _. over_bytes) (λ _. AreOver nodes) (λ _ _. over_codec nodes few)
+  keyed_over_codec = codec_pair (key_at t None) key_bytes (IsKey t) key_codec (λ _ r. over_at nodes r) (λ _. over_bytes) (λ _. AreOver nodes) (λ _ _. over_codec nodes fields)
 
   abbrev permit_bytes : Key × (Bool × List Dot) → List ℕ
-  permit_bytes p = key_bytes p.0 ++ valued_bytes nodes few p.1
+  permit_bytes p = key_bytes p.0 ++ valued_bytes nodes fields p.1
 
   abbrev IsPermit : Key × (Bool × List Dot) → Type 0
   IsPermit p = IsKey t p.0 × AreOver nodes p.1.1
@@ -129,27 +134,27 @@ module _ (t : Table) (few_nodes : node_count t < 2 ^ 8) (few_apps : app_count t 
   permit_fields_codec : IsCodec (permit_fields_at t) permit_bytes IsPermit
   unfolding permit_fields_at
   permit_fields_codec =
-      codec_pair (key_at t None) key_bytes (IsKey t) (key_codec t few_nodes few_apps) (λ _ r. valued_over_at nodes r) (λ _. valued_bytes nodes few) (λ _. IsValued nodes few) (λ _ _. valued_over_codec nodes few)
+      codec_pair (key_at t None) key_bytes (IsKey t) key_codec (λ _ r. valued_over_at nodes r) (λ _. valued_bytes nodes fields) (λ _. IsValued nodes fields) (λ _ _. valued_over_codec nodes fields)
 
   -- ---- claims
 
-  term_and_manner_codec : IsCodec (term_and_manner_at nodes) (term_and_manner_bytes nodes few) (IsTermAndManner nodes few)
+  term_and_manner_codec : IsCodec (term_and_manner_at nodes) (term_and_manner_bytes nodes fields) (IsTermAndManner nodes fields)
   unfolding term_and_manner_at
   term_and_manner_codec =
-      codec_pair counter_at u64_bytes (λ n. (1 ≤ n) × (n ≤ MAX_COUNTER)) counter_codec
-      (λ _ r. manner_at nodes r) (λ _ (m : How × Option NodeId). manner_bytes m.0 m.1) (λ _ m. IsFromFor nodes m.0 m.1) (λ _ _. manner_codec t few_nodes few_apps)
+      codec_pair counter_at u64_bytes (λ n. (1 ≤ n) × (n ≤ MAX_COUNTER)) fields.counter
+      (λ _ r. manner_at nodes r) (λ _ (m : How × Option NodeId). manner_bytes m.0 m.1) (λ _ m. IsFromFor nodes m.0 m.1) (λ _ _. parts.manner)
 
   abbrev claim_bytes : ClaimFields → List ℕ
-  claim_bytes c = app_bytes c.0 ++ term_and_manner_bytes nodes few c.1
+  claim_bytes c = app_bytes c.0 ++ term_and_manner_bytes nodes fields c.1
 
   abbrev AreFields : ClaimFields → Type 0
-  AreFields c = (c.0.0 < app_count t) × IsTermAndManner nodes few c.1
+  AreFields c = (c.0.0 < app_count t) × IsTermAndManner nodes fields c.1
 
   claim_fields_codec : IsCodec (claim_fields_at t) claim_bytes AreFields
   unfolding claim_fields_at
   claim_fields_codec =
-      codec_pair (app_at (app_count t)) app_bytes (λ app. app.0 < app_count t) (app_codec t few_nodes few_apps)
-      (λ _ r. term_and_manner_at nodes r) (λ _. term_and_manner_bytes nodes few) (λ _. IsTermAndManner nodes few) (λ _ _. term_and_manner_codec)
+      codec_pair (app_at (app_count t)) app_bytes (λ app. app.0 < app_count t) parts.app
+      (λ _ r. term_and_manner_at nodes r) (λ _. term_and_manner_bytes nodes fields) (λ _. IsTermAndManner nodes fields) (λ _ _. term_and_manner_codec)
 
   module _ (issuer : NodeId) where
     abbrev is_issuer_listed : ClaimFields → Bool
@@ -176,7 +181,7 @@ module _ (t : Table) (few_nodes : node_count t < 2 ^ 8) (few_apps : app_count t 
     unfolding act_fields_at act_fields_bytes origin_bytes
     fields_takes Up = λ r x fits e. subst (λ (x : Act × Rest). Takes r (act_fields_bytes x.0) x.1 × IsActOf Up x.0) (ok_is (UpAct, r) x e) (Takes-none r fits, (refl, tt))
     fields_takes Down =
-        TakesAs-made (origin_at nodes) origin_bytes (IsOrigin nodes) (λ (o : Origin). DownAct o.node o.inc) act_fields_bytes (IsActOf Down) (origin_codec nodes few).takes (λ o is. (refl, (refl, (is.node, is.inc))))
+        TakesAs-made (origin_at nodes) origin_bytes (IsOrigin nodes) (λ (o : Origin). DownAct o.node o.inc) act_fields_bytes (IsActOf Down) fields.origin.takes (λ o is. (refl, (refl, (is.node, is.inc))))
     fields_takes Permit =
         TakesAs-made (permit_fields_at t) permit_bytes IsPermit (λ p. PermitAct p.0 p.1.0 p.1.1) act_fields_bytes (IsActOf Permit) permit_fields_codec.takes
         (λ p is. (regroup (key_bytes p.0) (u8_bytes (value_code p.1.0)) (over_bytes p.1.1), (refl, is)))
@@ -191,7 +196,7 @@ module _ (t : Table) (few_nodes : node_count t < 2 ^ 8) (few_apps : app_count t 
     fields_again UpAct is = λ at rest. let none : at ≡ at + 0 = omega arith in ap (λ (n : ℕ). Ok (UpAct, record { at = n; bytes = rest })) none
     fields_again (DownAct node inc) is =
         let o : Origin = record { node = node; inc = inc } in
-        Again-made (origin_at nodes) (λ (o : Origin). DownAct o.node o.inc) (origin_bytes o) o ((origin_codec nodes few).again o (record { node = is.0; inc = is.1 }))
+        Again-made (origin_at nodes) (λ (o : Origin). DownAct o.node o.inc) (origin_bytes o) o (fields.origin.again o (record { node = is.0; inc = is.1 }))
     fields_again (PermitAct key value over) is =
         subst (λ (text : List ℕ). Again (act_fields_at t issuer Permit) text (PermitAct key value over)) (regroup (key_bytes key) (u8_bytes (value_code value)) (over_bytes over))
         (Again-made (permit_fields_at t) (λ p. PermitAct p.0 p.1.0 p.1.1) (permit_bytes (key, (value, over))) (key, (value, over)) (permit_fields_codec.again (key, (value, over)) is))
@@ -208,7 +213,7 @@ module _ (t : Table) (few_nodes : node_count t < 2 ^ 8) (few_apps : app_count t 
     act_codec : IsCodec (act_at t issuer) act_bytes (IsAct t issuer)
     unfolding act_at act_bytes
     act_codec =
-        codec_both act_kind_at act_kind_bytes IsAny act_kind_codec (λ kind r. act_fields_at t issuer kind r) (λ _. act_fields_bytes) IsActOf fields_codec
+        codec_both act_kind_at act_kind_bytes IsAny (act_kind_codec nodes fields) (λ kind r. act_fields_at t issuer kind r) (λ _. act_fields_bytes) IsActOf fields_codec
         (λ _ a. a) act_bytes (IsAct t issuer)
         (λ kind a _ is. (ap (λ k. act_kind_bytes k ++ act_fields_bytes a) (sym is.0), is.1)) (λ a is. (kind_of_act a, a, tt, (refl, is), refl))
 
@@ -220,7 +225,7 @@ module _ (t : Table) (few_nodes : node_count t < 2 ^ 8) (few_apps : app_count t 
   dot_and_act_codec : IsCodec (dot_and_act_at t) operation_bytes IsDotAndAct
   unfolding dot_and_act_at operation_bytes
   dot_and_act_codec =
-      codec_both (dot_at nodes) dot_bytes (IsDot nodes) (dot_codec nodes few) (λ dot r. act_at t dot.origin.node r) (λ _. act_bytes) (λ (dot : Dot). IsAct t dot.origin.node) (λ dot _. act_codec dot.origin.node)
+      codec_both (dot_at nodes) dot_bytes (IsDot nodes) fields.dot (λ dot r. act_at t dot.origin.node r) (λ _. act_bytes) (λ (dot : Dot). IsAct t dot.origin.node) (λ dot _. act_codec dot.origin.node)
       operation operation_bytes IsDotAndAct (λ dot act is so. (refl, (is, so))) (λ o is. (o.dot, o.act, is.0, is.1, refl))
 
   abbrev is_sound : Operation → Bool

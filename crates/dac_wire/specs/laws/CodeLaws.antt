@@ -3,8 +3,9 @@ use Rattle.std.specs.Prelude.{◌≡◌, ℕ, zero, suc, ◌<◌, ◌≤◌, ◌
 use Rattle.std.specs.Int.{w8}
 use Rattle.std.proofs.Common.{ap, arith}
 use Rattle.std.proofs.lemmas.Bool.{eqb-true, lt-ltb, false≢true}
-use Rattle.dac_bytes.specs.laws.Codecs.{IsCodec, codec_made}
-use Rattle.dac_bytes.specs.laws.FieldCodecs.{u8_in_codec}
+use Rattle.dac_bytes.specs.FieldCodecs.{FieldCodecs}
+use Rattle.dac_bytes.specs.Takes.{IsCodec}
+use Rattle.dac_bytes.specs.laws.Codecs.{codec_made}
 use Rattle.dac_bytes.specs.Numbers.{u8_bytes}
 use Rattle.dac_bytes.specs.Reading.{range_at}
 use Rattle.dac_wire.specs.Codes.{packet_code, packet_of_code, act_code, act_of_code, value_code, value_of_code, only_code, only_of_code}
@@ -46,10 +47,10 @@ packet_kind_bytes kind = u8_bytes (packet_code kind)
 abbrev pub IsAny : {X : Type 0} → X → Type 0
 IsAny x = Unit {0}
 
-pub packet_kind_codec : IsCodec packet_kind_at packet_kind_bytes IsAny
+pub packet_kind_codec : (nodes : ℕ) → FieldCodecs nodes → IsCodec packet_kind_at packet_kind_bytes IsAny
 unfolding packet_kind_at
-packet_kind_codec =
-    codec_made (range_at w8 1 4) u8_bytes (IsFrom 1 4) (u8_in_codec 1 4 (omega arith)) packet_of_code packet_kind_bytes IsAny
+packet_kind_codec nodes fields =
+    codec_made (range_at w8 1 4) u8_bytes (IsFrom 1 4) (fields.u8_in 1 4 (omega arith)) packet_of_code packet_kind_bytes IsAny
     (λ n is. (ap u8_bytes (packet_number n is), tt)) (λ kind _. (packet_code kind, packet_fits kind, packet_back kind))
 
 -- ---- acts
@@ -82,10 +83,10 @@ act_back Claim = refl
 abbrev pub act_kind_bytes : ActKind → List ℕ
 act_kind_bytes kind = u8_bytes (act_code kind)
 
-pub act_kind_codec : IsCodec act_kind_at act_kind_bytes IsAny
+pub act_kind_codec : (nodes : ℕ) → FieldCodecs nodes → IsCodec act_kind_at act_kind_bytes IsAny
 unfolding act_kind_at
-act_kind_codec =
-    codec_made (range_at w8 1 6) u8_bytes (IsFrom 1 6) (u8_in_codec 1 6 (omega arith)) act_of_code act_kind_bytes IsAny
+act_kind_codec nodes fields =
+    codec_made (range_at w8 1 6) u8_bytes (IsFrom 1 6) (fields.u8_in 1 6 (omega arith)) act_of_code act_kind_bytes IsAny
     (λ n is. (ap u8_bytes (act_number n is), tt)) (λ kind _. (act_code kind, act_fits kind, act_back kind))
 
 -- ---- what a permit says

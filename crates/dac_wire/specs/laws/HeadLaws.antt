@@ -8,13 +8,13 @@ use Rattle.dac_base.specs.declared.limits.TheConstants.{MAX_COUNTER}
 use Rattle.dac_dots.specs.declared.dot.Origin.{Origin}
 use Rattle.dac_bytes.specs.declared.fault.ReadFault.{ReadFault}
 use Rattle.dac_bytes.specs.declared.fault.ReadFaultKind.TheVariants.{BadNumber}
-use Rattle.dac_bytes.specs.laws.Codecs.{IsCodec, Passes, codec_same, codec_wanted, codec_made, codec_both, codec_pair}
-use Rattle.dac_bytes.specs.laws.FieldCodecs.{u8_in_codec, u32_codec, u64_in_codec, node_codec, origin_codec}
+use Rattle.dac_bytes.specs.FieldCodecs.{FieldCodecs}
+use Rattle.dac_bytes.specs.laws.Codecs.{codec_same, codec_wanted, codec_made, codec_both, codec_pair}
 use Rattle.dac_bytes.specs.Numbers.{u8_bytes, u32_bytes, u64_bytes}
 use Rattle.dac_bytes.specs.Ranges.{IsOrigin}
 use Rattle.dac_bytes.specs.Reading.{Rest, number_at, range_at, node_at, origin_at}
 use Rattle.dac_bytes.specs.Spelling.{incarnation_bytes, origin_bytes}
-use Rattle.dac_bytes.specs.Takes.{Takes, TakesAs, Takes-none, TakesAs-made, Again, Again-made, ok_is}
+use Rattle.dac_bytes.specs.Takes.{IsCodec, Passes, Takes, TakesAs, Takes-none, TakesAs-made, Again, Again-made, ok_is}
 use Rattle.dac_wire.specs.Codes.{only_code, only_of_code, ack_code}
 use Rattle.dac_wire.specs.Form.{IsOnly, IsAck}
 use Rattle.dac_wire.specs.Reading.{route_at, is_only_of, only_code_at, only_at, deltas_at, got_at, got_if_at, ack_at, counts_at, bound_at, head_of, head_at}
@@ -22,30 +22,13 @@ use Rattle.dac_wire.specs.Spelling.{ack_bytes}
 use Rattle.dac_wire.specs.declared.head.Head.{Head}
 use Rattle.dac_wire.specs.laws.CodeLaws.{only_number, only_is, only_fits, only_back}
 
--- ---- the incarnation that it is for
-
-only_code_codec : (whole : Bool) → IsCodec (only_code_at whole) u32_bytes (Passes (λ n. n < 2 ^ 32) (is_only_of whole))
-unfolding only_code_at
-only_code_codec whole =
-    let wrong : Rest → ℕ × Rest → ReadFault = λ r _. record { kind = BadNumber; at = r.at } in
-    codec_wanted (number_at w32) u32_bytes (λ n. n < 2 ^ 32) u32_codec (is_only_of whole) wrong
-
+-- the incarnation that it is for
 abbrev only_bytes : Option ℕ → List ℕ
 only_bytes only = incarnation_bytes (only_code only)
 
-only_codec : (whole : Bool) → IsCodec (only_at whole) only_bytes (IsOnly whole)
-unfolding only_at incarnation_bytes
-only_codec whole =
-    codec_made (only_code_at whole) u32_bytes (Passes (λ n. n < 2 ^ 32) (is_only_of whole)) (only_code_codec whole) only_of_code only_bytes (IsOnly whole)
-    (λ n is. (ap u32_bytes (only_number n), only_is whole n is.0 is.1)) (λ only is. (only_code only, only_fits whole only is, only_back whole only is))
-
--- ---- numbers of deltas
-
+-- a number of deltas
 abbrev AreDeltas : ℕ → Type 0
 AreDeltas n = n ≤ MAX_COUNTER
-
-deltas_codec : IsCodec deltas_at u64_bytes AreDeltas
-deltas_codec = codec_same deltas_at u64_bytes (λ n. (0 ≤ n) × (n ≤ MAX_COUNTER)) (u64_in_codec 0 MAX_COUNTER (omega arith)) AreDeltas (λ n is. is.1) (λ n is. (omega arith, is))
 
 -- what was got, after its code
 abbrev got_bytes : Option (Origin × ℕ) → List ℕ
@@ -67,14 +50,32 @@ pub record IsHead (nodes : ℕ) (whole : Bool) (h : Head) : Type 0 where
 regroup : (a b c d e : List ℕ) → (a ++ b) ++ (c ++ (d ++ e)) ≡ (((a ++ b) ++ c) ++ d) ++ e
 regroup a b c d e = sym (simp append_assoc)
 
--- nodes are numbered in one byte
-module _ (nodes : ℕ) (few : nodes ≤ 2 ^ 8) where
+module _ (nodes : ℕ) (fields : FieldCodecs nodes) where
+  -- ---- the incarnation that it is for
+
+  only_code_codec : (whole : Bool) → IsCodec (only_code_at whole) u32_bytes (Passes (λ n. n < 2 ^ 32) (is_only_of whole))
+  unfolding only_code_at
+  only_code_codec whole =
+      let wrong : Rest → ℕ × Rest → ReadFault = λ r _. record { kind = BadNumber; at = r.at } in
+      codec_wanted (number_at w32) u32_bytes (λ n. n < 2 ^ 32) fields.u32 (is_only_of whole) wrong
+
+  only_codec : (whole : Bool) → IsCodec (only_at whole) only_bytes (IsOnly whole)
+  unfolding only_at incarnation_bytes
+  only_codec whole =
+      codec_made (only_code_at whole) u32_bytes (Passes (λ n. n < 2 ^ 32) (is_only_of whole)) (only_code_codec whole) only_of_code only_bytes (IsOnly whole)
+      (λ n is. (ap u32_bytes (only_number n), only_is whole n is.0 is.1)) (λ only is. (only_code only, only_fits whole only is, only_back whole only is))
+
+  -- ---- what was got
+
+  deltas_codec : IsCodec deltas_at u64_bytes AreDeltas
+  deltas_codec = codec_same deltas_at u64_bytes (λ n. (0 ≤ n) × (n ≤ MAX_COUNTER)) (fields.u64_in 0 MAX_COUNTER (omega arith)) AreDeltas (λ n is. is.1) (λ n is. (omega arith, is))
+
   abbrev IsGot : Origin × ℕ → Type 0
   IsGot got = IsOrigin nodes got.0 × AreDeltas got.1
 
   got_codec : IsCodec (got_at nodes) (λ got. origin_bytes got.0 ++ u64_bytes got.1) IsGot
   unfolding got_at
-  got_codec = codec_pair (origin_at nodes) origin_bytes (IsOrigin nodes) (origin_codec nodes few) (λ _ r. deltas_at r) (λ _. u64_bytes) (λ _. AreDeltas) (λ _ _. deltas_codec)
+  got_codec = codec_pair (origin_at nodes) origin_bytes (IsOrigin nodes) fields.origin (λ _ r. deltas_at r) (λ _. u64_bytes) (λ _. AreDeltas) (λ _ _. deltas_codec)
 
   -- what was got by its code
   abbrev IsAckOf : ℕ → Option (Origin × ℕ) → Type 0
@@ -111,7 +112,7 @@ module _ (nodes : ℕ) (few : nodes ≤ 2 ^ 8) where
   ack_codec : IsCodec (ack_at nodes) ack_bytes (IsAck nodes)
   unfolding ack_at
   ack_codec =
-      codec_both (range_at w8 0 1) u8_bytes (λ n. (0 ≤ n) × (n ≤ 1)) (u8_in_codec 0 1 (omega arith)) (λ n r. got_if_at nodes n r) (λ _. got_bytes) IsAckOf got_if_codec
+      codec_both (range_at w8 0 1) u8_bytes (λ n. (0 ≤ n) × (n ≤ 1)) (fields.u8_in 0 1 (omega arith)) (λ n r. got_if_at nodes n r) (λ _. got_bytes) IsAckOf got_if_codec
       (λ _ ack. ack) ack_bytes (IsAck nodes)
       (λ n ack _ is. (ap (λ n. u8_bytes n ++ got_bytes ack) (sym is.0) ∙ ack_spelled ack, is.1)) (λ ack is. (ack_code ack, ack, ack_fits ack, (refl, is), refl))
 
@@ -139,7 +140,7 @@ module _ (nodes : ℕ) (few : nodes ≤ 2 ^ 8) where
   route_codec : IsCodec (route_at nodes) route_bytes IsRoute
   unfolding route_at
   route_codec =
-      codec_pair (origin_at nodes) origin_bytes (IsOrigin nodes) (origin_codec nodes few) (λ _ r. node_at nodes r) (λ _ (node : NodeId). u8_bytes node.0) (λ _ node. node.0 < nodes) (λ _ _. node_codec nodes few)
+      codec_pair (origin_at nodes) origin_bytes (IsOrigin nodes) fields.origin (λ _ r. node_at nodes r) (λ _ (node : NodeId). u8_bytes node.0) (λ _ node. node.0 < nodes) (λ _ _. fields.node)
 
   module _ (whole : Bool) where
     abbrev bound_bytes : Option ℕ × Counts → List ℕ

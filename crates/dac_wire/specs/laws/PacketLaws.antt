@@ -1,15 +1,15 @@
 -- Packets in form and their spellings are one to one.
-use Rattle.std.specs.Prelude.{◌≡◌, ℕ, ◌<◌, ◌≤◌, ◌^◌, ◌==◌, Bool, true, false, cond, List, [], ◌++◌, length, drop, None, Ok, refl}
-use Rattle.std.proofs.Common.{sym, ap, subst, ◌∙◌, arith, append_assoc}
+use Rattle.std.specs.Prelude.{◌≡◌, ℕ, ◌≤◌, ◌==◌, Bool, true, false, cond, List, [], ◌++◌, length, drop, None, Ok, refl}
+use Rattle.std.proofs.Common.{sym, ap, subst, ◌∙◌, append_assoc}
 use Rattle.std.proofs.lemmas.List.{append-nil, drop_at, nil_from_length}
 use Rattle.std.proofs.lemmas.Bool.{eqb-true}
-use Rattle.dac_config.specs.Table.{Table, node_count, app_count}
+use Rattle.dac_config.specs.Table.{Table, node_count}
 use Rattle.dac_bytes.specs.declared.fault.ReadFaultKind.TheVariants.{Trailing}
-use Rattle.dac_bytes.specs.laws.Codecs.{IsCodec, codec_both, codec_pair}
+use Rattle.dac_bytes.specs.laws.Codecs.{codec_both, codec_pair}
 use Rattle.dac_bytes.specs.Reading.{Rest, ◌>>=◌, after, whole, fault}
-use Rattle.dac_bytes.specs.Takes.{IsBytes, Takes-front, TakesAs, TakesAs-made, Again, Again-made, bind_ok, wanted_ok}
+use Rattle.dac_bytes.specs.Takes.{IsBytes, IsCodec, Takes-front, TakesAs, TakesAs-made, Again, Again-made, bind_ok, wanted_ok}
 use Rattle.dac_meaning.specs.StateValue.{StateValue}
-use Rattle.dac_state.specs.laws.StateCodec.{state_codec}
+use Rattle.dac_part_bytes.specs.PartCodecs.{PartCodecs}
 use Rattle.dac_state.specs.StateForm.{IsInForm}
 use Rattle.dac_state.specs.StateReading.{parts_at}
 use Rattle.dac_state.specs.StateSpelling as state
@@ -37,12 +37,9 @@ use Rattle.dac_wire.specs.laws.HeadLaws.{head_bytes, IsHead, head_codec}
 abbrev head_in : Message → Head
 head_in m = record { from = m.from; to = m.to; only = m.only; up_to = m.up_to; ack = m.ack }
 
-module _ (t : Table) (few_nodes : node_count t < 2 ^ 8) (few_apps : app_count t ≤ 2 ^ 16) where
+module _ (t : Table) (parts : PartCodecs t) (states : IsCodec (parts_at t) state.spelling_of (IsInForm t)) where
   abbrev nodes : ℕ
   nodes = node_count t
-
-  few : nodes ≤ 2 ^ 8
-  few = omega arith
 
   -- ---- messages
 
@@ -56,7 +53,7 @@ module _ (t : Table) (few_nodes : node_count t < 2 ^ 8) (few_apps : app_count t 
     carrying_codec : IsCodec (head_and_state_at t whole) carrying_bytes IsCarrying
     unfolding head_and_state_at
     carrying_codec =
-        codec_pair (head_at nodes whole) head_bytes (IsHead nodes whole) (head_codec nodes few whole) (λ _ r. parts_at t r) (λ _. state.spelling_of) (λ _. IsInForm t) (λ _ _. state_codec t few_nodes few_apps)
+        codec_pair (head_at nodes whole) head_bytes (IsHead nodes whole) (head_codec nodes parts.fields whole) (λ _ r. parts_at t r) (λ _. state.spelling_of) (λ _. IsInForm t) (λ _ _. states)
 
   message_is : (h : Head) (body : Body) → IsHead nodes (is_whole body) h → IsBody t body → IsMessage t (message_of h body)
   message_is h body is so = record { from = is.from; to = is.to; only = is.only; up_to = is.up_to; ack = is.ack; body = so }
@@ -85,10 +82,10 @@ module _ (t : Table) (few_nodes : node_count t < 2 ^ 8) (few_apps : app_count t 
   content_takes Interval =
       TakesAs-made (head_and_state_at t false) carrying_bytes (IsCarrying false) interval_message content_bytes (IsPacketOf Interval) (carrying_codec false).takes (λ m is. (refl, (refl, message_is m.0 (IntervalBody m.1) is.0 is.1)))
   content_takes Nothing =
-      TakesAs-made (head_at nodes false) head_bytes (IsHead nodes false) empty_message content_bytes (IsPacketOf Nothing) (head_codec nodes few false).takes
+      TakesAs-made (head_at nodes false) head_bytes (IsHead nodes false) empty_message content_bytes (IsPacketOf Nothing) (head_codec nodes parts.fields false).takes
       (λ h is. (sym (append-nil (head_bytes h)), (refl, message_is h NoBody is tt)))
   content_takes Single =
-      TakesAs-made (operation_at t) operation_bytes (IsOperation t) (λ o. packet.Single o) content_bytes (IsPacketOf Single) (operation_codec t few_nodes few_apps).takes (λ o is. (refl, (refl, is)))
+      TakesAs-made (operation_at t) operation_bytes (IsOperation t) (λ o. packet.Single o) content_bytes (IsPacketOf Single) (operation_codec t parts).takes (λ o is. (refl, (refl, is)))
 
   message_again : (h : Head) (body : Body) → IsMessage t (message_of h body) → Again (content_at t (kind_of_body body)) (content_bytes (packet.Msg (message_of h body))) (packet.Msg (message_of h body))
   unfolding content_at content_bytes message_bytes body_bytes
@@ -96,12 +93,12 @@ module _ (t : Table) (few_nodes : node_count t < 2 ^ 8) (few_apps : app_count t 
   message_again h (IntervalBody s) is = Again-made (head_and_state_at t false) interval_message (carrying_bytes (h, s)) (h, s) ((carrying_codec false).again (h, s) (head_is h (IntervalBody s) is, is.body))
   message_again h NoBody is =
       subst (λ (text : List ℕ). Again (content_at t Nothing) text (empty_message h)) (sym (append-nil (head_bytes h)))
-      (Again-made (head_at nodes false) empty_message (head_bytes h) h ((head_codec nodes few false).again h (head_is h NoBody is)))
+      (Again-made (head_at nodes false) empty_message (head_bytes h) h ((head_codec nodes parts.fields false).again h (head_is h NoBody is)))
 
   content_again : (p : Packet) → IsPacket t p → Again (content_at t (kind_of_packet p)) (content_bytes p) p
   unfolding content_at content_bytes
   content_again (packet.Msg m) is = message_again (head_in m) m.body is
-  content_again (packet.Single o) is = Again-made (operation_at t) (λ o. packet.Single o) (operation_bytes o) o ((operation_codec t few_nodes few_apps).again o is)
+  content_again (packet.Single o) is = Again-made (operation_at t) (λ o. packet.Single o) (operation_bytes o) o ((operation_codec t parts).again o is)
 
   content_codec : (kind : PacketKind) → IsAny kind → IsCodec (content_at t kind) content_bytes (IsPacketOf kind)
   content_codec kind any = record { takes = content_takes kind; again = λ p is. subst (λ k. Again (content_at t k) (content_bytes p) p) is.0 (content_again p is.1) }
@@ -112,7 +109,7 @@ module _ (t : Table) (few_nodes : node_count t < 2 ^ 8) (few_apps : app_count t 
   tail_codec : IsCodec (kind_and_content_at t) tail_bytes (IsPacket t)
   unfolding kind_and_content_at
   tail_codec =
-      codec_both packet_kind_at packet_kind_bytes IsAny packet_kind_codec (λ kind r. content_at t kind r) (λ _. content_bytes) IsPacketOf content_codec
+      codec_both packet_kind_at packet_kind_bytes IsAny (packet_kind_codec nodes parts.fields) (λ kind r. content_at t kind r) (λ _. content_bytes) IsPacketOf content_codec
       (λ _ p. p) tail_bytes (IsPacket t)
       (λ kind p _ is. (ap (λ k. packet_kind_bytes k ++ content_bytes p) (sym is.0), is.1)) (λ p is. (kind_of_packet p, p, tt, (refl, is), refl))
 

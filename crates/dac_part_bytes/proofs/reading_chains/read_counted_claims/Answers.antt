@@ -9,7 +9,7 @@ use Rattle.dac_chains.specs.Claims.{claim_cmp}
 use Rattle.dac_bytes.specs.Reading.{items_at}
 use Rattle.dac_bytes.specs.Items.{ends, goes_on, is_done, Fails-from}
 use Rattle.dac_part_bytes.specs.Reading.{claim_at}
-use Rattle.dac_part_bytes.specs.laws.Ascending.{reaches_more}
+use Rattle.dac_bytes.specs.laws.Ascending.{reaches_more}
 use Rattle.dac_part_bytes.proofs.ReadFacts.{claim_next}
 use Rattle.dac_part_bytes.proofs.ReadLoops.{starts_with, no_entries, entries_joined}
 use Rattle.dac_part_bytes.proofs.reading_chains.read_counted_claims.Goals as goal

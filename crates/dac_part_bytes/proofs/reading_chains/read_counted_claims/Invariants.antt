@@ -6,7 +6,7 @@ use Rattle.dac_base.specs.declared.AppId.{AppId}
 use Rattle.dac_base.specs.Ids.{app_cmp}
 use Rattle.dac_chains.specs.declared.claims.Claim.{Claim}
 use Rattle.dac_part_bytes.specs.Reading.{claim_at}
-use Rattle.dac_part_bytes.specs.laws.Ascending.{Reaches}
+use Rattle.dac_bytes.specs.laws.Ascending.{Reaches}
 use Rattle.dac_part_bytes.proofs.reading_chains.read_counted_claims.Given as goal
 
 -- what was read with what is still to be read is the whole, and the items so far are below what may come

@@ -6,7 +6,7 @@ use Rattle.dac_base.specs.declared.NodeId.{NodeId}
 use Rattle.dac_base.specs.Ids.{node_cmp}
 use Rattle.dac_chains.specs.declared.lives.Life.{Life}
 use Rattle.dac_part_bytes.specs.Reading.{life_at}
-use Rattle.dac_part_bytes.specs.laws.Ascending.{Reaches}
+use Rattle.dac_bytes.specs.laws.Ascending.{Reaches}
 use Rattle.dac_part_bytes.proofs.reading_chains.read_counted_lives.Given as goal
 
 -- what was read with what is still to be read is the whole, and the items so far are below what may come

@@ -7,10 +7,10 @@ use Rattle.dac_dots.specs.InOrder.{in_order}
 use Rattle.dac_bytes.specs.Reading.{items_at}
 use Rattle.dac_bytes.specs.Items.{ends, goes_on, is_done, Fails-from}
 use Rattle.dac_part_bytes.specs.Reading.{known_dot_at}
-use Rattle.dac_part_bytes.specs.laws.Ascending.{reaches_more}
+use Rattle.dac_bytes.specs.laws.Ascending.{reaches_more}
 use Rattle.dac_part_bytes.proofs.ReadFacts.{known_dot_next}
 use Rattle.dac_part_bytes.proofs.ReadLoops.{starts_with, pushed_is, dots_pushed}
-use Rattle.dac_part_bytes.specs.laws.InOrder.{no_dots}
+use Rattle.dac_part_bytes.proofs.InOrder.{no_dots}
 use Rattle.dac_part_bytes.proofs.reading_keyed.read_dots.Goals as goal
 
 pub loop-init : goal.loop-init

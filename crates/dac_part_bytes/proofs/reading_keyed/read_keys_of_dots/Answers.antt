@@ -8,7 +8,7 @@ use Rattle.dac_dots.specs.Dots.{Dots}
 use Rattle.dac_bytes.specs.Reading.{items_at}
 use Rattle.dac_bytes.specs.Items.{ends, goes_on, is_done}
 use Rattle.dac_part_bytes.specs.Reading.{keyed_dots_at}
-use Rattle.dac_part_bytes.specs.laws.Ascending.{reaches_more}
+use Rattle.dac_bytes.specs.laws.Ascending.{reaches_more}
 use Rattle.dac_part_bytes.proofs.ReadFacts.{keyed_dots_next}
 use Rattle.dac_part_bytes.proofs.ReadLoops.{pushed_is}
 use Rattle.dac_part_bytes.proofs.reading_keyed.read_keys_of_dots.Goals as goal

@@ -8,7 +8,7 @@ use Rattle.dac_wishes.specs.StoredPermits.{DotFlags}
 use Rattle.dac_bytes.specs.Reading.{items_at}
 use Rattle.dac_bytes.specs.Items.{ends, goes_on, is_done}
 use Rattle.dac_part_bytes.specs.Reading.{keyed_permits_at}
-use Rattle.dac_part_bytes.specs.laws.Ascending.{reaches_more}
+use Rattle.dac_bytes.specs.laws.Ascending.{reaches_more}
 use Rattle.dac_part_bytes.proofs.ReadFacts.{keyed_permits_next}
 use Rattle.dac_part_bytes.proofs.ReadLoops.{pushed_is}
 use Rattle.dac_part_bytes.proofs.reading_keyed.read_keys_of_permits.Goals as goal

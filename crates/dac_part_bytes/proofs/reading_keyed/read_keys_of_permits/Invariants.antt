@@ -5,7 +5,7 @@ use Rattle.dac_wishes.specs.declared.key.Key.{Key}
 use Rattle.dac_wishes.specs.Keys.{key_cmp}
 use Rattle.dac_wishes.specs.StoredPermits.{DotFlags}
 use Rattle.dac_part_bytes.specs.Reading.{keyed_permits_at}
-use Rattle.dac_part_bytes.specs.laws.Ascending.{Reaches}
+use Rattle.dac_bytes.specs.laws.Ascending.{Reaches}
 use Rattle.dac_part_bytes.proofs.reading_keyed.read_keys_of_permits.Given as goal
 
 -- what was read with what is still to be read is the whole, and the items so far are below what may come

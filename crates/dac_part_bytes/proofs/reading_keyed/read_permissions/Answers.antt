@@ -5,7 +5,7 @@ use Rattle.dac_bytes.specs.laws.Calls.{found_call, again_call}
 use Rattle.dac_part_bytes.specs.Reading.{all_permits_at}
 use Rattle.dac_part_bytes.specs.Spelling.{permits_bytes}
 use Rattle.dac_part_bytes.specs.KeyedForm.{ArePermitsInForm}
-use Rattle.dac_part_bytes.specs.laws.KeyedLaws.{permits_takes, permits_again}
+use Rattle.dac_part_bytes.proofs.KeyedLaws.{permits_takes, permits_again}
 use Rattle.dac_part_bytes.proofs.reading_keyed.read_permissions.Goals as goal
 
 pub returns-clause-found : goal.returns-clause-found

@@ -6,7 +6,7 @@ use Rattle.dac_lattice.specs.declared.flags.Flag.{Flag}
 use Rattle.dac_bytes.specs.Reading.{items_at}
 use Rattle.dac_bytes.specs.Items.{ends, goes_on, is_done, Fails-from}
 use Rattle.dac_part_bytes.specs.Reading.{permit_at}
-use Rattle.dac_part_bytes.specs.laws.Ascending.{reaches_more}
+use Rattle.dac_bytes.specs.laws.Ascending.{reaches_more}
 use Rattle.dac_part_bytes.proofs.ReadFacts.{permit_next}
 use Rattle.dac_part_bytes.proofs.ReadLoops.{pushed_is}
 use Rattle.dac_part_bytes.proofs.reading_keyed.read_permits.Goals as goal

@@ -5,7 +5,7 @@ use Rattle.dac_dots.specs.declared.dot.Dot.{Dot}
 use Rattle.dac_lattice.specs.declared.flags.Flag.{Flag}
 use Rattle.dac_dots.specs.Dots.{dot_cmp}
 use Rattle.dac_part_bytes.specs.Reading.{permit_at}
-use Rattle.dac_part_bytes.specs.laws.Ascending.{Reaches}
+use Rattle.dac_bytes.specs.laws.Ascending.{Reaches}
 use Rattle.dac_part_bytes.proofs.reading_keyed.read_permits.Given as goal
 
 -- what was read with what is still to be read is the whole, and the items so far are below what may come

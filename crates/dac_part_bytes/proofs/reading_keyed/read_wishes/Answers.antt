@@ -5,7 +5,7 @@ use Rattle.dac_bytes.specs.laws.Calls.{found_call, again_call}
 use Rattle.dac_part_bytes.specs.Reading.{all_starts_at}
 use Rattle.dac_part_bytes.specs.Spelling.{starts_bytes}
 use Rattle.dac_part_bytes.specs.KeyedForm.{AreStartsInForm}
-use Rattle.dac_part_bytes.specs.laws.KeyedLaws.{starts_takes, starts_again}
+use Rattle.dac_part_bytes.proofs.KeyedLaws.{starts_takes, starts_again}
 use Rattle.dac_part_bytes.proofs.reading_keyed.read_wishes.Goals as goal
 
 pub returns-clause-found : goal.returns-clause-found

@@ -8,7 +8,7 @@ decode_fields-requires c = front_long c.args.config.now c.args.bytes.now (sym c.
 
 pub returns-in-Some-clause-only : goal.returns-in-Some-clause-only
 returns-in-Some-clause-only c =
-    only_packet c.args.config.now c.args.bytes.now (omega (arith, c.nodes-nodes.ensures.count, c.nodes-nodes.type_inv)) (omega (arith, c.apps-apps.ensures.count, c.apps-apps.type_inv)) (Err c.in-Some.fault)
+    only_packet c.args.config.now c.args.bytes.now c.parts_have_one_spelling.ensures c.states_have_one_spelling.ensures (Err c.in-Some.fault)
     (gives_front c.args.config.now c.args.bytes.now c.in-Some.fault (sym c.front_fault.ensures ∙ c.in-Some.is))
 
 pub returns-in-Some-clause-exact : goal.returns-in-Some-clause-exact
@@ -16,12 +16,12 @@ returns-in-Some-clause-exact c = gives_front c.args.config.now c.args.bytes.now 
 
 pub returns-in-None-clause-found : goal.returns-in-None-clause-found
 returns-in-None-clause-found c =
-    found_fields c.args.config.now c.args.bytes.now (omega (arith, c.nodes-nodes.ensures.count, c.nodes-nodes.type_inv)) (omega (arith, c.apps-apps.ensures.count, c.apps-apps.type_inv))
+    found_fields c.args.config.now c.args.bytes.now c.parts_have_one_spelling.ensures c.states_have_one_spelling.ensures
     (λ i. omega (arith, c.type_inv.bytes i)) (sym c.front_fault.ensures ∙ c.in-None.is) c.decode_fields.result c.decode_fields.ensures
 
 pub returns-in-None-clause-only : goal.returns-in-None-clause-only
 returns-in-None-clause-only c =
-    only_packet c.args.config.now c.args.bytes.now (omega (arith, c.nodes-nodes.ensures.count, c.nodes-nodes.type_inv)) (omega (arith, c.apps-apps.ensures.count, c.apps-apps.type_inv)) c.decode_fields.result
+    only_packet c.args.config.now c.args.bytes.now c.parts_have_one_spelling.ensures c.states_have_one_spelling.ensures c.decode_fields.result
     (gives_fields c.args.config.now c.args.bytes.now c.decode_fields.result (sym c.front_fault.ensures ∙ c.in-None.is) c.decode_fields.ensures)
 
 pub returns-in-None-clause-exact : goal.returns-in-None-clause-exact

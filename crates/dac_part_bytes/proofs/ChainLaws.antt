@@ -1,0 +1,47 @@
+-- What is read as lives or as claims is spelled so and is in form, and all that is in form is read from its spelling.
+use Rattle.std.specs.Prelude.{ℕ, ◌<◌, ◌≤◌, ◌^◌, length}
+use Rattle.std.specs.List.{AllByRecursion}
+use Rattle.std.specs.Int.{w8, w16}
+use Rattle.std.specs.FinMap as map
+use Rattle.dac_base.specs.Ids.{nodes_total, apps_total, exact_nodes, exact_apps}
+use Rattle.dac_chains.specs.Lives.{Lives}
+use Rattle.dac_chains.specs.Claims.{Claims}
+use Rattle.dac_config.specs.Table.{Table, node_count, app_count}
+use Rattle.dac_bytes.specs.laws.Fields.{u8_takes, u8_again, u16_takes, u16_again}
+use Rattle.dac_bytes.specs.Numbers.{u8_bytes, u16_bytes}
+use Rattle.dac_bytes.specs.Reading.{number_at}
+use Rattle.dac_bytes.specs.Takes.{TakesAs, TakesAs-more, Again}
+use Rattle.dac_part_bytes.proofs.ChainClaims.{claim_takes, claim_again}
+use Rattle.dac_part_bytes.proofs.ChainEntries.{map_takes, map_again}
+use Rattle.dac_part_bytes.specs.ChainForm.{IsLifeInForm, AreLivesInForm, IsClaimInForm, AreClaimsInForm}
+use Rattle.dac_part_bytes.proofs.ChainLives.{life_takes, life_again}
+use Rattle.dac_part_bytes.specs.Reading.{life_at, lives_in_order_at, all_lives_at, claim_at, claims_in_order_at, all_claims_at}
+use Rattle.dac_part_bytes.specs.Spelling.{life_bytes, lives_bytes, claim_bytes, claims_bytes}
+
+-- What is read as lives is spelled so, and is in form.
+pub lives_takes : (nodes : ℕ) → TakesAs (all_lives_at nodes) lives_bytes (AreLivesInForm nodes)
+unfolding all_lives_at lives_in_order_at lives_bytes
+lives_takes nodes =
+    TakesAs-more (all_lives_at nodes) lives_bytes (λ lives. (length (map.entries lives) < 2 ^ 8) × AllByRecursion (IsLifeInForm nodes) (map.entries lives)) (AreLivesInForm nodes)
+    (map_takes nodes_total exact_nodes (IsLifeInForm nodes) (life_at nodes) (number_at w8) u8_bytes life_bytes (λ n. n < 2 ^ 8) u8_takes (life_takes nodes)) (λ lives is. record { each = is.1; count = is.0 })
+
+-- Lives in form are read from their spelling, wherever it stands.
+pub lives_again : (nodes : ℕ) → nodes ≤ 2 ^ 8 → (lives : Lives) → AreLivesInForm nodes lives → Again (all_lives_at nodes) (lives_bytes lives) lives
+unfolding all_lives_at lives_in_order_at lives_bytes
+lives_again nodes fit lives is =
+    map_again nodes_total exact_nodes (IsLifeInForm nodes) (life_at nodes) (number_at w8) u8_bytes life_bytes (λ n. n < 2 ^ 8) lives
+    (u8_again (length (map.entries lives)) is.count) (λ before. life_again nodes before fit) is.each
+
+-- What is read as claims is spelled so, and is in form.
+pub claims_takes : (t : Table) → TakesAs (all_claims_at t) claims_bytes (AreClaimsInForm t)
+unfolding all_claims_at claims_in_order_at claims_bytes
+claims_takes t =
+    TakesAs-more (all_claims_at t) claims_bytes (λ claims. (length (map.entries claims) < 2 ^ 16) × AllByRecursion (IsClaimInForm t) (map.entries claims)) (AreClaimsInForm t)
+    (map_takes apps_total exact_apps (IsClaimInForm t) (claim_at t) (number_at w16) u16_bytes claim_bytes (λ n. n < 2 ^ 16) u16_takes (claim_takes t)) (λ claims is. record { each = is.1; count = is.0 })
+
+-- Claims in form are read from their spelling, wherever it stands.
+pub claims_again : (t : Table) → node_count t < 2 ^ 8 → app_count t ≤ 2 ^ 16 → (claims : Claims) → AreClaimsInForm t claims → Again (all_claims_at t) (claims_bytes claims) claims
+unfolding all_claims_at claims_in_order_at claims_bytes
+claims_again t nodes_fit apps_fit claims is =
+    map_again apps_total exact_apps (IsClaimInForm t) (claim_at t) (number_at w16) u16_bytes claim_bytes (λ n. n < 2 ^ 16) claims
+    (u16_again (length (map.entries claims)) is.count) (claim_again t nodes_fit apps_fit) is.each

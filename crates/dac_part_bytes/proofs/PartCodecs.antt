@@ -1,0 +1,24 @@
+-- The values and the spellings of each field and each part are one to one, where nodes are numbered in one byte and applications in two.
+use Rattle.std.specs.Prelude.{◌<◌, ◌≤◌, ◌^◌}
+use Rattle.std.proofs.Common.{arith}
+use Rattle.dac_config.specs.Table.{Table, node_count, app_count}
+use Rattle.dac_bytes.specs.FieldCodecs.{FieldCodecs}
+use Rattle.dac_part_bytes.specs.PartCodecs.{PartCodecs}
+use Rattle.dac_part_bytes.proofs.Apps.{app_takes, app_again}
+use Rattle.dac_part_bytes.proofs.ChainClaims.{manner_takes, manner_again}
+use Rattle.dac_part_bytes.proofs.ChainLaws.{lives_takes, lives_again, claims_takes, claims_again}
+use Rattle.dac_part_bytes.proofs.KeyFields.{key_takes, key_again}
+use Rattle.dac_part_bytes.proofs.KeyedLaws.{permits_takes, permits_again, starts_takes, starts_again}
+
+module _ (t : Table) (few_nodes : node_count t < 2 ^ 8) (few_apps : app_count t ≤ 2 ^ 16) where
+  pub part_codecs : FieldCodecs (node_count t) → PartCodecs t
+  part_codecs fields = record {
+    fields = fields;
+    app = record { takes = app_takes (app_count t); again = app_again (app_count t) few_apps };
+    key = λ before. record { takes = key_takes t before; again = key_again t (omega arith) few_apps before };
+    manner = record { takes = manner_takes (node_count t); again = manner_again (node_count t) few_nodes };
+    permits = λ known. record { takes = permits_takes t known; again = permits_again t known (omega arith) few_apps };
+    starts = λ known. record { takes = starts_takes t known; again = starts_again t known (omega arith) few_apps };
+    lives = record { takes = lives_takes (node_count t); again = lives_again (node_count t) (omega arith) };
+    claims = record { takes = claims_takes t; again = claims_again t few_nodes few_apps };
+  }

@@ -1,0 +1,25 @@
+-- The fields and the parts whose values and spellings are one to one under a configuration.
+use Rattle.std.specs.Prelude.{◌<◌, Option}
+use Rattle.dac_base.specs.declared.NodeId.{NodeId}
+use Rattle.dac_chains.specs.declared.claims.How.{How}
+use Rattle.dac_dots.specs.Dots.{Dots}
+use Rattle.dac_wishes.specs.declared.key.Key.{Key}
+use Rattle.dac_config.specs.Table.{Table, node_count, app_count}
+use Rattle.dac_bytes.specs.FieldCodecs.{FieldCodecs}
+use Rattle.dac_bytes.specs.Takes.{IsCodec}
+use Rattle.dac_part_bytes.specs.ChainForm.{IsFromFor, AreLivesInForm, AreClaimsInForm}
+use Rattle.dac_part_bytes.specs.KeyedForm.{IsKeyAbove, ArePermitsInForm, AreStartsInForm}
+use Rattle.dac_part_bytes.specs.Reading.{app_at, key_at, manner_at, all_permits_at, all_starts_at, all_lives_at, all_claims_at}
+use Rattle.dac_part_bytes.specs.Spelling.{app_bytes, key_bytes, manner_bytes, permits_bytes, starts_bytes, lives_bytes, claims_bytes}
+
+pub record PartCodecs (t : Table) : Type 0 where
+  pub fields : FieldCodecs (node_count t)
+  pub app : IsCodec (app_at (app_count t)) app_bytes (λ app. app.0 < app_count t)
+  -- a key above the one before it
+  pub key : (before : Option Key) → IsCodec (key_at t before) key_bytes (IsKeyAbove t before)
+  pub manner : IsCodec (manner_at (node_count t)) (λ (m : How × Option NodeId). manner_bytes m.0 m.1) (λ m. IsFromFor (node_count t) m.0 m.1)
+  -- what stands among the dots known
+  pub permits : (known : Dots) → IsCodec (all_permits_at t known) permits_bytes (ArePermitsInForm t known)
+  pub starts : (known : Dots) → IsCodec (all_starts_at t known) starts_bytes (AreStartsInForm t known)
+  pub lives : IsCodec (all_lives_at (node_count t)) lives_bytes (AreLivesInForm (node_count t))
+  pub claims : IsCodec (all_claims_at t) claims_bytes (AreClaimsInForm t)

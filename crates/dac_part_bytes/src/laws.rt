@@ -1,0 +1,18 @@
+//! The law of fields and parts, as the contract of a function that does nothing.
+//!
+//! A proof that needs it calls the function.
+ghost use Rattle.dac_part_bytes.specs.PartCodecs.{PartCodecs};
+
+use dac_bytes::laws::fields_have_one_spelling;
+use dac_config::Config;
+
+/// The values and the spellings of each field and each part are one to one: what is read is spelled so and is in
+/// form, and what is in form is read from its spelling, whatever follows.
+pub fn parts_have_one_spelling(config: &Config)
+    ensures { PartCodecs config.now }
+{
+    // Nodes are numbered in one byte, and applications in two.
+    let _nodes = config.nodes();
+    let _apps = config.apps();
+    fields_have_one_spelling();
+}
