@@ -3,6 +3,7 @@ use Rattle.std.proofs.Common.{◌≡◌, ℕ, suc, ◌+◌, ◌≤◌, Bool, tru
 use Rattle.std.specs.Prelude.{◌⊎◌, ◌↔◌, IfOk}
 use Rattle.std.proofs.lemmas.Bool.{ltb-true, ltb-false, eqb-true}
 use Rattle.dac_tokens.specs.declared.fault.ConfigFault.{ConfigFault}
+use Rattle.dac_tokens.specs.declared.fault.FaultKind.{FaultKind}
 use Rattle.dac_tokens.specs.declared.fault.FaultKind.TheVariants.{BadShape, NoDistributed, TooLong}
 use Rattle.dac_tokens.specs.declared.token.Symbol.TheVariants.{FullStop}
 use Rattle.dac_tokens.specs.Gives.{◌>>=◌}
@@ -17,7 +18,8 @@ use Rattle.dac_shapes.specs.Grammar.{IsFile, IsSection, IsListOf}
 use Rattle.dac_shapes.specs.Shape.{State, fails, is_mark, list_of, section_at, end_at, file_at, draft_at}
 use Rattle.dac_shapes.specs.laws.AgainLists.{at, ended}
 use Rattle.dac_shapes.specs.laws.Again.{sections_again}
-use Rattle.dac_first_fault.specs.FirstFault.{StandsAt, Itself, words, IsWell, IsWithin, IsNoName, apps_in, BeginsWith, IsFaultOf, Long, NoToken, Token, Ends, Nobody}
+use Rattle.dac_first_fault.specs.Keeps.{Keeps}
+use Rattle.dac_first_fault.specs.FirstFault.{StandsAt, Itself, words, CanBegin, Only, IsWell, IsWithin, IsNoName, apps_in, BeginsWith, IsFaultOf, Long, NoToken, Token, Ends, Nobody}
 use Rattle.dac_first_fault.proofs.Outcomes.{Took, Failed, Asked, Takes, Always, Plain, Gives}
 use Rattle.dac_first_fault.proofs.Steps.{mark_is, symbol_yes, symbol_no, symbol_none, symbol_end}
 use Rattle.dac_first_fault.proofs.Sections.{sections_reader}
@@ -27,7 +29,8 @@ use Rattle.dac_first_fault.proofs.Held.{Holds}
 use Rattle.dac_first_fault.proofs.HeldSections.{AreSections, sections_held}
 use Rattle.dac_first_fault.proofs.Past.{OfName, Fine, fine_front, Met}
 use Rattle.dac_first_fault.proofs.PastSections.{sections_met}
-use Rattle.dac_first_fault.proofs.Places.{fine_both, not_name, name_or_not, last_named, spelled_fine, text_fine}
+use Rattle.dac_first_fault.proofs.Spared.{Unlimited, sections_so}
+use Rattle.dac_first_fault.proofs.Places.{At, Nowhere, fine_both, fine_nowhere, not_name, not_kept, name_or_not, last_named, spelled_fine, text_fine}
 use Rattle.dac_first_fault.proofs.HeldFile.{MayFile, file_kept}
 
 -- ---- the end of a file
@@ -205,45 +208,57 @@ module _ (order : (sections : List Section) → (MaySections sections ↔ AreWit
       let read = within_judged (end_of (suc e.at)) (a ++ l ∷ rest) is.sections refl (subst (λ (m : List Word). IsFile m is.sections) (sym same) is.file) is.within in
       no_clash e (eqb (apps_in is.sections) 0) (written is.sections (nodes_in is.sections)) (sym read ∙ fault (Ok (end_of (suc e.at))) rest)
 
-  -- reading a file gives a fault that a name brings, or that nobody is listed
-  file_read : (end : Located) (bad : ℕ) (ts : List Located) (sections : List Section) (e : ConfigFault) → end.word ≡ End → IsFile (words ts) sections → Fine bad ts → file_at (at (Ok end) ts nothing) ≡ Err e
-      → OfName bad e.kind e.at ⊎ (e ≡ record { kind = NoDistributed; at = end.at })
-  file_read end bad ts sections e w file fine h =
+  -- reading a file gives a fault that a name brings whose limit it doesn't keep, or that nobody is listed
+  file_read : (end : Located) (Bad : ℕ → Type 0) (Kept : FaultKind → Type 0) (ts : List Located) (sections : List Section) (e : ConfigFault) → end.word ≡ End → IsFile (words ts) sections → Keeps Kept sections → Fine Bad ts → file_at (at (Ok end) ts nothing) ≡ Err e
+      → OfName Bad Kept e.kind e.at ⊎ (e ≡ record { kind = NoDistributed; at = end.at })
+  file_read end Bad Kept ts sections e w file keep fine h =
       let c = ended ts file.0 (Mark FullStop) file.1 in
       let list : IsListOf IsSection (words c.front) sections = subst (λ (l : List Word). IsListOf IsSection l sections) (sym c.first) file.2 in
-      let front : Fine bad c.front = fine_front bad c.front (c.end ∷ []) (subst (λ (l : List Located). Fine bad l) c.whole fine) in
+      let front : Fine Bad c.front = fine_front Bad c.front (c.end ∷ []) (subst (λ (l : List Located). Fine Bad l) c.whole fine) in
       let there : (list_of section_at (at (Ok end) (c.front ++ c.end ∷ []) nothing) >>= behind) ≡ Err e = sym (ap (λ (l : List Located). file_at (at (Ok end) l nothing)) c.whole ∙ file_is (at (Ok end) (c.front ++ c.end ∷ []) nothing)) ∙ h in
-      by c.end (ap (is_mark FullStop) c.is) (list_of section_at (at (Ok end) (c.front ++ c.end ∷ []) nothing)) (sections_met (Ok end) bad c.front (c.end ∷ []) sections nothing list front) there
+      by c.end (ap (is_mark FullStop) c.is) (list_of section_at (at (Ok end) (c.front ++ c.end ∷ []) nothing)) (sections_met (Ok end) Bad Kept c.front (c.end ∷ []) sections list front keep) there
     where
+      after : Seen
+      after = steps with_section nothing sections
+
       nobody : (c : Bool) (w : Written) → cond c (fails NoDistributed end.at) (Ok w) ≡ Err e → e ≡ record { kind = NoDistributed; at = end.at }
       nobody true w h = same_err (record { kind = NoDistributed; at = end.at }) e (fails NoDistributed end.at) refl h
       nobody false w h = absurd cc
 
-      by : (c : Located) → is_mark FullStop c.word ≡ true → (r : Result (List Section × State) ConfigFault) → Met (Ok end) bad sections (c ∷ []) r → (r >>= behind) ≡ Err e → OfName bad e.kind e.at ⊎ (e ≡ record { kind = NoDistributed; at = end.at })
+      by : (c : Located) → is_mark FullStop c.word ≡ true → (r : Result (List Section × State) ConfigFault) → Met (Ok end) Bad Kept sections (c ∷ []) after r → (r >>= behind) ≡ Err e → OfName Bad Kept e.kind e.at ⊎ (e ≡ record { kind = NoDistributed; at = end.at })
       by c stop (Ok y) m h =
-          let s = at (Ok end) (c ∷ []) m.0 in
-          let read : behind y ≡ judged sections (end.at, at (Ok end) [] m.0) = ap behind m.1 ∙ ap (λ r. r >>= judged sections) (stop_end c m.0 end stop w) in
-          inr (nobody (eqb (length (written sections m.0.met).apps) 0) (written sections m.0.met) (sym read ∙ h))
-      by c stop (Err d) m h = inl (subst (λ (f : ConfigFault). OfName bad f.kind f.at) (sym (same_err d e (Err d) refl h)) m)
+          let read : behind y ≡ judged sections (end.at, at (Ok end) [] after) = ap behind m ∙ ap (λ r. r >>= judged sections) (stop_end c after end stop w) in
+          inr (nobody (eqb (length (written sections after.met).apps) 0) (written sections after.met) (sym read ∙ h))
+      by c stop (Err d) m h = inl (subst (λ (f : ConfigFault). OfName Bad Kept f.kind f.at) (sym (same_err d e (Err d) refl h)) m)
 
-  placed_fine : (bad : ℕ) (ws : List Word) → Fine bad (map (place_at (suc bad)) ws)
+  placed_fine : (bad : ℕ) (ws : List Word) → Fine (At bad) (map (place_at (suc bad)) ws)
   placed_fine bad [] = tt
   placed_fine bad (w ∷ ws) = (λ name is e. absurd (omega (arith, e)), placed_fine bad ws)
 
-  no_file : (a : List Located) (l : Located) (e : ConfigFault) → ((last : Result Located ConfigFault) (rest : List Located) → file_at (at last (a ++ l ∷ rest) nothing) ≡ Err e) → StandsAt a l e → IsNoName l.word → Fine l.at a
+  -- what reading makes of a file that goes on behind the token of the fault
+  module _ (a : List Located) (l : Located) (e : ConfigFault) (fault : (last : Result Located ConfigFault) (rest : List Located) → file_at (at last (a ++ l ∷ rest) nothing) ≡ Err e) (Bad : ℕ → Type 0) (Kept : FaultKind → Type 0) where
+    goes_on : (place : ℕ) (more : List Word) (sections : List Section) → IsFile ((words a ++ l.word ∷ []) ++ more) sections → Keeps Kept sections → Fine Bad (a ++ l ∷ map (place_at place) more) → OfName Bad Kept e.kind e.at
+    goes_on place more sections file keep fine =
+        let rest = map (place_at place) more in
+        let same : words (a ++ l ∷ rest) ≡ (words a ++ l.word ∷ []) ++ more = words_append a (l ∷ rest) ∙ ap (λ (m : List Word). words a ++ l.word ∷ m) (placed place more) ∙ sym (append_assoc (words a) (l.word ∷ []) more) in
+        let read = file_read (end_of (suc e.at)) Bad Kept (a ++ l ∷ rest) sections e refl (subst (λ (m : List Word). IsFile m sections) (sym same) file) keep fine (fault (Ok (end_of (suc e.at))) rest) in
+        elim read [
+          | inl of ↦ of
+          | inr is ↦ let place : e.at ≡ suc e.at = ap (λ (f : ConfigFault). f.at) is in absurd (omega (arith, place))
+        ]
+
+  no_file : (a : List Located) (l : Located) (e : ConfigFault) → ((last : Result Located ConfigFault) (rest : List Located) → file_at (at last (a ++ l ∷ rest) nothing) ≡ Err e) → StandsAt a l e → IsNoName l.word → Fine (At l.at) a
       → (more : List Word) (sections : List Section) → IsFile ((words a ++ l.word ∷ []) ++ more) sections → ⊥
   no_file a l e fault stands no_name fine more sections file =
-      let rest = map (place_at (suc l.at)) more in
-      let same : words (a ++ l ∷ rest) ≡ (words a ++ l.word ∷ []) ++ more = words_append a (l ∷ rest) ∙ ap (λ (m : List Word). words a ++ l.word ∷ m) (placed (suc l.at) more) ∙ sym (append_assoc (words a) (l.word ∷ []) more) in
-      let all = fine_both l.at a (l ∷ rest) fine (λ name is. absurd (subst IsNoName is no_name), placed_fine l.at more) in
-      let read = file_read (end_of (suc e.at)) l.at (a ++ l ∷ rest) sections e refl (subst (λ (m : List Word). IsFile m sections) (sym same) file) all (fault (Ok (end_of (suc e.at))) rest) in
-      elim read [
-        | inl of ↦ not_name a l e stands no_name of
-        | inr is ↦ let place : e.at ≡ suc e.at = ap (λ (f : ConfigFault). f.at) is in absurd (omega (arith, place))
-      ]
+      let all = fine_both (At l.at) a (l ∷ map (place_at (suc l.at)) more) fine (λ name is. absurd (subst IsNoName is no_name), placed_fine l.at more) in
+      not_name a l e stands no_name (goes_on a l e fault (At l.at) Unlimited (suc l.at) more sections file (sections_so sections) all)
+
+  -- no file that keeps the limit of the fault goes on with its token
+  none_keeps : (a : List Located) (l : Located) (e : ConfigFault) → ((last : Result Located ConfigFault) (rest : List Located) → file_at (at last (a ++ l ∷ rest) nothing) ≡ Err e) → CanBegin (Keeps (Only e.kind)) (words a ++ l.word ∷ []) → ⊥
+  none_keeps a l e fault c = not_kept e.kind e.at (goes_on a l e fault Nowhere (Only e.kind) 0 c.more c.sections c.file c.keeps (fine_nowhere (a ++ l ∷ map (place_at 0) c.more)))
 
   -- with the token of the fault, words aren't in order
-  not_well : (a : List Located) (l : Located) (e : ConfigFault) → ((last : Result Located ConfigFault) (rest : List Located) → file_at (at last (a ++ l ∷ rest) nothing) ≡ Err e) → StandsAt a l e → Fine l.at a → IsWell (words a ++ l.word ∷ []) → ⊥
+  not_well : (a : List Located) (l : Located) (e : ConfigFault) → ((last : Result Located ConfigFault) (rest : List Located) → file_at (at last (a ++ l ∷ rest) nothing) ≡ Err e) → StandsAt a l e → Fine (At l.at) a → IsWell (words a ++ l.word ∷ []) → ⊥
   not_well a l e fault stands fine w = elim (name_or_not l.word) [
     | inl is ↦
         let none = last_named (words a) l.word is.0 w.named w.rest is.1 w.parts w.no_name in
@@ -274,9 +289,9 @@ module _ (order : (sections : List Section) → (MaySections sections ↔ AreWit
     begins_by (Ok t) is a l b whole = record { rest = b; is = inl (subst (λ (ts : List Located). AreTokensOf text ts) (whole ∙ sym (append_assoc a (l ∷ []) b)) (ended_so t is).1) }
     begins_by (Err p) is a l b whole = record { rest = b; is = inr (p, subst (λ (ts : List Located). StopAt 0 0 text ts p) (whole ∙ sym (append_assoc a (l ∷ []) b)) (stopped_so p is)) }
 
-    ends_no_file : (sections : List Section) (e : ConfigFault) → e ≡ record { kind = BadShape; at = length text } → OfName (length text) e.kind e.at ⊎ (e ≡ record { kind = NoDistributed; at = length text }) → ⊥
+    ends_no_file : (sections : List Section) (e : ConfigFault) → e ≡ record { kind = BadShape; at = length text } → OfName (At (length text)) Unlimited e.kind e.at ⊎ (e ≡ record { kind = NoDistributed; at = length text }) → ⊥
     ends_no_file sections e is read = elim read [
-      | inl of ↦ subst (λ (f : ConfigFault). OfName (length text) f.kind f.at) is of refl
+      | inl of ↦ (subst (λ (f : ConfigFault). OfName (At (length text)) Unlimited f.kind f.at) is of).0 refl
       | inr nobody ↦ let kinds : BadShape ≡ NoDistributed = ap (λ (f : ConfigFault). f.kind) (sym is ∙ nobody) in absurd cc
     ]
 
@@ -284,7 +299,7 @@ module _ (order : (sections : List Section) → (MaySections sections ↔ AreWit
     end_fault e tokens so_far h which = elim which [
       | inl is ↦
           Ends s.tokens short tokens so_far
-          (λ sections file. ends_no_file sections e is (file_read (end_of (length text)) (length text) s.tokens sections e refl file (spelled_fine (length text) 0 text s.tokens tokens.spelled (omega arith)) h)) is
+          (λ sections file. ends_no_file sections e is (file_read (end_of (length text)) (At (length text)) Unlimited s.tokens sections e refl file (sections_so sections) (spelled_fine (length text) 0 text s.tokens tokens.spelled (omega arith)) h)) is
       | inr is ↦
           Nobody s.tokens short tokens (record { sections = is.1.0; file = is.1.1.0; within = (order is.1.0).0 is.1.1.1 })
           (λ w. none_listed (length text) (apps_in w.sections) (eqb (apps_in w.sections) 0) (written w.sections (nodes_in w.sections)) refl (sym (within_judged (end_of (length text)) s.tokens w.sections refl w.file w.within) ∙ h ∙ ap (λ (f : ConfigFault). Err f) is.0)) is.0
@@ -302,7 +317,7 @@ module _ (order : (sections : List Section) → (MaySections sections ↔ AreWit
     fault_by e h (By a l b d whole goes stands wants) =
         let same : e ≡ d = same_err d e (file_at (at s.last s.tokens nothing)) (ap (λ (ts : List Located). file_at (at s.last ts nothing)) whole ∙ goes s.last b) h in
         let begins = begins_by s.last refl a l b whole in
-        Token a l short begins (well a (wants halt)) (not_well a l d goes stands (text_fine text a l begins)) (subst (λ (f : ConfigFault). StandsAt a l f) (sym same) stands)
+        Token a l short begins (well a (wants halt)) (not_well a l d goes stands (text_fine text a l begins)) (subst (λ (f : ConfigFault). CanBegin (Keeps (Only f.kind)) (words a ++ l.word ∷ []) → ⊥) (sym same) (none_keeps a l d goes)) (subst (λ (f : ConfigFault). StandsAt a l f) (sym same) stands)
     fault_by e h (Unsettled more ends) = wanting_fault e s.last refl h more ends
 
     pub file_fault : (e : ConfigFault) → file_at (at s.last s.tokens nothing) ≡ Err e → IsFaultOf text e

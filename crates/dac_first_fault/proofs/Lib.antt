@@ -16,6 +16,7 @@ pub mod HeldFile
 pub mod Past
 pub mod PastReaders
 pub mod PastSections
+pub mod Spared
 pub mod Places
 pub mod Order
 pub mod Files

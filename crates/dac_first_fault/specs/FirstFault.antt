@@ -12,6 +12,7 @@ use Rattle.dac_shapes.specs.Shape.{value_from}
 use Rattle.dac_shapes.specs.Written.{Section, written}
 use Rattle.dac_shapes.specs.Grammar.{IsFile}
 use Rattle.dac_shapes.specs.Within.{AreWithinLimits, nodes_in}
+use Rattle.dac_first_fault.specs.Keeps.{Keeps}
 
 -- a name of at most MAX_NAME bytes
 abbrev pub IsShortName : Word → Type 0
@@ -71,6 +72,10 @@ pub record IsWell (ws : List Word) : Type 0 where
   pub no_name : All IsNoName rest
   pub keeps : CanBegin AreWithinLimits named
 
+-- the limit alone that brings this fault
+abbrev pub Only : FaultKind → FaultKind → Type 0
+Only kind other = other ≡ kind
+
 abbrev pub apps_in : List Section → ℕ
 apps_in sections = length (written sections (nodes_in sections)).apps
 
@@ -86,8 +91,9 @@ pub data IsFaultOf (text : List ℕ) (e : ConfigFault) : Type 0 where
   -- these tokens are in order, and behind them no token begins
   NoToken : (before : List Located) → length text ≤ MAX_TEXT → IsWell (words before) → StopAt 0 0 text before e → IsFaultOf text e
   -- What is before the token t is in order, and with t it isn't. If t is a name, no file that keeps the limits goes on
-  -- with it, and if not, no file at all.
-  Token : (before : List Located) (t : Located) → length text ≤ MAX_TEXT → BeginsWith text (before ++ t ∷ []) → IsWell (words before) → ¬ IsWell (words before ++ t.word ∷ []) → StandsAt before t e → IsFaultOf text e
+  -- with it, and if not, no file at all. No file that keeps the limit of this fault goes on with t, whatever other limits
+  -- it breaks.
+  Token : (before : List Located) (t : Located) → length text ≤ MAX_TEXT → BeginsWith text (before ++ t ∷ []) → IsWell (words before) → ¬ IsWell (words before ++ t.word ∷ []) → ¬ CanBegin (Keeps (Only e.kind)) (words before ++ t.word ∷ []) → StandsAt before t e → IsFaultOf text e
   -- all is in order, and the end came where no file is at its end
   Ends : (ts : List Located) → length text ≤ MAX_TEXT → AreTokensOf text ts → IsWell (words ts) → ((sections : List Section) → ¬ IsFile (words ts) sections) → e ≡ record { kind = BadShape; at = length text } → IsFaultOf text e
   -- all is a file that keeps the limits, and no application is listed

@@ -8,7 +8,9 @@
 //! With the token it is no longer in order. If the token is a name, no file that keeps the limits begins so, and if
 //! not, no file at all. What is in order is so up to each of its tokens, so no other token fits the law.
 //!
-//! Not said yet: which of the kinds that a token can bring it is.
+//! No file that keeps the limit of the fault's kind goes on with the token, whatever other limits it breaks.
+//!
+//! Not said yet: which kind it is where one token breaks several limits, or where no file at all goes on with it.
 #![tactic(auto)]
 
 pub mod laws;
