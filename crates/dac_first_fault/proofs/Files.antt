@@ -19,19 +19,20 @@ use Rattle.dac_shapes.specs.Shape.{State, fails, is_mark, list_of, section_at, e
 use Rattle.dac_shapes.specs.laws.AgainLists.{at, ended}
 use Rattle.dac_shapes.specs.laws.Again.{sections_again}
 use Rattle.dac_first_fault.specs.Keeps.{Keeps}
-use Rattle.dac_first_fault.specs.FirstFault.{StandsAt, Itself, words, CanBegin, Only, IsWell, IsWithin, IsNoName, apps_in, BeginsWith, IsFaultOf, Long, NoToken, Token, Ends, Nobody}
+use Rattle.dac_first_fault.specs.FirstFault.{StandsAt, Itself, words, CanBegin, Only, Before, IsOfName, Breaks, IsWell, IsWithin, IsNoName, apps_in, BeginsWith, IsFaultOf, Long, NoToken, Token, Ends, Nobody}
 use Rattle.dac_first_fault.proofs.Outcomes.{Took, Failed, Asked, Takes, Always, Plain, Gives}
 use Rattle.dac_first_fault.proofs.Steps.{mark_is, symbol_yes, symbol_no, symbol_none, symbol_end}
 use Rattle.dac_first_fault.proofs.Sections.{sections_reader}
-use Rattle.dac_first_fault.proofs.Begun.{halt, Read, by_pair}
+use Rattle.dac_first_fault.proofs.Begun.{halt, by_pair}
 use Rattle.dac_first_fault.proofs.BegunSections.{file_begun}
-use Rattle.dac_first_fault.proofs.Held.{Holds}
+use Rattle.dac_first_fault.proofs.Held.{Had, Holds}
 use Rattle.dac_first_fault.proofs.HeldSections.{AreSections, sections_held}
 use Rattle.dac_first_fault.proofs.Past.{OfName, Fine, fine_front, Met}
 use Rattle.dac_first_fault.proofs.PastSections.{sections_met}
 use Rattle.dac_first_fault.proofs.Spared.{Unlimited, sections_so}
-use Rattle.dac_first_fault.proofs.Places.{At, Nowhere, fine_both, fine_nowhere, not_name, not_kept, name_or_not, last_named, spelled_fine, text_fine}
-use Rattle.dac_first_fault.proofs.HeldFile.{MayFile, file_kept}
+use Rattle.dac_first_fault.proofs.Bounds.{Every, sections_may, beyond, lone_beyond, lone_last}
+use Rattle.dac_first_fault.proofs.Places.{At, Nowhere, name_of_it, stops_so, fine_both, fine_nowhere, not_name, not_kept, name_or_not, last_named, spelled_fine, text_fine}
+use Rattle.dac_first_fault.proofs.HeldFile.{file_kept}
 
 -- ---- the end of a file
 
@@ -74,7 +75,7 @@ file_is s = refl
 
 -- these tokens are a file that keeps the limits
 abbrev Done : List Located → Type 0
-Done ts = (sections : List Section) × MayFile (words ts) sections
+Done ts = (sections : List Section) × IsFile (words ts) sections × MaySections sections
 
 -- what fault reading can have where the end is behind these tokens
 abbrev AtEnd : List Located → ℕ → ConfigFault → Type 0
@@ -133,9 +134,10 @@ module _ (ts : List Located) (k : Takes Always Plain (λ _. list_of section_at) 
   done : (c : Located) → is_mark FullStop c.word ≡ true → Done (k.a ++ c ∷ [])
   done c is =
       let ts = k.a ++ c ∷ [] in
-      let q : Read by_pair AreSections (words ts) (k.x, at (Err halt) (c ∷ []) k.after) =
-      subst (λ (r : Result (List Section × State) ConfigFault). Holds by_pair AreSections (words ts) r) (k.goes tt (Err halt) (c ∷ []) tt) (sections_held ts) in
-      (k.x, ((q.own, q.whole ∙ ap (λ (w : Word). q.own ++ w ∷ []) (mark_is FullStop c.word is), q.is.0), q.is.1))
+      let bad = beyond ts in
+      let q : Had bad Every by_pair (AreSections bad Every) (words ts) (k.x, at (Err halt) (c ∷ []) k.after) =
+      subst (λ (r : Result (List Section × State) ConfigFault). Holds bad Every by_pair (AreSections bad Every) (words ts) r) (k.goes tt (Err halt) (c ∷ []) tt) (sections_held bad Every ts (lone_beyond bad Every ts (omega arith))) in
+      (k.x, (q.own, q.whole ∙ ap (λ (w : Word). q.own ++ w ∷ []) (mark_is FullStop c.word is), q.is.0), sections_may k.x q.is.1)
 
   stopped_by : (c : Located) (b : List Located) → is_mark FullStop c.word ≡ true → NoEnd b → Judged (k.a ++ c ∷ b)
   stopped_by c [] is no_end = Unsettled (stop_wants c is)
@@ -164,14 +166,15 @@ module _ (order : (sections : List Section) → (MaySections sections ↔ AreWit
   well : (ts : List Located) → file_at (at (Err halt) ts nothing) ≡ Err halt → IsWell (words ts)
   well ts e =
       let b = file_begun ts e in
-      let k = file_kept ts e in
+      let bad = beyond ts in
+      let k = file_kept bad Every ts (lone_beyond bad Every ts (omega arith)) halt tt e in
       record {
         goes_on = record { more = b.more; sections = b.x; file = b.is; keeps = tt };
         named = k.named;
         rest = k.rest;
         parts = k.parts;
         no_name = k.no_name;
-        keeps = record { more = k.begun.more; sections = k.begun.x; file = k.begun.is.0; keeps = (order k.begun.x).0 k.begun.is.1 };
+        keeps = record { more = k.begun.more; sections = k.begun.x; file = k.begun.is.0; keeps = (order k.begun.x).0 (sections_may k.begun.x k.begun.is.1) };
       }
 
   within_judged : (end : Located) (ts : List Located) (sections : List Section) → end.word ≡ End → IsFile (words ts) sections → AreWithinLimits sections
@@ -257,6 +260,19 @@ module _ (order : (sections : List Section) → (MaySections sections ↔ AreWit
   none_keeps : (a : List Located) (l : Located) (e : ConfigFault) → ((last : Result Located ConfigFault) (rest : List Located) → file_at (at last (a ++ l ∷ rest) nothing) ≡ Err e) → CanBegin (Keeps (Only e.kind)) (words a ++ l.word ∷ []) → ⊥
   none_keeps a l e fault c = not_kept e.kind e.at (goes_on a l e fault Nowhere (Only e.kind) 0 c.more c.sections c.file c.keeps (fine_nowhere (a ++ l ∷ map (place_at 0) c.more)))
 
+  -- a file that keeps the limits that count before it begins so
+  first_kept : (a : List Located) (l : Located) (e : ConfigFault) → ((last : Result Located ConfigFault) (rest : List Located) → file_at (at last (a ++ l ∷ rest) nothing) ≡ Err e) → StandsAt a l e → Fine (At l.at) a → IsOfName e.kind → CanBegin (Keeps (Before e.kind)) (words a ++ l.word ∷ [])
+  first_kept a l e fault stands fine of =
+      let n = name_of_it a l e stands of in
+      let k = file_kept l.at (Before e.kind) (a ++ l ∷ []) (lone_last l.at (Before e.kind) a l fine) e (stops_so e.kind e.at l.at n.1 of) (fault (Err halt) []) in
+      let same : words (a ++ l ∷ []) ≡ words a ++ l.word ∷ [] = words_append a (l ∷ []) in
+      let none = last_named (words a) l.word n.0.0 k.named k.rest n.0.1 (sym same ∙ k.parts) k.no_name in
+      let all : words a ++ l.word ∷ [] ≡ k.named = sym same ∙ k.parts ∙ ap (λ (l : List Word). k.named ++ l) none ∙ append-nil k.named in
+      record { more = k.begun.more; sections = k.begun.x; file = subst (λ (m : List Word). IsFile (m ++ k.begun.more) k.begun.x) (sym all) k.begun.is.0; keeps = k.begun.is.1 }
+
+  breaks : (a : List Located) (l : Located) (e : ConfigFault) → ((last : Result Located ConfigFault) (rest : List Located) → file_at (at last (a ++ l ∷ rest) nothing) ≡ Err e) → StandsAt a l e → Fine (At l.at) a → Breaks (words a ++ l.word ∷ []) e.kind
+  breaks a l e fault stands fine = record { broken = none_keeps a l e fault; first = first_kept a l e fault stands fine }
+
   -- with the token of the fault, words aren't in order
   not_well : (a : List Located) (l : Located) (e : ConfigFault) → ((last : Result Located ConfigFault) (rest : List Located) → file_at (at last (a ++ l ∷ rest) nothing) ≡ Err e) → StandsAt a l e → Fine (At l.at) a → IsWell (words a ++ l.word ∷ []) → ⊥
   not_well a l e fault stands fine w = elim (name_or_not l.word) [
@@ -301,7 +317,7 @@ module _ (order : (sections : List Section) → (MaySections sections ↔ AreWit
           Ends s.tokens short tokens so_far
           (λ sections file. ends_no_file sections e is (file_read (end_of (length text)) (At (length text)) Unlimited s.tokens sections e refl file (sections_so sections) (spelled_fine (length text) 0 text s.tokens tokens.spelled (omega arith)) h)) is
       | inr is ↦
-          Nobody s.tokens short tokens (record { sections = is.1.0; file = is.1.1.0; within = (order is.1.0).0 is.1.1.1 })
+          Nobody s.tokens short tokens (record { sections = is.1.0; file = is.1.1; within = (order is.1.0).0 is.1.2 })
           (λ w. none_listed (length text) (apps_in w.sections) (eqb (apps_in w.sections) 0) (written w.sections (nodes_in w.sections)) refl (sym (within_judged (end_of (length text)) s.tokens w.sections refl w.file w.within) ∙ h ∙ ap (λ (f : ConfigFault). Err f) is.0)) is.0
     ]
 
@@ -317,7 +333,7 @@ module _ (order : (sections : List Section) → (MaySections sections ↔ AreWit
     fault_by e h (By a l b d whole goes stands wants) =
         let same : e ≡ d = same_err d e (file_at (at s.last s.tokens nothing)) (ap (λ (ts : List Located). file_at (at s.last ts nothing)) whole ∙ goes s.last b) h in
         let begins = begins_by s.last refl a l b whole in
-        Token a l short begins (well a (wants halt)) (not_well a l d goes stands (text_fine text a l begins)) (subst (λ (f : ConfigFault). CanBegin (Keeps (Only f.kind)) (words a ++ l.word ∷ []) → ⊥) (sym same) (none_keeps a l d goes)) (subst (λ (f : ConfigFault). StandsAt a l f) (sym same) stands)
+        Token a l short begins (well a (wants halt)) (not_well a l d goes stands (text_fine text a l begins)) (subst (λ (f : ConfigFault). Breaks (words a ++ l.word ∷ []) f.kind) (sym same) (breaks a l d goes stands (text_fine text a l begins))) (subst (λ (f : ConfigFault). StandsAt a l f) (sym same) stands)
     fault_by e h (Unsettled more ends) = wanting_fault e s.last refl h more ends
 
     pub file_fault : (e : ConfigFault) → file_at (at s.last s.tokens nothing) ≡ Err e → IsFaultOf text e

@@ -18,5 +18,6 @@ pub mod PastReaders
 pub mod PastSections
 pub mod Spared
 pub mod Places
+pub mod Bounds
 pub mod Order
 pub mod Files

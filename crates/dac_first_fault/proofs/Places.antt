@@ -9,8 +9,9 @@ use Rattle.dac_tokens.specs.declared.fault.FaultKind.TheVariants as kind
 use Rattle.dac_tokens.specs.Words.{Word, Mark, Name, Number, Text, End, Located}
 use Rattle.dac_tokens.specs.TokenGrammar.{AreSpelled, Spells, Begins, depth_behind}
 use Rattle.dac_tokens.specs.TokenFaults.{StopAt}
-use Rattle.dac_first_fault.specs.FirstFault.{StandsAt, Itself, InList, InTuple, CanBring, IsNoName, BeginsWith, Only}
+use Rattle.dac_first_fault.specs.FirstFault.{StandsAt, Itself, InList, InTuple, CanBring, IsNoName, BeginsWith, Only, Before, IsOfName}
 use Rattle.dac_first_fault.proofs.Past.{OfName, Fine}
+use Rattle.dac_first_fault.proofs.Held.{Frees, Stops}
 use Rattle.dac_first_fault.proofs.Spared.{Unlimited}
 
 -- this place alone
@@ -80,6 +81,33 @@ not_kept kind.TooManyApps place of = of refl
 not_kept kind.TooManyNodes place of = of refl
 not_kept kind.NameTooLong place of = of refl
 not_kept _ place of = absurd of
+
+-- ---- a limit that a name breaks
+
+can_name : (k : FaultKind) (w : Word) → CanBring k w → IsOfName k → (name : List ℕ) × (w ≡ Name name)
+can_name kind.NameTooLong w can of = (can.0, can.1)
+can_name kind.TwiceApp w can of = (can.0, can.1)
+can_name kind.TwiceInList w can of = (can.0, can.1)
+can_name kind.TooManyApps w can of = (can.0, can.1)
+can_name kind.TooManyNodes w can of = (can.0, can.1)
+can_name _ w can of = absurd of
+
+-- the name, at whose place the fault is
+pub name_of_it : (a : List Located) (l : Located) (e : ConfigFault) → StandsAt a l e → IsOfName e.kind → ((name : List ℕ) × (l.word ≡ Name name)) × (e.at ≡ l.at)
+name_of_it a l e (Itself place can) of = (can_name e.kind l.word can of, place)
+name_of_it a l e (InList front o is w v f) of = absurd (subst (λ (f : ConfigFault). IsOfName f.kind) f of)
+name_of_it a l e (InTuple front o is w v f) of = absurd (subst (λ (f : ConfigFault). IsOfName f.kind) f of)
+
+frees_so : (k : FaultKind) → Frees (Before k) k
+frees_so k other le less = absurd (omega (arith, le, less))
+
+pub stops_so : (k : FaultKind) (place bad : ℕ) → place ≡ bad → IsOfName k → Stops bad (Before k) k place
+stops_so kind.NameTooLong place bad e of = (e, frees_so kind.NameTooLong)
+stops_so kind.TwiceApp place bad e of = (e, frees_so kind.TwiceApp)
+stops_so kind.TwiceInList place bad e of = (e, frees_so kind.TwiceInList)
+stops_so kind.TooManyApps place bad e of = (e, frees_so kind.TooManyApps)
+stops_so kind.TooManyNodes place bad e of = (e, frees_so kind.TooManyNodes)
+stops_so _ place bad e of = absurd of
 
 -- ---- places
 

@@ -8,9 +8,11 @@
 //! With the token it is no longer in order. If the token is a name, no file that keeps the limits begins so, and if
 //! not, no file at all. What is in order is so up to each of its tokens, so no other token fits the law.
 //!
-//! No file that keeps the limit of the fault's kind goes on with the token, whatever other limits it breaks.
+//! No file that keeps the limit of the fault's kind goes on with the token, whatever other limits it breaks. Where a
+//! name breaks several limits, the fault is the first of them in a fixed order: a file goes on with the name that keeps
+//! those before it.
 //!
-//! Not said yet: which kind it is where one token breaks several limits, or where no file at all goes on with it.
+//! Not said yet: which kind it is where the token is no name, so that no file at all goes on with it.
 #![tactic(auto)]
 
 pub mod laws;
