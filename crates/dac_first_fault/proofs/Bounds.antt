@@ -16,7 +16,7 @@ use Rattle.dac_first_fault.proofs.Places.{At}
 abbrev pub Every : FaultKind → Type 0
 Every kind = Unit {0}
 
-all_to : {A : Type 0} (step : Seen → A → Seen) (Keep May : List A → Seen → A → Type 0) → ((before : List A) (seen : Seen) (x : A) → Keep before seen x → May before seen x) → (before : List A) (seen : Seen) (xs : List A) → AllMay step Keep before seen xs → AllMay step May before seen xs
+pub all_to : {A : Type 0} (step : Seen → A → Seen) (Keep May : List A → Seen → A → Type 0) → ((before : List A) (seen : Seen) (x : A) → Keep before seen x → May before seen x) → (before : List A) (seen : Seen) (xs : List A) → AllMay step Keep before seen xs → AllMay step May before seen xs
 all_to step Keep May to before seen [] all = tt
 all_to step Keep May to before seen (x ∷ xs) all = (to before seen x all.0, all_to step Keep May to (before ++ x ∷ []) (step seen x) xs all.1)
 

@@ -30,6 +30,7 @@ use Rattle.dac_first_fault.proofs.HeldSections.{AreSections, sections_held}
 use Rattle.dac_first_fault.proofs.Past.{OfName, Fine, fine_front, Met}
 use Rattle.dac_first_fault.proofs.PastSections.{sections_met}
 use Rattle.dac_first_fault.proofs.Spared.{Unlimited, sections_so}
+use Rattle.dac_first_fault.proofs.Order.{words_append}
 use Rattle.dac_first_fault.proofs.Bounds.{Every, sections_may, beyond, lone_beyond, lone_last}
 use Rattle.dac_first_fault.proofs.Places.{At, Nowhere, name_of_it, stops_so, fine_both, fine_nowhere, not_name, not_kept, name_or_not, last_named, spelled_fine, text_fine}
 use Rattle.dac_first_fault.proofs.HeldFile.{file_kept}
@@ -195,10 +196,6 @@ module _ (order : (sections : List Section) → (MaySections sections ↔ AreWit
   placed : (n : ℕ) (ws : List Word) → words (map (place_at n) ws) ≡ ws
   placed n [] = refl
   placed n (w ∷ ws) = ap (λ (l : List Word). w ∷ l) (placed n ws)
-
-  words_append : (a b : List Located) → words (a ++ b) ≡ words a ++ words b
-  words_append [] b = refl
-  words_append (t ∷ a) b = ap (λ (l : List Word). t.word ∷ l) (words_append a b)
 
   no_clash : (e : ConfigFault) (c : Bool) (w : Written) → cond c (fails NoDistributed (suc e.at)) (Ok w) ≡ Err e → ⊥
   no_clash e true w h = let same : e.at ≡ suc e.at = ap (λ (f : ConfigFault). f.at) (same_err (record { kind = NoDistributed; at = suc e.at }) e (fails NoDistributed (suc e.at)) refl h) in absurd (omega arith)

@@ -21,3 +21,5 @@ pub mod Places
 pub mod Bounds
 pub mod Order
 pub mod Files
+pub mod Fewer
+pub mod Alone

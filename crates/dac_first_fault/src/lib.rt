@@ -12,7 +12,8 @@
 //! name breaks several limits, the fault is the first of them in a fixed order: a file goes on with the name that keeps
 //! those before it.
 //!
-//! Not said yet: which kind it is where the token is no name, so that no file at all goes on with it.
+//! The law admits one fault alone of a text, unless a token that is no name brings it. Not said yet: which kind it is
+//! then, where no file at all goes on with the token.
 #![tactic(auto)]
 
 pub mod laws;
