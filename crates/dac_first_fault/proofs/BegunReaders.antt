@@ -71,7 +71,7 @@ flag_looks t =
     one_name : (name wanted : List ℕ) → t.word ≡ Name name → bytes_eq name wanted ≡ true → t.word ∷ [] ≡ Name wanted ∷ []
     one_name name wanted e is = ap (λ (w : Word). w ∷ []) (e ∙ ap Name (is_named name wanted is))
 
-not_less : (c d : Bool) (v : ℕ) → c ≡ true → (c && not d) ≡ false → (d ≡ true → v ≡ 0) → v ≡ 0
+pub not_less : (c d : Bool) (v : ℕ) → c ≡ true → (c && not d) ≡ false → (d ≡ true → v ≡ 0) → v ≡ 0
 not_less true true v e f z = z refl
 not_less true false v e f z = absurd cc
 not_less false d v e f z = absurd cc

@@ -3,6 +3,7 @@ use Rattle.std.proofs.Common.{◌≡◌, ℕ, suc, ◌+◌, ◌≤◌, Bool, tru
 use Rattle.std.specs.Prelude.{◌⊎◌, ◌↔◌, IfOk}
 use Rattle.std.proofs.lemmas.Bool.{ltb-true, ltb-false, eqb-true}
 use Rattle.dac_tokens.specs.declared.fault.ConfigFault.{ConfigFault}
+use Rattle.dac_tokens.specs.declared.fault.FaultKind.{FaultKind}
 use Rattle.dac_tokens.specs.declared.fault.FaultKind.TheVariants.{BadShape, NoDistributed, TooLong}
 use Rattle.dac_tokens.specs.declared.token.Symbol.TheVariants.{FullStop}
 use Rattle.dac_tokens.specs.Gives.{◌>>=◌}
@@ -17,18 +18,22 @@ use Rattle.dac_shapes.specs.Grammar.{IsFile, IsSection, IsListOf}
 use Rattle.dac_shapes.specs.Shape.{State, fails, is_mark, list_of, section_at, end_at, file_at, draft_at}
 use Rattle.dac_shapes.specs.laws.AgainLists.{at, ended}
 use Rattle.dac_shapes.specs.laws.Again.{sections_again}
-use Rattle.dac_first_fault.specs.FirstFault.{StandsAt, Itself, words, IsWell, IsWithin, IsNoName, apps_in, BeginsWith, IsFaultOf, Long, NoToken, Token, Ends, Nobody}
+use Rattle.dac_first_fault.specs.Keeps.{Keeps}
+use Rattle.dac_first_fault.specs.FirstFault.{StandsAt, Itself, words, CanBegin, Only, Before, IsOfName, Breaks, IsWell, IsWithin, IsNoName, apps_in, BeginsWith, IsFaultOf, Long, NoToken, Token, Ends, Nobody}
 use Rattle.dac_first_fault.proofs.Outcomes.{Took, Failed, Asked, Takes, Always, Plain, Gives}
 use Rattle.dac_first_fault.proofs.Steps.{mark_is, symbol_yes, symbol_no, symbol_none, symbol_end}
 use Rattle.dac_first_fault.proofs.Sections.{sections_reader}
-use Rattle.dac_first_fault.proofs.Begun.{halt, Read, by_pair}
+use Rattle.dac_first_fault.proofs.Begun.{halt, by_pair}
 use Rattle.dac_first_fault.proofs.BegunSections.{file_begun}
-use Rattle.dac_first_fault.proofs.Held.{Holds}
+use Rattle.dac_first_fault.proofs.Held.{Had, Holds}
 use Rattle.dac_first_fault.proofs.HeldSections.{AreSections, sections_held}
 use Rattle.dac_first_fault.proofs.Past.{OfName, Fine, fine_front, Met}
 use Rattle.dac_first_fault.proofs.PastSections.{sections_met}
-use Rattle.dac_first_fault.proofs.Places.{fine_both, not_name, name_or_not, last_named, spelled_fine, text_fine}
-use Rattle.dac_first_fault.proofs.HeldFile.{MayFile, file_kept}
+use Rattle.dac_first_fault.proofs.Spared.{Unlimited, sections_so}
+use Rattle.dac_first_fault.proofs.Order.{words_append}
+use Rattle.dac_first_fault.proofs.Bounds.{Every, sections_may, beyond, lone_beyond, lone_last}
+use Rattle.dac_first_fault.proofs.Places.{At, Nowhere, name_of_it, stops_so, fine_both, fine_nowhere, not_name, not_kept, name_or_not, last_named, spelled_fine, text_fine}
+use Rattle.dac_first_fault.proofs.HeldFile.{file_kept}
 
 -- ---- the end of a file
 
@@ -71,7 +76,7 @@ file_is s = refl
 
 -- these tokens are a file that keeps the limits
 abbrev Done : List Located → Type 0
-Done ts = (sections : List Section) × MayFile (words ts) sections
+Done ts = (sections : List Section) × IsFile (words ts) sections × MaySections sections
 
 -- what fault reading can have where the end is behind these tokens
 abbrev AtEnd : List Located → ℕ → ConfigFault → Type 0
@@ -130,9 +135,10 @@ module _ (ts : List Located) (k : Takes Always Plain (λ _. list_of section_at) 
   done : (c : Located) → is_mark FullStop c.word ≡ true → Done (k.a ++ c ∷ [])
   done c is =
       let ts = k.a ++ c ∷ [] in
-      let q : Read by_pair AreSections (words ts) (k.x, at (Err halt) (c ∷ []) k.after) =
-      subst (λ (r : Result (List Section × State) ConfigFault). Holds by_pair AreSections (words ts) r) (k.goes tt (Err halt) (c ∷ []) tt) (sections_held ts) in
-      (k.x, ((q.own, q.whole ∙ ap (λ (w : Word). q.own ++ w ∷ []) (mark_is FullStop c.word is), q.is.0), q.is.1))
+      let bad = beyond ts in
+      let q : Had bad Every by_pair (AreSections bad Every) (words ts) (k.x, at (Err halt) (c ∷ []) k.after) =
+      subst (λ (r : Result (List Section × State) ConfigFault). Holds bad Every by_pair (AreSections bad Every) (words ts) r) (k.goes tt (Err halt) (c ∷ []) tt) (sections_held bad Every ts (lone_beyond bad Every ts (omega arith))) in
+      (k.x, (q.own, q.whole ∙ ap (λ (w : Word). q.own ++ w ∷ []) (mark_is FullStop c.word is), q.is.0), sections_may k.x q.is.1)
 
   stopped_by : (c : Located) (b : List Located) → is_mark FullStop c.word ≡ true → NoEnd b → Judged (k.a ++ c ∷ b)
   stopped_by c [] is no_end = Unsettled (stop_wants c is)
@@ -161,14 +167,15 @@ module _ (order : (sections : List Section) → (MaySections sections ↔ AreWit
   well : (ts : List Located) → file_at (at (Err halt) ts nothing) ≡ Err halt → IsWell (words ts)
   well ts e =
       let b = file_begun ts e in
-      let k = file_kept ts e in
+      let bad = beyond ts in
+      let k = file_kept bad Every ts (lone_beyond bad Every ts (omega arith)) halt tt e in
       record {
         goes_on = record { more = b.more; sections = b.x; file = b.is; keeps = tt };
         named = k.named;
         rest = k.rest;
         parts = k.parts;
         no_name = k.no_name;
-        keeps = record { more = k.begun.more; sections = k.begun.x; file = k.begun.is.0; keeps = (order k.begun.x).0 k.begun.is.1 };
+        keeps = record { more = k.begun.more; sections = k.begun.x; file = k.begun.is.0; keeps = (order k.begun.x).0 (sections_may k.begun.x k.begun.is.1) };
       }
 
   within_judged : (end : Located) (ts : List Located) (sections : List Section) → end.word ≡ End → IsFile (words ts) sections → AreWithinLimits sections
@@ -190,10 +197,6 @@ module _ (order : (sections : List Section) → (MaySections sections ↔ AreWit
   placed n [] = refl
   placed n (w ∷ ws) = ap (λ (l : List Word). w ∷ l) (placed n ws)
 
-  words_append : (a b : List Located) → words (a ++ b) ≡ words a ++ words b
-  words_append [] b = refl
-  words_append (t ∷ a) b = ap (λ (l : List Word). t.word ∷ l) (words_append a b)
-
   no_clash : (e : ConfigFault) (c : Bool) (w : Written) → cond c (fails NoDistributed (suc e.at)) (Ok w) ≡ Err e → ⊥
   no_clash e true w h = let same : e.at ≡ suc e.at = ap (λ (f : ConfigFault). f.at) (same_err (record { kind = NoDistributed; at = suc e.at }) e (fails NoDistributed (suc e.at)) refl h) in absurd (omega arith)
   no_clash e false w h = absurd cc
@@ -205,45 +208,70 @@ module _ (order : (sections : List Section) → (MaySections sections ↔ AreWit
       let read = within_judged (end_of (suc e.at)) (a ++ l ∷ rest) is.sections refl (subst (λ (m : List Word). IsFile m is.sections) (sym same) is.file) is.within in
       no_clash e (eqb (apps_in is.sections) 0) (written is.sections (nodes_in is.sections)) (sym read ∙ fault (Ok (end_of (suc e.at))) rest)
 
-  -- reading a file gives a fault that a name brings, or that nobody is listed
-  file_read : (end : Located) (bad : ℕ) (ts : List Located) (sections : List Section) (e : ConfigFault) → end.word ≡ End → IsFile (words ts) sections → Fine bad ts → file_at (at (Ok end) ts nothing) ≡ Err e
-      → OfName bad e.kind e.at ⊎ (e ≡ record { kind = NoDistributed; at = end.at })
-  file_read end bad ts sections e w file fine h =
+  -- reading a file gives a fault that a name brings whose limit it doesn't keep, or that nobody is listed
+  file_read : (end : Located) (Bad : ℕ → Type 0) (Kept : FaultKind → Type 0) (ts : List Located) (sections : List Section) (e : ConfigFault) → end.word ≡ End → IsFile (words ts) sections → Keeps Kept sections → Fine Bad ts → file_at (at (Ok end) ts nothing) ≡ Err e
+      → OfName Bad Kept e.kind e.at ⊎ (e ≡ record { kind = NoDistributed; at = end.at })
+  file_read end Bad Kept ts sections e w file keep fine h =
       let c = ended ts file.0 (Mark FullStop) file.1 in
       let list : IsListOf IsSection (words c.front) sections = subst (λ (l : List Word). IsListOf IsSection l sections) (sym c.first) file.2 in
-      let front : Fine bad c.front = fine_front bad c.front (c.end ∷ []) (subst (λ (l : List Located). Fine bad l) c.whole fine) in
+      let front : Fine Bad c.front = fine_front Bad c.front (c.end ∷ []) (subst (λ (l : List Located). Fine Bad l) c.whole fine) in
       let there : (list_of section_at (at (Ok end) (c.front ++ c.end ∷ []) nothing) >>= behind) ≡ Err e = sym (ap (λ (l : List Located). file_at (at (Ok end) l nothing)) c.whole ∙ file_is (at (Ok end) (c.front ++ c.end ∷ []) nothing)) ∙ h in
-      by c.end (ap (is_mark FullStop) c.is) (list_of section_at (at (Ok end) (c.front ++ c.end ∷ []) nothing)) (sections_met (Ok end) bad c.front (c.end ∷ []) sections nothing list front) there
+      by c.end (ap (is_mark FullStop) c.is) (list_of section_at (at (Ok end) (c.front ++ c.end ∷ []) nothing)) (sections_met (Ok end) Bad Kept c.front (c.end ∷ []) sections list front keep) there
     where
+      after : Seen
+      after = steps with_section nothing sections
+
       nobody : (c : Bool) (w : Written) → cond c (fails NoDistributed end.at) (Ok w) ≡ Err e → e ≡ record { kind = NoDistributed; at = end.at }
       nobody true w h = same_err (record { kind = NoDistributed; at = end.at }) e (fails NoDistributed end.at) refl h
       nobody false w h = absurd cc
 
-      by : (c : Located) → is_mark FullStop c.word ≡ true → (r : Result (List Section × State) ConfigFault) → Met (Ok end) bad sections (c ∷ []) r → (r >>= behind) ≡ Err e → OfName bad e.kind e.at ⊎ (e ≡ record { kind = NoDistributed; at = end.at })
+      by : (c : Located) → is_mark FullStop c.word ≡ true → (r : Result (List Section × State) ConfigFault) → Met (Ok end) Bad Kept sections (c ∷ []) after r → (r >>= behind) ≡ Err e → OfName Bad Kept e.kind e.at ⊎ (e ≡ record { kind = NoDistributed; at = end.at })
       by c stop (Ok y) m h =
-          let s = at (Ok end) (c ∷ []) m.0 in
-          let read : behind y ≡ judged sections (end.at, at (Ok end) [] m.0) = ap behind m.1 ∙ ap (λ r. r >>= judged sections) (stop_end c m.0 end stop w) in
-          inr (nobody (eqb (length (written sections m.0.met).apps) 0) (written sections m.0.met) (sym read ∙ h))
-      by c stop (Err d) m h = inl (subst (λ (f : ConfigFault). OfName bad f.kind f.at) (sym (same_err d e (Err d) refl h)) m)
+          let read : behind y ≡ judged sections (end.at, at (Ok end) [] after) = ap behind m ∙ ap (λ r. r >>= judged sections) (stop_end c after end stop w) in
+          inr (nobody (eqb (length (written sections after.met).apps) 0) (written sections after.met) (sym read ∙ h))
+      by c stop (Err d) m h = inl (subst (λ (f : ConfigFault). OfName Bad Kept f.kind f.at) (sym (same_err d e (Err d) refl h)) m)
 
-  placed_fine : (bad : ℕ) (ws : List Word) → Fine bad (map (place_at (suc bad)) ws)
+  placed_fine : (bad : ℕ) (ws : List Word) → Fine (At bad) (map (place_at (suc bad)) ws)
   placed_fine bad [] = tt
   placed_fine bad (w ∷ ws) = (λ name is e. absurd (omega (arith, e)), placed_fine bad ws)
 
-  no_file : (a : List Located) (l : Located) (e : ConfigFault) → ((last : Result Located ConfigFault) (rest : List Located) → file_at (at last (a ++ l ∷ rest) nothing) ≡ Err e) → StandsAt a l e → IsNoName l.word → Fine l.at a
+  -- what reading makes of a file that goes on behind the token of the fault
+  module _ (a : List Located) (l : Located) (e : ConfigFault) (fault : (last : Result Located ConfigFault) (rest : List Located) → file_at (at last (a ++ l ∷ rest) nothing) ≡ Err e) (Bad : ℕ → Type 0) (Kept : FaultKind → Type 0) where
+    goes_on : (place : ℕ) (more : List Word) (sections : List Section) → IsFile ((words a ++ l.word ∷ []) ++ more) sections → Keeps Kept sections → Fine Bad (a ++ l ∷ map (place_at place) more) → OfName Bad Kept e.kind e.at
+    goes_on place more sections file keep fine =
+        let rest = map (place_at place) more in
+        let same : words (a ++ l ∷ rest) ≡ (words a ++ l.word ∷ []) ++ more = words_append a (l ∷ rest) ∙ ap (λ (m : List Word). words a ++ l.word ∷ m) (placed place more) ∙ sym (append_assoc (words a) (l.word ∷ []) more) in
+        let read = file_read (end_of (suc e.at)) Bad Kept (a ++ l ∷ rest) sections e refl (subst (λ (m : List Word). IsFile m sections) (sym same) file) keep fine (fault (Ok (end_of (suc e.at))) rest) in
+        elim read [
+          | inl of ↦ of
+          | inr is ↦ let place : e.at ≡ suc e.at = ap (λ (f : ConfigFault). f.at) is in absurd (omega (arith, place))
+        ]
+
+  no_file : (a : List Located) (l : Located) (e : ConfigFault) → ((last : Result Located ConfigFault) (rest : List Located) → file_at (at last (a ++ l ∷ rest) nothing) ≡ Err e) → StandsAt a l e → IsNoName l.word → Fine (At l.at) a
       → (more : List Word) (sections : List Section) → IsFile ((words a ++ l.word ∷ []) ++ more) sections → ⊥
   no_file a l e fault stands no_name fine more sections file =
-      let rest = map (place_at (suc l.at)) more in
-      let same : words (a ++ l ∷ rest) ≡ (words a ++ l.word ∷ []) ++ more = words_append a (l ∷ rest) ∙ ap (λ (m : List Word). words a ++ l.word ∷ m) (placed (suc l.at) more) ∙ sym (append_assoc (words a) (l.word ∷ []) more) in
-      let all = fine_both l.at a (l ∷ rest) fine (λ name is. absurd (subst IsNoName is no_name), placed_fine l.at more) in
-      let read = file_read (end_of (suc e.at)) l.at (a ++ l ∷ rest) sections e refl (subst (λ (m : List Word). IsFile m sections) (sym same) file) all (fault (Ok (end_of (suc e.at))) rest) in
-      elim read [
-        | inl of ↦ not_name a l e stands no_name of
-        | inr is ↦ let place : e.at ≡ suc e.at = ap (λ (f : ConfigFault). f.at) is in absurd (omega (arith, place))
-      ]
+      let all = fine_both (At l.at) a (l ∷ map (place_at (suc l.at)) more) fine (λ name is. absurd (subst IsNoName is no_name), placed_fine l.at more) in
+      not_name a l e stands no_name (goes_on a l e fault (At l.at) Unlimited (suc l.at) more sections file (sections_so sections) all)
+
+  -- no file that keeps the limit of the fault goes on with its token
+  none_keeps : (a : List Located) (l : Located) (e : ConfigFault) → ((last : Result Located ConfigFault) (rest : List Located) → file_at (at last (a ++ l ∷ rest) nothing) ≡ Err e) → CanBegin (Keeps (Only e.kind)) (words a ++ l.word ∷ []) → ⊥
+  none_keeps a l e fault c = not_kept e.kind e.at (goes_on a l e fault Nowhere (Only e.kind) 0 c.more c.sections c.file c.keeps (fine_nowhere (a ++ l ∷ map (place_at 0) c.more)))
+
+  -- a file that keeps the limits that count before it begins so
+  first_kept : (a : List Located) (l : Located) (e : ConfigFault) → ((last : Result Located ConfigFault) (rest : List Located) → file_at (at last (a ++ l ∷ rest) nothing) ≡ Err e) → StandsAt a l e → Fine (At l.at) a → IsOfName e.kind → CanBegin (Keeps (Before e.kind)) (words a ++ l.word ∷ [])
+  first_kept a l e fault stands fine of =
+      let n = name_of_it a l e stands of in
+      let k = file_kept l.at (Before e.kind) (a ++ l ∷ []) (lone_last l.at (Before e.kind) a l fine) e (stops_so e.kind e.at l.at n.1 of) (fault (Err halt) []) in
+      let same : words (a ++ l ∷ []) ≡ words a ++ l.word ∷ [] = words_append a (l ∷ []) in
+      let none = last_named (words a) l.word n.0.0 k.named k.rest n.0.1 (sym same ∙ k.parts) k.no_name in
+      let all : words a ++ l.word ∷ [] ≡ k.named = sym same ∙ k.parts ∙ ap (λ (l : List Word). k.named ++ l) none ∙ append-nil k.named in
+      record { more = k.begun.more; sections = k.begun.x; file = subst (λ (m : List Word). IsFile (m ++ k.begun.more) k.begun.x) (sym all) k.begun.is.0; keeps = k.begun.is.1 }
+
+  breaks : (a : List Located) (l : Located) (e : ConfigFault) → ((last : Result Located ConfigFault) (rest : List Located) → file_at (at last (a ++ l ∷ rest) nothing) ≡ Err e) → StandsAt a l e → Fine (At l.at) a → Breaks (words a ++ l.word ∷ []) e.kind
+  breaks a l e fault stands fine = record { broken = none_keeps a l e fault; first = first_kept a l e fault stands fine }
 
   -- with the token of the fault, words aren't in order
-  not_well : (a : List Located) (l : Located) (e : ConfigFault) → ((last : Result Located ConfigFault) (rest : List Located) → file_at (at last (a ++ l ∷ rest) nothing) ≡ Err e) → StandsAt a l e → Fine l.at a → IsWell (words a ++ l.word ∷ []) → ⊥
+  not_well : (a : List Located) (l : Located) (e : ConfigFault) → ((last : Result Located ConfigFault) (rest : List Located) → file_at (at last (a ++ l ∷ rest) nothing) ≡ Err e) → StandsAt a l e → Fine (At l.at) a → IsWell (words a ++ l.word ∷ []) → ⊥
   not_well a l e fault stands fine w = elim (name_or_not l.word) [
     | inl is ↦
         let none = last_named (words a) l.word is.0 w.named w.rest is.1 w.parts w.no_name in
@@ -274,9 +302,9 @@ module _ (order : (sections : List Section) → (MaySections sections ↔ AreWit
     begins_by (Ok t) is a l b whole = record { rest = b; is = inl (subst (λ (ts : List Located). AreTokensOf text ts) (whole ∙ sym (append_assoc a (l ∷ []) b)) (ended_so t is).1) }
     begins_by (Err p) is a l b whole = record { rest = b; is = inr (p, subst (λ (ts : List Located). StopAt 0 0 text ts p) (whole ∙ sym (append_assoc a (l ∷ []) b)) (stopped_so p is)) }
 
-    ends_no_file : (sections : List Section) (e : ConfigFault) → e ≡ record { kind = BadShape; at = length text } → OfName (length text) e.kind e.at ⊎ (e ≡ record { kind = NoDistributed; at = length text }) → ⊥
+    ends_no_file : (sections : List Section) (e : ConfigFault) → e ≡ record { kind = BadShape; at = length text } → OfName (At (length text)) Unlimited e.kind e.at ⊎ (e ≡ record { kind = NoDistributed; at = length text }) → ⊥
     ends_no_file sections e is read = elim read [
-      | inl of ↦ subst (λ (f : ConfigFault). OfName (length text) f.kind f.at) is of refl
+      | inl of ↦ (subst (λ (f : ConfigFault). OfName (At (length text)) Unlimited f.kind f.at) is of).0 refl
       | inr nobody ↦ let kinds : BadShape ≡ NoDistributed = ap (λ (f : ConfigFault). f.kind) (sym is ∙ nobody) in absurd cc
     ]
 
@@ -284,9 +312,9 @@ module _ (order : (sections : List Section) → (MaySections sections ↔ AreWit
     end_fault e tokens so_far h which = elim which [
       | inl is ↦
           Ends s.tokens short tokens so_far
-          (λ sections file. ends_no_file sections e is (file_read (end_of (length text)) (length text) s.tokens sections e refl file (spelled_fine (length text) 0 text s.tokens tokens.spelled (omega arith)) h)) is
+          (λ sections file. ends_no_file sections e is (file_read (end_of (length text)) (At (length text)) Unlimited s.tokens sections e refl file (sections_so sections) (spelled_fine (length text) 0 text s.tokens tokens.spelled (omega arith)) h)) is
       | inr is ↦
-          Nobody s.tokens short tokens (record { sections = is.1.0; file = is.1.1.0; within = (order is.1.0).0 is.1.1.1 })
+          Nobody s.tokens short tokens (record { sections = is.1.0; file = is.1.1; within = (order is.1.0).0 is.1.2 })
           (λ w. none_listed (length text) (apps_in w.sections) (eqb (apps_in w.sections) 0) (written w.sections (nodes_in w.sections)) refl (sym (within_judged (end_of (length text)) s.tokens w.sections refl w.file w.within) ∙ h ∙ ap (λ (f : ConfigFault). Err f) is.0)) is.0
     ]
 
@@ -302,7 +330,7 @@ module _ (order : (sections : List Section) → (MaySections sections ↔ AreWit
     fault_by e h (By a l b d whole goes stands wants) =
         let same : e ≡ d = same_err d e (file_at (at s.last s.tokens nothing)) (ap (λ (ts : List Located). file_at (at s.last ts nothing)) whole ∙ goes s.last b) h in
         let begins = begins_by s.last refl a l b whole in
-        Token a l short begins (well a (wants halt)) (not_well a l d goes stands (text_fine text a l begins)) (subst (λ (f : ConfigFault). StandsAt a l f) (sym same) stands)
+        Token a l short begins (well a (wants halt)) (not_well a l d goes stands (text_fine text a l begins)) (subst (λ (f : ConfigFault). Breaks (words a ++ l.word ∷ []) f.kind) (sym same) (breaks a l d goes stands (text_fine text a l begins))) (subst (λ (f : ConfigFault). StandsAt a l f) (sym same) stands)
     fault_by e h (Unsettled more ends) = wanting_fault e s.last refl h more ends
 
     pub file_fault : (e : ConfigFault) → file_at (at s.last s.tokens nothing) ≡ Err e → IsFaultOf text e

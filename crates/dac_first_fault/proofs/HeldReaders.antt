@@ -1,276 +1,334 @@
--- Nodes, applications and permissions that keep the limits, up to the last name.
-use Rattle.std.proofs.Common.{◌≡◌, ℕ, ◌<◌, ◌≤◌, Bool, true, false, cond, not, ◌&&◌, ◌||◌, ltb, leb, List, [], ◌∷◌, ◌++◌, length, map, Result, Ok, Err, refl, sym, ap, subst, ◌∙◌, inl, inr, codes, arith}
+-- Nodes, applications and permissions that keep the limits that are bound, up to the last name.
+use Rattle.std.proofs.Common.{◌≡◌, ℕ, ◌<◌, ◌≤◌, Bool, true, false, cond, not, ◌&&◌, ◌||◌, eqb, ltb, leb, List, [], ◌∷◌, ◌++◌, length, map, Result, Ok, Err, refl, sym, ap, subst, ◌∙◌, inl, inr, codes, arith}
 use Rattle.std.specs.Str.{bytes_eq}
-use Rattle.std.proofs.lemmas.Bool.{ltb-false, leb-false}
+use Rattle.std.proofs.lemmas.Bool.{ltb-true, ltb-false, leb-false, eqb-true}
 use Rattle.std.proofs.lemmas.Slice.Eq.{bytes_eq-Decides}
 use Rattle.std.proofs.lemmas.List.Elements.{All-nil, All-cons}
 use Rattle.dac_tokens.specs.declared.fault.ConfigFault.{ConfigFault}
-use Rattle.dac_tokens.specs.declared.fault.FaultKind.TheVariants.{BadShape, EmptyList, EmptyTuple, TwiceInList, TwiceApp, TooManyApps, TooManyNodes, NameTooLong}
+use Rattle.dac_tokens.specs.declared.fault.FaultKind.{FaultKind}
+use Rattle.dac_tokens.specs.declared.fault.FaultKind.TheVariants.{BadShape, EmptyList, EmptyTuple, TwiceInList, TwiceApp, TooManyApps, TooManyNodes, NumberTooLarge, NameTooLong}
 use Rattle.dac_tokens.specs.declared.token.Symbol.TheVariants.{OpenList, CloseList, OpenTuple, CloseTuple, Comma}
 use Rattle.dac_tokens.specs.Gives.{◌>>=◌}
 use Rattle.dac_tokens.specs.Words.{Word, Mark, Name, Number, Text, End, Located}
 use Rattle.dac_shapes.specs.Written.{App, Permission}
-use Rattle.dac_shapes.specs.Limits.{Seen, nothing, is_among, with_name, with_node, MayNode, with_nodes, MayNodes, with_groups, MayGroups, listing, with_app, MayApp, with_permission, MayPermission, AllMay, steps}
+use Rattle.dac_shapes.specs.Limits.{Seen, nothing, is_among, with_name, with_node, with_nodes, with_groups, listing, with_app, with_permission, AllMay, steps}
 use Rattle.dac_shapes.specs.Shape.{State, fails, is_mark, token, symbol_at, atom_of, short_name_of, value_from, timeout_of, flag_of, app_name_of, node_of, names_at, item_at, items_at, groups_at, timeout_at, app_value_at, app_at, permission_value_at, permission_at, closed, room}
 use Rattle.dac_shapes.specs.Grammar.{Parted, IsNode, IsItem, IsNodeList, IsMs, IsTimeout, IsAppValue, IsApp, IsFlag, IsPermission}
 use Rattle.dac_shapes.specs.laws.AgainLists.{at}
+use Rattle.dac_shapes.specs.laws.Names.{is_named}
+use Rattle.dac_first_fault.specs.Keeps.{NodeKeeps, NodesKeep, GroupsKeep, AppKeeps, PermissionKeeps}
 use Rattle.dac_first_fault.specs.FirstFault.{IsNoName}
 use Rattle.dac_first_fault.proofs.Steps.{mark_is}
-use Rattle.dac_first_fault.proofs.Begun.{halt, Begun, IsShort, words_in, by_pair, Looks, looks_then, looks_if}
-use Rattle.dac_first_fault.proofs.BegunReaders.{IsName, atom_looks, flag_looks, ms_looks, by_timeout, pair_is}
-use Rattle.dac_first_fault.proofs.Held.{words, Holds, held_if, held_to, held_then, held_look, behind_mark, behind_marks, token_held, symbol_held, Taken, IsHeldRun, list_held, IsHeldClosed, closed_held, pair_held}
+use Rattle.dac_first_fault.proofs.Begun.{halt, Begun, words_in, by_pair}
+use Rattle.dac_first_fault.proofs.BegunReaders.{not_less, by_timeout, pair_is}
+use Rattle.dac_first_fault.proofs.Held.{words, Held, Frees, Alone, Over, IsOver, Holds, Shows, shows_then, shows_if, Unfit, broken, held_if, held_to, held_then, held_look, behind_mark, behind_marks, token_held, symbol_held, Taken, IsHeldRun, list_held, IsHeldClosed, closed_held, pair_held}
 
--- what is made of what was read
-pub made_held : {A B : Type 0} (P : List Word → A × State → Type 0) (Q : List Word → B × State → Type 0) (to : A → B) → ((own : List Word) (x : A) (u : State) → P own (x, u) → Q own (to x, u)) → (ws : List Word) (r : Result (A × State) ConfigFault) → Holds by_pair P ws r
-    → Holds by_pair Q ws (r >>= λ x. Ok (to x.0, x.1))
-made_held P Q to so ws (Ok x) k = record { own = k.own; whole = k.whole; is = so k.own x.0 x.1 k.is; short = k.short }
-made_held P Q to so ws (Err e) k = λ h. elim (k h) [
-  | inl n ↦ inl n
-  | inr q ↦ inr (record { named = q.named; rest = q.rest; parts = q.parts; no_name = q.no_name; begun = record { more = q.begun.more; x = (to q.begun.x.0, q.begun.x.1); is = so (q.named ++ q.begun.more) q.begun.x.0 q.begun.x.1 q.begun.is } })
-]
+module _ (bad : ℕ) (Bound : FaultKind → Type 0) where
+  -- what is made of what was read
+  pub made_held : {A B : Type 0} (P : List Word → A × State → Type 0) (Q : List Word → B × State → Type 0) (to : A → B) → ((own : List Word) (x : A) (u : State) → P own (x, u) → Q own (to x, u)) → (ws : List Word) (r : Result (A × State) ConfigFault) → Holds bad Bound by_pair P ws r
+      → Holds bad Bound by_pair Q ws (r >>= λ x. Ok (to x.0, x.1))
+  made_held P Q to so ws (Ok x) k = record { own = k.own; whole = k.whole; is = so k.own x.0 x.1 k.is; short = k.short }
+  made_held P Q to so ws (Err e) k = λ h. elim (k h) [
+    | inl n ↦ inl n
+    | inr q ↦ inr (record { named = q.named; rest = q.rest; parts = q.parts; no_name = q.no_name; begun = record { more = q.begun.more; x = (to q.begun.x.0, q.begun.x.1); is = so (q.named ++ q.begun.more) q.begun.x.0 q.begun.x.1 q.begun.is } })
+  ]
 
--- ---- a node that may come at the start of any list
+  -- ---- a node that may come at the start of any list
 
-abbrev pub Good : Seen → Type 0
-Good seen = (name : List ℕ) × MayNode false (listing seen) name
+  abbrev pub Good : Seen → Type 0
+  Good seen = (name : List ℕ) × NodeKeeps Bound false (listing seen) name
 
-pub good_nothing : Good nothing
-good_nothing = ([], record { short = omega arith; once = λ e. refl; few = λ e. omega arith })
+  pub good_nothing : Good nothing
+  good_nothing = ([], record { short = λ kept. omega arith; once = λ kept e. refl; few = λ kept e. omega arith })
 
-itself : (name : List ℕ) → bytes_eq name name ≡ true
-itself name = (bytes_eq-Decides name name).1 refl
+  itself : (name : List ℕ) → bytes_eq name name ≡ true
+  itself name = (bytes_eq-Decides name name).1 refl
 
-either : (c d : Bool) → d ≡ true → (c || d) ≡ true
-either true d e = refl
-either false d e = e
+  either : (c d : Bool) → d ≡ true → (c || d) ≡ true
+  either true d e = refl
+  either false d e = e
 
-among_more : (name : List ℕ) (names : List (List ℕ)) → is_among name (names ++ name ∷ []) ≡ true
-among_more name [] = rw (itself name) refl
-among_more name (n ∷ names) = either (bytes_eq n name) (is_among name (names ++ name ∷ [])) (among_more name names)
+  among_more : (name : List ℕ) (names : List (List ℕ)) → is_among name (names ++ name ∷ []) ≡ true
+  among_more name [] = rw (itself name) refl
+  among_more name (n ∷ names) = either (bytes_eq n name) (is_among name (names ++ name ∷ [])) (among_more name names)
 
-among_with : (names : List (List ℕ)) (name : List ℕ) → is_among name (with_name names name) ≡ true
-among_with names name = by (is_among name names) refl
-  where
-    by : (c : Bool) → is_among name names ≡ c → is_among name (cond c names (names ++ name ∷ [])) ≡ true
-    by true e = e
-    by false e = among_more name names
+  among_with : (names : List (List ℕ)) (name : List ℕ) → is_among name (with_name names name) ≡ true
+  among_with names name = by (is_among name names) refl
+    where
+      by : (c : Bool) → is_among name names ≡ c → is_among name (cond c names (names ++ name ∷ [])) ≡ true
+      by true e = e
+      by false e = among_more name names
 
-good_node : (repeats : Bool) (seen : Seen) (name : List ℕ) → MayNode repeats seen name → Good (with_node seen name)
-good_node repeats seen name may = (name, record { short = may.short; once = λ e. refl; few = λ none. let wrong : true ≡ false = sym (among_with seen.met name) ∙ none in absurd cc })
+  good_node : (repeats : Bool) (seen : Seen) (name : List ℕ) → NodeKeeps Bound repeats seen name → Good (with_node seen name)
+  good_node repeats seen name may = (name, record { short = may.short; once = λ kept e. refl; few = λ kept none. let wrong : true ≡ false = sym (among_with seen.met name) ∙ none in absurd cc })
 
-pub good_steps : {A : Type 0} (step : Seen → A → Seen) (May : List A → Seen → A → Type 0) → ((before : List A) (seen : Seen) (x : A) → Good seen → May before seen x → Good (step seen x)) → (before : List A) (seen : Seen) (xs : List A) → Good seen → AllMay step May before seen xs → Good (steps step seen xs)
-good_steps step May keep before seen [] good all = good
-good_steps step May keep before seen (x ∷ xs) good all = good_steps step May keep (before ++ x ∷ []) (step seen x) xs (keep before seen x good all.0) all.1
+  pub good_steps : {A : Type 0} (step : Seen → A → Seen) (May : List A → Seen → A → Type 0) → ((before : List A) (seen : Seen) (x : A) → Good seen → May before seen x → Good (step seen x)) → (before : List A) (seen : Seen) (xs : List A) → Good seen → AllMay step May before seen xs → Good (steps step seen xs)
+  good_steps step May keep before seen [] good all = good
+  good_steps step May keep before seen (x ∷ xs) good all = good_steps step May keep (before ++ x ∷ []) (step seen x) xs (keep before seen x good all.0) all.1
 
-pub good_nodes : (repeats : Bool) (seen : Seen) (names : List (List ℕ)) → Good seen → MayNodes repeats seen names → Good (with_nodes seen names)
-good_nodes repeats seen names good all = good_steps with_node (λ _. MayNode repeats) (λ _ seen name good may. good_node repeats seen name may) [] seen names good all
+  pub good_nodes : (repeats : Bool) (seen : Seen) (names : List (List ℕ)) → Good seen → NodesKeep Bound repeats seen names → Good (with_nodes seen names)
+  good_nodes repeats seen names good all = good_steps with_node (λ _. NodeKeeps Bound repeats) (λ _ seen name good may. good_node repeats seen name may) [] seen names good all
 
-good_groups : (seen : Seen) (groups : List (List (List ℕ))) → Good seen → MayGroups seen groups → Good (with_groups seen groups)
-good_groups seen groups good all = good_steps with_nodes (λ _. MayNodes false) (λ _ seen names good may. good_nodes false seen names good may) [] seen groups good all
+  good_groups : (seen : Seen) (groups : List (List (List ℕ))) → Good seen → GroupsKeep Bound seen groups → Good (with_groups seen groups)
+  good_groups seen groups good all = good_steps with_nodes (λ _. NodesKeep Bound false) (λ _ seen names good may. good_nodes false seen names good may) [] seen groups good all
 
-pub good_app : (before : List App) (seen : Seen) (app : App) → Good seen → MayApp before seen app → Good (with_app seen app)
-good_app before seen app good may = good_groups (listing seen) app.groups good may.nodes
+  pub good_app : (before : List App) (seen : Seen) (app : App) → Good seen → AppKeeps Bound before seen app → Good (with_app seen app)
+  good_app before seen app good may = good_groups (listing seen) app.groups good may.nodes
 
--- ---- names
+  -- ---- names, flags and numbers
 
-abbrev pub IsShortly : Word → List ℕ → Type 0
-IsShortly w name = (w ≡ Name name) × (length name ≤ 255)
+  abbrev IsName : Word → List ℕ → Type 0
+  IsName w name = w ≡ Name name
 
-pub shortly_looks : (t : Located) → Looks (IsShortly t.word) (short_name_of t)
-unfolding short_name_of
-shortly_looks t = looks_then (IsName t.word) (IsShortly t.word) (atom_of t) (λ name. cond (ltb 255 (length name)) (fails NameTooLong t.at) (Ok name)) (atom_looks t)
-    (λ name e. looks_if (IsShortly t.word) (ltb 255 (length name)) (fails NameTooLong t.at) (Ok name) (λ long h. h) (λ short. (e, ltb-false 255 (length name) short)))
+  atom_by : (Q : Type 0) (w : Word) (place : ℕ) → Shows bad Bound Q (IsName w) (atom_of (record { word = w; at = place }))
+  unfolding atom_of
+  atom_by Q (Name name) place = refl
+  atom_by Q (Mark symbol) place = λ h. absurd h
+  atom_by Q (Number negative digits) place = λ h. absurd h
+  atom_by Q Text place = λ h. absurd h
+  atom_by Q End place = λ h. absurd h
 
--- a name of an application that may come behind these
-record IsFine (before : List App) (w : Word) (name : List ℕ) : Type 0 where
-  pub is : w ≡ Name name
-  pub short : length name ≤ 255
-  pub once : is_among name (map (λ a. a.name) before) ≡ false
-  pub few : length before < 64
+  pub atom_shows : (Q : Type 0) (t : Located) → Shows bad Bound Q (IsName t.word) (atom_of t)
+  atom_shows Q t = atom_by Q t.word t.at
 
-fine_looks : (before : List App) (t : Located) → Looks (IsFine before t.word) (app_name_of before t)
-unfolding app_name_of
-fine_looks before t =
-    looks_then (IsShortly t.word) (IsFine before t.word) (short_name_of t) (λ name. cond (is_among name (map (λ app. app.name) before)) (fails TwiceApp t.at) (cond (leb 64 (length before)) (fails TooManyApps t.at) (Ok name))) (shortly_looks t)
-    (λ name k. looks_if (IsFine before t.word) (is_among name (map (λ app. app.name) before)) (fails TwiceApp t.at) (cond (leb 64 (length before)) (fails TooManyApps t.at) (Ok name)) (λ twice h. h)
-    (λ once. looks_if (IsFine before t.word) (leb 64 (length before)) (fails TooManyApps t.at) (Ok name) (λ many h. h) (λ few. record { is = k.0; short = k.1; once = once; few = leb-false 64 (length before) few })))
+  flag_shows : (Q : Type 0) (t : Located) → Shows bad Bound Q (λ value. IsFlag (t.word ∷ []) value) (flag_of t)
+  unfolding flag_of
+  flag_shows Q t =
+      shows_then bad Bound Q (IsName t.word) (λ value. IsFlag (t.word ∷ []) value) (atom_of t) (λ name. cond (bytes_eq name (codes "true")) (Ok true) (cond (bytes_eq name (codes "false")) (Ok false) (fails BadShape t.at))) (atom_shows Q t)
+      (λ name e. shows_if bad Bound Q (λ value. IsFlag (t.word ∷ []) value) (bytes_eq name (codes "true")) (Ok true) (cond (bytes_eq name (codes "false")) (Ok false) (fails BadShape t.at)) (λ is. one_name name (codes "true") e is)
+      (λ other. shows_if bad Bound Q (λ value. IsFlag (t.word ∷ []) value) (bytes_eq name (codes "false")) (Ok false) (fails BadShape t.at) (λ is. one_name name (codes "false") e is) (λ neither h. absurd h)))
+    where
+      one_name : (name wanted : List ℕ) → t.word ≡ Name name → bytes_eq name wanted ≡ true → t.word ∷ [] ≡ Name wanted ∷ []
+      one_name name wanted e is = ap (λ (w : Word). w ∷ []) (e ∙ ap Name (is_named name wanted is))
 
--- ---- nodes
+  pub ms_shows : (Q : Type 0) (place : ℕ) (negative : Bool) (digits : List ℕ) → Shows bad Bound Q (IsMs (Number negative digits)) (timeout_of place negative (value_from 0 digits))
+  ms_shows Q place negative digits =
+      let v = value_from 0 digits in
+      shows_if bad Bound Q (IsMs (Number negative digits)) (negative && not (eqb v 0)) (fails BadShape place) (cond (ltb v 4294967296) (Ok v) (fails NumberTooLarge place)) (λ below h. absurd h)
+      (λ above. shows_if bad Bound Q (IsMs (Number negative digits)) (ltb v 4294967296) (Ok v) (fails NumberTooLarge place) (λ small. (negative, digits, refl, refl, ltb-true v 4294967296 small, λ n. not_less negative (eqb v 0) v n above (λ z. eqb-true v 0 z))) (λ large h. absurd h))
 
-unless_first : (a b : Bool) → (not a && b) ≡ false → a ≡ false → b ≡ false
-unless_first true b e f = absurd cc
-unless_first false b e f = e
+  -- a name of at most MAX_NAME bytes, or a longer one that breaks the limit
+  abbrev IsShortly : Word → List ℕ → Type 0
+  IsShortly w name = (w ≡ Name name) × (length name ≤ 255)
 
-pub node_held : (repeats : Bool) (t : Located) (s : State) → IsShort s → Holds by_pair (Taken IsNode (MayNode repeats) with_node s.seen) (t.word ∷ words_in s) (node_of repeats t s)
-unfolding node_of
-node_held repeats t s short =
-    held_look (IsShortly t.word) by_pair Node ws (short_name_of t) (λ name. cond (not repeats && is_among name s.seen.listed) (fails TwiceInList t.at) (few name)) (shortly_looks t)
-    (λ name k. held_if by_pair Node ws (not repeats && is_among name s.seen.listed) (fails TwiceInList t.at) (few name) (λ twice h. absurd h)
-    (λ once. held_if by_pair Node ws (not (is_among name s.seen.met) && leb 16 (length s.seen.met)) (fails TooManyNodes t.at) (Ok (name, record s { seen = with_node s.seen name })) (λ many h. absurd h)
-    (λ known. record { own = t.word ∷ []; whole = refl; is = (ap (λ (w : Word). w ∷ []) k.0, may name k once known, refl); short = short })))
-  where
-    Node : List Word → List ℕ × State → Type 0
-    Node own x = Taken IsNode (MayNode repeats) with_node s.seen own x
+  shortly_shows : (Q : Type 0) (t : Located) → ((name : List ℕ) → t.word ≡ Name name → (t.at ≡ bad) × Frees Bound NameTooLong → Q) → Shows bad Bound Q (IsShortly t.word) (short_name_of t)
+  unfolding short_name_of
+  shortly_shows Q t long = shows_then bad Bound Q (IsName t.word) (IsShortly t.word) (atom_of t) (λ name. cond (ltb 255 (length name)) (fails NameTooLong t.at) (Ok name)) (atom_shows Q t)
+      (λ name e. shows_if bad Bound Q (IsShortly t.word) (ltb 255 (length name)) (fails NameTooLong t.at) (Ok name) (λ is h. long name e h) (λ short. (e, ltb-false 255 (length name) short)))
 
-    ws : List Word
-    ws = t.word ∷ words_in s
+  -- a name of an application that may come behind these
+  record IsFine (before : List App) (w : Word) (name : List ℕ) : Type 0 where
+    pub is : w ≡ Name name
+    pub short : Bound NameTooLong → length name ≤ 255
+    pub once : Bound TwiceApp → is_among name (map (λ a. a.name) before) ≡ false
+    pub few : Bound TooManyApps → is_among name (map (λ a. a.name) before) ≡ false → length before < 64
 
-    few : List ℕ → Result (List ℕ × State) ConfigFault
-    few name = cond (not (is_among name s.seen.met) && leb 16 (length s.seen.met)) (fails TooManyNodes t.at) (Ok (name, record s { seen = with_node s.seen name }))
+  abbrev NoApp : List App → Located → Type 0
+  NoApp before t = Unfit bad Bound (List ℕ) (IsFine before) t
 
-    may : (name : List ℕ) → IsShortly t.word name → (not repeats && is_among name s.seen.listed) ≡ false → (not (is_among name s.seen.met) && leb 16 (length s.seen.met)) ≡ false → MayNode repeats s.seen name
-    may name k once known = record { short = k.1; once = λ e. unless_first repeats (is_among name s.seen.listed) once e; few = λ e. leb-false 16 (length s.seen.met) (unless_first (is_among name s.seen.met) (leb 16 (length s.seen.met)) known e) }
+  fine_shows : (before : List App) (t : Located) → Shows bad Bound (NoApp before t) (IsFine before t.word) (app_name_of before t)
+  unfolding app_name_of
+  fine_shows before t =
+      shows_then bad Bound (NoApp before t) (IsShortly t.word) (IsFine before t.word) (short_name_of t) (λ name. cond (is_among name (map (λ app. app.name) before)) (fails TwiceApp t.at) (cond (leb 64 (length before)) (fails TooManyApps t.at) (Ok name)))
+      (shortly_shows (NoApp before t) t (λ name e h. (name, e, h.0, (name, record { is = e; short = λ b. absurd (h.1 NameTooLong (omega arith) b); once = λ b. absurd (h.1 TwiceApp (omega arith) b); few = λ b. absurd (h.1 TooManyApps (omega arith) b) }))))
+      (λ name k. shows_if bad Bound (NoApp before t) (IsFine before t.word) (is_among name (map (λ app. app.name) before)) (fails TwiceApp t.at) (cond (leb 64 (length before)) (fails TooManyApps t.at) (Ok name))
+      (λ twice h. (name, k.0, h.0, (name, record { is = k.0; short = λ b. k.1; once = λ b. absurd (h.1 TwiceApp (omega arith) b); few = λ b. absurd (h.1 TooManyApps (omega arith) b) })))
+      (λ once. shows_if bad Bound (NoApp before t) (IsFine before t.word) (leb 64 (length before)) (fails TooManyApps t.at) (Ok name) (λ many h. (name, k.0, h.0, (name, record { is = k.0; short = λ b. k.1; once = λ b. once; few = λ b. absurd (h.1 TooManyApps (omega arith) b) })))
+      (λ few. record { is = k.0; short = λ b. k.1; once = λ b. once; few = λ b new. leb-false 64 (length before) few })))
 
-abbrev pub Any : Seen → Type 0
-Any seen = Unit {0}
+  -- ---- nodes
 
--- ---- items of node lists, and node lists
+  unless_first : (a b : Bool) → (not a && b) ≡ false → a ≡ false → b ≡ false
+  unless_first true b e f = absurd cc
+  unless_first false b e f = e
 
-abbrev Item : Seen → List Word → List (List ℕ) × State → Type 0
-Item seen own x = Taken IsItem (MayNodes false) with_nodes seen own x
+  pub node_held : (repeats : Bool) (t : Located) (s : State) → Alone bad Bound t s.left.tokens → IsOver bad Bound s → Holds bad Bound by_pair (Taken IsNode (NodeKeeps Bound repeats) with_node s.seen) (t.word ∷ words_in s) (node_of repeats t s)
+  unfolding node_of
+  node_held repeats t s alone short =
+      held_look bad Bound (IsShortly t.word) by_pair Node ws (short_name_of t) (λ name. cond (not repeats && is_among name s.seen.listed) (fails TwiceInList t.at) (few name))
+      (shortly_shows (Held Node ws) t (λ name e h. breaks name e h.0 (record { short = λ b. absurd (h.1 NameTooLong (omega arith) b); once = λ b. absurd (h.1 TwiceInList (omega arith) b); few = λ b. absurd (h.1 TooManyNodes (omega arith) b) })))
+      (λ name k. held_if bad Bound by_pair Node ws (not repeats && is_among name s.seen.listed) (fails TwiceInList t.at) (few name)
+      (λ twice h. breaks name k.0 h.0 (record { short = λ b. k.1; once = λ b. absurd (h.1 TwiceInList (omega arith) b); few = λ b. absurd (h.1 TooManyNodes (omega arith) b) }))
+      (λ once. held_if bad Bound by_pair Node ws (not (is_among name s.seen.met) && leb 16 (length s.seen.met)) (fails TooManyNodes t.at) (Ok (name, record s { seen = with_node s.seen name }))
+      (λ many h. breaks name k.0 h.0 (record { short = λ b. k.1; once = λ b e. unless_first repeats (is_among name s.seen.listed) once e; few = λ b. absurd (h.1 TooManyNodes (omega arith) b) }))
+      (λ known. record { own = t.word ∷ []; whole = refl; is = (ap (λ (w : Word). w ∷ []) k.0, may name k once known, refl); short = short })))
+    where
+      Node : List Word → List ℕ × State → Type 0
+      Node own x = Taken IsNode (NodeKeeps Bound repeats) with_node s.seen own x
 
-in_tuple : (seen : Seen) (vs : List Word) (ys : List (List ℕ) × State) (xs : List (List ℕ)) (inner : List Word) → vs ≡ inner ++ Mark CloseTuple ∷ [] → ys.0 ≡ xs → Parted IsNode inner xs → MayNodes false seen xs → ys.1.seen ≡ with_nodes seen xs → Item seen (Mark OpenTuple ∷ vs) ys
-in_tuple seen vs ys xs inner e f p all after = subst (λ (l : List (List ℕ)). IsItem (Mark OpenTuple ∷ vs) l × MayNodes false seen l × (ys.1.seen ≡ with_nodes seen l)) (sym f) (inr (inner, ap (λ (l : List Word). Mark OpenTuple ∷ l) e, p), all, after)
+      ws : List Word
+      ws = t.word ∷ words_in s
 
-tuple_held : (t : Located) (s : State) → IsShort s → Holds by_pair (λ vs x. Item s.seen (Mark OpenTuple ∷ vs) x) (words_in s) (token s >>= λ first. cond (is_mark CloseTuple first.0.word) (fails EmptyTuple t.at) (names_at false CloseTuple first.0 first.1))
-tuple_held t s short =
-    token_held by_pair (λ vs x. Item s.seen (Mark OpenTuple ∷ vs) x) s (λ first. cond (is_mark CloseTuple first.0.word) (fails EmptyTuple t.at) (names_at false CloseTuple first.0 first.1)) short
-    (λ f ts last e. held_if by_pair (λ vs x. Item s.seen (Mark OpenTuple ∷ vs) x) (f.word ∷ words ts) (is_mark CloseTuple f.word) (fails EmptyTuple t.at) (names_at false CloseTuple f (at last ts s.seen)) (λ none h. absurd h)
-    (λ some. held_to by_pair (IsHeldRun IsNode with_node (λ _. MayNode false) (λ _. node_of false) Any (λ _ _ _ _ _. tt) (λ _ t s short _. node_held false t s short) CloseTuple [] s.seen) (λ vs x. Item s.seen (Mark OpenTuple ∷ vs) x) (λ vs ys r. in_tuple s.seen vs ys r.0 r.1 r.2 r.3 r.4 r.5 r.6)
-    (f.word ∷ words ts) (names_at false CloseTuple f (at last ts s.seen)) (list_held IsNode with_node (λ _. MayNode false) (λ _. node_of false) Any (λ _ _ _ _ _. tt) (λ _ t s short _. node_held false t s short) CloseTuple (room (at last ts s.seen)) [] f (at last ts s.seen) e tt)))
+      few : List ℕ → Result (List ℕ × State) ConfigFault
+      few name = cond (not (is_among name s.seen.met) && leb 16 (length s.seen.met)) (fails TooManyNodes t.at) (Ok (name, record s { seen = with_node s.seen name }))
 
-item_held : (t : Located) (s : State) → IsShort s → Holds by_pair (Item s.seen) (t.word ∷ words_in s) (item_at t s)
-unfolding item_at
-item_held t s short =
-    let tuple : Result (List (List ℕ) × State) ConfigFault = token s >>= λ first. cond (is_mark CloseTuple first.0.word) (fails EmptyTuple t.at) (names_at false CloseTuple first.0 first.1) in
-    held_if by_pair (Item s.seen) (t.word ∷ words_in s) (is_mark OpenTuple t.word) tuple (node_of false t s >>= λ name. Ok (name.0 ∷ [], name.1))
-    (λ e. subst (λ (w : Word). Holds by_pair (Item s.seen) (w ∷ words_in s) tuple) (sym (mark_is OpenTuple t.word e)) (behind_mark by_pair (Item s.seen) OpenTuple (words_in s) tuple (tuple_held t s short)))
-    (λ e. made_held (Taken IsNode (MayNode false) with_node s.seen) (Item s.seen) (λ name. name ∷ []) (λ own name u k. (inl (name, k.0, refl), (k.1, tt), k.2)) (t.word ∷ words_in s) (node_of false t s) (node_held false t s short))
+      breaks : (name : List ℕ) → t.word ≡ Name name → t.at ≡ bad → NodeKeeps Bound repeats s.seen name → Held Node ws
+      breaks name e place keep = broken bad Bound Node t s.left.tokens alone name e place (record { more = []; x = (name, at (Err halt) [] (with_node s.seen name)); is = (ap (λ (w : Word). w ∷ []) e, keep, refl) })
 
--- the names of a node list begin anew
-abbrev with_list : Seen → List (List (List ℕ)) → Seen
-with_list seen groups = with_groups (listing seen) groups
+      may : (name : List ℕ) → IsShortly t.word name → (not repeats && is_among name s.seen.listed) ≡ false → (not (is_among name s.seen.met) && leb 16 (length s.seen.met)) ≡ false → NodeKeeps Bound repeats s.seen name
+      may name k once known = record { short = λ b. k.1; once = λ b e. unless_first repeats (is_among name s.seen.listed) once e; few = λ b e. leb-false 16 (length s.seen.met) (unless_first (is_among name s.seen.met) (leb 16 (length s.seen.met)) known e) }
 
-abbrev MayList : Seen → List (List (List ℕ)) → Type 0
-MayList seen groups = MayGroups (listing seen) groups
+  abbrev pub Any : Seen → Type 0
+  Any seen = Unit {0}
 
-abbrev NodeList : Seen → List Word → List (List (List ℕ)) × State → Type 0
-NodeList seen own x = Taken IsNodeList MayList with_list seen own x
+  -- ---- items of node lists, and node lists
 
-in_list : (seen : Seen) (vs : List Word) (ys : List (List (List ℕ)) × State) (xs : List (List (List ℕ))) (inner : List Word) → vs ≡ inner ++ Mark CloseList ∷ [] → ys.0 ≡ xs → Parted IsItem inner xs → MayList seen xs → ys.1.seen ≡ with_list seen xs → NodeList seen (Mark OpenList ∷ vs) ys
-in_list seen vs ys xs inner e f p all after = subst (λ (l : List (List (List ℕ))). IsNodeList (Mark OpenList ∷ vs) l × MayList seen l × (ys.1.seen ≡ with_list seen l)) (sym f) ((inner, ap (λ (l : List Word). Mark OpenList ∷ l) e, p), all, after)
+  abbrev Item : Seen → List Word → List (List ℕ) × State → Type 0
+  Item seen own x = Taken IsItem (NodesKeep Bound false) with_nodes seen own x
 
-opened_held : (t : Located) (s : State) → IsShort s → Holds by_pair (λ vs x. NodeList s.seen (Mark OpenList ∷ vs) x) (words_in s) (token s >>= λ first. cond (is_mark CloseList first.0.word) (fails EmptyList t.at) (items_at first.0 (record first.1 { seen = listing first.1.seen })))
-opened_held t s short =
-    token_held by_pair (λ vs x. NodeList s.seen (Mark OpenList ∷ vs) x) s (λ first. cond (is_mark CloseList first.0.word) (fails EmptyList t.at) (items_at first.0 (record first.1 { seen = listing first.1.seen }))) short
-    (λ f ts last e. held_if by_pair (λ vs x. NodeList s.seen (Mark OpenList ∷ vs) x) (f.word ∷ words ts) (is_mark CloseList f.word) (fails EmptyList t.at) (items_at f (at last ts (listing s.seen))) (λ none h. absurd h)
-    (λ some. held_to by_pair (IsHeldRun IsItem with_nodes (λ _. MayNodes false) (λ _. item_at) Any (λ _ _ _ _ _. tt) (λ _ t s short _. item_held t s short) CloseList [] (listing s.seen)) (λ vs x. NodeList s.seen (Mark OpenList ∷ vs) x) (λ vs ys r. in_list s.seen vs ys r.0 r.1 r.2 r.3 r.4 r.5 r.6)
-    (f.word ∷ words ts) (items_at f (at last ts (listing s.seen))) (list_held IsItem with_nodes (λ _. MayNodes false) (λ _. item_at) Any (λ _ _ _ _ _. tt) (λ _ t s short _. item_held t s short) CloseList (room (at last ts s.seen)) [] f (at last ts (listing s.seen)) e tt)))
+  in_tuple : (seen : Seen) (vs : List Word) (ys : List (List ℕ) × State) (xs : List (List ℕ)) (inner : List Word) → vs ≡ inner ++ Mark CloseTuple ∷ [] → ys.0 ≡ xs → Parted IsNode inner xs → NodesKeep Bound false seen xs → ys.1.seen ≡ with_nodes seen xs → Item seen (Mark OpenTuple ∷ vs) ys
+  in_tuple seen vs ys xs inner e f p all after = subst (λ (l : List (List ℕ)). IsItem (Mark OpenTuple ∷ vs) l × NodesKeep Bound false seen l × (ys.1.seen ≡ with_nodes seen l)) (sym f) (inr (inner, ap (λ (l : List Word). Mark OpenTuple ∷ l) e, p), all, after)
 
-groups_held : (t : Located) (s : State) → IsShort s → Holds by_pair (NodeList s.seen) (t.word ∷ words_in s) (groups_at t s)
-unfolding groups_at
-groups_held t s short =
-    let list : Result (List (List (List ℕ)) × State) ConfigFault = token s >>= λ first. cond (is_mark CloseList first.0.word) (fails EmptyList t.at) (items_at first.0 (record first.1 { seen = listing first.1.seen })) in
-    held_if by_pair (NodeList s.seen) (t.word ∷ words_in s) (is_mark OpenList t.word) list (fails BadShape t.at)
-    (λ e. subst (λ (w : Word). Holds by_pair (NodeList s.seen) (w ∷ words_in s) list) (sym (mark_is OpenList t.word e)) (behind_mark by_pair (NodeList s.seen) OpenList (words_in s) list (opened_held t s short))) (λ e h. absurd h)
+  tuple_held : (t : Located) (s : State) → IsOver bad Bound s → Holds bad Bound by_pair (λ vs x. Item s.seen (Mark OpenTuple ∷ vs) x) (words_in s) (token s >>= λ first. cond (is_mark CloseTuple first.0.word) (fails EmptyTuple t.at) (names_at false CloseTuple first.0 first.1))
+  tuple_held t s short =
+      token_held bad Bound by_pair (λ vs x. Item s.seen (Mark OpenTuple ∷ vs) x) s (λ first. cond (is_mark CloseTuple first.0.word) (fails EmptyTuple t.at) (names_at false CloseTuple first.0 first.1)) short
+      (λ f ts last alone e. held_if bad Bound by_pair (λ vs x. Item s.seen (Mark OpenTuple ∷ vs) x) (f.word ∷ words ts) (is_mark CloseTuple f.word) (fails EmptyTuple t.at) (names_at false CloseTuple f (at last ts s.seen)) (λ none h. absurd h)
+      (λ some. held_to bad Bound by_pair (IsHeldRun bad Bound IsNode with_node (λ _. NodeKeeps Bound false) (λ _. node_of false) Any (λ _ _ _ _ _. tt) (λ _ t s alone short _. node_held false t s alone short) CloseTuple [] s.seen) (λ vs x. Item s.seen (Mark OpenTuple ∷ vs) x) (λ vs ys r. in_tuple s.seen vs ys r.0 r.1 r.2 r.3 r.4 r.5 r.6)
+      (f.word ∷ words ts) (names_at false CloseTuple f (at last ts s.seen)) (list_held bad Bound IsNode with_node (λ _. NodeKeeps Bound false) (λ _. node_of false) Any (λ _ _ _ _ _. tt) (λ _ t s alone short _. node_held false t s alone short) CloseTuple (room (at last ts s.seen)) [] f (at last ts s.seen) alone e tt)))
 
--- ---- applications
+  item_held : (t : Located) (s : State) → Alone bad Bound t s.left.tokens → IsOver bad Bound s → Holds bad Bound by_pair (Item s.seen) (t.word ∷ words_in s) (item_at t s)
+  unfolding item_at
+  item_held t s alone short =
+      let tuple : Result (List (List ℕ) × State) ConfigFault = token s >>= λ first. cond (is_mark CloseTuple first.0.word) (fails EmptyTuple t.at) (names_at false CloseTuple first.0 first.1) in
+      held_if bad Bound by_pair (Item s.seen) (t.word ∷ words_in s) (is_mark OpenTuple t.word) tuple (node_of false t s >>= λ name. Ok (name.0 ∷ [], name.1))
+      (λ e. subst (λ (w : Word). Holds bad Bound by_pair (Item s.seen) (w ∷ words_in s) tuple) (sym (mark_is OpenTuple t.word e)) (behind_mark bad Bound by_pair (Item s.seen) OpenTuple (words_in s) tuple (tuple_held t s short)))
+      (λ e. made_held (Taken IsNode (NodeKeeps Bound false) with_node s.seen) (Item s.seen) (λ name. name ∷ []) (λ own name u k. (inl (name, k.0, refl), (k.1, tt), k.2)) (t.word ∷ words_in s) (node_of false t s) (node_held false t s alone short))
 
-abbrev Time : Seen → List Word → ℕ × Located × State → Type 0
-Time seen own x = IsTimeout own x.0 × (x.2.seen ≡ seen)
+  -- the names of a node list begin anew
+  abbrev with_list : Seen → List (List (List ℕ)) → Seen
+  with_list seen groups = with_groups (listing seen) groups
 
-timeout_held : (w : Word) (place : ℕ) (s : State) → IsShort s → Holds by_timeout (Time s.seen) (w ∷ words_in s) (timeout_at (record { word = w; at = place }) s)
-unfolding timeout_at
-timeout_held (Number negative digits) place s short =
-    held_look (IsMs w) by_timeout (Time s.seen) (w ∷ words_in s) (timeout_of place negative (value_from 0 digits)) (λ n. symbol_at Comma s >>= λ comma. token comma >>= λ next. Ok (n, next.0, next.1)) (ms_looks place negative digits)
-    (λ n is. behind_marks by_timeout (Time s.seen) (w ∷ []) (All-cons IsNoName w [] tt (All-nil IsNoName)) (words_in s) (symbol_at Comma s >>= λ comma. token comma >>= λ next. Ok (n, next.0, next.1))
-    (symbol_held by_timeout (λ vs x. Time s.seen (w ∷ vs) x) Comma s (λ comma. token comma >>= λ next. Ok (n, next.0, next.1)) short
-    (λ ts last e. token_held by_timeout (λ vs x. Time s.seen (w ∷ Mark Comma ∷ vs) x) (at last ts s.seen) (λ next. Ok (n, next.0, next.1)) e (λ t ts last e. record { own = []; whole = refl; is = (inr (w, refl, is), refl); short = e }))))
-  where
-    w : Word
-    w = Number negative digits
-timeout_held (Mark symbol) place s short = record { own = []; whole = refl; is = (inl (refl, refl), refl); short = short }
-timeout_held (Name name) place s short = record { own = []; whole = refl; is = (inl (refl, refl), refl); short = short }
-timeout_held Text place s short = record { own = []; whole = refl; is = (inl (refl, refl), refl); short = short }
-timeout_held End place s short = record { own = []; whole = refl; is = (inl (refl, refl), refl); short = short }
+  abbrev MayList : Seen → List (List (List ℕ)) → Type 0
+  MayList seen groups = GroupsKeep Bound (listing seen) groups
 
-module _ (before : List App) (seen : Seen) (good : Good seen) where
-  abbrev IsNamed : List ℕ → List Word → App → Seen → Type 0
-  IsNamed name own app after = (app.name ≡ name) × IsAppValue own app × MayApp before seen app × (after ≡ with_app seen app)
+  abbrev NodeList : Seen → List Word → List (List (List ℕ)) × State → Type 0
+  NodeList seen own x = Taken IsNodeList MayList with_list seen own x
 
-  module _ (w : Word) (name : List ℕ) (fine : IsFine before w name) where
-    abbrev app_with : ℕ → List (List (List ℕ)) → App
-    app_with n groups = record { name = name; timeout = n; groups = groups }
+  in_list : (seen : Seen) (vs : List Word) (ys : List (List (List ℕ)) × State) (xs : List (List (List ℕ))) (inner : List Word) → vs ≡ inner ++ Mark CloseList ∷ [] → ys.0 ≡ xs → Parted IsItem inner xs → MayList seen xs → ys.1.seen ≡ with_list seen xs → NodeList seen (Mark OpenList ∷ vs) ys
+  in_list seen vs ys xs inner e f p all after = subst (λ (l : List (List (List ℕ))). IsNodeList (Mark OpenList ∷ vs) l × MayList seen l × (ys.1.seen ≡ with_list seen l)) (sym f) ((inner, ap (λ (l : List Word). Mark OpenList ∷ l) e, p), all, after)
 
-    may_app : (n : ℕ) (groups : List (List (List ℕ))) → MayList seen groups → MayApp before seen (app_with n groups)
-    may_app n groups may = record { short = fine.short; once = fine.once; few = fine.few; nodes = may }
+  opened_held : (t : Located) (s : State) → IsOver bad Bound s → Holds bad Bound by_pair (λ vs x. NodeList s.seen (Mark OpenList ∷ vs) x) (words_in s) (token s >>= λ first. cond (is_mark CloseList first.0.word) (fails EmptyList t.at) (items_at first.0 (record first.1 { seen = listing first.1.seen })))
+  opened_held t s short =
+      token_held bad Bound by_pair (λ vs x. NodeList s.seen (Mark OpenList ∷ vs) x) s (λ first. cond (is_mark CloseList first.0.word) (fails EmptyList t.at) (items_at first.0 (record first.1 { seen = listing first.1.seen }))) short
+      (λ f ts last alone e. held_if bad Bound by_pair (λ vs x. NodeList s.seen (Mark OpenList ∷ vs) x) (f.word ∷ words ts) (is_mark CloseList f.word) (fails EmptyList t.at) (items_at f (at last ts (listing s.seen))) (λ none h. absurd h)
+      (λ some. held_to bad Bound by_pair (IsHeldRun bad Bound IsItem with_nodes (λ _. NodesKeep Bound false) (λ _. item_at) Any (λ _ _ _ _ _. tt) (λ _ t s alone short _. item_held t s alone short) CloseList [] (listing s.seen)) (λ vs x. NodeList s.seen (Mark OpenList ∷ vs) x) (λ vs ys r. in_list s.seen vs ys r.0 r.1 r.2 r.3 r.4 r.5 r.6)
+      (f.word ∷ words ts) (items_at f (at last ts (listing s.seen))) (list_held bad Bound IsItem with_nodes (λ _. NodesKeep Bound false) (λ _. item_at) Any (λ _ _ _ _ _. tt) (λ _ t s alone short _. item_held t s alone short) CloseList (room (at last ts s.seen)) [] f (at last ts (listing s.seen)) alone e tt)))
 
-    -- its only node is one that may come at the start of any list
-    abbrev only : ℕ → App
-    only n = app_with n ((good.0 ∷ []) ∷ [])
+  groups_held : (t : Located) (s : State) → IsOver bad Bound s → Holds bad Bound by_pair (NodeList s.seen) (t.word ∷ words_in s) (groups_at t s)
+  unfolding groups_at
+  groups_held t s short =
+      let list : Result (List (List (List ℕ)) × State) ConfigFault = token s >>= λ first. cond (is_mark CloseList first.0.word) (fails EmptyList t.at) (items_at first.0 (record first.1 { seen = listing first.1.seen })) in
+      held_if bad Bound by_pair (NodeList s.seen) (t.word ∷ words_in s) (is_mark OpenList t.word) list (fails BadShape t.at)
+      (λ e. subst (λ (w : Word). Holds bad Bound by_pair (NodeList s.seen) (w ∷ words_in s) list) (sym (mark_is OpenList t.word e)) (behind_mark bad Bound by_pair (NodeList s.seen) OpenList (words_in s) list (opened_held t s short))) (λ e h. absurd h)
 
-    abbrev only_words : List Word
-    only_words = Mark OpenList ∷ Name good.0 ∷ Mark CloseList ∷ []
+  -- ---- applications
 
-    only_named : (own : List Word) (n : ℕ) → IsTimeout own n → IsNamed name (own ++ only_words) (only n) (with_app seen (only n))
-    only_named own n is = (refl, (own, only_words, refl, is, (Name good.0 ∷ [], refl, inl (good.0, refl, refl))), may_app n ((good.0 ∷ []) ∷ []) ((good.1, tt), tt), refl)
+  abbrev Time : Seen → List Word → ℕ × Located × State → Type 0
+  Time seen own x = IsTimeout own x.0 × (x.2.seen ≡ seen)
 
-    abbrev listed : ℕ × Located × State → Result (App × State) ConfigFault
-    listed timeout = groups_at timeout.1 timeout.2 >>= λ groups. Ok (app_with timeout.0 groups.0, groups.1)
+  timeout_held : (w : Word) (place : ℕ) (s : State) → IsOver bad Bound s → Holds bad Bound by_timeout (Time s.seen) (w ∷ words_in s) (timeout_at (record { word = w; at = place }) s)
+  unfolding timeout_at
+  timeout_held (Number negative digits) place s short =
+      held_look bad Bound (IsMs w) by_timeout (Time s.seen) (w ∷ words_in s) (timeout_of place negative (value_from 0 digits)) (λ n. symbol_at Comma s >>= λ comma. token comma >>= λ next. Ok (n, next.0, next.1)) (ms_shows (Held (Time s.seen) (w ∷ words_in s)) place negative digits)
+      (λ n is. behind_marks bad Bound by_timeout (Time s.seen) (w ∷ []) (All-cons IsNoName w [] tt (All-nil IsNoName)) (words_in s) (symbol_at Comma s >>= λ comma. token comma >>= λ next. Ok (n, next.0, next.1))
+      (symbol_held bad Bound by_timeout (λ vs x. Time s.seen (w ∷ vs) x) Comma s (λ comma. token comma >>= λ next. Ok (n, next.0, next.1)) short
+      (λ ts last e. token_held bad Bound by_timeout (λ vs x. Time s.seen (w ∷ Mark Comma ∷ vs) x) (at last ts s.seen) (λ next. Ok (n, next.0, next.1)) e (λ t ts last alone e. record { own = []; whole = refl; is = (inr (w, refl, is), refl); short = e }))))
+    where
+      w : Word
+      w = Number negative digits
+  timeout_held (Mark symbol) place s short = record { own = []; whole = refl; is = (inl (refl, refl), refl); short = short }
+  timeout_held (Name name) place s short = record { own = []; whole = refl; is = (inl (refl, refl), refl); short = short }
+  timeout_held Text place s short = record { own = []; whole = refl; is = (inl (refl, refl), refl); short = short }
+  timeout_held End place s short = record { own = []; whole = refl; is = (inl (refl, refl), refl); short = short }
 
-    list_behind : (own : List Word) (x : ℕ × Located × State) → Time seen own x → IsShort x.2 → Holds by_pair (λ vs y. IsNamed name (own ++ vs) y.0 y.1.seen) (x.1.word ∷ words_in x.2) (listed x)
-    list_behind own x k short = made_held (NodeList x.2.seen) (λ vs y. IsNamed name (own ++ vs) y.0 y.1.seen) (app_with x.0)
-        (λ vs groups u list. let l = subst (λ (q : Seen). NodeList q vs (groups, u)) k.1 list in (refl, (own, vs, refl, k.0, l.0), may_app x.0 groups l.1, l.2)) (x.1.word ∷ words_in x.2) (groups_at x.1 x.2) (groups_held x.1 x.2 short)
+  module _ (before : List App) (seen : Seen) (good : Good seen) where
+    abbrev IsNamed : List ℕ → List Word → App → Seen → Type 0
+    IsNamed name own app after = (app.name ≡ name) × IsAppValue own app × AppKeeps Bound before seen app × (after ≡ with_app seen app)
 
-    app_value_held : (ts : List Located) (last : Result Located ConfigFault) → last ≡ Err halt → Holds by_pair (λ own x. IsNamed name own x.0 x.1.seen) (words ts) (app_value_at name (at last ts seen))
-    unfolding app_value_at
-    app_value_held ts last e =
-        token_held by_pair (λ own x. IsNamed name own x.0 x.1.seen) (at last ts seen) (λ first. timeout_at first.0 first.1 >>= listed) e
-        (λ t ts last e. held_then by_timeout by_pair (Time seen) (λ own x. IsNamed name own x.0 x.1.seen) listed
-        (λ own x k. record { more = only_words; x = (only x.0, at (Err halt) [] (with_app seen (only x.0))); is = only_named own x.0 k.0 }) (t.word ∷ words ts) (timeout_at t (at last ts seen)) (timeout_held t.word t.at (at last ts seen) e) (λ own x k short. list_behind own x k short))
+    module _ (w : Word) (name : List ℕ) (fine : IsFine before w name) where
+      abbrev app_with : ℕ → List (List (List ℕ)) → App
+      app_with n groups = record { name = name; timeout = n; groups = groups }
 
-    abbrev Behind : List Word → App × State → Type 0
-    Behind vs x = Taken IsApp (MayApp before) with_app seen (Mark OpenTuple ∷ w ∷ Mark Comma ∷ vs) x
+      may_app : (n : ℕ) (groups : List (List (List ℕ))) → MayList seen groups → AppKeeps Bound before seen (app_with n groups)
+      may_app n groups may = record { short = fine.short; once = fine.once; few = fine.few; nodes = may }
 
-    is_app : (vs : List Word) (x : App × State) → IsHeldClosed (IsNamed name) vs x → Behind vs x
-    is_app vs x c = ((c.0, pair_is w x.0.name vs c.0 (fine.is ∙ ap Name (sym c.2.0)) c.1, c.2.1), c.2.2, c.2.3)
+      -- its only node is one that may come at the start of any list
+      abbrev only : ℕ → App
+      only n = app_with n ((good.0 ∷ []) ∷ [])
 
-    filled_app : Begun Behind []
-    filled_app = record { more = only_words ++ Mark CloseTuple ∷ []; x = (only 0, at (Err halt) [] (with_app seen (only 0))); is = is_app (only_words ++ Mark CloseTuple ∷ []) (only 0, at (Err halt) [] (with_app seen (only 0))) (only_words, refl, only_named [] 0 (inl (refl, refl))) }
+      abbrev only_words : List Word
+      only_words = Mark OpenList ∷ Name good.0 ∷ Mark CloseList ∷ []
 
-    app_rest_held : (ts : List Located) (last : Result Located ConfigFault) → last ≡ Err halt → Holds by_pair Behind (words ts) (closed (app_value_at name) (at last ts seen))
-    app_rest_held ts last e = held_to by_pair (IsHeldClosed (IsNamed name)) Behind is_app (words ts) (closed (app_value_at name) (at last ts seen)) (closed_held (IsNamed name) (app_value_at name) (at last ts seen) (app_value_held ts last e))
+      only_named : (own : List Word) (n : ℕ) → IsTimeout own n → IsNamed name (own ++ only_words) (only n) (with_app seen (only n))
+      only_named own n is = (refl, (own, only_words, refl, is, (Name good.0 ∷ [], refl, inl (good.0, refl, refl))), may_app n ((good.0 ∷ []) ∷ []) ((good.1, tt), tt), refl)
 
-pub app_held : (before : List App) (t : Located) (s : State) → IsShort s → Good s.seen → Holds by_pair (Taken IsApp (MayApp before) with_app s.seen) (t.word ∷ words_in s) (app_at before t s)
-app_held before t s short good = pair_held (Taken IsApp (MayApp before) with_app s.seen) (IsFine before) (app_name_of before) (λ name. closed (app_value_at name)) s.seen (fine_looks before)
-    (λ w name fine. filled_app before s.seen good w name fine) (λ w name fine ts last e. app_rest_held before s.seen good w name fine ts last e) t s.left.tokens s.left.last short
+      abbrev listed : ℕ × Located × State → Result (App × State) ConfigFault
+      listed timeout = groups_at timeout.1 timeout.2 >>= λ groups. Ok (app_with timeout.0 groups.0, groups.1)
 
--- ---- permissions
+      list_behind : (own : List Word) (x : ℕ × Located × State) → Time seen own x → IsOver bad Bound x.2 → Holds bad Bound by_pair (λ vs y. IsNamed name (own ++ vs) y.0 y.1.seen) (x.1.word ∷ words_in x.2) (listed x)
+      list_behind own x k short = made_held (NodeList x.2.seen) (λ vs y. IsNamed name (own ++ vs) y.0 y.1.seen) (app_with x.0)
+          (λ vs groups u list. let l = subst (λ (q : Seen). NodeList q vs (groups, u)) k.1 list in (refl, (own, vs, refl, k.0, l.0), may_app x.0 groups l.1, l.2)) (x.1.word ∷ words_in x.2) (groups_at x.1 x.2) (groups_held x.1 x.2 short)
 
-module _ (seen : Seen) (w : Word) (name : List ℕ) (k : IsShortly w name) where
-  abbrev IsGiven : List Word → Permission → Seen → Type 0
-  IsGiven own p after = (p.name ≡ name) × IsFlag own p.value × (after ≡ seen)
+      app_value_held : (ts : List Located) (last : Result Located ConfigFault) → Over bad Bound ts last → Holds bad Bound by_pair (λ own x. IsNamed name own x.0 x.1.seen) (words ts) (app_value_at name (at last ts seen))
+      unfolding app_value_at
+      app_value_held ts last e =
+          token_held bad Bound by_pair (λ own x. IsNamed name own x.0 x.1.seen) (at last ts seen) (λ first. timeout_at first.0 first.1 >>= listed) e
+          (λ t ts last alone e. held_then bad Bound by_timeout by_pair (Time seen) (λ own x. IsNamed name own x.0 x.1.seen) listed
+          (λ own x k. record { more = only_words; x = (only x.0, at (Err halt) [] (with_app seen (only x.0))); is = only_named own x.0 k.0 }) (t.word ∷ words ts) (timeout_at t (at last ts seen)) (timeout_held t.word t.at (at last ts seen) e) (λ own x k short. list_behind own x k short))
 
-  abbrev Allowed : List Word → Permission × State → Type 0
-  Allowed vs x = Taken IsPermission (MayPermission []) with_permission seen (Mark OpenTuple ∷ w ∷ Mark Comma ∷ vs) x
+      abbrev Behind : List Word → App × State → Type 0
+      Behind vs x = Taken IsApp (AppKeeps Bound before) with_app seen (Mark OpenTuple ∷ w ∷ Mark Comma ∷ vs) x
 
-  permission_value_held : (ts : List Located) (last : Result Located ConfigFault) → last ≡ Err halt → Holds by_pair (λ own x. IsGiven own x.0 x.1.seen) (words ts) (permission_value_at name (at last ts seen))
-  unfolding permission_value_at
-  permission_value_held ts last e =
-      token_held by_pair (λ own x. IsGiven own x.0 x.1.seen) (at last ts seen) (λ t. flag_of t.0 >>= λ value. Ok (record { name = name; value = value }, t.1)) e
-      (λ t ts last e. held_look (λ value. IsFlag (t.word ∷ []) value) by_pair (λ own x. IsGiven own x.0 x.1.seen) (t.word ∷ words ts) (flag_of t) (λ value. Ok (record { name = name; value = value }, at last ts seen)) (flag_looks t) (λ value is. record { own = t.word ∷ []; whole = refl; is = (refl, is, refl); short = e }))
+      is_app : (vs : List Word) (x : App × State) → IsHeldClosed (IsNamed name) vs x → Behind vs x
+      is_app vs x c = ((c.0, pair_is w x.0.name vs c.0 (fine.is ∙ ap Name (sym c.2.0)) c.1, c.2.1), c.2.2, c.2.3)
 
-  is_permission : (vs : List Word) (x : Permission × State) → IsHeldClosed IsGiven vs x → Allowed vs x
-  is_permission vs x c = ((c.0, pair_is w x.0.name vs c.0 (k.0 ∙ ap Name (sym c.2.0)) c.1, c.2.1), subst (λ (n : List ℕ). length n ≤ 255) (sym c.2.0) k.1, c.2.2)
+      filled_app : Begun Behind []
+      filled_app = record { more = only_words ++ Mark CloseTuple ∷ []; x = (only 0, at (Err halt) [] (with_app seen (only 0))); is = is_app (only_words ++ Mark CloseTuple ∷ []) (only 0, at (Err halt) [] (with_app seen (only 0))) (only_words, refl, only_named [] 0 (inl (refl, refl))) }
 
-  filled_permission : Begun Allowed []
-  filled_permission =
-      let p : Permission × State = (record { name = name; value = true }, at (Err halt) [] seen) in
-      record { more = Name (codes "true") ∷ Mark CloseTuple ∷ []; x = p; is = is_permission (Name (codes "true") ∷ Mark CloseTuple ∷ []) p (Name (codes "true") ∷ [], refl, (refl, refl, refl)) }
+      app_rest_held : (ts : List Located) (last : Result Located ConfigFault) → Over bad Bound ts last → Holds bad Bound by_pair Behind (words ts) (closed (app_value_at name) (at last ts seen))
+      app_rest_held ts last e = held_to bad Bound by_pair (IsHeldClosed (IsNamed name)) Behind is_app (words ts) (closed (app_value_at name) (at last ts seen)) (closed_held bad Bound (IsNamed name) (app_value_at name) (at last ts seen) (app_value_held ts last e))
 
-  permission_rest_held : (ts : List Located) (last : Result Located ConfigFault) → last ≡ Err halt → Holds by_pair Allowed (words ts) (closed (permission_value_at name) (at last ts seen))
-  permission_rest_held ts last e = held_to by_pair (IsHeldClosed IsGiven) Allowed is_permission (words ts) (closed (permission_value_at name) (at last ts seen)) (closed_held IsGiven (permission_value_at name) (at last ts seen) (permission_value_held ts last e))
+  pub app_held : (before : List App) (t : Located) (s : State) → Alone bad Bound t s.left.tokens → IsOver bad Bound s → Good s.seen → Holds bad Bound by_pair (Taken IsApp (AppKeeps Bound before) with_app s.seen) (t.word ∷ words_in s) (app_at before t s)
+  app_held before t s alone short good = pair_held bad Bound (Taken IsApp (AppKeeps Bound before) with_app s.seen) (IsFine before) (app_name_of before) (λ name. closed (app_value_at name)) s.seen (fine_shows before)
+      (λ w name fine. filled_app before s.seen good w name fine) (λ w name fine ts last e. app_rest_held before s.seen good w name fine ts last e) t s.left.tokens s.left.last short
 
-pub permission_held : (before : List Permission) (t : Located) (s : State) → IsShort s → Holds by_pair (Taken IsPermission (MayPermission before) with_permission s.seen) (t.word ∷ words_in s) (permission_at t s)
-permission_held before t s short = pair_held (Taken IsPermission (MayPermission before) with_permission s.seen) IsShortly short_name_of (λ name. closed (permission_value_at name)) s.seen shortly_looks
-    (λ w name k. filled_permission s.seen w name k) (λ w name k ts last e. permission_rest_held s.seen w name k ts last e) t s.left.tokens s.left.last short
+  -- ---- permissions
+
+  -- a name of a permission
+  abbrev IsNamely : Word → List ℕ → Type 0
+  IsNamely w name = (w ≡ Name name) × (Bound NameTooLong → length name ≤ 255)
+
+  namely_shows : (t : Located) → Shows bad Bound (Unfit bad Bound (List ℕ) IsNamely t) (IsNamely t.word) (short_name_of t)
+  unfolding short_name_of
+  namely_shows t =
+      let Q : Type 0 = Unfit bad Bound (List ℕ) IsNamely t in
+      shows_then bad Bound Q (IsName t.word) (IsNamely t.word) (atom_of t) (λ name. cond (ltb 255 (length name)) (fails NameTooLong t.at) (Ok name)) (atom_shows Q t)
+      (λ name e. shows_if bad Bound Q (IsNamely t.word) (ltb 255 (length name)) (fails NameTooLong t.at) (Ok name) (λ long h. (name, e, h.0, (name, (e, λ b. absurd (h.1 NameTooLong (omega arith) b))))) (λ short. (e, λ b. ltb-false 255 (length name) short)))
+
+  module _ (seen : Seen) (w : Word) (name : List ℕ) (k : IsNamely w name) where
+    abbrev IsGiven : List Word → Permission → Seen → Type 0
+    IsGiven own p after = (p.name ≡ name) × IsFlag own p.value × (after ≡ seen)
+
+    abbrev Allowed : List Word → Permission × State → Type 0
+    Allowed vs x = Taken IsPermission (PermissionKeeps Bound []) with_permission seen (Mark OpenTuple ∷ w ∷ Mark Comma ∷ vs) x
+
+    permission_value_held : (ts : List Located) (last : Result Located ConfigFault) → Over bad Bound ts last → Holds bad Bound by_pair (λ own x. IsGiven own x.0 x.1.seen) (words ts) (permission_value_at name (at last ts seen))
+    unfolding permission_value_at
+    permission_value_held ts last e =
+        token_held bad Bound by_pair (λ own x. IsGiven own x.0 x.1.seen) (at last ts seen) (λ t. flag_of t.0 >>= λ value. Ok (record { name = name; value = value }, t.1)) e
+        (λ t ts last alone e. held_look bad Bound (λ value. IsFlag (t.word ∷ []) value) by_pair (λ own x. IsGiven own x.0 x.1.seen) (t.word ∷ words ts) (flag_of t) (λ value. Ok (record { name = name; value = value }, at last ts seen)) (flag_shows (Held (λ own x. IsGiven own x.0 x.1.seen) (t.word ∷ words ts)) t) (λ value is. record { own = t.word ∷ []; whole = refl; is = (refl, is, refl); short = e }))
+
+    is_permission : (vs : List Word) (x : Permission × State) → IsHeldClosed IsGiven vs x → Allowed vs x
+    is_permission vs x c = ((c.0, pair_is w x.0.name vs c.0 (k.0 ∙ ap Name (sym c.2.0)) c.1, c.2.1), subst (λ (n : List ℕ). Bound NameTooLong → length n ≤ 255) (sym c.2.0) k.1, c.2.2)
+
+    filled_permission : Begun Allowed []
+    filled_permission =
+        let p : Permission × State = (record { name = name; value = true }, at (Err halt) [] seen) in
+        record { more = Name (codes "true") ∷ Mark CloseTuple ∷ []; x = p; is = is_permission (Name (codes "true") ∷ Mark CloseTuple ∷ []) p (Name (codes "true") ∷ [], refl, (refl, refl, refl)) }
+
+    permission_rest_held : (ts : List Located) (last : Result Located ConfigFault) → Over bad Bound ts last → Holds bad Bound by_pair Allowed (words ts) (closed (permission_value_at name) (at last ts seen))
+    permission_rest_held ts last e = held_to bad Bound by_pair (IsHeldClosed IsGiven) Allowed is_permission (words ts) (closed (permission_value_at name) (at last ts seen)) (closed_held bad Bound IsGiven (permission_value_at name) (at last ts seen) (permission_value_held ts last e))
+
+  pub permission_held : (before : List Permission) (t : Located) (s : State) → Alone bad Bound t s.left.tokens → IsOver bad Bound s → Holds bad Bound by_pair (Taken IsPermission (PermissionKeeps Bound before) with_permission s.seen) (t.word ∷ words_in s) (permission_at t s)
+  permission_held before t s alone short = pair_held bad Bound (Taken IsPermission (PermissionKeeps Bound before) with_permission s.seen) IsNamely short_name_of (λ name. closed (permission_value_at name)) s.seen namely_shows
+      (λ w name k. filled_permission s.seen w name k) (λ w name k ts last e. permission_rest_held s.seen w name k ts last e) t s.left.tokens s.left.last short

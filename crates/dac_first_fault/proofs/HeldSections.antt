@@ -1,7 +1,8 @@
--- Parameters, sections and a whole file that keep the limits, up to the last name.
+-- Parameters, sections and a whole file that keep the limits that are bound, up to the last name.
 use Rattle.std.proofs.Common.{◌≡◌, ◌≢◌, ℕ, zero, suc, Bool, true, false, cond, List, [], ◌∷◌, ◌++◌, Option, Some, None, Result, Ok, Err, refl, sym, ap, subst, ◌∙◌, inr, codes}
 use Rattle.std.specs.Str.{bytes_eq}
 use Rattle.dac_tokens.specs.declared.fault.ConfigFault.{ConfigFault}
+use Rattle.dac_tokens.specs.declared.fault.FaultKind.{FaultKind}
 use Rattle.dac_tokens.specs.declared.fault.FaultKind.TheVariants.{BadShape, Unsupported}
 use Rattle.dac_tokens.specs.declared.token.Symbol.{Symbol}
 use Rattle.dac_tokens.specs.declared.token.Symbol.TheVariants.{OpenList, CloseList, OpenTuple, CloseTuple, Comma, FullStop}
@@ -9,277 +10,301 @@ use Rattle.dac_tokens.specs.Gives.{◌>>=◌}
 use Rattle.dac_tokens.specs.Words.{Word, Mark, Name, Number, Text, End, Located}
 use Rattle.dac_shapes.specs.declared.param.ParamName.{ParamName}
 use Rattle.dac_shapes.specs.declared.param.ParamName.TheVariants as named
-use Rattle.dac_shapes.specs.declared.draft.SyncWait.TheVariants.{Forever}
+use Rattle.dac_shapes.specs.declared.draft.SyncWait.TheVariants.{Forever, Ms}
 use Rattle.dac_shapes.specs.Written.{Param, Distributed, Permissions, Mandatory, Optional, Timeout, Section, Kernel, spelled, name_of}
-use Rattle.dac_shapes.specs.Limits.{Seen, nothing, has_param, has_kernel, MayNode, with_node, with_app, MayApp, with_permission, MayPermission, with_param, MayValue, MayParam, with_section, MaySection, MaySections, steps, AllMay}
-use Rattle.dac_shapes.specs.Shape.{State, fails, is_mark, is_text, token, room, atom_of, list_of, app_at, permission_at, node_of, wait_of, passed_at, terms_at, terms_in, texts_at, term_by, term_at, param_named, first_param, param_name_of, param_value_at, param_rest_at, param_at, names_kernel, kernel_at, section_rest_at, section_at, pair_at, closed}
-use Rattle.dac_shapes.specs.Grammar.{IsListOf, IsNode, IsApp, IsPermission, IsWait, IsParam, IsSection}
+use Rattle.dac_shapes.specs.Limits.{Seen, nothing, has_param, has_kernel, with_node, with_app, with_permission, with_param, with_section, steps, AllMay}
+use Rattle.dac_shapes.specs.Shape.{State, fails, is_mark, is_text, token, room, atom_of, list_of, app_at, permission_at, node_of, wait_of, timeout_of, value_from, passed_at, terms_at, terms_in, texts_at, term_by, term_at, param_named, first_param, param_name_of, param_value_at, param_rest_at, param_at, names_kernel, kernel_at, section_rest_at, section_at, pair_at, closed}
+use Rattle.dac_shapes.specs.Grammar.{IsListOf, IsNode, IsApp, IsPermission, IsMs, IsWait, IsParam, IsSection}
 use Rattle.dac_shapes.specs.laws.AgainLists.{at}
 use Rattle.dac_shapes.specs.laws.Names.{is_named, param_is, same_seen}
-use Rattle.dac_first_fault.proofs.Begun.{halt, Begun, IsShort, words_in, by_pair, by_state, Sees, Looks, looks_then, looks_if}
+use Rattle.dac_first_fault.specs.Keeps.{NodeKeeps, AppKeeps, PermissionKeeps, ValueKeeps, ParamKeeps, SectionKeeps, Keeps}
+use Rattle.dac_first_fault.proofs.Begun.{halt, Halts, Begun, words_in, by_pair, by_state, Sees}
 use Rattle.dac_first_fault.proofs.BegunTerms.{IsPassed, passed_sees, a_term}
-use Rattle.dac_first_fault.proofs.BegunReaders.{pair_of, pair_is, atom_looks, wait_looks}
+use Rattle.dac_first_fault.proofs.BegunReaders.{pair_of, pair_is}
 use Rattle.dac_first_fault.proofs.BegunSections.{IsFor, unknown_is, no_kernel}
-use Rattle.dac_first_fault.proofs.Held.{words, Holds, all_kept, held_if, held_to, held_look, token_held, Taken, IsHeldList, bracketed_held, IsHeldClosed, closed_held, pair_held}
-use Rattle.dac_first_fault.proofs.HeldReaders.{made_held, Good, good_nothing, good_steps, good_nodes, good_app, node_held, Any, app_held, permission_held}
+use Rattle.dac_first_fault.proofs.Held.{words, Held, all_kept, Stops, Alone, Lone, Over, IsOver, Holds, Shows, shows_then, shows_if, Unfit, held_if, held_to, held_look, token_held, Taken, IsHeldList, bracketed_held, IsHeldClosed, closed_held, pair_held}
+use Rattle.dac_first_fault.proofs.HeldReaders.{made_held, Good, good_nothing, good_steps, good_nodes, good_app, atom_shows, ms_shows, node_held, Any, app_held, permission_held}
 
--- ---- a term leaves what was seen
+module _ (bad : ℕ) (Bound : FaultKind → Type 0) where
+  -- ---- a term leaves what was seen, and tokens that are over
 
-abbrev Stays : {X : Type 0} → (X → State) → Seen → Result X ConfigFault → Type 0
-Stays state seen (Ok x) = (state x).seen ≡ seen
-Stays state seen (Err e) = Unit {0}
+  -- what was seen, and tokens left that are over
+  abbrev Steady : Seen → State → Type 0
+  Steady seen s = (s.seen ≡ seen) × IsOver bad Bound s
 
-abbrev behind : Located × State → State
-behind x = x.1
+  abbrev Stays : {X : Type 0} → (X → State) → Seen → Result X ConfigFault → Type 0
+  Stays state seen (Ok x) = Steady seen (state x)
+  Stays state seen (Err e) = Stops bad Bound e.kind e.at → Halts e.kind
 
-stays_then : {X Y : Type 0} (sx : X → State) (sy : Y → State) (seen : Seen) (r : Result X ConfigFault) (next : X → Result Y ConfigFault) → Stays sx seen r → ((x : X) → (sx x).seen ≡ seen → Stays sy seen (next x)) → Stays sy seen (r >>= next)
-stays_then sx sy seen (Ok x) next k more = more x k
-stays_then sx sy seen (Err e) next k more = tt
+  abbrev behind : Located × State → State
+  behind x = x.1
 
-stays_if : {X : Type 0} (state : X → State) (seen : Seen) (c : Bool) (r q : Result X ConfigFault) → Stays state seen r → Stays state seen q → Stays state seen (cond c r q)
-stays_if state seen true r q a b = a
-stays_if state seen false r q a b = b
+  stays_then : {X Y : Type 0} (sx : X → State) (sy : Y → State) (seen : Seen) (r : Result X ConfigFault) (next : X → Result Y ConfigFault) → Stays sx seen r → ((x : X) → Steady seen (sx x) → Stays sy seen (next x)) → Stays sy seen (r >>= next)
+  stays_then sx sy seen (Ok x) next k more = more x k
+  stays_then sx sy seen (Err e) next k more = k
 
-token_stays : (s : State) → Stays behind s.seen (token s)
-token_stays s = by s.left.tokens s.left.last
-  where
-    by : (ts : List Located) (last : Result Located ConfigFault) → Stays behind s.seen (token (at last ts s.seen))
-    by [] (Ok t) = refl
-    by [] (Err e) = tt
-    by (t ∷ ts) last = refl
+  stays_if : {X : Type 0} (state : X → State) (seen : Seen) (c : Bool) (r q : Result X ConfigFault) → Stays state seen r → Stays state seen q → Stays state seen (cond c r q)
+  stays_if state seen true r q a b = a
+  stays_if state seen false r q a b = b
 
-token_same : (seen : Seen) (s : State) → s.seen ≡ seen → Stays behind seen (token s)
-token_same seen s e = subst (λ (q : Seen). Stays behind q (token s)) e (token_stays s)
+  no_stay : {X : Type 0} (state : X → State) (seen : Seen) (place : ℕ) → Stays {X = X} state seen (fails BadShape place)
+  no_stay state seen place = λ h. absurd h
 
-texts_stay : (seen : Seen) (n : ℕ) (s : State) → s.seen ≡ seen → Stays behind seen (texts_at n s)
-unfolding texts_at
-texts_stay seen zero s e = token_same seen s e
-texts_stay seen (suc n) s e = stays_then behind behind seen (token s) (λ t. cond (is_text t.0.word) (texts_at n t.1) (Ok t)) (token_same seen s e) (λ t k. stays_if behind seen (is_text t.0.word) (texts_at n t.1) (Ok t) (texts_stay seen n t.1 k) k)
+  token_same : (seen : Seen) (s : State) → Steady seen s → Stays behind seen (token s)
+  token_same seen s e = by s.left.tokens s.left.last e.1
+    where
+      by : (ts : List Located) (last : Result Located ConfigFault) → Over bad Bound ts last → Stays behind seen (token (at last ts s.seen))
+      by [] last o = subst (λ (l : Result Located ConfigFault). Stays behind seen (token (at l [] s.seen))) (sym o.0) (λ h. tt)
+      by (t ∷ ts) last o = (e.0, (o.0, o.1.1))
 
-module _ (seen : Seen) (pass : Located → State → Result (Located × State) ConfigFault) (passes : (t : Located) (s : State) → s.seen ≡ seen → Stays behind seen (pass t s)) where
-  terms_stay : (close : Symbol) (n : ℕ) (t : Located) (s : State) → s.seen ≡ seen → Stays behind seen (terms_at pass close n t s)
-  unfolding terms_at
-  terms_stay close zero t s e = tt
-  terms_stay close (suc n) t s e =
-      stays_then behind behind seen (pass t s) (λ b. cond (is_mark close b.0.word) (token b.1) (cond (is_mark Comma b.0.word) (token b.1 >>= λ next. terms_at pass close n next.0 next.1) (fails BadShape b.0.at))) (passes t s e)
-      (λ b k. stays_if behind seen (is_mark close b.0.word) (token b.1) (cond (is_mark Comma b.0.word) (token b.1 >>= λ next. terms_at pass close n next.0 next.1) (fails BadShape b.0.at)) (token_same seen b.1 k)
-      (stays_if behind seen (is_mark Comma b.0.word) (token b.1 >>= λ next. terms_at pass close n next.0 next.1) (fails BadShape b.0.at) (stays_then behind behind seen (token b.1) (λ next. terms_at pass close n next.0 next.1) (token_same seen b.1 k) (λ next k. terms_stay close n next.0 next.1 k)) tt))
+  texts_stay : (seen : Seen) (n : ℕ) (s : State) → Steady seen s → Stays behind seen (texts_at n s)
+  unfolding texts_at
+  texts_stay seen zero s e = token_same seen s e
+  texts_stay seen (suc n) s e = stays_then behind behind seen (token s) (λ t. cond (is_text t.0.word) (texts_at n t.1) (Ok t)) (token_same seen s e) (λ t k. stays_if behind seen (is_text t.0.word) (texts_at n t.1) (Ok t) (texts_stay seen n t.1 k) k)
 
-  in_stay : (close : Symbol) (n : ℕ) (s : State) → s.seen ≡ seen → Stays behind seen (terms_in pass close n s)
-  unfolding terms_in
-  in_stay close n s e = stays_then behind behind seen (token s) (λ first. cond (is_mark close first.0.word) (token first.1) (terms_at pass close n first.0 first.1)) (token_same seen s e)
-      (λ f k. stays_if behind seen (is_mark close f.0.word) (token f.1) (terms_at pass close n f.0 f.1) (token_same seen f.1 k) (terms_stay close n f.0 f.1 k))
+  module _ (seen : Seen) (pass : Located → State → Result (Located × State) ConfigFault) (passes : (t : Located) (s : State) → Steady seen s → Stays behind seen (pass t s)) where
+    terms_stay : (close : Symbol) (n : ℕ) (t : Located) (s : State) → Steady seen s → Stays behind seen (terms_at pass close n t s)
+    unfolding terms_at
+    terms_stay close zero t s e = no_stay behind seen t.at
+    terms_stay close (suc n) t s e =
+        stays_then behind behind seen (pass t s) (λ b. cond (is_mark close b.0.word) (token b.1) (cond (is_mark Comma b.0.word) (token b.1 >>= λ next. terms_at pass close n next.0 next.1) (fails BadShape b.0.at))) (passes t s e)
+        (λ b k. stays_if behind seen (is_mark close b.0.word) (token b.1) (cond (is_mark Comma b.0.word) (token b.1 >>= λ next. terms_at pass close n next.0 next.1) (fails BadShape b.0.at)) (token_same seen b.1 k)
+        (stays_if behind seen (is_mark Comma b.0.word) (token b.1 >>= λ next. terms_at pass close n next.0 next.1) (fails BadShape b.0.at) (stays_then behind behind seen (token b.1) (λ next. terms_at pass close n next.0 next.1) (token_same seen b.1 k) (λ next k. terms_stay close n next.0 next.1 k)) (no_stay behind seen b.0.at)))
 
-  term_by_stays : (w : Word) (place n : ℕ) (s : State) → s.seen ≡ seen → Stays behind seen (term_by pass n (record { word = w; at = place }) s)
-  unfolding term_by
-  term_by_stays (Name name) place n s e = token_same seen s e
-  term_by_stays (Number negative digits) place n s e = token_same seen s e
-  term_by_stays Text place n s e = texts_stay seen n s e
-  term_by_stays (Mark OpenList) place n s e = in_stay CloseList n s e
-  term_by_stays (Mark OpenTuple) place n s e = in_stay CloseTuple n s e
-  term_by_stays (Mark CloseList) place n s e = tt
-  term_by_stays (Mark CloseTuple) place n s e = tt
-  term_by_stays (Mark Comma) place n s e = tt
-  term_by_stays (Mark FullStop) place n s e = tt
-  term_by_stays End place n s e = tt
+    in_stay : (close : Symbol) (n : ℕ) (s : State) → Steady seen s → Stays behind seen (terms_in pass close n s)
+    unfolding terms_in
+    in_stay close n s e = stays_then behind behind seen (token s) (λ first. cond (is_mark close first.0.word) (token first.1) (terms_at pass close n first.0 first.1)) (token_same seen s e)
+        (λ f k. stays_if behind seen (is_mark close f.0.word) (token f.1) (terms_at pass close n f.0 f.1) (token_same seen f.1 k) (terms_stay close n f.0 f.1 k))
 
-term_stays : (seen : Seen) (n : ℕ) (t : Located) (s : State) → s.seen ≡ seen → Stays behind seen (term_at n t s)
-unfolding term_at
-term_stays seen zero t s e = tt
-term_stays seen (suc n) t s e = term_by_stays seen (term_at n) (term_stays seen n) t.word t.at n s e
+    term_by_stays : (w : Word) (place n : ℕ) (s : State) → Steady seen s → Stays behind seen (term_by pass n (record { word = w; at = place }) s)
+    unfolding term_by
+    term_by_stays (Name name) place n s e = token_same seen s e
+    term_by_stays (Number negative digits) place n s e = token_same seen s e
+    term_by_stays Text place n s e = texts_stay seen n s e
+    term_by_stays (Mark OpenList) place n s e = in_stay CloseList n s e
+    term_by_stays (Mark OpenTuple) place n s e = in_stay CloseTuple n s e
+    term_by_stays (Mark CloseList) place n s e = no_stay behind seen place
+    term_by_stays (Mark CloseTuple) place n s e = no_stay behind seen place
+    term_by_stays (Mark Comma) place n s e = no_stay behind seen place
+    term_by_stays (Mark FullStop) place n s e = no_stay behind seen place
+    term_by_stays End place n s e = no_stay behind seen place
 
-passed_stays : (s : State) → Stays (λ u. u) s.seen (passed_at s)
-unfolding passed_at
-passed_stays s =
-    stays_then behind (λ u. u) s.seen (token s) (λ first. term_at (suc (room s)) first.0 first.1 >>= λ b. cond (is_mark CloseTuple b.0.word) (Ok b.1) (fails BadShape b.0.at)) (token_stays s)
-    (λ f k. stays_then behind (λ u. u) s.seen (term_at (suc (room s)) f.0 f.1) (λ b. cond (is_mark CloseTuple b.0.word) (Ok b.1) (fails BadShape b.0.at)) (term_stays s.seen (suc (room s)) f.0 f.1 k)
-    (λ b k. stays_if (λ u. u) s.seen (is_mark CloseTuple b.0.word) (Ok b.1) (fails BadShape b.0.at) k tt))
+  term_stays : (seen : Seen) (n : ℕ) (t : Located) (s : State) → Steady seen s → Stays behind seen (term_at n t s)
+  unfolding term_at
+  term_stays seen zero t s e = no_stay behind seen t.at
+  term_stays seen (suc n) t s e = term_by_stays seen (term_at n) (term_stays seen n) t.word t.at n s e
 
--- what is made of a term that was passed over
-module _ {A : Type 0} (Is : List Word → A × State → Type 0) (seen : Seen) (y : A) (so : (vs : List Word) (u : State) → IsPassed vs → u.seen ≡ seen → Is vs (y, u)) where
-  passed_made : (ws : List Word) (r : Result State ConfigFault) → Sees by_state (λ own u. IsPassed own) ws r → Stays (λ u. u) seen r → Holds by_pair Is ws (r >>= λ b. Ok (y, b))
-  passed_made ws (Ok u) k e = record { own = k.own; whole = k.whole; is = so k.own u k.is e; short = k.short }
-  passed_made ws (Err f) k e = λ h. let b = k h in inr (all_kept Is ws (record { more = b.more; x = (y, at (Err halt) [] seen); is = so (ws ++ b.more) (at (Err halt) [] seen) b.is refl }))
+  passed_stays : (s : State) → IsOver bad Bound s → Stays (λ u. u) s.seen (passed_at s)
+  unfolding passed_at
+  passed_stays s over =
+      stays_then behind (λ u. u) s.seen (token s) (λ first. term_at (suc (room s)) first.0 first.1 >>= λ b. cond (is_mark CloseTuple b.0.word) (Ok b.1) (fails BadShape b.0.at)) (token_same s.seen s (refl, over))
+      (λ f k. stays_then behind (λ u. u) s.seen (term_at (suc (room s)) f.0 f.1) (λ b. cond (is_mark CloseTuple b.0.word) (Ok b.1) (fails BadShape b.0.at)) (term_stays s.seen (suc (room s)) f.0 f.1 k)
+      (λ b k. stays_if (λ u. u) s.seen (is_mark CloseTuple b.0.word) (Ok b.1) (fails BadShape b.0.at) k (no_stay (λ u. u) s.seen b.0.at)))
 
-  passed_held : (ts : List Located) (last : Result Located ConfigFault) → last ≡ Err halt → Holds by_pair Is (words ts) (passed_at (at last ts seen) >>= λ b. Ok (y, b))
-  passed_held ts last e = passed_made (words ts) (passed_at (at last ts seen)) (passed_sees (at last ts seen) e) (passed_stays (at last ts seen))
+  -- what is made of a term that was passed over
+  module _ {A : Type 0} (Is : List Word → A × State → Type 0) (seen : Seen) (y : A) (so : (vs : List Word) (u : State) → IsPassed vs → u.seen ≡ seen → Is vs (y, u)) where
+    passed_made : (ws : List Word) (r : Result State ConfigFault) → Sees by_state (λ own u. IsPassed own) ws r → Stays (λ u. u) seen r → Holds bad Bound by_pair Is ws (r >>= λ b. Ok (y, b))
+    passed_made ws (Ok u) k e = record { own = k.own; whole = k.whole; is = so k.own u k.is e.0; short = e.1 }
+    passed_made ws (Err f) k e = λ h. let b = k (e h) in inr (all_kept Is ws (record { more = b.more; x = (y, at (Err halt) [] seen); is = so (ws ++ b.more) (at (Err halt) [] seen) b.is refl }))
 
--- ---- what the names of parameters say
+    passed_held : (ts : List Located) (last : Result Located ConfigFault) → Over bad Bound ts last → Holds bad Bound by_pair Is (words ts) (passed_at (at last ts seen) >>= λ b. Ok (y, b))
+    passed_held ts last e = passed_made (words ts) (passed_at (at last ts seen)) (passed_sees (at last ts seen) e.0) (passed_stays (at last ts seen) e)
 
--- what a parameter's name says of it behind these
-abbrev IsNext : List Param → Option ParamName → Type 0
-IsNext before (Some known) = has_param known before ≡ false
-IsNext before None = Unit {0}
+  -- ---- what the names of parameters say
 
-abbrev Says : List Param → Word → Option ParamName → Type 0
-Says before w o = (name : List ℕ) × (w ≡ Name name) × IsFor name o × IsNext before o
+  -- what a parameter's name says of it behind these
+  abbrev IsNext : List Param → Option ParamName → Type 0
+  IsNext before (Some known) = Bound BadShape → has_param known before ≡ false
+  IsNext before None = Unit {0}
 
-first_looks : (before : List Param) (w : Word) (place : ℕ) (name : List ℕ) → w ≡ Name name → (o : Option ParamName) → param_named name ≡ o → Looks (Says before w) (first_param before place o)
-first_looks before w place name e None is = (name, e, unknown_is name is, tt)
-first_looks before w place name e (Some known) is = looks_if (Says before w) (has_param known before) (fails BadShape place) (Ok (Some known)) (λ twice h. h) (λ once. (name, e, param_is name known is, once))
+  abbrev Says : List Param → Word → Option ParamName → Type 0
+  Says before w o = (name : List ℕ) × (w ≡ Name name) × IsFor name o × IsNext before o
 
-param_looks : (before : List Param) (t : Located) → Looks (Says before t.word) (param_name_of before t)
-unfolding param_name_of
-param_looks before t = looks_then (λ name. t.word ≡ Name name) (Says before t.word) (atom_of t) (λ name. first_param before t.at (param_named name)) (atom_looks t) (λ name e. first_looks before t.word t.at name e (param_named name) refl)
+  module _ (Q : Type 0) where
+    first_shows : (before : List Param) (w : Word) (place : ℕ) (name : List ℕ) → w ≡ Name name → (o : Option ParamName) → param_named name ≡ o → Shows bad Bound Q (Says before w) (first_param before place o)
+    first_shows before w place name e None is = (name, e, unknown_is name is, tt)
+    first_shows before w place name e (Some known) is = shows_if bad Bound Q (Says before w) (has_param known before) (fails BadShape place) (Ok (Some known)) (λ twice h. absurd h) (λ once. (name, e, param_is name known is, λ b. once))
 
--- ---- values of parameters
+    param_shows : (before : List Param) (t : Located) → Shows bad Bound Q (Says before t.word) (param_name_of before t)
+    unfolding param_name_of
+    param_shows before t = shows_then bad Bound Q (λ name. t.word ≡ Name name) (Says before t.word) (atom_of t) (λ name. first_param before t.at (param_named name)) (atom_shows bad Bound Q t) (λ name e. first_shows before t.word t.at name e (param_named name) refl)
 
-once_as : (before : List Param) (name : ParamName) → has_param name before ≡ false → (other : ParamName) → ◌≡◌ {A = Option ParamName} (Some name) (Some other) → has_param other before ≡ false
-once_as before name once other e = let same : name ≡ other = cc in subst (λ (n : ParamName). has_param n before ≡ false) same once
+  -- what is so where a second one of its kind is told apart
+  abbrev Once : Bool → Type 0
+  Once twice = Bound BadShape → twice ≡ false
 
-module _ (before : List Param) (seen : Seen) (good : Good seen) where
-  -- the value of the parameter of this name, which may come
-  abbrev IsValue : ParamName → List Word → Param → Seen → Type 0
-  IsValue name own p after = IsParam (pair_of (spelled name) own) p × MayParam before seen p × (after ≡ with_param seen p)
+  -- how long to wait
+  wait_by : (Q : Type 0) (w : Word) (place : ℕ) → Shows bad Bound Q (λ wait. IsWait (w ∷ []) wait) (wait_of (record { word = w; at = place }))
+  unfolding wait_of
+  wait_by Q (Number negative digits) place =
+      shows_then bad Bound Q (IsMs (Number negative digits)) (λ wait. IsWait (Number negative digits ∷ []) wait) (timeout_of place negative (value_from 0 digits)) (λ n. Ok (Ms n)) (ms_shows bad Bound Q place negative digits) (λ n is. (Number negative digits, refl, is))
+  wait_by Q (Name name) place =
+      shows_if bad Bound Q (λ wait. IsWait (Name name ∷ []) wait) (bytes_eq name (codes "infinity")) (Ok Forever) (fails BadShape place) (λ is. ap (λ (n : List ℕ). Name n ∷ []) (is_named name (codes "infinity") is)) (λ other h. absurd h)
+  wait_by Q (Mark symbol) place = λ h. absurd h
+  wait_by Q Text place = λ h. absurd h
+  wait_by Q End place = λ h. absurd h
 
-  abbrev IsOne : List Word → Param × State → Type 0
-  IsOne own x = Taken IsParam (MayParam before) with_param seen own x
+  wait_shows : (Q : Type 0) (t : Located) → Shows bad Bound Q (λ wait. IsWait (t.word ∷ []) wait) (wait_of t)
+  wait_shows Q t = wait_by Q t.word t.at
 
-  names_value : (name : ParamName) (to : List (List ℕ) → Param) → ((ns : List (List ℕ)) → name_of (to ns) ≡ Some name) → ((own : List Word) (ns : List (List ℕ)) → IsListOf IsNode own ns → IsParam (pair_of (spelled name) own) (to ns))
-      → ((ns : List (List ℕ)) → AllMay with_node (λ _. MayNode true) [] seen ns → MayValue seen (to ns)) → ((ns : List (List ℕ)) → steps with_node seen ns ≡ with_param seen (to ns)) → has_param name before ≡ false
-      → (ts : List Located) (last : Result Located ConfigFault) → last ≡ Err halt → Holds by_pair (λ own x. IsValue name own x.0 x.1.seen) (words ts) (list_of (λ _. node_of true) (at last ts seen) >>= λ names. Ok (to names.0, names.1))
-  names_value name to so is may after once ts last e =
-      made_held (IsHeldList IsNode with_node (λ _. MayNode true) (λ _. node_of true) Any (λ _ _ _ _ _. tt) (λ _ t s short _. node_held true t s short) seen) (λ own x. IsValue name own x.0 x.1.seen) to
-      (λ own ns u k. (is own ns k.0, record { once = λ other q. once_as before name once other (sym (so ns) ∙ q); value = may ns k.1 }, k.2 ∙ after ns)) (words ts) (list_of (λ _. node_of true) (at last ts seen))
-      (bracketed_held IsNode with_node (λ _. MayNode true) (λ _. node_of true) Any (λ _ _ _ _ _. tt) (λ _ t s short _. node_held true t s short) (at last ts seen) e tt)
+  -- ---- values of parameters
 
-  value_held : (name : ParamName) → has_param name before ≡ false → (ts : List Located) (last : Result Located ConfigFault) → last ≡ Err halt → Holds by_pair (λ own x. IsValue name own x.0 x.1.seen) (words ts) (param_value_at name (at last ts seen))
-  unfolding param_value_at
-  value_held named.Distributed once ts last e =
-      made_held (IsHeldList IsApp with_app MayApp app_at Good good_app app_held seen) (λ own x. IsValue named.Distributed own x.0 x.1.seen) Distributed (λ own xs u k. ((own, refl, k.0), record { once = once_as before named.Distributed once; value = k.1 }, k.2))
-      (words ts) (list_of app_at (at last ts seen)) (bracketed_held IsApp with_app MayApp app_at Good good_app app_held (at last ts seen) e good)
-  value_held named.Permissions once ts last e =
-      made_held (IsHeldList IsPermission with_permission MayPermission (λ _. permission_at) Any (λ _ _ _ _ _. tt) (λ before t s short _. permission_held before t s short) seen) (λ own x. IsValue named.Permissions own x.0 x.1.seen) Permissions
-      (λ own xs u k. ((own, refl, k.0), record { once = once_as before named.Permissions once; value = k.1 }, k.2 ∙ same_seen seen xs)) (words ts) (list_of (λ _. permission_at) (at last ts seen))
-      (bracketed_held IsPermission with_permission MayPermission (λ _. permission_at) Any (λ _ _ _ _ _. tt) (λ before t s short _. permission_held before t s short) (at last ts seen) e tt)
-  value_held named.Mandatory once ts last e = names_value named.Mandatory Mandatory (λ _. refl) (λ own ns k. (own, refl, k)) (λ ns k. k) (λ ns. refl) once ts last e
-  value_held named.Optional once ts last e = names_value named.Optional Optional (λ _. refl) (λ own ns k. (own, refl, k)) (λ ns k. k) (λ ns. refl) once ts last e
-  value_held named.Timeout once ts last e =
-      token_held by_pair (λ own x. IsValue named.Timeout own x.0 x.1.seen) (at last ts seen) (λ t. wait_of t.0 >>= λ wait. Ok (Timeout wait, t.1)) e
-      (λ t ts last e. held_look (λ wait. IsWait (t.word ∷ []) wait) by_pair (λ own x. IsValue named.Timeout own x.0 x.1.seen) (t.word ∷ words ts) (wait_of t) (λ wait. Ok (Timeout wait, at last ts seen)) (wait_looks t)
-      (λ wait is. record { own = t.word ∷ []; whole = refl; is = ((t.word ∷ [], refl, is), record { once = once_as before named.Timeout once; value = tt }, refl); short = e }))
+  once_as : (before : List Param) (name : ParamName) → Once (has_param name before) → Bound BadShape → (other : ParamName) → ◌≡◌ {A = Option ParamName} (Some name) (Some other) → has_param other before ≡ false
+  once_as before name once b other e = let same : name ≡ other = cc in subst (λ (n : ParamName). has_param n before ≡ false) same (once b)
 
-  -- a value of which nothing is listed
-  abbrev Some_value : ParamName → Type 0
-  Some_value name = Begun (λ own (x : Param × State). IsValue name own x.0 x.1.seen) []
+  module _ (before : List Param) (seen : Seen) (good : (Good bad Bound) seen) where
+    -- the value of the parameter of this name, which may come
+    abbrev IsValue : ParamName → List Word → Param → Seen → Type 0
+    IsValue name own p after = IsParam (pair_of (spelled name) own) p × ParamKeeps Bound before seen p × (after ≡ with_param seen p)
 
-  abbrev empty_list : List Word
-  empty_list = Mark OpenList ∷ Mark CloseList ∷ []
+    abbrev IsOne : List Word → Param × State → Type 0
+    IsOne own x = Taken IsParam (ParamKeeps Bound before) with_param seen own x
 
-  same : State
-  same = at (Err halt) [] seen
+    names_value : (name : ParamName) (to : List (List ℕ) → Param) → ((ns : List (List ℕ)) → name_of (to ns) ≡ Some name) → ((own : List Word) (ns : List (List ℕ)) → IsListOf IsNode own ns → IsParam (pair_of (spelled name) own) (to ns))
+        → ((ns : List (List ℕ)) → AllMay with_node (λ _. NodeKeeps Bound true) [] seen ns → ValueKeeps Bound seen (to ns)) → ((ns : List (List ℕ)) → steps with_node seen ns ≡ with_param seen (to ns)) → Once (has_param name before)
+        → (ts : List Located) (last : Result Located ConfigFault) → Over bad Bound ts last → Holds bad Bound by_pair (λ own x. IsValue name own x.0 x.1.seen) (words ts) (list_of (λ _. node_of true) (at last ts seen) >>= λ names. Ok (to names.0, names.1))
+    names_value name to so is may after once ts last e =
+        made_held bad Bound (IsHeldList bad Bound IsNode with_node (λ _. NodeKeeps Bound true) (λ _. node_of true) (Any bad Bound) (λ _ _ _ _ _. tt) (λ _ t s alone short _. node_held bad Bound true t s alone short) seen) (λ own x. IsValue name own x.0 x.1.seen) to
+        (λ own ns u k. (is own ns k.0, record { once = λ b other q. once_as before name once b other (sym (so ns) ∙ q); value = may ns k.1 }, k.2 ∙ after ns)) (words ts) (list_of (λ _. node_of true) (at last ts seen))
+        (bracketed_held bad Bound IsNode with_node (λ _. NodeKeeps Bound true) (λ _. node_of true) (Any bad Bound) (λ _ _ _ _ _. tt) (λ _ t s alone short _. node_held bad Bound true t s alone short) (at last ts seen) e tt)
 
-  some_value : (name : ParamName) → has_param name before ≡ false → Some_value name
-  unfolding same
-  some_value named.Distributed once = record { more = empty_list; x = (Distributed [], same); is = ((empty_list, refl, ([], refl, refl)), record { once = once_as before named.Distributed once; value = tt }, refl) }
-  some_value named.Permissions once = record { more = empty_list; x = (Permissions [], same); is = ((empty_list, refl, ([], refl, refl)), record { once = once_as before named.Permissions once; value = tt }, refl) }
-  some_value named.Mandatory once = record { more = empty_list; x = (Mandatory [], same); is = ((empty_list, refl, ([], refl, refl)), record { once = once_as before named.Mandatory once; value = tt }, refl) }
-  some_value named.Optional once = record { more = empty_list; x = (Optional [], same); is = ((empty_list, refl, ([], refl, refl)), record { once = once_as before named.Optional once; value = tt }, refl) }
-  some_value named.Timeout once = record { more = Name (codes "infinity") ∷ []; x = (Timeout Forever, same); is = ((Name (codes "infinity") ∷ [], refl, refl), record { once = once_as before named.Timeout once; value = tt }, refl) }
+    value_held : (name : ParamName) → Once (has_param name before) → (ts : List Located) (last : Result Located ConfigFault) → Over bad Bound ts last → Holds bad Bound by_pair (λ own x. IsValue name own x.0 x.1.seen) (words ts) (param_value_at name (at last ts seen))
+    unfolding param_value_at
+    value_held named.Distributed once ts last e =
+        made_held bad Bound (IsHeldList bad Bound IsApp with_app (AppKeeps Bound) app_at (Good bad Bound) (good_app bad Bound) (app_held bad Bound) seen) (λ own x. IsValue named.Distributed own x.0 x.1.seen) Distributed (λ own xs u k. ((own, refl, k.0), record { once = once_as before named.Distributed once; value = k.1 }, k.2))
+        (words ts) (list_of app_at (at last ts seen)) (bracketed_held bad Bound IsApp with_app (AppKeeps Bound) app_at (Good bad Bound) (good_app bad Bound) (app_held bad Bound) (at last ts seen) e good)
+    value_held named.Permissions once ts last e =
+        made_held bad Bound (IsHeldList bad Bound IsPermission with_permission (PermissionKeeps Bound) (λ _. permission_at) (Any bad Bound) (λ _ _ _ _ _. tt) (λ before t s alone short _. permission_held bad Bound before t s alone short) seen) (λ own x. IsValue named.Permissions own x.0 x.1.seen) Permissions
+        (λ own xs u k. ((own, refl, k.0), record { once = once_as before named.Permissions once; value = k.1 }, k.2 ∙ same_seen seen xs)) (words ts) (list_of (λ _. permission_at) (at last ts seen))
+        (bracketed_held bad Bound IsPermission with_permission (PermissionKeeps Bound) (λ _. permission_at) (Any bad Bound) (λ _ _ _ _ _. tt) (λ before t s alone short _. permission_held bad Bound before t s alone short) (at last ts seen) e tt)
+    value_held named.Mandatory once ts last e = names_value named.Mandatory Mandatory (λ _. refl) (λ own ns k. (own, refl, k)) (λ ns k. k) (λ ns. refl) once ts last e
+    value_held named.Optional once ts last e = names_value named.Optional Optional (λ _. refl) (λ own ns k. (own, refl, k)) (λ ns k. k) (λ ns. refl) once ts last e
+    value_held named.Timeout once ts last e =
+        token_held bad Bound by_pair (λ own x. IsValue named.Timeout own x.0 x.1.seen) (at last ts seen) (λ t. wait_of t.0 >>= λ wait. Ok (Timeout wait, t.1)) e
+        (λ t ts last alone e. held_look bad Bound (λ wait. IsWait (t.word ∷ []) wait) by_pair (λ own x. IsValue named.Timeout own x.0 x.1.seen) (t.word ∷ words ts) (wait_of t) (λ wait. Ok (Timeout wait, at last ts seen)) (wait_shows (Held (λ own x. IsValue named.Timeout own x.0 x.1.seen) (t.word ∷ words ts)) t)
+        (λ wait is. record { own = t.word ∷ []; whole = refl; is = ((t.word ∷ [], refl, is), record { once = once_as before named.Timeout once; value = tt }, refl); short = e }))
 
-  -- ---- parameters
+    -- a value of which nothing is listed
+    abbrev Some_value : ParamName → Type 0
+    Some_value name = Begun (λ own (x : Param × State). IsValue name own x.0 x.1.seen) []
 
-  abbrev In : Word → List Word → Param × State → Type 0
-  In w vs x = IsOne (Mark OpenTuple ∷ w ∷ Mark Comma ∷ vs) x
+    abbrev empty_list : List Word
+    empty_list = Mark OpenList ∷ Mark CloseList ∷ []
 
-  known_in : (w : Word) (known : ParamName) → w ≡ Name (spelled known) → (vs : List Word) (x : Param × State) → IsHeldClosed (IsValue known) vs x → In w vs x
-  known_in w known e vs x c = (subst (λ (l : List Word). IsParam l x.0) (sym (pair_is w (spelled known) vs c.0 e c.1)) c.2.0, c.2.1, c.2.2)
+    same : State
+    same = at (Err halt) [] seen
 
-  nothing_known : (known : ParamName) → ◌≡◌ {A = Option ParamName} None (Some known) → ⊥
-  nothing_known known h = absurd cc
+    some_value : (name : ParamName) → Once (has_param name before) → Some_value name
+    unfolding same
+    some_value named.Distributed once = record { more = empty_list; x = (Distributed [], same); is = ((empty_list, refl, ([], refl, refl)), record { once = once_as before named.Distributed once; value = tt }, refl) }
+    some_value named.Permissions once = record { more = empty_list; x = (Permissions [], same); is = ((empty_list, refl, ([], refl, refl)), record { once = once_as before named.Permissions once; value = tt }, refl) }
+    some_value named.Mandatory once = record { more = empty_list; x = (Mandatory [], same); is = ((empty_list, refl, ([], refl, refl)), record { once = once_as before named.Mandatory once; value = tt }, refl) }
+    some_value named.Optional once = record { more = empty_list; x = (Optional [], same); is = ((empty_list, refl, ([], refl, refl)), record { once = once_as before named.Optional once; value = tt }, refl) }
+    some_value named.Timeout once = record { more = Name (codes "infinity") ∷ []; x = (Timeout Forever, same); is = ((Name (codes "infinity") ∷ [], refl, refl), record { once = once_as before named.Timeout once; value = tt }, refl) }
 
-  other_in : (w : Word) (name : List ℕ) → w ≡ Name name → ((known : ParamName) → name ≢ spelled known) → (vs : List Word) (u : State) → IsPassed vs → u.seen ≡ seen → In w vs (Param.Other, u)
-  other_in w name e other vs u c k = ((name, other, (c.0, pair_is w name vs c.0 e c.1, c.2)), record { once = λ known h. absurd (nothing_known known h); value = tt }, k)
+    -- ---- parameters
 
-  filled_param : (w : Word) (o : Option ParamName) → Says before w o → Begun (In w) []
-  unfolding same
-  filled_param w (Some known) says =
-      let v = some_value known says.3 in
-      record { more = v.more ++ Mark CloseTuple ∷ []; x = v.x; is = known_in w known (says.1 ∙ ap Name says.2) (v.more ++ Mark CloseTuple ∷ []) v.x (v.more, refl, v.is) }
-  filled_param w None says = record { more = Name [] ∷ Mark CloseTuple ∷ []; x = (Param.Other, same); is = other_in w says.0 says.1 says.2 (Name [] ∷ Mark CloseTuple ∷ []) same (Name [] ∷ [], refl, a_term) refl }
+    abbrev In : Word → List Word → Param × State → Type 0
+    In w vs x = IsOne (Mark OpenTuple ∷ w ∷ Mark Comma ∷ vs) x
 
-  param_rest_held : (w : Word) (o : Option ParamName) → Says before w o → (ts : List Located) (last : Result Located ConfigFault) → last ≡ Err halt → Holds by_pair (In w) (words ts) (param_rest_at o (at last ts seen))
-  unfolding param_rest_at
-  param_rest_held w (Some known) says ts last e = held_to by_pair (IsHeldClosed (IsValue known)) (In w) (known_in w known (says.1 ∙ ap Name says.2)) (words ts) (closed (param_value_at known) (at last ts seen))
-      (closed_held (IsValue known) (param_value_at known) (at last ts seen) (value_held known says.3 ts last e))
-  param_rest_held w None says ts last e = passed_held (In w) seen Param.Other (λ vs u c k. other_in w says.0 says.1 says.2 vs u c k) ts last e
+    known_in : (w : Word) (known : ParamName) → w ≡ Name (spelled known) → (vs : List Word) (x : Param × State) → IsHeldClosed (IsValue known) vs x → In w vs x
+    known_in w known e vs x c = (subst (λ (l : List Word). IsParam l x.0) (sym (pair_is w (spelled known) vs c.0 e c.1)) c.2.0, c.2.1, c.2.2)
 
-param_held : (before : List Param) (t : Located) (s : State) → IsShort s → Good s.seen → Holds by_pair (Taken IsParam (MayParam before) with_param s.seen) (t.word ∷ words_in s) (param_at before t s)
-param_held before t s short good =
-    pair_held (Taken IsParam (MayParam before) with_param s.seen) (Says before) (param_name_of before) param_rest_at s.seen (param_looks before) (filled_param before s.seen good) (param_rest_held before s.seen good) t s.left.tokens s.left.last short
+    nothing_known : (known : ParamName) → ◌≡◌ {A = Option ParamName} None (Some known) → ⊥
+    nothing_known known h = absurd cc
 
-good_apps : (seen : Seen) (p : Param) → Good seen → MayValue seen p → Good (with_param seen p)
-good_apps seen (Distributed apps) good may = good_steps with_app MayApp good_app [] seen apps good may
-good_apps seen (Permissions permissions) good may = good
-good_apps seen (Mandatory names) good may = good_nodes true seen names good may
-good_apps seen (Optional names) good may = good_nodes true seen names good may
-good_apps seen (Timeout wait) good may = good
-good_apps seen Param.Other good may = good
+    other_in : (w : Word) (name : List ℕ) → w ≡ Name name → ((known : ParamName) → name ≢ spelled known) → (vs : List Word) (u : State) → IsPassed vs → u.seen ≡ seen → In w vs (Param.Other, u)
+    other_in w name e other vs u c k = ((name, other, (c.0, pair_is w name vs c.0 e c.1, c.2)), record { once = λ b known h. absurd (nothing_known known h); value = tt }, k)
 
-good_param : (before : List Param) (seen : Seen) (p : Param) → Good seen → MayParam before seen p → Good (with_param seen p)
-good_param before seen p good may = good_apps seen p good may.value
+    filled_param : (w : Word) (o : Option ParamName) → Says before w o → Begun (In w) []
+    unfolding same
+    filled_param w (Some known) says =
+        let v = some_value known says.3 in
+        record { more = v.more ++ Mark CloseTuple ∷ []; x = v.x; is = known_in w known (says.1 ∙ ap Name says.2) (v.more ++ Mark CloseTuple ∷ []) v.x (v.more, refl, v.is) }
+    filled_param w None says = record { more = Name [] ∷ Mark CloseTuple ∷ []; x = (Param.Other, same); is = other_in w says.0 says.1 says.2 (Name [] ∷ Mark CloseTuple ∷ []) same (Name [] ∷ [], refl, a_term) refl }
 
--- ---- sections
+    param_rest_held : (w : Word) (o : Option ParamName) → Says before w o → (ts : List Located) (last : Result Located ConfigFault) → Over bad Bound ts last → Holds bad Bound by_pair (In w) (words ts) (param_rest_at o (at last ts seen))
+    unfolding param_rest_at
+    param_rest_held w (Some known) says ts last e = held_to bad Bound by_pair (IsHeldClosed (IsValue known)) (In w) (known_in w known (says.1 ∙ ap Name says.2)) (words ts) (closed (param_value_at known) (at last ts seen))
+        (closed_held bad Bound (IsValue known) (param_value_at known) (at last ts seen) (value_held known says.3 ts last e))
+    param_rest_held w None says ts last e = passed_held (In w) seen Param.Other (λ vs u c k. other_in w says.0 says.1 says.2 vs u c k) ts last e
 
-abbrev IsForSection : List Section → List ℕ → Bool → Type 0
-IsForSection before name true = (name ≡ codes "kernel") × (has_kernel before ≡ false)
-IsForSection before name false = name ≢ codes "kernel"
+  param_held : (before : List Param) (t : Located) (s : State) → Alone bad Bound t s.left.tokens → IsOver bad Bound s → (Good bad Bound) s.seen → Holds bad Bound by_pair (Taken IsParam (ParamKeeps Bound before) with_param s.seen) (t.word ∷ words_in s) (param_at before t s)
+  param_held before t s alone short good =
+      pair_held bad Bound (Taken IsParam (ParamKeeps Bound before) with_param s.seen) (Says before) (param_name_of before) param_rest_at s.seen (λ u. param_shows (Unfit bad Bound (Option ParamName) (Says before) u) before u) (filled_param before s.seen good) (param_rest_held before s.seen good) t s.left.tokens s.left.last short
 
-abbrev Tells : List Section → Word → Bool → Type 0
-Tells before w k = (name : List ℕ) × (w ≡ Name name) × IsForSection before name k
+  good_apps : (seen : Seen) (p : Param) → (Good bad Bound) seen → ValueKeeps Bound seen p → (Good bad Bound) (with_param seen p)
+  good_apps seen (Distributed apps) good may = good_steps bad Bound with_app (AppKeeps Bound) (good_app bad Bound) [] seen apps good may
+  good_apps seen (Permissions permissions) good may = good
+  good_apps seen (Mandatory names) good may = good_nodes bad Bound true seen names good may
+  good_apps seen (Optional names) good may = good_nodes bad Bound true seen names good may
+  good_apps seen (Timeout wait) good may = good
+  good_apps seen Param.Other good may = good
 
-kernel_looks : (before : List Section) (t : Located) → Looks (Tells before t.word) (names_kernel before t)
-unfolding names_kernel
-kernel_looks before t =
-    looks_then (λ name. t.word ≡ Name name) (Tells before t.word) (atom_of t) (λ name. cond (bytes_eq name (codes "kernel")) (cond (has_kernel before) (fails BadShape t.at) (Ok true)) (Ok false)) (atom_looks t)
-    (λ name e. looks_if (Tells before t.word) (bytes_eq name (codes "kernel")) (cond (has_kernel before) (fails BadShape t.at) (Ok true)) (Ok false)
-    (λ is. looks_if (Tells before t.word) (has_kernel before) (fails BadShape t.at) (Ok true) (λ twice h. h) (λ once. (name, e, (is_named name (codes "kernel") is, once)))) (λ other. (name, e, no_kernel name other)))
+  good_param : (before : List Param) (seen : Seen) (p : Param) → (Good bad Bound) seen → ParamKeeps Bound before seen p → (Good bad Bound) (with_param seen p)
+  good_param before seen p good may = good_apps seen p good may.value
 
-module _ (before : List Section) (seen : Seen) (good : Good seen) where
-  abbrev IsKernel : List Word → Section → Seen → Type 0
-  IsKernel own x after = IsSection (pair_of (codes "kernel") own) x × MaySection before seen x × (after ≡ with_section seen x)
+  -- ---- sections
 
-  abbrev Within : Word → List Word → Section × State → Type 0
-  Within w vs x = Taken IsSection (MaySection before) with_section seen (Mark OpenTuple ∷ w ∷ Mark Comma ∷ vs) x
+  abbrev IsForSection : List Section → List ℕ → Bool → Type 0
+  IsForSection before name true = (name ≡ codes "kernel") × Once (has_kernel before)
+  IsForSection before name false = name ≢ codes "kernel"
 
-  kernel_held : has_kernel before ≡ false → (ts : List Located) (last : Result Located ConfigFault) → last ≡ Err halt → Holds by_pair (λ own x. IsKernel own x.0 x.1.seen) (words ts) (kernel_at (at last ts seen))
-  unfolding kernel_at
-  kernel_held once ts last e =
-      made_held (IsHeldList IsParam with_param MayParam param_at Good good_param param_held seen) (λ own x. IsKernel own x.0 x.1.seen) Kernel (λ own xs u k. ((own, refl, k.0), record { once = once; params = k.1 }, k.2))
-      (words ts) (list_of param_at (at last ts seen)) (bracketed_held IsParam with_param MayParam param_at Good good_param param_held (at last ts seen) e good)
+  abbrev Tells : List Section → Word → Bool → Type 0
+  Tells before w k = (name : List ℕ) × (w ≡ Name name) × IsForSection before name k
 
-  kernel_in : (w : Word) → w ≡ Name (codes "kernel") → (vs : List Word) (x : Section × State) → IsHeldClosed IsKernel vs x → Within w vs x
-  kernel_in w e vs x c = (subst (λ (l : List Word). IsSection l x.0) (sym (pair_is w (codes "kernel") vs c.0 e c.1)) c.2.0, c.2.1, c.2.2)
+  kernel_shows : (Q : Type 0) (before : List Section) (t : Located) → Shows bad Bound Q (Tells before t.word) (names_kernel before t)
+  unfolding names_kernel
+  kernel_shows Q before t =
+      shows_then bad Bound Q (λ name. t.word ≡ Name name) (Tells before t.word) (atom_of t) (λ name. cond (bytes_eq name (codes "kernel")) (cond (has_kernel before) (fails BadShape t.at) (Ok true)) (Ok false)) (atom_shows bad Bound Q t)
+      (λ name e. shows_if bad Bound Q (Tells before t.word) (bytes_eq name (codes "kernel")) (cond (has_kernel before) (fails BadShape t.at) (Ok true)) (Ok false)
+      (λ is. shows_if bad Bound Q (Tells before t.word) (has_kernel before) (fails BadShape t.at) (Ok true) (λ twice h. absurd h) (λ once. (name, e, (is_named name (codes "kernel") is, λ b. once)))) (λ other. (name, e, no_kernel name other)))
 
-  section_in : (w : Word) (name : List ℕ) → w ≡ Name name → name ≢ codes "kernel" → (vs : List Word) (u : State) → IsPassed vs → u.seen ≡ seen → Within w vs (Section.Other, u)
-  section_in w name e other vs u c k = ((name, other, (c.0, pair_is w name vs c.0 e c.1, c.2)), tt, k)
+  module _ (before : List Section) (seen : Seen) (good : (Good bad Bound) seen) where
+    abbrev IsKernel : List Word → Section → Seen → Type 0
+    IsKernel own x after = IsSection (pair_of (codes "kernel") own) x × SectionKeeps Bound before seen x × (after ≡ with_section seen x)
 
-  filled_section : (w : Word) (k : Bool) → Tells before w k → Begun (Within w) []
-  unfolding same
-  filled_section w true says =
-      let x : Section × State = (Kernel [], at (Err halt) [] seen) in
-      let inner : List Word = Mark OpenList ∷ Mark CloseList ∷ [] in
-      record { more = inner ++ Mark CloseTuple ∷ []; x = x; is = kernel_in w (says.1 ∙ ap Name says.2.0) (inner ++ Mark CloseTuple ∷ []) x (inner, refl, ((inner, refl, ([], refl, refl)), record { once = says.2.1; params = tt }, refl)) }
-  filled_section w false says = record { more = Name [] ∷ Mark CloseTuple ∷ []; x = (Section.Other, at (Err halt) [] seen); is = section_in w says.0 says.1 says.2 (Name [] ∷ Mark CloseTuple ∷ []) (at (Err halt) [] seen) (Name [] ∷ [], refl, a_term) refl }
+    abbrev Within : Word → List Word → Section × State → Type 0
+    Within w vs x = Taken IsSection (SectionKeeps Bound before) with_section seen (Mark OpenTuple ∷ w ∷ Mark Comma ∷ vs) x
 
-  section_rest_held : (w : Word) (k : Bool) → Tells before w k → (ts : List Located) (last : Result Located ConfigFault) → last ≡ Err halt → Holds by_pair (Within w) (words ts) (section_rest_at k (at last ts seen))
-  unfolding section_rest_at
-  section_rest_held w true says ts last e = held_to by_pair (IsHeldClosed IsKernel) (Within w) (kernel_in w (says.1 ∙ ap Name says.2.0)) (words ts) (closed kernel_at (at last ts seen)) (closed_held IsKernel kernel_at (at last ts seen) (kernel_held says.2.1 ts last e))
-  section_rest_held w false says ts last e = passed_held (Within w) seen Section.Other (λ vs u c k. section_in w says.0 says.1 says.2 vs u c k) ts last e
+    kernel_held : Once (has_kernel before) → (ts : List Located) (last : Result Located ConfigFault) → Over bad Bound ts last → Holds bad Bound by_pair (λ own x. IsKernel own x.0 x.1.seen) (words ts) (kernel_at (at last ts seen))
+    unfolding kernel_at
+    kernel_held once ts last e =
+        made_held bad Bound (IsHeldList bad Bound IsParam with_param (ParamKeeps Bound) param_at (Good bad Bound) good_param param_held seen) (λ own x. IsKernel own x.0 x.1.seen) Kernel (λ own xs u k. ((own, refl, k.0), record { once = once; params = k.1 }, k.2))
+        (words ts) (list_of param_at (at last ts seen)) (bracketed_held bad Bound IsParam with_param (ParamKeeps Bound) param_at (Good bad Bound) good_param param_held (at last ts seen) e good)
 
-section_held : (before : List Section) (t : Located) (s : State) → IsShort s → Good s.seen → Holds by_pair (Taken IsSection (MaySection before) with_section s.seen) (t.word ∷ words_in s) (section_at before t s)
-unfolding section_at
-section_held before t s short good =
-    held_if by_pair (Taken IsSection (MaySection before) with_section s.seen) (t.word ∷ words_in s) (is_text t.word) (fails Unsupported t.at) (pair_at (names_kernel before) section_rest_at t s) (λ text h. absurd h)
-    (λ other. pair_held (Taken IsSection (MaySection before) with_section s.seen) (Tells before) (names_kernel before) section_rest_at s.seen (kernel_looks before) (filled_section before s.seen good) (section_rest_held before s.seen good) t s.left.tokens s.left.last short)
+    kernel_in : (w : Word) → w ≡ Name (codes "kernel") → (vs : List Word) (x : Section × State) → IsHeldClosed IsKernel vs x → Within w vs x
+    kernel_in w e vs x c = (subst (λ (l : List Word). IsSection l x.0) (sym (pair_is w (codes "kernel") vs c.0 e c.1)) c.2.0, c.2.1, c.2.2)
 
-good_section : (before : List Section) (seen : Seen) (x : Section) → Good seen → MaySection before seen x → Good (with_section seen x)
-good_section before seen (Kernel params) good may = good_steps with_param MayParam good_param [] seen params good may.params
-good_section before seen Section.Other good may = good
+    section_in : (w : Word) (name : List ℕ) → w ≡ Name name → name ≢ codes "kernel" → (vs : List Word) (u : State) → IsPassed vs → u.seen ≡ seen → Within w vs (Section.Other, u)
+    section_in w name e other vs u c k = ((name, other, (c.0, pair_is w name vs c.0 e c.1, c.2)), tt, k)
 
--- a list of sections that may come
-abbrev pub AreSections : List Word → List Section × State → Type 0
-AreSections own xs = IsListOf IsSection own xs.0 × MaySections xs.0 × (xs.1.seen ≡ steps with_section nothing xs.0)
+    filled_section : (w : Word) (k : Bool) → Tells before w k → Begun (Within w) []
+    unfolding same
+    filled_section w true says =
+        let x : Section × State = (Kernel [], at (Err halt) [] seen) in
+        let inner : List Word = Mark OpenList ∷ Mark CloseList ∷ [] in
+        record { more = inner ++ Mark CloseTuple ∷ []; x = x; is = kernel_in w (says.1 ∙ ap Name says.2.0) (inner ++ Mark CloseTuple ∷ []) x (inner, refl, ((inner, refl, ([], refl, refl)), record { once = says.2.1; params = tt }, refl)) }
+    filled_section w false says = record { more = Name [] ∷ Mark CloseTuple ∷ []; x = (Section.Other, at (Err halt) [] seen); is = section_in w says.0 says.1 says.2 (Name [] ∷ Mark CloseTuple ∷ []) (at (Err halt) [] seen) (Name [] ∷ [], refl, a_term) refl }
 
-pub sections_held : (ts : List Located) → Holds by_pair AreSections (words ts) (list_of section_at (at (Err halt) ts nothing))
-sections_held ts = bracketed_held IsSection with_section MaySection section_at Good good_section section_held (at (Err halt) ts nothing) refl good_nothing
+    section_rest_held : (w : Word) (k : Bool) → Tells before w k → (ts : List Located) (last : Result Located ConfigFault) → Over bad Bound ts last → Holds bad Bound by_pair (Within w) (words ts) (section_rest_at k (at last ts seen))
+    unfolding section_rest_at
+    section_rest_held w true says ts last e = held_to bad Bound by_pair (IsHeldClosed IsKernel) (Within w) (kernel_in w (says.1 ∙ ap Name says.2.0)) (words ts) (closed kernel_at (at last ts seen)) (closed_held bad Bound IsKernel kernel_at (at last ts seen) (kernel_held says.2.1 ts last e))
+    section_rest_held w false says ts last e = passed_held (Within w) seen Section.Other (λ vs u c k. section_in w says.0 says.1 says.2 vs u c k) ts last e
+
+  section_held : (before : List Section) (t : Located) (s : State) → Alone bad Bound t s.left.tokens → IsOver bad Bound s → (Good bad Bound) s.seen → Holds bad Bound by_pair (Taken IsSection (SectionKeeps Bound before) with_section s.seen) (t.word ∷ words_in s) (section_at before t s)
+  unfolding section_at
+  section_held before t s alone short good =
+      held_if bad Bound by_pair (Taken IsSection (SectionKeeps Bound before) with_section s.seen) (t.word ∷ words_in s) (is_text t.word) (fails Unsupported t.at) (pair_at (names_kernel before) section_rest_at t s) (λ text h. absurd h)
+      (λ other. pair_held bad Bound (Taken IsSection (SectionKeeps Bound before) with_section s.seen) (Tells before) (names_kernel before) section_rest_at s.seen (λ u. kernel_shows (Unfit bad Bound Bool (Tells before) u) before u) (filled_section before s.seen good) (section_rest_held before s.seen good) t s.left.tokens s.left.last short)
+
+  good_section : (before : List Section) (seen : Seen) (x : Section) → (Good bad Bound) seen → SectionKeeps Bound before seen x → (Good bad Bound) (with_section seen x)
+  good_section before seen (Kernel params) good may = good_steps bad Bound with_param (ParamKeeps Bound) good_param [] seen params good may.params
+  good_section before seen Section.Other good may = good
+
+  -- a list of sections that may come
+  abbrev pub AreSections : List Word → List Section × State → Type 0
+  AreSections own xs = IsListOf IsSection own xs.0 × Keeps Bound xs.0 × (xs.1.seen ≡ steps with_section nothing xs.0)
+
+  pub sections_held : (ts : List Located) → Lone bad Bound ts → Holds bad Bound by_pair AreSections (words ts) (list_of section_at (at (Err halt) ts nothing))
+  sections_held ts lone = bracketed_held bad Bound IsSection with_section (SectionKeeps Bound) section_at (Good bad Bound) good_section section_held (at (Err halt) ts nothing) (refl, lone) (good_nothing bad Bound)

@@ -16,6 +16,10 @@ pub mod HeldFile
 pub mod Past
 pub mod PastReaders
 pub mod PastSections
+pub mod Spared
 pub mod Places
+pub mod Bounds
 pub mod Order
 pub mod Files
+pub mod Fewer
+pub mod Alone

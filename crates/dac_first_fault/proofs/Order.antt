@@ -2,11 +2,15 @@
 use Rattle.std.proofs.Common.{◌≡◌, List, [], ◌∷◌, ◌++◌, refl, sym, ap, subst, ◌∙◌, append_assoc, append-nil, inl, inr}
 use Rattle.std.specs.Prelude.{◌⊎◌, All}
 use Rattle.std.proofs.lemmas.List.Elements.{All-nil, All-cons, All-head, All-tail}
-use Rattle.dac_tokens.specs.Words.{Word}
+use Rattle.dac_tokens.specs.Words.{Word, Located}
 use Rattle.dac_shapes.specs.Written.{Section}
 use Rattle.dac_shapes.specs.Within.{AreWithinLimits}
 use Rattle.dac_shapes.specs.Grammar.{IsFile}
-use Rattle.dac_first_fault.specs.FirstFault.{CanBegin, IsNoName, IsWell}
+use Rattle.dac_first_fault.specs.FirstFault.{CanBegin, words, IsNoName, IsWell}
+
+pub words_append : (a b : List Located) → words (a ++ b) ≡ words a ++ words b
+words_append [] b = refl
+words_append (t ∷ a) b = ap (λ (l : List Word). t.word ∷ l) (words_append a b)
 
 begin_front : (Keeps : List Section → Type 0) (a b : List Word) → CanBegin Keeps (a ++ b) → CanBegin Keeps a
 begin_front Keeps a b k = record { more = b ++ k.more; sections = k.sections; file = subst (λ (l : List Word). IsFile l k.sections) (append_assoc a b k.more) k.file; keeps = k.keeps }

@@ -1,4 +1,4 @@
--- A thing of the grammar is read, or a name in it brings a fault: tokens, lists and pairs.
+-- A thing of the grammar is read, or a name in it breaks a limit that it isn't to keep: tokens, lists and pairs.
 use Rattle.std.proofs.Common.{◌≡◌, ℕ, zero, suc, ◌<◌, Bool, true, false, cond, List, [], ◌∷◌, ◌++◌, length, Result, Ok, Err, refl, sym, ap, subst, ◌∙◌, append_assoc, length-append, arith}
 use Rattle.dac_tokens.specs.declared.fault.ConfigFault.{ConfigFault}
 use Rattle.dac_tokens.specs.declared.fault.FaultKind.{FaultKind}
@@ -7,63 +7,67 @@ use Rattle.dac_tokens.specs.declared.token.Symbol.{Symbol}
 use Rattle.dac_tokens.specs.declared.token.Symbol.TheVariants.{OpenList, CloseList, OpenTuple, CloseTuple, Comma}
 use Rattle.dac_tokens.specs.Gives.{◌>>=◌}
 use Rattle.dac_tokens.specs.Words.{Word, Mark, Name, Located}
-use Rattle.dac_shapes.specs.Limits.{Seen}
+use Rattle.dac_shapes.specs.Limits.{Seen, AllMay, steps}
 use Rattle.dac_shapes.specs.Shape.{State, is_mark, token, symbol_at, more_at, comma_list, list_of, pair_at, closed, room}
 use Rattle.dac_shapes.specs.Grammar.{Parted, IsListOf, IsPair}
 use Rattle.dac_shapes.specs.laws.AgainLists.{words_of, cons_is, split, cut, none, ended, inside, Begins, at, symbol_again}
 
--- a fault that a name brings, which doesn't stand at `bad`
-abbrev pub OfName : ℕ → FaultKind → ℕ → Type 0
-OfName bad BadShape place = place ≡ bad → ⊥
-OfName bad TwiceApp place = Unit {0}
-OfName bad TwiceInList place = Unit {0}
-OfName bad TooManyApps place = Unit {0}
-OfName bad TooManyNodes place = Unit {0}
-OfName bad NameTooLong place = Unit {0}
-OfName bad _ place = ⊥
+-- a fault that a name brings which doesn't keep the limit of its kind, and not at such a place
+abbrev pub OfName : (ℕ → Type 0) → (FaultKind → Type 0) → FaultKind → ℕ → Type 0
+OfName Bad Kept BadShape place = (Bad place → ⊥) × (Kept BadShape → ⊥)
+OfName Bad Kept TwiceApp place = Kept TwiceApp → ⊥
+OfName Bad Kept TwiceInList place = Kept TwiceInList → ⊥
+OfName Bad Kept TooManyApps place = Kept TooManyApps → ⊥
+OfName Bad Kept TooManyNodes place = Kept TooManyNodes → ⊥
+OfName Bad Kept NameTooLong place = Kept NameTooLong → ⊥
+OfName Bad Kept _ place = ⊥
 
--- no name stands at this place
-abbrev pub Fine : ℕ → List Located → Type 0
-Fine bad [] = Unit {0}
-Fine bad (t ∷ ts) = ((name : List ℕ) → t.word ≡ Name name → t.at ≡ bad → ⊥) × Fine bad ts
+-- no name stands at such a place
+abbrev pub Fine : (ℕ → Type 0) → List Located → Type 0
+Fine Bad [] = Unit {0}
+Fine Bad (t ∷ ts) = ((name : List ℕ) → t.word ≡ Name name → Bad t.at → ⊥) × Fine Bad ts
 
-pub fine_front : (bad : ℕ) (a b : List Located) → Fine bad (a ++ b) → Fine bad a
-fine_front bad [] b f = tt
-fine_front bad (t ∷ a) b f = (f.0, fine_front bad a b f.1)
+pub fine_front : (Bad : ℕ → Type 0) (a b : List Located) → Fine Bad (a ++ b) → Fine Bad a
+fine_front Bad [] b f = tt
+fine_front Bad (t ∷ a) b f = (f.0, fine_front Bad a b f.1)
 
-pub fine_rest : (bad : ℕ) (a b : List Located) → Fine bad (a ++ b) → Fine bad b
-fine_rest bad [] b f = f
-fine_rest bad (t ∷ a) b f = fine_rest bad a b f.1
+pub fine_rest : (Bad : ℕ → Type 0) (a b : List Located) → Fine Bad (a ++ b) → Fine Bad b
+fine_rest Bad [] b f = f
+fine_rest Bad (t ∷ a) b f = fine_rest Bad a b f.1
 
--- this is read, and these tokens are left, or the fault is a name's
-abbrev pub Met : {A : Type 0} → Result Located ConfigFault → ℕ → A → List Located → Result (A × State) ConfigFault → Type 0
-Met last bad x us (Ok y) = (after : Seen) × (y ≡ (x, at last us after))
-Met last bad x us (Err e) = OfName bad e.kind e.at
+-- this is read, these tokens are left and this was seen, or the fault is a name's
+abbrev pub Met : {A : Type 0} → Result Located ConfigFault → (ℕ → Type 0) → (FaultKind → Type 0) → A → List Located → Seen → Result (A × State) ConfigFault → Type 0
+Met last Bad Kept x us after (Ok y) = y ≡ (x, at last us after)
+Met last Bad Kept x us after (Err e) = OfName Bad Kept e.kind e.at
 
 -- a token says this, or the fault is a name's
-abbrev pub Said : {K : Type 0} → ℕ → K → Result K ConfigFault → Type 0
-Said bad k (Ok j) = j ≡ k
-Said bad k (Err e) = OfName bad e.kind e.at
+abbrev pub Said : {K : Type 0} → (ℕ → Type 0) → (FaultKind → Type 0) → K → Result K ConfigFault → Type 0
+Said Bad Kept k (Ok j) = j ≡ k
+Said Bad Kept k (Err e) = OfName Bad Kept e.kind e.at
 
-module _ (last : Result Located ConfigFault) (bad : ℕ) where
-  pub met_then : {A B : Type 0} (x : A) (us : List Located) (y : B) (vs : List Located) (r : Result (A × State) ConfigFault) (next : A × State → Result (B × State) ConfigFault) → Met last bad x us r → ((after : Seen) → Met last bad y vs (next (x, at last us after))) → Met last bad y vs (r >>= next)
-  met_then {A} x us y vs (Ok z) next m k = subst (λ (z : A × State). Met last bad y vs (next z)) (sym m.1) (k m.0)
-  met_then x us y vs (Err e) next m k = m
+module _ (last : Result Located ConfigFault) (Bad : ℕ → Type 0) (Kept : FaultKind → Type 0) where
+  pub met_then : {A B : Type 0} (x : A) (us : List Located) (mid : Seen) (y : B) (vs : List Located) (after : Seen) (r : Result (A × State) ConfigFault) (next : A × State → Result (B × State) ConfigFault) → Met last Bad Kept x us mid r → Met last Bad Kept y vs after (next (x, at last us mid)) → Met last Bad Kept y vs after (r >>= next)
+  met_then {A} x us mid y vs after (Ok z) next m k = subst (λ (z : A × State). Met last Bad Kept y vs after (next z)) (sym m) k
+  met_then x us mid y vs after (Err e) next m k = m
 
-  pub said_then : {K B : Type 0} (k : K) (y : B) (vs : List Located) (r : Result K ConfigFault) (next : K → Result (B × State) ConfigFault) → Said bad k r → Met last bad y vs (next k) → Met last bad y vs (r >>= next)
-  said_then {K} k y vs (Ok j) next m is = subst (λ (j : K). Met last bad y vs (next j)) (sym m) is
-  said_then k y vs (Err e) next m is = m
+  pub said_then : {K B : Type 0} (k : K) (y : B) (vs : List Located) (after : Seen) (r : Result K ConfigFault) (next : K → Result (B × State) ConfigFault) → Said Bad Kept k r → Met last Bad Kept y vs after (next k) → Met last Bad Kept y vs after (r >>= next)
+  said_then {K} k y vs after (Ok j) next m is = subst (λ (j : K). Met last Bad Kept y vs after (next j)) (sym m) is
+  said_then k y vs after (Err e) next m is = m
 
-  pub said_said : {K L : Type 0} (k : K) (l : L) (r : Result K ConfigFault) (next : K → Result L ConfigFault) → Said bad k r → Said bad l (next k) → Said bad l (r >>= next)
-  said_said {K} k l (Ok j) next m is = subst (λ (j : K). Said bad l (next j)) (sym m) is
+  pub said_said : {K L : Type 0} (k : K) (l : L) (r : Result K ConfigFault) (next : K → Result L ConfigFault) → Said Bad Kept k r → Said Bad Kept l (next k) → Said Bad Kept l (r >>= next)
+  said_said {K} k l (Ok j) next m is = subst (λ (j : K). Said Bad Kept l (next j)) (sym m) is
   said_said k l (Err e) next m is = m
 
-  pub said_if : {K : Type 0} (k : K) (c : Bool) (r q : Result K ConfigFault) → Said bad k r → Said bad k q → Said bad k (cond c r q)
-  said_if k true r q a b = a
-  said_if k false r q a b = b
+  pub said_if : {K : Type 0} (k : K) (c : Bool) (r q : Result K ConfigFault) → (c ≡ true → Said Bad Kept k r) → (c ≡ false → Said Bad Kept k q) → Said Bad Kept k (cond c r q)
+  said_if k true r q a b = a refl
+  said_if k false r q a b = b refl
 
-  pub met_is : {A : Type 0} (x : A) (us : List Located) (r q : Result (A × State) ConfigFault) → r ≡ q → Met last bad x us q → Met last bad x us r
-  met_is {A} x us r q e m = subst (λ (r : Result (A × State) ConfigFault). Met last bad x us r) (sym e) m
+  pub met_if : {A : Type 0} (x : A) (us : List Located) (after : Seen) (c : Bool) (r q : Result (A × State) ConfigFault) → (c ≡ true → Met last Bad Kept x us after r) → (c ≡ false → Met last Bad Kept x us after q) → Met last Bad Kept x us after (cond c r q)
+  met_if x us after true r q a b = a refl
+  met_if x us after false r q a b = b refl
+
+  pub met_is : {A : Type 0} (x : A) (us : List Located) (after : Seen) (r q : Result (A × State) ConfigFault) → r ≡ q → Met last Bad Kept x us after q → Met last Bad Kept x us after r
+  met_is {A} x us after r q e m = subst (λ (r : Result (A × State) ConfigFault). Met last Bad Kept x us after r) (sym e) m
 
   module _ {A : Type 0} (Is : List Word → A → Type 0) (begins : (ws : List Word) (x : A) → Is ws x → Begins ws) where
     pub parted_begins : (ws : List Word) (xs : List A) → Parted Is ws xs → Begins ws
@@ -105,8 +109,8 @@ module _ (last : Result Located ConfigFault) (bad : ℕ) where
           others = subst (λ (l : List Word). Parted Is l (y ∷ ys)) after p.4;
         }
 
-    module _ (read : List A → Located → State → Result (A × State) ConfigFault)
-        (met : (before : List A) (t : Located) (ts us : List Located) (seen : Seen) (x : A) → Is (words_of (t ∷ ts)) x → Fine bad (t ∷ ts) → Met last bad x us (read before t (at last (ts ++ us) seen))) where
+    module _ (read : List A → Located → State → Result (A × State) ConfigFault) (step : Seen → A → Seen) (Keep : List A → Seen → A → Type 0)
+        (met : (before : List A) (t : Located) (ts us : List Located) (seen : Seen) (x : A) → Is (words_of (t ∷ ts)) x → Fine Bad (t ∷ ts) → Keep before seen x → Met last Bad Kept x us (step seen x) (read before t (at last (ts ++ us) seen))) where
       module _ (close : Symbol) (not_comma : is_mark Comma (Mark close) ≡ false) (is_close : is_mark close (Mark close) ≡ true) where
         abbrev goes_on : ℕ → List A → A × State → Result (List A × State) ConfigFault
         goes_on n before one = more_at close one.1 >>= λ more. cond more.0 (token more.1 >>= λ next. comma_list read close n (before ++ one.0 ∷ []) next.0 next.1) (Ok (before ++ one.0 ∷ [], more.1))
@@ -123,34 +127,37 @@ module _ (last : Result Located ConfigFault) (bad : ℕ) where
         unfolding more_at
         goes_close n before x c us seen e = rw (e, not_comma, is_close) refl
 
-        pub list_met : (n : ℕ) (before : List A) (t : Located) (ts : List Located) (c : Located) (us : List Located) (seen : Seen) (xs : List A) → length ts < n → Parted Is (words_of (t ∷ ts)) xs → Fine bad (t ∷ ts) → c.word ≡ Mark close
-            → Met last bad (before ++ xs) us (comma_list read close n before t (at last (ts ++ c ∷ us) seen))
-        list_met zero before t ts c us seen xs lt p fine e = absurd (omega arith)
-        list_met (suc n) before t ts c us seen [] lt p fine e = absurd p
-        list_met (suc n) before t ts c us seen (x ∷ []) lt p fine e =
+        pub list_met : (n : ℕ) (before : List A) (t : Located) (ts : List Located) (c : Located) (us : List Located) (seen : Seen) (xs : List A) → length ts < n → Parted Is (words_of (t ∷ ts)) xs → Fine Bad (t ∷ ts) → AllMay step Keep before seen xs → c.word ≡ Mark close
+            → Met last Bad Kept (before ++ xs) us (steps step seen xs) (comma_list read close n before t (at last (ts ++ c ∷ us) seen))
+        list_met zero before t ts c us seen xs lt p fine keep e = absurd (omega arith)
+        list_met (suc n) before t ts c us seen [] lt p fine keep e = absurd p
+        list_met (suc n) before t ts c us seen (x ∷ []) lt p fine keep e =
             let s = at last (ts ++ c ∷ us) seen in
-            met_is (before ++ x ∷ []) us (comma_list read close (suc n) before t s) (read before t s >>= goes_on n before) (list_step n before t s)
-            (met_then x (c ∷ us) (before ++ x ∷ []) us (read before t s) (goes_on n before) (met before t ts (c ∷ us) seen x p fine)
-            (λ after. met_is (before ++ x ∷ []) us (goes_on n before (x, at last (c ∷ us) after)) (Ok (before ++ x ∷ [], at last us after)) (goes_close n before x c us after e) (after, refl)))
-        list_met (suc n) before t ts c us seen (x ∷ y ∷ ys) lt p fine e =
+            let after = step seen x in
+            met_is (before ++ x ∷ []) us after (comma_list read close (suc n) before t s) (read before t s >>= goes_on n before) (list_step n before t s)
+            (met_then x (c ∷ us) after (before ++ x ∷ []) us after (read before t s) (goes_on n before) (met before t ts (c ∷ us) seen x p fine keep.0)
+            (met_is (before ++ x ∷ []) us after (goes_on n before (x, at last (c ∷ us) after)) (Ok (before ++ x ∷ [], at last us after)) (goes_close n before x c us after e) refl))
+        list_met (suc n) before t ts c us seen (x ∷ y ∷ ys) lt p fine keep e =
             let b = behind t ts x y ys p in
             let shorter : length b.rest < n = omega (arith, ap length b.whole, length-append b.front (b.comma ∷ b.next ∷ b.rest)) in
             let vs = b.rest ++ c ∷ us in
             let tail = b.comma ∷ b.next ∷ vs in
             let apart : ts ++ c ∷ us ≡ b.front ++ tail = ap (λ (l : List Located). l ++ c ∷ us) b.whole ∙ append_assoc b.front (b.comma ∷ b.next ∷ b.rest) (c ∷ us) in
-            let parts : Fine bad ((t ∷ b.front) ++ b.comma ∷ b.next ∷ b.rest) = subst (λ (l : List Located). Fine bad (t ∷ l)) b.whole fine in
+            let parts : Fine Bad ((t ∷ b.front) ++ b.comma ∷ b.next ∷ b.rest) = subst (λ (l : List Located). Fine Bad (t ∷ l)) b.whole fine in
             let xs = before ++ x ∷ y ∷ ys in
             let s = at last (b.front ++ tail) seen in
-            met_is xs us (comma_list read close (suc n) before t (at last (ts ++ c ∷ us) seen)) (read before t s >>= goes_on n before) (ap (λ (l : List Located). comma_list read close (suc n) before t (at last l seen)) apart ∙ list_step n before t s)
-            (met_then x tail xs us (read before t s) (goes_on n before) (met before t b.front tail seen x b.first (fine_front bad (t ∷ b.front) (b.comma ∷ b.next ∷ b.rest) parts))
-            (λ after. met_is xs us (goes_on n before (x, at last tail after)) (comma_list read close n (before ++ x ∷ []) b.next (at last vs after)) (goes_comma n before x b.comma b.next vs after b.is_comma)
-            (subst (λ (l : List A). Met last bad l us (comma_list read close n (before ++ x ∷ []) b.next (at last vs after))) (append_assoc before (x ∷ []) (y ∷ ys))
-            (list_met n (before ++ x ∷ []) b.next b.rest c us after (y ∷ ys) shorter b.others (fine_rest bad (t ∷ b.front) (b.comma ∷ b.next ∷ b.rest) parts).1 e))))
+            let mid = step seen x in
+            let after = steps step mid (y ∷ ys) in
+            met_is xs us after (comma_list read close (suc n) before t (at last (ts ++ c ∷ us) seen)) (read before t s >>= goes_on n before) (ap (λ (l : List Located). comma_list read close (suc n) before t (at last l seen)) apart ∙ list_step n before t s)
+            (met_then x tail mid xs us after (read before t s) (goes_on n before) (met before t b.front tail seen x b.first (fine_front Bad (t ∷ b.front) (b.comma ∷ b.next ∷ b.rest) parts) keep.0)
+            (met_is xs us after (goes_on n before (x, at last tail mid)) (comma_list read close n (before ++ x ∷ []) b.next (at last vs mid)) (goes_comma n before x b.comma b.next vs mid b.is_comma)
+            (subst (λ (l : List A). Met last Bad Kept l us after (comma_list read close n (before ++ x ∷ []) b.next (at last vs mid))) (append_assoc before (x ∷ []) (y ∷ ys))
+            (list_met n (before ++ x ∷ []) b.next b.rest c us mid (y ∷ ys) shorter b.others (fine_rest Bad (t ∷ b.front) (b.comma ∷ b.next ∷ b.rest) parts).1 keep.1 e))))
 
         -- with all the room that there is
-        pub whole_met : (t : Located) (ts : List Located) (c : Located) (us : List Located) (seen : Seen) (xs : List A) → Parted Is (words_of (t ∷ ts)) xs → Fine bad (t ∷ ts) → c.word ≡ Mark close
-            → Met last bad xs us (comma_list read close (room (at last (ts ++ c ∷ us) seen)) [] t (at last (ts ++ c ∷ us) seen))
-        whole_met t ts c us seen xs p fine e = list_met (room (at last (ts ++ c ∷ us) seen)) [] t ts c us seen xs (omega (arith, length-append ts (c ∷ us))) p fine e
+        pub whole_met : (t : Located) (ts : List Located) (c : Located) (us : List Located) (seen : Seen) (xs : List A) → Parted Is (words_of (t ∷ ts)) xs → Fine Bad (t ∷ ts) → AllMay step Keep [] seen xs → c.word ≡ Mark close
+            → Met last Bad Kept xs us (steps step seen xs) (comma_list read close (room (at last (ts ++ c ∷ us) seen)) [] t (at last (ts ++ c ∷ us) seen))
+        whole_met t ts c us seen xs p fine keep e = list_met (room (at last (ts ++ c ∷ us) seen)) [] t ts c us seen xs (omega (arith, length-append ts (c ∷ us))) p fine keep e
 
       empty_is : (o c : Located) (us : List Located) (seen : Seen) → o.word ≡ Mark OpenList → c.word ≡ Mark CloseList → list_of read (at last (o ∷ c ∷ us) seen) ≡ Ok ([], at last us seen)
       unfolding list_of
@@ -160,13 +167,13 @@ module _ (last : Result Located ConfigFault) (bad : ℕ) where
       unfolding list_of
       filled_is o f ts seen a b = rw (symbol_again last OpenList o (f ∷ ts) seen refl a, b) refl
 
-      pub bracketed_met : (ts us : List Located) (seen : Seen) (xs : List A) → IsListOf Is (words_of ts) xs → Fine bad ts → Met last bad xs us (list_of read (at last (ts ++ us) seen))
-      bracketed_met ts us seen [] is fine =
+      pub bracketed_met : (ts us : List Located) (seen : Seen) (xs : List A) → IsListOf Is (words_of ts) xs → Fine Bad ts → AllMay step Keep [] seen xs → Met last Bad Kept xs us (steps step seen xs) (list_of read (at last (ts ++ us) seen))
+      bracketed_met ts us seen [] is fine keep =
           let i = inside ts (Mark OpenList) is.0 (Mark CloseList) is.1 in
           let empty : i.mid ≡ [] = none i.mid (i.is ∙ is.2) in
           let apart : ts ++ us ≡ i.open_at ∷ i.close_at ∷ us = ap (λ (l : List Located). l ++ us) (i.whole ∙ ap (λ (l : List Located). i.open_at ∷ (l ++ i.close_at ∷ [])) empty) in
-          met_is [] us (list_of read (at last (ts ++ us) seen)) (Ok ([], at last us seen)) (ap (λ (l : List Located). list_of read (at last l seen)) apart ∙ empty_is i.open_at i.close_at us seen i.opens i.closes) (seen, refl)
-      bracketed_met ts us seen (x ∷ xs) is fine =
+          met_is [] us seen (list_of read (at last (ts ++ us) seen)) (Ok ([], at last us seen)) (ap (λ (l : List Located). list_of read (at last l seen)) apart ∙ empty_is i.open_at i.close_at us seen i.opens i.closes) refl
+      bracketed_met ts us seen (x ∷ xs) is fine keep =
           let i = inside ts (Mark OpenList) is.0 (Mark CloseList) is.1 in
           let b = parted_begins is.0 (x ∷ xs) is.2 in
           let f = cut i.mid b.head b.tail (i.is ∙ b.whole) in
@@ -174,44 +181,44 @@ module _ (last : Result Located ConfigFault) (bad : ℕ) where
           let vs = f.tail ++ i.close_at ∷ us in
           let apart : ts ++ us ≡ i.open_at ∷ f.head ∷ vs = ap (λ (l : List Located). l ++ us) parts ∙ ap (λ (l : List Located). i.open_at ∷ f.head ∷ l) (append_assoc f.tail (i.close_at ∷ []) us) in
           let inner : is.0 ≡ words_of (f.head ∷ f.tail) = sym i.is ∙ ap words_of f.whole in
-          let mid : Fine bad (f.head ∷ f.tail) = fine_front bad (f.head ∷ f.tail) (i.close_at ∷ []) (subst (λ (l : List Located). Fine bad l) parts fine).1 in
-          met_is (x ∷ xs) us (list_of read (at last (ts ++ us) seen)) (comma_list read CloseList (room (at last vs seen)) [] f.head (at last vs seen)) (ap (λ (l : List Located). list_of read (at last l seen)) apart ∙ filled_is i.open_at f.head vs seen i.opens (ap (is_mark CloseList) f.is ∙ b.no_list))
-          (whole_met CloseList refl refl f.head f.tail i.close_at us seen (x ∷ xs) (subst (λ (l : List Word). Parted Is l (x ∷ xs)) inner is.2) mid i.closes)
+          let mid : Fine Bad (f.head ∷ f.tail) = fine_front Bad (f.head ∷ f.tail) (i.close_at ∷ []) (subst (λ (l : List Located). Fine Bad l) parts fine).1 in
+          met_is (x ∷ xs) us (steps step seen (x ∷ xs)) (list_of read (at last (ts ++ us) seen)) (comma_list read CloseList (room (at last vs seen)) [] f.head (at last vs seen)) (ap (λ (l : List Located). list_of read (at last l seen)) apart ∙ filled_is i.open_at f.head vs seen i.opens (ap (is_mark CloseList) f.is ∙ b.no_list))
+          (whole_met CloseList refl refl f.head f.tail i.close_at us seen (x ∷ xs) (subst (λ (l : List Word). Parted Is l (x ∷ xs)) inner is.2) mid keep i.closes)
 
   -- ---- a value and the brace that closes its pair, and a pair
 
-  module _ {A : Type 0} (value : State → Result (A × State) ConfigFault) (inner : List Word) (x : A) (seen : Seen) (valued : (vs us : List Located) → words_of vs ≡ inner → Fine bad vs → Met last bad x us (value (at last (vs ++ us) seen))) where
-    pub closed_met : (vs us : List Located) → words_of vs ≡ inner ++ Mark CloseTuple ∷ [] → Fine bad vs → Met last bad x us (closed value (at last (vs ++ us) seen))
+  module _ {A : Type 0} (value : State → Result (A × State) ConfigFault) (inner : List Word) (x : A) (seen after : Seen) (valued : (vs us : List Located) → words_of vs ≡ inner → Fine Bad vs → Met last Bad Kept x us after (value (at last (vs ++ us) seen))) where
+    pub closed_met : (vs us : List Located) → words_of vs ≡ inner ++ Mark CloseTuple ∷ [] → Fine Bad vs → Met last Bad Kept x us after (closed value (at last (vs ++ us) seen))
     closed_met vs us e fine =
         let c = ended vs inner (Mark CloseTuple) e in
         let next : A × State → Result (A × State) ConfigFault = λ one. symbol_at CloseTuple one.1 >>= λ close. Ok (one.0, close) in
         let s = at last (c.front ++ c.end ∷ us) seen in
-        met_is x us (closed value (at last (vs ++ us) seen)) (value s >>= next) (ap (λ (l : List Located). closed value (at last l seen)) (ap (λ (l : List Located). l ++ us) c.whole ∙ append_assoc c.front (c.end ∷ []) us))
-        (met_then x (c.end ∷ us) x us (value s) next (valued c.front (c.end ∷ us) c.first (fine_front bad c.front (c.end ∷ []) (subst (λ (l : List Located). Fine bad l) c.whole fine)))
-        (λ after. met_is x us (next (x, at last (c.end ∷ us) after)) (Ok (x, at last us after)) (ap (λ (r : Result State ConfigFault). r >>= λ close. Ok (x, close)) (symbol_again last CloseTuple c.end us after refl c.is)) (after, refl)))
+        met_is x us after (closed value (at last (vs ++ us) seen)) (value s >>= next) (ap (λ (l : List Located). closed value (at last l seen)) (ap (λ (l : List Located). l ++ us) c.whole ∙ append_assoc c.front (c.end ∷ []) us))
+        (met_then x (c.end ∷ us) after x us after (value s) next (valued c.front (c.end ∷ us) c.first (fine_front Bad c.front (c.end ∷ []) (subst (λ (l : List Located). Fine Bad l) c.whole fine)))
+        (met_is x us after (next (x, at last (c.end ∷ us) after)) (Ok (x, at last us after)) (ap (λ (r : Result State ConfigFault). r >>= λ close. Ok (x, close)) (symbol_again last CloseTuple c.end us after refl c.is)) refl))
 
-  module _ {K A : Type 0} (name_of : Located → Result K ConfigFault) (rest : K → State → Result (A × State) ConfigFault) (name : List ℕ) (k : K) (x : A) (seen : Seen) (named : (t : Located) → t.word ≡ Name name → (t.at ≡ bad → ⊥) → Said bad k (name_of t)) where
+  module _ {K A : Type 0} (name_of : Located → Result K ConfigFault) (rest : K → State → Result (A × State) ConfigFault) (name : List ℕ) (k : K) (x : A) (seen after : Seen) (named : (t : Located) → t.word ≡ Name name → (Bad t.at → ⊥) → Said Bad Kept k (name_of t)) where
     pair_step : (t n c : Located) (us : List Located) → t.word ≡ Mark OpenTuple → pair_at name_of rest t (at last (n ∷ c ∷ us) seen) ≡ (name_of n >>= λ name. symbol_at Comma (at last (c ∷ us) seen) >>= rest name)
     unfolding pair_at
     pair_step t n c us e = rw e refl
 
     -- a name, and what stands behind its comma
-    pub rest_met : (words : List Word) (t : Located) (ts us : List Located) → words_of (t ∷ ts) ≡ Mark OpenTuple ∷ Name name ∷ Mark Comma ∷ words → Fine bad (t ∷ ts) → ((vs : List Located) → words_of vs ≡ words → Fine bad vs → Met last bad x us (rest k (at last (vs ++ us) seen)))
-        → Met last bad x us (pair_at name_of rest t (at last (ts ++ us) seen))
+    pub rest_met : (words : List Word) (t : Located) (ts us : List Located) → words_of (t ∷ ts) ≡ Mark OpenTuple ∷ Name name ∷ Mark Comma ∷ words → Fine Bad (t ∷ ts) → ((vs : List Located) → words_of vs ≡ words → Fine Bad vs → Met last Bad Kept x us after (rest k (at last (vs ++ us) seen)))
+        → Met last Bad Kept x us after (pair_at name_of rest t (at last (ts ++ us) seen))
     rest_met words t ts us e fine rested =
         let b = cons_is t.word (Mark OpenTuple) (words_of ts) (Name name ∷ Mark Comma ∷ words) e in
         let n = cut ts (Name name) (Mark Comma ∷ words) b.1 in
         let c = cut n.tail (Mark Comma) words n.rest in
         let apart : ts ≡ n.head ∷ c.head ∷ c.tail = n.whole ∙ ap (λ (l : List Located). n.head ∷ l) c.whole in
-        let parts : Fine bad (n.head ∷ c.head ∷ c.tail) = subst (λ (l : List Located). Fine bad l) apart fine.1 in
+        let parts : Fine Bad (n.head ∷ c.head ∷ c.tail) = subst (λ (l : List Located). Fine Bad l) apart fine.1 in
         let next : K → Result (A × State) ConfigFault = λ name. symbol_at Comma (at last (c.head ∷ (c.tail ++ us)) seen) >>= rest name in
-        met_is x us (pair_at name_of rest t (at last (ts ++ us) seen)) (name_of n.head >>= next) (ap (λ (l : List Located). pair_at name_of rest t (at last (l ++ us) seen)) apart ∙ pair_step t n.head c.head (c.tail ++ us) b.0)
-        (said_then k x us (name_of n.head) next (named n.head n.is (parts.0 name n.is))
-        (met_is x us (next k) (rest k (at last (c.tail ++ us) seen)) (ap (λ (r : Result State ConfigFault). r >>= rest k) (symbol_again last Comma c.head (c.tail ++ us) seen refl c.is)) (rested c.tail c.rest parts.1.1)))
+        met_is x us after (pair_at name_of rest t (at last (ts ++ us) seen)) (name_of n.head >>= next) (ap (λ (l : List Located). pair_at name_of rest t (at last (l ++ us) seen)) apart ∙ pair_step t n.head c.head (c.tail ++ us) b.0)
+        (said_then k x us after (name_of n.head) next (named n.head n.is (parts.0 name n.is))
+        (met_is x us after (next k) (rest k (at last (c.tail ++ us) seen)) (ap (λ (r : Result State ConfigFault). r >>= rest k) (symbol_again last Comma c.head (c.tail ++ us) seen refl c.is)) (rested c.tail c.rest parts.1.1)))
 
     -- a name and a value
-    pub pair_met : (value : State → Result (A × State) ConfigFault) (IsValue : List Word → Type 0) → ((s : State) → rest k s ≡ closed value s) → ((vs us : List Located) → IsValue (words_of vs) → Fine bad vs → Met last bad x us (value (at last (vs ++ us) seen)))
-        → (t : Located) (ts us : List Located) → IsPair name IsValue (words_of (t ∷ ts)) → Fine bad (t ∷ ts) → Met last bad x us (pair_at name_of rest t (at last (ts ++ us) seen))
+    pub pair_met : (value : State → Result (A × State) ConfigFault) (IsValue : List Word → Type 0) → ((s : State) → rest k s ≡ closed value s) → ((vs us : List Located) → IsValue (words_of vs) → Fine Bad vs → Met last Bad Kept x us after (value (at last (vs ++ us) seen)))
+        → (t : Located) (ts us : List Located) → IsPair name IsValue (words_of (t ∷ ts)) → Fine Bad (t ∷ ts) → Met last Bad Kept x us after (pair_at name_of rest t (at last (ts ++ us) seen))
     pair_met value IsValue closes valued t ts us is fine =
-        rest_met (is.0 ++ Mark CloseTuple ∷ []) t ts us is.1 fine (λ vs e f. met_is x us (rest k (at last (vs ++ us) seen)) (closed value (at last (vs ++ us) seen)) (closes (at last (vs ++ us) seen))
-        (closed_met value is.0 x seen (λ ws vs' w g. valued ws vs' (subst IsValue (sym w) is.2) g) vs us e f))
+        rest_met (is.0 ++ Mark CloseTuple ∷ []) t ts us is.1 fine (λ vs e f. met_is x us after (rest k (at last (vs ++ us) seen)) (closed value (at last (vs ++ us) seen)) (closes (at last (vs ++ us) seen))
+        (closed_met value is.0 x seen after (λ ws vs' w g. valued ws vs' (subst IsValue (sym w) is.2) g) vs us e f))

@@ -1,17 +1,19 @@
--- Nodes, node lists, applications and permissions are read, or a name in them brings a fault.
-use Rattle.std.proofs.Common.{◌≡◌, ℕ, ◌<◌, Bool, true, false, not, ◌&&◌, cond, eqb, ltb, leb, List, [], ◌∷◌, ◌++◌, length, map, Result, Ok, refl, sym, ap, subst, ◌∙◌, append_assoc, arith, codes, inl, inr}
-use Rattle.std.proofs.lemmas.Bool.{lt-ltb, eq-eqb}
+-- Nodes, node lists, applications and permissions are read, or a name in them breaks a limit that it isn't to keep.
+use Rattle.std.proofs.Common.{◌≡◌, ℕ, ◌<◌, ◌≤◌, Bool, true, false, not, ◌&&◌, cond, eqb, ltb, leb, List, [], ◌∷◌, ◌++◌, length, map, Result, Ok, refl, sym, ap, subst, ◌∙◌, append_assoc, arith, codes, inl, inr}
+use Rattle.std.proofs.lemmas.Bool.{lt-ltb, eq-eqb, ltb-true, leb-true}
 use Rattle.dac_tokens.specs.declared.fault.ConfigFault.{ConfigFault}
+use Rattle.dac_tokens.specs.declared.fault.FaultKind.{FaultKind}
 use Rattle.dac_tokens.specs.declared.fault.FaultKind.TheVariants.{TwiceApp, TwiceInList, TooManyNodes, TooManyApps, NameTooLong}
 use Rattle.dac_tokens.specs.declared.token.Symbol.TheVariants.{OpenList, CloseList, OpenTuple, CloseTuple, Comma}
 use Rattle.dac_tokens.specs.Gives.{◌>>=◌}
 use Rattle.dac_tokens.specs.Words.{Word, Mark, Name, Number, Located}
 use Rattle.dac_shapes.specs.Written.{App, Permission}
-use Rattle.dac_shapes.specs.Limits.{Seen, is_among, with_node, listing}
+use Rattle.dac_shapes.specs.Limits.{Seen, is_among, with_node, with_nodes, with_groups, listing, with_app}
 use Rattle.dac_shapes.specs.Shape.{State, fails, is_mark, atom_of, short_name_of, node_of, names_at, item_at, items_at, groups_at, timeout_of, timeout_at, value_from, app_name_of, app_value_at, app_at, flag_of, permission_value_at, permission_at, closed}
 use Rattle.dac_shapes.specs.Grammar.{Parted, IsNode, IsItem, IsNodeList, IsAppValue, IsApp, IsFlag, IsPermission}
 use Rattle.dac_shapes.specs.laws.AgainLists.{words_of, cons_is, split, cut, none, Begins, at, symbol_again}
-use Rattle.dac_first_fault.proofs.Past.{Fine, fine_front, Met, Said, met_then, said_then, said_said, said_if, met_is, parted_begins, whole_met, pair_met}
+use Rattle.dac_first_fault.specs.Keeps.{NodeKeeps, NodesKeep, GroupsKeep, AppKeeps, PermissionKeeps}
+use Rattle.dac_first_fault.proofs.Past.{Fine, fine_front, Met, Said, met_then, said_then, said_said, said_if, met_if, met_is, parted_begins, whole_met, pair_met}
 
 -- ---- single tokens
 
@@ -38,35 +40,41 @@ flag_word : (ws : List Word) (b : Bool) → IsFlag ws b → (w : Word) × (ws �
 flag_word ws true is = (Name (codes "true"), is)
 flag_word ws false is = (Name (codes "false"), is)
 
-module _ (last : Result Located ConfigFault) (bad : ℕ) where
-  short_said : (t : Located) (name : List ℕ) → t.word ≡ Name name → Said bad name (short_name_of t)
+-- a test whose first part is false and whose second is true
+both : (a b : Bool) → (not a && b) ≡ true → (a ≡ false) × (b ≡ true)
+both true b e = absurd cc
+both false b e = (refl, e)
+
+apart : {A : Type 0} (c : Bool) → c ≡ true → c ≡ false → A
+apart true e f = absurd cc
+apart false e f = absurd cc
+
+module _ (last : Result Located ConfigFault) (Bad : ℕ → Type 0) (Kept : FaultKind → Type 0) where
+  short_said : (t : Located) (name : List ℕ) → (Kept NameTooLong → length name ≤ 255) → t.word ≡ Name name → Said Bad Kept name (short_name_of t)
   unfolding short_name_of
-  short_said t name e = rw (atom_is t.word t.at name e) (said_if last bad name (ltb 255 (length name)) (fails NameTooLong t.at) (Ok name) tt refl)
+  short_said t name short e = rw (atom_is t.word t.at name e) (said_if last Bad Kept name (ltb 255 (length name)) (fails NameTooLong t.at) (Ok name) (λ long keep. absurd (omega (arith, short keep, ltb-true 255 (length name) long))) (λ fits. refl))
 
   -- ---- nodes and node lists
 
   pub node_begins : (ws : List Word) (name : List ℕ) → IsNode ws name → Begins ws
   node_begins ws name is = record { head = Name name; tail = []; whole = is; no_list = refl; no_tuple = refl }
 
-  node_met : (repeats : Bool) (t : Located) (us : List Located) (seen : Seen) (name : List ℕ) → t.word ≡ Name name → Met last bad name us (node_of repeats t (at last us seen))
+  node_met : (repeats : Bool) (t : Located) (us : List Located) (seen : Seen) (name : List ℕ) → t.word ≡ Name name → NodeKeeps Kept repeats seen name → Met last Bad Kept name us (with_node seen name) (node_of repeats t (at last us seen))
   unfolding node_of
-  node_met repeats t us seen name w =
-      let twice = not repeats && is_among name seen.listed in
-      let many = not (is_among name seen.met) && leb 16 (length seen.met) in
-      let s = at last us seen in
-      said_then last bad name name us (short_name_of t)
-      (λ name. cond (not repeats && is_among name seen.listed) (fails TwiceInList t.at) (cond (not (is_among name seen.met) && leb 16 (length seen.met)) (fails TooManyNodes t.at) (Ok (name, at last us (with_node seen name))))) (short_said t name w)
-      (met_if' twice many)
-    where
-      met_if' : (c d : Bool) → Met last bad name us (cond c (fails TwiceInList t.at) (cond d (fails TooManyNodes t.at) (Ok (name, at last us (with_node seen name)))))
-      met_if' true d = tt
-      met_if' false true = tt
-      met_if' false false = (with_node seen name, refl)
+  node_met repeats t us seen name w keep =
+      let after = with_node seen name in
+      let read : Result (List ℕ × State) ConfigFault = Ok (name, at last us after) in
+      let few = cond (not (is_among name seen.met) && leb 16 (length seen.met)) (fails TooManyNodes t.at) read in
+      said_then last Bad Kept name name us after (short_name_of t)
+      (λ name. cond (not repeats && is_among name seen.listed) (fails TwiceInList t.at) (cond (not (is_among name seen.met) && leb 16 (length seen.met)) (fails TooManyNodes t.at) (Ok (name, at last us (with_node seen name))))) (short_said t name keep.short w)
+      (met_if last Bad Kept name us after (not repeats && is_among name seen.listed) (fails TwiceInList t.at) few (λ twice kept. let b = both repeats (is_among name seen.listed) twice in apart (is_among name seen.listed) b.1 (keep.once kept b.0))
+      (λ once. met_if last Bad Kept name us after (not (is_among name seen.met) && leb 16 (length seen.met)) (fails TooManyNodes t.at) read
+      (λ many kept. let b = both (is_among name seen.met) (leb 16 (length seen.met)) many in absurd (omega (arith, keep.few kept b.0, leb-true 16 (length seen.met) b.1))) (λ known. refl)))
 
-  pub nodes_met : (repeats : Bool) (before : List (List ℕ)) (t : Located) (ts us : List Located) (seen : Seen) (name : List ℕ) → IsNode (words_of (t ∷ ts)) name → Fine bad (t ∷ ts) → Met last bad name us (node_of repeats t (at last (ts ++ us) seen))
-  nodes_met repeats before t ts us seen name is fine =
+  pub nodes_met : (repeats : Bool) (before : List (List ℕ)) (t : Located) (ts us : List Located) (seen : Seen) (name : List ℕ) → IsNode (words_of (t ∷ ts)) name → Fine Bad (t ∷ ts) → NodeKeeps Kept repeats seen name → Met last Bad Kept name us (with_node seen name) (node_of repeats t (at last (ts ++ us) seen))
+  nodes_met repeats before t ts us seen name is fine keep =
       let c = cons_is t.word (Name name) (words_of ts) [] is in
-      subst (λ (l : List Located). Met last bad name us (node_of repeats t (at last (l ++ us) seen))) (sym (none ts c.1)) (node_met repeats t us seen name c.0)
+      subst (λ (l : List Located). Met last Bad Kept name us (with_node seen name) (node_of repeats t (at last (l ++ us) seen))) (sym (none ts c.1)) (node_met repeats t us seen name c.0 keep)
 
   item_begins : (ws : List Word) (group : List (List ℕ)) → IsItem ws group → Begins ws
   item_begins ws group is = elim is [
@@ -110,40 +118,42 @@ module _ (last : Result Located ConfigFault) (bad : ℕ) where
         no_tuple = ap (is_mark CloseTuple) f.is ∙ b.no_tuple;
       }
 
-  within_fine : (ts : List Located) (inner : List Word) (right : Word) (w : Within ts inner right) → Fine bad ts → Fine bad (w.first ∷ w.mid)
-  within_fine ts inner right w fine = fine_front bad (w.first ∷ w.mid) (w.close_at ∷ []) (subst (λ (l : List Located). Fine bad l) w.whole fine)
+  within_fine : (ts : List Located) (inner : List Word) (right : Word) (w : Within ts inner right) → Fine Bad ts → Fine Bad (w.first ∷ w.mid)
+  within_fine ts inner right w fine = fine_front Bad (w.first ∷ w.mid) (w.close_at ∷ []) (subst (λ (l : List Located). Fine Bad l) w.whole fine)
 
   within_apart : (ts us : List Located) (inner : List Word) (right : Word) (w : Within ts inner right) → ts ++ us ≡ w.first ∷ (w.mid ++ w.close_at ∷ us)
   within_apart ts us inner right w = ap (λ (l : List Located). l ++ us) w.whole ∙ ap (λ (l : List Located). w.first ∷ l) (append_assoc w.mid (w.close_at ∷ []) us)
 
-  item_met : (before : List (List (List ℕ))) (t : Located) (ts us : List Located) (seen : Seen) (group : List (List ℕ)) → IsItem (words_of (t ∷ ts)) group → Fine bad (t ∷ ts) → Met last bad group us (item_at t (at last (ts ++ us) seen))
-  item_met before t ts us seen group is fine = elim is [
+  item_met : (before : List (List (List ℕ))) (t : Located) (ts us : List Located) (seen : Seen) (group : List (List ℕ)) → IsItem (words_of (t ∷ ts)) group → Fine Bad (t ∷ ts) → NodesKeep Kept false seen group → Met last Bad Kept group us (with_nodes seen group) (item_at t (at last (ts ++ us) seen))
+  item_met before t ts us seen group is fine keep = elim is [
     | inl h ↦
         let c = cons_is t.word (Name h.0) (words_of ts) [] h.1 in
         let s = at last us seen in
+        let after = with_node seen h.0 in
+        let one = subst (λ (g : List (List ℕ)). NodesKeep Kept false seen g) h.2 keep in
         let next : List ℕ × State → Result (List (List ℕ) × State) ConfigFault = λ name. Ok (name.0 ∷ [], name.1) in
-        subst (λ (g : List (List ℕ)). Met last bad g us (item_at t (at last (ts ++ us) seen))) (sym h.2)
-        (met_is last bad (h.0 ∷ []) us (item_at t (at last (ts ++ us) seen)) (node_of false t s >>= next) (ap (λ (l : List Located). item_at t (at last (l ++ us) seen)) (none ts c.1) ∙ alone_is t s h.0 c.0)
-        (met_then last bad h.0 us (h.0 ∷ []) us (node_of false t s) next (node_met false t us seen h.0 c.0) (λ after. (after, refl))))
+        subst (λ (g : List (List ℕ)). Met last Bad Kept g us (with_nodes seen g) (item_at t (at last (ts ++ us) seen))) (sym h.2)
+        (met_is last Bad Kept (h.0 ∷ []) us after (item_at t (at last (ts ++ us) seen)) (node_of false t s >>= next) (ap (λ (l : List Located). item_at t (at last (l ++ us) seen)) (none ts c.1) ∙ alone_is t s h.0 c.0)
+        (met_then last Bad Kept h.0 us after (h.0 ∷ []) us after (node_of false t s) next (node_met false t us seen h.0 c.0 one.0) refl))
     | inr h ↦
-        let w = within t ts (Mark OpenTuple) h.0 (Mark CloseTuple) h.1 (parted_begins last bad IsNode node_begins h.0 group h.2) in
+        let w = within t ts (Mark OpenTuple) h.0 (Mark CloseTuple) h.1 (parted_begins last Bad Kept IsNode node_begins h.0 group h.2) in
         let begun = cons_is t.word (Mark OpenTuple) (words_of ts) (h.0 ++ Mark CloseTuple ∷ []) h.1 in
         let vs = w.mid ++ w.close_at ∷ us in
-        met_is last bad group us (item_at t (at last (ts ++ us) seen)) (names_at false CloseTuple w.first (at last vs seen)) (ap (λ (l : List Located). item_at t (at last l seen)) (within_apart ts us h.0 (Mark CloseTuple) w) ∙ tuple_is t w.first vs seen begun.0 w.no_tuple)
-        (whole_met last bad IsNode node_begins (λ _. node_of false) (nodes_met false) CloseTuple refl refl w.first w.mid w.close_at us seen group (subst (λ (l : List Word). Parted IsNode l group) w.is h.2) (within_fine ts h.0 (Mark CloseTuple) w fine.1) w.closes)
+        met_is last Bad Kept group us (with_nodes seen group) (item_at t (at last (ts ++ us) seen)) (names_at false CloseTuple w.first (at last vs seen)) (ap (λ (l : List Located). item_at t (at last l seen)) (within_apart ts us h.0 (Mark CloseTuple) w) ∙ tuple_is t w.first vs seen begun.0 w.no_tuple)
+        (whole_met last Bad Kept IsNode node_begins (λ _. node_of false) with_node (λ _. NodeKeeps Kept false) (nodes_met false) CloseTuple refl refl w.first w.mid w.close_at us seen group (subst (λ (l : List Word). Parted IsNode l group) w.is h.2) (within_fine ts h.0 (Mark CloseTuple) w fine.1) keep w.closes)
   ]
 
   list_opened : (t f : Located) (ts : List Located) (seen : Seen) → t.word ≡ Mark OpenList → is_mark CloseList f.word ≡ false → groups_at t (at last (f ∷ ts) seen) ≡ items_at f (at last ts (listing seen))
   unfolding groups_at
   list_opened t f ts seen w e = rw (w, e) refl
 
-  groups_met : (t : Located) (ts us : List Located) (seen : Seen) (groups : List (List (List ℕ))) → IsNodeList (words_of (t ∷ ts)) groups → Fine bad (t ∷ ts) → Met last bad groups us (groups_at t (at last (ts ++ us) seen))
-  groups_met t ts us seen groups is fine =
-      let w = within t ts (Mark OpenList) is.0 (Mark CloseList) is.1 (parted_begins last bad IsItem item_begins is.0 groups is.2) in
+  groups_met : (t : Located) (ts us : List Located) (seen : Seen) (groups : List (List (List ℕ))) → IsNodeList (words_of (t ∷ ts)) groups → Fine Bad (t ∷ ts) → GroupsKeep Kept (listing seen) groups → Met last Bad Kept groups us (with_groups (listing seen) groups) (groups_at t (at last (ts ++ us) seen))
+  groups_met t ts us seen groups is fine keep =
+      let w = within t ts (Mark OpenList) is.0 (Mark CloseList) is.1 (parted_begins last Bad Kept IsItem item_begins is.0 groups is.2) in
       let begun = cons_is t.word (Mark OpenList) (words_of ts) (is.0 ++ Mark CloseList ∷ []) is.1 in
       let vs = w.mid ++ w.close_at ∷ us in
-      met_is last bad groups us (groups_at t (at last (ts ++ us) seen)) (items_at w.first (at last vs (listing seen))) (ap (λ (l : List Located). groups_at t (at last l seen)) (within_apart ts us is.0 (Mark CloseList) w) ∙ list_opened t w.first vs seen begun.0 w.no_list)
-      (whole_met last bad IsItem item_begins (λ _. item_at) item_met CloseList refl refl w.first w.mid w.close_at us (listing seen) groups (subst (λ (l : List Word). Parted IsItem l groups) w.is is.2) (within_fine ts is.0 (Mark CloseList) w fine.1) w.closes)
+      met_is last Bad Kept groups us (with_groups (listing seen) groups) (groups_at t (at last (ts ++ us) seen)) (items_at w.first (at last vs (listing seen))) (ap (λ (l : List Located). groups_at t (at last l seen)) (within_apart ts us is.0 (Mark CloseList) w) ∙ list_opened t w.first vs seen begun.0 w.no_list)
+      (whole_met last Bad Kept IsItem item_begins (λ _. item_at) with_nodes (λ _. NodesKeep Kept false) item_met CloseList refl refl w.first w.mid w.close_at us (listing seen) groups (subst (λ (l : List Word). Parted IsItem l groups) w.is is.2) (within_fine ts is.0 (Mark CloseList) w fine.1) keep w.closes)
 
   -- ---- applications
 
@@ -164,20 +174,20 @@ module _ (last : Result Located ConfigFault) (bad : ℕ) where
   app_value_is name n first f ts vs seen e = rw e refl
 
   -- a node list behind a timeout
-  listed_met : (app : App) (f : Located) (ts us : List Located) (seen : Seen) → IsNodeList (words_of (f ∷ ts)) app.groups → Fine bad (f ∷ ts) → Met last bad app us (groups_at f (at last (ts ++ us) seen) >>= app_with app.name app.timeout)
-  listed_met app f ts us seen list fine = met_then last bad app.groups us app us (groups_at f (at last (ts ++ us) seen)) (app_with app.name app.timeout) (groups_met f ts us seen app.groups list fine) (λ after. (after, refl))
+  listed_met : (app : App) (f : Located) (ts us : List Located) (seen : Seen) → IsNodeList (words_of (f ∷ ts)) app.groups → Fine Bad (f ∷ ts) → GroupsKeep Kept (listing seen) app.groups → Met last Bad Kept app us (with_app seen app) (groups_at f (at last (ts ++ us) seen) >>= app_with app.name app.timeout)
+  listed_met app f ts us seen list fine keep = met_then last Bad Kept app.groups us (with_app seen app) app us (with_app seen app) (groups_at f (at last (ts ++ us) seen)) (app_with app.name app.timeout) (groups_met f ts us seen app.groups list fine keep) refl
 
-  app_value_met : (vs us : List Located) (seen : Seen) (app : App) → IsAppValue (words_of vs) app → Fine bad vs → Met last bad app us (app_value_at app.name (at last (vs ++ us) seen))
-  app_value_met vs us seen app is fine = elim is.3 [
+  app_value_met : (vs us : List Located) (seen : Seen) (app : App) → IsAppValue (words_of vs) app → Fine Bad vs → GroupsKeep Kept (listing seen) app.groups → Met last Bad Kept app us (with_app seen app) (app_value_at app.name (at last (vs ++ us) seen))
+  app_value_met vs us seen app is fine keep = elim is.3 [
     | inl h ↦
         let whole : words_of vs ≡ is.1 = is.2 ∙ ap (λ (l : List Word). l ++ is.1) h.0 in
         let c = cut vs (Mark OpenList) (is.4.0 ++ Mark CloseList ∷ []) (whole ∙ is.4.1) in
         let list : IsNodeList (words_of (c.head ∷ c.tail)) app.groups = subst (λ (l : List Word). IsNodeList l app.groups) (sym whole ∙ ap words_of c.whole) is.4 in
         let ts = c.tail ++ us in
         let time : timeout_at c.head (at last ts seen) ≡ Ok (app.timeout, c.head, at last ts seen) = untimed_is c.head.word c.head.at (at last ts seen) c.is ∙ ap (λ (n : ℕ). Ok (n, c.head, at last ts seen)) (sym h.1) in
-        met_is last bad app us (app_value_at app.name (at last (vs ++ us) seen)) (groups_at c.head (at last ts seen) >>= app_with app.name app.timeout)
+        met_is last Bad Kept app us (with_app seen app) (app_value_at app.name (at last (vs ++ us) seen)) (groups_at c.head (at last ts seen) >>= app_with app.name app.timeout)
         (ap (λ (l : List Located). app_value_at app.name (at last (l ++ us) seen)) c.whole ∙ app_value_is app.name app.timeout c.head c.head ts ts seen time)
-        (listed_met app c.head c.tail us seen list (subst (λ (l : List Located). Fine bad l) c.whole fine))
+        (listed_met app c.head c.tail us seen list (subst (λ (l : List Located). Fine Bad l) c.whole fine) keep)
     | inr h ↦
         let ms = h.2 in
         let whole : words_of vs ≡ h.0 ∷ Mark Comma ∷ is.1 = is.2 ∙ ap (λ (l : List Word). l ++ is.1) h.1 in
@@ -190,24 +200,27 @@ module _ (last : Result Located ConfigFault) (bad : ℕ) where
         let ts = f.tail ++ us in
         let time = timed_is c.head.at d.head f.head ts seen ms.0 ms.1 app.timeout (ms_is c.head.at ms.0 (value_from 0 ms.1) app.timeout ms.3 ms.4 ms.5) d.is in
         let timed : timeout_at c.head (at last (d.head ∷ f.head ∷ ts) seen) ≡ Ok (app.timeout, f.head, at last ts seen) = ap (λ (w : Word). timeout_at (record { word = w; at = c.head.at }) (at last (d.head ∷ f.head ∷ ts) seen)) number ∙ time in
-        met_is last bad app us (app_value_at app.name (at last (vs ++ us) seen)) (groups_at f.head (at last ts seen) >>= app_with app.name app.timeout)
+        met_is last Bad Kept app us (with_app seen app) (app_value_at app.name (at last (vs ++ us) seen)) (groups_at f.head (at last ts seen) >>= app_with app.name app.timeout)
         (ap (λ (l : List Located). app_value_at app.name (at last (l ++ us) seen)) apart ∙ app_value_is app.name app.timeout c.head f.head ts (d.head ∷ f.head ∷ ts) seen timed)
-        (listed_met app f.head f.tail us seen list (subst (λ (l : List Located). Fine bad l) apart fine).1.1)
+        (listed_met app f.head f.tail us seen list (subst (λ (l : List Located). Fine Bad l) apart fine).1.1 keep)
   ]
 
   pub app_begins : (ws : List Word) (app : App) → IsApp ws app → Begins ws
   app_begins ws app is = record { head = Mark OpenTuple; tail = Name app.name ∷ Mark Comma ∷ is.0 ++ Mark CloseTuple ∷ []; whole = is.1; no_list = refl; no_tuple = refl }
 
-  app_named : (before : List App) (t : Located) (name : List ℕ) → t.word ≡ Name name → Said bad name (app_name_of before t)
+  app_named : (before : List App) (seen : Seen) (app : App) → AppKeeps Kept before seen app → (t : Located) → t.word ≡ Name app.name → Said Bad Kept app.name (app_name_of before t)
   unfolding app_name_of
-  app_named before t name w =
-      said_said last bad name name (short_name_of t) (λ name. cond (is_among name (map (λ (a : App). a.name) before)) (fails TwiceApp t.at) (cond (leb 64 (length before)) (fails TooManyApps t.at) (Ok name))) (short_said t name w)
-      (said_if last bad name (is_among name (map (λ (a : App). a.name) before)) (fails TwiceApp t.at) (cond (leb 64 (length before)) (fails TooManyApps t.at) (Ok name)) tt (said_if last bad name (leb 64 (length before)) (fails TooManyApps t.at) (Ok name) tt refl))
+  app_named before seen app keep t w =
+      let name = app.name in
+      let among = is_among name (map (λ (a : App). a.name) before) in
+      said_said last Bad Kept name name (short_name_of t) (λ name. cond (is_among name (map (λ (a : App). a.name) before)) (fails TwiceApp t.at) (cond (leb 64 (length before)) (fails TooManyApps t.at) (Ok name))) (short_said t name keep.short w)
+      (said_if last Bad Kept name among (fails TwiceApp t.at) (cond (leb 64 (length before)) (fails TooManyApps t.at) (Ok name)) (λ twice kept. apart among twice (keep.once kept))
+      (λ once. said_if last Bad Kept name (leb 64 (length before)) (fails TooManyApps t.at) (Ok name) (λ many kept. absurd (omega (arith, keep.few kept once, leb-true 64 (length before) many))) (λ few. refl)))
 
-  pub app_met : (before : List App) (t : Located) (ts us : List Located) (seen : Seen) (app : App) → IsApp (words_of (t ∷ ts)) app → Fine bad (t ∷ ts) → Met last bad app us (app_at before t (at last (ts ++ us) seen))
-  app_met before t ts us seen app is fine =
-      pair_met last bad (app_name_of before) (λ name. closed (app_value_at name)) app.name app.name app seen (λ n w ok. app_named before n app.name w)
-      (app_value_at app.name) (λ value. IsAppValue value app) (λ s. refl) (λ vs us' value f. app_value_met vs us' seen app value f) t ts us is fine
+  pub app_met : (before : List App) (t : Located) (ts us : List Located) (seen : Seen) (app : App) → IsApp (words_of (t ∷ ts)) app → Fine Bad (t ∷ ts) → AppKeeps Kept before seen app → Met last Bad Kept app us (with_app seen app) (app_at before t (at last (ts ++ us) seen))
+  app_met before t ts us seen app is fine keep =
+      pair_met last Bad Kept (app_name_of before) (λ name. closed (app_value_at name)) app.name app.name app seen (with_app seen app) (λ n w ok. app_named before seen app keep n w)
+      (app_value_at app.name) (λ value. IsAppValue value app) (λ s. refl) (λ vs us' value f. app_value_met vs us' seen app value f keep.nodes) t ts us is fine
 
   -- ---- permissions
 
@@ -218,15 +231,15 @@ module _ (last : Result Located ConfigFault) (bad : ℕ) where
   unfolding permission_value_at
   permission_value_is t us seen x e = rw e refl
 
-  permission_value_met : (vs us : List Located) (seen : Seen) (x : Permission) → IsFlag (words_of vs) x.value → Met last bad x us (permission_value_at x.name (at last (vs ++ us) seen))
+  permission_value_met : (vs us : List Located) (seen : Seen) (x : Permission) → IsFlag (words_of vs) x.value → Met last Bad Kept x us seen (permission_value_at x.name (at last (vs ++ us) seen))
   permission_value_met vs us seen x is =
       let w = flag_word (words_of vs) x.value is in
       let c = cut vs w.0 [] w.1 in
       let only : vs ≡ c.head ∷ [] = c.whole ∙ ap (λ (l : List Located). c.head ∷ l) (none c.tail c.rest) in
       let said : IsFlag (c.head.word ∷ []) x.value = subst (λ (l : List Located). IsFlag (words_of l) x.value) only is in
-      met_is last bad x us (permission_value_at x.name (at last (vs ++ us) seen)) (Ok (x, at last us seen)) (ap (λ (l : List Located). permission_value_at x.name (at last (l ++ us) seen)) only ∙ permission_value_is c.head us seen x (flag_is c.head x.value said)) (seen, refl)
+      met_is last Bad Kept x us seen (permission_value_at x.name (at last (vs ++ us) seen)) (Ok (x, at last us seen)) (ap (λ (l : List Located). permission_value_at x.name (at last (l ++ us) seen)) only ∙ permission_value_is c.head us seen x (flag_is c.head x.value said)) refl
 
-  pub permission_met : (before : List Permission) (t : Located) (ts us : List Located) (seen : Seen) (x : Permission) → IsPermission (words_of (t ∷ ts)) x → Fine bad (t ∷ ts) → Met last bad x us (permission_at t (at last (ts ++ us) seen))
-  permission_met before t ts us seen x is fine =
-      pair_met last bad short_name_of (λ name. closed (permission_value_at name)) x.name x.name x seen (λ n w ok. short_said n x.name w)
+  pub permission_met : (before : List Permission) (t : Located) (ts us : List Located) (seen : Seen) (x : Permission) → IsPermission (words_of (t ∷ ts)) x → Fine Bad (t ∷ ts) → PermissionKeeps Kept before seen x → Met last Bad Kept x us seen (permission_at t (at last (ts ++ us) seen))
+  permission_met before t ts us seen x is fine keep =
+      pair_met last Bad Kept short_name_of (λ name. closed (permission_value_at name)) x.name x.name x seen seen (λ n w ok. short_said n x.name keep w)
       (permission_value_at x.name) (λ value. IsFlag value x.value) (λ s. refl) (λ vs us' value f. permission_value_met vs us' seen x value) t ts us is fine

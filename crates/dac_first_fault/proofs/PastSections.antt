@@ -1,7 +1,8 @@
--- Parameters and sections are read, or a name in them brings a fault.
+-- Parameters and sections are read, or a name in them breaks a limit that it isn't to keep.
 use Rattle.std.proofs.Common.{◌≡◌, ℕ, Bool, true, false, cond, List, [], ◌∷◌, ◌++◌, Option, None, Some, ◌≢◌, Result, Ok, refl, sym, ap, subst, ◌∙◌, codes}
 use Rattle.std.specs.Str.{bytes_eq}
 use Rattle.dac_tokens.specs.declared.fault.ConfigFault.{ConfigFault}
+use Rattle.dac_tokens.specs.declared.fault.FaultKind.{FaultKind}
 use Rattle.dac_tokens.specs.declared.fault.FaultKind.TheVariants.{BadShape}
 use Rattle.dac_tokens.specs.declared.token.Symbol.TheVariants.{OpenTuple, CloseTuple, Comma}
 use Rattle.dac_tokens.specs.Words.{Word, Mark, Name, Number, Located}
@@ -10,12 +11,13 @@ use Rattle.dac_shapes.specs.declared.draft.SyncWait.TheVariants.{NoSync, Forever
 use Rattle.dac_shapes.specs.declared.param.ParamName.{ParamName}
 use Rattle.dac_shapes.specs.declared.param.ParamName.TheVariants as named
 use Rattle.dac_shapes.specs.Written.{App, Permission, Param, Distributed, Permissions, Mandatory, Optional, Timeout, Section, Kernel, spelled}
-use Rattle.dac_shapes.specs.Limits.{Seen, has_param, has_kernel}
+use Rattle.dac_shapes.specs.Limits.{Seen, nothing, AllMay, steps, has_param, has_kernel, with_node, with_nodes, with_app, with_apps, with_permission, with_param, with_section}
 use Rattle.dac_shapes.specs.Shape.{State, fails, node_of, wait_of, value_from, app_at, permission_at, param_named, param_name_of, param_value_at, param_rest_at, param_at, names_kernel, kernel_at, section_rest_at, section_at, passed_at, pair_at, closed, list_of}
 use Rattle.dac_shapes.specs.Grammar.{IsListOf, IsPair, IsNode, IsApp, IsPermission, IsTerm, IsWait, IsParam, IsSection}
-use Rattle.dac_shapes.specs.laws.Names.{is_named, param_is}
+use Rattle.dac_shapes.specs.laws.Names.{is_named, param_is, same_seen}
 use Rattle.dac_shapes.specs.laws.AgainLists.{words_of, cons_is, cut, none, Begins, at}
 use Rattle.dac_shapes.specs.laws.AgainTerms.{passed_again}
+use Rattle.dac_first_fault.specs.Keeps.{NodeKeeps, NodesKeep, AppKeeps, PermissionKeeps, ParamKeeps, KernelKeeps, SectionKeeps, Keeps}
 use Rattle.dac_first_fault.proofs.Past.{Fine, Met, Said, met_then, met_is, bracketed_met, rest_met, pair_met}
 use Rattle.dac_first_fault.proofs.PastReaders.{atom_is, ms_is, node_begins, nodes_met, app_begins, app_met, permission_begins, permission_met}
 
@@ -73,54 +75,61 @@ wait_word ws NoSync is = absurd is
 wait_word ws Forever is = (Name (codes "infinity"), is)
 wait_word ws (Ms n) is = (is.0, is.1)
 
-module _ (last : Result Located ConfigFault) (bad : ℕ) where
-  -- a second one may bring a fault, at its name
-  once_said : {K : Type 0} (k : K) (place : ℕ) → (place ≡ bad → ⊥) → (c : Bool) → Said bad k (cond c (fails BadShape place) (Ok k))
-  once_said k place ok true = ok
-  once_said k place ok false = refl
+module _ (last : Result Located ConfigFault) (Bad : ℕ → Type 0) (Kept : FaultKind → Type 0) where
+  -- a second one brings a fault, at its name
+  once_said : {K : Type 0} (k : K) (place : ℕ) → (Bad place → ⊥) → (c : Bool) → (Kept BadShape → c ≡ false) → Said Bad Kept k (cond c (fails BadShape place) (Ok k))
+  once_said k place ok true once = (ok, λ kept. let wrong : true ≡ false = once kept in absurd cc)
+  once_said k place ok false once = refl
 
-  known_said : (before : List Param) (t : Located) (name : ParamName) → t.word ≡ Name (spelled name) → (t.at ≡ bad → ⊥) → Said bad (Some name) (param_name_of before t)
+  known_said : (before : List Param) (t : Located) (name : ParamName) → (Kept BadShape → has_param name before ≡ false) → t.word ≡ Name (spelled name) → (Bad t.at → ⊥) → Said Bad Kept (Some name) (param_name_of before t)
   unfolding param_name_of
-  known_said before t name w ok = rw (atom_is t.word t.at (spelled name) w, spelled_so name) (once_said (Some name) t.at ok (has_param name before))
+  known_said before t name once w ok = rw (atom_is t.word t.at (spelled name) w, spelled_so name) (once_said (Some name) t.at ok (has_param name before) once)
 
   other_is : (before : List Param) (t : Located) (name : List ℕ) → t.word ≡ Name name → param_named name ≡ None → param_name_of before t ≡ Ok None
   unfolding param_name_of
   other_is before t name w other = rw (atom_is t.word t.at name w, other) refl
 
-  other_said : (before : List Param) (t : Located) (name : List ℕ) → t.word ≡ Name name → param_named name ≡ None → Said bad None (param_name_of before t)
-  other_said before t name w other = subst (λ (r : Result (Option ParamName) ConfigFault). Said bad None r) (sym (other_is before t name w other)) refl
+  other_said : (before : List Param) (t : Located) (name : List ℕ) → t.word ≡ Name name → param_named name ≡ None → Said Bad Kept None (param_name_of before t)
+  other_said before t name w other = subst (λ (r : Result (Option ParamName) ConfigFault). Said Bad Kept None r) (sym (other_is before t name w other)) refl
 
   timeout_is : (t : Located) (us : List Located) (seen : Seen) (wait : SyncWait) → IsWait (t.word ∷ []) wait → param_value_at named.Timeout (at last (t ∷ us) seen) ≡ Ok (Timeout wait, at last us seen)
   unfolding param_value_at
   timeout_is t us seen wait is = rw (wait_is t.word t.at wait is) refl
 
-  timeout_met : (vs us : List Located) (seen : Seen) (wait : SyncWait) → IsWait (words_of vs) wait → Met last bad (Timeout wait) us (param_value_at named.Timeout (at last (vs ++ us) seen))
+  timeout_met : (vs us : List Located) (seen : Seen) (wait : SyncWait) → IsWait (words_of vs) wait → Met last Bad Kept (Timeout wait) us seen (param_value_at named.Timeout (at last (vs ++ us) seen))
   timeout_met vs us seen wait is =
       let w = wait_word (words_of vs) wait is in
       let c = cut vs w.0 [] w.1 in
       let only : vs ≡ c.head ∷ [] = c.whole ∙ ap (λ (l : List Located). c.head ∷ l) (none c.tail c.rest) in
       let said : IsWait (c.head.word ∷ []) wait = subst (λ (l : List Located). IsWait (words_of l) wait) only is in
-      met_is last bad (Timeout wait) us (param_value_at named.Timeout (at last (vs ++ us) seen)) (Ok (Timeout wait, at last us seen)) (ap (λ (l : List Located). param_value_at named.Timeout (at last (l ++ us) seen)) only ∙ timeout_is c.head us seen wait said) (seen, refl)
+      met_is last Bad Kept (Timeout wait) us seen (param_value_at named.Timeout (at last (vs ++ us) seen)) (Ok (Timeout wait, at last us seen)) (ap (λ (l : List Located). param_value_at named.Timeout (at last (l ++ us) seen)) only ∙ timeout_is c.head us seen wait said) refl
 
-  distributed_met : (vs us : List Located) (seen : Seen) (apps : List App) → IsListOf IsApp (words_of vs) apps → Fine bad vs → Met last bad (Distributed apps) us (param_value_at named.Distributed (at last (vs ++ us) seen))
+  distributed_met : (vs us : List Located) (seen : Seen) (apps : List App) → IsListOf IsApp (words_of vs) apps → Fine Bad vs → AllMay with_app (AppKeeps Kept) [] seen apps → Met last Bad Kept (Distributed apps) us (with_apps seen apps) (param_value_at named.Distributed (at last (vs ++ us) seen))
   unfolding param_value_at
-  distributed_met vs us seen apps is fine =
-      met_then last bad apps us (Distributed apps) us (list_of app_at (at last (vs ++ us) seen)) (λ apps. Ok (Distributed apps.0, apps.1)) (bracketed_met last bad IsApp (app_begins last bad) app_at (app_met last bad) vs us seen apps is fine) (λ after. (after, refl))
+  distributed_met vs us seen apps is fine keep =
+      let after = with_apps seen apps in
+      met_then last Bad Kept apps us after (Distributed apps) us after (list_of app_at (at last (vs ++ us) seen)) (λ apps. Ok (Distributed apps.0, apps.1))
+      (bracketed_met last Bad Kept IsApp (app_begins last Bad Kept) app_at with_app (AppKeeps Kept) (app_met last Bad Kept) vs us seen apps is fine keep) refl
 
-  permissions_met : (vs us : List Located) (seen : Seen) (permissions : List Permission) → IsListOf IsPermission (words_of vs) permissions → Fine bad vs → Met last bad (Permissions permissions) us (param_value_at named.Permissions (at last (vs ++ us) seen))
+  permissions_met : (vs us : List Located) (seen : Seen) (permissions : List Permission) → IsListOf IsPermission (words_of vs) permissions → Fine Bad vs → AllMay with_permission (PermissionKeeps Kept) [] seen permissions → Met last Bad Kept (Permissions permissions) us seen (param_value_at named.Permissions (at last (vs ++ us) seen))
   unfolding param_value_at
-  permissions_met vs us seen permissions is fine =
-      met_then last bad permissions us (Permissions permissions) us (list_of (λ _. permission_at) (at last (vs ++ us) seen)) (λ permissions. Ok (Permissions permissions.0, permissions.1)) (bracketed_met last bad IsPermission (permission_begins last bad) (λ _. permission_at) (permission_met last bad) vs us seen permissions is fine) (λ after. (after, refl))
+  permissions_met vs us seen permissions is fine keep =
+      let read = bracketed_met last Bad Kept IsPermission (permission_begins last Bad Kept) (λ _. permission_at) with_permission (PermissionKeeps Kept) (permission_met last Bad Kept) vs us seen permissions is fine keep in
+      met_then last Bad Kept permissions us seen (Permissions permissions) us seen (list_of (λ _. permission_at) (at last (vs ++ us) seen)) (λ permissions. Ok (Permissions permissions.0, permissions.1))
+      (subst (λ (after : Seen). Met last Bad Kept permissions us after (list_of (λ _. permission_at) (at last (vs ++ us) seen))) (same_seen seen permissions) read) refl
 
-  mandatory_met : (vs us : List Located) (seen : Seen) (names : List (List ℕ)) → IsListOf IsNode (words_of vs) names → Fine bad vs → Met last bad (Mandatory names) us (param_value_at named.Mandatory (at last (vs ++ us) seen))
-  unfolding param_value_at
-  mandatory_met vs us seen names is fine =
-      met_then last bad names us (Mandatory names) us (list_of (λ _. node_of true) (at last (vs ++ us) seen)) (λ names. Ok (Mandatory names.0, names.1)) (bracketed_met last bad IsNode (node_begins last bad) (λ _. node_of true) (nodes_met last bad true) vs us seen names is fine) (λ after. (after, refl))
+  names_met : (vs us : List Located) (seen : Seen) (names : List (List ℕ)) → IsListOf IsNode (words_of vs) names → Fine Bad vs → NodesKeep Kept true seen names → Met last Bad Kept names us (with_nodes seen names) (list_of (λ _. node_of true) (at last (vs ++ us) seen))
+  names_met vs us seen names is fine keep = bracketed_met last Bad Kept IsNode (node_begins last Bad Kept) (λ _. node_of true) with_node (λ _. NodeKeeps Kept true) (nodes_met last Bad Kept true) vs us seen names is fine keep
 
-  optional_met : (vs us : List Located) (seen : Seen) (names : List (List ℕ)) → IsListOf IsNode (words_of vs) names → Fine bad vs → Met last bad (Optional names) us (param_value_at named.Optional (at last (vs ++ us) seen))
+  mandatory_met : (vs us : List Located) (seen : Seen) (names : List (List ℕ)) → IsListOf IsNode (words_of vs) names → Fine Bad vs → NodesKeep Kept true seen names → Met last Bad Kept (Mandatory names) us (with_nodes seen names) (param_value_at named.Mandatory (at last (vs ++ us) seen))
   unfolding param_value_at
-  optional_met vs us seen names is fine =
-      met_then last bad names us (Optional names) us (list_of (λ _. node_of true) (at last (vs ++ us) seen)) (λ names. Ok (Optional names.0, names.1)) (bracketed_met last bad IsNode (node_begins last bad) (λ _. node_of true) (nodes_met last bad true) vs us seen names is fine) (λ after. (after, refl))
+  mandatory_met vs us seen names is fine keep =
+      met_then last Bad Kept names us (with_nodes seen names) (Mandatory names) us (with_nodes seen names) (list_of (λ _. node_of true) (at last (vs ++ us) seen)) (λ names. Ok (Mandatory names.0, names.1)) (names_met vs us seen names is fine keep) refl
+
+  optional_met : (vs us : List Located) (seen : Seen) (names : List (List ℕ)) → IsListOf IsNode (words_of vs) names → Fine Bad vs → NodesKeep Kept true seen names → Met last Bad Kept (Optional names) us (with_nodes seen names) (param_value_at named.Optional (at last (vs ++ us) seen))
+  unfolding param_value_at
+  optional_met vs us seen names is fine keep =
+      met_then last Bad Kept names us (with_nodes seen names) (Optional names) us (with_nodes seen names) (list_of (λ _. node_of true) (at last (vs ++ us) seen)) (λ names. Ok (Optional names.0, names.1)) (names_met vs us seen names is fine keep) refl
 
   rest_of_known : (name : ParamName) (s : State) → param_rest_at (Some name) s ≡ closed (param_value_at name) s
   unfolding param_rest_at
@@ -131,38 +140,40 @@ module _ (last : Result Located ConfigFault) (bad : ℕ) where
   rest_of_other s u e = rw e refl
 
   -- a parameter that is read, by its name
-  known_met : (name : ParamName) (before : List Param) (p : Param) (seen : Seen) (IsValue : List Word → Type 0) → ((vs us : List Located) → IsValue (words_of vs) → Fine bad vs → Met last bad p us (param_value_at name (at last (vs ++ us) seen)))
-      → (t : Located) (ts us : List Located) → IsPair (spelled name) IsValue (words_of (t ∷ ts)) → Fine bad (t ∷ ts) → Met last bad p us (param_at before t (at last (ts ++ us) seen))
-  known_met name before p seen IsValue value t ts us pair fine =
-      pair_met last bad (param_name_of before) param_rest_at (spelled name) (Some name) p seen (λ n w ok. known_said before n name w ok) (param_value_at name) IsValue (rest_of_known name) value t ts us pair fine
+  known_met : (name : ParamName) (before : List Param) (p : Param) (seen : Seen) (IsValue : List Word → Type 0) → (Kept BadShape → has_param name before ≡ false) → ((vs us : List Located) → IsValue (words_of vs) → Fine Bad vs → Met last Bad Kept p us (with_param seen p) (param_value_at name (at last (vs ++ us) seen)))
+      → (t : Located) (ts us : List Located) → IsPair (spelled name) IsValue (words_of (t ∷ ts)) → Fine Bad (t ∷ ts) → Met last Bad Kept p us (with_param seen p) (param_at before t (at last (ts ++ us) seen))
+  known_met name before p seen IsValue once value t ts us pair fine =
+      pair_met last Bad Kept (param_name_of before) param_rest_at (spelled name) (Some name) p seen (with_param seen p) (λ n w ok. known_said before n name once w ok) (param_value_at name) IsValue (rest_of_known name) value t ts us pair fine
 
-  param_met : (before : List Param) (t : Located) (ts us : List Located) (seen : Seen) (p : Param) → IsParam (words_of (t ∷ ts)) p → Fine bad (t ∷ ts) → Met last bad p us (param_at before t (at last (ts ++ us) seen))
-  param_met before t ts us seen (Distributed apps) is fine = known_met named.Distributed before (Distributed apps) seen (λ value. IsListOf IsApp value apps) (λ vs us' value f. distributed_met vs us' seen apps value f) t ts us is fine
-  param_met before t ts us seen (Permissions permissions) is fine = known_met named.Permissions before (Permissions permissions) seen (λ value. IsListOf IsPermission value permissions) (λ vs us' value f. permissions_met vs us' seen permissions value f) t ts us is fine
-  param_met before t ts us seen (Mandatory names) is fine = known_met named.Mandatory before (Mandatory names) seen (λ value. IsListOf IsNode value names) (λ vs us' value f. mandatory_met vs us' seen names value f) t ts us is fine
-  param_met before t ts us seen (Optional names) is fine = known_met named.Optional before (Optional names) seen (λ value. IsListOf IsNode value names) (λ vs us' value f. optional_met vs us' seen names value f) t ts us is fine
-  param_met before t ts us seen (Timeout wait) is fine = known_met named.Timeout before (Timeout wait) seen (λ value. IsWait value wait) (λ vs us' value f. timeout_met vs us' seen wait value) t ts us is fine
-  param_met before t ts us seen Param.Other is fine =
-      rest_met last bad (param_name_of before) param_rest_at is.0 None Param.Other seen (λ n w ok. other_said before n is.0 w (unknown_so is.0 is.1)) (is.2.0 ++ Mark CloseTuple ∷ []) t ts us is.2.1 fine
-      (λ vs e f. met_is last bad Param.Other us (param_rest_at None (at last (vs ++ us) seen)) (Ok (Param.Other, at last us seen)) (rest_of_other (at last (vs ++ us) seen) (at last us seen) (passed_again last is.2.0 vs us seen is.2.2 e)) (seen, refl))
+  param_met : (before : List Param) (t : Located) (ts us : List Located) (seen : Seen) (p : Param) → IsParam (words_of (t ∷ ts)) p → Fine Bad (t ∷ ts) → ParamKeeps Kept before seen p → Met last Bad Kept p us (with_param seen p) (param_at before t (at last (ts ++ us) seen))
+  param_met before t ts us seen (Distributed apps) is fine keep = known_met named.Distributed before (Distributed apps) seen (λ value. IsListOf IsApp value apps) (λ kept. keep.once kept named.Distributed refl) (λ vs us' value f. distributed_met vs us' seen apps value f keep.value) t ts us is fine
+  param_met before t ts us seen (Permissions permissions) is fine keep =
+      known_met named.Permissions before (Permissions permissions) seen (λ value. IsListOf IsPermission value permissions) (λ kept. keep.once kept named.Permissions refl) (λ vs us' value f. permissions_met vs us' seen permissions value f keep.value) t ts us is fine
+  param_met before t ts us seen (Mandatory names) is fine keep = known_met named.Mandatory before (Mandatory names) seen (λ value. IsListOf IsNode value names) (λ kept. keep.once kept named.Mandatory refl) (λ vs us' value f. mandatory_met vs us' seen names value f keep.value) t ts us is fine
+  param_met before t ts us seen (Optional names) is fine keep = known_met named.Optional before (Optional names) seen (λ value. IsListOf IsNode value names) (λ kept. keep.once kept named.Optional refl) (λ vs us' value f. optional_met vs us' seen names value f keep.value) t ts us is fine
+  param_met before t ts us seen (Timeout wait) is fine keep = known_met named.Timeout before (Timeout wait) seen (λ value. IsWait value wait) (λ kept. keep.once kept named.Timeout refl) (λ vs us' value f. timeout_met vs us' seen wait value) t ts us is fine
+  param_met before t ts us seen Param.Other is fine keep =
+      rest_met last Bad Kept (param_name_of before) param_rest_at is.0 None Param.Other seen seen (λ n w ok. other_said before n is.0 w (unknown_so is.0 is.1)) (is.2.0 ++ Mark CloseTuple ∷ []) t ts us is.2.1 fine
+      (λ vs e f. met_is last Bad Kept Param.Other us seen (param_rest_at None (at last (vs ++ us) seen)) (Ok (Param.Other, at last us seen)) (rest_of_other (at last (vs ++ us) seen) (at last us seen) (passed_again last is.2.0 vs us seen is.2.2 e)) refl)
 
   -- ---- sections
 
-  kernel_said : (before : List Section) (t : Located) → t.word ≡ Name (codes "kernel") → (t.at ≡ bad → ⊥) → Said bad true (names_kernel before t)
+  kernel_said : (before : List Section) (t : Located) → (Kept BadShape → has_kernel before ≡ false) → t.word ≡ Name (codes "kernel") → (Bad t.at → ⊥) → Said Bad Kept true (names_kernel before t)
   unfolding names_kernel
-  kernel_said before t w ok = rw (atom_is t.word t.at (codes "kernel") w) (once_said true t.at ok (has_kernel before))
+  kernel_said before t once w ok = rw (atom_is t.word t.at (codes "kernel") w) (once_said true t.at ok (has_kernel before) once)
 
   other_section_is : (before : List Section) (t : Located) (name : List ℕ) → t.word ≡ Name name → bytes_eq name (codes "kernel") ≡ false → names_kernel before t ≡ Ok false
   unfolding names_kernel
   other_section_is before t name w other = rw (atom_is t.word t.at name w, other) refl
 
-  other_section_said : (before : List Section) (t : Located) (name : List ℕ) → t.word ≡ Name name → bytes_eq name (codes "kernel") ≡ false → Said bad false (names_kernel before t)
-  other_section_said before t name w other = subst (λ (r : Result Bool ConfigFault). Said bad false r) (sym (other_section_is before t name w other)) refl
+  other_section_said : (before : List Section) (t : Located) (name : List ℕ) → t.word ≡ Name name → bytes_eq name (codes "kernel") ≡ false → Said Bad Kept false (names_kernel before t)
+  other_section_said before t name w other = subst (λ (r : Result Bool ConfigFault). Said Bad Kept false r) (sym (other_section_is before t name w other)) refl
 
-  kernel_met : (vs us : List Located) (seen : Seen) (params : List Param) → IsListOf IsParam (words_of vs) params → Fine bad vs → Met last bad (Kernel params) us (kernel_at (at last (vs ++ us) seen))
+  kernel_met : (before : List Section) (vs us : List Located) (seen : Seen) (params : List Param) → IsListOf IsParam (words_of vs) params → Fine Bad vs → KernelKeeps Kept before seen params → Met last Bad Kept (Kernel params) us (with_section seen (Kernel params)) (kernel_at (at last (vs ++ us) seen))
   unfolding kernel_at
-  kernel_met vs us seen params is fine =
-      met_then last bad params us (Kernel params) us (list_of param_at (at last (vs ++ us) seen)) (λ params. Ok (Kernel params.0, params.1)) (bracketed_met last bad IsParam param_begins param_at param_met vs us seen params is fine) (λ after. (after, refl))
+  kernel_met before vs us seen params is fine keep =
+      let after = with_section seen (Kernel params) in
+      met_then last Bad Kept params us after (Kernel params) us after (list_of param_at (at last (vs ++ us) seen)) (λ params. Ok (Kernel params.0, params.1)) (bracketed_met last Bad Kept IsParam param_begins param_at with_param (ParamKeeps Kept) param_met vs us seen params is fine keep.params) refl
 
   rest_of_kernel : (s : State) → section_rest_at true s ≡ closed kernel_at s
   unfolding section_rest_at
@@ -172,12 +183,12 @@ module _ (last : Result Located ConfigFault) (bad : ℕ) where
   unfolding section_rest_at
   rest_of_section s u e = rw e refl
 
-  section_pair_met : (before : List Section) (t : Located) (ts us : List Located) (seen : Seen) (x : Section) → IsSection (words_of (t ∷ ts)) x → Fine bad (t ∷ ts) → Met last bad x us (pair_at (names_kernel before) section_rest_at t (at last (ts ++ us) seen))
-  section_pair_met before t ts us seen (Kernel params) is fine =
-      pair_met last bad (names_kernel before) section_rest_at (codes "kernel") true (Kernel params) seen (λ n w ok. kernel_said before n w ok) kernel_at (λ value. IsListOf IsParam value params) rest_of_kernel (λ vs us' value f. kernel_met vs us' seen params value f) t ts us is fine
-  section_pair_met before t ts us seen Section.Other is fine =
-      rest_met last bad (names_kernel before) section_rest_at is.0 false Section.Other seen (λ n w ok. other_section_said before n is.0 w (no_kernel is.0 is.1)) (is.2.0 ++ Mark CloseTuple ∷ []) t ts us is.2.1 fine
-      (λ vs e f. met_is last bad Section.Other us (section_rest_at false (at last (vs ++ us) seen)) (Ok (Section.Other, at last us seen)) (rest_of_section (at last (vs ++ us) seen) (at last us seen) (passed_again last is.2.0 vs us seen is.2.2 e)) (seen, refl))
+  section_pair_met : (before : List Section) (t : Located) (ts us : List Located) (seen : Seen) (x : Section) → IsSection (words_of (t ∷ ts)) x → Fine Bad (t ∷ ts) → SectionKeeps Kept before seen x → Met last Bad Kept x us (with_section seen x) (pair_at (names_kernel before) section_rest_at t (at last (ts ++ us) seen))
+  section_pair_met before t ts us seen (Kernel params) is fine keep =
+      pair_met last Bad Kept (names_kernel before) section_rest_at (codes "kernel") true (Kernel params) seen (with_section seen (Kernel params)) (λ n w ok. kernel_said before n keep.once w ok) kernel_at (λ value. IsListOf IsParam value params) rest_of_kernel (λ vs us' value f. kernel_met before vs us' seen params value f keep) t ts us is fine
+  section_pair_met before t ts us seen Section.Other is fine keep =
+      rest_met last Bad Kept (names_kernel before) section_rest_at is.0 false Section.Other seen seen (λ n w ok. other_section_said before n is.0 w (no_kernel is.0 is.1)) (is.2.0 ++ Mark CloseTuple ∷ []) t ts us is.2.1 fine
+      (λ vs e f. met_is last Bad Kept Section.Other us seen (section_rest_at false (at last (vs ++ us) seen)) (Ok (Section.Other, at last us seen)) (rest_of_section (at last (vs ++ us) seen) (at last us seen) (passed_again last is.2.0 vs us seen is.2.2 e)) refl)
 
   -- a section begins with a brace
   braced : (t : Located) (ts : List Located) (x : Section) → IsSection (words_of (t ∷ ts)) x → t.word ≡ Mark OpenTuple
@@ -188,9 +199,9 @@ module _ (last : Result Located ConfigFault) (bad : ℕ) where
   unfolding section_at
   no_text before t s w = rw w refl
 
-  section_met : (before : List Section) (t : Located) (ts us : List Located) (seen : Seen) (x : Section) → IsSection (words_of (t ∷ ts)) x → Fine bad (t ∷ ts) → Met last bad x us (section_at before t (at last (ts ++ us) seen))
-  section_met before t ts us seen x is fine =
-      met_is last bad x us (section_at before t (at last (ts ++ us) seen)) (pair_at (names_kernel before) section_rest_at t (at last (ts ++ us) seen)) (no_text before t (at last (ts ++ us) seen) (braced t ts x is)) (section_pair_met before t ts us seen x is fine)
+  section_met : (before : List Section) (t : Located) (ts us : List Located) (seen : Seen) (x : Section) → IsSection (words_of (t ∷ ts)) x → Fine Bad (t ∷ ts) → SectionKeeps Kept before seen x → Met last Bad Kept x us (with_section seen x) (section_at before t (at last (ts ++ us) seen))
+  section_met before t ts us seen x is fine keep =
+      met_is last Bad Kept x us (with_section seen x) (section_at before t (at last (ts ++ us) seen)) (pair_at (names_kernel before) section_rest_at t (at last (ts ++ us) seen)) (no_text before t (at last (ts ++ us) seen) (braced t ts x is)) (section_pair_met before t ts us seen x is fine keep)
 
-  pub sections_met : (ts us : List Located) (sections : List Section) (seen : Seen) → IsListOf IsSection (words_of ts) sections → Fine bad ts → Met last bad sections us (list_of section_at (at last (ts ++ us) seen))
-  sections_met ts us sections seen is fine = bracketed_met last bad IsSection section_begins section_at section_met ts us seen sections is fine
+  pub sections_met : (ts us : List Located) (sections : List Section) → IsListOf IsSection (words_of ts) sections → Fine Bad ts → Keeps Kept sections → Met last Bad Kept sections us (steps with_section nothing sections) (list_of section_at (at last (ts ++ us) nothing))
+  sections_met ts us sections is fine keep = bracketed_met last Bad Kept IsSection section_begins section_at with_section (SectionKeeps Kept) section_met ts us nothing sections is fine keep

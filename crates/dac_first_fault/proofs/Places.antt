@@ -9,12 +9,25 @@ use Rattle.dac_tokens.specs.declared.fault.FaultKind.TheVariants as kind
 use Rattle.dac_tokens.specs.Words.{Word, Mark, Name, Number, Text, End, Located}
 use Rattle.dac_tokens.specs.TokenGrammar.{AreSpelled, Spells, Begins, depth_behind}
 use Rattle.dac_tokens.specs.TokenFaults.{StopAt}
-use Rattle.dac_first_fault.specs.FirstFault.{StandsAt, Itself, InList, InTuple, CanBring, IsNoName, BeginsWith}
+use Rattle.dac_first_fault.specs.FirstFault.{StandsAt, Itself, InList, InTuple, CanBring, IsNoName, BeginsWith, Only, Before, IsOfName}
 use Rattle.dac_first_fault.proofs.Past.{OfName, Fine}
+use Rattle.dac_first_fault.proofs.Held.{Frees, Stops}
+use Rattle.dac_first_fault.proofs.Spared.{Unlimited}
 
-pub fine_both : (bad : ℕ) (a b : List Located) → Fine bad a → Fine bad b → Fine bad (a ++ b)
-fine_both bad [] b f g = g
-fine_both bad (t ∷ a) b f g = (f.0, fine_both bad a b f.1 g)
+-- this place alone
+abbrev pub At : ℕ → ℕ → Type 0
+At bad place = place ≡ bad
+
+abbrev pub Nowhere : ℕ → Type 0
+Nowhere place = ⊥
+
+pub fine_both : (Bad : ℕ → Type 0) (a b : List Located) → Fine Bad a → Fine Bad b → Fine Bad (a ++ b)
+fine_both Bad [] b f g = g
+fine_both Bad (t ∷ a) b f g = (f.0, fine_both Bad a b f.1 g)
+
+pub fine_nowhere : (ts : List Located) → Fine Nowhere ts
+fine_nowhere [] = tt
+fine_nowhere (t ∷ ts) = (λ name is no. absurd no, fine_nowhere ts)
 
 -- ---- names
 
@@ -43,8 +56,8 @@ last_named [] w name (v ∷ named) rest is e all = none_behind named rest (cons_
 last_named (u ∷ a) w name (v ∷ named) rest is e all = last_named a w name named rest is (cons_tail u v (a ++ w ∷ []) (named ++ rest) e) all
 
 -- a fault at a token that is no name is none of a name
-kind_not : (k : FaultKind) (w : Word) (bad place : ℕ) → place ≡ bad → CanBring k w → IsNoName w → OfName bad k place → ⊥
-kind_not kind.BadShape w bad place e can plain of = of e
+kind_not : (k : FaultKind) (w : Word) (bad place : ℕ) → place ≡ bad → CanBring k w → IsNoName w → OfName (At bad) Unlimited k place → ⊥
+kind_not kind.BadShape w bad place e can plain of = of.0 e
 kind_not kind.TwiceApp w bad place e can plain of = absurd (subst IsNoName can.1 plain)
 kind_not kind.TwiceInList w bad place e can plain of = absurd (subst IsNoName can.1 plain)
 kind_not kind.TooManyApps w bad place e can plain of = absurd (subst IsNoName can.1 plain)
@@ -54,10 +67,47 @@ kind_not kind.Unsupported w bad place e can plain of = of
 kind_not kind.NumberTooLarge w bad place e can plain of = of
 kind_not _ w bad place e can plain of = absurd can
 
-pub not_name : (a : List Located) (l : Located) (e : ConfigFault) → StandsAt a l e → IsNoName l.word → OfName l.at e.kind e.at → ⊥
+pub not_name : (a : List Located) (l : Located) (e : ConfigFault) → StandsAt a l e → IsNoName l.word → OfName (At l.at) Unlimited e.kind e.at → ⊥
 not_name a l e (Itself place can) plain of = kind_not e.kind l.word l.at e.at place can plain of
-not_name a l e (InList front o is w v f) plain of = subst (λ (f : ConfigFault). OfName l.at f.kind f.at) f of
-not_name a l e (InTuple front o is w v f) plain of = subst (λ (f : ConfigFault). OfName l.at f.kind f.at) f of
+not_name a l e (InList front o is w v f) plain of = subst (λ (f : ConfigFault). OfName (At l.at) Unlimited f.kind f.at) f of
+not_name a l e (InTuple front o is w v f) plain of = subst (λ (f : ConfigFault). OfName (At l.at) Unlimited f.kind f.at) f of
+
+-- a fault breaks its own limit
+pub not_kept : (k : FaultKind) (place : ℕ) → OfName Nowhere (Only k) k place → ⊥
+not_kept kind.BadShape place of = of.1 refl
+not_kept kind.TwiceApp place of = of refl
+not_kept kind.TwiceInList place of = of refl
+not_kept kind.TooManyApps place of = of refl
+not_kept kind.TooManyNodes place of = of refl
+not_kept kind.NameTooLong place of = of refl
+not_kept _ place of = absurd of
+
+-- ---- a limit that a name breaks
+
+can_name : (k : FaultKind) (w : Word) → CanBring k w → IsOfName k → (name : List ℕ) × (w ≡ Name name)
+can_name kind.NameTooLong w can of = (can.0, can.1)
+can_name kind.TwiceApp w can of = (can.0, can.1)
+can_name kind.TwiceInList w can of = (can.0, can.1)
+can_name kind.TooManyApps w can of = (can.0, can.1)
+can_name kind.TooManyNodes w can of = (can.0, can.1)
+can_name _ w can of = absurd of
+
+-- the name, at whose place the fault is
+pub name_of_it : (a : List Located) (l : Located) (e : ConfigFault) → StandsAt a l e → IsOfName e.kind → ((name : List ℕ) × (l.word ≡ Name name)) × (e.at ≡ l.at)
+name_of_it a l e (Itself place can) of = (can_name e.kind l.word can of, place)
+name_of_it a l e (InList front o is w v f) of = absurd (subst (λ (f : ConfigFault). IsOfName f.kind) f of)
+name_of_it a l e (InTuple front o is w v f) of = absurd (subst (λ (f : ConfigFault). IsOfName f.kind) f of)
+
+frees_so : (k : FaultKind) → Frees (Before k) k
+frees_so k other le less = absurd (omega (arith, le, less))
+
+pub stops_so : (k : FaultKind) (place bad : ℕ) → place ≡ bad → IsOfName k → Stops bad (Before k) k place
+stops_so kind.NameTooLong place bad e of = (e, frees_so kind.NameTooLong)
+stops_so kind.TwiceApp place bad e of = (e, frees_so kind.TwiceApp)
+stops_so kind.TwiceInList place bad e of = (e, frees_so kind.TwiceInList)
+stops_so kind.TooManyApps place bad e of = (e, frees_so kind.TooManyApps)
+stops_so kind.TooManyNodes place bad e of = (e, frees_so kind.TooManyNodes)
+stops_so _ place bad e of = absurd of
 
 -- ---- places
 
@@ -72,7 +122,7 @@ name_some w name own rest is spelled = elim (subst (λ (w : Word). Spells w own 
 ]
 
 -- the names of a text stand before its end
-pub spelled_fine : (bad place : ℕ) (bytes : List ℕ) (ts : List Located) → AreSpelled place bytes ts → place + length bytes ≤ bad → Fine bad ts
+pub spelled_fine : (bad place : ℕ) (bytes : List ℕ) (ts : List Located) → AreSpelled place bytes ts → place + length bytes ≤ bad → Fine (At bad) ts
 spelled_fine bad place bytes [] is le = tt
 spelled_fine bad place bytes (t ∷ ts) is le =
     let k = is.2 in
@@ -97,12 +147,12 @@ apart_later : (place : ℕ) (a : List Located) (l : Located) (b : List Located) 
 apart_later place [] l b is = is.1
 apart_later place (t ∷ a) l b is = let later = apart_later is.0 a l b is.4 in omega (arith, later, is.1, is.2)
 
-apart_fine : (place : ℕ) (a : List Located) (l : Located) (b : List Located) → Apart place (a ++ l ∷ b) → Fine l.at a
+apart_fine : (place : ℕ) (a : List Located) (l : Located) (b : List Located) → Apart place (a ++ l ∷ b) → Fine (At l.at) a
 apart_fine place [] l b is = tt
 apart_fine place (t ∷ a) l b is = let later = apart_later is.0 a l b is.4 in (λ name w e. absurd (omega (arith, later, is.3 name w, e)), apart_fine is.0 a l b is.4)
 
 -- no name before a token of a text stands at its place
-pub text_fine : (text : List ℕ) (a : List Located) (l : Located) → BeginsWith text (a ++ l ∷ []) → Fine l.at a
+pub text_fine : (text : List ℕ) (a : List Located) (l : Located) → BeginsWith text (a ++ l ∷ []) → Fine (At l.at) a
 text_fine text a l is = apart_fine 0 a l is.rest (subst (λ (ts : List Located). Apart 0 ts) (append_assoc a (l ∷ []) is.rest) (elim is.is [
   | inl tokens ↦ apart_spelled 0 text ((a ++ l ∷ []) ++ is.rest) tokens.spelled
   | inr stopped ↦ apart_stopped 0 0 text ((a ++ l ∷ []) ++ is.rest) stopped.0 stopped.1

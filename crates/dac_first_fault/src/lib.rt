@@ -8,7 +8,12 @@
 //! With the token it is no longer in order. If the token is a name, no file that keeps the limits begins so, and if
 //! not, no file at all. What is in order is so up to each of its tokens, so no other token fits the law.
 //!
-//! Not said yet: which of the kinds that a token can bring it is.
+//! No file that keeps the limit of the fault's kind goes on with the token, whatever other limits it breaks. Where a
+//! name breaks several limits, the fault is the first of them in a fixed order: a file goes on with the name that keeps
+//! those before it.
+//!
+//! The law admits one fault alone of a text, unless a token that is no name brings it. Not said yet: which kind it is
+//! then, where no file at all goes on with the token.
 #![tactic(auto)]
 
 pub mod laws;

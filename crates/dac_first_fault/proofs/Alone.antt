@@ -1,0 +1,235 @@
+-- The law of the first fault admits one fault alone, unless a token brings it that is no name.
+use Rattle.std.proofs.Common.{◌≡◌, ℕ, zero, suc, ◌<◌, ◌≤◌, Bool, true, false, ltb, List, [], ◌∷◌, ◌++◌, length, Result, Ok, Err, refl, sym, ap, subst, ◌∙◌, append_assoc, append-nil, arith, inl, inr}
+use Rattle.std.specs.Prelude.{◌⊎◌, ◌↔◌}
+use Rattle.std.proofs.lemmas.Bool.{ltb-true, ltb-false}
+use Rattle.std.proofs.lemmas.List.Elements.{All-nil}
+use Rattle.dac_tokens.specs.declared.fault.FaultKind.{FaultKind}
+use Rattle.dac_tokens.specs.declared.fault.FaultKind.TheVariants as kind
+use Rattle.dac_tokens.specs.declared.fault.ConfigFault.{ConfigFault}
+use Rattle.dac_tokens.specs.declared.token.Symbol.{Symbol}
+use Rattle.dac_tokens.specs.Words.{Word, Mark, Name, Number, Text, End, Located}
+use Rattle.dac_tokens.specs.Stream.{Stream, ended as ended_by, stopped}
+use Rattle.dac_tokens.specs.TokenGrammar.{AreTokensOf}
+use Rattle.dac_tokens.specs.TokenFaults.{StopAt}
+use Rattle.dac_shapes.specs.Written.{Section}
+use Rattle.dac_shapes.specs.Grammar.{IsFile}
+use Rattle.dac_first_fault.specs.FirstFault.{StandsAt, Itself, InList, InTuple, CanBring, words, IsWell, IsWithin, IsNoName, Only, Before, IsOfName, Breaks, rank, BeginsWith, IsFaultOf, Long, NoToken, Token, Ends, Nobody, ShareToken}
+use Rattle.dac_first_fault.proofs.Order.{words_append, well_so_far}
+use Rattle.dac_first_fault.proofs.Places.{name_or_not}
+use Rattle.dac_first_fault.proofs.Fewer.{keeps_fewer}
+
+-- ---- one name brings one fault
+
+-- a name can bring a fault of this kind
+abbrev IsNameKind : FaultKind → Type 0
+IsNameKind k = rank k < 6
+
+can_kind : (k : FaultKind) (w : Word) (name : List ℕ) → w ≡ Name name → CanBring k w → IsNameKind k
+can_kind kind.BadShape w name is can = omega arith
+can_kind kind.NameTooLong w name is can = omega arith
+can_kind kind.TwiceApp w name is can = omega arith
+can_kind kind.TwiceInList w name is can = omega arith
+can_kind kind.TooManyApps w name is can = omega arith
+can_kind kind.TooManyNodes w name is can = omega arith
+can_kind kind.Unsupported w name is can = let wrong : Name name ≡ Text = sym is ∙ can in absurd cc
+can_kind kind.NumberTooLarge w name is can = let wrong : Name name ≡ Number false can.0 = sym is ∙ can.1 in absurd cc
+can_kind _ w name is can = absurd can
+
+no_mark : (w : Word) (name : List ℕ) (x : Symbol) → w ≡ Name name → w ≡ Mark x → ⊥
+no_mark w name x is other = let wrong : Name name ≡ Mark x = sym is ∙ other in absurd cc
+
+-- the fault of a name stands at it
+name_kind : (a : List Located) (l : Located) (e : ConfigFault) (name : List ℕ) → l.word ≡ Name name → StandsAt a l e → (e.at ≡ l.at) × IsNameKind e.kind
+name_kind a l e name is (Itself place can) = (place, can_kind e.kind l.word name is can)
+name_kind a l e name is (InList front o parts w v k) = absurd (no_mark l.word name _ is v)
+name_kind a l e name is (InTuple front o parts w v k) = absurd (no_mark l.word name _ is v)
+
+of_name : (k : FaultKind) → IsNameKind k → 0 < rank k → IsOfName k
+of_name kind.BadShape fits some = absurd (omega (arith, some))
+of_name kind.NameTooLong fits some = tt
+of_name kind.TwiceApp fits some = tt
+of_name kind.TwiceInList fits some = tt
+of_name kind.TooManyApps fits some = tt
+of_name kind.TooManyNodes fits some = tt
+of_name _ fits some = absurd (omega (arith, fits))
+
+-- of two limits, no file keeps the first
+clash : (ws : List Word) (j k : FaultKind) → Breaks ws j → Breaks ws k → IsNameKind k → rank j < rank k → ⊥
+clash ws j k b c fits less =
+    let g = c.first (of_name k fits (omega (arith, less))) in
+    b.broken (record { more = g.more; sections = g.sections; file = g.file; keeps = keeps_fewer (Only j) (Before k) (λ other is. subst (λ (o : FaultKind). rank o < rank k) (sym is) less) g.sections g.keeps })
+
+-- the kind of this rank
+abbrev of_rank : ℕ → FaultKind
+of_rank zero = kind.BadShape
+of_rank (suc zero) = kind.NameTooLong
+of_rank (suc (suc zero)) = kind.TwiceApp
+of_rank (suc (suc (suc zero))) = kind.TwiceInList
+of_rank (suc (suc (suc (suc zero)))) = kind.TooManyApps
+of_rank (suc (suc (suc (suc (suc n))))) = kind.TooManyNodes
+
+rank_is : (k : FaultKind) → IsNameKind k → of_rank (rank k) ≡ k
+rank_is kind.BadShape fits = refl
+rank_is kind.NameTooLong fits = refl
+rank_is kind.TwiceApp fits = refl
+rank_is kind.TwiceInList fits = refl
+rank_is kind.TooManyApps fits = refl
+rank_is kind.TooManyNodes fits = refl
+rank_is _ fits = absurd (omega (arith, fits))
+
+one_kind : (ws : List Word) (j k : FaultKind) → Breaks ws j → Breaks ws k → IsNameKind j → IsNameKind k → j ≡ k
+one_kind ws j k b c fits other = by (ltb (rank j) (rank k)) (ltb (rank k) (rank j)) refl refl
+  where
+    by : (x y : Bool) → ltb (rank j) (rank k) ≡ x → ltb (rank k) (rank j) ≡ y → j ≡ k
+    by true y less e = absurd (clash ws j k b c other (ltb-true (rank j) (rank k) less))
+    by false true e less = absurd (clash ws k j c b fits (ltb-true (rank k) (rank j) less))
+    by false false e f =
+        let same : rank j ≡ rank k = omega (arith, ltb-false (rank j) (rank k) e, ltb-false (rank k) (rank j) f) in
+        sym (rank_is j fits) ∙ ap of_rank same ∙ rank_is k other
+
+same_fault : (e f : ConfigFault) → e.kind ≡ f.kind → e.at ≡ f.at → e ≡ f
+same_fault e f k n = ap (λ (k : FaultKind). record { kind = k; at = e.at }) k ∙ ap (λ (n : ℕ). record { kind = f.kind; at = n }) n
+
+-- ---- where two tokens stand among the same ones
+
+cons_both : (x y : Located) (xs ys : List Located) → x ∷ xs ≡ y ∷ ys → (x ≡ y) × (xs ≡ ys)
+cons_both x y xs ys e = (cc, cc)
+
+data Order (a : List Located) (l : Located) (c : List Located) (m : Located) : Type 0 where
+  Same : a ≡ c → l ≡ m → Order a l c m
+  Earlier : (x : List Located) → c ≡ a ++ l ∷ x → Order a l c m
+  Later : (x : List Located) → a ≡ c ++ m ∷ x → Order a l c m
+
+behind_one : (u v : Located) (a : List Located) (l : Located) (c : List Located) (m : Located) → u ≡ v → Order a l c m → Order (u ∷ a) l (v ∷ c) m
+behind_one u v a l c m e (Same p q) = Same (ap (λ (w : Located). w ∷ a) e ∙ ap (λ (ts : List Located). v ∷ ts) p) q
+behind_one u v a l c m e (Earlier x p) = Earlier x (ap (λ (w : Located). w ∷ c) (sym e) ∙ ap (λ (ts : List Located). u ∷ ts) p)
+behind_one u v a l c m e (Later x p) = Later x (ap (λ (w : Located). w ∷ a) e ∙ ap (λ (ts : List Located). v ∷ ts) p)
+
+order_of : (a : List Located) (l : Located) (b c : List Located) (m : Located) (d : List Located) → a ++ l ∷ b ≡ c ++ m ∷ d → Order a l c m
+order_of [] l b [] m d e = Same refl (cons_both l m b d e).0
+order_of [] l b (v ∷ c) m d e = Earlier c (ap (λ (w : Located). w ∷ c) (sym (cons_both l v b (c ++ m ∷ d) e).0))
+order_of (u ∷ a) l b [] m d e = Later a (ap (λ (w : Located). w ∷ a) (cons_both u m (a ++ l ∷ b) d e).0)
+order_of (u ∷ a) l b (v ∷ c) m d e = let p = cons_both u v (a ++ l ∷ b) (c ++ m ∷ d) e in behind_one u v a l c m p.0 (order_of a l b c m d p.1)
+
+-- words in order are so up to a token among them
+well_to : (a : List Located) (l : Located) (b : List Located) → IsWell (words (a ++ l ∷ b)) → IsWell (words a ++ l.word ∷ [])
+well_to a l b w = well_so_far (words a ++ l.word ∷ []) (words b) (subst IsWell (words_append a (l ∷ b) ∙ sym (append_assoc (words a) (l.word ∷ []) (words b))) w)
+
+well_within : (ws : List Word) → IsWithin ws → IsWell ws
+well_within ws is =
+    let file : IsFile (ws ++ []) is.sections = subst (λ (l : List Word). IsFile l is.sections) (sym (append-nil ws)) is.file in
+    record {
+      goes_on = record { more = []; sections = is.sections; file = file; keeps = tt };
+      named = ws;
+      rest = [];
+      parts = sym (append-nil ws);
+      no_name = All-nil IsNoName;
+      keeps = record { more = []; sections = is.sections; file = file; keeps = is.within };
+    }
+
+-- ---- two faults of a text
+
+module _ (text : List ℕ) (s : Stream) (spelled : (ts : List Located) → (AreTokensOf text ts ↔ (s ≡ ended_by (length text) ts))) (stops : (ts : List Located) (e : ConfigFault) → (StopAt 0 0 text ts e ↔ (s ≡ stopped ts e))) where
+  -- a token brings it
+  record ByToken (e : ConfigFault) : Type 0 where
+    pub before : List Located
+    pub t : Located
+    pub rest : List Located
+    pub whole : s.tokens ≡ before ++ t ∷ rest
+    pub begins : BeginsWith text (before ++ t ∷ [])
+    pub well : IsWell (words before)
+    pub not_well : IsWell (words before ++ t.word ∷ []) → ⊥
+    pub breaks : Breaks (words before ++ t.word ∷ []) e.kind
+    pub stands : StandsAt before t e
+
+  -- what is behind all tokens brings it
+  data AtEnd (e : ConfigFault) : Type 0 where
+    Stopped : s ≡ stopped s.tokens e → AtEnd e
+    NoFile : s ≡ ended_by (length text) s.tokens → ((sections : List Section) → IsFile (words s.tokens) sections → ⊥) → e ≡ record { kind = kind.BadShape; at = length text } → AtEnd e
+    Empty : s ≡ ended_by (length text) s.tokens → IsWithin (words s.tokens) → e ≡ record { kind = kind.NoDistributed; at = length text } → AtEnd e
+
+  data Cause (e : ConfigFault) : Type 0 where
+    TooFar : 65536 < length text → e ≡ record { kind = kind.TooLong; at = 65536 } → Cause e
+    Brought : length text ≤ 65536 → ByToken e → Cause e
+    Final : length text ≤ 65536 → IsWell (words s.tokens) → AtEnd e → Cause e
+
+  tokens_of : (ts : List Located) (e : ConfigFault) → s ≡ stopped ts e → s.tokens ≡ ts
+  tokens_of ts e is = ap (λ (q : Stream). q.tokens) is
+
+  tokens_in : (ts : List Located) → AreTokensOf text ts → s.tokens ≡ ts
+  tokens_in ts is = ap (λ (q : Stream). q.tokens) ((spelled ts).0 is)
+
+  tokens_with : (ts : List Located) (b : BeginsWith text ts) → s.tokens ≡ ts ++ b.rest
+  tokens_with ts b = elim b.is [
+    | inl tokens ↦ tokens_in (ts ++ b.rest) tokens
+    | inr stop ↦ tokens_of (ts ++ b.rest) stop.0 ((stops (ts ++ b.rest) stop.0).0 stop.1)
+  ]
+
+  ended_so : (ts : List Located) → AreTokensOf text ts → s ≡ ended_by (length text) s.tokens
+  ended_so ts is = (spelled ts).0 is ∙ ap (ended_by (length text)) (sym (tokens_in ts is))
+
+  cause_of : (e : ConfigFault) → IsFaultOf text e → Cause e
+  cause_of e (Long far is) = TooFar far is
+  cause_of e (NoToken before short well stop) =
+      let is = (stops before e).0 stop in
+      let same = sym (tokens_of before e is) in
+      Final short (subst (λ (ts : List Located). IsWell (words ts)) same well) (Stopped (is ∙ ap (λ (ts : List Located). stopped ts e) same))
+  cause_of e (Token before t short begins well not_well breaks stands) =
+      Brought short (record { before = before; t = t; rest = begins.rest; whole = tokens_with (before ++ t ∷ []) begins ∙ append_assoc before (t ∷ []) begins.rest; begins = begins; well = well; not_well = not_well; breaks = breaks; stands = stands })
+  cause_of e (Ends ts short tokens well none is) =
+      let same = sym (tokens_in ts tokens) in
+      Final short (subst (λ (ts : List Located). IsWell (words ts)) same well) (NoFile (ended_so ts tokens) (subst (λ (ts : List Located). (sections : List Section) → IsFile (words ts) sections → ⊥) same none) is)
+  cause_of e (Nobody ts short tokens within none is) =
+      let all : IsWithin (words s.tokens) = subst (λ (ts : List Located). IsWithin (words ts)) (sym (tokens_in ts tokens)) within in
+      Final short (well_within (words s.tokens) all) (Empty (ended_so ts tokens) all is)
+
+  not_final : (e : ConfigFault) → ByToken e → IsWell (words s.tokens) → ⊥
+  not_final e b w = b.not_well (well_to b.before b.t b.rest (subst (λ (ts : List Located). IsWell (words ts)) b.whole w))
+
+  not_both : (e : ConfigFault) → s ≡ stopped s.tokens e → s ≡ ended_by (length text) s.tokens → ⊥
+  not_both e a b = let wrong : s.last ≡ Err e = ap (λ (q : Stream). q.last) a in let other : s.last ≡ Ok (record { word = End; at = length text }) = ap (λ (q : Stream). q.last) b in absurd cc
+
+  err_same : (e f : ConfigFault) (r : Result Located ConfigFault) → r ≡ Err e → r ≡ Err f → e ≡ f
+  err_same e f r p q = cc
+
+  one_end : (e f : ConfigFault) → AtEnd e → AtEnd f → e ≡ f
+  one_end e f (Stopped a) (Stopped b) = err_same e f s.last (ap (λ (q : Stream). q.last) a) (ap (λ (q : Stream). q.last) b)
+  one_end e f (Stopped a) (NoFile b none q) = absurd (not_both e a b)
+  one_end e f (Stopped a) (Empty b is q) = absurd (not_both e a b)
+  one_end e f (NoFile a none p) (Stopped b) = absurd (not_both f b a)
+  one_end e f (NoFile a none p) (NoFile b other q) = p ∙ sym q
+  one_end e f (NoFile a none p) (Empty b is q) = absurd (none is.sections is.file)
+  one_end e f (Empty a is p) (Stopped b) = absurd (not_both f b a)
+  one_end e f (Empty a is p) (NoFile b none q) = absurd (none is.sections is.file)
+  one_end e f (Empty a is p) (Empty b other q) = p ∙ sym q
+
+  -- one token brings both
+  shared : (e f : ConfigFault) (b : ByToken e) → Breaks (words b.before ++ b.t.word ∷ []) f.kind → StandsAt b.before b.t f → (e ≡ f) ⊎ ShareToken text e f
+  shared e f b breaks stands = elim (name_or_not b.t.word) [
+    | inl n ↦
+        let x = name_kind b.before b.t e n.0 n.1 b.stands in
+        let y = name_kind b.before b.t f n.0 n.1 stands in
+        inl (same_fault e f (one_kind (words b.before ++ b.t.word ∷ []) e.kind f.kind b.breaks breaks x.1 y.1) (x.0 ∙ sym y.0))
+    | inr no_name ↦ inr (record { before = b.before; t = b.t; begins = b.begins; no_name = no_name; one = b.stands; other = stands })
+  ]
+
+  one_token : (e f : ConfigFault) (b : ByToken e) (c : ByToken f) → Order b.before b.t c.before c.t → (e ≡ f) ⊎ ShareToken text e f
+  one_token e f b c (Same p q) =
+      let at_t = λ (P : List Located → Located → Type 0) (k : P c.before c.t). subst (λ (ts : List Located). P ts b.t) (sym p) (subst (λ (t : Located). P c.before t) (sym q) k) in
+      shared e f b (at_t (λ ts t. Breaks (words ts ++ t.word ∷ []) f.kind) c.breaks) (at_t (λ ts t. StandsAt ts t f) c.stands)
+  one_token e f b c (Earlier x p) = absurd (b.not_well (well_to b.before b.t x (subst (λ (ts : List Located). IsWell (words ts)) p c.well)))
+  one_token e f b c (Later x p) = absurd (c.not_well (well_to c.before c.t x (subst (λ (ts : List Located). IsWell (words ts)) p b.well)))
+
+  one_cause : (e f : ConfigFault) → Cause e → Cause f → (e ≡ f) ⊎ ShareToken text e f
+  one_cause e f (TooFar a p) (TooFar b q) = inl (p ∙ sym q)
+  one_cause e f (TooFar a p) (Brought short b) = absurd (omega (arith, a, short))
+  one_cause e f (TooFar a p) (Final short w b) = absurd (omega (arith, a, short))
+  one_cause e f (Brought short a) (TooFar b q) = absurd (omega (arith, b, short))
+  one_cause e f (Brought short a) (Brought other b) = one_token e f a b (order_of a.before a.t a.rest b.before b.t b.rest (sym a.whole ∙ b.whole))
+  one_cause e f (Brought short a) (Final other w b) = absurd (not_final e a w)
+  one_cause e f (Final short w a) (TooFar b q) = absurd (omega (arith, b, short))
+  one_cause e f (Final short w a) (Brought other b) = absurd (not_final f b w)
+  one_cause e f (Final short w a) (Final other v b) = inl (one_end e f a b)
+
+  pub one_fault : (e f : ConfigFault) → IsFaultOf text e → IsFaultOf text f → (e ≡ f) ⊎ ShareToken text e f
+  one_fault e f a b = one_cause e f (cause_of e a) (cause_of f b)

@@ -1,0 +1,39 @@
+-- Sections that keep limits keep fewer of them too.
+use Rattle.std.proofs.Common.{ℕ, Bool, true, false, List, [], ◌∷◌}
+use Rattle.dac_tokens.specs.declared.fault.FaultKind.{FaultKind}
+use Rattle.dac_tokens.specs.declared.fault.FaultKind.TheVariants.{BadShape, TwiceApp, TwiceInList, TooManyNodes, TooManyApps, NameTooLong}
+use Rattle.dac_shapes.specs.Written.{App, Permission, Param, Distributed, Permissions, Mandatory, Optional, Timeout, Section, Kernel}
+use Rattle.dac_shapes.specs.Limits.{Seen, nothing, with_node, with_nodes, listing, with_app, with_permission, with_param, with_section}
+use Rattle.dac_first_fault.specs.Keeps.{NodeKeeps, NodesKeep, GroupsKeep, AppKeeps, PermissionKeeps, ValueKeeps, ParamKeeps, SectionKeeps, Keeps}
+use Rattle.dac_first_fault.proofs.Bounds.{all_to}
+
+module _ (A B : FaultKind → Type 0) (to : (kind : FaultKind) → A kind → B kind) where
+  node_fewer : (repeats : Bool) (seen : Seen) (name : List ℕ) → NodeKeeps B repeats seen name → NodeKeeps A repeats seen name
+  node_fewer repeats seen name k = record { short = λ a. k.short (to NameTooLong a); once = λ a. k.once (to TwiceInList a); few = λ a. k.few (to TooManyNodes a) }
+
+  nodes_fewer : (repeats : Bool) (seen : Seen) (names : List (List ℕ)) → NodesKeep B repeats seen names → NodesKeep A repeats seen names
+  nodes_fewer repeats seen names k = all_to with_node (λ _. NodeKeeps B repeats) (λ _. NodeKeeps A repeats) (λ _. node_fewer repeats) [] seen names k
+
+  groups_fewer : (seen : Seen) (groups : List (List (List ℕ))) → GroupsKeep B seen groups → GroupsKeep A seen groups
+  groups_fewer seen groups k = all_to with_nodes (λ _. NodesKeep B false) (λ _. NodesKeep A false) (λ _. nodes_fewer false) [] seen groups k
+
+  app_fewer : (before : List App) (seen : Seen) (app : App) → AppKeeps B before seen app → AppKeeps A before seen app
+  app_fewer before seen app k = record { short = λ a. k.short (to NameTooLong a); once = λ a. k.once (to TwiceApp a); few = λ a. k.few (to TooManyApps a); nodes = groups_fewer (listing seen) app.groups k.nodes }
+
+  value_fewer : (seen : Seen) (p : Param) → ValueKeeps B seen p → ValueKeeps A seen p
+  value_fewer seen (Distributed apps) k = all_to with_app (AppKeeps B) (AppKeeps A) app_fewer [] seen apps k
+  value_fewer seen (Permissions permissions) k = all_to with_permission (PermissionKeeps B) (PermissionKeeps A) (λ before seen x short a. short (to NameTooLong a)) [] seen permissions k
+  value_fewer seen (Mandatory names) k = nodes_fewer true seen names k
+  value_fewer seen (Optional names) k = nodes_fewer true seen names k
+  value_fewer seen (Timeout wait) k = tt
+  value_fewer seen Param.Other k = tt
+
+  param_fewer : (before : List Param) (seen : Seen) (p : Param) → ParamKeeps B before seen p → ParamKeeps A before seen p
+  param_fewer before seen p k = record { once = λ a. k.once (to BadShape a); value = value_fewer seen p k.value }
+
+  section_fewer : (before : List Section) (seen : Seen) (x : Section) → SectionKeeps B before seen x → SectionKeeps A before seen x
+  section_fewer before seen (Kernel params) k = record { once = λ a. k.once (to BadShape a); params = all_to with_param (ParamKeeps B) (ParamKeeps A) param_fewer [] seen params k.params }
+  section_fewer before seen Section.Other k = tt
+
+  pub keeps_fewer : (sections : List Section) → Keeps B sections → Keeps A sections
+  keeps_fewer sections k = all_to with_section (SectionKeeps B) (SectionKeeps A) section_fewer [] nothing sections k
