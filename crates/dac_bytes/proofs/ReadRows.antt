@@ -13,7 +13,7 @@ use Rattle.dac_dots.specs.Dots.{Dots, origin_cmp, origins_total, exact_origins}
 use Rattle.dac_dots.specs.declared.dot.Origin.{Origin}
 use Rattle.dac_dots.specs.RowSets.{rises_to, kept_are, dots_back}
 use Rattle.dac_dots.proofs.PlaceLemmas.{none_in}
-use Rattle.dac_dots.specs.Rows.{Row, rows_of, dots_in, origins, rises_on, HasSome, IsBelow, CanFollow}
+use Rattle.dac_dots.specs.Rows.{Row, rows_of, dots_in, origins, rises_on, HasSome, EndBefore, CanFollow}
 use Rattle.dac_bytes.specs.declared.fault.ReadFaultKind.TheVariants.{BadOrder, BadNumber}
 use Rattle.dac_bytes.specs.Reading.{Rest, Field, Gives, ◌>>=◌, fault, rows_at, context_at, is_above, number_at, range_at, counter_at, origin_at, origin_above_at, items_at, further_at, further_count_at, row_at}
 use Rattle.dac_bytes.specs.declared.fault.ReadFault.{ReadFault}
@@ -81,7 +81,7 @@ IsLast (Some o) rows = (x : Origin) → has_key origin_cmp (origins rows) x ≡ 
 pub can_follow : (before : Option Origin) (rows : List Row) (row : Row) → IsLast before rows → CanCome before row → CanFollow rows row
 can_follow before rows row last can = record { above = above before last can.above; rising = rises_to (row.upto + 1) row.further can.rises; some = can.some }
   where
-    above : (before : Option Origin) → IsLast before rows → is_above origin_cmp before row.origin ≡ true → IsBelow rows row.origin
+    above : (before : Option Origin) → IsLast before rows → is_above origin_cmp before row.origin ≡ true → EndBefore rows row.origin
     above None last e x h = absurd (false≢true (ap (λ (rows : List Row). has_key origin_cmp (origins rows) x) (sym last) ∙ h))
     above (Some o) last e x h = elim (last x h) [
       | inl is ↦ ap (λ z. origin_cmp z row.origin) is ∙ less _ e
@@ -91,7 +91,7 @@ can_follow before rows row last can = record { above = above before last can.abo
 pub last_more : (rows : List Row) (row : Row) → CanFollow rows row → IsLast (Some row.origin) (rows ++ row ∷ [])
 last_more rows row can x h = has_last rows can.above x h
   where
-    has_last : (rows : List Row) → IsBelow rows row.origin → (x : Origin) → has_key origin_cmp (origins (rows ++ row ∷ [])) x ≡ true → (x ≡ row.origin) ⊎ (origin_cmp x row.origin ≡ Less)
+    has_last : (rows : List Row) → EndBefore rows row.origin → (x : Origin) → has_key origin_cmp (origins (rows ++ row ∷ [])) x ≡ true → (x ≡ row.origin) ⊎ (origin_cmp x row.origin ≡ Less)
     has_last [] below x h = elim (or_cases (eq_by_cmp origin_cmp x row.origin) false h) [ inl at ↦ inl (exact_origins x row.origin (tie _ at)) | inr none ↦ absurd (false≢true none) ]
     has_last (y ∷ rows) below x h = elim (or_cases (eq_by_cmp origin_cmp x y.origin) (has_key origin_cmp (origins (rows ++ row ∷ [])) x) h) [
       | inl at ↦ inr (below x (or_left _ _ at))

@@ -25,7 +25,7 @@ use Rattle.dac_config.specs.Table.{Table, app_count}
 use Rattle.dac_placement.specs.Placement.{runner_of}
 use Rattle.dac_events.specs.declared.Command.{Command}
 use Rattle.dac_events.specs.declared.Command.TheVariants.{Down, Permit, Start, Stop, Takeover}
-use Rattle.dac_commands.specs.Commands.{KnowsItself, standing_starts, standing_permits, greatest_counter, next_term, claim_act, next_operation, live_or_none, key_at, act_of}
+use Rattle.dac_commands.specs.Commands.{KnowsItself, standing_starts, standing_permits, greatest_counter, next_term, claim_act, next_operation, live_or_none, live_key, act_of}
 use Rattle.dac_commands.specs.Causes.{refusal_of_command, too_many, terms_used_up, used_up}
 use Rattle.dac_commands.specs.laws.Written.{none_is, all_causes}
 use Rattle.dac_commands.specs.laws.Counters.{counter-greatest, next_none, next-is}
@@ -47,17 +47,17 @@ may_declare t own s node e =
     let none = none_is (all_causes t own s (Down node)) e in
     record { other = none.1.1.0; left = none.1.1.1.1.0 }
 
-may_permit : (t : Table) (own : Origin) (s : StateValue) (app : AppId) (node : NodeId) (value : Bool) → refusal_of_command t own s (Permit app node value) ≡ None → MayIssue own s (standing_permits s (key_at s app node))
+may_permit : (t : Table) (own : Origin) (s : StateValue) (app : AppId) (node : NodeId) (value : Bool) → refusal_of_command t own s (Permit app node value) ≡ None → MayIssue own s (standing_permits s (live_key s app node))
 may_permit t own s app node value e =
     let none = none_is (all_causes t own s (Permit app node value)) e in
     record { few = none.1.1.1.1.1.0; left = none.1.1.1.1.1.1.0 }
 
-may_start : (t : Table) (own : Origin) (s : StateValue) (app : AppId) (node : NodeId) → refusal_of_command t own s (Start app node) ≡ None → MayIssue own s (standing_starts s (key_at s app node))
+may_start : (t : Table) (own : Origin) (s : StateValue) (app : AppId) (node : NodeId) → refusal_of_command t own s (Start app node) ≡ None → MayIssue own s (standing_starts s (live_key s app node))
 may_start t own s app node e =
     let none = none_is (all_causes t own s (Start app node)) e in
     record { few = none.1.1.1.1.1.0; left = none.1.1.1.1.1.1.0 }
 
-may_stop : (t : Table) (own : Origin) (s : StateValue) (app : AppId) (node : NodeId) → refusal_of_command t own s (Stop app node) ≡ None → MayIssue own s (standing_starts s (key_at s app node))
+may_stop : (t : Table) (own : Origin) (s : StateValue) (app : AppId) (node : NodeId) → refusal_of_command t own s (Stop app node) ≡ None → MayIssue own s (standing_starts s (live_key s app node))
 may_stop t own s app node e =
     let none = none_is (all_causes t own s (Stop app node)) e in
     record { few = none.1.1.1.1.1.1.0; left = none.1.1.1.1.1.1.1.0 }
@@ -139,15 +139,15 @@ issues t own s (Down node) is knows e =
     let may = may_declare t own s node e in
     record { left = may.left; sound = fault_none (next_of own s) (Downs node (live_or_none s node)) refl refl (next_later own s knows) may.other }
 issues t own s (Permit app node value) is knows e =
-    let key = key_at s app node in
+    let key = live_key s app node in
     let may = may_permit t own s app node value e in
     record { left = may.left; sound = fault_none (next_of own s) (Permits key value (standing_permits s key)) (permits_apart own s key is) (good_over own s _ (permits_at-rising key s.permits) may) (next_later own s knows) refl }
 issues t own s (Start app node) is knows e =
-    let key = key_at s app node in
+    let key = live_key s app node in
     let may = may_start t own s app node e in
     record { left = may.left; sound = fault_none (next_of own s) (Starts key (standing_starts s key)) (starts_apart own s key is) (good_over own s _ (starts_rising s key) may) (next_later own s knows) refl }
 issues t own s (Stop app node) is knows e =
-    let key = key_at s app node in
+    let key = live_key s app node in
     let may = may_stop t own s app node e in
     record { left = may.left; sound = fault_none (next_of own s) (Stops key (standing_starts s key)) (starts_apart own s key is) (good_over own s _ (starts_rising s key) may) (next_later own s knows) refl }
 issues t own s (Takeover app) is knows e =

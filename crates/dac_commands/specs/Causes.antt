@@ -14,7 +14,7 @@ use Rattle.dac_events.specs.declared.Command.{Command}
 use Rattle.dac_events.specs.declared.Command.TheVariants.{Down, Permit, Start, Stop, Takeover}
 use Rattle.dac_commands.specs.declared.refusal.Refusal.{Refusal}
 use Rattle.dac_commands.specs.declared.refusal.Refusal.TheVariants.{DeclaredDown, UnknownApp, UnknownNode, OnSelf, NotInList, NotLive, NotStarted, NotEligible, NotRunning, AlreadyHolder, LowerPriority, TooManyDots, TermsUsedUp, DotsUsedUp}
-use Rattle.dac_commands.specs.Commands.{live, key_at, standing_starts, standing_permits, greatest_counter, next_term}
+use Rattle.dac_commands.specs.Commands.{live, live_key, standing_starts, standing_permits, greatest_counter, next_term}
 
 -- the first of these causes that holds
 abbrev pub first : List (Bool × Refusal) → Option Refusal
@@ -67,7 +67,7 @@ causes_to_issue own s count = (too_many count, TooManyDots) ∷ (used_up s own, 
 
 -- why nothing is said of whether an application may run at a node
 abbrev pub causes_to_permit : Table → Origin → StateValue → AppId → NodeId → List (Bool × Refusal)
-causes_to_permit t own s app node = causes_to_name t s app node ++ causes_to_issue own s (length (standing_permits s (key_at s app node)))
+causes_to_permit t own s app node = causes_to_name t s app node ++ causes_to_issue own s (length (standing_permits s (live_key s app node)))
 
 -- why no claim is issued
 abbrev pub causes_to_claim : Origin → StateValue → AppId → List (Bool × Refusal)
@@ -83,9 +83,9 @@ causes_to_take t own s app =
 abbrev pub causes_of : Table → Origin → StateValue → Command → List (Bool × Refusal)
 causes_of t own s (Down node) = (no_node t node, UnknownNode) ∷ (nat_eq node.0 own.node.0, OnSelf) ∷ (not_live s node, NotLive) ∷ (used_up s own, DotsUsedUp) ∷ []
 causes_of t own s (Permit app node value) = causes_to_permit t own s app node
-causes_of t own s (Start app node) = causes_to_name t s app node ++ causes_to_issue own s (length (standing_starts s (key_at s app node)))
+causes_of t own s (Start app node) = causes_to_name t s app node ++ causes_to_issue own s (length (standing_starts s (live_key s app node)))
 causes_of t own s (Stop app node) =
-    let key = key_at s app node in
+    let key = live_key s app node in
     causes_to_name t s app node ++ (not_wished s key, NotStarted) ∷ causes_to_issue own s (length (standing_starts s key))
 causes_of t own s (Takeover app) = causes_to_take t own s app
 

@@ -41,8 +41,8 @@ abbrev pub live_or_none : StateValue → NodeId → ℕ
 live_or_none s node = unwrap_or (live s node) 0
 
 -- an application at the live incarnation of a node
-abbrev pub key_at : StateValue → AppId → NodeId → Key
-key_at s app node = record { app = app; node = node; inc = live_or_none s node }
+abbrev pub live_key : StateValue → AppId → NodeId → Key
+live_key s app node = record { app = app; node = node; inc = live_or_none s node }
 
 -- the dots of the start wishes that stand at a key, in rising order
 abbrev pub standing_starts : StateValue → Key → List Dot
@@ -77,7 +77,7 @@ next_operation s own act = operation (dot own (greatest_counter own s.known + 1)
 -- The others replace exactly what stands of their kind at the key.
 abbrev pub act_of : Table → StateValue → Command → Act
 act_of t s (Down node) = Downs node (live_or_none s node)
-act_of t s (Permit app node value) = let key = key_at s app node in Permits key value (standing_permits s key)
-act_of t s (Start app node) = let key = key_at s app node in Starts key (standing_starts s key)
-act_of t s (Stop app node) = let key = key_at s app node in Stops key (standing_starts s key)
+act_of t s (Permit app node value) = let key = live_key s app node in Permits key value (standing_permits s key)
+act_of t s (Start app node) = let key = live_key s app node in Starts key (standing_starts s key)
+act_of t s (Stop app node) = let key = live_key s app node in Stops key (standing_starts s key)
 act_of t s (Takeover app) = claim_act s app TakenOver (runner_of t s app)

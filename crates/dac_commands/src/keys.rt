@@ -1,7 +1,7 @@
 //! An application at a node: its key at the live incarnation, and why it isn't taken up.
 
 ghost use Rattle.std.specs.Prelude.{◌≡◌};
-ghost use Rattle.dac_commands.specs.Commands.{live_or_none, key_at};
+ghost use Rattle.dac_commands.specs.Commands.{live_or_none, live_key};
 ghost use Rattle.dac_commands.specs.Causes.{first, causes_to_name};
 
 use crate::refusal::Refusal;
@@ -18,7 +18,7 @@ pub(crate) fn live_of(state: &State, node: NodeId) -> u32
 
 /// An application at the live incarnation of a node.
 pub(crate) fn key_of(state: &State, app: AppId, node: NodeId) -> Key
-    ensures { result ≡ key_at state.now app node }
+    ensures { result ≡ live_key state.now app node }
 {
     Key {
         app,

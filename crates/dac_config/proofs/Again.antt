@@ -21,7 +21,7 @@ use Rattle.dac_shapes.specs.Within.{joined, names_of_app, names_of_param, names_
 use Rattle.dac_config.specs.Table.{NodeRow, AppRow, Table}
 use Rattle.dac_config.specs.Canonical.{canonical_text}
 use Rattle.dac_config.specs.Numbering.{name_cmp, numbers_from, numbered_node, numbered_nodes, permitted, numbered_app, numbered, in_byte_order}
-use Rattle.dac_config.specs.Says.{IsGroup, IsPermitted, IsApp, IsTableOf, IsConfigOf, IsSaid, By}
+use Rattle.dac_config.specs.Says.{IsGroup, IsDefaultPermission, IsApp, IsTableOf, IsConfigOf, IsSaid, By}
 use Rattle.dac_config.proofs.Names.{Within, first_among, later_among, among_append, among_all, all_among, named_in, among_named, all_parts, all_joined, joined_all, all_mapped, among_firsts, few_firsts, Differ, differ_joined, same_name}
 use Rattle.dac_config.proofs.SaysLemmas.{group_numbered, permission_found, names_numbered, sorted_rising, sorted_names, numbered_says, table_same}
 use Rattle.dac_config.proofs.Writes.{CanSpellGroup, CanSpellApp, CanSpell, name_at, written_app, ban, written_bans, wait_params, params_of, file_written}
@@ -299,7 +299,7 @@ module _ (w : Written) (know : Known w) where
       let bans = written_bans (numbered w).apps in
       let same : permitted bans app.name ≡ permitted w.permissions app.name =
       bans_say w.permissions (numbered_nodes w) w.apps app.name ∙ ap (λ b. permitted w.permissions app.name || not b) here ∙ or-false (permitted w.permissions app.name) in (
-        record { name = refl; timeout = refl; groups = groups_again app.groups; permission = subst (IsPermitted bans app.name) same (permission_found bans app.name) },
+        record { name = refl; timeout = refl; groups = groups_again app.groups; permission = subst (IsDefaultPermission bans app.name) same (permission_found bans app.name) },
         apps_again apps (λ name h. inside name (later_among name app.name (map (λ a. a.name) apps) h)),
       )
 

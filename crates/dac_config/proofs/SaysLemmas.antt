@@ -17,7 +17,7 @@ use Rattle.dac_shapes.specs.Written.{App, Permission, Written}
 use Rattle.dac_shapes.specs.Limits.{is_among}
 use Rattle.dac_config.specs.Table.{NodeRow, AppRow, Table}
 use Rattle.dac_config.specs.Numbering.{name_cmp, in_byte_order, numbers_from, numbered_node, numbered_nodes, permitted, numbered_app, numbered}
-use Rattle.dac_config.specs.Says.{is_named, IsGroup, IsUnmentioned, IsPermitted, IsApp, IsTableOf}
+use Rattle.dac_config.specs.Says.{is_named, IsGroup, IsUnmentioned, IsDefaultPermission, IsApp, IsTableOf}
 use Rattle.dac_config.proofs.Names.{itself, same_name}
 use Rattle.dac_config.proofs.Rising.{rising_all, any_all, same_rising}
 
@@ -83,14 +83,14 @@ zip_map P f each [] = tt
 zip_map P f each (x ∷ xs) = (each x, zip_map P f each xs)
 
 -- the first permission of a name, if there is one
-pub permission_found : (permissions : List Permission) (name : List ℕ) → IsPermitted permissions name (permitted permissions name)
+pub permission_found : (permissions : List Permission) (name : List ℕ) → IsDefaultPermission permissions name (permitted permissions name)
 permission_found [] name = inr (refl, refl)
-permission_found (p ∷ ps) name = elim (bytes_eq p.name name) as (λ b. bytes_eq p.name name ≡ b → IsPermitted (p ∷ ps) name (cond b p.value (permitted ps name))) [
+permission_found (p ∷ ps) name = elim (bytes_eq p.name name) as (λ b. bytes_eq p.name name ≡ b → IsDefaultPermission (p ∷ ps) name (cond b p.value (permitted ps name))) [
   | true ↦ λ h. inl ([], ps, (λ i. record { name = same_name p.name name h i; value = p.value } ∷ ps), refl)
   | false ↦ λ h. behind h (permission_found ps name)
 ] refl
   where
-    behind : bytes_eq p.name name ≡ false → IsPermitted ps name (permitted ps name) → IsPermitted (p ∷ ps) name (permitted ps name)
+    behind : bytes_eq p.name name ≡ false → IsDefaultPermission ps name (permitted ps name) → IsDefaultPermission (p ∷ ps) name (permitted ps name)
     behind h (inl found) = inl (p ∷ found.0, found.1, ap (λ l. p ∷ l) found.2, rw h found.3)
     behind h (inr none) = inr (rw h none.0, none.1)
 
@@ -152,7 +152,7 @@ permission_default (p ∷ ps) name none = elim (bytes_eq p.name name) as (λ b. 
   | false ↦ λ h. permission_default ps name h
 ] none
 
-permission_same : (permissions : List Permission) (name : List ℕ) (value : Bool) → IsPermitted permissions name value → value ≡ permitted permissions name
+permission_same : (permissions : List Permission) (name : List ℕ) (value : Bool) → IsDefaultPermission permissions name value → value ≡ permitted permissions name
 permission_same permissions name value (inl found) = sym (ap (λ ps. permitted ps name) found.2 ∙ permission_first found.0 found.1 name value found.3)
 permission_same permissions name value (inr none) = none.1 ∙ sym (permission_default permissions name none.0)
 

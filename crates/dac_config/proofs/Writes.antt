@@ -13,10 +13,10 @@ use Rattle.dac_tokens.specs.TokenGrammar.{IsQuotable, IsDigits, AreTokensOf}
 use Rattle.dac_shapes.specs.declared.draft.SyncWait.{SyncWait}
 use Rattle.dac_shapes.specs.declared.draft.SyncWait.TheVariants.{NoSync, Forever, Ms}
 use Rattle.dac_shapes.specs.Written.{App, Permission, Param, Distributed, Permissions, Mandatory, Optional, Timeout, Kernel}
-use Rattle.dac_shapes.specs.Shape.{value_from}
+use Rattle.dac_tokens.specs.Digits.{value_from}
 use Rattle.dac_shapes.specs.Grammar.{Parted, between, IsListOf, IsPair, IsNode, IsItem, IsMs, IsAppValue, IsApp, IsPermission, IsParam, IsFile}
 use Rattle.dac_config.specs.Table.{NodeRow, AppRow, Table}
-use Rattle.dac_config.specs.Canonical.{name_text, parted_behind, parted, list_text, pair_text, node_text, group_text, app_text, ban_text, wait_texts, param_texts, canonical_text}
+use Rattle.dac_config.specs.Canonical.{name_text, parted_behind, parted, list_text, pair_text, node_name_text, group_text, app_text, ban_text, wait_texts, param_texts, canonical_text}
 use Rattle.dac_config.proofs.Words.{BeginsApart, Stand, bare_quotable, spelled_words, located, words_located, words_read}
 
 -- ---- what can be written
@@ -194,7 +194,7 @@ group_writes : (nodes : List NodeRow) (numbers : List ℕ) → CanSpellGroup (ma
 group_writes nodes [] can = absurd (omega (arith, can.some))
 group_writes nodes (n ∷ []) can = let w = name_writes 1 (name_at nodes n) can.names.0 in shaped w (λ words. IsItem words (name_at nodes n ∷ [])) (inl (name_at nodes n, w.is, refl))
 group_writes nodes (n ∷ m ∷ numbers) can =
-    let w = tuple_writes (parted_writes 0 IsNode (name_at nodes) (node_text nodes) (All IsQuotable) (λ k quotable. name_writes 0 (name_at nodes k) quotable) (n ∷ m ∷ numbers) can.names (omega arith)) in
+    let w = tuple_writes (parted_writes 0 IsNode (name_at nodes) (node_name_text nodes) (All IsQuotable) (λ k quotable. name_writes 0 (name_at nodes k) quotable) (n ∷ m ∷ numbers) can.names (omega arith)) in
     shaped w (λ words. IsItem words (map (name_at nodes) (n ∷ m ∷ numbers))) (inr w.is)
 
 app_writes : (nodes : List NodeRow) (row : AppRow) → CanSpellApp (written_app nodes row) → Writes 3 (λ words. IsApp words (written_app nodes row)) (app_text nodes row)

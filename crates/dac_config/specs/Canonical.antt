@@ -49,13 +49,13 @@ pair_text name value = codes "{" ++ (name ++ (codes "," ++ (value ++ codes "}"))
 -- ---- the parts of a configuration
 
 -- the name of the node with this number
-abbrev pub node_text : List NodeRow → ℕ → List ℕ
-node_text nodes number = name_text (unwrap_or (option_map (λ node. node.name) (slice_get nodes number)) [])
+abbrev pub node_name_text : List NodeRow → ℕ → List ℕ
+node_name_text nodes number = name_text (unwrap_or (option_map (λ node. node.name) (slice_get nodes number)) [])
 
 -- a group: one node by itself, any more as a tuple
 abbrev pub group_text : List NodeRow → List ℕ → List ℕ
-group_text nodes (number ∷ []) = node_text nodes number
-group_text nodes numbers = tuple_text (map (node_text nodes) numbers)
+group_text nodes (number ∷ []) = node_name_text nodes number
+group_text nodes numbers = tuple_text (map (node_name_text nodes) numbers)
 
 -- an application with its timeout and its groups
 abbrev pub app_text : List NodeRow → AppRow → List ℕ

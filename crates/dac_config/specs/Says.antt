@@ -26,8 +26,8 @@ abbrev pub IsUnmentioned : List Permission → List ℕ → Type 0
 IsUnmentioned permissions name = is_among name (map (λ p. p.name) permissions) ≡ false
 
 -- this is what the first permission of the name says; with none, that the application is permitted
-abbrev pub IsPermitted : List Permission → List ℕ → Bool → Type 0
-IsPermitted permissions name value =
+abbrev pub IsDefaultPermission : List Permission → List ℕ → Bool → Type 0
+IsDefaultPermission permissions name value =
     ((before after : List Permission) × (permissions ≡ before ++ record { name = name; value = value } ∷ after) × IsUnmentioned before name)
     ⊎ (IsUnmentioned permissions name × (value ≡ true))
 
@@ -36,7 +36,7 @@ pub record IsApp (permissions : List Permission) (nodes : List NodeRow) (app : A
   pub name : row.name ≡ app.name
   pub timeout : row.timeout ≡ app.timeout
   pub groups : AllZip (IsGroup nodes) app.groups row.groups
-  pub permission : IsPermitted permissions app.name row.permission
+  pub permission : IsDefaultPermission permissions app.name row.permission
 
 -- The tables say by numbers what is written by names: the nodes are those that are named, in the byte order of
 -- their names, and the applications stand in the order of the text.

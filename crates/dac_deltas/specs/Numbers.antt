@@ -34,16 +34,16 @@ IsGreatest P None = (n : ℕ) → ¬ (P n)
 IsGreatest P (Some g) = P g × ((n : ℕ) → P n → n ≤ g)
 
 -- of each origin, the greatest number that it acknowledged
-abbrev pub AreGreatest : List (Origin × ℕ) → Numbers → Type 0
-AreGreatest rs m = (origin : Origin) → IsGreatest (HasAcknowledged rs origin) (map.get m origin)
+abbrev pub AreGreatestNumbers : List (Origin × ℕ) → Numbers → Type 0
+AreGreatestNumbers rs m = (origin : Origin) → IsGreatest (HasAcknowledged rs origin) (map.get m origin)
 
 -- where nothing was acknowledged, there are no numbers
 abbrev pub NothingIsGreatest : Type 0
-NothingIsGreatest = AreGreatest [] map.empty
+NothingIsGreatest = AreGreatestNumbers [] map.empty
 
 -- to raise a number is to acknowledge one more
 abbrev pub RaisesAcknowledge : Type 0
-RaisesAcknowledge = (rs : List (Origin × ℕ)) (m : Numbers) (origin : Origin) (n : ℕ) → AreGreatest rs m → AreGreatest ((origin, n) ∷ rs) (raised m origin n)
+RaisesAcknowledge = (rs : List (Origin × ℕ)) (m : Numbers) (origin : Origin) (n : ℕ) → AreGreatestNumbers rs m → AreGreatestNumbers ((origin, n) ∷ rs) (raised m origin n)
 
 -- ---- the laws
 pub nothing_is_greatest : NothingIsGreatest

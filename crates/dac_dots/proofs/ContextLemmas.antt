@@ -17,7 +17,7 @@ use Rattle.dac_dots.specs.declared.dot.Origin.{Origin}
 use Rattle.dac_dots.specs.declared.dot.Dot.{Dot}
 use Rattle.dac_dots.specs.CounterLaws.{less as number_less, is_same}
 use Rattle.dac_dots.specs.RowSets.{kept_are, kept_ends, some_counter, alone, IsAlone, rises_to}
-use Rattle.dac_dots.specs.Rows.{Row, dots_in, rows_of, has_counter, row_has, any_row, origins, rises_on, IsKept, HasSome, AreKept, IsLastOf, IsRowIn, IsWithinRow, IsBelow, CanFollow}
+use Rattle.dac_dots.specs.Rows.{Row, dots_in, rows_of, has_counter, row_has, any_row, origins, rises_on, IsKept, HasSome, AreKept, IsLastOf, IsRowIn, IsWithinRow, EndBefore, CanFollow}
 use Rattle.dac_dots.proofs.PlaceLemmas.{contains_is, row_there, some_from, at_origin, length_origins}
 use Rattle.dac_dots.proofs.RowLemmas.{above_low}
 
@@ -249,7 +249,7 @@ module _ (rows s : List Row) (dots : Dots) (view : dots_in rows ≡ dots) (kept 
       list_any_at (eq_by_cmp origin_cmp r.origin) (origins rows) i r.origin (omega (arith, length_origins rows))
       (ap (λ z. eq_by_cmp origin_cmp r.origin z) (at_origin rows i r ∙ ap (λ (row : Row). row.origin) (sym is)) ∙ ap is_eq (tied_itself origins_total r.origin))
 
-  pub below_some : (o : Origin) (r : Row) (b : Bool) → 0 < length s → r ≡ get_or s (length s - 1) r → b ≡ is_lt (origin_cmp r.origin o) → IsTrue b ↔ IsBelow (rows_of dots) o
+  pub below_some : (o : Origin) (r : Row) (b : Bool) → 0 < length s → r ≡ get_or s (length s - 1) r → b ≡ is_lt (origin_cmp r.origin o) → IsTrue b ↔ EndBefore (rows_of dots) o
   below_some o r b some is says =
       let len : length s ≡ length rows = ap (λ (rows : List Row). length rows) same_rows in
       let i = length rows - 1 in
@@ -259,7 +259,7 @@ module _ (rows s : List Row) (dots : Dots) (view : dots_in rows ≡ dots) (kept 
         λ below. says ∙ ap is_lt (below r.origin (ap (λ (rows : List Row). has_key origin_cmp (origins rows) r.origin) are ∙ origin_there i r (omega arith) at)),
       )
 
-  pub below_none : (o : Origin) → length s ≤ 0 → IsBelow (rows_of dots) o
+  pub below_none : (o : Origin) → length s ≤ 0 → EndBefore (rows_of dots) o
   below_none o none x e =
       let are : rows_of dots ≡ rows = rows_are rows dots view kept in
       absurd (false≢true (sym (no_origin rows x (omega (arith, ap (λ (rows : List Row). length rows) same_rows))) ∙ ap (λ (rows : List Row). has_key origin_cmp (origins rows) x) (sym are) ∙ e))

@@ -4,7 +4,7 @@ ghost use Rattle.std.specs.FinSet as set;
 ghost use Rattle.dac_dots.specs.Dots.{Dots, dot_cmp, IsNext, IsSubset, IsUsedUp, IsVector};
 ghost use Rattle.dac_dots.specs.InOrder.{in_order};
 ghost use Rattle.dac_dots.specs.Keys.{IsRising};
-ghost use Rattle.dac_dots.specs.Rows.{AreRowsOf, CanFollow, HasSome, IsBelow, IsKept, IsRowIn, row_has, rows_of};
+ghost use Rattle.dac_dots.specs.Rows.{AreRowsOf, CanFollow, HasSome, EndBefore, IsKept, IsRowIn, row_has, rows_of};
 ghost use Rattle.dac_dots.specs.declared.dot.Dot.{Dot};
 
 use crate::dot::{Dot, Origin};
@@ -233,7 +233,7 @@ impl Context {
 
     /// Whether the origin is above all that have dots.
     fn is_below(&self, origin: Origin) -> bool
-        ensures { IsTrue result ↔ IsBelow (rows_of self.now) origin }
+        ensures { IsTrue result ↔ EndBefore (rows_of self.now) origin }
     {
         match self.rows.last() {
             Some(row) => row.origin.cmp(&origin).is_lt(),

@@ -10,7 +10,8 @@ use Rattle.dac_tokens.specs.Words.{Word, Mark, Name, Number, Text, End, Located}
 use Rattle.dac_shapes.specs.declared.draft.SyncWait.TheVariants.{Forever, Ms}
 use Rattle.dac_shapes.specs.Written.{App, Permission}
 use Rattle.dac_shapes.specs.Limits.{is_among, with_node, listing}
-use Rattle.dac_shapes.specs.Shape.{State, fails, is_mark, token, symbol_at, atom_of, short_name_of, value_from, timeout_of, wait_of, flag_of, app_name_of, node_of, names_at, item_at, items_at, groups_at, timeout_at, app_value_at, app_at, permission_value_at, permission_at, closed, room}
+use Rattle.dac_tokens.specs.Digits.{value_from}
+use Rattle.dac_shapes.specs.Shape.{State, fails, is_mark, token, symbol_at, atom_of, short_name_of, milliseconds_of, wait_of, flag_of, app_name_of, node_of, names_at, item_at, items_at, groups_at, timeout_at, app_value_at, app_at, permission_value_at, permission_at, closed, room}
 use Rattle.dac_shapes.specs.Grammar.{Parted, IsNode, IsItem, IsNodeList, IsMs, IsTimeout, IsAppValue, IsApp, IsFlag, IsPermission, IsWait}
 use Rattle.dac_shapes.specs.laws.Names.{is_named}
 use Rattle.dac_first_fault.proofs.Steps.{mark_is}
@@ -76,7 +77,7 @@ not_less true true v e f z = z refl
 not_less true false v e f z = absurd cc
 not_less false d v e f z = absurd cc
 
-pub ms_looks : (place : ℕ) (negative : Bool) (digits : List ℕ) → Looks (IsMs (Number negative digits)) (timeout_of place negative (value_from 0 digits))
+pub ms_looks : (place : ℕ) (negative : Bool) (digits : List ℕ) → Looks (IsMs (Number negative digits)) (milliseconds_of place negative (value_from 0 digits))
 ms_looks place negative digits =
     let v = value_from 0 digits in
     looks_if (IsMs (Number negative digits)) (negative && not (eqb v 0)) (fails BadShape place) (cond (ltb v 4294967296) (Ok v) (fails NumberTooLarge place)) (λ below h. h)
@@ -85,7 +86,7 @@ ms_looks place negative digits =
 wait_by : (w : Word) (place : ℕ) → Looks (λ wait. IsWait (w ∷ []) wait) (wait_of (record { word = w; at = place }))
 unfolding wait_of
 wait_by (Number negative digits) place =
-    looks_then (IsMs (Number negative digits)) (λ wait. IsWait (Number negative digits ∷ []) wait) (timeout_of place negative (value_from 0 digits)) (λ n. Ok (Ms n)) (ms_looks place negative digits) (λ n is. (Number negative digits, refl, is))
+    looks_then (IsMs (Number negative digits)) (λ wait. IsWait (Number negative digits ∷ []) wait) (milliseconds_of place negative (value_from 0 digits)) (λ n. Ok (Ms n)) (ms_looks place negative digits) (λ n is. (Number negative digits, refl, is))
 wait_by (Name name) place =
     looks_if (λ wait. IsWait (Name name ∷ []) wait) (bytes_eq name (codes "infinity")) (Ok Forever) (fails BadShape place) (λ is. ap (λ (n : List ℕ). Name n ∷ []) (is_named name (codes "infinity") is)) (λ other h. h)
 wait_by (Mark symbol) place = λ h. h
@@ -180,7 +181,7 @@ Time own x = IsTimeout own x.0
 timeout_by : (w : Word) (place : ℕ) (s : State) → IsShort s → Sees by_timeout Time (w ∷ words_in s) (timeout_at (record { word = w; at = place }) s)
 unfolding timeout_at
 timeout_by (Number negative digits) place s short =
-    look_then (IsMs w) by_timeout Time (w ∷ words_in s) (timeout_of place negative (value_from 0 digits)) (λ n. symbol_at Comma s >>= λ comma. token comma >>= λ next. Ok (n, next.0, next.1)) (ms_looks place negative digits)
+    look_then (IsMs w) by_timeout Time (w ∷ words_in s) (milliseconds_of place negative (value_from 0 digits)) (λ n. symbol_at Comma s >>= λ comma. token comma >>= λ next. Ok (n, next.0, next.1)) (ms_looks place negative digits)
     (λ n is. shifted by_timeout Time (w ∷ []) (words_in s) (symbol_at Comma s >>= λ comma. token comma >>= λ next. Ok (n, next.0, next.1))
     (symbol_then by_timeout (λ vs x. IsTimeout (w ∷ vs) x.0) Comma s (λ comma. token comma >>= λ next. Ok (n, next.0, next.1)) short (done n is)
     (λ u short. token_then by_timeout (λ vs x. IsTimeout (w ∷ Mark Comma ∷ vs) x.0) u (λ next. Ok (n, next.0, next.1)) short (done n is) (λ t v short. record { own = []; whole = refl; is = inr (w, refl, is); short = short }))))

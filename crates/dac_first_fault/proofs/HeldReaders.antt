@@ -12,7 +12,8 @@ use Rattle.dac_tokens.specs.Gives.{◌>>=◌}
 use Rattle.dac_tokens.specs.Words.{Word, Mark, Name, Number, Text, End, Located}
 use Rattle.dac_shapes.specs.Written.{App, Permission}
 use Rattle.dac_shapes.specs.Limits.{Seen, nothing, is_among, with_name, with_node, with_nodes, with_groups, listing, with_app, with_permission, AllMay, steps}
-use Rattle.dac_shapes.specs.Shape.{State, fails, is_mark, token, symbol_at, atom_of, short_name_of, value_from, timeout_of, flag_of, app_name_of, node_of, names_at, item_at, items_at, groups_at, timeout_at, app_value_at, app_at, permission_value_at, permission_at, closed, room}
+use Rattle.dac_tokens.specs.Digits.{value_from}
+use Rattle.dac_shapes.specs.Shape.{State, fails, is_mark, token, symbol_at, atom_of, short_name_of, milliseconds_of, flag_of, app_name_of, node_of, names_at, item_at, items_at, groups_at, timeout_at, app_value_at, app_at, permission_value_at, permission_at, closed, room}
 use Rattle.dac_shapes.specs.Grammar.{Parted, IsNode, IsItem, IsNodeList, IsMs, IsTimeout, IsAppValue, IsApp, IsFlag, IsPermission}
 use Rattle.dac_shapes.specs.laws.AgainLists.{at}
 use Rattle.dac_shapes.specs.laws.Names.{is_named}
@@ -101,7 +102,7 @@ module _ (bad : ℕ) (Bound : FaultKind → Type 0) where
       one_name : (name wanted : List ℕ) → t.word ≡ Name name → bytes_eq name wanted ≡ true → t.word ∷ [] ≡ Name wanted ∷ []
       one_name name wanted e is = ap (λ (w : Word). w ∷ []) (e ∙ ap Name (is_named name wanted is))
 
-  pub ms_shows : (Q : Type 0) (place : ℕ) (negative : Bool) (digits : List ℕ) → Shows bad Bound Q (IsMs (Number negative digits)) (timeout_of place negative (value_from 0 digits))
+  pub ms_shows : (Q : Type 0) (place : ℕ) (negative : Bool) (digits : List ℕ) → Shows bad Bound Q (IsMs (Number negative digits)) (milliseconds_of place negative (value_from 0 digits))
   ms_shows Q place negative digits =
       let v = value_from 0 digits in
       shows_if bad Bound Q (IsMs (Number negative digits)) (negative && not (eqb v 0)) (fails BadShape place) (cond (ltb v 4294967296) (Ok v) (fails NumberTooLarge place)) (λ below h. absurd h)
@@ -229,7 +230,7 @@ module _ (bad : ℕ) (Bound : FaultKind → Type 0) where
   timeout_held : (w : Word) (place : ℕ) (s : State) → IsOver bad Bound s → Holds bad Bound by_timeout (Time s.seen) (w ∷ words_in s) (timeout_at (record { word = w; at = place }) s)
   unfolding timeout_at
   timeout_held (Number negative digits) place s short =
-      held_look bad Bound (IsMs w) by_timeout (Time s.seen) (w ∷ words_in s) (timeout_of place negative (value_from 0 digits)) (λ n. symbol_at Comma s >>= λ comma. token comma >>= λ next. Ok (n, next.0, next.1)) (ms_shows (Held (Time s.seen) (w ∷ words_in s)) place negative digits)
+      held_look bad Bound (IsMs w) by_timeout (Time s.seen) (w ∷ words_in s) (milliseconds_of place negative (value_from 0 digits)) (λ n. symbol_at Comma s >>= λ comma. token comma >>= λ next. Ok (n, next.0, next.1)) (ms_shows (Held (Time s.seen) (w ∷ words_in s)) place negative digits)
       (λ n is. behind_marks bad Bound by_timeout (Time s.seen) (w ∷ []) (All-cons IsNoName w [] tt (All-nil IsNoName)) (words_in s) (symbol_at Comma s >>= λ comma. token comma >>= λ next. Ok (n, next.0, next.1))
       (symbol_held bad Bound by_timeout (λ vs x. Time s.seen (w ∷ vs) x) Comma s (λ comma. token comma >>= λ next. Ok (n, next.0, next.1)) short
       (λ ts last e. token_held bad Bound by_timeout (λ vs x. Time s.seen (w ∷ Mark Comma ∷ vs) x) (at last ts s.seen) (λ next. Ok (n, next.0, next.1)) e (λ t ts last alone e. record { own = []; whole = refl; is = (inr (w, refl, is), refl); short = e }))))

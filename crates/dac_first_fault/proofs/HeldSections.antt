@@ -13,7 +13,8 @@ use Rattle.dac_shapes.specs.declared.param.ParamName.TheVariants as named
 use Rattle.dac_shapes.specs.declared.draft.SyncWait.TheVariants.{Forever, Ms}
 use Rattle.dac_shapes.specs.Written.{Param, Distributed, Permissions, Mandatory, Optional, Timeout, Section, Kernel, spelled, name_of}
 use Rattle.dac_shapes.specs.Limits.{Seen, nothing, has_param, has_kernel, with_node, with_app, with_permission, with_param, with_section, steps, AllMay}
-use Rattle.dac_shapes.specs.Shape.{State, fails, is_mark, is_text, token, room, atom_of, list_of, app_at, permission_at, node_of, wait_of, timeout_of, value_from, passed_at, terms_at, terms_in, texts_at, term_by, term_at, param_named, first_param, param_name_of, param_value_at, param_rest_at, param_at, names_kernel, kernel_at, section_rest_at, section_at, pair_at, closed}
+use Rattle.dac_tokens.specs.Digits.{value_from}
+use Rattle.dac_shapes.specs.Shape.{State, fails, is_mark, is_text, token, room, atom_of, list_of, app_at, permission_at, node_of, wait_of, milliseconds_of, passed_at, terms_at, terms_in, texts_at, term_by, term_at, param_named, first_param, param_name_of, param_value_at, param_rest_at, param_at, names_kernel, kernel_at, section_rest_at, section_at, pair_at, closed}
 use Rattle.dac_shapes.specs.Grammar.{IsListOf, IsNode, IsApp, IsPermission, IsMs, IsWait, IsParam, IsSection}
 use Rattle.dac_shapes.specs.laws.AgainLists.{at}
 use Rattle.dac_shapes.specs.laws.Names.{is_named, param_is, same_seen}
@@ -137,7 +138,7 @@ module _ (bad : ℕ) (Bound : FaultKind → Type 0) where
   wait_by : (Q : Type 0) (w : Word) (place : ℕ) → Shows bad Bound Q (λ wait. IsWait (w ∷ []) wait) (wait_of (record { word = w; at = place }))
   unfolding wait_of
   wait_by Q (Number negative digits) place =
-      shows_then bad Bound Q (IsMs (Number negative digits)) (λ wait. IsWait (Number negative digits ∷ []) wait) (timeout_of place negative (value_from 0 digits)) (λ n. Ok (Ms n)) (ms_shows bad Bound Q place negative digits) (λ n is. (Number negative digits, refl, is))
+      shows_then bad Bound Q (IsMs (Number negative digits)) (λ wait. IsWait (Number negative digits ∷ []) wait) (milliseconds_of place negative (value_from 0 digits)) (λ n. Ok (Ms n)) (ms_shows bad Bound Q place negative digits) (λ n is. (Number negative digits, refl, is))
   wait_by Q (Name name) place =
       shows_if bad Bound Q (λ wait. IsWait (Name name ∷ []) wait) (bytes_eq name (codes "infinity")) (Ok Forever) (fails BadShape place) (λ is. ap (λ (n : List ℕ). Name n ∷ []) (is_named name (codes "infinity") is)) (λ other h. absurd h)
   wait_by Q (Mark symbol) place = λ h. absurd h

@@ -9,7 +9,8 @@ use Rattle.dac_tokens.specs.Gives.{◌>>=◌}
 use Rattle.dac_tokens.specs.Words.{Word, Mark, Name, Number, Located}
 use Rattle.dac_shapes.specs.Written.{App, Permission}
 use Rattle.dac_shapes.specs.Limits.{Seen, is_among, with_node, with_nodes, with_groups, listing, with_app}
-use Rattle.dac_shapes.specs.Shape.{State, fails, is_mark, atom_of, short_name_of, node_of, names_at, item_at, items_at, groups_at, timeout_of, timeout_at, value_from, app_name_of, app_value_at, app_at, flag_of, permission_value_at, permission_at, closed}
+use Rattle.dac_tokens.specs.Digits.{value_from}
+use Rattle.dac_shapes.specs.Shape.{State, fails, is_mark, atom_of, short_name_of, node_of, names_at, item_at, items_at, groups_at, milliseconds_of, timeout_at, app_name_of, app_value_at, app_at, flag_of, permission_value_at, permission_at, closed}
 use Rattle.dac_shapes.specs.Grammar.{Parted, IsNode, IsItem, IsNodeList, IsAppValue, IsApp, IsFlag, IsPermission}
 use Rattle.dac_shapes.specs.laws.AgainLists.{words_of, cons_is, split, cut, none, Begins, at, symbol_again}
 use Rattle.dac_first_fault.specs.Keeps.{NodeKeeps, NodesKeep, GroupsKeep, AppKeeps, PermissionKeeps}
@@ -21,7 +22,7 @@ pub atom_is : (w : Word) (place : ℕ) (name : List ℕ) → w ≡ Name name →
 unfolding atom_of
 atom_is w place name e = rw e refl
 
-pub ms_is : (place : ℕ) (negative : Bool) (v n : ℕ) → n ≡ v → n < 4294967296 → (negative ≡ true → n ≡ 0) → timeout_of place negative v ≡ Ok n
+pub ms_is : (place : ℕ) (negative : Bool) (v n : ℕ) → n ≡ v → n < 4294967296 → (negative ≡ true → n ≡ 0) → milliseconds_of place negative v ≡ Ok n
 ms_is place negative v n e few zero_if =
     let small : ltb v 4294967296 ≡ true = lt-ltb v 4294967296 (omega arith) in
     rw (negative_zero negative v (λ f. sym e ∙ zero_if f), small) (ap (λ (m : ℕ). Ok m) (sym e))
@@ -161,7 +162,7 @@ module _ (last : Result Located ConfigFault) (Bad : ℕ → Type 0) (Kept : Faul
   unfolding timeout_at
   untimed_is w place s e = rw e refl
 
-  timed_is : (place : ℕ) (c f : Located) (ts : List Located) (seen : Seen) (negative : Bool) (digits : List ℕ) (n : ℕ) → timeout_of place negative (value_from 0 digits) ≡ Ok n → c.word ≡ Mark Comma
+  timed_is : (place : ℕ) (c f : Located) (ts : List Located) (seen : Seen) (negative : Bool) (digits : List ℕ) (n : ℕ) → milliseconds_of place negative (value_from 0 digits) ≡ Ok n → c.word ≡ Mark Comma
       → timeout_at (record { word = Number negative digits; at = place }) (at last (c ∷ f ∷ ts) seen) ≡ Ok (n, f, at last ts seen)
   unfolding timeout_at
   timed_is place c f ts seen negative digits n e w = rw (e, symbol_again last Comma c (f ∷ ts) seen refl w) refl

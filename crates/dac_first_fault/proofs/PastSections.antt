@@ -12,7 +12,8 @@ use Rattle.dac_shapes.specs.declared.param.ParamName.{ParamName}
 use Rattle.dac_shapes.specs.declared.param.ParamName.TheVariants as named
 use Rattle.dac_shapes.specs.Written.{App, Permission, Param, Distributed, Permissions, Mandatory, Optional, Timeout, Section, Kernel, spelled}
 use Rattle.dac_shapes.specs.Limits.{Seen, nothing, AllMay, steps, has_param, has_kernel, with_node, with_nodes, with_app, with_apps, with_permission, with_param, with_section}
-use Rattle.dac_shapes.specs.Shape.{State, fails, node_of, wait_of, value_from, app_at, permission_at, param_named, param_name_of, param_value_at, param_rest_at, param_at, names_kernel, kernel_at, section_rest_at, section_at, passed_at, pair_at, closed, list_of}
+use Rattle.dac_tokens.specs.Digits.{value_from}
+use Rattle.dac_shapes.specs.Shape.{State, fails, node_of, wait_of, app_at, permission_at, param_named, param_name_of, param_value_at, param_rest_at, param_at, names_kernel, kernel_at, section_rest_at, section_at, passed_at, pair_at, closed, list_of}
 use Rattle.dac_shapes.specs.Grammar.{IsListOf, IsPair, IsNode, IsApp, IsPermission, IsTerm, IsWait, IsParam, IsSection}
 use Rattle.dac_shapes.specs.laws.Names.{is_named, param_is, same_seen}
 use Rattle.dac_shapes.specs.laws.AgainLists.{words_of, cons_is, cut, none, Begins, at}

@@ -10,7 +10,8 @@ use Rattle.dac_tokens.specs.Words.{Word, Mark, Name, Number, Text, End, Located}
 use Rattle.dac_shapes.specs.declared.draft.SyncWait.TheVariants.{Forever, Ms}
 use Rattle.dac_shapes.specs.Written.{App}
 use Rattle.dac_shapes.specs.Limits.{Seen, is_among, with_node, listing}
-use Rattle.dac_shapes.specs.Shape.{State, fails, is_mark, token, symbol_at, atom_of, short_name_of, value_from, timeout_of, wait_of, flag_of, app_name_of, node_of, names_at, item_at, items_at, groups_at, timeout_at, app_value_at, app_at, permission_value_at, permission_at, closed}
+use Rattle.dac_tokens.specs.Digits.{value_from}
+use Rattle.dac_shapes.specs.Shape.{State, fails, is_mark, token, symbol_at, atom_of, short_name_of, milliseconds_of, wait_of, flag_of, app_name_of, node_of, names_at, item_at, items_at, groups_at, timeout_at, app_value_at, app_at, permission_value_at, permission_at, closed}
 use Rattle.dac_shapes.specs.laws.AgainLists.{at}
 use Rattle.dac_first_fault.specs.FirstFault.{IsShortName, Itself, InList, InTuple}
 use Rattle.dac_first_fault.proofs.Outcomes.{Failed, Asked, further, wants_further, Always, Plain, Reader, Gives, IsReader, Wanting, made}
@@ -84,7 +85,7 @@ not_negative : (negative : Bool) (n : ℕ) → (negative && not (eqb n 0)) ≡ f
 not_negative false n e large = refl
 not_negative true n e large = let nonzero : eqb n 0 ≡ false = ne_eqb n 0 (λ zero_is. absurd (omega arith)) in let both : true ≡ false = sym (ap not nonzero) ∙ e in absurd cc
 
-timeout_here : (place : ℕ) (negative : Bool) (digits : List ℕ) → Here (of (Number negative digits) place) (timeout_of place negative (value_from 0 digits))
+timeout_here : (place : ℕ) (negative : Bool) (digits : List ℕ) → Here (of (Number negative digits) place) (milliseconds_of place negative (value_from 0 digits))
 timeout_here place negative digits =
     let t = of (Number negative digits) place in
     let v = value_from 0 digits in
@@ -94,7 +95,7 @@ timeout_here place negative digits =
 
 wait_here : (w : Word) (place : ℕ) → Here (of w place) (wait_of (of w place))
 unfolding wait_of
-wait_here (Number negative digits) place = here_then (of (Number negative digits) place) (timeout_of place negative (value_from 0 digits)) (λ n. Ok (Ms n)) (timeout_here place negative digits) (λ n is. here_ok (of (Number negative digits) place) (Ms n))
+wait_here (Number negative digits) place = here_then (of (Number negative digits) place) (milliseconds_of place negative (value_from 0 digits)) (λ n. Ok (Ms n)) (timeout_here place negative digits) (λ n is. here_ok (of (Number negative digits) place) (Ms n))
 wait_here (Name name) place = here_if (of (Name name) place) _ _ _ (λ yes. here_ok (of (Name name) place) Forever) (λ other. here_fails (of (Name name) place) BadShape tt)
 wait_here (Mark symbol) place = here_fails (of (Mark symbol) place) BadShape tt
 wait_here Text place = here_fails (of Text place) BadShape tt
@@ -296,9 +297,9 @@ module _ (name : List ℕ) where
   timeout_by s (Ok n) = comma_by n (symbol_at Comma s)
   timeout_by s (Err e) = refl
 
-  timed_number : (place : ℕ) (negative : Bool) (digits : List ℕ) (s : State) → timed (of (Number negative digits) place) s ≡ (timeout_of place negative (value_from 0 digits) >>= λ n. symbol_at Comma s >>= listed n)
+  timed_number : (place : ℕ) (negative : Bool) (digits : List ℕ) (s : State) → timed (of (Number negative digits) place) s ≡ (milliseconds_of place negative (value_from 0 digits) >>= λ n. symbol_at Comma s >>= listed n)
   unfolding timeout_at
-  timed_number place negative digits s = timeout_by s (timeout_of place negative (value_from 0 digits))
+  timed_number place negative digits s = timeout_by s (milliseconds_of place negative (value_from 0 digits))
 
   timed_other : (w : Word) (place : ℕ) (s : State) → ((negative : Bool) (digits : List ℕ) → w ≡ Number negative digits → ⊥) → timed (of w place) s ≡ (groups_at (of w place) s >>= app_with 0)
   unfolding timeout_at
@@ -317,7 +318,7 @@ module _ (name : List ℕ) where
   value_wants : (seen : Seen) → Wanting app_value [] seen
   value_wants seen = wants_token (λ q. timed q.0 q.1) timed_end seen
 
-  number_by : (negative : Bool) (digits : List ℕ) (place : ℕ) (b : List Located) (seen : Seen) (r : Result ℕ ConfigFault) → timeout_of place negative (value_from 0 digits) ≡ r → Gives app_value (of (Number negative digits) place ∷ b) seen
+  number_by : (negative : Bool) (digits : List ℕ) (place : ℕ) (b : List Located) (seen : Seen) (r : Result ℕ ConfigFault) → milliseconds_of place negative (value_from 0 digits) ≡ r → Gives app_value (of (Number negative digits) place ∷ b) seen
   number_by negative digits place b seen (Ok n) e =
       first_goes app_value (of (Number negative digits) place) b seen (λ s. symbol_at Comma s >>= listed n) seen (λ last rest. timed_number place negative digits (at last rest seen) ∙ ap (λ r. r >>= λ n. symbol_at Comma (at last rest seen) >>= listed n) e)
       (symbol_then Comma (listed n) (listed_reader n) b seen)
@@ -329,7 +330,7 @@ module _ (name : List ℕ) where
   other_by w place b seen other = alike Always Always Plain (λ _. app_value) (λ _. listed 0) (of w place) b seen seen (λ i last rest room. (tt, tt, timed_other w place (at last rest seen) other)) (value_wants seen) (listed_reader 0 (of w place ∷ b) seen)
 
   value_by : (w : Word) (place : ℕ) (b : List Located) (seen : Seen) → Gives app_value (of w place ∷ b) seen
-  value_by (Number negative digits) place b seen = number_by negative digits place b seen (timeout_of place negative (value_from 0 digits)) refl
+  value_by (Number negative digits) place b seen = number_by negative digits place b seen (milliseconds_of place negative (value_from 0 digits)) refl
   value_by (Mark symbol) place b seen = other_by (Mark symbol) place b seen (λ negative digits e. absurd cc)
   value_by (Name name') place b seen = other_by (Name name') place b seen (λ negative digits e. absurd cc)
   value_by Text place b seen = other_by Text place b seen (λ negative digits e. absurd cc)

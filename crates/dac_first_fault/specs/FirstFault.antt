@@ -8,7 +8,7 @@ use Rattle.dac_tokens.specs.Words.{Word, Mark, Name, Number, Text, Located}
 use Rattle.dac_tokens.specs.TokenGrammar.{AreTokensOf}
 use Rattle.dac_tokens.specs.TokenFaults.{StopAt}
 use Rattle.dac_shapes.specs.declared.limits.TheConstants.{MAX_NAME, MAX_TEXT}
-use Rattle.dac_shapes.specs.Shape.{value_from}
+use Rattle.dac_tokens.specs.Digits.{value_from}
 use Rattle.dac_shapes.specs.Written.{Section, written}
 use Rattle.dac_shapes.specs.Grammar.{IsFile}
 use Rattle.dac_shapes.specs.Within.{AreWithinLimits, nodes_in}

@@ -7,7 +7,7 @@ use Rattle.dac_lattice.specs.declared.flags.Flag.{Flag}
 use Rattle.dac_lattice.specs.declared.flags.Flag.TheVariants.{Up as IsUp, Down as IsDown}
 use Rattle.dac_wishes.specs.declared.key.Key.{Key}
 use Rattle.dac_wishes.specs.Writes.{write}
-use Rattle.dac_wishes.specs.PermissionsValue.{is_up, NoneStands, SomePermitStands, AllSayTrue}
+use Rattle.dac_wishes.specs.PermissionsValue.{says_true, NoneStands, SomePermitStands, AllSayTrue}
 use Rattle.dac_operations.specs.Operations.{Operation}
 use Rattle.dac_meaning.specs.StateValue.{permissions_of}
 use Rattle.dac_meaning.specs.Meaning.{meaning_of, Agree, Stands}
@@ -24,13 +24,13 @@ wished_have_starts os key = (
 
 module _ (os : List Operation) (agree : Agree os) (key : Key) where
   -- what stands is said by an operation that stands
-  standing_says : (d : Dot) (f : Flag) → map.get (meaning_of os).permits (write key d) ≡ Some f → StandsSaying key (is_up f) os
+  standing_says : (d : Dot) (f : Flag) → map.get (meaning_of os).permits (write key d) ≡ Some f → StandsSaying key (says_true f) os
   standing_says d f h =
       let p = (permits_are_unreplaced os agree (write key d) f).0 h in
       (p.0.0, (p.0.1.0, (p.0.1.1.1, subst (λ d. Stands d os) (sym p.0.1.1.0) p.1)))
 
   -- what an operation says that stands stands
-  says_standing : (f : Flag) (s : StandsSaying key (is_up f) os) → map.get (meaning_of os).permits (write key s.0.dot) ≡ Some f
+  says_standing : (f : Flag) (s : StandsSaying key (says_true f) os) → map.get (meaning_of os).permits (write key s.0.dot) ≡ Some f
   says_standing f s = (permits_are_unreplaced os agree (write key s.0.dot) f).1 ((s.0, (s.1.0, (refl, s.1.1.0))), s.1.1.1)
 
   none_says : NoneStands key (permissions_of (meaning_of os)) → (value : Bool) → ¬ (StandsSaying key value os)
@@ -38,7 +38,7 @@ module _ (os : List Operation) (agree : Agree os) (key : Key) where
   none_says none false s = absurd (false≢true (ap is_some (sym (none s.0.dot) ∙ says_standing IsDown s)))
 
   none_stands : ((value : Bool) → ¬ (StandsSaying key value os)) → NoneStands key (permissions_of (meaning_of os))
-  none_stands none d = nothing (map.get (meaning_of os).permits (write key d)) (λ f h. none (is_up f) (standing_says d f h))
+  none_stands none d = nothing (map.get (meaning_of os).permits (write key d)) (λ f h. none (says_true f) (standing_says d f h))
     where
       nothing : (v : Option Flag) → ((f : Flag) → ¬ (v ≡ Some f)) → v ≡ None
       nothing None h = refl
@@ -46,8 +46,8 @@ module _ (os : List Operation) (agree : Agree os) (key : Key) where
 
   all_say : SomePermitStands key (permissions_of (meaning_of os)) × AllSayTrue key (permissions_of (meaning_of os)) → StandsSaying key true os × ¬ (StandsSaying key false os)
   all_say p = (
-    subst (λ f. StandsSaying key (is_up f) os) (p.1 p.0.0.0 p.0.0.1 p.0.1) (standing_says p.0.0.0 p.0.0.1 p.0.1),
-    λ s. false≢true (ap is_up (p.1 s.0.dot IsDown (says_standing IsDown s))),
+    subst (λ f. StandsSaying key (says_true f) os) (p.1 p.0.0.0 p.0.0.1 p.0.1) (standing_says p.0.0.0 p.0.0.1 p.0.1),
+    λ s. false≢true (ap says_true (p.1 s.0.dot IsDown (says_standing IsDown s))),
   )
 
   say_all : StandsSaying key true os × ¬ (StandsSaying key false os) → SomePermitStands key (permissions_of (meaning_of os)) × AllSayTrue key (permissions_of (meaning_of os))

@@ -17,7 +17,7 @@ use Rattle.dac_chains.specs.Claims.{claim_cmp, claims_total, exact_claims, exact
 use Rattle.dac_wishes.specs.declared.key.Key.{Key}
 use Rattle.dac_wishes.specs.Keys.{same_key, same_key_is, same_key_itself}
 use Rattle.dac_wishes.specs.Writes.{Write, same_dot, same_dot_is, same_dot_itself}
-use Rattle.dac_wishes.specs.PermissionsValue.{is_up}
+use Rattle.dac_wishes.specs.PermissionsValue.{says_true}
 use Rattle.dac_operations.specs.declared.act.Act.{Act}
 use Rattle.dac_operations.specs.declared.act.Act.TheVariants.{Up, Down, Permit, Start, Stop, Claim}
 use Rattle.dac_operations.specs.Operations.{Operation}
@@ -41,9 +41,9 @@ heard_are_dots os d = (
   λ f. heard-meaning os d ∙ finds (has_dot d) os f.0 f.1.0 (has_dot_of d f.0 f.1.1),
 )
 
-names_of : (d : Dot) (o : Operation) → Names d o → names d o ≡ true
-names_of d o (inl e) = or_left (has_dot d o) (replaces d o) (has_dot_of d o e)
-names_of d o (inr r) = or_right (has_dot d o) (replaces d o) r
+names_if : (d : Dot) (o : Operation) → Names d o → names d o ≡ true
+names_if d o (inl e) = or_left (has_dot d o) (replaces d o) (has_dot_of d o e)
+names_if d o (inr r) = or_right (has_dot d o) (replaces d o) r
 
 of_names : (d : Dot) (o : Operation) → names d o ≡ true → Names d o
 of_names d o t = elim (or_cases (has_dot d o) (replaces d o) t) [ inl e ↦ inl (dot_of d o e) | inr r ↦ inr r ]
@@ -51,7 +51,7 @@ of_names d o t = elim (or_cases (has_dot d o) (replaces d o) t) [ inl e ↦ inl 
 pub known_are_named : KnownAreNamed
 known_are_named os d = (
   λ h. let f = found (names d) os (sym (known-meaning os d) ∙ h) in (f.0, (f.1.0, of_names d f.0 f.1.1)),
-  λ f. known-meaning os d ∙ finds (names d) os f.0 f.1.0 (names_of d f.0 f.1.1),
+  λ f. known-meaning os d ∙ finds (names d) os f.0 f.1.0 (names_if d f.0 f.1.1),
 )
 
 -- ---- what stands
@@ -109,22 +109,22 @@ permit_act key v (Start k over) t = absurd (false≢true t)
 permit_act key v (Stop k over) t = absurd (false≢true t)
 permit_act key v (Claim app term how from) t = absurd (false≢true t)
 
-permit_of : (w : Write) (f : Flag) (o : Operation) → IsPermit w f o → is_permit w (is_up f) o ≡ true
+permit_of : (w : Write) (f : Flag) (o : Operation) → IsPermit w f o → is_permit w (says_true f) o ≡ true
 permit_of w f o s =
-    and_from (says w.key (is_up f) o.act) (has_dot w.dot o)
-    (ap (says w.key (is_up f)) s.1.1 ∙ and_from (same_key w.key w.key) (is_same (is_up f) (is_up f)) (same_key_itself w.key) (same_itself (is_up f)))
+    and_from (says w.key (says_true f) o.act) (has_dot w.dot o)
+    (ap (says w.key (says_true f)) s.1.1 ∙ and_from (same_key w.key w.key) (is_same (says_true f) (says_true f)) (same_key_itself w.key) (same_itself (says_true f)))
     (has_dot_of w.dot o s.0)
 
-of_permit : (w : Write) (f : Flag) (o : Operation) → is_permit w (is_up f) o ≡ true → IsPermit w f o
-of_permit w f o t = let parts = and_parts (says w.key (is_up f) o.act) (has_dot w.dot o) t in (dot_of w.dot o parts.1, permit_act w.key (is_up f) o.act parts.0)
+of_permit : (w : Write) (f : Flag) (o : Operation) → is_permit w (says_true f) o ≡ true → IsPermit w f o
+of_permit w f o t = let parts = and_parts (says w.key (says_true f) o.act) (has_dot w.dot o) t in (dot_of w.dot o parts.1, permit_act w.key (says_true f) o.act parts.0)
 
 -- what is said is said by an operation
-said_there : (w : Write) (os : List Operation) (f : Flag) → said w os ≡ Some f → list_any (is_permit w (is_up f)) os ≡ true
+said_there : (w : Write) (os : List Operation) (f : Flag) → said w os ≡ Some f → list_any (is_permit w (says_true f)) os ≡ true
 said_there w os f h = there (list_any (is_permit w false) os) (list_any (is_permit w true) os) refl refl f h
   where
-    there : (a b : Bool) → list_any (is_permit w false) os ≡ a → list_any (is_permit w true) os ≡ b → (f : Flag) → flag_said a b ≡ Some f → list_any (is_permit w (is_up f)) os ≡ true
-    there true b p q f h = ap (λ (o : Option Flag). list_any (is_permit w (is_up (unwrap_or o IsUp))) os) (sym h) ∙ p
-    there false true p q f h = ap (λ (o : Option Flag). list_any (is_permit w (is_up (unwrap_or o IsUp))) os) (sym h) ∙ q
+    there : (a b : Bool) → list_any (is_permit w false) os ≡ a → list_any (is_permit w true) os ≡ b → (f : Flag) → flag_said a b ≡ Some f → list_any (is_permit w (says_true f)) os ≡ true
+    there true b p q f h = ap (λ (o : Option Flag). list_any (is_permit w (says_true (unwrap_or o IsUp))) os) (sym h) ∙ p
+    there false true p q f h = ap (λ (o : Option Flag). list_any (is_permit w (says_true (unwrap_or o IsUp))) os) (sym h) ∙ q
     there false false p q f h = absurd (false≢true (ap is_some h))
 
 -- operations that have their dots alone don't say both
@@ -135,11 +135,11 @@ not_both w os agree t = false_from_ne_true (list_any (is_permit w false) os) (λ
     let yes = of_permit w IsUp p.0 p.1.1 in
     let no = of_permit w IsDown q.0 q.1.1 in
     let same : p.0 ≡ q.0 = agree p.0 q.0 p.1.0 q.1.0 (yes.0 ∙ sym no.0) in
-    let says_true : says w.key true q.0.act ≡ true = ap (λ (o : Operation). says w.key true o.act) (sym same) ∙ (and_parts (says w.key true p.0.act) (has_dot w.dot p.0) p.1.1).0 in
-    false≢true (and_parts (same_key w.key w.key) false (sym (ap (says w.key true) no.1.1) ∙ says_true)).1)
+    let said_true : says w.key true q.0.act ≡ true = ap (λ (o : Operation). says w.key true o.act) (sym same) ∙ (and_parts (says w.key true p.0.act) (has_dot w.dot p.0) p.1.1).0 in
+    false≢true (and_parts (same_key w.key w.key) false (sym (ap (says w.key true) no.1.1) ∙ said_true)).1)
 
 -- what an operation says is said
-there_said : (w : Write) (os : List Operation) → Agree os → (f : Flag) → list_any (is_permit w (is_up f)) os ≡ true → said w os ≡ Some f
+there_said : (w : Write) (os : List Operation) → Agree os → (f : Flag) → list_any (is_permit w (says_true f)) os ≡ true → said w os ≡ Some f
 there_said w os agree IsDown t = ap (λ b. flag_said b (list_any (is_permit w true) os)) t
 there_said w os agree IsUp t = λ i. flag_said (not_both w os agree t i) (t i)
 
@@ -151,11 +151,11 @@ pub permits_are_unreplaced : PermitsAreUnreplaced
 permits_are_unreplaced os agree w f = (
   λ h.
       let parts = stands_some (is_replaced w.dot os) (said w os) f (sym (permits-meaning os w) ∙ h) in
-      let o = found (is_permit w (is_up f)) os (said_there w os f parts.1) in
+      let o = found (is_permit w (says_true f)) os (said_there w os f parts.1) in
       ((o.0, (o.1.0, of_permit w f o.0 o.1.1)), stands_of w.dot os parts.0),
   λ p.
       let o = p.0 in
-      permits-meaning os w ∙ ap (λ b. cond b None (said w os)) (of_stands w.dot os p.1) ∙ there_said w os agree f (finds (is_permit w (is_up f)) os o.0 o.1.0 (permit_of w f o.0 o.1.1)),
+      permits-meaning os w ∙ ap (λ b. cond b None (said w os)) (of_stands w.dot os p.1) ∙ there_said w os agree f (finds (is_permit w (says_true f)) os o.0 o.1.0 (permit_of w f o.0 o.1.1)),
 )
 
 -- ---- lives

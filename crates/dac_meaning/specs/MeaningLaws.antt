@@ -15,7 +15,7 @@ use Rattle.dac_chains.specs.Claims.{claim_cmp}
 use Rattle.dac_wishes.specs.declared.key.Key.{Key}
 use Rattle.dac_wishes.specs.Writes.{Write}
 use Rattle.dac_wishes.specs.WishesValue.{SomeStands}
-use Rattle.dac_wishes.specs.PermissionsValue.{is_up, IsPermitted}
+use Rattle.dac_wishes.specs.PermissionsValue.{says_true, IsPermitted}
 use Rattle.dac_operations.specs.declared.act.Act.TheVariants.{Up, Down, Permit, Start, Claim}
 use Rattle.dac_operations.specs.Operations.{Operation}
 use Rattle.dac_meaning.specs.StateValue.{IsState, permissions_of, wishes_of, bottom, join}
@@ -51,7 +51,7 @@ Permits key value o = (over : List Dot) × (o.act ≡ Permit key value over)
 
 -- the operation is the permit, with this value
 abbrev pub IsPermit : Write → Flag → Operation → Type 0
-IsPermit w f o = (o.dot ≡ w.dot) × Permits w.key (is_up f) o
+IsPermit w f o = (o.dot ≡ w.dot) × Permits w.key (says_true f) o
 
 -- a permit stands with a value exactly if an operation is it with this value and none replaces it, where no two different operations have one dot
 abbrev pub PermitsAreUnreplaced : Type 0

@@ -11,7 +11,7 @@ use Rattle.dac_store.specs.Stores.{subset_left, subset_right, subset_union, subs
 use Rattle.dac_chains.specs.Greatest.{AreNotAbove, greater, greatest_laws, empty_is_least}
 use Rattle.dac_chains.specs.Lives.{Lives, life_cmp, lives_total, exact_lives}
 use Rattle.dac_chains.specs.Claims.{Claims, claim_cmp, how_cmp, claims_total, exact_hows, exact_claims}
-use Rattle.dac_wishes.specs.WishesValue.{AreWishes, IsBelow as AreWishesBelow, join_wishes, known-join as known-wishes, wishes_laws, no_wishes_value, no_wishes_least}
+use Rattle.dac_wishes.specs.WishesValue.{AreWishes, AreWishesBelow, join_wishes, known-join as known-wishes, wishes_laws, no_wishes_value, no_wishes_least}
 use Rattle.dac_wishes.specs.PermissionsValue.{ArePermissions, IsPermissionsBelow, join_permissions, known-join as known-permissions, permissions_laws, no_permissions_value, no_permissions_least}
 use Rattle.dac_meaning.specs.StateValue.{StateValue, IsState, IsBelow, permissions_of, wishes_of, bottom, join}
 

@@ -10,7 +10,7 @@ use Rattle.dac_chains.specs.Greatest.{AreNotAbove, greater}
 use Rattle.dac_chains.specs.Lives.{Lives, life_cmp, coded_life}
 use Rattle.dac_chains.specs.Claims.{Claims, claim_cmp, coded_claim}
 use Rattle.dac_wishes.specs.Writes.{Writes, coded_write}
-use Rattle.dac_wishes.specs.WishesValue.{WishesValue, AreWishes, IsBelow as AreWishesBelow, join_wishes}
+use Rattle.dac_wishes.specs.WishesValue.{WishesValue, AreWishes, AreWishesBelow, join_wishes}
 use Rattle.dac_wishes.specs.PermissionsValue.{Permits, PermissionsValue, ArePermissions, IsPermissionsBelow, join_permissions}
 
 -- What a controller keeps of the operations that it has heard. (`heard` and what stands are after dot stores and

@@ -26,9 +26,9 @@ over_list (Stop key over) = over
 over_list _ = []
 
 -- a node came up
-abbrev pub is_up : Act → Bool
-is_up Up = true
-is_up _ = false
+abbrev pub says_up : Act → Bool
+says_up Up = true
+says_up _ = false
 
 -- the act replaces the dot that it would have
 abbrev pub replaces_itself : Dot → Act → Bool
@@ -40,7 +40,7 @@ has_bad_over over = not (is_rising dot_cmp over) || nat_lt MAX_REPLACED (length 
 
 -- the counter is 1 and it is no Up, or it is an Up under another counter
 abbrev pub has_bad_counter : Dot → Act → Bool
-has_bad_counter d a = if is_up a then not (d.n == 1) else d.n == 1
+has_bad_counter d a = if says_up a then not (d.n == 1) else d.n == 1
 
 -- the act declares down the node that would issue it
 abbrev pub is_on_self : Dot → Act → Bool
@@ -65,6 +65,6 @@ pub record IsSound (o : Operation) : Type 0 where
   -- and are at most 1,024
   pub few : length (over_list o.act) ≤ MAX_REPLACED
   -- 1 is the counter of an Up alone
-  pub counter : is_up o.act ≡ (o.dot.n == 1)
+  pub counter : says_up o.act ≡ (o.dot.n == 1)
   -- no node declares itself down
   pub other : is_on_self o.dot o.act ≡ false

@@ -1,6 +1,6 @@
 //! Acts.
 ghost use Rattle.std.specs.Prelude.{◌≡◌, ◌↔◌, IfOk, IsTrue};
-ghost use Rattle.dac_operations.specs.Operations.{is_up, over_list};
+ghost use Rattle.dac_operations.specs.Operations.{says_up, over_list};
 
 use dac_base::{AppId, NoMemory, NodeId};
 use dac_chains::How;
@@ -74,8 +74,8 @@ impl Act {
     }
 
     /// Whether a node came up.
-    pub fn is_up(&self) -> bool
-        ensures { result ≡ is_up self.now }
+    pub fn says_up(&self) -> bool
+        ensures { result ≡ says_up self.now }
     {
         match self {
             Act::Up => true,

@@ -19,8 +19,8 @@ use Rattle.dac_bytes.specs.Spelling.{origin_bytes, dot_bytes}
 use Rattle.dac_bytes.specs.Takes.{TakesAs, Again, TakesAs-more, TakesAs-wanted, TakesAs-both, Again-wanted, Again-both}
 use Rattle.dac_bytes.specs.laws.Fields.{u8_in_takes, u8_in_again, origin_takes, origin_again, dot_above_takes, dot_above_again}
 use Rattle.dac_bytes.specs.laws.Ascending.{IsNext}
-use Rattle.dac_part_bytes.specs.Reading.{app_at, key_of, is_listed, key_fields_at, listed_key_at, key_at, known_dot_at, value_of, permit_at}
-use Rattle.dac_part_bytes.specs.Spelling.{app_bytes, origin_of, key_bytes, value_code, permit_bytes}
+use Rattle.dac_part_bytes.specs.Reading.{app_at, key_of, is_listed, key_fields_at, listed_key_at, key_above_at, known_dot_at, value_of, permit_at}
+use Rattle.dac_part_bytes.specs.Spelling.{app_bytes, key_origin, key_bytes, value_code, permit_bytes}
 use Rattle.dac_part_bytes.proofs.Apps.{app_takes, app_again}
 use Rattle.dac_part_bytes.specs.KeyedForm.{IsKey, IsKeyAbove, IsKnownDot}
 
@@ -28,7 +28,7 @@ use Rattle.dac_part_bytes.specs.KeyedForm.{IsKey, IsKeyAbove, IsKnownDot}
 
 -- the application and the node are there
 abbrev IsNamed : Table → Key → Type 0
-IsNamed t key = (key.app.0 < app_count t) × IsOrigin (node_count t) (origin_of key)
+IsNamed t key = (key.app.0 < app_count t) × IsOrigin (node_count t) (key_origin key)
 
 module _ (t : Table) where
   key_fields_takes : TakesAs (key_fields_at t) key_bytes (IsNamed t)
@@ -45,23 +45,23 @@ module _ (t : Table) where
       (TakesAs-wanted (key_fields_at t) key_bytes (IsNamed t) (λ key. is_listed t key.app key.node) NotInList key_fields_takes)
       (λ key is. record { app = is.0.0; origin = is.0.1; listed = is.1 })
 
-  pub key_takes : (before : Option Key) → TakesAs (key_at t before) key_bytes (IsKeyAbove t before)
-  unfolding key_at
+  pub key_takes : (before : Option Key) → TakesAs (key_above_at t before) key_bytes (IsKeyAbove t before)
+  unfolding key_above_at
   key_takes before = TakesAs-wanted (listed_key_at t) key_bytes (IsKey t) (is_above key_cmp before) BadOrder listed_key_takes
 
   module _ (few_nodes : node_count t ≤ 2 ^ 8) (few_apps : app_count t ≤ 2 ^ 16) where
     key_fields_again : (key : Key) → IsNamed t key → Again (key_fields_at t) (key_bytes key) key
     unfolding key_fields_at key_bytes
     key_fields_again key is =
-        Again-both (app_at (app_count t)) (λ _ r. origin_at (node_count t) r) (λ app o. key_of app o) (app_bytes key.app) (origin_bytes (origin_of key)) key.app (origin_of key)
-        (app_again (app_count t) few_apps key.app is.0) (origin_again (node_count t) few_nodes (origin_of key) is.1)
+        Again-both (app_at (app_count t)) (λ _ r. origin_at (node_count t) r) (λ app o. key_of app o) (app_bytes key.app) (origin_bytes (key_origin key)) key.app (key_origin key)
+        (app_again (app_count t) few_apps key.app is.0) (origin_again (node_count t) few_nodes (key_origin key) is.1)
 
     listed_key_again : (key : Key) → IsKey t key → Again (listed_key_at t) (key_bytes key) key
     unfolding listed_key_at
     listed_key_again key is = Again-wanted (key_fields_at t) (λ key. is_listed t key.app key.node) NotInList (key_bytes key) key (key_fields_again key (is.app, is.origin)) is.listed
 
-    pub key_again : (before : Option Key) (key : Key) → IsKeyAbove t before key → Again (key_at t before) (key_bytes key) key
-    unfolding key_at
+    pub key_again : (before : Option Key) (key : Key) → IsKeyAbove t before key → Again (key_above_at t before) (key_bytes key) key
+    unfolding key_above_at
     key_again before key is = Again-wanted (listed_key_at t) (is_above key_cmp before) BadOrder (key_bytes key) key (listed_key_again key is.0) is.1
 
 -- ---- dots and permits

@@ -20,7 +20,7 @@ use Rattle.dac_bytes.specs.Takes.{TakesAs, TakesAs-both, Again, Again-both}
 use Rattle.dac_bytes.specs.laws.Fields.{u32_takes, u32_again, u32_in_takes, u32_in_again}
 use Rattle.std.proofs.lemmas.List.{map-id}
 use Rattle.dac_bytes.specs.laws.Ascending.{IsNext, counted_takes, counted_again}
-use Rattle.dac_part_bytes.specs.Reading.{key_at, some_at, known_dot_at, permit_at, permits_of_key_at, keyed_permits_at, permits_by_key_at, dots_of_key_at, keyed_dots_at, starts_by_key_at}
+use Rattle.dac_part_bytes.specs.Reading.{key_above_at, some_at, known_dot_at, permit_at, permits_of_key_at, keyed_permits_at, permits_by_key_at, dots_of_key_at, keyed_dots_at, starts_by_key_at}
 use Rattle.dac_part_bytes.specs.Spelling.{key_bytes, permit_bytes, keyed_permits_bytes, keyed_dots_bytes}
 use Rattle.dac_part_bytes.specs.KeyedForm.{IsKey, IsKeyAbove, IsKnownDot}
 use Rattle.dac_part_bytes.proofs.KeyFields.{key_takes, key_again, known_dot_takes, known_dot_again, permit_takes, permit_again}
@@ -105,14 +105,14 @@ module _ (t : Table) (known : Dots) where
   keyed_permits_takes : (before : Option Key) → TakesAs (keyed_permits_at t known before) keyed_permits_bytes (IsPermitsAbove before)
   unfolding keyed_permits_at
   keyed_permits_takes before =
-      TakesAs-both (key_at t before) key_bytes (IsKeyAbove t before) (λ _ r. permits_of_key_at nodes known r) (λ _. permits_of_key_bytes) (λ _ ps. ArePermitsOfKey t known ps)
+      TakesAs-both (key_above_at t before) key_bytes (IsKeyAbove t before) (λ _ r. permits_of_key_at nodes known r) (λ _. permits_of_key_bytes) (λ _ ps. ArePermitsOfKey t known ps)
       (λ key ps. (key, ps)) keyed_permits_bytes (IsPermitsAbove before)
       (key_takes t before) (λ _ _. permits_of_key_takes) (λ key ps p q. (permits_regroup key ps, ((p.0, q), p.1)))
 
   keyed_dots_takes : (before : Option Key) → TakesAs (keyed_dots_at t known before) keyed_starts_bytes (IsDotsAbove before)
   unfolding keyed_dots_at
   keyed_dots_takes before =
-      TakesAs-both (key_at t before) key_bytes (IsKeyAbove t before) (λ _ r. dots_of_key_at nodes known r) (λ _. dots_of_key_bytes) (λ _ ds. AreDotsOfKey t known ds)
+      TakesAs-both (key_above_at t before) key_bytes (IsKeyAbove t before) (λ _ r. dots_of_key_at nodes known r) (λ _. dots_of_key_bytes) (λ _ ds. AreDotsOfKey t known ds)
       (λ key ds. (key, set.from_list ds)) keyed_starts_bytes (IsDotsAbove before)
       (key_takes t before) (λ _ _. dots_of_key_takes) (λ key ds p q.
       let same = dots_again ds q.2 in
@@ -151,7 +151,7 @@ module _ (t : Table) (known : Dots) where
     unfolding keyed_permits_at
     keyed_permits_again before e is =
         subst (λ (text : List ℕ). Again (keyed_permits_at t known before) text e) (permits_regroup e.0 e.1)
-        (Again-both (key_at t before) (λ _ r. permits_of_key_at nodes known r) (λ key ps. (key, ps)) (key_bytes e.0) (permits_of_key_bytes e.1) e.0 e.1
+        (Again-both (key_above_at t before) (λ _ r. permits_of_key_at nodes known r) (λ key ps. (key, ps)) (key_bytes e.0) (permits_of_key_bytes e.1) e.0 e.1
         (key_again t few_nodes few_apps before e.0 (is.0.0, is.1)) (permits_of_key_again e.1 is.0.1))
 
     keyed_dots_again : (before : Option Key) (e : Key × Dots) → IsDotsAbove before e → Again (keyed_dots_at t known before) (keyed_starts_bytes e) e
@@ -159,7 +159,7 @@ module _ (t : Table) (known : Dots) where
     keyed_dots_again before e is =
         let ds = in_order e.1 in
         let read : Again (keyed_dots_at t known before) (key_bytes e.0 ++ dots_of_key_bytes ds) (e.0, set.from_list ds) =
-        Again-both (key_at t before) (λ _ r. dots_of_key_at nodes known r) (λ key ds. (key, set.from_list ds)) (key_bytes e.0) (dots_of_key_bytes ds) e.0 ds
+        Again-both (key_above_at t before) (λ _ r. dots_of_key_at nodes known r) (λ key ds. (key, set.from_list ds)) (key_bytes e.0) (dots_of_key_bytes ds) e.0 ds
         (key_again t few_nodes few_apps before e.0 (is.0.0, is.1)) (dots_of_key_again ds is.0.1) in
         let spelled = subst (λ (text : List ℕ). Again (keyed_dots_at t known before) text (e.0, set.from_list ds)) (dots_regroup e.0 ds) read in
         subst (λ (s : Dots). Again (keyed_dots_at t known before) (keyed_starts_bytes e) (e.0, s)) (in_order-same dots_total exact_dots e.1) spelled

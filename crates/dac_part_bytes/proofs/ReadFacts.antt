@@ -27,7 +27,7 @@ use Rattle.dac_config.specs.Table.{Table, node_count}
 use Rattle.dac_bytes.specs.declared.fault.ReadFaultKind.TheVariants.{BadNumber, BadOrder, NotKnown}
 use Rattle.dac_bytes.specs.Reading.{Rest, fault, ◌>>=◌, number_at, range_at, node_at, dot_at, dot_above_at, items_at, is_above}
 use Rattle.dac_bytes.specs.Takes.{bind_ok, guard_ok, wanted_ok, ok_is}
-use Rattle.dac_part_bytes.specs.Reading.{known_dot_at, permit_at, value_of, some_at, permits_of_key_at, key_at, listed_key_at, keyed_permits_at, dots_of_key_at, keyed_dots_at, node_above_at, inc_and_flag_at, life_at, claim_at, listed_claim_at}
+use Rattle.dac_part_bytes.specs.Reading.{known_dot_at, permit_at, value_of, some_at, permits_of_key_at, key_above_at, listed_key_at, keyed_permits_at, dots_of_key_at, keyed_dots_at, node_above_at, inc_and_flag_at, life_at, claim_at, listed_claim_at}
 use Rattle.dac_bytes.specs.laws.Ascending.{IsNext, counted_chain, items_chain, chain_each}
 use Rattle.dac_part_bytes.proofs.InOrder.{not_empty, not_empty_set}
 
@@ -67,8 +67,8 @@ some_is r n e =
 
 -- ---- keys
 
-key_next : (t : Table) (s : Option Key) (r : Rest) (x : Key × Rest) → key_at t s r ≡ Ok x → is_above key_cmp s x.0 ≡ true
-unfolding key_at
+key_next : (t : Table) (s : Option Key) (r : Rest) (x : Key × Rest) → key_above_at t s r ≡ Ok x → is_above key_cmp s x.0 ≡ true
+unfolding key_above_at
 key_next t s r x e =
     let a = bind_ok (listed_key_at t r) (λ key. cond (is_above key_cmp s key.0) (Ok key) (fault BadOrder r)) x e in
     let g = wanted_ok (is_above key_cmp s a.0.0) BadOrder r a.0 x a.2 in
@@ -83,7 +83,7 @@ pub keyed_permits_next : (t : Table) (known : Dots) (s : Option Key) (r : Rest) 
 unfolding keyed_permits_at permits_of_key_at
 keyed_permits_next t known s r x e =
     let nodes = node_count t in
-    let a = bind_ok (key_at t s r) (λ key. permits_of_key_at nodes known key.1 >>= λ permits. Ok ((key.0, permits.0), permits.1)) x e in
+    let a = bind_ok (key_above_at t s r) (λ key. permits_of_key_at nodes known key.1 >>= λ permits. Ok ((key.0, permits.0), permits.1)) x e in
     let b = bind_ok (permits_of_key_at nodes known a.0.1) (λ permits. Ok ((a.0.0, permits.0), permits.1)) x a.2 in
     let c = counted_chain dots_total (λ (p : Dot × Flag). p.0) (λ p. IsKnown known p.0) (permit_at nodes known) some_at (λ _. []) (λ _. []) (λ n. 1 ≤ n) some_is (permit_next nodes known) a.0.1 b.0 b.1 in
     let made : (Key × DotFlags) × Rest = ((a.0.0, b.0.0), b.0.1) in
@@ -99,7 +99,7 @@ pub keyed_dots_next : (t : Table) (known : Dots) (s : Option Key) (r : Rest) (x 
 unfolding keyed_dots_at dots_of_key_at
 keyed_dots_next t known s r x e =
     let nodes = node_count t in
-    let a = bind_ok (key_at t s r) (λ key. dots_of_key_at nodes known key.1 >>= λ dots. Ok ((key.0, set.from_list dots.0), dots.1)) x e in
+    let a = bind_ok (key_above_at t s r) (λ key. dots_of_key_at nodes known key.1 >>= λ dots. Ok ((key.0, set.from_list dots.0), dots.1)) x e in
     let b = bind_ok (dots_of_key_at nodes known a.0.1) (λ dots. Ok ((a.0.0, set.from_list dots.0), dots.1)) x a.2 in
     let c = counted_chain dots_total (λ (d : Dot). d) (IsKnown known) (known_dot_at nodes known) some_at (λ _. []) (λ _. []) (λ n. 1 ≤ n) some_is (known_dot_next nodes known) a.0.1 b.0 b.1 in
     let made : (Key × Dots) × Rest = ((a.0.0, set.from_list b.0.0), b.0.1) in

@@ -16,12 +16,12 @@ use Rattle.dac_config.specs.Table.{Table, node_count, app_count}
 use Rattle.dac_bytes.specs.Ranges.{IsOrigin, IsDot}
 use Rattle.dac_bytes.specs.Reading.{is_above}
 use Rattle.dac_part_bytes.specs.Reading.{is_listed}
-use Rattle.dac_part_bytes.specs.Spelling.{origin_of}
+use Rattle.dac_part_bytes.specs.Spelling.{key_origin}
 
 -- an application that there is, a node that there is with an incarnation from 1, and the node in the application's list
 pub record IsKey (t : Table) (key : Key) : Type 0 where
   pub app : key.app.0 < app_count t
-  pub origin : IsOrigin (node_count t) (origin_of key)
+  pub origin : IsOrigin (node_count t) (key_origin key)
   pub listed : is_listed t key.app key.node ≡ true
 
 -- a key above the one before it

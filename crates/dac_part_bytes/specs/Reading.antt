@@ -58,8 +58,8 @@ listed_key_at t r = do
   if is_listed t key.0.app key.0.node then Ok key else fault NotInList r
 
 -- a key above the one before it
-unfoldable pub key_at : Table → Option Key → Rest → Field Key
-key_at t before r = do
+unfoldable pub key_above_at : Table → Option Key → Rest → Field Key
+key_above_at t before r = do
   key ← listed_key_at t r
   if is_above key_cmp before key.0 then Ok key else fault BadOrder r
 
@@ -94,7 +94,7 @@ permits_of_key_at nodes known r = counted_at some_at (permit_at nodes known) (λ
 -- a key above the one before it, with its permits
 unfoldable pub keyed_permits_at : Table → Dots → Option Key → Rest → Field (Key × DotFlags)
 keyed_permits_at t known before r = do
-  key ← key_at t before r
+  key ← key_above_at t before r
   permits ← permits_of_key_at (node_count t) known key.1
   Ok ((key.0, permits.0), permits.1)
 
@@ -117,7 +117,7 @@ dots_of_key_at nodes known r = counted_at some_at (known_dot_at nodes known) (λ
 -- a key above the one before it, with the dots of its start wishes
 unfoldable pub keyed_dots_at : Table → Dots → Option Key → Rest → Field (Key × Dots)
 keyed_dots_at t known before r = do
-  key ← key_at t before r
+  key ← key_above_at t before r
   dots ← dots_of_key_at (node_count t) known key.1
   Ok ((key.0, set.from_list dots.0), dots.1)
 

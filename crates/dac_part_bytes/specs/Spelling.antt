@@ -31,12 +31,12 @@ abbrev pub app_bytes : AppId → List ℕ
 app_bytes app = u16_bytes app.0
 
 -- a key's node and incarnation
-abbrev pub origin_of : Key → Origin
-origin_of key = record { node = key.node; inc = key.inc }
+abbrev pub key_origin : Key → Origin
+key_origin key = record { node = key.node; inc = key.inc }
 
 -- application, node and incarnation, in seven bytes
 unfoldable pub key_bytes : Key → List ℕ
-key_bytes key = app_bytes key.app ++ origin_bytes (origin_of key)
+key_bytes key = app_bytes key.app ++ origin_bytes (key_origin key)
 
 -- ---- permits and start wishes
 

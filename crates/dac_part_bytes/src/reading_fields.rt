@@ -6,7 +6,7 @@ ghost use Rattle.dac_bytes.specs.Takes.{IsFoundAs, IsReadAgain};
 ghost use Rattle.dac_part_bytes.specs.ChainForm.{IsFromFor};
 ghost use Rattle.dac_part_bytes.specs.KeyedForm.{IsKeyAbove};
 ghost use Rattle.dac_part_bytes.specs.Spelling.{app_bytes, key_bytes, manner_bytes};
-ghost use Rattle.dac_part_bytes.specs.Reading.{app_at, fitting_code_at, flag_of, from_at, from_code_at, from_of, how_at, how_of, inc_and_flag_at, is_from_of, is_listed, key_at, key_fields_at, known_dot_at, listed_key_at, manner_at, node_above_at, permit_at, some_at, value_of};
+ghost use Rattle.dac_part_bytes.specs.Reading.{app_at, fitting_code_at, flag_of, from_at, from_code_at, from_of, how_at, how_of, inc_and_flag_at, is_from_of, is_listed, key_above_at, key_fields_at, known_dot_at, listed_key_at, manner_at, node_above_at, permit_at, some_at, value_of};
 
 use dac_base::{AppId, NodeId};
 use dac_bytes::{ByteReader, ReadFault, ReadFaultKind};
@@ -98,13 +98,13 @@ fn read_listed_key<'a>(
     }
 }
 
-#[tactic(auto, unfolding(crate::specs::Reading::key_at))]
+#[tactic(auto, unfolding(crate::specs::Reading::key_above_at))]
 fn read_key_above<'a>(
     reader: ByteReader<'a>,
     config: &Config,
     before: Option<Key>,
 ) -> Result<(Key, ByteReader<'a>), ReadFault>
-    ensures exact { result ≡ key_at config.now before reader.entry }
+    ensures exact { result ≡ key_above_at config.now before reader.entry }
     ensures real { IsOfBytes result }
 {
     let at = reader.at();
@@ -128,7 +128,7 @@ pub fn read_key<'a>(
     config: &Config,
     before: Option<Key>,
 ) -> Result<(Key, ByteReader<'a>), ReadFault>
-    ensures exact { result ≡ key_at config.now before reader.entry }
+    ensures exact { result ≡ key_above_at config.now before reader.entry }
     ensures real { IsOfBytes result }
     // What is read is spelled so, and in form.
     ensures found { IsFoundAs (λ x. x) key_bytes (IsKeyAbove config.now before) reader.entry result }

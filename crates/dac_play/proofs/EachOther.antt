@@ -95,13 +95,13 @@ pairing from t (to ∷ tos) (inl e) = inl (ap (λ (n : NodeId). (from, n)) e)
 pairing from t (to ∷ tos) (inr h) = inr (pairing from t tos h)
 
 -- one node's number is below another's
-abbrev IsBelow : NodeId → NodeId → Type 0
-IsBelow n m = n.0 < m.0
+abbrev IsLess : NodeId → NodeId → Type 0
+IsLess n m = n.0 < m.0
 
-paired_ordered : (from : NodeId) (tos : List NodeId) → IsOrdered IsBelow tos → IsOrdered IsEarlier (map (λ to. (from, to)) tos)
+paired_ordered : (from : NodeId) (tos : List NodeId) → IsOrdered IsLess tos → IsOrdered IsEarlier (map (λ to. (from, to)) tos)
 paired_ordered from [] o = tt
 paired_ordered from (to ∷ tos) o =
-    (of_each (IsEarlier (from, to)) (map (λ t. (from, t)) tos) (λ p h. let q = paired from p.0 p.1 tos h in inr (sym q.0, of_one (IsBelow to) p.1 tos o.0 q.1)), paired_ordered from tos o.1)
+    (of_each (IsEarlier (from, to)) (map (λ t. (from, t)) tos) (λ p h. let q = paired from p.0 p.1 tos h in inr (sym q.0, of_one (IsLess to) p.1 tos o.0 q.1)), paired_ordered from tos o.1)
 
 -- ---- all pairs
 module _ (nodes : List NodeId) where
@@ -120,15 +120,15 @@ module _ (nodes : List NodeId) where
       (subst (λ n. In (f, t) (pairs_of nodes n)) e (pairing f t (filter (λ to. not (to.0 == f.0)) nodes) (kept (λ to. not (to.0 == f.0)) t nodes k (is_other f t apart))))
   in_pairs f t (from ∷ froms) (inr h) k apart = In-back (f, t) (pairs_of nodes from) (flat_map (pairs_of nodes) froms) (in_pairs f t froms h k apart)
 
-  pairs_ordered : (froms : List NodeId) → IsOrdered IsBelow nodes → IsOrdered IsBelow froms → IsOrdered IsEarlier (flat_map (pairs_of nodes) froms)
+  pairs_ordered : (froms : List NodeId) → IsOrdered IsLess nodes → IsOrdered IsLess froms → IsOrdered IsEarlier (flat_map (pairs_of nodes) froms)
   pairs_ordered [] all o = tt
   pairs_ordered (from ∷ froms) all o =
       IsOrdered-append IsEarlier (pairs_of nodes from) (flat_map (pairs_of nodes) froms)
-      (paired_ordered from (filter (λ to. not (to.0 == from.0)) nodes) (IsOrdered-filter IsBelow (λ to. not (to.0 == from.0)) nodes all))
+      (paired_ordered from (filter (λ to. not (to.0 == from.0)) nodes) (IsOrdered-filter IsLess (λ to. not (to.0 == from.0)) nodes all))
       (pairs_ordered froms all o.1)
       (λ p q h k.
       let one = paired from p.0 p.1 (filter (λ to. not (to.0 == from.0)) nodes) h in
-      let later = of_one (IsBelow from) q.0 froms o.0 (of_pairs q.0 q.1 froms k).0 in
+      let later = of_one (IsLess from) q.0 froms o.0 (of_pairs q.0 q.1 froms k).0 in
       inl (subst (λ (n : NodeId). n.0 < q.0.0) (sym one.0) later))
 
 -- ---- the nodes of the first so many numbers that pass a test
@@ -149,16 +149,16 @@ module _ (runs : NodeId → Bool) where
   number_in a zero node le lt = absurd (omega (arith, le, lt))
   number_in a (suc n) node le lt = at_or_behind a n node (eqb a node.0) refl le (λ more. number_in (a + 1) n node more (omega (arith, lt)))
 
-  numbers_ordered : (a n : ℕ) → IsOrdered IsBelow (numbers_from a n)
+  numbers_ordered : (a n : ℕ) → IsOrdered IsLess (numbers_from a n)
   numbers_ordered a zero = tt
   numbers_ordered a (suc n) =
-      (of_each (IsBelow (record { 0 = a })) (numbers_from (a + 1) n) (λ node h. omega (arith, (in_numbers (a + 1) n node h).0)), numbers_ordered (a + 1) n)
+      (of_each (IsLess (record { 0 = a })) (numbers_from (a + 1) n) (λ node h. omega (arith, (in_numbers (a + 1) n node h).0)), numbers_ordered (a + 1) n)
 
   -- of the nodes of the first so many numbers, those that run tell each other
   pub tell_each_other : (count : ℕ) → TellsEachOther (λ node. (node.0 < count) × (runs node ≡ true)) (pairs (filter runs (numbers_from 0 count)))
   tell_each_other count =
       let nodes = filter runs (numbers_from 0 count) in
-      let ordered : IsOrdered IsBelow nodes = IsOrdered-filter IsBelow runs (numbers_from 0 count) (numbers_ordered 0 count) in
+      let ordered : IsOrdered IsLess nodes = IsOrdered-filter IsLess runs (numbers_from 0 count) (numbers_ordered 0 count) in
       let in_nodes : (node : NodeId) → (node.0 < count) × (runs node ≡ true) → In node nodes = λ node r. kept runs node (numbers_from 0 count) (number_in 0 count node (omega arith) (omega (arith, r.0))) r.1 in
       let of_nodes : (node : NodeId) → In node nodes → (node.0 < count) × (runs node ≡ true) = λ node h. let p = passes runs node (numbers_from 0 count) h in (omega (arith, (in_numbers 0 count node p.0).1), p.1) in
       record {

@@ -9,7 +9,7 @@ ghost use Rattle.dac_play.specs.Play.{state_at, IsShared};
 ghost use Rattle.dac_play.specs.Sharing.{having_state, told, shared, Leads, IsAnswered};
 
 use crate::pairs::all_pairs;
-use crate::states::state_of;
+use crate::states::state_at;
 use dac_base::{NoMemory, NodeId};
 use dac_config::Config;
 use dac_core::{Refusal, Reply, What, World, WorldEvent, WorldFault};
@@ -20,7 +20,7 @@ fn runs(world: &World, node: NodeId) -> bool
     requires { node.0 < length world.now.nodes }
     ensures { result ≡ is_some (state_at world.now node) }
 {
-    state_of(world, node).is_some()
+    state_at(world, node).is_some()
 }
 
 /// The nodes that run, in the order of their names.

@@ -14,7 +14,7 @@ use dac_status::{Summary, header, page};
 use std::alloc::Global;
 
 /// The state of a node, where it runs.
-pub fn state_of(world: &World, node: NodeId) -> Option<&State>
+pub fn state_at(world: &World, node: NodeId) -> Option<&State>
     requires { node.0 < length world.now.nodes }
     ensures { option_copied result ≡ state_at world.now node }
 {
@@ -33,7 +33,7 @@ pub fn shown_lines(
     ensures { IfOk result (λ lines. lines.items ≡ shown_text config.now node (origin_at world.now node) (state_at world.now node)) }
 {
     let mut lines = header(alloc, config, node, world.node(node).origin())?;
-    if let Some(state) = state_of(world, node) {
+    if let Some(state) = state_at(world, node) {
         let summary = Summary::of(config, state);
         let page = page(alloc, config, &summary)?;
         lines.extend_from_slice(&page)?;
@@ -52,7 +52,7 @@ pub fn bytes_line(
     requires all { length world.now.nodes ≡ node_count config.now }
     ensures { IfOk result (λ line. line.items ≡ bytes_text (node_name config.now node) (state_at world.now node)) }
 {
-    let Some(state) = state_of(world, node) else {
+    let Some(state) = state_at(world, node) else {
         return header(alloc, config, node, None);
     };
     let bytes = state.encode()?;
@@ -73,10 +73,10 @@ pub fn compare_line(
     requires all { length world.now.nodes ≡ node_count config.now }
     ensures { IfOk result (λ line. line.items ≡ compare_text (node_name config.now first) (node_name config.now second) (state_at world.now first) (state_at world.now second)) }
 {
-    let Some(one) = state_of(world, first) else {
+    let Some(one) = state_at(world, first) else {
         return header(alloc, config, first, None);
     };
-    let Some(other) = state_of(world, second) else {
+    let Some(other) = state_at(world, second) else {
         return header(alloc, config, second, None);
     };
     let one = one.encode()?;

@@ -24,7 +24,7 @@ use Rattle.dac_messages.specs.declared.event.Event.TheVariants.{Boot, Crash, Com
 use Rattle.dac_commands.specs.declared.refusal.Refusal.{Refusal}
 use Rattle.dac_commands.specs.declared.refusal.Refusal.TheVariants.{Off, AlreadyOn, DeclaredDown, UnknownApp, UnknownNode, OnSelf, NotInList, MomentBack, NotLive, NotStarted, NotEligible, NotRunning, AlreadyHolder, LowerPriority, NotForMe, UpToDate, TooManyDots, TermsUsedUp, DotsUsedUp, IncarnationsUsedUp, NoMemory}
 use Rattle.dac_commands.specs.Refusals.{number_of}
-use Rattle.dac_commands.specs.Commands.{key_at, standing_starts, standing_permits}
+use Rattle.dac_commands.specs.Commands.{live_key, standing_starts, standing_permits}
 use Rattle.dac_commands.specs.Written.{HasLastTerm}
 use Rattle.dac_rules.specs.NodeValue.{NodeValue, RunValue}
 use Rattle.dac_rules.specs.EventRefusals.{needed, refusal_of}
@@ -95,9 +95,9 @@ IsFor own m = (m.to ≡ own.node) × IfSome m.only (λ inc. inc ≡ own.inc)
 
 -- the dots that a command replaces: those that stand at its key
 abbrev pub replaced_in : StateValue → Event → List Dot
-replaced_in s (Told (Permit app node value)) = standing_permits s (key_at s app node)
-replaced_in s (Told (Start app node)) = standing_starts s (key_at s app node)
-replaced_in s (Told (Stop app node)) = standing_starts s (key_at s app node)
+replaced_in s (Told (Permit app node value)) = standing_permits s (live_key s app node)
+replaced_in s (Told (Start app node)) = standing_starts s (live_key s app node)
+replaced_in s (Told (Stop app node)) = standing_starts s (live_key s app node)
 replaced_in s _ = []
 
 -- ---- when a cause holds
@@ -144,7 +144,7 @@ Holds t v e OnSelf = Running v (λ own s. Some! (other_in e) (λ node. node ≡ 
 Holds t v e NotInList = Some! (app_in e) (λ app. Some! (listed_in v e) (λ node. group_of t app node ≡ None))
 Holds t v e MomentBack = Some! v.run (λ (r : RunValue). Some! (tick_in e) (λ now. now < r.moments.last))
 Holds t v e NotLive = Running v (λ own s. Some! (node_in e) (λ node. (inc : ℕ) → ¬ IsLive s.lives node inc))
-Holds t v e NotStarted = Running v (λ own s. Some! (app_in e) (λ app. Some! (node_in e) (λ node. ¬ SomeStands (key_at s app node) (wishes_of s))))
+Holds t v e NotStarted = Running v (λ own s. Some! (app_in e) (λ app. Some! (node_in e) (λ node. ¬ SomeStands (live_key s app node) (wishes_of s))))
 Holds t v e NotEligible = Running v (λ own s. Some! (app_in e) (λ app. ¬ IsEligible t s app own.node))
 Holds t v e NotRunning = Running v (λ own s. Some! (app_in e) (λ app. (node : NodeId) → ¬ RunsAt t s app node))
 Holds t v e AlreadyHolder = Running v (λ own s. Some! (app_in e) (λ app. RunsAt t s app own.node))

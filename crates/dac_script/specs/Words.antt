@@ -4,6 +4,7 @@ use Rattle.std.specs.List.{slice_split, list_all}
 use Rattle.std.specs.Result.{result_ok}
 use Rattle.std.specs.Char.{is_ascii_digit}
 use Rattle.hex.specs.Hex.{decode_of}
+use Rattle.dac_tokens.specs.Digits.{value_from}
 use Rattle.dac_tokens.specs.Scan.{is_quotable}
 use Rattle.dac_config.specs.Canonical.{is_bare}
 use Rattle.dac_script.specs.declared.words.TheConstants.{MAX_NUMBER}
@@ -31,11 +32,6 @@ abbrev pub is_digits : List ℕ → Bool
 is_digits [] = false
 is_digits (d ∷ []) = is_ascii_digit d
 is_digits (d ∷ e ∷ ds) = not (d == 48) && list_all is_ascii_digit (d ∷ e ∷ ds)
-
--- the number that begins with n and goes on with these digits
-abbrev pub value_from : ℕ → List ℕ → ℕ
-value_from n [] = n
-value_from n (d ∷ ds) = value_from (10 * n + (d - 48)) ds
 
 -- the number that the word is, at most MAX_NUMBER
 abbrev pub number_in : List ℕ → Option ℕ

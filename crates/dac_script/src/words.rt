@@ -4,7 +4,8 @@ ghost use Rattle.std.specs.Prelude.{◌≡◌, ◌<◌, ◌≤◌, ◌^◌, IfOk
 ghost use Rattle.std.specs.List.{list_all};
 ghost use Rattle.std.specs.Char.{is_ascii_digit};
 ghost use Rattle.dac_tokens.specs.Scan.{is_quotable};
-ghost use Rattle.dac_script.specs.Words.{words_of, quoted_name, is_digits, value_from, number_in, name_in, is_small_digit, bytes_in};
+ghost use Rattle.dac_tokens.specs.Digits.{value_from};
+ghost use Rattle.dac_script.specs.Words.{words_of, quoted_name, is_digits, number_in, name_in, is_small_digit, bytes_in};
 
 use crate::byte_list::ByteList;
 use dac_base::NoMemory;

@@ -67,10 +67,10 @@ Claims p n (app ∷ apps) x made =
     ⊎ ((¬ (p.candidate x app ≡ Some n)) × Claims p n apps x made)
 
 -- what happens in a round at a running node
-pub data Event : Type 0 where
-  Tick : NodeId → List Operation → Event
-  Ship : NodeId → Event
-  Deliver : NodeId → Event
+pub data SetsEvent : Type 0 where
+  Tick : NodeId → List Operation → SetsEvent
+  Ship : NodeId → SetsEvent
+  Deliver : NodeId → SetsEvent
 
 -- what each node holds, and the copies that were shipped in this round
 pub record Sets : Type 0 where
@@ -87,22 +87,22 @@ abbrev pub with_held : Held → NodeId → List Operation → Held
 with_held held n x m = cond (nat_eq m.0 n.0) (Some x) (held m)
 
 -- one event
-abbrev pub Happens : Placement → Sets → Event → Sets → Type 0
+abbrev pub Happens : Placement → Sets → SetsEvent → Sets → Type 0
 Happens p w (Tick n made) next = (x : List Operation) × (w.held n ≡ Some x) × Claims p n p.apps x made × (next ≡ record { held = with_held w.held n (x ++ made); copies = w.copies })
 Happens p w (Ship n) next = (x : List Operation) × (w.held n ≡ Some x) × (next ≡ record { held = w.held; copies = w.copies ++ x ∷ [] })
 Happens p w (Deliver n) next = (x : List Operation) × (y : List Operation) × (w.held n ≡ Some x) × InCopies y w.copies × (next ≡ record { held = with_held w.held n (x ++ y); copies = w.copies })
 
 -- one event after another
-abbrev pub Run : Placement → Sets → List Event → Sets → Type 0
+abbrev pub Run : Placement → Sets → List SetsEvent → Sets → Type 0
 Run p w [] final = final ≡ w
 Run p w (e ∷ es) final = (next : Sets) × Happens p w e next × Run p next es final
 
 -- the event is a tick of node n
-abbrev pub IsTickOf : NodeId → Event → Type 0
+abbrev pub IsTickOf : NodeId → SetsEvent → Type 0
 IsTickOf n e = (made : List Operation) × (Tick n made ≡ e)
 
 -- node n ticks in these events
-abbrev pub Ticks : NodeId → List Event → Type 0
+abbrev pub Ticks : NodeId → List SetsEvent → Type 0
 Ticks n [] = ⊥
 Ticks n (e ∷ es) = IsTickOf n e ⊎ Ticks n es
 
@@ -117,7 +117,7 @@ pub record IsReady (p : Placement) (held : Held) : Type 0 where
 
 -- from one holding to another by a round: each running node ticks, and at its end all hold the same set
 pub record IsRound (p : Placement) (held later : Held) : Type 0 where
-  pub events : List Event
+  pub events : List SetsEvent
   pub copies : List (List Operation)
   pub run : Run p (record { held = held; copies = [] }) events (record { held = later; copies = copies })
   pub ticks : (n : NodeId) → IsSome (held n) → Ticks n events

@@ -57,10 +57,10 @@ abbrev pub IsLate : Table → List Note → ℕ → Type 0
 IsLate t notes now = (app : AppId) (claim : Claim) (since : ℕ) → IsNotedSince notes app claim since → since + timeout_of t app ≤ now
 
 -- what is accepted in a round: a node's tick at this moment, a ship, and a delivery of a copy that was shipped in the round
-pub data Event : Type 0 where
-  Tick : NodeId → ℕ → Event
-  Ship : NodeId → Event
-  Deliver : NodeId → Event
+pub data MemberEvent : Type 0 where
+  Tick : NodeId → ℕ → MemberEvent
+  Ship : NodeId → MemberEvent
+  Deliver : NodeId → MemberEvent
 
 -- A tick in a round: no two operations that the node holds have one dot, all that it noted has waited its time, and it passes no application.
 pub record IsTick (t : Table) (n : NodeId) (d : Member) (now : ℕ) : Type 0 where
@@ -69,18 +69,18 @@ pub record IsTick (t : Table) (n : NodeId) (d : Member) (now : ℕ) : Type 0 whe
   pub passed : (turn_at t n d now).passed ≡ []
 
 -- one event
-abbrev pub Happens : Table → Members → Event → Members → Type 0
+abbrev pub Happens : Table → Members → MemberEvent → Members → Type 0
 Happens t w (Tick n now) next = (d : Member) × (w.node n ≡ Some d) × IsTick t n d now × (next ≡ record { node = with_member w.node n (ticked d now (turn_at t n d now).ops); copies = w.copies })
 Happens t w (Ship n) next = (d : Member) × (w.node n ≡ Some d) × (next ≡ record { node = w.node; copies = w.copies ++ d.held ∷ [] })
 Happens t w (Deliver n) next = (d : Member) × (y : List Operation) × (w.node n ≡ Some d) × InCopies y w.copies × (next ≡ record { node = with_member w.node n (holding d y); copies = w.copies })
 
 -- one event after another
-abbrev pub Run : Table → Members → List Event → Members → Type 0
+abbrev pub Run : Table → Members → List MemberEvent → Members → Type 0
 Run t w [] final = final ≡ w
 Run t w (e ∷ es) final = (next : Members) × Happens t w e next × Run t next es final
 
 -- node n ticks in these events
-abbrev pub Ticks : NodeId → List Event → Type 0
+abbrev pub Ticks : NodeId → List MemberEvent → Type 0
 Ticks n [] = ⊥
 Ticks n (e ∷ es) = ((now : ℕ) × (Tick n now ≡ e)) ⊎ Ticks n es
 
@@ -99,7 +99,7 @@ pub record IsReady (node : NodeId → Option Member) : Type 0 where
 
 -- Each running node ticks, what is delivered was shipped in the round, and in the end all running nodes hold the same set.
 pub record IsRound (t : Table) (node later : NodeId → Option Member) : Type 0 where
-  pub events : List Event
+  pub events : List MemberEvent
   pub copies : List (List Operation)
   pub run : Run t (record { node = node; copies = [] }) events (record { node = later; copies = copies })
   pub ticks : (n : NodeId) → IsSome (node n) → Ticks n events

@@ -13,7 +13,8 @@ use Rattle.dac_shapes.specs.declared.param.ParamName.{ParamName}
 use Rattle.dac_shapes.specs.declared.param.ParamName.TheVariants as named
 use Rattle.dac_shapes.specs.Written.{App, Permission, Param, Distributed, Permissions, Mandatory, Optional, Timeout, Section, Kernel, name_of, spelled}
 use Rattle.dac_shapes.specs.Limits.{Seen, AllMay, steps, is_among, has_param, with_node, MayNode, with_nodes, MayNodes, with_groups, MayGroups, listing, with_app, MayApp, with_permission, MayPermission, with_param, MayValue, MayParam, has_kernel, with_section, MaySection}
-use Rattle.dac_shapes.specs.Shape.{State, fails, is_mark, token, atom_of, short_name_of, node_of, names_at, item_at, groups_at, timeout_of, timeout_at, wait_of, value_from, app_name_of, app_value_at, app_at, flag_of, permission_value_at, permission_at, param_named, first_param, param_name_of, param_value_at, param_rest_at, param_at, names_kernel, kernel_at, section_rest_at, section_at, closed, list_of, room}
+use Rattle.dac_tokens.specs.Digits.{value_from}
+use Rattle.dac_shapes.specs.Shape.{State, fails, is_mark, token, atom_of, short_name_of, node_of, names_at, item_at, groups_at, milliseconds_of, timeout_at, wait_of, app_name_of, app_value_at, app_at, flag_of, permission_value_at, permission_at, param_named, first_param, param_name_of, param_value_at, param_rest_at, param_at, names_kernel, kernel_at, section_rest_at, section_at, closed, list_of, room}
 use Rattle.dac_shapes.specs.Grammar.{between, IsListOf, IsNode, IsItem, IsNodeList, IsMs, IsTimeout, IsApp, IsFlag, IsPermission, IsWait, IsParam, IsSection}
 use Rattle.dac_shapes.proofs.Moves.{bind_ok, held, required, passed, ok_same, words_in, EndsWell, Moves, Moves-then, same_last, token_is, token_moves, word_passes, mark_is, symbol_passes, back}
 use Rattle.dac_shapes.specs.laws.Names.{chosen, is_named, same_seen, param_is}
@@ -123,7 +124,7 @@ groups_found t s groups u well e =
 
 -- ---- applications
 
-ms_is : (at : ℕ) (negative : Bool) (digits : List ℕ) (n : ℕ) → timeout_of at negative (value_from 0 digits) ≡ Ok n → IsMs (Number negative digits) n
+ms_is : (at : ℕ) (negative : Bool) (digits : List ℕ) (n : ℕ) → milliseconds_of at negative (value_from 0 digits) ≡ Ok n → IsMs (Number negative digits) n
 ms_is at negative digits n e =
     let v = value_from 0 digits in
     let p = passed (negative && not (eqb v 0)) _ (cond (ltb v 4294967296) (Ok v) (fails NumberTooLarge at)) n e in

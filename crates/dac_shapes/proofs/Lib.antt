@@ -2,7 +2,6 @@ pub mod Faults
 pub mod Lists
 pub mod TermLoops
 pub mod Among
-pub mod Digits
 pub mod Moves
 pub mod FoundLists
 pub mod FoundTerms

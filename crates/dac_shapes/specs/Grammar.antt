@@ -10,7 +10,7 @@ use Rattle.dac_shapes.specs.declared.param.ParamName.TheVariants as named
 use Rattle.dac_shapes.specs.declared.draft.SyncWait.{SyncWait}
 use Rattle.dac_shapes.specs.declared.draft.SyncWait.TheVariants.{NoSync, Forever, Ms}
 use Rattle.dac_shapes.specs.Written.{App, Permission, Param, Distributed, Permissions, Mandatory, Optional, Timeout, Section, Kernel, Written, spelled, written}
-use Rattle.dac_shapes.specs.Shape.{value_from}
+use Rattle.dac_tokens.specs.Digits.{value_from}
 use Rattle.dac_shapes.specs.Within.{AreWithinLimits, nodes_in}
 
 -- one or more things, each by `Is`, parted by commas

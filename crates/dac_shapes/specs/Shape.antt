@@ -2,6 +2,7 @@
 use Rattle.std.specs.Prelude.{◌≡◌, ◌<◌, ℕ, zero, suc, ◌+◌, ◌-◌, ◌*◌, Bool, true, false, not, ◌&&◌, List, [], ◌∷◌, ◌++◌, length, map, fold, Option, None, Some, Result, Ok, Err, nat_lt, nat_le, ◌==◌, if◌then◌else◌, codes}
 use Rattle.std.specs.Str.{bytes_eq}
 use Rattle.dac_base.specs.declared.limits.TheConstants.{MAX_APPS, MAX_NODES}
+use Rattle.dac_tokens.specs.Digits.{value_from}
 use Rattle.dac_tokens.specs.declared.fault.FaultKind.{FaultKind}
 use Rattle.dac_tokens.specs.declared.fault.FaultKind.TheVariants.{TooLong, Unsupported, BadShape, NoDistributed, TwiceApp, TwiceInList, EmptyList, EmptyTuple, TooManyNodes, TooManyApps, NumberTooLarge, NameTooLong}
 use Rattle.dac_tokens.specs.declared.fault.ConfigFault.{ConfigFault}
@@ -87,13 +88,9 @@ short_name_of t = do
   name ← atom_of t
   if nat_lt MAX_NAME (length name) then fails NameTooLong t.at else Ok name
 
--- the number that digits are, behind n
-abbrev pub value_from : ℕ → List ℕ → ℕ
-value_from n digits = fold (λ m digit. 10 * m + (digit - 48)) n digits
-
 -- a timeout is not negative and below 2 ^ 32
-abbrev pub timeout_of : ℕ → Bool → ℕ → Result ℕ ConfigFault
-timeout_of at negative n =
+abbrev pub milliseconds_of : ℕ → Bool → ℕ → Result ℕ ConfigFault
+milliseconds_of at negative n =
     if negative && not (n == 0) then fails BadShape at
     else (if nat_lt n 4294967296 then Ok n else fails NumberTooLarge at)
 
@@ -103,7 +100,7 @@ wait_of t = waits t.word
   where
     waits : Word → Result SyncWait ConfigFault
     waits (Number negative digits) = do
-      n ← timeout_of t.at negative (value_from 0 digits)
+      n ← milliseconds_of t.at negative (value_from 0 digits)
       Ok (Ms n)
     waits (Name name) = if bytes_eq name (codes "infinity") then Ok Forever else fails BadShape t.at
     waits (Mark symbol) = fails BadShape t.at
@@ -315,7 +312,7 @@ timeout_at t s = timed t.word
   where
     timed : Word → Result (ℕ × Located × State) ConfigFault
     timed (Number negative digits) = do
-      n ← timeout_of t.at negative (value_from 0 digits)
+      n ← milliseconds_of t.at negative (value_from 0 digits)
       comma ← symbol_at Comma s
       next ← token comma
       Ok (n, next.0, next.1)

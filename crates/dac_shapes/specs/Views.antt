@@ -56,8 +56,8 @@ sections_of sections = map section_of sections
 abbrev pub draft_of : Draft → Written
 draft_of d = record { apps = apps_of d.apps.items; permissions = permissions_of d.permissions.items; mandatory = names_of d.mandatory.items; optional = names_of d.optional.items; sync_wait = d.sync_wait; nodes = names_of d.nodes.items }
 
-abbrev pub state_of : Parser → State
-state_of p = record { left = p.tokens; seen = record { met = names_of p.met.items; listed = names_of p.listed.items } }
+abbrev pub parser_state : Parser → State
+parser_state p = record { left = p.tokens; seen = record { met = names_of p.met.items; listed = names_of p.listed.items } }
 
 abbrev pub tokens_left : Parser → ℕ
 tokens_left p = length p.tokens.tokens

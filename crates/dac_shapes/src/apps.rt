@@ -4,13 +4,13 @@ ghost use Rattle.std.specs.Prelude.{◌≡◌, ◌≤◌};
 ghost use Rattle.dac_shapes.specs.Outcome.{Gives};
 ghost use Rattle.dac_tokens.specs.Words.{located_of};
 ghost use Rattle.dac_shapes.specs.Shape.{timeout_at, app_value_at, app_at};
-ghost use Rattle.dac_shapes.specs.Views.{app_of, state_of, tokens_left};
+ghost use Rattle.dac_shapes.specs.Views.{app_of, parser_state, tokens_left};
 ghost use Rattle.dac_shapes.specs.Written.{App};
 
 use crate::draft::DraftApp;
 use crate::list::Elements;
 use crate::names::{app_name_of, fault, is_mark};
-use crate::numbers::timeout_of;
+use crate::numbers::milliseconds_of;
 use crate::parser::Parser;
 use dac_tokens::{ConfigFault, FaultKind, Located, Symbol, Token};
 use std::alloc::Global;
@@ -19,13 +19,13 @@ impl<'a> Parser<'a> {
     /// The timeout of an application, if the token is a number, and the token after it and its comma.
     #[tactic(auto, unfolding(crate::specs::Shape::timeout_at))]
     fn timeout(&mut self, token: Located<'a>) -> Result<(u32, Located<'a>), ConfigFault>
-        ensures read { Gives (λ x. (x.0, located_of x.1, state_of self.new)) result (timeout_at (located_of token.entry) (state_of self.old)) }
+        ensures read { Gives (λ x. (x.0, located_of x.1, parser_state self.new)) result (timeout_at (located_of token.entry) (parser_state self.old)) }
         ensures left { tokens_left self.new ≤ tokens_left self.old }
     {
         let Token::Number { negative, digits } = token.token else {
             return Ok((0, token));
         };
-        let timeout = timeout_of(token.at, negative, digits)?;
+        let timeout = milliseconds_of(token.at, negative, digits)?;
         self.symbol(Symbol::Comma)?;
         let next = self.next()?;
         Ok((timeout, next))
@@ -34,7 +34,7 @@ impl<'a> Parser<'a> {
     /// What stands behind the name of an application.
     #[tactic(auto, unfolding(crate::specs::Shape::app_value_at))]
     fn app_value(&mut self, alloc: Global, name: &'a [u8]) -> Result<DraftApp<'a>, ConfigFault>
-        ensures read { Gives (λ app. (app_of app, state_of self.new)) result (app_value_at name.now (state_of self.old)) }
+        ensures read { Gives (λ app. (app_of app, parser_state self.new)) result (app_value_at name.now (parser_state self.old)) }
         ensures left { tokens_left self.new ≤ tokens_left self.old }
     {
         let first = self.next()?;

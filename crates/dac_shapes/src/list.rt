@@ -5,7 +5,7 @@ ghost use Rattle.dac_tokens.specs.declared.token.Symbol.TheVariants.{CloseList};
 ghost use Rattle.dac_tokens.specs.Words.{located_of};
 ghost use Rattle.dac_shapes.specs.Outcome.{Gives};
 ghost use Rattle.dac_shapes.specs.Shape.{comma_list, list_of, room};
-ghost use Rattle.dac_shapes.specs.Views.{Reading, state_of, tokens_left};
+ghost use Rattle.dac_shapes.specs.Views.{Reading, parser_state, tokens_left};
 
 use crate::names::is_mark;
 use crate::parser::Parser;
@@ -33,7 +33,7 @@ pub trait Elements<'a> {
         before: &[Self::Element],
         token: Located<'a>,
     ) -> Result<Self::Element, ConfigFault>
-        ensures read { Gives (λ x. (said x, state_of parser.new)) result (read_at self.now (map said before.now) (located_of token.entry) (state_of parser.old)) }
+        ensures read { Gives (λ x. (said x, parser_state parser.new)) result (read_at self.now (map said before.now) (located_of token.entry) (parser_state parser.old)) }
         ensures left { tokens_left parser.new ≤ tokens_left parser.old };
 }
 
@@ -46,7 +46,7 @@ impl<'a> Parser<'a> {
         close: Symbol,
         first: Located<'a>,
     ) -> Result<Vec<E::Element>, ConfigFault>
-        ensures read { Gives (λ all. (map E.said all.items, state_of self.new)) result (comma_list (E.read_at elements.now) close (room (state_of self.old)) [] (located_of first.entry) (state_of self.old)) }
+        ensures read { Gives (λ all. (map E.said all.items, parser_state self.new)) result (comma_list (E.read_at elements.now) close (room (parser_state self.old)) [] (located_of first.entry) (parser_state self.old)) }
         ensures left { tokens_left self.new ≤ tokens_left self.old }
     {
         let mut all = Vec::new(alloc);
@@ -68,7 +68,7 @@ impl<'a> Parser<'a> {
         alloc: Global,
         elements: &E,
     ) -> Result<Vec<E::Element>, ConfigFault>
-        ensures read { Gives (λ all. (map E.said all.items, state_of self.new)) result (list_of (E.read_at elements.now) (state_of self.old)) }
+        ensures read { Gives (λ all. (map E.said all.items, parser_state self.new)) result (list_of (E.read_at elements.now) (parser_state self.old)) }
         ensures left { tokens_left self.new ≤ tokens_left self.old }
     {
         self.symbol(Symbol::OpenList)?;

@@ -4,7 +4,7 @@ ghost use Rattle.std.specs.Prelude.{◌≡◌, ◌≤◌, ℕ, List, false};
 ghost use Rattle.dac_shapes.specs.Outcome.{Gives};
 ghost use Rattle.dac_tokens.specs.Words.{located_of};
 ghost use Rattle.dac_shapes.specs.Shape.{node_of, item_at, groups_at};
-ghost use Rattle.dac_shapes.specs.Views.{names_of, groups_of, state_of, tokens_left};
+ghost use Rattle.dac_shapes.specs.Views.{names_of, groups_of, parser_state, tokens_left};
 
 use crate::limits::MAX_NODES;
 use crate::list::Elements;
@@ -77,7 +77,7 @@ impl<'a> Parser<'a> {
     /// The node that a token is, in the list that is being read.
     #[tactic(auto, unfolding(crate::specs::Shape::node_of))]
     fn node(&mut self, repeats: bool, token: Located<'a>) -> Result<&'a [u8], ConfigFault>
-        ensures read { Gives (λ name. (name.now, state_of self.new)) result (node_of repeats (located_of token.entry) (state_of self.old)) }
+        ensures read { Gives (λ name. (name.now, parser_state self.new)) result (node_of repeats (located_of token.entry) (parser_state self.old)) }
         ensures left { tokens_left self.new ≤ tokens_left self.old }
     {
         let name = short_name_of(token)?;
@@ -101,7 +101,7 @@ impl<'a> Parser<'a> {
         alloc: Global,
         token: Located<'a>,
     ) -> Result<Vec<Vec<&'a [u8]>>, ConfigFault>
-        ensures read { Gives (λ groups. (groups_of groups.items, state_of self.new)) result (groups_at (located_of token.entry) (state_of self.old)) }
+        ensures read { Gives (λ groups. (groups_of groups.items, parser_state self.new)) result (groups_at (located_of token.entry) (parser_state self.old)) }
         ensures left { tokens_left self.new ≤ tokens_left self.old }
     {
         if !is_mark(Symbol::OpenList, token.token) {

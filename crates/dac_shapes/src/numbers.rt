@@ -3,7 +3,8 @@
 ghost use Rattle.std.specs.Prelude.{◌≡◌, ◌<◌, Some, None, if◌then◌else◌, nat_lt};
 ghost use Rattle.dac_shapes.specs.Outcome.{Gives};
 ghost use Rattle.dac_tokens.specs.Words.{located_of};
-ghost use Rattle.dac_shapes.specs.Shape.{value_from, timeout_of, wait_of};
+ghost use Rattle.dac_tokens.specs.Digits.{value_from};
+ghost use Rattle.dac_shapes.specs.Shape.{milliseconds_of, wait_of};
 
 use crate::draft::SyncWait;
 use crate::names::fault;
@@ -23,8 +24,8 @@ fn number_of(digits: &[u8]) -> Option<u32>
 }
 
 /// A timeout is not negative and below 2 ^ 32.
-pub fn timeout_of(at: usize, negative: bool, digits: &[u8]) -> Result<u32, ConfigFault>
-    ensures { Gives (λ n. n) result (timeout_of at negative (value_from 0 digits.now)) }
+pub fn milliseconds_of(at: usize, negative: bool, digits: &[u8]) -> Result<u32, ConfigFault>
+    ensures { Gives (λ n. n) result (milliseconds_of at negative (value_from 0 digits.now)) }
 {
     match number_of(digits) {
         Some(value) => {
@@ -51,7 +52,7 @@ pub fn wait_of(token: Located<'_>) -> Result<SyncWait, ConfigFault>
 {
     match token.token {
         Token::Number { negative, digits } => {
-            let ms = timeout_of(token.at, negative, digits)?;
+            let ms = milliseconds_of(token.at, negative, digits)?;
             Ok(SyncWait::Ms(ms))
         }
         Token::Atom(name) if name == b"infinity".as_slice() => Ok(SyncWait::Forever),

@@ -4,7 +4,7 @@ ghost use Rattle.std.specs.Prelude.{◌≡◌, ◌<◌, ◌≤◌, IfOk, true, f
 ghost use Rattle.dac_shapes.specs.Outcome.{Gives};
 ghost use Rattle.dac_tokens.specs.Words.{located_of, word_of, is_end};
 ghost use Rattle.dac_shapes.specs.Shape.{token, symbol_at, more_at};
-ghost use Rattle.dac_shapes.specs.Views.{state_of, tokens_left};
+ghost use Rattle.dac_shapes.specs.Views.{parser_state, tokens_left};
 
 use crate::names::fault;
 use dac_tokens::{ConfigFault, FaultKind, Located, Symbol, Token, Tokens};
@@ -20,7 +20,7 @@ pub struct Parser<'a> {
 impl<'a> Parser<'a> {
     /// The next token; behind the end stands the end again.
     pub fn next(&mut self) -> Result<Located<'a>, ConfigFault>
-        ensures read { Gives (λ t. (located_of t, state_of self.new)) result (token (state_of self.old)) }
+        ensures read { Gives (λ t. (located_of t, parser_state self.new)) result (token (parser_state self.old)) }
         ensures left { tokens_left self.new ≤ tokens_left self.old }
         ensures fewer { IfOk result (λ t. is_end (word_of t.token) ≡ false → tokens_left self.new < tokens_left self.old) }
     {
@@ -31,7 +31,7 @@ impl<'a> Parser<'a> {
     /// Passes over this symbol, which comes next.
     #[tactic(auto, unfolding(crate::specs::Shape::symbol_at))]
     pub fn symbol(&mut self, symbol: Symbol) -> Result<(), ConfigFault>
-        ensures read { Gives (λ _. state_of self.new) result (symbol_at symbol (state_of self.old)) }
+        ensures read { Gives (λ _. parser_state self.new) result (symbol_at symbol (parser_state self.old)) }
         ensures left { tokens_left self.new ≤ tokens_left self.old }
     {
         let next = self.next()?;
@@ -44,7 +44,7 @@ impl<'a> Parser<'a> {
     /// Whether a comma comes next, or else this symbol.
     #[tactic(auto, unfolding(crate::specs::Shape::more_at))]
     pub fn more(&mut self, close: Symbol) -> Result<bool, ConfigFault>
-        ensures read { Gives (λ b. (b, state_of self.new)) result (more_at close (state_of self.old)) }
+        ensures read { Gives (λ b. (b, parser_state self.new)) result (more_at close (parser_state self.old)) }
         ensures left { tokens_left self.new ≤ tokens_left self.old }
         ensures fewer { IfOk result (λ b. b ≡ true → tokens_left self.new < tokens_left self.old) }
     {

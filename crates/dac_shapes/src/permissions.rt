@@ -4,7 +4,7 @@ ghost use Rattle.std.specs.Prelude.{◌≡◌, ◌≤◌};
 ghost use Rattle.dac_tokens.specs.Words.{located_of};
 ghost use Rattle.dac_shapes.specs.Outcome.{Gives};
 ghost use Rattle.dac_shapes.specs.Shape.{flag_of, permission_value_at, permission_at};
-ghost use Rattle.dac_shapes.specs.Views.{permission_of, state_of, tokens_left};
+ghost use Rattle.dac_shapes.specs.Views.{permission_of, parser_state, tokens_left};
 ghost use Rattle.dac_shapes.specs.Written.{Permission as WrittenPermission};
 
 use crate::draft::Permission;
@@ -33,7 +33,7 @@ impl<'a> Parser<'a> {
     /// What stands behind the name of a permission.
     #[tactic(auto, unfolding(crate::specs::Shape::permission_value_at))]
     fn permission_value(&mut self, name: &'a [u8]) -> Result<Permission<'a>, ConfigFault>
-        ensures read { Gives (λ permission. (permission_of permission, state_of self.new)) result (permission_value_at name.now (state_of self.old)) }
+        ensures read { Gives (λ permission. (permission_of permission, parser_state self.new)) result (permission_value_at name.now (parser_state self.old)) }
         ensures left { tokens_left self.new ≤ tokens_left self.old }
     {
         let next = self.next()?;

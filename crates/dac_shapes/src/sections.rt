@@ -4,7 +4,7 @@ ghost use Rattle.std.specs.Prelude.{◌≡◌, ◌≤◌, true};
 ghost use Rattle.dac_shapes.specs.Outcome.{Gives};
 ghost use Rattle.dac_tokens.specs.Words.{located_of};
 ghost use Rattle.dac_shapes.specs.Shape.{param_value_at, param_rest_at, param_at, kernel_at, section_rest_at, section_at, end_at, file_at};
-ghost use Rattle.dac_shapes.specs.Views.{param_of, section_of, draft_of, state_of, tokens_left};
+ghost use Rattle.dac_shapes.specs.Views.{param_of, section_of, draft_of, parser_state, tokens_left};
 ghost use Rattle.dac_shapes.specs.Written.{Param as WrittenParam, Section as WrittenSection};
 
 use crate::apps::Apps;
@@ -23,7 +23,7 @@ impl<'a> Parser<'a> {
     /// The value of the parameter of this name.
     #[tactic(auto, unfolding(crate::specs::Shape::param_value_at))]
     fn param_value(&mut self, alloc: Global, name: ParamName) -> Result<Param<'a>, ConfigFault>
-        ensures read { Gives (λ param. (param_of param, state_of self.new)) result (param_value_at name (state_of self.old)) }
+        ensures read { Gives (λ param. (param_of param, parser_state self.new)) result (param_value_at name (parser_state self.old)) }
         ensures left { tokens_left self.new ≤ tokens_left self.old }
     {
         match name {
@@ -58,7 +58,7 @@ impl<'a> Parser<'a> {
         alloc: Global,
         name: Option<ParamName>,
     ) -> Result<Param<'a>, ConfigFault>
-        ensures read { Gives (λ param. (param_of param, state_of self.new)) result (param_rest_at name (state_of self.old)) }
+        ensures read { Gives (λ param. (param_of param, parser_state self.new)) result (param_rest_at name (parser_state self.old)) }
         ensures left { tokens_left self.new ≤ tokens_left self.old }
     {
         let Some(name) = name else {
@@ -73,7 +73,7 @@ impl<'a> Parser<'a> {
     /// What stands behind the name of a section, with the brace that closes it.
     #[tactic(auto, unfolding(crate::specs::Shape::kernel_at, crate::specs::Shape::section_rest_at))]
     fn section_rest(&mut self, alloc: Global, kernel: bool) -> Result<Section<'a>, ConfigFault>
-        ensures read { Gives (λ section. (section_of section, state_of self.new)) result (section_rest_at kernel (state_of self.old)) }
+        ensures read { Gives (λ section. (section_of section, parser_state self.new)) result (section_rest_at kernel (parser_state self.old)) }
         ensures left { tokens_left self.new ≤ tokens_left self.old }
     {
         if !kernel {
@@ -88,7 +88,7 @@ impl<'a> Parser<'a> {
     /// The full stop and the end behind it, and the place of the end.
     #[tactic(auto, unfolding(crate::specs::Shape::end_at))]
     fn end(&mut self) -> Result<usize, ConfigFault>
-        ensures { Gives (λ at. (at, state_of self.new)) result (end_at (state_of self.old)) }
+        ensures { Gives (λ at. (at, parser_state self.new)) result (end_at (parser_state self.old)) }
     {
         self.symbol(Symbol::FullStop)?;
         let end = self.next()?;
@@ -101,7 +101,7 @@ impl<'a> Parser<'a> {
     /// A whole file.
     #[tactic(auto, unfolding(crate::specs::Shape::file_at))]
     pub fn file(mut self, alloc: Global) -> Result<Draft<'a>, ConfigFault>
-        ensures { Gives draft_of result (file_at (state_of self.entry)) }
+        ensures { Gives draft_of result (file_at (parser_state self.entry)) }
     {
         let sections = self.list(alloc, &Sections)?;
         let end = self.end()?;

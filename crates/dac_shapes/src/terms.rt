@@ -4,7 +4,7 @@ ghost use Rattle.std.specs.Prelude.{◌≡◌, ℕ, ◌<◌, ◌≤◌, IfOk, fa
 ghost use Rattle.dac_tokens.specs.Words.{located_of, word_of, is_end};
 ghost use Rattle.dac_shapes.specs.Outcome.{Gives};
 ghost use Rattle.dac_shapes.specs.Shape.{IsEnough, closing_of, texts_at, terms_in, term_at, passed_at};
-ghost use Rattle.dac_shapes.specs.Views.{state_of, tokens_left};
+ghost use Rattle.dac_shapes.specs.Views.{parser_state, tokens_left};
 
 use crate::names::{fault, is_mark, is_text};
 use crate::parser::Parser;
@@ -24,7 +24,7 @@ fn closing_of(symbol: Symbol) -> Option<Symbol>
 impl<'a> Parser<'a> {
     /// The token behind strings in a row, of which the first is passed already.
     fn behind_texts(&mut self) -> Result<Located<'a>, ConfigFault>
-        ensures read { (n : ℕ) → tokens_left self.old < n → Gives (λ t. (located_of t, state_of self.new)) result (texts_at n (state_of self.old)) }
+        ensures read { (n : ℕ) → tokens_left self.old < n → Gives (λ t. (located_of t, parser_state self.new)) result (texts_at n (parser_state self.old)) }
         ensures left { tokens_left self.new ≤ tokens_left self.old }
         ensures fewer { IfOk result (λ t. is_end (word_of t.token) ≡ false → tokens_left self.new < tokens_left self.old) }
     {
@@ -38,7 +38,7 @@ impl<'a> Parser<'a> {
     /// The token behind the closing symbol, up to which terms parted by commas, or nothing, stand.
     #[cycle(terms)]
     fn behind_terms(&mut self, close: Symbol) -> Result<Located<'a>, ConfigFault>
-        ensures read { (n : ℕ) → tokens_left self.old < n → Gives (λ t. (located_of t, state_of self.new)) result (terms_in (term_at n) close n (state_of self.old)) }
+        ensures read { (n : ℕ) → tokens_left self.old < n → Gives (λ t. (located_of t, parser_state self.new)) result (terms_in (term_at n) close n (parser_state self.old)) }
         ensures left { tokens_left self.new ≤ tokens_left self.old }
         ensures fewer { IfOk result (λ t. is_end (word_of t.token) ≡ false → tokens_left self.new < tokens_left self.old) }
     {
@@ -61,7 +61,7 @@ impl<'a> Parser<'a> {
     /// The token behind a term that begins with this token.
     #[cycle(terms)]
     fn behind_term(&mut self, token: Located<'a>) -> Result<Located<'a>, ConfigFault>
-        ensures read { (n : ℕ) → IsEnough (located_of token.entry) (state_of self.old) n → Gives (λ t. (located_of t, state_of self.new)) result (term_at n (located_of token.entry) (state_of self.old)) }
+        ensures read { (n : ℕ) → IsEnough (located_of token.entry) (parser_state self.old) n → Gives (λ t. (located_of t, parser_state self.new)) result (term_at n (located_of token.entry) (parser_state self.old)) }
         ensures left { tokens_left self.new ≤ tokens_left self.old }
         ensures fewer { IfOk result (λ t. is_end (word_of t.token) ≡ false → tokens_left self.new < tokens_left self.old) }
     {
@@ -79,7 +79,7 @@ impl<'a> Parser<'a> {
     /// Passes over a term and the brace that closes its pair.
     #[tactic(auto, unfolding(crate::specs::Shape::passed_at))]
     pub fn pass(&mut self) -> Result<(), ConfigFault>
-        ensures read { Gives (λ _. state_of self.new) result (passed_at (state_of self.old)) }
+        ensures read { Gives (λ _. parser_state self.new) result (passed_at (parser_state self.old)) }
         ensures left { tokens_left self.new ≤ tokens_left self.old }
     {
         let first = self.next()?;

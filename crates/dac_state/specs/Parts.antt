@@ -8,11 +8,11 @@ use Rattle.dac_wishes.specs.PermissionsValue.{PermissionsValue}
 use Rattle.dac_meaning.specs.StateValue.{StateValue, IsState}
 
 -- the state of these parts
-abbrev pub state_of : Dots → PermissionsValue → WishesValue → Lives → Claims → StateValue
-state_of heard permissions wishes lives claims = record { heard = heard; known = wishes.known; permits = permissions.standing; starts = wishes.standing; lives = lives; claims = claims }
+abbrev pub state_of_parts : Dots → PermissionsValue → WishesValue → Lives → Claims → StateValue
+state_of_parts heard permissions wishes lives claims = record { heard = heard; known = wishes.known; permits = permissions.standing; starts = wishes.standing; lives = lives; claims = claims }
 
 -- the parts make a state
 pub record AreParts (heard : Dots) (permissions : PermissionsValue) (wishes : WishesValue) (lives : Lives) (claims : Claims) : Type 0 where
   -- permissions and wishes know the same dots
   pub alike : permissions.known ≡ wishes.known
-  pub state : IsState (state_of heard permissions wishes lives claims)
+  pub state : IsState (state_of_parts heard permissions wishes lives claims)

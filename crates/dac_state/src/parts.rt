@@ -1,7 +1,7 @@
 //! The parts of a state.
 ghost use Rattle.std.specs.Prelude.{◌≡◌, ◌↔◌, IsTrue, IfOk};
 ghost use Rattle.dac_meaning.specs.StateValue.{IsState, IsBelow, join, permissions_of, wishes_of};
-ghost use Rattle.dac_state.specs.Parts.{AreParts, state_of};
+ghost use Rattle.dac_state.specs.Parts.{AreParts, state_of_parts};
 
 use dac_base::NoMemory;
 use dac_chains::{Claims, Lives};
@@ -24,13 +24,13 @@ pub(crate) struct Parts {
 
 impl Model for Parts {
     ghost use Rattle.dac_meaning.specs.StateValue.{StateValue, coded_state};
-    ghost use Rattle.dac_state.specs.Parts.{AreParts, state_of};
+    ghost use Rattle.dac_state.specs.Parts.{AreParts, state_of_parts};
 
     ghost Value = { StateValue };
 
     ghost coded = { coded_state };
 
-    ghost view = { λ a. state_of a.heard a.permissions a.wishes a.lives a.claims };
+    ghost view = { λ a. state_of_parts a.heard a.permissions a.wishes a.lives a.claims };
 
     ghost invariant = { λ a. AreParts a.heard a.permissions a.wishes a.lives a.claims };
 }
@@ -46,7 +46,7 @@ impl Parts {
         claims: Claims,
     ) -> Self
         requires { AreParts heard permissions wishes lives claims }
-        ensures { result ≡ state_of heard permissions wishes lives claims }
+        ensures { result ≡ state_of_parts heard permissions wishes lives claims }
     {
         Parts {
             alloc,

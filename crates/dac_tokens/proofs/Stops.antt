@@ -16,7 +16,7 @@ use Rattle.dac_tokens.specs.Words.{Located}
 use Rattle.dac_tokens.specs.Scan.{class_of, is_name_byte, ends_stop, unsupported, token_of, word_at}
 use Rattle.dac_tokens.specs.Stream.{depth_after}
 use Rattle.dac_tokens.specs.TokenGrammar.{StartsGap, IsNameByte, Begins, IsNumber}
-use Rattle.dac_tokens.specs.TokenFaults.{IsOpening, IsRefused, IsUnknown, NoToken, LoneDot, LoneMinus, Unknown, Function, OtherNumber, InQuotes, NoQuote, ThreeQuotes, ControlEscape, NoDoubleQuote, Refused, TooDeep}
+use Rattle.dac_tokens.specs.TokenFaults.{IsOpeningBracket, IsRefused, IsUnknown, NoToken, LoneDot, LoneMinus, Unknown, Function, OtherNumber, InQuotes, NoQuote, ThreeQuotes, ControlEscape, NoDoubleQuote, Refused, TooDeep}
 use Rattle.dac_tokens.proofs.Bytes.{tells_digit, tells_name_byte, tells_stop, tells_break, refused_class, unknown_class}
 use Rattle.dac_tokens.proofs.Quotes.{quoted_refused, quoted_open}
 use Rattle.dac_tokens.proofs.Reading.{atom_is, numbers_are}
@@ -41,7 +41,7 @@ fun_bytes =
     let byte : (b : ℕ) → is_name_byte b ≡ true → IsNameByte b = λ b e. (tells_name_byte b).0 e in
     All-cons IsNameByte 102 (117 ∷ 110 ∷ []) (byte 102 refl) (All-cons IsNameByte 117 (110 ∷ []) (byte 117 refl) (All-cons IsNameByte 110 [] (byte 110 refl) (All-nil IsNameByte)))
 
-deep_read : (at depth : ℕ) (bytes : List ℕ) → 64 ≤ depth → Begins IsOpening bytes → step depth at bytes ≡ unsupported at
+deep_read : (at depth : ℕ) (bytes : List ℕ) → 64 ≤ depth → Begins IsOpeningBracket bytes → step depth at bytes ≡ unsupported at
 unfolding word_at
 deep_read at depth [] le h = absurd h
 deep_read at depth (b ∷ bs) le (inl e) = rw (e, le-leb 64 depth le) refl
@@ -107,4 +107,4 @@ no_gap_stop depth bytes _ kind (ThreeQuotes rest parts) gap = shut 34 refl (rw p
 no_gap_stop depth bytes _ kind (ControlEscape inner rest parts text) gap = shut 34 refl (rw parts at gap)
 no_gap_stop depth bytes _ kind (NoDoubleQuote inner last parts text ends) gap = shut 34 refl (rw parts at gap)
 no_gap_stop depth bytes _ kind (Refused h) gap = apart IsRefused bytes (λ b refused start. grind (arith, nat_tests)) h gap
-no_gap_stop depth bytes _ kind (TooDeep le h) gap = apart IsOpening bytes (λ b opening start. grind (arith, nat_tests)) h gap
+no_gap_stop depth bytes _ kind (TooDeep le h) gap = apart IsOpeningBracket bytes (λ b opening start. grind (arith, nat_tests)) h gap

@@ -12,7 +12,7 @@ use Rattle.dac_tokens.specs.Words.{Word, Mark, Name, Number, Text, End, is_end, 
 use Rattle.dac_tokens.specs.Scan.{after_gap, class_of, unsupported, token_of, word_at}
 use Rattle.dac_tokens.specs.Stream.{Stream, depth_after, token_from, and_then, tokens_within, tokens_of, end_at, ended, stopped, taken}
 use Rattle.dac_tokens.specs.TokenGrammar.{Begins, Nothing, IsLastGap, Closed, IsNextToken, AreSpelled, depth_behind, NestWell, AreTokensOf}
-use Rattle.dac_tokens.specs.TokenFaults.{IsOpening, TooDeep, IsFaultAt, StopAt}
+use Rattle.dac_tokens.specs.TokenFaults.{IsOpeningBracket, TooDeep, IsFaultAt, StopAt}
 use Rattle.dac_tokens.proofs.Found.{IsToken, StopsThere, Found}
 use Rattle.dac_tokens.proofs.Gaps.{IsPassed, length_after_gap, last_gap, gap_before, gap_read, last_read}
 use Rattle.dac_tokens.proofs.Reading.{token_read, own_some, no_gap, no_end}
@@ -53,7 +53,7 @@ depth_read at depth w le within = by w (depth_after at depth w) within (depth_fo
     by _ _ within (List65 deep) = absurd (omega (arith, within, deep))
     by _ _ within (Tuple65 deep) = absurd (omega (arith, within, deep))
 
-opening_begins : (bytes own rest : List ℕ) (b : ℕ) → bytes ≡ own ++ rest → own ≡ b ∷ [] → IsOpening b → Begins IsOpening bytes
+opening_begins : (bytes own rest : List ℕ) (b : ℕ) → bytes ≡ own ++ rest → own ≡ b ∷ [] → IsOpeningBracket b → Begins IsOpeningBracket bytes
 opening_begins bytes own rest b parts is h = rw (parts, is) h
 
 -- what stands first in bytes that begin at the offset `at`: the end behind a gap, a token, or a fault

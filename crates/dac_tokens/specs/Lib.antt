@@ -1,3 +1,4 @@
+pub mod Digits
 pub mod Faults
 pub mod Gives
 pub mod Scan
@@ -5,3 +6,4 @@ pub mod Stream
 pub mod TokenFaults
 pub mod TokenGrammar
 pub mod Words
+pub mod laws

@@ -10,8 +10,8 @@ use Rattle.dac_tokens.specs.Words.{Located}
 use Rattle.dac_tokens.specs.TokenGrammar.{StartsGap, IsGap, IsNameByte, IsQuotable, IsUnquotable, Begins, bytes_of, IsNumber, GoesOnAsNumber, EndsTerm, IsStringText, IsNextToken, depth_behind}
 
 -- an opening bracket
-abbrev pub IsOpening : ℕ → Type 0
-IsOpening b = (b ≡ 91) ⊎ (b ≡ 123)
+abbrev pub IsOpeningBracket : ℕ → Type 0
+IsOpeningBracket b = (b ≡ 91) ⊎ (b ≡ 123)
 
 -- a byte with which something of Erlang begins that isn't read: `<`, `#`, `$`, `+`, `~`, `|`, or one past ASCII
 abbrev pub IsRefused : ℕ → Type 0
@@ -43,7 +43,7 @@ pub data NoToken (depth : ℕ) (bytes : List ℕ) : ℕ → FaultKind → Type 0
   ControlEscape : (inner rest : List ℕ) → bytes ≡ 34 ∷ (inner ++ 92 ∷ 94 ∷ rest) → IsStringText inner → NoToken depth bytes (1 + length inner) Unsupported
   NoDoubleQuote : (inner last : List ℕ) → bytes ≡ 34 ∷ (inner ++ last) → IsStringText inner → (last ≡ []) ⊎ (last ≡ 92 ∷ []) → NoToken depth bytes 0 BadToken
   Refused : Begins IsRefused bytes → NoToken depth bytes 0 Unsupported
-  TooDeep : MAX_DEPTH ≤ depth → Begins IsOpening bytes → NoToken depth bytes 0 Unsupported
+  TooDeep : MAX_DEPTH ≤ depth → Begins IsOpeningBracket bytes → NoToken depth bytes 0 Unsupported
 
 -- Bytes that begin at the offset `at` have this fault behind a gap.
 pub record IsFaultAt (at depth : ℕ) (bytes : List ℕ) (e : ConfigFault) : Type 0 where

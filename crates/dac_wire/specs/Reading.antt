@@ -12,7 +12,7 @@ use Rattle.dac_config.specs.Table.{Table, node_count, app_count}
 use Rattle.dac_bytes.specs.declared.fault.ReadFault.{ReadFault}
 use Rattle.dac_bytes.specs.declared.fault.ReadFaultKind.TheVariants.{BadNumber, NotInList, Trailing}
 use Rattle.dac_bytes.specs.Reading.{Rest, Field, fault, ◌>>=◌, number_at, range_at, node_at, counter_at, origin_at, dot_at, dot_above_at, counted_at}
-use Rattle.dac_part_bytes.specs.Reading.{app_at, key_at, manner_at, is_listed}
+use Rattle.dac_part_bytes.specs.Reading.{app_at, key_above_at, manner_at, is_listed}
 use Rattle.dac_meaning.specs.StateValue.{StateValue}
 use Rattle.dac_state.specs.StateReading.{parts_at}
 use Rattle.dac_messages.specs.declared.message.Body.{Body}
@@ -115,7 +115,7 @@ over_at nodes r = counted_at (number_at w16) (dot_above_at nodes) (λ (d : Dot).
 -- a key, and the dots
 unfoldable pub keyed_over_at : Table → Rest → Field (Key × List Dot)
 keyed_over_at t r = do
-  key ← key_at t None r
+  key ← key_above_at t None r
   over ← over_at (node_count t) key.1
   Ok ((key.0, over.0), over.1)
 
@@ -129,7 +129,7 @@ valued_over_at nodes r = do
 -- a key, what a permit says, and the dots
 unfoldable pub permit_fields_at : Table → Rest → Field (Key × (Bool × List Dot))
 permit_fields_at t r = do
-  key ← key_at t None r
+  key ← key_above_at t None r
   valued ← valued_over_at (node_count t) key.1
   Ok ((key.0, valued.0), valued.1)
 

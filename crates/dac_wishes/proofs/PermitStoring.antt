@@ -22,7 +22,7 @@ use Rattle.dac_store.specs.DotMaps.{has_in, store_at, IsKeyedBelow, join_keyed, 
 use Rattle.dac_wishes.specs.declared.key.Key.{Key}
 use Rattle.dac_wishes.specs.Keys.{key_cmp, same_key, keys_total, exact_keys}
 use Rattle.dac_wishes.specs.Writes.{Write, write, same_dot}
-use Rattle.dac_wishes.specs.PermissionsValue.{PermissionsValue, ArePermissions, IsPermissionsBelow, join_permissions, joined_permit, known-join, standing-join, same_permissions, permits_at, is_permitted_by, is_permitted, is_up, IsPermitted}
+use Rattle.dac_wishes.specs.PermissionsValue.{PermissionsValue, ArePermissions, IsPermissionsBelow, join_permissions, joined_permit, known-join, standing-join, same_permissions, permits_at, is_permitted_by, is_permitted, says_true, IsPermitted}
 use Rattle.dac_wishes.specs.StoredPermits.{DotFlags, StoredFlags, AreStoredFlags, permits_of, permissions_of}
 use Rattle.dac_wishes.specs.PermitsByKey.{get-permits_of, find-permits_at, permits_at-sorted}
 

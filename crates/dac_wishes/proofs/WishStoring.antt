@@ -16,7 +16,7 @@ use Rattle.dac_store.specs.DotMaps.{has_in, store_at, IsKept, IsKeyedBelow, join
 use Rattle.dac_wishes.specs.declared.key.Key.{Key}
 use Rattle.dac_wishes.specs.Keys.{key_cmp, same_key, keys_total, exact_keys, same_key_is, same_key_itself}
 use Rattle.dac_wishes.specs.Writes.{Write, write, write_cmp, writes_total, exact_writes, same_dot, same_dot_itself}
-use Rattle.dac_wishes.specs.WishesValue.{WishesValue, AreWishes, IsBelow, join_wishes, is_wished, SomeStands, known-join, standing-join, same_wishes}
+use Rattle.dac_wishes.specs.WishesValue.{WishesValue, AreWishes, AreWishesBelow, join_wishes, is_wished, SomeStands, known-join, standing-join, same_wishes}
 use Rattle.dac_wishes.specs.StoredWishes.{StoredDots, AreStoredDots, writes_of, wishes_of}
 use Rattle.dac_wishes.specs.StartsByKey.{contains-writes_of}
 use Rattle.dac_wishes.specs.laws.Wished.{is_wished-some}
@@ -50,10 +50,10 @@ module _ (v w : StoredDots) (a : AreStoredDots v) (b : AreStoredDots w) where
   there : (q : Write) → set.contains (writes_of w.store) q ≡ set.contains (store_at set.empty (find key_cmp q.key w.store)) q.dot
   there q = contains-writes_of w.store b.store.in_order q
 
-  pub below_if_stored : IsStoredWishesBelow v w → IsBelow (wishes_of v) (wishes_of w)
+  pub below_if_stored : IsStoredWishesBelow v w → AreWishesBelow (wishes_of v) (wishes_of w)
   below_if_stored p = record { known = p.0; standing = λ q h k. here q ∙ p.1 q.key q.dot (sym (there q) ∙ h) k }
 
-  pub stored_if_below : IsBelow (wishes_of v) (wishes_of w) → IsStoredWishesBelow v w
+  pub stored_if_below : AreWishesBelow (wishes_of v) (wishes_of w) → IsStoredWishesBelow v w
   stored_if_below p = (p.known, λ key d h k. sym (here (write key d)) ∙ p.standing (write key d) (there (write key d) ∙ h) k)
 
   pub joined_stored : AreStoredDots (join_stored_wishes v w)

@@ -23,21 +23,21 @@ use Rattle.dac_wishes.specs.Keys.{same_key}
 use Rattle.dac_wishes.specs.Writes.{Write, write, write_cmp, writes_total, exact_writes, coded_write}
 
 -- permitted
-abbrev pub is_up : Flag → Bool
-is_up Up = true
-is_up Down = false
+abbrev pub says_true : Flag → Bool
+says_true Up = true
+says_true Down = false
 
 -- a permission as a flag
 abbrev pub flag_of : Bool → Flag
 flag_of true = Up
 flag_of false = Down
 
-pub flag_again : (f : Flag) → flag_of (is_up f) ≡ f
+pub flag_again : (f : Flag) → flag_of (says_true f) ≡ f
 flag_again Up = refl
 flag_again Down = refl
 
 abbrev pub coded_flag : Coded Flag
-coded_flag = code_by Bool coded_bool is_up flag_of flag_again
+coded_flag = code_by Bool coded_bool says_true flag_of flag_again
 
 -- permits with their values
 abbrev pub Permits : Type 0
@@ -85,7 +85,7 @@ permits_at key permits = permits_among key (map.entries permits)
 
 -- what permits at one key say: the default where there is none, and else whether all say true
 abbrev pub is_permitted_by : Bool → List (Dot × Flag) → Bool
-is_permitted_by default permits = if is_empty_list permits then default else list_all (λ (p : Dot × Flag). is_up p.1) permits
+is_permitted_by default permits = if is_empty_list permits then default else list_all (λ (p : Dot × Flag). says_true p.1) permits
 
 abbrev pub is_permitted : Key → Bool → PermissionsValue → Bool
 is_permitted key default v = is_permitted_by default (permits_at key v.standing)

@@ -20,7 +20,7 @@ use Rattle.dac_wishes.specs.declared.permit_act.PermitAct.TheVariants.{Permit, O
 use Rattle.dac_wishes.specs.Keys.{same_key}
 use Rattle.dac_wishes.specs.Writes.{Write, write, write_cmp, writes_total, same_dot, same_dot_is, same_write}
 use Rattle.dac_wishes.specs.PermissionsValue.{PermissionsValue, ArePermissions, join_permissions, no_permissions, flag_of, known-join, standing-join, same_permissions}
-use Rattle.dac_wishes.specs.Replacing.{has_dot, replaces, is_replaced, SparesItself, named_by, KnownAreNamed, contains-named_by, known_more, names-or, spares}
+use Rattle.dac_wishes.specs.Replacing.{has_dot, replaces, is_replaced, SparesItself, named_by, AreNamedIn, contains-named_by, known_more, names-or, spares}
 
 -- the dots that an act replaces
 abbrev pub over_of : PermitAct → List Dot
@@ -48,7 +48,7 @@ said w (o ∷ os) = or_else (permit_in w o) (said w os)
 
 -- The value is what the operations mean: a permit stands, with its value, if an operation is it and none replaces its dot.
 pub record IsMeaning (os : List (Dot × PermitAct)) (v : PermissionsValue) : Type 0 where
-  pub known : KnownAreNamed over_of os v.known
+  pub known : AreNamedIn over_of os v.known
   pub standing : (w : Write) → map.get v.standing w ≡ (if is_replaced over_of w.dot os then None else said w os)
 
 -- the permit in an operation

@@ -36,8 +36,8 @@ module _ {A : Type 0} (over : A → List Dot) where
   named_by d a = set.from_list (d ∷ over a)
 
   -- the known dots are those that the operations have or replace
-  abbrev pub KnownAreNamed : List (Dot × A) → Dots → Type 0
-  KnownAreNamed os known = (x : Dot) → set.contains known x ≡ list_any (names x) os
+  abbrev pub AreNamedIn : List (Dot × A) → Dots → Type 0
+  AreNamedIn os known = (x : Dot) → set.contains known x ≡ list_any (names x) os
 
   -- ---- laws
 
@@ -51,7 +51,7 @@ module _ {A : Type 0} (over : A → List Dot) where
   contains-named_by d a x = set.contains-from_list dots_total (d ∷ over a) x
 
   -- with one operation more, the dots that it names are known too
-  pub known_more : (os : List (Dot × A)) (o : Dot × A) (known : Dots) → KnownAreNamed os known → KnownAreNamed (o ∷ os) (set.union known (named_by o.0 o.1))
+  pub known_more : (os : List (Dot × A)) (o : Dot × A) (known : Dots) → AreNamedIn os known → AreNamedIn (o ∷ os) (set.union known (named_by o.0 o.1))
   known_more os o known h x =
       set.contains-union dots_total known (named_by o.0 o.1) x
       ∙ (λ i. h x i || contains-named_by o.0 o.1 x i)

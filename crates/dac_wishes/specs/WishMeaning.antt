@@ -15,7 +15,7 @@ use Rattle.dac_wishes.specs.declared.wish_act.WishAct.TheVariants.{Start, Other}
 use Rattle.dac_wishes.specs.Keys.{same_key}
 use Rattle.dac_wishes.specs.Writes.{Write, write, write_cmp, writes_total, same_dot, same_dot_is, same_write}
 use Rattle.dac_wishes.specs.WishesValue.{WishesValue, AreWishes, join_wishes, no_wishes, known-join, standing-join, same_wishes}
-use Rattle.dac_wishes.specs.Replacing.{has_dot, replaces, is_replaced, SparesItself, named_by, KnownAreNamed, contains-named_by, known_more, names-or, spares, found, finds, again}
+use Rattle.dac_wishes.specs.Replacing.{has_dot, replaces, is_replaced, SparesItself, named_by, AreNamedIn, contains-named_by, known_more, names-or, spares, found, finds, again}
 
 -- the dots that an act replaces
 abbrev pub over_of : WishAct → List Dot
@@ -33,7 +33,7 @@ is_start w o = wishes w.key o.1 && has_dot w.dot o
 
 -- The value is what the operations mean: a wish stands if an operation is it and none replaces its dot.
 pub record IsMeaning (os : List (Dot × WishAct)) (v : WishesValue) : Type 0 where
-  pub known : KnownAreNamed over_of os v.known
+  pub known : AreNamedIn over_of os v.known
   pub standing : (w : Write) → set.contains v.standing w ≡ (list_any (is_start w) os && not (is_replaced over_of w.dot os))
 
 -- the wishes in an operation

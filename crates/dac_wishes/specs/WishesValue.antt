@@ -28,7 +28,7 @@ abbrev pub AreWishes : WishesValue → Type 0
 AreWishes v = (w : Write) → set.contains v.standing w ≡ true → set.contains v.known w.dot ≡ true
 
 -- x is below y: y knows all that x does, and what x knows and lets stand no more doesn't stand in y. Written without join.
-pub record IsBelow (x y : WishesValue) : Type 0 where
+pub record AreWishesBelow (x y : WishesValue) : Type 0 where
   pub known : IsSubset x.known y.known
   -- a wish that stands in y and that x knows stands in x
   pub standing : (w : Write) → set.contains y.standing w ≡ true → set.contains x.known w.dot ≡ true → set.contains x.standing w ≡ true
@@ -76,7 +76,7 @@ same_wishes x y known h =
 
 -- ---- the laws
 
-one_value : (x y : WishesValue) → AreWishes x → AreWishes y → IsBelow x y → IsBelow y x → x ≡ y
+one_value : (x y : WishesValue) → AreWishes x → AreWishes y → AreWishesBelow x y → AreWishesBelow y x → x ≡ y
 one_value x y u v p q = same_wishes x y (same_context x.known y.known p.known q.known) (λ w.
     both_ways _ _ (λ h. q.standing w h (p.known w.dot (u w h))) (λ h. p.standing w h (q.known w.dot (v w h))))
 
@@ -87,21 +87,21 @@ joined_wishes x y u v w h = elim (or_cases (set.contains x.standing w) (set.cont
   | inr b ↦ subset_right x.known y.known w.dot (v w b)
 ]
 
-above_left : (x y : WishesValue) → IsBelow x (join_wishes x y)
+above_left : (x y : WishesValue) → AreWishesBelow x (join_wishes x y)
 unfolding join_wishes
 above_left x y = record {
   known = subset_left x.known y.known;
   standing = λ w h k. held_left (set.contains x.standing w) (set.contains x.known w.dot) (set.contains y.standing w) (set.contains y.known w.dot) (sym (standing-join x y w) ∙ h) k;
 }
 
-above_right : (x y : WishesValue) → IsBelow y (join_wishes x y)
+above_right : (x y : WishesValue) → AreWishesBelow y (join_wishes x y)
 unfolding join_wishes
 above_right x y = record {
   known = subset_right x.known y.known;
   standing = λ w h k. held_right (set.contains x.standing w) (set.contains x.known w.dot) (set.contains y.standing w) (set.contains y.known w.dot) (sym (standing-join x y w) ∙ h) k;
 }
 
-below_both : (x y z : WishesValue) → IsBelow x z → IsBelow y z → IsBelow (join_wishes x y) z
+below_both : (x y z : WishesValue) → AreWishesBelow x z → AreWishesBelow y z → AreWishesBelow (join_wishes x y) z
 unfolding join_wishes
 below_both x y z p q = record {
   known = subset_union x.known y.known z.known p.known q.known;
@@ -111,7 +111,7 @@ below_both x y z p q = record {
     known_either : (d : Dot) → set.contains (set.union x.known y.known) d ≡ true → (set.contains x.known d || set.contains y.known d) ≡ true
     known_either d k = sym (set.contains-union dots_total x.known y.known d) ∙ k
 
-pub wishes_laws : IsLattice AreWishes IsBelow join_wishes
+pub wishes_laws : IsLattice AreWishes AreWishesBelow join_wishes
 wishes_laws = record {
   refl = λ x _. record { known = λ d h. h; standing = λ w h k. h };
   trans = λ x y z _ _ _ p q. record { known = λ d h. q.known d (p.known d h); standing = λ w h k. p.standing w (q.standing w h (p.known w.dot k)) k };
@@ -125,7 +125,7 @@ wishes_laws = record {
 pub no_wishes_value : AreWishes no_wishes
 no_wishes_value w h = absurd (false≢true (sym (set.contains-empty write_cmp w) ∙ h))
 
-pub no_wishes_least : (x : WishesValue) → IsBelow no_wishes x
+pub no_wishes_least : (x : WishesValue) → AreWishesBelow no_wishes x
 no_wishes_least x = record {
   known = subset_empty x.known;
   standing = λ w h k. absurd (false≢true (sym (set.contains-empty dot_cmp w.dot) ∙ k));

@@ -3,7 +3,7 @@ ghost use Rattle.std.specs.Prelude.{◌≡◌, ◌↔◌, IsTrue, IfOk};
 ghost use Rattle.std.specs.List.{list_all};
 ghost use Rattle.dac_lattice.specs.declared.flags.Flag.{Flag as FlagValue};
 ghost use Rattle.dac_dots.specs.declared.dot.Dot.{Dot as DotValue};
-ghost use Rattle.dac_wishes.specs.PermissionsValue.{flag_of, is_up, is_permitted, is_permitted_by, IsPermitted, permits_at};
+ghost use Rattle.dac_wishes.specs.PermissionsValue.{flag_of, says_true, is_permitted, is_permitted_by, IsPermitted, permits_at};
 ghost use Rattle.dac_wishes.specs.StoredDeltas.{stored_permit};
 
 use crate::delta::{beside, named_by};
@@ -94,7 +94,7 @@ impl Permissions {
 
 /// Whether a permit says true.
 fn says_true(flag: Flag) -> bool
-    ensures { result ≡ is_up flag }
+    ensures { result ≡ says_true flag }
 {
     match flag {
         Flag::Up => true,
@@ -115,7 +115,7 @@ fn permitted_by(default: bool, permits: &[(Dot, Flag)]) -> bool
 
 /// Whether each permit says true.
 fn all_say_true(permits: &[(Dot, Flag)]) -> bool
-    ensures { result ≡ list_all (λ (p : DotValue × FlagValue). is_up p.1) permits.now }
+    ensures { result ≡ list_all (λ (p : DotValue × FlagValue). says_true p.1) permits.now }
 {
     permits.iter().all(|permit| says_true(permit.1))
 }

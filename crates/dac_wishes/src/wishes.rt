@@ -102,11 +102,11 @@ fn start_in(alloc: Global, dot: Dot, act: &WishAct) -> Result<DotMap<Key, DotSet
 }
 
 impl Lattice for Wishes {
-    ghost use Rattle.dac_wishes.specs.WishesValue.{AreWishes, IsBelow, join_wishes, wishes_laws};
+    ghost use Rattle.dac_wishes.specs.WishesValue.{AreWishes, AreWishesBelow, join_wishes, wishes_laws};
 
     ghost is_value = { AreWishes };
 
-    ghost below = { IsBelow };
+    ghost below = { AreWishesBelow };
 
     ghost join = { join_wishes };
 

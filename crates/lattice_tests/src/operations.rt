@@ -196,7 +196,7 @@ fn is_seen(
 /// Whether lives and claims see this of an operation.
 fn sees(op: &Op, life: LifeAct, claim: ClaimAct) -> bool {
     op.known();
-    op.life_act() == life && op.claim_act() == claim && op.act().is_up() == (life == LifeAct::Up)
+    op.life_act() == life && op.claim_act() == claim && op.act().says_up() == (life == LifeAct::Up)
 }
 
 /// Operations by counter and kind, and what lives and claims see of them.

@@ -19,7 +19,7 @@ use Rattle.dac_events.specs.declared.Command.{Command}
 use Rattle.dac_events.specs.declared.Command.TheVariants.{Down, Permit, Start, Stop, Takeover}
 use Rattle.dac_commands.specs.declared.refusal.Refusal.{Refusal}
 use Rattle.dac_commands.specs.declared.refusal.Refusal.TheVariants.{DeclaredDown}
-use Rattle.dac_commands.specs.Commands.{live, live_or_none, key_at, standing_starts, standing_permits, claim_act, act_of}
+use Rattle.dac_commands.specs.Commands.{live, live_or_none, live_key, standing_starts, standing_permits, claim_act, act_of}
 use Rattle.dac_commands.specs.Causes.{first, causes_of, refusal_of_command, declared_down, not_live, terms_used_up, used_up}
 use Rattle.dac_commands.specs.Written.{IsKeyAt, StartStands, PermitStands, AreThose, TakesOver, Says, WritesWhatIsSaid}
 use Rattle.dac_commands.specs.laws.Counters.{next_of_is}
@@ -63,7 +63,7 @@ module _ (t : Table) (own : Origin) (s : StateValue) where
       by_live None e p = absurd (true≢false p)
       by_live (Some i) e p = (live_is s.lives node i).0 e
 
-  key_is : (app : AppId) (node : NodeId) → not_live s node ≡ false → IsKeyAt s app node (key_at s app node)
+  key_is : (app : AppId) (node : NodeId) → not_live s node ≡ false → IsKeyAt s app node (live_key s app node)
   key_is app node h = record { same_app = refl; same_node = refl; live = live_there node h }
 
   starts_are : (key : Key) → AreThose (StartStands s key) (standing_starts s key)
@@ -87,13 +87,13 @@ module _ (t : Table) (own : Origin) (s : StateValue) where
   says (Down node) e = (live_or_none s node, (refl, live_there node (none_is (all_causes t own s (Down node)) e).1.1.1.0))
   says (Permit app node value) e =
       let live = (none_is (all_causes t own s (Permit app node value)) e).1.1.1.1.0 in
-      record { key = key_at s app node; over = standing_permits s (key_at s app node); is = refl; at = key_is app node live; replaces = permits_are (key_at s app node) }
+      record { key = live_key s app node; over = standing_permits s (live_key s app node); is = refl; at = key_is app node live; replaces = permits_are (live_key s app node) }
   says (Start app node) e =
       let live = (none_is (all_causes t own s (Start app node)) e).1.1.1.1.0 in
-      record { key = key_at s app node; over = standing_starts s (key_at s app node); is = refl; at = key_is app node live; replaces = starts_are (key_at s app node) }
+      record { key = live_key s app node; over = standing_starts s (live_key s app node); is = refl; at = key_is app node live; replaces = starts_are (live_key s app node) }
   says (Stop app node) e =
       let live = (none_is (all_causes t own s (Stop app node)) e).1.1.1.1.0 in
-      record { key = key_at s app node; over = standing_starts s (key_at s app node); is = refl; at = key_is app node live; replaces = starts_are (key_at s app node) }
+      record { key = live_key s app node; over = standing_starts s (live_key s app node); is = refl; at = key_is app node live; replaces = starts_are (live_key s app node) }
   says (Takeover app) e =
       let none = none_is (all_causes t own s (Takeover app)) e in
       takes app none.1.1.1.1.0 none.1.1.1.1.1.1.1.0

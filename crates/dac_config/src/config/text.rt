@@ -4,7 +4,7 @@ ghost use Rattle.std.specs.Prelude.{◌≡◌, ◌<◌, ◌≤◌, not, codes, l
 ghost use Rattle.std.specs.Fmt.{decimal};
 ghost use Rattle.dac_shapes.specs.declared.draft.SyncWait.TheVariants.{Ms};
 ghost use Rattle.dac_config.specs.Sinks.{Gains};
-ghost use Rattle.dac_config.specs.Canonical.{name_text, parted_behind, parted, node_text, tuple_text, group_text, app_text, ban_text, wait_texts, param_texts, canonical_text};
+ghost use Rattle.dac_config.specs.Canonical.{name_text, parted_behind, parted, node_name_text, tuple_text, group_text, app_text, ban_text, wait_texts, param_texts, canonical_text};
 ghost use Rattle.dac_config.specs.ConfigView.{node_row, named_row, app_row, HasMembersBelow, is_in};
 
 use super::{App, Node};
@@ -34,7 +34,7 @@ fn put_number<S: Sink>(sink: &mut S, number: u32) -> Result<(), S::Fault>
 
 fn put_node<S: Sink>(sink: &mut S, nodes: &[Node], number: u8) -> Result<(), S::Fault>
     requires { number < length nodes.now }
-    ensures { OnOk result (Gains S.holds sink.old sink.new (node_text (map node_row nodes.now) number)) }
+    ensures { OnOk result (Gains S.holds sink.old sink.new (node_name_text (map node_row nodes.now) number)) }
 {
     put_name(sink, &nodes[number as usize].name)
 }
@@ -42,7 +42,7 @@ fn put_node<S: Sink>(sink: &mut S, nodes: &[Node], number: u8) -> Result<(), S::
 /// Nodes by their names, with a comma between any two.
 fn put_members<S: Sink>(sink: &mut S, nodes: &[Node], group: &[u8]) -> Result<(), S::Fault>
     requires { All (λ number. number < length nodes.now) group.now }
-    ensures { OnOk result (Gains S.holds sink.old sink.new (parted (map (node_text (map node_row nodes.now)) group.now))) }
+    ensures { OnOk result (Gains S.holds sink.old sink.new (parted (map (node_name_text (map node_row nodes.now)) group.now))) }
 {
     let mut before = b"".as_slice();
     for number in group {
@@ -65,7 +65,7 @@ fn put_group<S: Sink>(sink: &mut S, nodes: &[Node], group: &[u8]) -> Result<(), 
 
 fn put_tuple<S: Sink>(sink: &mut S, nodes: &[Node], group: &[u8]) -> Result<(), S::Fault>
     requires { All (λ number. number < length nodes.now) group.now }
-    ensures { OnOk result (Gains S.holds sink.old sink.new (tuple_text (map (node_text (map node_row nodes.now)) group.now))) }
+    ensures { OnOk result (Gains S.holds sink.old sink.new (tuple_text (map (node_name_text (map node_row nodes.now)) group.now))) }
 {
     sink.put(b"{")?;
     put_members(sink, nodes, group)?;

@@ -11,8 +11,8 @@ use Rattle.dac_base.specs.declared.AppId.{AppId}
 use Rattle.dac_operations.specs.Operations.{Operation}
 use Rattle.dac_meaning.specs.Meaning.{In, Within}
 use Rattle.dac_meaning.specs.Members.{In-append_left, In-append_right, In-append_cases}
-use Rattle.dac_settle.specs.Rounds.{Held, IsApp, Placement, IsWellMade, IsGrown, IsPlacement, Claims, Event, Sets, InCopies, with_held, Happens, Run, Ticks, IsReady, IsRound, Rounds}
-use Rattle.dac_settle.specs.Rounds.Event.{Tick, Ship, Deliver}
+use Rattle.dac_settle.specs.Rounds.{Held, IsApp, Placement, IsWellMade, IsGrown, IsPlacement, Claims, SetsEvent, Sets, InCopies, with_held, Happens, Run, Ticks, IsReady, IsRound, Rounds}
+use Rattle.dac_settle.specs.Rounds.SetsEvent.{Tick, Ship, Deliver}
 use Rattle.dac_settle.specs.laws.Counting.{count, count_few, count_none, none_count, some_or_none, count_le, count_lt}
 
 -- ---- lists and options
@@ -129,7 +129,7 @@ module _ (p : Placement) where
         by_test true e = subst (IsGrown p s) (one e) g
         by_test false e = all m y e
 
-    happens_sound : (w next : Sets) (e : Event) → IsSound w → Happens p w e next → IsSound next
+    happens_sound : (w next : Sets) (e : SetsEvent) → IsSound w → Happens p w e next → IsSound next
     happens_sound w next (Tick n made) sound h =
         subst IsSound (sym h.3) (record {
           held = put_grown w.held n (h.0 ++ made) sound.held (tick_grown n p.apps h.0 made (λ app i. i) (sound.held n h.0 h.1) h.2);
@@ -149,7 +149,7 @@ module _ (p : Placement) where
           copies = sound.copies;
         })
 
-    pub run_sound : (es : List Event) (w final : Sets) → IsSound w → Run p w es final → IsSound final
+    pub run_sound : (es : List SetsEvent) (w final : Sets) → IsSound w → Run p w es final → IsSound final
     run_sound [] w final sound r = subst IsSound (sym r) sound
     run_sound (e ∷ es) w final sound r = run_sound es r.0 final (happens_sound w r.0 e sound r.1) r.2
 
@@ -166,12 +166,12 @@ module _ (p : Placement) where
         by_test true e = (z ++ more, refl, λ o i. In-append_left o z more (subst (In o) (one (sym of_n ∙ ap held (same_node e) ∙ of_m)) i))
         by_test false e = (x, of_n, λ o i. i)
 
-    grows : (w next : Sets) (e : Event) (n : NodeId) (x : List Operation) → Happens p w e next → w.held n ≡ Some x → HoldsMore x next.held n
+    grows : (w next : Sets) (e : SetsEvent) (n : NodeId) (x : List Operation) → Happens p w e next → w.held n ≡ Some x → HoldsMore x next.held n
     grows w next (Tick m made) n x h e = subst (λ (v : Sets). HoldsMore x v.held n) (sym h.3) (put_grows w.held m n h.0 x made h.1 e)
     grows w next (Ship m) n x h e = subst (λ (v : Sets). HoldsMore x v.held n) (sym h.2) (x, e, λ o i. i)
     grows w next (Deliver m) n x h e = subst (λ (v : Sets). HoldsMore x v.held n) (sym h.4) (put_grows w.held m n h.0 x h.1 h.2 e)
 
-    pub run_grows : (es : List Event) (w final : Sets) (n : NodeId) (x : List Operation) → Run p w es final → w.held n ≡ Some x → HoldsMore x final.held n
+    pub run_grows : (es : List SetsEvent) (w final : Sets) (n : NodeId) (x : List Operation) → Run p w es final → w.held n ≡ Some x → HoldsMore x final.held n
     run_grows [] w final n x r e = (x, ap (λ (v : Sets). v.held n) r ∙ e, λ o i. i)
     run_grows (event ∷ es) w final n x r e =
         let here = grows w r.0 event n x r.1 e in
@@ -186,22 +186,22 @@ module _ (p : Placement) where
         by_test true e h = ap (λ i. is_some (held i)) (same_node e) ∙ of_m
         by_test false e h = h
 
-    back : (w next : Sets) (e : Event) (n : NodeId) → Happens p w e next → IsSome (next.held n) → IsSome (w.held n)
+    back : (w next : Sets) (e : SetsEvent) (n : NodeId) → Happens p w e next → IsSome (next.held n) → IsSome (w.held n)
     back w next (Tick m made) n h e = put_back w.held m n (h.0 ++ made) (ap is_some h.1) (subst (λ (v : Sets). IsSome (v.held n)) h.3 e)
     back w next (Ship m) n h e = subst (λ (v : Sets). IsSome (v.held n)) h.2 e
     back w next (Deliver m) n h e = put_back w.held m n (h.0 ++ h.1) (ap is_some h.2) (subst (λ (v : Sets). IsSome (v.held n)) h.4 e)
 
-    pub run_back : (es : List Event) (w final : Sets) (n : NodeId) → Run p w es final → IsSome (final.held n) → IsSome (w.held n)
+    pub run_back : (es : List SetsEvent) (w final : Sets) (n : NodeId) → Run p w es final → IsSome (final.held n) → IsSome (w.held n)
     run_back [] w final n r e = subst (λ (v : Sets). IsSome (v.held n)) r e
     run_back (event ∷ es) w final n r e = back w r.0 event n r.1 (run_back es r.0 final n r.2 e)
 
     -- after the tick of a candidate of the beginning its node holds a well made claim
-    pub run_new : (es : List Event) (w final : Sets) (n : NodeId) (app : AppId) → IsSound w → Run p w es final → p.candidate s app ≡ Some n → IsApp app p.apps → Ticks n es
+    pub run_new : (es : List SetsEvent) (w final : Sets) (n : NodeId) (app : AppId) → IsSound w → Run p w es final → p.candidate s app ≡ Some n → IsApp app p.apps → Ticks n es
         → (y : List Operation) × (final.held n ≡ Some y) × HasNew s y
     run_new [] w final n app sound r is i t = absurd t
     run_new (event ∷ es) w final n app sound r is i t = elim t [
       | inl now ↦
-          let h = subst (λ (e : Event). Happens p w e r.0) (sym now.1) r.1 in
+          let h = subst (λ (e : SetsEvent). Happens p w e r.0) (sym now.1) r.1 in
           let new = tick_new n p.apps h.0 now.0 app (λ b j. j) (sound.held n h.0 h.1) h.2 i is in
           let rest = run_grows es r.0 final n (h.0 ++ now.0) r.2 (ap (λ (v : Sets). v.held n) h.3 ∙ put_here w.held n (h.0 ++ now.0)) in
           (rest.0, rest.1, more_new s (h.0 ++ now.0) rest.0 rest.2 new)

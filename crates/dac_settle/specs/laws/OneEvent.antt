@@ -36,8 +36,8 @@ use Rattle.dac_worlds.specs.laws.Operations.{Agree-within, DistinctDots-agree}
 use Rattle.dac_worlds.specs.laws.Carried.{none_some}
 use Rattle.dac_worlds.specs.laws.Sound.{Answer, Sound, held_at, no_message, no_operation}
 use Rattle.dac_settle.specs.Rounds.{InCopies}
-use Rattle.dac_settle.specs.Settling.{Member, Members, with_member, own_of, turn_at, holding, ticked, IsTick, Event, Run, Ticks as TicksIn}
-use Rattle.dac_settle.specs.Settling.Event.{Tick, Ship, Deliver}
+use Rattle.dac_settle.specs.Settling.{Member, Members, with_member, own_of, turn_at, holding, ticked, IsTick, MemberEvent, Run, Ticks as TicksIn}
+use Rattle.dac_settle.specs.Settling.MemberEvent.{Tick, Ship, Deliver}
 use Rattle.dac_settle.specs.WorldRounds.{member_by, members_of, IsLateBy, InRound, IsTicked}
 use Rattle.dac_settle.specs.laws.AnyPlacement.{one, same_node}
 
@@ -97,7 +97,7 @@ keep_members w s n d is m = by_test (nat_eq m.0 n.0) refl
 module _ (t : Table) (b : ℕ) (w : ModelWorld) (s : SetWorld) where
   -- From here to there by one event of the members or none. Where node n ticked by this answer, it ticks there.
   abbrev pub Goes : NodeId → Answer → ModelWorld → SetWorld → Type 0
-  Goes n a next later = (es : List Event) × Run t (seen_in b w s) es (seen_in b next later) × (IsTicked a → TicksIn n es)
+  Goes n a next later = (es : List MemberEvent) × Run t (seen_in b w s) es (seen_in b next later) × (IsTicked a → TicksIn n es)
 
   -- so it goes if the event with its answer fits a round
   abbrev pub GoesBy : NodeId → What → WorldStepped → Type 0

@@ -18,10 +18,10 @@ use Rattle.dac_placement.specs.Placement.{apps_of, verdict_of, candidate_of}
 use Rattle.dac_decide.specs.FailoverWait.{Note, IsLost, IsLostByNewest}
 use Rattle.dac_ticks.specs.laws.Turning.{numbered, apps_from}
 use Rattle.dac_ticks.specs.laws.Again.{noting}
-use Rattle.dac_settle.specs.Rounds.{Held, IsApp, IsGrown, Event as SetsEvent, Sets, InCopies, with_held, Happens as SetsHappen, Run as SetsRun, IsTickOf as IsSetsTick, Ticks as SetsTick, IsReady as AreReady, IsRound as IsRoundOfSets, Rounds as RoundsOfSets}
-use Rattle.dac_settle.specs.Rounds.Event.{Tick as Ticked, Ship as Shipped, Deliver as Delivered}
-use Rattle.dac_settle.specs.Settling.{Member, Members, with_member, turn_at, holding, ticked, Event, Happens, Run, Ticks, IsReady, IsRound, Rounds, IsSettled, RoundsSettleBy}
-use Rattle.dac_settle.specs.Settling.Event.{Tick, Ship, Deliver}
+use Rattle.dac_settle.specs.Rounds.{Held, IsApp, IsGrown, SetsEvent, Sets, InCopies, with_held, Happens as SetsHappen, Run as SetsRun, IsTickOf as IsSetsTick, Ticks as SetsTick, IsReady as AreReady, IsRound as IsRoundOfSets, Rounds as RoundsOfSets}
+use Rattle.dac_settle.specs.Rounds.SetsEvent.{Tick as Ticked, Ship as Shipped, Deliver as Delivered}
+use Rattle.dac_settle.specs.Settling.{Member, Members, with_member, turn_at, holding, ticked, MemberEvent, Happens, Run, Ticks, IsReady, IsRound, Rounds, IsSettled, RoundsSettleBy}
+use Rattle.dac_settle.specs.Settling.MemberEvent.{Tick, Ship, Deliver}
 use Rattle.dac_settle.specs.laws.AnyPlacement.{in_copies, same_node, one, some_is, grown_united, tick_grown, any_settle}
 use Rattle.dac_settle.specs.laws.Placed.{placed, one_inc, grown_alike, is_placement}
 use Rattle.dac_settle.specs.laws.Turns.{lost_back, IsMemberOf, tick_claims}
@@ -57,7 +57,7 @@ module _ (t : Table) where
   -- ---- one event
 
   -- a tick stays a tick of its node
-  abbrev StaysTick : Event → SetsEvent → Type 0
+  abbrev StaysTick : MemberEvent → SetsEvent → Type 0
   StaysTick e f = (n : NodeId) (now : ℕ) → Tick n now ≡ e → IsSetsTick n f
 
   module _ (s : List Operation) where
@@ -83,7 +83,7 @@ module _ (t : Table) where
       noted = λ app claim lost. noted app claim (lost_back t s d.held (d.held ++ more) m.grown g (λ o i. In-append_left o d.held more i) app claim lost);
     }
 
-    abbrev Goes : Members → Event → Members → Type 0
+    abbrev Goes : Members → MemberEvent → Members → Type 0
     Goes w e next = IsOk next × ((f : SetsEvent) × SetsHappen (placed t) (sets_of w) f (sets_of next) × StaysTick e f)
 
     no_tick_ship : (n m : NodeId) (now : ℕ) → Tick n now ≡ Ship m → ⊥
@@ -95,7 +95,7 @@ module _ (t : Table) where
     node_of_tick : {m n : NodeId} {a b : ℕ} → Tick m a ≡ Tick n b → n ≡ m
     node_of_tick e = cc
 
-    goes : (w next : Members) (e : Event) → IsOk w → Happens t w e next → Goes w e next
+    goes : (w next : Members) (e : MemberEvent) → IsOk w → Happens t w e next → Goes w e next
     goes w next (Tick n now) ok h =
         let d = h.0 in
         let m = ok.nodes n d h.1 in
@@ -128,10 +128,10 @@ module _ (t : Table) where
 
     -- ---- a run
 
-    abbrev RunsAs : Members → List Event → Members → Type 0
+    abbrev RunsAs : Members → List MemberEvent → Members → Type 0
     RunsAs w es final = IsOk final × ((fs : List SetsEvent) × SetsRun (placed t) (sets_of w) fs (sets_of final) × ((n : NodeId) → Ticks n es → SetsTick n fs))
 
-    runs_as : (es : List Event) (w final : Members) → IsOk w → Run t w es final → RunsAs w es final
+    runs_as : (es : List MemberEvent) (w final : Members) → IsOk w → Run t w es final → RunsAs w es final
     runs_as [] w final ok r = (subst IsOk (sym r) ok, ([], ap sets_of r, λ n i. absurd i))
     runs_as (e ∷ es) w final ok r =
         let first = goes w r.0 e ok r.1 in
@@ -153,12 +153,12 @@ module _ (t : Table) where
       by_test true e = sym (ap (λ k. is_some (node k)) (same_node e) ∙ there)
       by_test false e = refl
 
-  same_run : (w next : Members) (e : Event) (m : NodeId) → Happens t w e next → is_some (next.node m) ≡ is_some (w.node m)
+  same_run : (w next : Members) (e : MemberEvent) (m : NodeId) → Happens t w e next → is_some (next.node m) ≡ is_some (w.node m)
   same_run w next (Tick n now) m h = ap (λ (v : Members). is_some (v.node m)) h.3 ∙ put_same w.node n m _ (ap is_some h.1)
   same_run w next (Ship n) m h = ap (λ (v : Members). is_some (v.node m)) h.2
   same_run w next (Deliver n) m h = ap (λ (v : Members). is_some (v.node m)) h.4 ∙ put_same w.node n m _ (ap is_some h.2)
 
-  same_runs : (es : List Event) (w final : Members) (m : NodeId) → Run t w es final → is_some (final.node m) ≡ is_some (w.node m)
+  same_runs : (es : List MemberEvent) (w final : Members) (m : NodeId) → Run t w es final → is_some (final.node m) ≡ is_some (w.node m)
   same_runs [] w final m r = ap (λ (v : Members). is_some (v.node m)) r
   same_runs (e ∷ es) w final m r = same_runs es r.0 final m r.2 ∙ same_run w r.0 e m r.1
 

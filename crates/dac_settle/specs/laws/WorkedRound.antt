@@ -23,8 +23,8 @@ use Rattle.dac_ticks.specs.Ticks.{turn_from}
 use Rattle.dac_ticks.specs.laws.Turning.{turned_by}
 use Rattle.dac_ticks.specs.laws.Again.{noting}
 use Rattle.dac_worlds.specs.laws.Operations.{DistinctDots-agree}
-use Rattle.dac_settle.specs.Settling.{Member, with_member, own_of, turn_at, holding, ticked, IsTick, Event, Run, AllSame, IsReady, IsRound, IsSettled}
-use Rattle.dac_settle.specs.Settling.Event.{Tick, Ship, Deliver}
+use Rattle.dac_settle.specs.Settling.{Member, with_member, own_of, turn_at, holding, ticked, IsTick, MemberEvent, Run, AllSame, IsReady, IsRound, IsSettled}
+use Rattle.dac_settle.specs.Settling.MemberEvent.{Tick, Ship, Deliver}
 use Rattle.dac_settle.specs.Worked.{first_node, second_node, IsEither, the_app, worked_table, first_of, start_of, worked_set, worked_member, worked_nodes, RoundsCanBe}
 use Rattle.dac_settle.specs.laws.AnyPlacement.{same_node, one, some_is}
 use Rattle.dac_settle.specs.laws.LeftAlone.{left_if}
@@ -134,7 +134,7 @@ both_ticked = with_member (with_member worked_nodes first_node (after_tick first
 abbrev after_all : NodeId → Option Member
 after_all = with_member (with_member both_ticked first_node (after_round first_node second_node)) second_node (after_round second_node first_node)
 
-abbrev the_events : List Event
+abbrev the_events : List MemberEvent
 the_events = Tick first_node 0 ∷ Tick second_node 0 ∷ Ship first_node ∷ Ship second_node ∷ Deliver first_node ∷ Deliver second_node ∷ []
 
 abbrev the_copies : List (List Operation)

@@ -20,22 +20,22 @@ use Rattle.dac_worlds.specs.laws.Runs.{step_to}
 use Rattle.dac_worlds.specs.laws.Sound.{Answer, Sound, sound_step, sound_run, sound_start}
 use Rattle.dac_worlds.specs.laws.UnitingInRuns.{unite_run}
 use Rattle.dac_worlds.specs.laws.Headline.{holds_sets}
-use Rattle.dac_settle.specs.Settling.{Member, Members, Event, Run, Ticks, IsRound, Rounds, IsSettled}
+use Rattle.dac_settle.specs.Settling.{Member, Members, MemberEvent, Run, Ticks, IsRound, Rounds, IsSettled}
 use Rattle.dac_settle.specs.WorldRounds.{member_by, members_of, IsReadyWorld, AreInRound, AnswersTick, IsWorldRound, AreRounds, Settles}
 use Rattle.dac_settle.specs.laws.OneEvent.{since, since_all, seen_in, goes_step}
 use Rattle.dac_settle.specs.laws.Settled.{all_settle}
 
 -- ---- events of members
 
-run_append : (t : Table) (es fs : List Event) (w mid final : Members) → Run t w es mid → Run t mid fs final → Run t w (es ++ fs) final
+run_append : (t : Table) (es fs : List MemberEvent) (w mid final : Members) → Run t w es mid → Run t mid fs final → Run t w (es ++ fs) final
 run_append t [] fs w mid final r s = subst (λ v. Run t v fs final) r s
 run_append t (e ∷ es) fs w mid final r s = (r.0, r.1, run_append t es fs r.0 mid final r.2 s)
 
-ticks_left : (n : NodeId) (es fs : List Event) → Ticks n es → Ticks n (es ++ fs)
+ticks_left : (n : NodeId) (es fs : List MemberEvent) → Ticks n es → Ticks n (es ++ fs)
 ticks_left n [] fs h = absurd h
 ticks_left n (f ∷ es) fs h = elim h [ inl now ↦ inl now | inr rest ↦ inr (ticks_left n es fs rest) ]
 
-ticks_right : (n : NodeId) (es fs : List Event) → Ticks n fs → Ticks n (es ++ fs)
+ticks_right : (n : NodeId) (es fs : List MemberEvent) → Ticks n fs → Ticks n (es ++ fs)
 ticks_right n [] fs h = h
 ticks_right n (f ∷ es) fs h = inr (ticks_right n es fs h)
 
@@ -50,7 +50,7 @@ module _ (t : Table) where
   abbrev Ran : ℕ → ModelWorld → SetWorld → List WorldEvent → List Answer → Type 0
   Ran b w s events answers =
       Sound (world_after t w events answers) (set_run s events answers)
-      × ((es : List Event) × Run t (seen_in b w s) es (seen_in b (world_after t w events answers) (set_run s events answers)) × ((n : NodeId) → AnswersTick n events answers → Ticks n es))
+      × ((es : List MemberEvent) × Run t (seen_in b w s) es (seen_in b (world_after t w events answers) (set_run s events answers)) × ((n : NodeId) → AnswersTick n events answers → Ticks n es))
 
   past : (a b c : ℕ) → a ≤ b → b ≤ c → a ≤ c
   past a b c p q = omega arith

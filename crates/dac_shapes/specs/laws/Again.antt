@@ -10,7 +10,8 @@ use Rattle.dac_shapes.specs.declared.param.ParamName.{ParamName}
 use Rattle.dac_shapes.specs.declared.param.ParamName.TheVariants as named
 use Rattle.dac_shapes.specs.Written.{App, Permission, Param, Distributed, Permissions, Mandatory, Optional, Timeout, Section, Kernel, name_of, spelled}
 use Rattle.dac_shapes.specs.Limits.{Seen, AllMay, steps, is_among, has_param, with_node, MayNode, with_nodes, MayNodes, with_groups, MayGroups, listing, with_app, MayApp, with_permission, MayPermission, with_param, MayValue, MayParam, has_kernel, with_section, MaySection}
-use Rattle.dac_shapes.specs.Shape.{State, is_mark, token, atom_of, short_name_of, node_of, names_at, item_at, items_at, groups_at, timeout_of, timeout_at, wait_of, value_from, app_name_of, app_value_at, app_at, flag_of, permission_value_at, permission_at, param_named, param_name_of, param_value_at, param_rest_at, param_at, names_kernel, kernel_at, section_rest_at, section_at, passed_at, pair_at, closed, list_of}
+use Rattle.dac_tokens.specs.Digits.{value_from}
+use Rattle.dac_shapes.specs.Shape.{State, is_mark, token, atom_of, short_name_of, node_of, names_at, item_at, items_at, groups_at, milliseconds_of, timeout_at, wait_of, app_name_of, app_value_at, app_at, flag_of, permission_value_at, permission_at, param_named, param_name_of, param_value_at, param_rest_at, param_at, names_kernel, kernel_at, section_rest_at, section_at, passed_at, pair_at, closed, list_of}
 use Rattle.std.specs.Str.{bytes_eq}
 use Rattle.dac_shapes.specs.Grammar.{Parted, IsListOf, IsPair, IsNode, IsItem, IsNodeList, IsAppValue, IsApp, IsFlag, IsPermission, IsTerm, IsWait, IsParam, IsSection}
 use Rattle.dac_shapes.specs.laws.Names.{same_seen, is_named, param_is}
@@ -32,7 +33,7 @@ both_false : (a b : Bool) → (a ≡ false → b ≡ false) → (not a && b) ≡
 both_false true b f = refl
 both_false false b f = f refl
 
-ms_again : (place : ℕ) (negative : Bool) (v n : ℕ) → n ≡ v → n < 4294967296 → (negative ≡ true → n ≡ 0) → timeout_of place negative v ≡ Ok n
+ms_again : (place : ℕ) (negative : Bool) (v n : ℕ) → n ≡ v → n < 4294967296 → (negative ≡ true → n ≡ 0) → milliseconds_of place negative v ≡ Ok n
 ms_again place negative v n e few zero_if =
     let small : ltb v 4294967296 ≡ true = lt-ltb v 4294967296 (omega arith) in
     rw (negative_zero negative v (λ f. sym e ∙ zero_if f), small) (ap (λ (m : ℕ). Ok m) (sym e))
@@ -143,7 +144,7 @@ module _ (last : Result Located ConfigFault) where
   unfolding timeout_at
   untimed_again w place s e = rw e refl
 
-  timed_again : (place : ℕ) (c f : Located) (ts : List Located) (seen : Seen) (negative : Bool) (digits : List ℕ) (n : ℕ) → timeout_of place negative (value_from 0 digits) ≡ Ok n → c.word ≡ Mark Comma
+  timed_again : (place : ℕ) (c f : Located) (ts : List Located) (seen : Seen) (negative : Bool) (digits : List ℕ) (n : ℕ) → milliseconds_of place negative (value_from 0 digits) ≡ Ok n → c.word ≡ Mark Comma
       → timeout_at (record { word = Number negative digits; at = place }) (at last (c ∷ f ∷ ts) seen) ≡ Ok (n, f, at last ts seen)
   unfolding timeout_at
   timed_again place c f ts seen negative digits n e w = rw (e, symbol_again last Comma c (f ∷ ts) seen refl w) refl

@@ -23,7 +23,7 @@ use Rattle.dac_bytes.specs.Spelling.{dot_bytes, origin_bytes}
 use Rattle.dac_bytes.specs.Takes.{IsCodec, Passes, Takes, TakesAs, Takes-none, TakesAs-made, Again, Again-made, ok_is}
 use Rattle.dac_part_bytes.specs.ChainForm.{IsFromFor}
 use Rattle.dac_part_bytes.specs.KeyedForm.{IsKey, IsKeyAbove}
-use Rattle.dac_part_bytes.specs.Reading.{app_at, key_at, manner_at, is_listed}
+use Rattle.dac_part_bytes.specs.Reading.{app_at, key_above_at, manner_at, is_listed}
 use Rattle.dac_part_bytes.specs.Spelling.{app_bytes, key_bytes, manner_bytes}
 use Rattle.std.proofs.lemmas.List.{map-id}
 use Rattle.dac_part_bytes.specs.PartCodecs.{PartCodecs}
@@ -110,8 +110,8 @@ module _ (t : Table) (parts : PartCodecs t) where
   fields = parts.fields
 
   -- a key alone
-  key_codec : IsCodec (key_at t None) key_bytes (IsKey t)
-  key_codec = codec_same (key_at t None) key_bytes (IsKeyAbove t None) (parts.key None) (IsKey t) (λ key is. is.0) (λ key is. (is, refl))
+  key_codec : IsCodec (key_above_at t None) key_bytes (IsKey t)
+  key_codec = codec_same (key_above_at t None) key_bytes (IsKeyAbove t None) (parts.key None) (IsKey t) (λ key is. is.0) (λ key is. (is, refl))
 
   -- ---- keys with dots
 
@@ -123,7 +123,7 @@ module _ (t : Table) (parts : PartCodecs t) where
 
   keyed_over_codec : IsCodec (keyed_over_at t) keyed_bytes IsKeyed
   unfolding keyed_over_at
-  keyed_over_codec = codec_pair (key_at t None) key_bytes (IsKey t) key_codec (λ _ r. over_at nodes r) (λ _. over_bytes) (λ _. AreOver nodes) (λ _ _. over_codec nodes fields)
+  keyed_over_codec = codec_pair (key_above_at t None) key_bytes (IsKey t) key_codec (λ _ r. over_at nodes r) (λ _. over_bytes) (λ _. AreOver nodes) (λ _ _. over_codec nodes fields)
 
   abbrev permit_bytes : Key × (Bool × List Dot) → List ℕ
   permit_bytes p = key_bytes p.0 ++ valued_bytes nodes fields p.1
@@ -134,7 +134,7 @@ module _ (t : Table) (parts : PartCodecs t) where
   permit_fields_codec : IsCodec (permit_fields_at t) permit_bytes IsPermit
   unfolding permit_fields_at
   permit_fields_codec =
-      codec_pair (key_at t None) key_bytes (IsKey t) key_codec (λ _ r. valued_over_at nodes r) (λ _. valued_bytes nodes fields) (λ _. IsValued nodes fields) (λ _ _. valued_over_codec nodes fields)
+      codec_pair (key_above_at t None) key_bytes (IsKey t) key_codec (λ _ r. valued_over_at nodes r) (λ _. valued_bytes nodes fields) (λ _. IsValued nodes fields) (λ _ _. valued_over_codec nodes fields)
 
   -- ---- claims
 

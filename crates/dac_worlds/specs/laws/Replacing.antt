@@ -19,7 +19,7 @@ use Rattle.dac_placement.specs.declared.verdicts.Verdict.TheVariants.{Failover, 
 use Rattle.dac_placement.specs.Placement.{verdict_of}
 use Rattle.dac_events.specs.declared.Command.{Command}
 use Rattle.dac_events.specs.declared.Command.TheVariants.{Down as Downs, Permit as Permits, Start as Starts, Stop as Stops, Takeover as Takes}
-use Rattle.dac_commands.specs.Commands.{key_at, next_operation, standing_permits, standing_starts, act_of}
+use Rattle.dac_commands.specs.Commands.{live_key, next_operation, standing_permits, standing_starts, act_of}
 use Rattle.dac_commands.specs.Causes.{refusal_of_command}
 use Rattle.dac_commands.specs.Written.{PermitStands, StartStands, AreThose}
 use Rattle.dac_commands.specs.laws.Counters.{next_of_is}
@@ -59,9 +59,9 @@ starts_are s key d =
 
 command_replaces : (t : Table) (s : StateValue) (c : Command) → Replaces s (act_of t s c)
 command_replaces t s (Downs node) = tt
-command_replaces t s (Permits app node value) = permits_are s (key_at s app node)
-command_replaces t s (Starts app node) = starts_are s (key_at s app node)
-command_replaces t s (Stops app node) = starts_are s (key_at s app node)
+command_replaces t s (Permits app node value) = permits_are s (live_key s app node)
+command_replaces t s (Starts app node) = starts_are s (live_key s app node)
+command_replaces t s (Stops app node) = starts_are s (live_key s app node)
 command_replaces t s (Takes app) = tt
 
 -- the next operation in what a set means

@@ -1,6 +1,6 @@
 use Rattle.std.proofs.Common.{arith, ◌∙◌}
-use Rattle.dac_shapes.specs.Shape.{value_from}
-use Rattle.dac_shapes.proofs.Digits.{not_less, is_done, too_large, small_enough}
+use Rattle.dac_tokens.specs.Digits.{value_from}
+use Rattle.dac_tokens.specs.laws.Digits.{not_less, is_done, too_large, small_enough}
 use Rattle.dac_shapes.proofs.numbers.number_of.Goals as goal
 
 pub returns-in_err-checked_mul : goal.returns-in_err-checked_mul

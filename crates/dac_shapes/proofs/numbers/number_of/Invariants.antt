@@ -1,5 +1,5 @@
 use Rattle.std.proofs.Common.{◌≡◌, ◌<◌, drop}
-use Rattle.dac_shapes.specs.Shape.{value_from}
+use Rattle.dac_tokens.specs.Digits.{value_from}
 use Rattle.dac_shapes.proofs.numbers.number_of.Given as goal
 
 abbrev pub invariant-loop-digit : goal.invariant-loop-digit

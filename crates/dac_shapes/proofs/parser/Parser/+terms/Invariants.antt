@@ -1,7 +1,7 @@
 use Rattle.std.proofs.Common.{◌≡◌, ℕ, ◌<◌, ◌≤◌, ◌+◌, ◌*◌, false, cond}
 use Rattle.dac_tokens.specs.Words.{located_of, word_of, is_end}
 use Rattle.dac_shapes.specs.Shape.{terms_in, term_at}
-use Rattle.dac_shapes.specs.Views.{state_of, tokens_left}
+use Rattle.dac_shapes.specs.Views.{parser_state, tokens_left}
 use Rattle.dac_shapes.proofs.TermLoops.{GoesTerms}
 use Rattle.dac_shapes.proofs.parser.Parser.+terms.Given as goal
 
@@ -13,7 +13,7 @@ decreases-behind_terms l = 2 * tokens_left l.self.now + 1
 
 abbrev pub invariant-behind_terms-loop-behind : goal.invariant-behind_terms-loop-behind
 invariant-behind_terms-loop-behind l = record {
-  goes : (n : ℕ) → tokens_left l.fn.self < n → GoesTerms (term_at n) l.fn.close (terms_in (term_at n) l.fn.close n (state_of l.fn.self)) (located_of l.token) (state_of l.self);
+  goes : (n : ℕ) → tokens_left l.fn.self < n → GoesTerms (term_at n) l.fn.close (terms_in (term_at n) l.fn.close n (parser_state l.fn.self)) (located_of l.token) (parser_state l.self);
   left : tokens_left l.self ≤ tokens_left l.fn.self;
   fewer : is_end (word_of l.token.token) ≡ false → tokens_left l.self < tokens_left l.fn.self;
 }

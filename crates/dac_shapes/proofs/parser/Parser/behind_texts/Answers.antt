@@ -2,18 +2,18 @@ use Rattle.std.proofs.Common.{◌≡◌, ◌∙◌, sym, arith, true}
 use Rattle.std.proofs.lemmas.Result.{err_from_is_err_and}
 use Rattle.dac_tokens.specs.Words.{located_of, word_of}
 use Rattle.dac_shapes.specs.Shape.{is_text}
-use Rattle.dac_shapes.specs.Views.{state_of}
+use Rattle.dac_shapes.specs.Views.{parser_state}
 use Rattle.dac_shapes.proofs.TermLoops.{texts_fail, texts_begin, texts_fail_more, texts_go}
 use Rattle.dac_shapes.proofs.parser.Parser.behind_texts.Goals as goal
 
 pub returns-in_err-next-clause-read : goal.returns-in_err-next-clause-read
 returns-in_err-next-clause-read c = λ n lt.
     let p = err_from_is_err_and c.from_residual.result c.from_residual.ensures.1 in
-    rw (p.1, p.2) (texts_fail _ n (state_of c.args.self.now) lt c.in_err-next.ensures.read)
+    rw (p.1, p.2) (texts_fail _ n (parser_state c.args.self.now) lt c.in_err-next.ensures.read)
 
 pub loop-next-init : goal.loop-next-init
 loop-next-init c = record {
-  goes = λ n lt. texts_begin n (state_of c.args.self.now) (located_of c.in_ok-next.next) (state_of c.next.new.self) lt c.in_ok-next.ensures.read c.in_ok-next.ensures.fewer;
+  goes = λ n lt. texts_begin n (parser_state c.args.self.now) (located_of c.in_ok-next.next) (parser_state c.next.new.self) lt c.in_ok-next.ensures.read c.in_ok-next.ensures.fewer;
   left = c.in_ok-next.ensures.left;
   fewer = c.in_ok-next.ensures.fewer;
 }

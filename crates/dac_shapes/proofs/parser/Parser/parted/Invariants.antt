@@ -1,7 +1,7 @@
 use Rattle.std.proofs.Common.{◌≤◌, [], map}
 use Rattle.dac_tokens.specs.Words.{located_of}
 use Rattle.dac_shapes.specs.Shape.{comma_list, room}
-use Rattle.dac_shapes.specs.Views.{state_of, tokens_left}
+use Rattle.dac_shapes.specs.Views.{parser_state, tokens_left}
 use Rattle.dac_shapes.proofs.Lists.{Goes}
 use Rattle.dac_shapes.proofs.parser.Parser.parted.Given as goal
 
@@ -9,7 +9,7 @@ abbrev pub invariant-loop-all : goal.invariant-loop-all
 invariant-loop-all g l =
     let read = g.E.Elements.read_at l.fn.elements in
     record {
-      goes : Goes read l.fn.close (comma_list read l.fn.close (room (state_of l.fn.self)) [] (located_of l.fn.first) (state_of l.fn.self)) (map g.E.Elements.said l.all.items) (located_of l.token) (state_of l.self);
+      goes : Goes read l.fn.close (comma_list read l.fn.close (room (parser_state l.fn.self)) [] (located_of l.fn.first) (parser_state l.fn.self)) (map g.E.Elements.said l.all.items) (located_of l.token) (parser_state l.self);
       left : tokens_left l.self ≤ tokens_left l.fn.self;
     }
 
