@@ -5,7 +5,7 @@ use Rattle.std.specs.Prelude.{IfSome}
 use Rattle.dac_tokens.specs.declared.fault.ConfigFault.{ConfigFault}
 use Rattle.dac_tokens.specs.declared.fault.FaultKind.{FaultKind}
 use Rattle.dac_tokens.specs.declared.fault.FaultKind.TheVariants.{NoMemory}
-use Rattle.dac_tokens.specs.Gives.{UnlessMemory}
+use Rattle.dac_tokens.specs.Gives.{OrMemory}
 use Rattle.dac_config.specs.Table.{Table}
 use Rattle.dac_config.specs.Says.{IsConfigOf}
 use Rattle.dac_config.specs.Reading.{config_at}
@@ -61,11 +61,11 @@ left_by_parts text source (failure.Config fault) ended fails = ended
 left_by_parts text source (failure.Script fault) ended fails = ended
 left_by_parts text source failure.NoMemory ended fails = λ failed. ended_not_failed (sym ended ∙ failed)
 
-config_fails_by : (kind : FaultKind) (text config script : List ℕ) (fault : ConfigFault) → IsParted text config script → UnlessMemory kind (config_at config ≡ Err fault) → IsPartsFailure text (failure_of_kind kind fault)
+config_fails_by : (kind : FaultKind) (text config script : List ℕ) (fault : ConfigFault) → IsParted text config script → OrMemory kind fault.at (config_at config ≡ Err fault) → IsPartsFailure text (failure_of_kind kind fault)
 config_fails_by NoMemory text config script fault parted fails = tt
 config_fails_by _ text config script fault parted fails = record { config = config; script = script; parted = parted; fault_is = fails }
 
-pub config_fails : (text config script : List ℕ) (fault : ConfigFault) (why : Failure) → IsParted text config script → UnlessMemory fault.kind (config_at config ≡ Err fault) → why ≡ failure_of_kind fault.kind fault → IsPartsFailure text why
+pub config_fails : (text config script : List ℕ) (fault : ConfigFault) (why : Failure) → IsParted text config script → OrMemory fault.kind fault.at (config_at config ≡ Err fault) → why ≡ failure_of_kind fault.kind fault → IsPartsFailure text why
 config_fails text config script fault why parted fails is_why = subst (IsPartsFailure text) (sym is_why) (config_fails_by fault.kind text config script fault parted fails)
 
 pub script_has : (text config script : List ℕ) (table : Table) (why : Failure) → IsParted text config script → IsConfigOf config table → IsScriptFailure table (lines_of script) why → IsPartsFailure text why

@@ -2,9 +2,8 @@
 use Rattle.std.proofs.Common.{◌≡◌, ℕ, zero, suc, ◌<◌, ◌≤◌, Bool, true, false, cond, List, [], ◌∷◌, ◌++◌, length, Result, Ok, refl, sym, arith}
 use Rattle.dac_tokens.specs.declared.fault.ConfigFault.{ConfigFault}
 use Rattle.dac_tokens.specs.declared.token.Symbol.{Symbol}
-use Rattle.dac_tokens.specs.Gives.{◌>>=◌}
+use Rattle.dac_tokens.specs.Gives.{◌>>=◌, Fails}
 use Rattle.dac_tokens.specs.Words.{Located}
-use Rattle.dac_shapes.specs.Outcome.{Fails}
 use Rattle.dac_shapes.specs.Shape.{State, token, more_at, room, comma_list}
 use Rattle.dac_shapes.specs.Views.{Reading}
 use Rattle.dac_shapes.proofs.Faults.{fails_then, then_is}

@@ -4,9 +4,8 @@ use Rattle.dac_tokens.specs.declared.fault.ConfigFault.{ConfigFault}
 use Rattle.dac_tokens.specs.declared.fault.FaultKind.TheVariants.{BadShape}
 use Rattle.dac_tokens.specs.declared.token.Symbol.{Symbol}
 use Rattle.dac_tokens.specs.declared.token.Symbol.TheVariants.{Comma}
-use Rattle.dac_tokens.specs.Gives.{◌>>=◌}
+use Rattle.dac_tokens.specs.Gives.{◌>>=◌, Fails}
 use Rattle.dac_tokens.specs.Words.{Word, Mark, Name, Number, Text, End, Located, is_end}
-use Rattle.dac_shapes.specs.Outcome.{Fails}
 use Rattle.dac_shapes.specs.Shape.{State, fails, is_mark, is_text, token, closing_of, terms_at, terms_in, texts_at, term_by, term_at, IsEnough}
 use Rattle.dac_shapes.proofs.Faults.{fails_then, then_is}
 use Rattle.dac_shapes.specs.laws.TermCases.{by_name, by_number, by_text, by_mark, by_other_mark, by_end}

@@ -7,9 +7,8 @@ use Rattle.dac_tokens.specs.declared.fault.ConfigFault.{ConfigFault}
 use Rattle.dac_tokens.specs.declared.fault.FaultKind.{FaultKind}
 use Rattle.dac_tokens.specs.declared.fault.FaultKind.TheVariants.{NoMemory}
 use Rattle.dac_tokens.specs.declared.token.Symbol.TheVariants.{FullStop}
-use Rattle.dac_tokens.specs.Gives.{Gives as GivesOrNone}
-use Rattle.dac_shapes.specs.Outcome.{OrMemory, Gives}
-use Rattle.dac_shapes.proofs.Faults.{unless_memory, at_start}
+use Rattle.dac_tokens.specs.Gives.{OrMemory, Gives}
+use Rattle.dac_shapes.proofs.Faults.{at_start}
 use Rattle.dac_tokens.specs.TokenGrammar.{AreTokensOf}
 use Rattle.dac_tokens.specs.Words.{Word, Mark, End, Located, is_end}
 use Rattle.dac_tokens.specs.Stream.{Stream, token_from, and_then, tokens_within, tokens_of, taken_of, end_at as end_of, ended as ended_by}
@@ -182,10 +181,6 @@ only_memory _ place P not h = absurd (not h)
 pub only_in : (text : List ℕ) (s : Stream) (r : Result Draft ConfigFault) → Tokenizes text s → Gives draft_of r (file_at (whole s)) → (draft : Written) → IsTextOf text draft → MatchResult r (λ d. draft_of d ≡ draft) (λ e. e.kind ≡ NoMemory)
 only_in text s (Ok d) known e draft is = ok_same (draft_of d) draft (file_at (whole s)) e (text_again text s draft known is)
 only_in text s (Err fault) known e draft is = only_memory fault.kind fault.at (file_at (whole s) ≡ Err fault) (λ f. let both : Ok draft ≡ Err fault = sym (text_again text s draft known is) ∙ f in absurd cc) e
-
-pub exact_in : (s : Stream) (r : Result Draft ConfigFault) → Gives draft_of r (file_at (whole s)) → GivesOrNone draft_of r (file_at (whole s))
-exact_in s (Ok draft) e = e
-exact_in s (Err fault) e = unless_memory fault.kind fault.at _ e
 
 pub memory_in : (s : Stream) (r : Result Draft ConfigFault) → Gives draft_of r (file_at (whole s)) → IfErr r (λ e. e.kind ≡ NoMemory → e.at ≡ 0)
 memory_in s (Ok draft) e = tt

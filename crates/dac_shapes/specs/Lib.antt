@@ -4,5 +4,4 @@ pub mod Limits
 pub mod Within
 pub mod Grammar
 pub mod Views
-pub mod Outcome
 pub mod laws

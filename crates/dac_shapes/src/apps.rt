@@ -1,7 +1,7 @@
 //! The applications of the parameter `distributed`.
 
 ghost use Rattle.std.specs.Prelude.{◌≡◌, ◌≤◌};
-ghost use Rattle.dac_shapes.specs.Outcome.{Gives};
+ghost use Rattle.dac_tokens.specs.Gives.{Gives};
 ghost use Rattle.dac_tokens.specs.Words.{located_of};
 ghost use Rattle.dac_shapes.specs.Shape.{timeout_at, app_value_at, app_at};
 ghost use Rattle.dac_shapes.specs.Views.{app_of, parser_state, tokens_left};

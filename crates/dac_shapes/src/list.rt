@@ -3,7 +3,7 @@
 ghost use Rattle.std.specs.Prelude.{◌≡◌, ◌≤◌, [], List, map};
 ghost use Rattle.dac_tokens.specs.declared.token.Symbol.TheVariants.{CloseList};
 ghost use Rattle.dac_tokens.specs.Words.{located_of};
-ghost use Rattle.dac_shapes.specs.Outcome.{Gives};
+ghost use Rattle.dac_tokens.specs.Gives.{Gives};
 ghost use Rattle.dac_shapes.specs.Shape.{comma_list, list_of, room};
 ghost use Rattle.dac_shapes.specs.Views.{Reading, parser_state, tokens_left};
 

@@ -3,7 +3,7 @@
 ghost use Rattle.std.specs.Prelude.{◌≡◌};
 ghost use Rattle.std.specs.List.{list_any};
 ghost use Rattle.std.specs.Str.{bytes_eq};
-ghost use Rattle.dac_shapes.specs.Outcome.{Gives};
+ghost use Rattle.dac_tokens.specs.Gives.{Gives};
 ghost use Rattle.dac_tokens.specs.Words.{word_of, located_of};
 ghost use Rattle.dac_shapes.specs.Limits.{is_among};
 ghost use Rattle.dac_shapes.specs.Shape.{is_mark, is_text, atom_of, short_name_of, app_name_of, param_name_of, names_kernel};

@@ -1,7 +1,7 @@
 //! Nodes, and an application's node list.
 
 ghost use Rattle.std.specs.Prelude.{◌≡◌, ◌≤◌, ℕ, List, false};
-ghost use Rattle.dac_shapes.specs.Outcome.{Gives};
+ghost use Rattle.dac_tokens.specs.Gives.{Gives};
 ghost use Rattle.dac_tokens.specs.Words.{located_of};
 ghost use Rattle.dac_shapes.specs.Shape.{node_of, item_at, groups_at};
 ghost use Rattle.dac_shapes.specs.Views.{names_of, groups_of, parser_state, tokens_left};

@@ -1,7 +1,7 @@
 //! What is left of a text.
 
 ghost use Rattle.std.specs.Prelude.{◌≡◌, ◌<◌, ◌≤◌, IfOk, true, false};
-ghost use Rattle.dac_shapes.specs.Outcome.{Gives};
+ghost use Rattle.dac_tokens.specs.Gives.{Gives};
 ghost use Rattle.dac_tokens.specs.Words.{located_of, word_of, is_end};
 ghost use Rattle.dac_shapes.specs.Shape.{token, symbol_at, more_at};
 ghost use Rattle.dac_shapes.specs.Views.{parser_state, tokens_left};

@@ -2,7 +2,7 @@
 
 ghost use Rattle.std.specs.Prelude.{◌≡◌, ◌≤◌};
 ghost use Rattle.dac_tokens.specs.Words.{located_of};
-ghost use Rattle.dac_shapes.specs.Outcome.{Gives};
+ghost use Rattle.dac_tokens.specs.Gives.{Gives};
 ghost use Rattle.dac_shapes.specs.Shape.{flag_of, permission_value_at, permission_at};
 ghost use Rattle.dac_shapes.specs.Views.{permission_of, parser_state, tokens_left};
 ghost use Rattle.dac_shapes.specs.Written.{Permission as WrittenPermission};

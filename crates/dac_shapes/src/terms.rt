@@ -2,7 +2,7 @@
 
 ghost use Rattle.std.specs.Prelude.{◌≡◌, ℕ, ◌<◌, ◌≤◌, IfOk, false};
 ghost use Rattle.dac_tokens.specs.Words.{located_of, word_of, is_end};
-ghost use Rattle.dac_shapes.specs.Outcome.{Gives};
+ghost use Rattle.dac_tokens.specs.Gives.{Gives};
 ghost use Rattle.dac_shapes.specs.Shape.{IsEnough, closing_of, texts_at, terms_in, term_at, passed_at};
 ghost use Rattle.dac_shapes.specs.Views.{parser_state, tokens_left};
 

@@ -2,12 +2,11 @@
 use Rattle.std.proofs.Common.{◌≡◌, inl, inr, ℕ, zero, suc, ◌+◌, ◌-◌, ◌<◌, ◌≤◌, Bool, true, false, cond, leb, List, [], ◌∷◌, ◌++◌, length, Result, Ok, Err, refl, sym, ap, subst, ◌∙◌, arith, length-append}
 use Rattle.std.specs.Prelude.{IfOk, ◌↔◌}
 use Rattle.std.proofs.lemmas.Bool.{leb-true, leb-false, true≢false}
-use Rattle.dac_tokens.specs.declared.fault.FaultKind.{FaultKind}
-use Rattle.dac_tokens.specs.declared.fault.FaultKind.TheVariants.{Unsupported, NoMemory}
+use Rattle.dac_tokens.specs.declared.fault.FaultKind.TheVariants.{Unsupported}
 use Rattle.dac_tokens.specs.declared.fault.ConfigFault.{ConfigFault}
 use Rattle.dac_tokens.specs.declared.token.Symbol.TheVariants.{OpenList, CloseList, OpenTuple, CloseTuple, Comma, FullStop}
 use Rattle.dac_tokens.specs.Faults.{IsTokenFault}
-use Rattle.dac_tokens.specs.Gives.{◌>>=◌, UnlessMemory, Fails}
+use Rattle.dac_tokens.specs.Gives.{◌>>=◌}
 use Rattle.dac_tokens.specs.Words.{Word, Mark, Name, Number, Text, End, is_end, Located}
 use Rattle.dac_tokens.specs.Scan.{after_gap, class_of, unsupported, token_of, word_at}
 use Rattle.dac_tokens.specs.Stream.{Stream, depth_after, token_from, and_then, tokens_within, tokens_of, end_at, ended, stopped, taken}
@@ -184,11 +183,7 @@ text_ends text = by (tokens_of (length text) 0 text).tokens (tokens_of (length t
 -- what `next` answers, where these tokens are left: the first and fewer, or the fault
 abbrev pub IsTaken : ℕ → Stream → Result (Located × ℕ × List ℕ) ConfigFault → Type 0
 IsTaken end s (Ok x) = (taken s ≡ Ok (x.0, tokens_of end x.1 x.2)) × (length (tokens_of end x.1 x.2).tokens ≤ length s.tokens) × (is_end x.0.word ≡ false → length (tokens_of end x.1 x.2).tokens < length s.tokens)
-IsTaken end s (Err e) = Fails e (taken s) × IsTokenFault e.kind
-
-unless_memory : (k : FaultKind) {P : Type 0} → P → UnlessMemory k P
-unless_memory NoMemory h = tt
-unless_memory _ h = h
+IsTaken end s (Err e) = (taken s ≡ Err e) × IsTokenFault e.kind
 
 first_taken : (at end depth : ℕ) (bytes : List ℕ) (s : Stream) (r : Result (Located × ℕ × List ℕ) ConfigFault) → at + length bytes ≡ end → depth ≤ 64 → tokens_of end depth bytes ≡ s → First at end depth bytes r → IsTaken end s r
 first_taken at end depth bytes s _ whole le is (AtEnd gap) =
@@ -202,7 +197,7 @@ first_taken at end depth bytes s _ whole le is (Next t own rest next within) =
     rw now (refl, omega arith, λ _. omega arith)
 first_taken at end depth bytes s _ whole le is (Fault e fault) =
     let now : s ≡ stopped [] e = sym is ∙ stream_read at end depth bytes (stopped [] e) whole le fault in
-    (unless_memory e.kind (ap taken now), stop_kind depth fault.rest fault.behind e.kind fault.fault)
+    (ap taken now, stop_kind depth fault.rest fault.behind e.kind fault.fault)
 
 pub next_taken : (end depth : ℕ) (bytes : List ℕ) (s : Stream) (r : Result (Located × ℕ × List ℕ) ConfigFault) → length bytes ≤ end → depth ≤ 64 → tokens_of end depth bytes ≡ s → token_from end depth bytes ≡ r → IsTaken end s r
 next_taken end depth bytes s r no_more le is read =

@@ -1,5 +1,5 @@
 -- What a reader of the code answers, beside what reading gives on lists.
-use Rattle.std.specs.Prelude.{◌≡◌, Result, Ok, Err}
+use Rattle.std.specs.Prelude.{◌≡◌, ℕ, Result, Ok, Err}
 use Rattle.dac_tokens.specs.declared.fault.FaultKind.{FaultKind}
 use Rattle.dac_tokens.specs.declared.fault.FaultKind.TheVariants.{NoMemory}
 use Rattle.dac_tokens.specs.declared.fault.ConfigFault.{ConfigFault}
@@ -15,14 +15,14 @@ abbrev pub Reads : {X Y : Type 0} → (X → Y) → Result X ConfigFault → Res
 Reads view (Ok x) read = read ≡ Ok (view x)
 Reads view (Err e) read = read ≡ Err e
 
--- a claim about any kind of fault but `NoMemory`
-abbrev pub UnlessMemory : FaultKind → Type 0 → Type 0
-UnlessMemory NoMemory P = Unit {0}
-UnlessMemory _ P = P
+-- `NoMemory` stands at 0 and says nothing of the text; of any other fault, a claim
+abbrev pub OrMemory : FaultKind → ℕ → Type 0 → Type 0
+OrMemory NoMemory at P = at ≡ 0
+OrMemory _ at P = P
 
--- reading has this fault, unless it is `NoMemory`, which says nothing of the text
+-- reading has this fault, unless it is `NoMemory`
 abbrev pub Fails : {Y : Type 0} → ConfigFault → Result Y ConfigFault → Type 0
-Fails e read = UnlessMemory e.kind (read ≡ Err e)
+Fails e read = OrMemory e.kind e.at (read ≡ Err e)
 
 -- what a function returned is, seen by view, what reading gives, unless memory ran out
 abbrev pub Gives : {X Y : Type 0} → (X → Y) → Result X ConfigFault → Result Y ConfigFault → Type 0

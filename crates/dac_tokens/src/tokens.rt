@@ -1,7 +1,7 @@
 //! The tokens of a text, one after another.
 
 ghost use Rattle.std.specs.Prelude.{◌≡◌, ◌↔◌, ◌≤◌, List, length, false, ◌<◌, IfOk, IfErr, OnErr};
-ghost use Rattle.dac_tokens.specs.Gives.{Gives, Reads};
+ghost use Rattle.dac_tokens.specs.Gives.{Reads};
 ghost use Rattle.dac_tokens.specs.Faults.{IsTokenFault};
 ghost use Rattle.dac_tokens.specs.Stream.{depth_after, end_at, ended, stopped, token_from, taken, tokens_of};
 ghost use Rattle.dac_tokens.specs.TokenFaults.{StopAt};
@@ -104,7 +104,7 @@ impl<'a> Tokens<'a> {
     /// for anything else, as a dot that ends no term, or an atom or string whose quote is never closed. Then
     /// nothing is taken: the next call answers the same.
     pub fn next(&mut self) -> Result<Located<'a>, ConfigFault>
-        ensures taken { Gives (λ x. (located_of x, self.new)) result (taken self.old) }
+        ensures taken { Reads (λ x. (located_of x, self.new)) result (taken self.old) }
         ensures fault { IfErr result (λ e. IsTokenFault e.kind) }
         ensures left { length self.new.tokens ≤ length self.old.tokens }
         ensures fewer { IfOk result (λ x.

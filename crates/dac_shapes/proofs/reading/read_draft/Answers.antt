@@ -1,9 +1,9 @@
 use Rattle.std.proofs.Common.{◌≡◌, ◌≤◌, length, arith, ltb, false}
 use Rattle.std.proofs.lemmas.Bool.{le-ltb}
-use Rattle.dac_shapes.specs.Outcome.{Gives}
+use Rattle.dac_tokens.specs.Gives.{Gives}
 use Rattle.dac_shapes.specs.Shape.{file_at, draft_at}
 use Rattle.dac_shapes.specs.Views.{draft_of}
-use Rattle.dac_shapes.proofs.Texts.{Tokenizes, whole, found_in, only_in, exact_in, memory_in}
+use Rattle.dac_shapes.proofs.Texts.{Tokenizes, whole, found_in, only_in, memory_in}
 use Rattle.dac_shapes.proofs.DraftLimits.{limits_in}
 use Rattle.dac_shapes.proofs.reading.read_draft.Goals as goal
 
@@ -19,6 +19,6 @@ returns c =
       found = found;
       only = λ draft is. only_in c.args.text.now c.new.result c.file.result known read draft is;
       limits = limits_in c.args.text.now c.file.result found;
-      exact = rw fits (rw c.new.ensures.read at (exact_in c.new.result c.file.result read));
+      exact = rw fits (rw c.new.ensures.read at read);
       memory = memory_in c.new.result c.file.result read;
     }
