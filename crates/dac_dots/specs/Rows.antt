@@ -166,7 +166,7 @@ pub record HasMore (old new : Row) : Type 0 where
   pub more : IsWithinRow old new
   pub kept : IsKept new
 
--- each origin of the rows is below
+-- each origin of the rows is before this one
 abbrev pub EndBefore : List Row → Origin → Type 0
 EndBefore rows origin = (o : Origin) → has_key origin_cmp (map (λ (row : Row). row.origin) rows) o ≡ true → origin_cmp o origin ≡ Less
 

@@ -22,7 +22,7 @@ use Rattle.dac_wishes.specs.declared.key.Key.{Key}
 use Rattle.dac_wishes.specs.Keys.{same_key}
 use Rattle.dac_wishes.specs.Writes.{Write, write, write_cmp, writes_total, exact_writes, coded_write}
 
--- permitted
+-- the flag says true
 abbrev pub says_true : Flag → Bool
 says_true Up = true
 says_true Down = false
