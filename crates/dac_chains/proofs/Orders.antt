@@ -3,7 +3,7 @@ use Rattle.std.proofs.Common.{◌≡◌, refl}
 use Rattle.std.specs.Ordering.{nat_cmp, ordering_then}
 use Rattle.std.specs.Option.{option_cmp}
 use Rattle.dac_base.specs.Ids.{node_cmp}
-use Rattle.dac_dots.specs.Dots.{origin_cmp}
+use Rattle.dac_lattice.specs.Dots.{origin_cmp}
 use Rattle.dac_lattice.specs.contracts.flags.FlagOrd.TheImpl.{cmp-value as flags}
 use Rattle.dac_lattice.specs.Flags.{same_flag_cmp}
 use Rattle.dac_chains.specs.contracts.lives.LifeOrd.TheImpl.{cmp-value as lives}

@@ -15,9 +15,9 @@ use Rattle.std.proofs.lemmas.Map.Lookups.{CmpEqualImpliesEq, exact_pairs, exact_
 use Rattle.dac_base.specs.declared.NodeId.{NodeId}
 use Rattle.dac_base.specs.declared.AppId.{AppId}
 use Rattle.dac_base.specs.Ids.{app_cmp, node_cmp, nodes_total, exact_nodes, coded_node}
-use Rattle.dac_dots.specs.declared.dot.Dot.{Dot}
-use Rattle.dac_dots.specs.declared.dot.Origin.{Origin}
-use Rattle.dac_dots.specs.Dots.{origin_cmp, origins_total, exact_origins, coded_origin}
+use Rattle.dac_lattice.specs.Dot.{Dot}
+use Rattle.dac_lattice.specs.Origin.{Origin}
+use Rattle.dac_lattice.specs.Dots.{origin_cmp, origins_total, exact_origins, coded_origin}
 use Rattle.dac_chains.specs.Greatest.{IsGreatest, IsSaid}
 use Rattle.dac_chains.specs.declared.claims.How.{How}
 use Rattle.dac_chains.specs.declared.claims.How.TheVariants.{Normal, Failover, Takeover}

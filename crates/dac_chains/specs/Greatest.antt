@@ -8,7 +8,7 @@ use Rattle.std.specs.FinMap as map
 use Rattle.std.proofs.lemmas.Bool.{true≢false}
 use Rattle.std.proofs.lemmas.Cmp.{tied_itself}
 use Rattle.std.proofs.lemmas.Map.Lookups.{CmpEqualImpliesEq}
-use Rattle.dac_dots.specs.declared.dot.Dot.{Dot}
+use Rattle.dac_lattice.specs.Dot.{Dot}
 use Rattle.dac_lattice.specs.Chains.{IsAny, IsAtMost, chain_laws}
 use Rattle.dac_lattice.specs.Laws.{IsLattice, IsIn, IsWithin, join_options, optional_laws}
 use Rattle.dac_lattice.specs.Entries.{merge_entries, find_merge}

@@ -4,8 +4,7 @@ ghost use Rattle.std.specs.FinMap as map;
 ghost use Rattle.dac_chains.specs.Kept.{unwrapped};
 
 use dac_base::{AppId, NoMemory, NodeId};
-use dac_dots::{Dot, MapKey, Origin};
-use dac_lattice::{Bottom, Lattice, MapOf, Max, Piece};
+use dac_lattice::{Bottom, Dot, Lattice, MapKey, MapOf, Max, Origin, Piece};
 use std::alloc::Global;
 use std::marker::Model;
 

@@ -5,8 +5,7 @@ ghost use Rattle.dac_chains.specs.Kept.{unwrapped};
 ghost use Rattle.dac_chains.specs.Lives.{IsLive, live_at};
 
 use dac_base::{NoMemory, NodeId};
-use dac_dots::{Dot, MapKey};
-use dac_lattice::{Bottom, Flag, Lattice, MapOf, Max, Piece};
+use dac_lattice::{Bottom, Dot, Flag, Lattice, MapKey, MapOf, Max, Piece};
 use std::alloc::Global;
 use std::marker::Model;
 

@@ -20,7 +20,7 @@ use Rattle.dac_operations.specs.declared.act.Act.{Act}
 use Rattle.dac_operations.specs.declared.act.Act.TheVariants.{Down as Downs, Permit as Permits, Start as Starts, Stop as Stops, Claim as Claims}
 use Rattle.dac_operations.specs.declared.op.OpFault.TheVariants.{OwnDot, BadOver, BadCounter, OnSelf as AboutItself}
 use Rattle.dac_operations.specs.Operations.{fault_of, replaces_itself, has_bad_over, has_bad_counter, is_on_self, over_list}
-use Rattle.dac_meaning.specs.StateValue.{StateValue, IsState}
+use Rattle.dac_placement.specs.StateValue.{StateValue, IsState}
 use Rattle.dac_config.specs.Table.{Table, app_count}
 use Rattle.dac_placement.specs.Placement.{runner_of}
 use Rattle.dac_events.specs.declared.Command.{Command}

@@ -7,7 +7,7 @@ use Rattle.dac_base.specs.declared.AppId.{AppId}
 use Rattle.dac_dots.specs.declared.dot.Origin.{Origin}
 use Rattle.dac_wishes.specs.declared.key.Key.{Key}
 use Rattle.dac_wishes.specs.WishesValue.{is_wished}
-use Rattle.dac_meaning.specs.StateValue.{StateValue, wishes_of}
+use Rattle.dac_placement.specs.StateValue.{StateValue, wishes_of}
 use Rattle.dac_config.specs.Table.{Table, node_count, app_count, group_of}
 use Rattle.dac_placement.specs.Placement.{is_up, is_eligible, is_earlier, runs_at, runner_of}
 use Rattle.dac_events.specs.declared.Command.{Command}

@@ -21,7 +21,7 @@ use Rattle.dac_wishes.specs.PermissionsValue.{permits_at}
 use Rattle.dac_operations.specs.declared.act.Act.{Act}
 use Rattle.dac_operations.specs.declared.act.Act.TheVariants.{Down as Downs, Permit as Permits, Start as Starts, Stop as Stops, Claim as Claims}
 use Rattle.dac_operations.specs.Operations.{Operation, operation}
-use Rattle.dac_meaning.specs.StateValue.{StateValue}
+use Rattle.dac_placement.specs.StateValue.{StateValue}
 use Rattle.dac_config.specs.Table.{Table}
 use Rattle.dac_placement.specs.Placement.{runner_of}
 use Rattle.dac_events.specs.declared.Command.{Command}

@@ -11,8 +11,7 @@ use dac_base::{AppId, MAX_REPLACED, NodeId};
 use dac_config::Config;
 use dac_dots::Origin;
 use dac_events::Command;
-use dac_placement::is_up;
-use dac_state::State;
+use dac_placement::{State, is_up};
 
 /// Why a controller that runs as this incarnation with this state refuses a command, if it does: the cause of the
 /// least number that holds. A takeover is by the controller's own node, which is to be eligible, from where the

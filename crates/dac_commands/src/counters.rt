@@ -8,7 +8,7 @@ ghost use Rattle.dac_commands.specs.Written.{HasLastTerm};
 
 use dac_base::{AppId, MAX_COUNTER};
 use dac_dots::Origin;
-use dac_state::State;
+use dac_placement::State;
 
 /// Whether the counters of an incarnation's operations are used up: one of its dots that are known here has the last
 /// counter, 2^62, or a later one. It takes no memory.

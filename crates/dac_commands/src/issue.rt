@@ -10,12 +10,14 @@ ghost use Rattle.dac_commands.specs.Written.{IsWritten};
 use crate::counters::next_term;
 use crate::keys::{key_of, live_of};
 use dac_base::{AppId, NoMemory, NodeId};
+use dac_chains::How;
 use dac_config::Config;
 use dac_dots::{Dot, Origin};
 use dac_events::Command;
 use dac_lattice::{Flag, Lattice};
-use dac_placement::runner;
-use dac_state::{Act, DotList, How, Key, Op, State};
+use dac_operations::{Act, DotList, Op};
+use dac_placement::{State, runner};
+use dac_wishes::Key;
 use std::alloc::{AllocError, Global};
 
 /// The operation that a command issues at a controller that runs as this incarnation with this state, and doesn't

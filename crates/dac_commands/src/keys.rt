@@ -7,7 +7,8 @@ ghost use Rattle.dac_commands.specs.Causes.{first, causes_to_name};
 use crate::refusal::Refusal;
 use dac_base::{AppId, NodeId};
 use dac_config::Config;
-use dac_state::{Key, State};
+use dac_placement::State;
+use dac_wishes::Key;
 
 /// The live incarnation of a node, 0 where none is live.
 pub(crate) fn live_of(state: &State, node: NodeId) -> u32

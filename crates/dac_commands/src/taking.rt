@@ -7,8 +7,7 @@ use crate::refusal::Refusal;
 use dac_base::{AppId, NodeId};
 use dac_config::Config;
 use dac_dots::Origin;
-use dac_placement::{eligible, is_earlier, runner, runs_at};
-use dac_state::State;
+use dac_placement::{State, eligible, is_earlier, runner, runs_at};
 
 /// Why a controller's own node doesn't take an application over, if it doesn't.
 pub(crate) fn refusal_to_take(

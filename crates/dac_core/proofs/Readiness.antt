@@ -4,8 +4,8 @@ use Rattle.std.specs.List.{slice_get}
 use Rattle.dac_base.specs.declared.NodeId.{NodeId}
 use Rattle.dac_config.specs.Table.{Table}
 use Rattle.dac_messages.specs.declared.event.Event.{Event}
-use Rattle.dac_rules.specs.NodeValue.{NodeValue}
-use Rattle.dac_rules.specs.laws.Options.{some_same}
+use Rattle.dac_worlds.specs.NodeValue.{NodeValue}
+use Rattle.dac_worlds.specs.laws.Options.{some_same}
 use Rattle.dac_node.specs.Changes.{ChangeValue, Fits, Prepared, changed}
 use Rattle.dac_worlds.specs.laws.Follow.{crash_goes_off}
 use Rattle.dac_core.specs.Ready.{IsReady, IsReadyAt}

@@ -11,10 +11,9 @@
 //! running controller.
 #![tactic(auto)]
 
-pub use dac_commands::Refusal;
 pub use dac_events::{Command, What, WorldEvent};
 pub use dac_messages::{AppList, Body, Event, Message, OpList, Reply};
-pub use dac_node::Node;
+pub use dac_node::{Node, Refusal};
 pub use dac_worlds::WorldFault;
 pub use world::World;
 

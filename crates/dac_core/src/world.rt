@@ -8,11 +8,10 @@ ghost use Rattle.dac_core.specs.Ready.{IsReadyAt};
 
 use crate::sharing::copy_after;
 use dac_base::{NoMemory, NodeId};
-use dac_commands::Refusal;
 use dac_config::Config;
 use dac_events::{What, WorldEvent};
 use dac_messages::{Event, Message, Reply};
-use dac_node::{Change, Node};
+use dac_node::{Change, Node, Refusal};
 use dac_settle::laws::rounds_settle;
 use dac_state::Op;
 use dac_worlds::{WorldFault, laws};

@@ -3,7 +3,7 @@ use Rattle.std.specs.Prelude.{◌≡◌, ◌↔◌, ℕ, ◌<◌, true, List, le
 use Rattle.dac_base.specs.declared.AppId.{AppId}
 use Rattle.dac_config.specs.Table.{Table, app_count}
 use Rattle.dac_chains.specs.declared.claims.Claim.{Claim}
-use Rattle.dac_meaning.specs.StateValue.{StateValue}
+use Rattle.dac_placement.specs.StateValue.{StateValue}
 use Rattle.dac_decide.specs.FailoverWait.{Note, IsLost, lost_in, IsNotedSince, noted_of, noted_at, waits_of, IsDue, is_due}
 use Rattle.dac_decide.specs.StartGate.{IsOpening, opening_of}
 

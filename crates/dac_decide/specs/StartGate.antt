@@ -9,7 +9,7 @@ use Rattle.dac_shapes.specs.declared.draft.SyncWait.{SyncWait}
 use Rattle.dac_shapes.specs.declared.draft.SyncWait.TheVariants.{NoSync, Forever, Ms}
 use Rattle.dac_config.specs.Table.{Table, node_count, is_mandatory, is_optional}
 use Rattle.dac_chains.specs.Lives.{IsLive, live_at}
-use Rattle.dac_meaning.specs.StateValue.{StateValue}
+use Rattle.dac_placement.specs.StateValue.{StateValue}
 use Rattle.dac_placement.specs.Placement.{nodes_of}
 use Rattle.dac_decide.specs.declared.start_gate.Opening.{Opening}
 use Rattle.dac_decide.specs.declared.start_gate.Opening.TheVariants.{Shut, Opened, GiveUp}

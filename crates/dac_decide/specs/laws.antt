@@ -3,3 +3,5 @@ pub mod Rows
 pub mod Due
 pub mod AllUp
 pub mod Kept
+pub use Rattle.dac_placement.specs.laws.Judged
+pub use Rattle.dac_placement.specs.laws.Tests

@@ -16,6 +16,6 @@ pub mod laws;
 mod start_gate;
 mod waits;
 
-pub use dac_placement::{Verdict, eligible, load, verdict};
+pub use dac_placement::{Verdict, eligible, is_up, load, verdict};
 pub use start_gate::{Opening, gate};
 pub use waits::Waits;

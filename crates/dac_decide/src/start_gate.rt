@@ -5,7 +5,7 @@ ghost use Rattle.dac_decide.specs.StartGate.{IsOpening, opening_of, opening_by, 
 
 use dac_base::NodeId;
 use dac_config::{Config, SyncWait};
-use dac_state::State;
+use dac_placement::State;
 
 /// What becomes of a node that was booted.
 #[derive(Clone, Copy, Debug, PartialEq, Eq)]

@@ -7,8 +7,7 @@ ghost use Rattle.dac_decide.specs.FailoverWait.{lost_in, noted_next, is_held_at,
 use dac_base::{AppId, NoMemory, NodeId};
 use dac_chains::Claim;
 use dac_config::Config;
-use dac_placement::{Verdict, holder, is_up, verdict};
-use dac_state::State;
+use dac_placement::{State, Verdict, holder, is_up, verdict};
 use std::alloc::Global;
 use std::marker::Model;
 

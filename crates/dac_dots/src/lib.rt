@@ -11,6 +11,7 @@
 #![tactic(auto)]
 
 pub use context::Context;
+pub use dac_base::NoMemory;
 pub use dot::{Dot, Origin};
 pub use keys::MapKey;
 pub use row::Further;

@@ -8,3 +8,6 @@ pub mod EntryLaws
 pub mod Maps
 pub mod Pieces
 pub mod PieceLaws
+pub use Rattle.dac_dots.specs.Dots
+pub use Rattle.dac_dots.specs.declared.dot.Dot
+pub use Rattle.dac_dots.specs.declared.dot.Origin

@@ -2,7 +2,7 @@
 ghost use Rattle.std.specs.Prelude.{◌≡◌, ◌↔◌, IsTrue, IfOk};
 ghost use Rattle.dac_lattice.specs.Laws.{IsLattice};
 
-use dac_base::NoMemory;
+use dac_dots::NoMemory;
 use std::alloc::Global;
 
 /// Values with an order in which any two have a least upper bound, their join.

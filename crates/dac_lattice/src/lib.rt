@@ -12,6 +12,7 @@
 #![tactic(auto)]
 
 pub use chain::Max;
+pub use dac_dots::{Dot, MapKey, Origin};
 pub use flags::Flag;
 pub use lattice::{Bottom, Lattice};
 pub use maps::MapOf;

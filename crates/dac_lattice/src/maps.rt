@@ -6,8 +6,7 @@ ghost use Rattle.dac_lattice.specs.Laws.{IsWithin};
 
 use crate::merging::{Combine, merge, value_at};
 use crate::{Bottom, Lattice};
-use dac_base::NoMemory;
-use dac_dots::MapKey;
+use dac_dots::{MapKey, NoMemory};
 use std::alloc::Global;
 use std::marker::Model;
 

@@ -5,8 +5,7 @@ ghost use Rattle.std.specs.FinMap.{find};
 ghost use Rattle.dac_lattice.specs.Entries.{merge_entries, keep};
 ghost use Rattle.dac_lattice.specs.Search.{IsInOrder, IsPlaceOf};
 
-use dac_base::NoMemory;
-use dac_dots::MapKey;
+use dac_dots::{MapKey, NoMemory};
 use std::alloc::Global;
 use std::cmp::Ordering;
 

@@ -4,8 +4,7 @@ ghost use Rattle.dac_dots.specs.declared.dot.Dot.{Dot};
 ghost use Rattle.dac_lattice.specs.Pieces.{AreOperations, IsPiece, JoinsAreTogether, OrderAndRepeatsAreNothing, DeltasAreMeanings};
 
 use crate::Bottom;
-use dac_base::NoMemory;
-use dac_dots::Dot;
+use dac_dots::{Dot, NoMemory};
 use std::alloc::Global;
 
 /// A lattice to which each operation adds its delta.

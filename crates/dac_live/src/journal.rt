@@ -1,7 +1,7 @@
 //! The journal of a node, with the node.
 
 ghost use Rattle.std.specs.Prelude.{◌≡◌, ◌≢◌, ◌≤◌, ◌<◌, ◌+◌, ◌++◌, ◌∷◌, [], length, true, false, IfOk, IfErr, OnErr};
-ghost use Rattle.dac_rules.specs.Step.{Steps};
+ghost use Rattle.dac_worlds.specs.Step.{Steps};
 ghost use Rattle.dac_live.specs.declared.limits.TheConstants.{MAX_RECORDS as MOST};
 ghost use Rattle.dac_live.specs.Journals.{call_of, record_of, opening_of};
 

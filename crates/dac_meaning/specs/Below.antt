@@ -16,7 +16,7 @@ use Rattle.dac_lattice.specs.declared.flags.Flag.TheVariants.{Up, Down}
 use Rattle.dac_lattice.specs.Flags.{IsFlagBelow}
 use Rattle.dac_lattice.specs.Laws.{IsWithin}
 use Rattle.dac_lattice.specs.Chains.{IsAtMost}
-use Rattle.dac_store.specs.AtDot.{StandsBelow}
+use Rattle.dac_wishes.specs.AtDot.{StandsBelow}
 use Rattle.dac_chains.specs.Greatest.{AreNotAbove}
 use Rattle.dac_chains.specs.Lives.{life_cmp}
 use Rattle.dac_chains.specs.Claims.{claim_cmp}

@@ -10,8 +10,8 @@ use Rattle.dac_dots.specs.Dots.{Dots, dots_total, exact_dots}
 use Rattle.dac_lattice.specs.declared.flags.Flag.{Flag}
 use Rattle.dac_lattice.specs.Laws.{join_options}
 use Rattle.dac_lattice.specs.Flags.{join_flags, flag_cmp, flags_exact}
-use Rattle.dac_store.specs.Stores.{both_ways}
-use Rattle.dac_store.specs.AtDot.{join_at}
+use Rattle.dac_wishes.specs.Stores.{both_ways}
+use Rattle.dac_wishes.specs.AtDot.{join_at}
 use Rattle.dac_chains.specs.Greatest.{greater}
 use Rattle.dac_chains.specs.Lives.{life_cmp, lives_total, exact_lives}
 use Rattle.dac_chains.specs.Claims.{claim_cmp, how_cmp, claims_total, exact_hows, exact_claims}

@@ -7,7 +7,7 @@ use Rattle.dac_dots.specs.Dots.{IsSubset}
 use Rattle.dac_lattice.specs.Laws.{IsLattice}
 use Rattle.dac_lattice.specs.Chains.{IsAny}
 use Rattle.dac_lattice.specs.Flags.{flag_cmp, flags_exact}
-use Rattle.dac_store.specs.Stores.{subset_left, subset_right, subset_union, subset_empty, same_context}
+use Rattle.dac_wishes.specs.Stores.{subset_left, subset_right, subset_union, subset_empty, same_context}
 use Rattle.dac_chains.specs.Greatest.{AreNotAbove, greater, greatest_laws, empty_is_least}
 use Rattle.dac_chains.specs.Lives.{Lives, life_cmp, lives_total, exact_lives}
 use Rattle.dac_chains.specs.Claims.{Claims, claim_cmp, how_cmp, claims_total, exact_hows, exact_claims}

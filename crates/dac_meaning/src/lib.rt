@@ -6,4 +6,6 @@
 //! definitions and these laws alone, in [`laws`]; they take nothing from how a state is kept.
 #![tactic(auto)]
 
+pub use dac_operations::{Act, Op, OpFault};
+
 pub mod laws;

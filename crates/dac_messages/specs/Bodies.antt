@@ -1,6 +1,6 @@
 -- What a message brings.
 use Rattle.std.specs.Prelude.{Option, Some, None}
-use Rattle.dac_meaning.specs.StateValue.{StateValue, bottom}
+use Rattle.dac_state.specs.StateValue.{StateValue, bottom}
 use Rattle.dac_messages.specs.declared.message.Body.{Body}
 use Rattle.dac_messages.specs.declared.message.Body.TheVariants.{Whole, Interval, Nothing}
 

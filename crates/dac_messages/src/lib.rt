@@ -7,6 +7,7 @@
 //! Two values can be compared, and the answer is true exactly where they are equal.
 #![tactic(auto)]
 
+pub use dac_state::State;
 pub use event::Event;
 pub use lists::{AppList, OpList};
 pub use message::{Body, Message};

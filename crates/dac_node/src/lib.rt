@@ -11,6 +11,7 @@
 #![tactic(auto)]
 
 pub use change::Change;
+pub use dac_commands::Refusal;
 pub use node::Node;
 
 mod change;

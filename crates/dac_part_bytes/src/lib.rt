@@ -15,6 +15,7 @@
 //! no count makes a reader take memory that the bytes don't pay for.
 #![tactic(auto)]
 
+pub use dac_config::Config;
 pub use reading_chains::{read_claims, read_lives};
 pub use reading_fields::{read_app, read_key, read_manner};
 pub use reading_keyed::{read_permissions, read_wishes};

@@ -11,7 +11,7 @@ use Rattle.dac_dots.specs.declared.dot.Origin.{Origin}
 use Rattle.dac_dots.specs.Dots.{coded_origin}
 use Rattle.dac_deltas.specs.Numbers.{Numbers, raised}
 use Rattle.dac_chains.specs.declared.lives.Life.{Life}
-use Rattle.dac_meaning.specs.StateValue.{StateValue}
+use Rattle.dac_messages.specs.StateValue.{StateValue}
 use Rattle.dac_peers.specs.declared.places.Place.{Place}
 use Rattle.dac_messages.specs.declared.message.Body.{Body}
 use Rattle.dac_messages.specs.declared.message.Body.TheVariants.{Nothing}

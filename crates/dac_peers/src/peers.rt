@@ -7,8 +7,7 @@ use crate::places::{Place, Places};
 use dac_base::{NoMemory, NodeId};
 use dac_deltas::Acks;
 use dac_dots::Origin;
-use dac_messages::{Body, Message};
-use dac_state::State;
+use dac_messages::{Body, Message, State};
 use std::alloc::Global;
 use std::marker::Model;
 

@@ -3,7 +3,7 @@ use Rattle.std.specs.Prelude.{◌≡◌, ◌↔◌, true, None, Some, MatchOptio
 use Rattle.dac_base.specs.declared.NodeId.{NodeId}
 use Rattle.dac_base.specs.declared.AppId.{AppId}
 use Rattle.dac_config.specs.Table.{Table}
-use Rattle.dac_meaning.specs.StateValue.{StateValue}
+use Rattle.dac_state.specs.StateValue.{StateValue}
 use Rattle.dac_placement.specs.Placement.{IsEligible, is_eligible, EachEligible, RunsAt, runs_at, runner_of, IsFirst, first_choice, IsStanding, standing_of, IsVerdict, verdict_of, candidate_of}
 use Rattle.dac_placement.specs.laws.Rests.{Rests}
 

@@ -2,3 +2,4 @@ pub mod Ranks
 pub mod Placement
 pub mod InWords
 pub mod laws
+pub use Rattle.dac_state.specs.StateValue

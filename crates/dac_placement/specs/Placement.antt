@@ -14,10 +14,10 @@ use Rattle.dac_dots.specs.declared.dot.Origin.{Origin}
 use Rattle.dac_config.specs.Table.{Table, node_count, app_count, group_of, default_permission}
 use Rattle.dac_chains.specs.declared.claims.Claim.{Claim}
 use Rattle.dac_chains.specs.Lives.{IsLive, live_at}
-use Rattle.dac_wishes.specs.declared.key.Key.{Key}
-use Rattle.dac_wishes.specs.PermissionsValue.{IsPermitted, is_permitted}
-use Rattle.dac_wishes.specs.WishesValue.{SomeStands, is_wished}
-use Rattle.dac_meaning.specs.StateValue.{StateValue, permissions_of, wishes_of}
+use Rattle.dac_state.specs.Key.{Key}
+use Rattle.dac_state.specs.PermissionsValue.{IsPermitted, is_permitted}
+use Rattle.dac_state.specs.WishesValue.{SomeStands, is_wished}
+use Rattle.dac_state.specs.StateValue.{StateValue, permissions_of, wishes_of}
 use Rattle.dac_placement.specs.declared.standing.Standing.{Standing}
 use Rattle.dac_placement.specs.declared.standing.Standing.TheVariants.{Unclaimed, Lost, Stopped, Barred, Upheld}
 use Rattle.dac_placement.specs.declared.verdicts.Verdict.{Verdict}

@@ -18,6 +18,7 @@ mod running;
 mod standing;
 mod verdicts;
 
+pub use dac_state::State;
 pub use deciding::{is_earlier, verdict};
 pub use eligibility::{eligible, is_permitted, is_started};
 pub use running::{holder, is_up, load, runner, runs_at};

@@ -11,11 +11,11 @@ use Rattle.dac_base.specs.declared.NodeId.{NodeId}
 use Rattle.dac_config.specs.Table.{Table, node_name}
 use Rattle.dac_messages.specs.declared.reply.Reply.{Reply}
 use Rattle.dac_events.specs.declared.WorldEvent.{WorldEvent}
-use Rattle.dac_worlds.specs.declared.fault.WorldFault.{WorldFault}
-use Rattle.dac_rules.specs.NodeValue.{origin_of, state_of}
-use Rattle.dac_worlds.specs.WorldValue.{WorldValue}
-use Rattle.dac_rules.specs.ModelNode.{ModelRun, joined, shown}
-use Rattle.dac_worlds.specs.ModelWorld.{ModelWorld, Shows, Follows, Done, Lacked, start, happens, out_of_memory, numbered, counted}
+use Rattle.dac_core.specs.WorldFault.{WorldFault}
+use Rattle.dac_core.specs.NodeValue.{origin_of, state_of}
+use Rattle.dac_core.specs.WorldValue.{WorldValue}
+use Rattle.dac_core.specs.ModelNode.{ModelRun, joined, shown}
+use Rattle.dac_core.specs.ModelWorld.{ModelWorld, Shows, Follows, Done, Lacked, start, happens, out_of_memory, numbered, counted}
 use Rattle.dac_wire.specs.Decoding.{packet_at}
 use Rattle.dac_play.specs.declared.answers.Counts.{Counts}
 use Rattle.dac_script.specs.declared.line.ScriptLine.{ScriptLine}

@@ -5,11 +5,11 @@ use Rattle.std.specs.Result.{is_ok}
 use Rattle.dac_base.specs.declared.NodeId.{NodeId}
 use Rattle.dac_config.specs.Table.{Table}
 use Rattle.dac_events.specs.declared.WorldEvent.{WorldEvent}
-use Rattle.dac_worlds.specs.WorldValue.{WorldValue}
-use Rattle.dac_worlds.specs.ModelWorld.{ModelWorld, WorldStepped, Shows, Run, RanAs, start, happens}
-use Rattle.dac_worlds.specs.EveryList.{run_from}
-use Rattle.dac_worlds.specs.laws.Headline.{converged}
-use Rattle.dac_worlds.specs.laws.EveryList.{own_run, is_enough}
+use Rattle.dac_core.specs.WorldValue.{WorldValue}
+use Rattle.dac_core.specs.ModelWorld.{ModelWorld, WorldStepped, Shows, Run, RanAs, start, happens}
+use Rattle.dac_core.specs.EveryList.{run_from}
+use Rattle.dac_core.specs.laws.Headline.{converged}
+use Rattle.dac_core.specs.laws.EveryList.{own_run, is_enough}
 use Rattle.dac_script.specs.declared.line.ScriptLine.{ScriptLine}
 use Rattle.dac_script.specs.declared.line.ScriptLine.TheVariants as says
 use Rattle.dac_play.specs.Sharing.{state_in, shipping, delivered, told}

@@ -12,9 +12,9 @@ use Rattle.dac_config.specs.Table.{Table}
 use Rattle.dac_events.specs.declared.WorldEvent.{WorldEvent}
 use Rattle.dac_meaning.specs.StateValue.{StateValue}
 use Rattle.dac_messages.specs.declared.reply.Reply.{Reply}
-use Rattle.dac_worlds.specs.declared.fault.WorldFault.{WorldFault}
-use Rattle.dac_worlds.specs.WorldValue.{WorldValue}
-use Rattle.dac_worlds.specs.ModelWorld.{ModelWorld, Shows, Follows, Done, Lacked, happens, out_of_memory, numbered}
+use Rattle.dac_core.specs.WorldFault.{WorldFault}
+use Rattle.dac_core.specs.WorldValue.{WorldValue}
+use Rattle.dac_core.specs.ModelWorld.{ModelWorld, Shows, Follows, Done, Lacked, happens, out_of_memory, numbered}
 use Rattle.dac_play.specs.Pairs.{pairs, TellsEachOther}
 use Rattle.dac_play.specs.Play.{state_at, HasState, IsShared}
 use Rattle.dac_play.specs.Sharing.{state_in, having_state, shipping, delivery, told, shared, Leads, IsAnswered}

@@ -3,7 +3,7 @@ use Rattle.std.proofs.Common.{ℕ, List, Option, Some, None}
 use Rattle.std.specs.Prelude.{IfSome}
 use Rattle.std.specs.Io.KnownBytes.{Appends}
 use Rattle.dac_config.specs.Table.{Table}
-use Rattle.dac_worlds.specs.ModelWorld.{start}
+use Rattle.dac_core.specs.ModelWorld.{start}
 use Rattle.dac_script.specs.declared.line.ScriptLine.{ScriptLine}
 use Rattle.dac_script.specs.Inputs.{Says}
 use Rattle.dac_play.specs.Play.{script_text}

@@ -4,11 +4,11 @@ use Rattle.dac_config.specs.Table.{Table, node_name}
 use Rattle.dac_events.specs.declared.What.{What}
 use Rattle.dac_events.specs.declared.What.TheVariants.{Deliver, Hand}
 use Rattle.dac_events.specs.declared.WorldEvent.{WorldEvent}
-use Rattle.dac_commands.specs.Refusals.{number_of, name_of}
+use Rattle.dac_core.specs.Refusals.{number_of, name_of}
 use Rattle.dac_messages.specs.declared.reply.Reply.{Reply}
 use Rattle.dac_messages.specs.declared.reply.Reply.TheVariants.{Booted, Crashed, Issued, Ticked, Held, GaveUp, Shipped, Heard}
-use Rattle.dac_worlds.specs.declared.fault.WorldFault.{WorldFault}
-use Rattle.dac_worlds.specs.declared.fault.WorldFault.TheVariants.{NoSuchNode, NoSuchMessage, NoSuchOperation, Refused}
+use Rattle.dac_core.specs.WorldFault.{WorldFault}
+use Rattle.dac_core.specs.WorldFault.TheVariants.{NoSuchNode, NoSuchMessage, NoSuchOperation, Refused}
 use Rattle.dac_play.specs.declared.answers.Counts.{Counts}
 use Rattle.dac_play.specs.Texts.{booted_text, crashed_text, issued_text, held_text, gave_up_text, shipped_text, heard_text, no_message_text, no_operation_text, refused_text}
 use Rattle.dac_play.specs.Ticks.{ticked_text}

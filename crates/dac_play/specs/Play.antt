@@ -7,9 +7,9 @@ use Rattle.dac_dots.specs.declared.dot.Origin.{Origin}
 use Rattle.dac_config.specs.Table.{Table, node_name}
 use Rattle.dac_meaning.specs.StateValue.{StateValue}
 use Rattle.dac_state.specs.StateSpelling.{spelling_of}
-use Rattle.dac_rules.specs.NodeValue.{origin_of, state_of}
-use Rattle.dac_worlds.specs.WorldValue.{WorldValue}
-use Rattle.dac_worlds.specs.ModelWorld.{ModelWorld, Shows, happens, counted}
+use Rattle.dac_core.specs.NodeValue.{origin_of, state_of}
+use Rattle.dac_core.specs.WorldValue.{WorldValue}
+use Rattle.dac_core.specs.ModelWorld.{ModelWorld, Shows, happens, counted}
 use Rattle.dac_status.specs.Summaries.{summary_of}
 use Rattle.dac_wire.specs.Decoding.{packet_at}
 use Rattle.dac_status.specs.Texts.{header_text, page_text}

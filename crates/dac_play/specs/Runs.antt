@@ -5,11 +5,11 @@ use Rattle.dac_base.specs.declared.NodeId.{NodeId}
 use Rattle.dac_config.specs.Table.{Table}
 use Rattle.dac_events.specs.declared.WorldEvent.{WorldEvent}
 use Rattle.dac_messages.specs.declared.reply.Reply.{Reply}
-use Rattle.dac_worlds.specs.declared.fault.WorldFault.{WorldFault}
-use Rattle.dac_worlds.specs.WorldValue.{WorldValue}
-use Rattle.dac_worlds.specs.ModelWorld.{ModelWorld, WorldStepped, Shows, RanAs, start, happens}
-use Rattle.dac_worlds.specs.Converges.{Converges}
-use Rattle.dac_worlds.specs.EveryList.{answers_of, IsEnough}
+use Rattle.dac_core.specs.WorldFault.{WorldFault}
+use Rattle.dac_core.specs.WorldValue.{WorldValue}
+use Rattle.dac_core.specs.ModelWorld.{ModelWorld, WorldStepped, Shows, RanAs, start, happens}
+use Rattle.dac_core.specs.Converges.{Converges}
+use Rattle.dac_core.specs.EveryList.{answers_of, IsEnough}
 use Rattle.dac_script.specs.declared.line.ScriptLine.{ScriptLine}
 use Rattle.dac_script.specs.declared.line.ScriptLine.TheVariants as says
 use Rattle.dac_play.specs.Pairs.{pairs, TellsEachOther}

@@ -9,9 +9,9 @@ use Rattle.dac_config.specs.Table.{Table}
 use Rattle.dac_events.specs.declared.What.TheVariants as what
 use Rattle.dac_events.specs.declared.WorldEvent.{WorldEvent}
 use Rattle.dac_meaning.specs.StateValue.{StateValue}
-use Rattle.dac_worlds.specs.WorldValue.{WorldValue}
-use Rattle.dac_rules.specs.ModelNode.{ModelRun, joined}
-use Rattle.dac_worlds.specs.ModelWorld.{ModelWorld, WorldStepped, Shows, happens, numbered}
+use Rattle.dac_core.specs.WorldValue.{WorldValue}
+use Rattle.dac_core.specs.ModelNode.{ModelRun, joined}
+use Rattle.dac_core.specs.ModelWorld.{ModelWorld, WorldStepped, Shows, happens, numbered}
 use Rattle.dac_play.specs.Pairs.{pairs}
 
 -- the state of a node of the model world, where it runs

@@ -2,7 +2,7 @@
 use Rattle.std.specs.Prelude.{ℕ, List, Option}
 use Rattle.std.specs.Io.KnownBytes.{Appends}
 use Rattle.dac_config.specs.Table.{Table}
-use Rattle.dac_worlds.specs.ModelWorld.{start}
+use Rattle.dac_core.specs.ModelWorld.{start}
 use Rattle.dac_script.specs.declared.line.ScriptLine.{ScriptLine}
 use Rattle.dac_script.specs.Inputs.{Says, IsFailureOf}
 use Rattle.dac_play.specs.declared.ending.Ending.{Ending}

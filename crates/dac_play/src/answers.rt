@@ -1,7 +1,7 @@
 //! The lines for what the world answers to an event.
 
 ghost use Rattle.std.specs.Prelude.{◌≡◌, ◌≢◌, ◌<◌, IfOk, OnOk};
-ghost use Rattle.dac_worlds.specs.ModelWorld.{out_of_memory};
+ghost use Rattle.dac_core.specs.ModelWorld.{out_of_memory};
 ghost use Rattle.dac_config.specs.Table.{node_count, node_name};
 ghost use Rattle.dac_play.specs.Answers.{reply_text, asked_number, fault_text, answer_text};
 

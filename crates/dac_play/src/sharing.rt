@@ -4,7 +4,7 @@ ghost use Rattle.std.specs.Prelude.{◌≡◌, ◌≢◌, ◌<◌, IfOk, OnOk, l
 ghost use Rattle.std.specs.Option.{is_some};
 ghost use Rattle.std.specs.Result.{is_ok};
 ghost use Rattle.dac_config.specs.Table.{node_count};
-ghost use Rattle.dac_worlds.specs.ModelWorld.{out_of_memory};
+ghost use Rattle.dac_core.specs.ModelWorld.{out_of_memory};
 ghost use Rattle.dac_play.specs.Play.{state_at, IsShared};
 ghost use Rattle.dac_play.specs.Sharing.{having_state, told, shared, Leads, IsAnswered};
 

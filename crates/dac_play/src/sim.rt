@@ -3,7 +3,7 @@
 ghost use Rattle.std.specs.Prelude.{◌≡◌, ◌<◌, ◌-◌, IfOk, IfSome, OnOk, All, length};
 ghost use Rattle.std.specs.Io.KnownBytes.{Appends};
 ghost use Rattle.dac_config.specs.Table.{node_count};
-ghost use Rattle.dac_worlds.specs.ModelWorld.{start};
+ghost use Rattle.dac_core.specs.ModelWorld.{start};
 ghost use Rattle.dac_script.specs.Line.{HasActors};
 ghost use Rattle.dac_script.specs.declared.line.ScriptLine.TheVariants as says;
 ghost use Rattle.dac_play.specs.Play.{script_text, PlaysLine};

@@ -2,7 +2,7 @@
 
 ghost use Rattle.std.specs.Prelude.{◌≡◌, ◌≢◌, IfOk, OnOk};
 ghost use Rattle.std.specs.Option.{option_copied};
-ghost use Rattle.dac_worlds.specs.ModelWorld.{counted};
+ghost use Rattle.dac_core.specs.ModelWorld.{counted};
 ghost use Rattle.dac_wire.specs.Decoding.{packet_at};
 ghost use Rattle.dac_wire.specs.Spelling.{spelling_of};
 ghost use Rattle.dac_play.specs.Wires.{wire_ok_text, wire_fault_text, spelled_text, message_text, fed_text};

@@ -10,3 +10,7 @@ pub mod Refused
 pub mod Writing
 pub mod Again
 pub mod laws
+pub use Rattle.dac_peers.specs.Peers
+pub use Rattle.dac_peers.specs.declared.places.Place
+pub use Rattle.dac_ticks.specs.Issued
+pub use Rattle.dac_ticks.specs.Ticks

@@ -15,7 +15,7 @@ use Rattle.dac_wishes.specs.WishesValue.{SomeStands}
 use Rattle.dac_meaning.specs.StateValue.{StateValue, wishes_of, IsBelow}
 use Rattle.dac_peers.specs.declared.places.Place.{Place}
 use Rattle.dac_messages.specs.Bodies.{content_of}
-use Rattle.dac_placement.specs.Placement.{IsEligible, RunsAt, IsEarlier}
+use Rattle.dac_decide.specs.Placement.{IsEligible, RunsAt, IsEarlier}
 use Rattle.dac_events.specs.declared.Command.{Command}
 use Rattle.dac_events.specs.declared.Command.TheVariants.{Down, Permit, Start, Stop, Takeover}
 use Rattle.dac_messages.specs.declared.message.Message.{Message}

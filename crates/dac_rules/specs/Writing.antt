@@ -4,7 +4,7 @@ use Rattle.dac_base.specs.declared.NodeId.{NodeId}
 use Rattle.dac_dots.specs.Dots.{dot}
 use Rattle.dac_operations.specs.declared.act.Act.TheVariants.{Up}
 use Rattle.dac_config.specs.Table.{Table}
-use Rattle.dac_placement.specs.Placement.{apps_of}
+use Rattle.dac_decide.specs.Placement.{apps_of}
 use Rattle.dac_decide.specs.declared.start_gate.Opening.{Opening}
 use Rattle.dac_decide.specs.declared.start_gate.Opening.TheVariants.{Shut, Opened, GiveUp}
 use Rattle.dac_decide.specs.StartGate.{IsOpening}

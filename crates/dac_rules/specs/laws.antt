@@ -9,3 +9,4 @@ pub mod Numbers
 pub mod Writing
 pub mod Shipping
 pub mod Again
+pub use Rattle.dac_ticks.specs.laws.Claims

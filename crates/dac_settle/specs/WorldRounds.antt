@@ -11,7 +11,7 @@ use Rattle.dac_events.specs.declared.What.{What}
 use Rattle.dac_events.specs.declared.What.TheVariants.{Tick as Ticks, Deliver}
 use Rattle.dac_messages.specs.declared.reply.Reply.{Reply}
 use Rattle.dac_messages.specs.declared.reply.Reply.TheVariants.{Ticked, Shipped, Heard}
-use Rattle.dac_rules.specs.ModelNode.{ModelRun}
+use Rattle.dac_worlds.specs.ModelNode.{ModelRun}
 use Rattle.dac_worlds.specs.declared.fault.WorldFault.{WorldFault}
 use Rattle.dac_worlds.specs.WorldValue.{WorldValue}
 use Rattle.dac_worlds.specs.ModelWorld.{ModelWorld, AnsweredAs, start, went, world_after}

@@ -4,7 +4,7 @@ use Rattle.std.specs.Prelude.{◌==◌, IfOk}
 use Rattle.std.specs.FinSet as set
 use Rattle.std.proofs.lemmas.List.{append-nil, nil_from_length}
 use Rattle.std.proofs.lemmas.Bool.{eqb-true}
-use Rattle.dac_config.specs.Table.{Table}
+use Rattle.dac_part_bytes.specs.Table.{Table}
 use Rattle.dac_dots.specs.Dots.{Dots, IsSubset, dots_total}
 use Rattle.dac_bytes.specs.declared.fault.ReadFault.{ReadFault}
 use Rattle.dac_bytes.specs.declared.fault.ReadFaultKind.TheVariants.{NotKnown, Trailing}

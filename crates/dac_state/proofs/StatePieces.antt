@@ -5,7 +5,7 @@ use Rattle.dac_chains.specs.Lives.{Lives}
 use Rattle.dac_chains.specs.Claims.{Claims}
 use Rattle.dac_wishes.specs.Writes.{Writes}
 use Rattle.dac_wishes.specs.PermissionsValue.{Permits}
-use Rattle.dac_config.specs.Table.{Table, node_count}
+use Rattle.dac_part_bytes.specs.Table.{Table, node_count}
 use Rattle.dac_bytes.specs.Ranges.{IsContext}
 use Rattle.dac_bytes.specs.Spelling.{context_bytes}
 use Rattle.dac_part_bytes.specs.Spelling.{permits_bytes, starts_bytes, lives_bytes, claims_bytes}

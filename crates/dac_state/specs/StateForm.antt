@@ -1,5 +1,5 @@
 -- Which states have bytes that are read under a configuration.
-use Rattle.dac_config.specs.Table.{Table, node_count}
+use Rattle.dac_part_bytes.specs.Table.{Table, node_count}
 use Rattle.dac_dots.specs.Dots.{IsSubset}
 use Rattle.dac_bytes.specs.Ranges.{IsContext}
 use Rattle.dac_part_bytes.specs.KeyedForm.{ArePermitsInForm, AreStartsInForm}

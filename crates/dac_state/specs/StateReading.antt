@@ -6,7 +6,7 @@ use Rattle.dac_chains.specs.Lives.{Lives}
 use Rattle.dac_chains.specs.Claims.{Claims}
 use Rattle.dac_wishes.specs.Writes.{Writes}
 use Rattle.dac_wishes.specs.PermissionsValue.{Permits}
-use Rattle.dac_config.specs.Table.{Table, node_count}
+use Rattle.dac_part_bytes.specs.Table.{Table, node_count}
 use Rattle.dac_bytes.specs.declared.fault.ReadFault.{ReadFault}
 use Rattle.dac_bytes.specs.declared.fault.ReadFaultKind.TheVariants.{NotKnown, Trailing}
 use Rattle.dac_bytes.specs.Reading.{Rest, Field, whole, fault, ◌>>=◌, context_at}

@@ -6,7 +6,7 @@ ghost use Rattle.dac_state.specs.StateForm.{IsInForm};
 ghost use Rattle.dac_state.specs.StateReading.{parts_at};
 ghost use Rattle.dac_state.specs.StateSpelling.{spelling_of};
 
-use dac_config::Config;
+use dac_part_bytes::Config;
 use dac_part_bytes::laws::parts_have_one_spelling;
 
 /// States in form and their spellings are one to one under a configuration: what is read as a state is its spelling

@@ -3,8 +3,7 @@ ghost use Rattle.std.specs.Prelude.{◌≡◌, ◌↔◌, IsTrue, IfOk, IfErr};
 ghost use Rattle.dac_store.specs.Stores.{IsHeld};
 
 use crate::DotStore;
-use dac_base::NoMemory;
-use dac_dots::Context;
+use dac_dots::{Context, NoMemory};
 use dac_lattice::{Bottom, Lattice};
 use std::alloc::Global;
 use std::marker::Model;

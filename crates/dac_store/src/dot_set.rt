@@ -6,9 +6,8 @@ ghost use Rattle.dac_store.specs.Appending.{is_above_dots};
 ghost use Rattle.dac_store.specs.DotSets.{join_sets, may_stay};
 
 use crate::DotStore;
-use dac_base::NoMemory;
 use dac_dots::keys::{holds_key, insert_key, remove_key};
-use dac_dots::{Context, Dot};
+use dac_dots::{Context, Dot, NoMemory};
 use std::alloc::Global;
 use std::marker::Model;
 

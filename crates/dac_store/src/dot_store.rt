@@ -4,8 +4,7 @@ ghost use Rattle.dac_dots.specs.Dots.{Dots};
 ghost use Rattle.dac_dots.specs.declared.Dot.{Dot};
 ghost use Rattle.dac_store.specs.Stores.{IsDotStore, IsHeld};
 
-use dac_base::NoMemory;
-use dac_dots::{Context, Dot};
+use dac_dots::{Context, Dot, NoMemory};
 use std::alloc::Global;
 
 /// Values that hold dots. Two of them are ordered and joined beside their contexts, the dots that each

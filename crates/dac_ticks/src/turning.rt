@@ -12,14 +12,15 @@ ghost use Rattle.dac_ticks.specs.Progress.{added, found_of, so_far, IsSparing, I
 ghost use Rattle.dac_ticks.specs.InWords.{IsTurn};
 
 use dac_base::{AppId, NoMemory, NodeId};
+use dac_chains::How;
 use dac_commands::{claim, terms_used_up};
 use dac_config::Config;
 use dac_decide::{Verdict, Waits, verdict};
 use dac_dots::Origin;
 use dac_lattice::Lattice;
 use dac_messages::{AppList, OpList};
-use dac_placement::holder;
-use dac_state::{How, Op, State};
+use dac_operations::Op;
+use dac_placement::{State, holder};
 use std::alloc::Global;
 
 /// What a controller does at a tick.

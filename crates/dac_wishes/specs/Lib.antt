@@ -12,3 +12,5 @@ pub mod ByKey
 pub mod StartsByKey
 pub mod PermitsByKey
 pub mod laws
+pub use Rattle.dac_store.specs.AtDot
+pub use Rattle.dac_store.specs.Stores

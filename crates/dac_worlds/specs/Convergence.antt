@@ -11,8 +11,8 @@ use Rattle.dac_operations.specs.Operations.{Operation}
 use Rattle.dac_meaning.specs.StateValue.{StateValue}
 use Rattle.dac_meaning.specs.Meaning.{meaning_of, has_dot, Within}
 use Rattle.dac_config.specs.Table.{Table}
-use Rattle.dac_state.specs.StateSpelling.{spelling_of}
-use Rattle.dac_placement.specs.Placement.{holder_of, verdict_of, candidate_of}
+use Rattle.dac_messages.specs.StateSpelling.{spelling_of}
+use Rattle.dac_decide.specs.Placement.{holder_of, verdict_of, candidate_of}
 use Rattle.dac_messages.specs.declared.message.Message.{Message}
 use Rattle.dac_messages.specs.Bodies.{content_of}
 use Rattle.dac_rules.specs.NodeValue.{NodeValue, origin_of, state_of}

@@ -14,3 +14,8 @@ pub mod Records
 pub mod Converges
 pub mod EveryList
 pub mod laws
+pub use Rattle.dac_rules.specs.Deeds
+pub use Rattle.dac_rules.specs.EventRefusals
+pub use Rattle.dac_rules.specs.ModelNode
+pub use Rattle.dac_rules.specs.NodeValue
+pub use Rattle.dac_rules.specs.Step

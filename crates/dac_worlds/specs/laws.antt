@@ -23,3 +23,5 @@ pub mod Histories
 pub mod Records
 pub mod EveryList
 pub mod Follow
+pub use Rattle.dac_rules.specs.laws.Options
+pub use Rattle.dac_rules.specs.laws.Steps

@@ -9,7 +9,7 @@ use Rattle.dac_base.specs.declared.NodeId.{NodeId}
 use Rattle.dac_base.specs.declared.AppId.{AppId}
 use Rattle.dac_chains.specs.declared.claims.Claim.{Claim}
 use Rattle.dac_chains.specs.declared.claims.How.{How}
-use Rattle.dac_meaning.specs.StateValue.{StateValue}
+use Rattle.dac_placement.specs.StateValue.{StateValue}
 use Rattle.dac_commands.specs.Commands.{next_term, claim_act}
 use Rattle.dac_commands.specs.Causes.{terms_used_up}
 use Rattle.dac_commands.specs.Written.{IsNextTerm, HasLastTerm, IsNextClaim}

@@ -16,7 +16,7 @@ use Rattle.dac_shapes.specs.declared.draft.SyncWait.TheVariants.{NoSync, Forever
 use Rattle.dac_config.specs.Table.{Table, node_count, is_mandatory, is_optional}
 use Rattle.dac_chains.specs.declared.lives.Life.{Life}
 use Rattle.dac_chains.specs.Lives.{if_up, live_at}
-use Rattle.dac_meaning.specs.StateValue.{StateValue}
+use Rattle.dac_placement.specs.StateValue.{StateValue}
 use Rattle.dac_placement.specs.Placement.{nodes_of}
 use Rattle.dac_decide.specs.declared.start_gate.Opening.TheVariants.{Shut, Opened, GiveUp}
 use Rattle.dac_decide.specs.StartGate.{IsUpNow, AllUp, is_awaited, IsTimeLeft, IsOpening, is_live_if, all_up, present_of, opening_by, opening_of}

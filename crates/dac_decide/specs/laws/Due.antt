@@ -8,7 +8,7 @@ use Rattle.dac_base.specs.declared.NodeId.{NodeId}
 use Rattle.dac_base.specs.declared.AppId.{AppId}
 use Rattle.dac_config.specs.Table.{Table, timeout_of}
 use Rattle.dac_chains.specs.declared.claims.Claim.{Claim}
-use Rattle.dac_meaning.specs.StateValue.{StateValue}
+use Rattle.dac_placement.specs.StateValue.{StateValue}
 use Rattle.dac_placement.specs.declared.verdicts.Verdict.{Verdict}
 use Rattle.dac_placement.specs.declared.verdicts.Verdict.TheVariants.{Start, Failover, Halted, Move, Takeover, Kept, Nobody}
 use Rattle.dac_placement.specs.Placement.{verdict_of}

@@ -3,8 +3,8 @@ use Rattle.std.proofs.Common.{◌≡◌, ℕ, List, [], ◌∷◌, ◌++◌, map
 use Rattle.dac_messages.specs.declared.reply.Reply.{Reply}
 use Rattle.dac_messages.specs.declared.event.Event.{Event}
 use Rattle.dac_commands.specs.declared.refusal.Refusal.{Refusal}
-use Rattle.dac_rules.specs.NodeValue.{NodeValue}
-use Rattle.dac_rules.specs.Step.{Steps, model_step}
+use Rattle.dac_worlds.specs.NodeValue.{NodeValue}
+use Rattle.dac_worlds.specs.Step.{Steps, model_step}
 use Rattle.dac_worlds.specs.Histories.{Entry, IsHistory, off_after}
 use Rattle.dac_worlds.specs.laws.Histories.{IsHistory-push}
 use Rattle.dac_live.specs.declared.record.Record.{Record}

@@ -10,7 +10,7 @@ use Rattle.std.proofs.lemmas.List.Sums.{fold_push}
 use Rattle.std.specs.FinMap as map
 use Rattle.dac_base.specs.declared.NodeId.{NodeId}
 use Rattle.dac_chains.specs.declared.lives.Life.{Life}
-use Rattle.dac_meaning.specs.StateValue.{StateValue}
+use Rattle.dac_messages.specs.StateValue.{StateValue}
 use Rattle.dac_peers.specs.declared.places.Place.{Place}
 use Rattle.dac_peers.specs.Peers.{PeersValue, acked_by, number_acked, others, lesser}
 use Rattle.dac_peers.specs.InWords.{IsNumberOf, IsOther, IsLeastOfAll, AllHaveTheLeast}

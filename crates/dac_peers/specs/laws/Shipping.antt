@@ -11,7 +11,7 @@ use Rattle.dac_base.specs.Ids.{node_cmp}
 use Rattle.dac_dots.specs.declared.dot.Origin.{Origin}
 use Rattle.dac_dots.specs.Dots.{origin_cmp}
 use Rattle.dac_chains.specs.declared.lives.Life.{Life}
-use Rattle.dac_meaning.specs.StateValue.{StateValue}
+use Rattle.dac_messages.specs.StateValue.{StateValue}
 use Rattle.dac_peers.specs.declared.places.Place.{Place}
 use Rattle.dac_peers.specs.Peers.{PeersValue, acked_by, acked_at, kept_from, begins, has_all}
 use Rattle.dac_peers.specs.InWords.{HasAcked, IsBegin, NothingIsKept, BeginsWhereAcked, ReceiptsAreGot, UpToDateHaveAll}

@@ -11,7 +11,7 @@ use Rattle.dac_base.specs.declared.NodeId.{NodeId}
 use Rattle.dac_base.specs.declared.AppId.{AppId}
 use Rattle.dac_lattice.specs.Laws.{join_options}
 use Rattle.dac_config.specs.Table.{Table, node_count, group_of}
-use Rattle.dac_meaning.specs.StateValue.{StateValue}
+use Rattle.dac_state.specs.StateValue.{StateValue}
 use Rattle.dac_placement.specs.Ranks.{Rank, rank_cmp}
 use Rattle.dac_placement.specs.Placement.{IsEligible, is_eligible, EachEligible, IsFirst, load_of, rank_of, first_choice}
 use Rattle.dac_placement.specs.laws.Tests.{eligible_is}

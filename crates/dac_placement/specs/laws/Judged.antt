@@ -5,7 +5,7 @@ use Rattle.std.proofs.lemmas.Bool.{true≢false, false≢true, ltb-true, ltb-fal
 use Rattle.dac_base.specs.declared.NodeId.{NodeId}
 use Rattle.dac_base.specs.declared.AppId.{AppId}
 use Rattle.dac_config.specs.Table.{Table, group_of}
-use Rattle.dac_meaning.specs.StateValue.{StateValue}
+use Rattle.dac_state.specs.StateValue.{StateValue}
 use Rattle.dac_placement.specs.declared.standing.Standing.{Standing}
 use Rattle.dac_placement.specs.declared.standing.Standing.TheVariants.{Unclaimed, Lost, Stopped, Barred, Upheld}
 use Rattle.dac_placement.specs.declared.verdicts.Verdict.TheVariants.{Takeover, Kept}

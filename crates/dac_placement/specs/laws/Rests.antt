@@ -8,7 +8,7 @@ use Rattle.dac_base.specs.declared.AppId.{AppId}
 use Rattle.dac_dots.specs.declared.dot.Origin.{Origin}
 use Rattle.dac_config.specs.Table.{Table}
 use Rattle.dac_chains.specs.laws.Live.{live_is}
-use Rattle.dac_meaning.specs.StateValue.{StateValue}
+use Rattle.dac_state.specs.StateValue.{StateValue}
 use Rattle.dac_placement.specs.declared.standing.Standing.{Standing}
 use Rattle.dac_placement.specs.declared.standing.Standing.TheVariants.{Unclaimed, Lost, Stopped, Barred, Upheld}
 use Rattle.dac_placement.specs.declared.verdicts.Verdict.TheVariants.{Takeover, Kept}

@@ -6,7 +6,7 @@ use Rattle.std.proofs.lemmas.Bool.{true≢false}
 use Rattle.dac_base.specs.declared.AppId.{AppId}
 use Rattle.dac_dots.specs.declared.dot.Origin.{Origin}
 use Rattle.dac_config.specs.Table.{Table}
-use Rattle.dac_meaning.specs.StateValue.{StateValue}
+use Rattle.dac_state.specs.StateValue.{StateValue}
 use Rattle.dac_placement.specs.declared.standing.Standing.TheVariants.{Unclaimed, Lost, Stopped, Barred, Upheld}
 use Rattle.dac_placement.specs.Placement.{is_permitted_at, is_started_at, holder_of, is_up, key_of, IsStanding, standing_at, standing_of}
 use Rattle.dac_placement.specs.laws.Tests.{up_is, permitted_is, started_is}

@@ -9,9 +9,9 @@ use Rattle.dac_dots.specs.declared.dot.Origin.{Origin}
 use Rattle.dac_config.specs.Table.{Table, group_of, default_permission}
 use Rattle.dac_chains.specs.Lives.{live_at}
 use Rattle.dac_chains.specs.laws.Live.{live_is}
-use Rattle.dac_wishes.specs.laws.Wished.{is_wished-some}
-use Rattle.dac_wishes.specs.laws.Permitted.{is_permitted-is}
-use Rattle.dac_meaning.specs.StateValue.{StateValue, permissions_of, wishes_of}
+use Rattle.dac_state.specs.laws.Wished.{is_wished-some}
+use Rattle.dac_state.specs.laws.Permitted.{is_permitted-is}
+use Rattle.dac_state.specs.StateValue.{StateValue, permissions_of, wishes_of}
 use Rattle.dac_placement.specs.Placement.{IsPermittedAt, is_permitted_at, IsStartedAt, is_started_at, IsEligible, is_eligible, holder_of, key_at, IsUp, is_up, RunsAt, runs_at, runner_of}
 
 itself : (n : ℕ) → (n == n) ≡ true

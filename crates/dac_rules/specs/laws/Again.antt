@@ -11,8 +11,8 @@ use Rattle.dac_operations.specs.Operations.{Operation}
 use Rattle.dac_meaning.specs.StateValue.{StateValue, IsState, join}
 use Rattle.dac_meaning.specs.Meaning.{meaning_of}
 use Rattle.dac_config.specs.Table.{Table}
-use Rattle.dac_placement.specs.Placement.{is_up, verdict_of}
-use Rattle.dac_placement.specs.laws.Tests.{up_is}
+use Rattle.dac_decide.specs.Placement.{is_up, verdict_of}
+use Rattle.dac_decide.specs.laws.Tests.{up_is}
 use Rattle.dac_decide.specs.declared.start_gate.Opening.{Opening}
 use Rattle.dac_decide.specs.declared.start_gate.Opening.TheVariants.{Shut, Opened, GiveUp}
 use Rattle.dac_decide.specs.declared.waits.Noted.{Noted}

@@ -16,8 +16,8 @@ use Rattle.dac_meaning.specs.StateValue.{StateValue, wishes_of, IsBelow}
 use Rattle.dac_meaning.specs.Below.{is_below, is_below-is}
 use Rattle.dac_peers.specs.Peers.{is_up_to_date}
 use Rattle.dac_messages.specs.Bodies.{content_of}
-use Rattle.dac_placement.specs.Placement.{is_up, is_eligible, runs_at, runner_of}
-use Rattle.dac_placement.specs.laws.Tests.{up_is, eligible_is, runs_is}
+use Rattle.dac_decide.specs.Placement.{is_up, is_eligible, runs_at, runner_of}
+use Rattle.dac_decide.specs.laws.Tests.{up_is, eligible_is, runs_is}
 use Rattle.dac_events.specs.declared.Command.{Command}
 use Rattle.dac_events.specs.declared.Command.TheVariants.{Down, Permit, Start, Stop, Takeover}
 use Rattle.dac_messages.specs.declared.message.Message.{Message}

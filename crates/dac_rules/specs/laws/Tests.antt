@@ -11,9 +11,9 @@ use Rattle.dac_dots.specs.declared.dot.Origin.{Origin}
 use Rattle.dac_dots.specs.Dots.{dot}
 use Rattle.dac_meaning.specs.StateValue.{StateValue}
 use Rattle.dac_config.specs.Table.{Table, app_count}
-use Rattle.dac_placement.specs.Placement.{RunsAt, runner_of, IsEarlier, is_earlier}
-use Rattle.dac_placement.specs.laws.Tests.{runner_is}
-use Rattle.dac_placement.specs.laws.Judged.{earlier_is}
+use Rattle.dac_decide.specs.Placement.{RunsAt, runner_of, IsEarlier, is_earlier}
+use Rattle.dac_decide.specs.laws.Tests.{runner_is}
+use Rattle.dac_decide.specs.laws.Judged.{earlier_is}
 use Rattle.dac_commands.specs.Commands.{greatest_counter}
 use Rattle.dac_commands.specs.Causes.{runs_earlier, used_up}
 use Rattle.dac_commands.specs.laws.Counters.{counter-greatest, used_up_is, next_of_is}

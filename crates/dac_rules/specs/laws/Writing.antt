@@ -3,7 +3,7 @@ use Rattle.std.proofs.Common.{◌≡◌, ◌⊎◌, ◌≤◌, ◌+◌, ℕ, ◌
 use Rattle.dac_base.specs.declared.limits.TheConstants.{MAX_COUNTER}
 use Rattle.dac_base.specs.declared.NodeId.{NodeId}
 use Rattle.dac_config.specs.Table.{Table, app_count}
-use Rattle.dac_placement.specs.Placement.{apps_of}
+use Rattle.dac_decide.specs.Placement.{apps_of}
 use Rattle.dac_decide.specs.declared.start_gate.Opening.{Opening}
 use Rattle.dac_decide.specs.declared.start_gate.Opening.TheVariants.{Shut, Opened, GiveUp}
 use Rattle.dac_decide.specs.declared.waits.Noted.{Noted}

@@ -23,10 +23,10 @@ use Rattle.dac_messages.specs.declared.reply.Reply.TheVariants.{Ticked, Shipped,
 use Rattle.dac_commands.specs.declared.refusal.Refusal.TheVariants.{NoMemory}
 use Rattle.dac_ticks.specs.Ticks.{Turn}
 use Rattle.dac_ticks.specs.laws.Again.{tick_of}
-use Rattle.dac_rules.specs.ModelNode.{ModelNode, ModelRun, joined, shown, run_shown}
-use Rattle.dac_rules.specs.EventRefusals.{refusal_of, refusal_by}
-use Rattle.dac_rules.specs.Deeds.{message_of, hears, hears_message, ships, looks_after, ticks_by, opening_at, note_of}
-use Rattle.dac_rules.specs.Step.{step_by, goes_on, accepted}
+use Rattle.dac_worlds.specs.ModelNode.{ModelNode, ModelRun, joined, shown, run_shown}
+use Rattle.dac_worlds.specs.EventRefusals.{refusal_of, refusal_by}
+use Rattle.dac_worlds.specs.Deeds.{message_of, hears, hears_message, ships, looks_after, ticks_by, opening_at, note_of}
+use Rattle.dac_worlds.specs.Step.{step_by, goes_on, accepted}
 use Rattle.dac_worlds.specs.declared.fault.WorldFault.{WorldFault}
 use Rattle.dac_worlds.specs.declared.fault.WorldFault.TheVariants.{NoSuchNode, Refused}
 use Rattle.dac_worlds.specs.ModelWorld.{ModelWorld, WorldStepped, happens, happens_by, answered_by, event_of, counted, with_node, Step}

@@ -39,9 +39,9 @@ use Rattle.dac_commands.specs.Causes.{first, terms_used_up}
 use Rattle.dac_commands.specs.laws.Counters.{next-is}
 use Rattle.dac_ticks.specs.Ticks.{Turn, turn_of, turn_from}
 use Rattle.dac_ticks.specs.laws.Turning.{turned_by}
-use Rattle.dac_rules.specs.ModelNode.{ModelNode, ModelRun, joined, shown}
-use Rattle.dac_rules.specs.EventRefusals.{refusal_of}
-use Rattle.dac_rules.specs.Step.{comes_up, step_by}
+use Rattle.dac_worlds.specs.ModelNode.{ModelNode, ModelRun, joined, shown}
+use Rattle.dac_worlds.specs.EventRefusals.{refusal_of}
+use Rattle.dac_worlds.specs.Step.{comes_up, step_by}
 use Rattle.dac_worlds.specs.ModelWorld.{ModelWorld, happens, answered_by, world_after}
 use Rattle.dac_worlds.specs.SetWorld.{SetWorld, set_run}
 use Rattle.dac_worlds.specs.EveryList.{answers_of}

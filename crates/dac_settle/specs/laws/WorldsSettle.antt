@@ -10,7 +10,7 @@ use Rattle.dac_placement.specs.Placement.{verdict_of}
 use Rattle.dac_events.specs.declared.WorldEvent.{WorldEvent}
 use Rattle.dac_events.specs.declared.What.{What}
 use Rattle.dac_messages.specs.declared.reply.Reply.TheVariants.{Shipped}
-use Rattle.dac_rules.specs.ModelNode.{ModelRun}
+use Rattle.dac_worlds.specs.ModelNode.{ModelRun}
 use Rattle.dac_worlds.specs.WorldValue.{WorldValue}
 use Rattle.dac_worlds.specs.ModelWorld.{ModelWorld, AnsweredAs, InEachRun, Shows, numbered, start, went, world_after}
 use Rattle.dac_worlds.specs.SetWorld.{SetWorld, NodeSet, no_sets, copied_by, set_step, set_run}

@@ -18,8 +18,8 @@ use Rattle.dac_meaning.specs.StateValue.{StateValue}
 use Rattle.dac_meaning.specs.Meaning.{meaning_of, In, Within, Agree}
 use Rattle.dac_meaning.specs.Below.{is_below, is_below-is}
 use Rattle.dac_deltas.specs.Numbers.{Numbers, greater, raised}
-use Rattle.dac_peers.specs.declared.places.Place.{Place}
-use Rattle.dac_peers.specs.Peers.{PeersValue, no_peers, acked_by, acked_at, kept_from, begins, later, got_after, got_by, counts, acked_after, heard_from, receipt, shipped_to}
+use Rattle.dac_rules.specs.Place.{Place}
+use Rattle.dac_rules.specs.Peers.{PeersValue, no_peers, acked_by, acked_at, kept_from, begins, later, got_after, got_by, counts, acked_after, heard_from, receipt, shipped_to}
 use Rattle.dac_messages.specs.declared.message.Body.{Body}
 use Rattle.dac_messages.specs.declared.message.Body.TheVariants.{Nothing}
 use Rattle.dac_messages.specs.declared.message.Message.{Message}

@@ -29,8 +29,8 @@ use Rattle.dac_messages.specs.declared.reply.Reply.{Reply}
 use Rattle.dac_commands.specs.Commands.{act_of, next_operation}
 use Rattle.dac_commands.specs.declared.refusal.Refusal.{Refusal}
 use Rattle.dac_commands.specs.Causes.{refusal_of_command}
-use Rattle.dac_ticks.specs.Ticks.{turn_of}
-use Rattle.dac_ticks.specs.laws.Claims.{claims_are}
+use Rattle.dac_rules.specs.Ticks.{turn_of}
+use Rattle.dac_rules.specs.laws.Claims.{claims_are}
 use Rattle.dac_rules.specs.ModelNode.{ModelNode, ModelRun, joined, shown, run_shown}
 use Rattle.dac_rules.specs.EventRefusals.{refusal_of, refusal_by, refusal_to_tick, otherwise}
 use Rattle.dac_rules.specs.Deeds.{ticks_by, opening_at, note_of}

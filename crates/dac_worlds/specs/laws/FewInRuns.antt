@@ -20,7 +20,7 @@ use Rattle.dac_messages.specs.declared.event.Event.TheVariants.{Boot, Crash, Com
 use Rattle.dac_messages.specs.declared.reply.Reply.{Reply}
 use Rattle.dac_messages.specs.declared.reply.Reply.TheVariants.{Booted, Heard}
 use Rattle.dac_commands.specs.declared.refusal.Refusal.TheVariants.{NoMemory}
-use Rattle.dac_ticks.specs.Ticks.{turn_of}
+use Rattle.dac_rules.specs.Ticks.{turn_of}
 use Rattle.dac_rules.specs.NodeValue.{RunValue}
 use Rattle.dac_rules.specs.ModelNode.{ModelNode, ModelRun, joined, shown, run_shown}
 use Rattle.dac_rules.specs.EventRefusals.{refusal_of}

@@ -9,8 +9,8 @@ use Rattle.dac_config.specs.Table.{Table}
 use Rattle.dac_meaning.specs.StateValue.{StateValue}
 use Rattle.dac_meaning.specs.Meaning.{meaning_of, In}
 use Rattle.dac_events.specs.declared.WorldEvent.{WorldEvent}
-use Rattle.dac_state.specs.StateSpelling.{spelling_of}
-use Rattle.dac_placement.specs.Placement.{holder_of, verdict_of, candidate_of}
+use Rattle.dac_messages.specs.StateSpelling.{spelling_of}
+use Rattle.dac_decide.specs.Placement.{holder_of, verdict_of, candidate_of}
 use Rattle.dac_rules.specs.NodeValue.{RunValue, origin_of, state_of}
 use Rattle.dac_messages.specs.declared.message.Message.{Message}
 use Rattle.dac_worlds.specs.WorldValue.{WorldValue}

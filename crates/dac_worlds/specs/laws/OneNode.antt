@@ -20,7 +20,7 @@ use Rattle.dac_meaning.specs.Members.{Within-append, In-append_left, In-append_r
 use Rattle.dac_meaning.specs.Joins.{join-meaning}
 use Rattle.dac_commands.specs.Commands.{next_operation, greatest_counter}
 use Rattle.dac_commands.specs.laws.Counters.{counter-greatest}
-use Rattle.dac_ticks.specs.Issued.{IsNextOf, AreIssued}
+use Rattle.dac_rules.specs.Issued.{IsNextOf, AreIssued}
 use Rattle.dac_rules.specs.ModelNode.{ModelNode, ModelRun, joined}
 use Rattle.dac_rules.specs.Deeds.{meanings}
 use Rattle.dac_rules.specs.Step.{up}

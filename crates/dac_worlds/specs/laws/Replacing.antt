@@ -14,9 +14,9 @@ use Rattle.dac_meaning.specs.Members.{Within-append, In-append_left, In-append_r
 use Rattle.dac_meaning.specs.Joins.{join-meaning}
 use Rattle.dac_base.specs.declared.AppId.{AppId}
 use Rattle.dac_config.specs.Table.{Table}
-use Rattle.dac_placement.specs.declared.verdicts.Verdict.{Verdict}
-use Rattle.dac_placement.specs.declared.verdicts.Verdict.TheVariants.{Failover, Takeover}
-use Rattle.dac_placement.specs.Placement.{verdict_of}
+use Rattle.dac_decide.specs.Verdict.{Verdict}
+use Rattle.dac_decide.specs.Verdict.TheVariants.{Failover, Takeover}
+use Rattle.dac_decide.specs.Placement.{verdict_of}
 use Rattle.dac_events.specs.declared.Command.{Command}
 use Rattle.dac_events.specs.declared.Command.TheVariants.{Down as Downs, Permit as Permits, Start as Starts, Stop as Stops, Takeover as Takes}
 use Rattle.dac_commands.specs.Commands.{live_key, next_operation, standing_permits, standing_starts, act_of}
@@ -25,8 +25,8 @@ use Rattle.dac_commands.specs.Written.{PermitStands, StartStands, AreThose}
 use Rattle.dac_commands.specs.laws.Counters.{next_of_is}
 use Rattle.dac_commands.specs.laws.Standing.{permits_at-has}
 use Rattle.dac_commands.specs.laws.Written.{writes_what_is_said}
-use Rattle.dac_ticks.specs.Ticks.{claimed_by}
-use Rattle.dac_ticks.specs.laws.Claims.{AreNextClaims}
+use Rattle.dac_rules.specs.Ticks.{claimed_by}
+use Rattle.dac_rules.specs.laws.Claims.{AreNextClaims}
 use Rattle.dac_worlds.specs.laws.Operations.{Agree-within}
 
 -- what the act replaces is what stands of its kind at its key

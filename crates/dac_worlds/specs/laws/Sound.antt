@@ -23,8 +23,8 @@ use Rattle.dac_decide.specs.FailoverWait.{Note, waits_of}
 use Rattle.dac_events.specs.declared.WorldEvent.{WorldEvent}
 use Rattle.dac_events.specs.declared.What.{What}
 use Rattle.dac_events.specs.declared.What.TheVariants.{Deliver, Hand}
-use Rattle.dac_peers.specs.declared.places.Place.{Place}
-use Rattle.dac_peers.specs.Peers.{begins, receipt, heard_from}
+use Rattle.dac_rules.specs.Place.{Place}
+use Rattle.dac_rules.specs.Peers.{begins, receipt, heard_from}
 use Rattle.dac_messages.specs.declared.message.Body.{Body}
 use Rattle.dac_messages.specs.declared.message.Body.TheVariants.{Interval, Nothing}
 use Rattle.dac_messages.specs.declared.message.Message.{Message}
@@ -35,8 +35,8 @@ use Rattle.dac_messages.specs.declared.reply.Reply.{Reply}
 use Rattle.dac_commands.specs.declared.refusal.Refusal.TheVariants.{OnSelf, NotForMe, DotsUsedUp}
 use Rattle.dac_commands.specs.Causes.{first}
 use Rattle.dac_commands.specs.Commands.{act_of, next_operation}
-use Rattle.dac_ticks.specs.Ticks.{turn_of}
-use Rattle.dac_ticks.specs.Issued.{AreIssued}
+use Rattle.dac_rules.specs.Ticks.{turn_of}
+use Rattle.dac_rules.specs.Issued.{AreIssued}
 use Rattle.dac_rules.specs.NodeValue.{RunValue}
 use Rattle.dac_rules.specs.ModelNode.{ModelNode, ModelRun, joined, shown, run_shown}
 use Rattle.dac_rules.specs.EventRefusals.{refusal_of, refusal_by, refusal_to_hear, overflows}
@@ -52,7 +52,7 @@ use Rattle.dac_worlds.specs.laws.Operations.{one_in, DistinctDots-agree, Distinc
 use Rattle.dac_worlds.specs.laws.Gathered.{Entries, gathered, gathered-append, gathered_cases, gathered_take, gathered_drop, each_alone, IsLogOf, log_means, log_length, log_more, log_issued, rest_means}
 use Rattle.dac_worlds.specs.laws.Covers.{Seen, Later, Later-self, later_more, Has, Covered, Sent, Sent-covers}
 use Rattle.dac_worlds.specs.laws.Carried.{none_some, PeersOk, PeersOk-later, no_peers_ok, shipped_ok, Acknowledges, heard_ok, receipt_ok, begins_is, Bound, CopyOk, CopyOk-later, CopiesOk, CopiesOk-later, CopiesOk-push, message_copy, brought}
-use Rattle.dac_ticks.specs.laws.Claims.{claims_issued}
+use Rattle.dac_rules.specs.laws.Claims.{claims_issued}
 use Rattle.dac_worlds.specs.laws.Runs.{run_first}
 use Rattle.dac_worlds.specs.laws.OneNode.{own_origin, runs_as, stays_off, NodeOk, HeldBy, held_of, run_ok, off_ok, SetOk, NodeOk-more, boot_set, boot_log, boot_fresh, Grown, grow, hear_set}
 

@@ -1,7 +1,7 @@
 use Rattle.std.proofs.Common.{◌≡◌, ◌↔◌, Bool, true, false, not, sym, ap, subst, ◌∙◌}
 use Rattle.dac_dots.specs.declared.dot.Origin.{Origin}
 use Rattle.dac_dots.specs.Dots.{IsUsedUp}
-use Rattle.dac_meaning.specs.StateValue.{StateValue}
+use Rattle.dac_placement.specs.StateValue.{StateValue}
 use Rattle.dac_commands.specs.Causes.{used_up}
 use Rattle.dac_commands.specs.laws.Counters.{used_up_is}
 use Rattle.dac_commands.proofs.Issues.{used_up-is}

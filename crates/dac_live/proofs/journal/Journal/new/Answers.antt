@@ -1,5 +1,5 @@
 use Rattle.std.proofs.Common.{◌≡◌, List, length, refl, sym, ap, subst, arith}
-use Rattle.dac_rules.specs.NodeValue.{NodeValue}
+use Rattle.dac_worlds.specs.NodeValue.{NodeValue}
 use Rattle.dac_worlds.specs.Histories.{off_after}
 use Rattle.dac_live.specs.declared.record.Record.{Record}
 use Rattle.dac_live.specs.Journals.{EndsAt, opening_of}

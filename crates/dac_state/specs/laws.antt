@@ -1,0 +1,2 @@
+pub use Rattle.dac_wishes.specs.laws.Permitted
+pub use Rattle.dac_wishes.specs.laws.Wished
