@@ -15,9 +15,9 @@ use dac_config::Config;
 use dac_dots::{Dot, Origin};
 use dac_events::Command;
 use dac_lattice::{Flag, Lattice};
-use dac_operations::{Act, DotList, Op};
+use dac_operations::{Act, Op};
 use dac_placement::{State, runner};
-use dac_wishes::Key;
+use dac_wishes::{DotList, Key};
 use std::alloc::{AllocError, Global};
 
 /// The operation that a command issues at a controller that runs as this incarnation with this state, and doesn't
