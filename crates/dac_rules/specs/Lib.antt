@@ -8,5 +8,6 @@ pub mod Shipping
 pub mod Hearing
 pub mod Refused
 pub mod Writing
+pub mod Keeping
 pub mod Again
 pub mod laws

@@ -7,5 +7,6 @@ pub mod Refused
 pub mod Counters
 pub mod Numbers
 pub mod Writing
+pub mod Keeping
 pub mod Shipping
 pub mod Again
