@@ -65,7 +65,7 @@ IsDueBy table notes s app now (Takeover n) = ⊤
 IsDueBy table notes s app now (Kept n) = ⊥
 IsDueBy table notes s app now Nobody = ⊥
 
--- What is to become of an application is to be carried out now: whatever but a failover at once, a failover where its lost holder's node is to have it again, or else when its wait is over.
+-- What is to become of an application is to be carried out now: a start, a move and a takeover at once, a failover where its lost holder's node is to have it again, or else when its wait is over.
 abbrev pub IsDue : Table → List Note → StateValue → AppId → ℕ → Type 0
 IsDue table notes s app now = IsDueBy table notes s app now (verdict_of table s app)
 
