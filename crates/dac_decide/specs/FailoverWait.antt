@@ -68,8 +68,8 @@ IsDueBy table notes s app now (Takeover n) = ⊤
 IsDueBy table notes s app now (Kept n) = ⊥
 IsDueBy table notes s app now Nobody = ⊥
 
--- What is to become of an application is to be carried out now. All but a failover is, at once. A failover is at once
--- where its lost holder's node is to have it again, and else when its wait is over.
+-- What is to become of an application is to be carried out now: a start, a move and a takeover at once. A failover is, at
+-- once where its lost holder's node is to have it again, and else when its wait is over.
 abbrev pub IsDue : Table → List Note → StateValue → AppId → ℕ → Type 0
 IsDue table notes s app now = IsDueBy table notes s app now (verdict_of table s app)
 

@@ -55,6 +55,7 @@ impl Node {
     ghost use Rattle.dac_rules.specs.EventRefusals.{refusal_of};
     ghost use Rattle.dac_rules.specs.Step.{Steps, IsShown};
     ghost use Rattle.dac_rules.specs.Writing.{Writes};
+    ghost use Rattle.dac_rules.specs.Keeping.{Keeps};
     ghost use Rattle.dac_rules.specs.Shipping.{ShipsSo};
     ghost use Rattle.dac_node.specs.Changes.{changed, Fits, Prepared};
     ghost use Rattle.dac_rules.specs.Hearing.{HearsExactly};
@@ -125,11 +126,16 @@ impl Node {
         ensures refused { IfErr result (λ why. (why ≡ Refusal.NoMemory → ⊥) → Steps config.now self_id self.old event self.new (Err why)) }
         // A command is answered by the operation that says it: under the next dot, at the key of the live incarnation, in
         // the place of exactly what stands there. A tick is answered by the claims of exactly the applications that are
-        // due to this node.
+        // due to this node. But for a boot, no other event issues anything. What comes is answered as new exactly where it
+        // isn't below the state.
         ensures writes { IfOk result (λ reply. Writes config.now self_id self.old event reply) }
         // A ship is answered by the message that the log says in words: the whole state where there is no place to begin an
         // interval, and else what the log got from there on, or nothing.
         ensures ships { IfOk result (λ reply. ShipsSo config.now self.old event reply) }
+        // What comes up is the next incarnation. What ran runs on as the same one, or is off by a crash or a gate that gave
+        // up. Its gate stays open once it is, and each tick that looks after the applications adds its note. Its state, its
+        // deltas and what it keeps of its peers grow by what the event brings, and by no more.
+        ensures keeps { IfOk result (λ reply. Keeps config.now self_id self.old event reply self.new) }
         // What it has heard grows by the dots that the event brings, and by no more.
         ensures heard { IfOk result (λ reply. HearsExactly self.old event reply self.new) }
         // Where some model node shows it, one shows what it becomes.

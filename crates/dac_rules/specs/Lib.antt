@@ -8,6 +8,7 @@ pub mod Shipping
 pub mod Hearing
 pub mod Refused
 pub mod Writing
+pub mod Keeping
 pub mod Again
 pub mod laws
 pub use Rattle.dac_peers.specs.Peers

@@ -7,6 +7,7 @@ pub mod Refused
 pub mod Counters
 pub mod Numbers
 pub mod Writing
+pub mod Keeping
 pub mod Shipping
 pub mod Again
 pub use Rattle.dac_ticks.specs.laws.Claims

@@ -8,13 +8,13 @@ ghost use Rattle.dac_tokens.specs.Digits.{value_from};
 ghost use Rattle.dac_script.specs.Words.{words_of, quoted_name, is_digits, number_in, name_in, is_small_digit, bytes_in};
 
 use crate::byte_list::ByteList;
-use dac_base::NoMemory;
+use dac_base::{MAX_COUNTER, NoMemory};
 use dac_config::is_bare;
 use hex::FromHexError;
 use std::alloc::{AllocError, Global};
 
-/// The greatest number that a script may name.
-pub const MAX_NUMBER: u64 = 1 << 62;
+/// The greatest number that a script may name. No counter goes further.
+pub const MAX_NUMBER: u64 = MAX_COUNTER;
 
 /// The words of a line: what stands between its spaces. Only spaces part words.
 pub fn words_of<'a>(alloc: Global, line: &'a [u8]) -> Result<Vec<&'a [u8]>, AllocError>
@@ -90,7 +90,7 @@ fn value_of(digits: &[u8]) -> Option<u64>
     Some(value)
 }
 
-/// The number that the word is: decimal, without a leading zero, at most 2 ^ 62.
+/// The number that the word is: decimal, without a leading zero, at most [`MAX_NUMBER`].
 pub fn number_in(word: &[u8]) -> Option<u64>
     ensures { result ≡ number_in word.now }
 {

@@ -1,5 +1,6 @@
 //! The turn of a tick.
-ghost use Rattle.std.specs.Prelude.{◌≡◌, ◌∷◌, [], ◌+◌, ◌≤◌, ◌<◌, ◌^◌, List, IfOk, false};
+ghost use Rattle.std.specs.Prelude.{◌≡◌, ◌∷◌, [], ◌+◌, ◌≤◌, ◌<◌, List, IfOk, false};
+ghost use Rattle.dac_base.specs.declared.limits.TheConstants.{MAX_COUNTER};
 ghost use Rattle.dac_config.specs.Table.{app_count};
 ghost use Rattle.dac_meaning.specs.StateValue.{StateValue as Value, join};
 ghost use Rattle.dac_meaning.specs.Meaning.{meaning_of};
@@ -76,7 +77,7 @@ pub fn tick(
 ) -> Result<Turn, NoMemory>
     requires knows { KnowsItself own state.now }
     // a counter for each application
-    requires room { greatest_counter own state.now.known + app_count config.now ≤ 2 ^ 62 }
+    requires room { greatest_counter own state.now.known + app_count config.now ≤ MAX_COUNTER }
     ensures value { IfOk result (IsMade state.now (turn_of config.now own waits.now now state.now)) }
     ensures words { IfOk result (λ turn. (notes : List Note) → waits.now ≡ waits_of config.now notes
         → IsTurn config.now own notes now state.now (apps_of config.now) turn.ops turn.passed) }

@@ -1,15 +1,19 @@
--- What an accepted boot, an accepted command and an accepted tick write.
-use Rattle.std.proofs.Common.{◌≡◌, ◌⊎◌, ◌≤◌, ◌+◌, ℕ, ◌-◌, Bool, true, false, cond, List, ◌∷◌, Option, Some, None, refl, sym, subst, inl, inr}
+-- What an accepted event writes, and how it is answered.
+use Rattle.std.proofs.Common.{◌≡◌, ◌⊎◌, ◌↔◌, ◌≤◌, ◌+◌, ℕ, ◌-◌, Bool, true, false, not, cond, List, [], ◌∷◌, Option, Some, None, refl, sym, subst, ◌∙◌, inl, inr, true≢false}
 use Rattle.dac_base.specs.declared.limits.TheConstants.{MAX_COUNTER}
 use Rattle.dac_base.specs.declared.NodeId.{NodeId}
 use Rattle.dac_config.specs.Table.{Table, app_count}
 use Rattle.dac_decide.specs.Placement.{apps_of}
+use Rattle.dac_meaning.specs.Meaning.{meaning_of}
+use Rattle.dac_meaning.specs.StateValue.{StateValue, IsBelow}
+use Rattle.dac_meaning.specs.Below.{is_below, is_below-is}
 use Rattle.dac_decide.specs.declared.start_gate.Opening.{Opening}
 use Rattle.dac_decide.specs.declared.start_gate.Opening.TheVariants.{Shut, Opened, GiveUp}
 use Rattle.dac_decide.specs.declared.waits.Noted.{Noted}
 use Rattle.dac_decide.specs.FailoverWait.{Note, waits_of}
 use Rattle.dac_decide.specs.StartGate.{IsOpening, opening_of}
 use Rattle.dac_decide.specs.laws.AllUp.{opening_is}
+use Rattle.dac_messages.specs.Bodies.{content_of}
 use Rattle.dac_messages.specs.declared.event.Event.{Event}
 use Rattle.dac_messages.specs.declared.event.Event.TheVariants.{Boot, Crash, Command as Told, Tick, Ship, Hear, HearOp}
 use Rattle.dac_commands.specs.declared.refusal.Refusal.TheVariants.{Off, AlreadyOn}
@@ -20,7 +24,7 @@ use Rattle.dac_ticks.specs.InWords.{IsTurn}
 use Rattle.dac_ticks.specs.laws.Words.{turn_in_words}
 use Rattle.dac_rules.specs.NodeValue.{RunValue}
 use Rattle.dac_rules.specs.EventRefusals.{refusal_by}
-use Rattle.dac_rules.specs.Deeds.{opening_at, ticks_by}
+use Rattle.dac_rules.specs.Deeds.{message_of, opening_at, ticks_by}
 use Rattle.dac_rules.specs.Accepted.{IsNotingBy, reply_by}
 use Rattle.dac_rules.specs.Writing.{IsAsked, TicksSo, Writes}
 use Rattle.dac_rules.specs.laws.Counters.{leaves_room}
@@ -33,7 +37,7 @@ module _ (t : Table) (r : RunValue) (now : ℕ) where
   elapsed = now - r.moments.booted
 
   -- the gate was open, or answers so now
-  abbrev IsGate : Opening → Type 0
+  abbrev pub IsGate : Opening → Type 0
   IsGate Opened = (r.is_open ≡ true) ⊎ IsAsked t r now Opened
   IsGate Shut = IsAsked t r now Shut
   IsGate GiveUp = IsAsked t r now GiveUp
@@ -41,7 +45,7 @@ module _ (t : Table) (r : RunValue) (now : ℕ) where
   asked : (opening : Opening) → r.is_open ≡ false → opening_of t r.state elapsed ≡ opening → IsAsked t r now opening
   asked opening was is = (was, subst (IsOpening t r.state elapsed) is (opening_is t r.state elapsed))
 
-  gate : (b : Bool) (opening : Opening) → r.is_open ≡ b → cond b Opened (opening_of t r.state elapsed) ≡ opening → IsGate opening
+  pub gate : (b : Bool) (opening : Opening) → r.is_open ≡ b → cond b Opened (opening_of t r.state elapsed) ≡ opening → IsGate opening
   gate true Opened was is = inl was
   gate true Shut was is = cc
   gate true GiveUp was is = cc
@@ -50,7 +54,7 @@ module _ (t : Table) (r : RunValue) (now : ℕ) where
   gate false GiveUp was is = asked GiveUp was is
 
   -- what the notes of the ticks say with this tick's
-  abbrev NotesSo : List (Option Noted) → Type 0
+  abbrev pub NotesSo : List (Option Noted) → Type 0
   NotesSo noted = (notes : List Note) → r.waits ≡ waits_of t notes → noted ≡ waits_of t (record { state = r.state; moment = now } ∷ notes)
 
   claims_so : (noted : List (Option Noted)) → NotesSo noted → greatest_counter r.origin r.state.known + app_count t ≤ MAX_COUNTER → (notes : List Note) → r.waits ≡ waits_of t notes →
@@ -64,12 +68,21 @@ module _ (t : Table) (r : RunValue) (now : ℕ) where
   ticks_so GiveUp noted is room so = gate r.is_open GiveUp refl is
   ticks_so Opened noted is room so = (gate r.is_open Opened refl is, claims_so noted (so refl) room)
 
+-- ---- what comes
+
+is_new : (s body : StateValue) → (not (is_below body s) ≡ true) ↔ (¬ IsBelow body s)
+is_new s body = by (is_below body s) refl
+  where
+    by : (b : Bool) → is_below body s ≡ b → (not b ≡ true) ↔ (¬ IsBelow body s)
+    by true e = (λ no. absurd (true≢false (sym no)), λ new. absurd (new ((is_below-is body s).1 e)))
+    by false e = (λ _ below. true≢false (sym ((is_below-is body s).0 below) ∙ e), λ _. refl)
+
 -- ---- all events
 
-no_off : {P : Type 0} → Some Off ≡ None → P
+pub no_off : {P : Type 0} → Some Off ≡ None → P
 no_off e = cc
 
-no_on : {P : Type 0} → Some AlreadyOn ≡ None → P
+pub no_on : {P : Type 0} → Some AlreadyOn ≡ None → P
 no_on e = cc
 
 pub writes : (t : Table) (me : NodeId) (last : ℕ) (run : Option RunValue) (noted : List (Option Noted)) (e : Event) → refusal_by t last run e ≡ None → IsNotingBy t run noted e →
@@ -77,10 +90,14 @@ pub writes : (t : Table) (me : NodeId) (last : ℕ) (run : Option RunValue) (not
 writes t me last None noted (Boot now) none noting = (refl, refl)
 writes t me last None noted (Told c) none noting = no_off none
 writes t me last None noted (Tick now) none noting = no_off none
+writes t me last None noted Crash none noting = no_off none
+writes t me last None noted (Ship to) none noting = no_off none
+writes t me last None noted (Hear m) none noting = no_off none
+writes t me last None noted (HearOp o) none noting = no_off none
 writes t me last (Some r) noted (Boot now) none noting = no_on none
 writes t me last (Some r) noted (Told c) none noting = writes_what_is_said t r.origin r.state c (obeyed t r c none).0
 writes t me last (Some r) noted (Tick now) none noting = ticks_so t r now (opening_at t r now) noted refl (leaves_room t r now none) noting
-writes t me last run noted Crash none noting = tt
-writes t me last run noted (Ship to) none noting = tt
-writes t me last run noted (Hear m) none noting = tt
-writes t me last run noted (HearOp o) none noting = tt
+writes t me last (Some r) noted Crash none noting = refl
+writes t me last (Some r) noted (Ship to) none noting = (message_of r to, refl)
+writes t me last (Some r) noted (Hear m) none noting = is_new r.state (content_of m.body)
+writes t me last (Some r) noted (HearOp o) none noting = is_new r.state (meaning_of (o ∷ []))

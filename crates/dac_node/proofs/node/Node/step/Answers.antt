@@ -7,9 +7,11 @@ use Rattle.dac_rules.specs.NodeValue.{NodeValue}
 use Rattle.dac_rules.specs.Step.{Steps, IsShown}
 use Rattle.dac_rules.specs.Hearing.{HearsExactly}
 use Rattle.dac_rules.specs.Writing.{Writes}
+use Rattle.dac_rules.specs.Keeping.{Keeps}
 use Rattle.dac_rules.specs.Shipping.{ShipsSo}
 use Rattle.dac_rules.specs.laws.Steps.{steps, answered_steps, stays_shown}
 use Rattle.dac_rules.specs.laws.Writing.{writes}
+use Rattle.dac_rules.specs.laws.Keeping.{keeps}
 use Rattle.dac_rules.specs.laws.Heard.{hears_exactly}
 use Rattle.dac_rules.specs.laws.Shipping.{ships_so}
 use Rattle.dac_rules.specs.laws.Refused.{answered_is, free_is}
@@ -30,6 +32,15 @@ returns-clause-ships c =
     let old = c.args.self.now in
     let change = c.in_ok-change.change in
     subst (ShipsSo t old c.args.event) (sym c.in_ok-reply.ensures.reply) (ships_so t c.args.self_id old c.args.event (changed old change) change.reply c.in_ok-change.ensures.ok)
+
+pub returns-clause-keeps : goal.returns-clause-keeps
+returns-clause-keeps c =
+    let t = c.args.config.now in
+    let me = c.args.self_id in
+    let old = c.args.self.now in
+    let p = c.in_ok-change.ensures.ok in
+    subst (λ (x : NodeValue × Reply). Keeps t me old c.args.event x.1 x.0) (λ i. (sym (c.in_ok-reply.ensures.new ∙ p.left) i, sym (c.in_ok-reply.ensures.reply ∙ p.reply) i))
+    (keeps t me old.last old.run p.noted c.args.event p.accepted p.newest p.noting)
 
 pub returns-clause-heard : goal.returns-clause-heard
 returns-clause-heard c =
