@@ -1,5 +1,5 @@
 -- What changes do, event by event.
-use Rattle.std.proofs.Common.{◌≡◌, ◌≤◌, ◌+◌, ℕ, Bool, true, false, cond, List, [], ◌∷◌, length, Option, Some, None, refl, sym, ap, subst, ◌∙◌, arith, true≢false}
+use Rattle.std.proofs.Common.{◌≡◌, ◌↔◌, ◌<◌, ◌≤◌, ◌+◌, ℕ, Bool, true, false, not, cond, List, [], ◌∷◌, length, Option, Some, None, refl, sym, ap, subst, ◌∙◌, arith, true≢false}
 use Rattle.std.proofs.lemmas.Bool.{ltb-false}
 use Rattle.dac_base.specs.declared.limits.TheConstants.{MAX_COUNTER}
 use Rattle.dac_base.specs.declared.NodeId.{NodeId}
@@ -31,6 +31,16 @@ pub going_effect : (t : Table) (number : ℕ) (r : RunValue) (e : Event) (next :
     → GoesOn next ≡ after_by r [] (deed_of t r [] e) → reply ≡ (deed_of t r [] e).reply → Effect t number r e change
 going_effect t number r e next reply change is quiet after same =
     quiet_effect t number r e change quiet (ap (λ (c : ChangeValue). c.last) is) (ap (λ (c : ChangeValue). c.after) is ∙ after) (ap (λ (c : ChangeValue). c.reply) is ∙ same)
+
+-- what was heard is said to be new where it is added
+pub told_new : (told below : Bool) (body : StateValue) (deltas : List StateValue) → deltas ≡ cond below [] (body ∷ []) → ((told ≡ true) ↔ (0 < length deltas)) → told ≡ not below
+told_new true true body deltas is h = absurd (omega (arith, subst (λ ds. 0 < length ds) is (h.0 refl)))
+told_new true false body deltas is h = refl
+told_new false true body deltas is h = refl
+told_new false false body deltas is h = absurd (true≢false (sym (h.1 (subst (λ ds. 0 < length ds) (sym is) one))))
+  where
+    one : 0 < 1
+    one = omega arith
 
 -- ---- at a node
 

@@ -147,8 +147,8 @@ impl Change {
     ) -> Result<Self, NoMemory>
         ensures { IfOk result (Effect config.now last run.now (Event.Hear message.now)) }
     {
-        let fresh = run.is_new(&message.body);
         let next = run.hear(config, message)?;
+        let fresh = next.has_news();
         Ok(Change::going_on(last, next, Reply::Heard(fresh)))
     }
 

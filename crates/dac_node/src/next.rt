@@ -1,6 +1,6 @@
 //! What goes on after an event.
 
-ghost use Rattle.std.specs.Prelude.{◌≡◌};
+ghost use Rattle.std.specs.Prelude.{◌≡◌, ◌↔◌, ◌<◌, length, IsTrue};
 
 use crate::knowledge::Knowledge;
 use dac_state::State;
@@ -51,6 +51,13 @@ impl Next {
             trim,
         } = self;
         (knowledge, deltas, trim)
+    }
+
+    /// Whether a delta comes. What was heard is new exactly then.
+    pub(crate) fn has_news(&self) -> bool
+        ensures { IsTrue result ↔ (0 < length self.now.deltas) }
+    {
+        !self.deltas.is_empty()
     }
 
     /// The same, where no delta below this number is kept any more.

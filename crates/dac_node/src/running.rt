@@ -131,7 +131,8 @@ impl Running {
     fn overflows(&self, body: &State) -> bool
         ensures { result ≡ overflows self.now body.now }
     {
-        !is_below(body, &self.knowledge.state) && self.lacks_numbers(1)
+        // In this order states are hardly ever compared.
+        self.lacks_numbers(1) && !is_below(body, &self.knowledge.state)
     }
 
     /// Why the event is refused, if it is.

@@ -3,18 +3,16 @@
 ghost use Rattle.std.specs.Prelude.{◌≡◌, ◌≤◌, ◌∷◌, [], not, IfOk, IfSome, None};
 ghost use Rattle.dac_meaning.specs.Below.{is_below};
 ghost use Rattle.dac_meaning.specs.Meaning.{meaning_of};
-ghost use Rattle.dac_messages.specs.Bodies.{content_of};
 ghost use Rattle.dac_peers.specs.Peers.{is_up_to_date as needs_nothing, shipped_to};
 ghost use Rattle.dac_rules.specs.Deeds.{body_from, message_of, hears_message};
 ghost use Rattle.dac_node.specs.Knowing.{adding, hearing, knowledge_of};
 ghost use Rattle.dac_node.specs.After.{next_by};
 
-use crate::knowledge::is_below;
 use crate::next::Next;
 use crate::running::Running;
 use dac_base::{NoMemory, NodeId};
 use dac_config::Config;
-use dac_lattice::{Bottom, Lattice};
+use dac_lattice::Lattice;
 use dac_messages::{Body, Message};
 use dac_peers::Place;
 use dac_state::{Op, State};
@@ -78,16 +76,6 @@ impl Running {
         Ok((next, message))
     }
 
-    /// Whether what a message brings isn't below the state.
-    pub(crate) fn is_new(&self, body: &Body) -> bool
-        ensures { result ≡ not (is_below (content_of body.now) self.now.state) }
-    {
-        match body.state() {
-            Some(state) => !is_below(state, &self.knowledge.state),
-            None => !is_below(&State::bottom(self.knowledge.alloc), &self.knowledge.state),
-        }
-    }
-
     /// What goes on after a message is heard. What all other nodes have acknowledged by then is kept no longer.
     pub(crate) fn hear(&self, config: &Config, message: &Message) -> Result<Next, NoMemory>
         ensures { IfOk result (λ next. next ≡ next_by self.now [] (hears_message config.now self.now message.now)) }
@@ -109,6 +97,7 @@ impl Running {
         let delta = State::delta_of(known.alloc, operation)?;
         let peers = known.peers.copy()?;
         let next = known.heard(&delta, peers)?;
-        Ok((next, !is_below(&delta, &known.state)))
+        let fresh = next.has_news();
+        Ok((next, fresh))
     }
 }
