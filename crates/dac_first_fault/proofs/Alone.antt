@@ -174,7 +174,7 @@ module _ (text : List ℕ) (s : Stream) (spelled : (ts : List Located) → (AreT
       let is = (stops before e).0 stop in
       let same = sym (tokens_of before e is) in
       Final short (subst (λ (ts : List Located). IsWell (words ts)) same well) (Stopped (is ∙ ap (λ (ts : List Located). stopped ts e) same))
-  cause_of e (Token before t short begins well not_well breaks stands) =
+  cause_of e (Token before t short begins well not_well breaks told stands) =
       Brought short (record { before = before; t = t; rest = begins.rest; whole = tokens_with (before ++ t ∷ []) begins ∙ append_assoc before (t ∷ []) begins.rest; begins = begins; well = well; not_well = not_well; breaks = breaks; stands = stands })
   cause_of e (Ends ts short tokens well none is) =
       let same = sym (tokens_in ts tokens) in

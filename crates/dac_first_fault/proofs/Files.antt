@@ -18,8 +18,9 @@ use Rattle.dac_shapes.specs.Grammar.{IsFile, IsSection, IsListOf}
 use Rattle.dac_shapes.specs.Shape.{State, fails, is_mark, list_of, section_at, end_at, file_at, draft_at}
 use Rattle.dac_shapes.specs.laws.AgainLists.{at, ended}
 use Rattle.dac_shapes.specs.laws.Again.{sections_again}
+use Rattle.dac_first_fault.specs.Loose.{IsLooseSection, IsLooseFile}
 use Rattle.dac_first_fault.specs.Keeps.{Keeps}
-use Rattle.dac_first_fault.specs.FirstFault.{StandsAt, Itself, words, CanBegin, Only, Before, IsOfName, Breaks, IsWell, IsWithin, IsNoName, apps_in, BeginsWith, IsFaultOf, Long, NoToken, Token, Ends, Nobody}
+use Rattle.dac_first_fault.specs.FirstFault.{StandsAt, Itself, words, CanBegin, Only, Before, IsOfName, Breaks, NoKind, CanBeginLoosely, IsTold, IsWell, IsWithin, IsNoName, apps_in, BeginsWith, IsFaultOf, Long, NoToken, Token, Ends, Nobody}
 use Rattle.dac_first_fault.proofs.Outcomes.{Took, Failed, Asked, Takes, Always, Plain, Gives}
 use Rattle.dac_first_fault.proofs.Steps.{mark_is, symbol_yes, symbol_no, symbol_none, symbol_end}
 use Rattle.dac_first_fault.proofs.Sections.{sections_reader}
@@ -29,10 +30,11 @@ use Rattle.dac_first_fault.proofs.Held.{Had, Holds}
 use Rattle.dac_first_fault.proofs.HeldSections.{AreSections, sections_held}
 use Rattle.dac_first_fault.proofs.Past.{OfName, Fine, fine_front, Met}
 use Rattle.dac_first_fault.proofs.PastSections.{sections_met}
-use Rattle.dac_first_fault.proofs.Spared.{Unlimited, sections_so}
+use Rattle.dac_first_fault.proofs.Spared.{Unlimited, sections_so, unlimited}
+use Rattle.dac_first_fault.proofs.Loosely.{file_loose}
 use Rattle.dac_first_fault.proofs.Order.{words_append}
 use Rattle.dac_first_fault.proofs.Bounds.{Every, sections_may, beyond, lone_beyond, lone_last}
-use Rattle.dac_first_fault.proofs.Places.{At, Nowhere, name_of_it, stops_so, fine_both, fine_nowhere, not_name, not_kept, name_or_not, last_named, spelled_fine, text_fine}
+use Rattle.dac_first_fault.proofs.Places.{At, Nowhere, name_of_it, stops_so, shape_place, fine_both, fine_nowhere, not_name, not_kept, name_or_not, last_named, spelled_fine, text_fine}
 use Rattle.dac_first_fault.proofs.HeldFile.{file_kept}
 
 -- ---- the end of a file
@@ -209,11 +211,11 @@ module _ (order : (sections : List Section) → (MaySections sections ↔ AreWit
       no_clash e (eqb (apps_in is.sections) 0) (written is.sections (nodes_in is.sections)) (sym read ∙ fault (Ok (end_of (suc e.at))) rest)
 
   -- reading a file gives a fault that a name brings whose limit it doesn't keep, or that nobody is listed
-  file_read : (end : Located) (Bad : ℕ → Type 0) (Kept : FaultKind → Type 0) (ts : List Located) (sections : List Section) (e : ConfigFault) → end.word ≡ End → IsFile (words ts) sections → Keeps Kept sections → Fine Bad ts → file_at (at (Ok end) ts nothing) ≡ Err e
+  file_read : (end : Located) (Bad : ℕ → Type 0) (Kept : FaultKind → Type 0) (ts : List Located) (sections : List Section) (e : ConfigFault) → end.word ≡ End → IsLooseFile Kept (words ts) sections → Keeps Kept sections → Fine Bad ts → file_at (at (Ok end) ts nothing) ≡ Err e
       → OfName Bad Kept e.kind e.at ⊎ (e ≡ record { kind = NoDistributed; at = end.at })
   file_read end Bad Kept ts sections e w file keep fine h =
       let c = ended ts file.0 (Mark FullStop) file.1 in
-      let list : IsListOf IsSection (words c.front) sections = subst (λ (l : List Word). IsListOf IsSection l sections) (sym c.first) file.2 in
+      let list : IsListOf (IsLooseSection Kept) (words c.front) sections = subst (λ (l : List Word). IsListOf (IsLooseSection Kept) l sections) (sym c.first) file.2 in
       let front : Fine Bad c.front = fine_front Bad c.front (c.end ∷ []) (subst (λ (l : List Located). Fine Bad l) c.whole fine) in
       let there : (list_of section_at (at (Ok end) (c.front ++ c.end ∷ []) nothing) >>= behind) ≡ Err e = sym (ap (λ (l : List Located). file_at (at (Ok end) l nothing)) c.whole ∙ file_is (at (Ok end) (c.front ++ c.end ∷ []) nothing)) ∙ h in
       by c.end (ap (is_mark FullStop) c.is) (list_of section_at (at (Ok end) (c.front ++ c.end ∷ []) nothing)) (sections_met (Ok end) Bad Kept c.front (c.end ∷ []) sections list front keep) there
@@ -237,11 +239,11 @@ module _ (order : (sections : List Section) → (MaySections sections ↔ AreWit
 
   -- what reading makes of a file that goes on behind the token of the fault
   module _ (a : List Located) (l : Located) (e : ConfigFault) (fault : (last : Result Located ConfigFault) (rest : List Located) → file_at (at last (a ++ l ∷ rest) nothing) ≡ Err e) (Bad : ℕ → Type 0) (Kept : FaultKind → Type 0) where
-    goes_on : (place : ℕ) (more : List Word) (sections : List Section) → IsFile ((words a ++ l.word ∷ []) ++ more) sections → Keeps Kept sections → Fine Bad (a ++ l ∷ map (place_at place) more) → OfName Bad Kept e.kind e.at
+    goes_on : (place : ℕ) (more : List Word) (sections : List Section) → IsLooseFile Kept ((words a ++ l.word ∷ []) ++ more) sections → Keeps Kept sections → Fine Bad (a ++ l ∷ map (place_at place) more) → OfName Bad Kept e.kind e.at
     goes_on place more sections file keep fine =
         let rest = map (place_at place) more in
         let same : words (a ++ l ∷ rest) ≡ (words a ++ l.word ∷ []) ++ more = words_append a (l ∷ rest) ∙ ap (λ (m : List Word). words a ++ l.word ∷ m) (placed place more) ∙ sym (append_assoc (words a) (l.word ∷ []) more) in
-        let read = file_read (end_of (suc e.at)) Bad Kept (a ++ l ∷ rest) sections e refl (subst (λ (m : List Word). IsFile m sections) (sym same) file) keep fine (fault (Ok (end_of (suc e.at))) rest) in
+        let read = file_read (end_of (suc e.at)) Bad Kept (a ++ l ∷ rest) sections e refl (subst (λ (m : List Word). IsLooseFile Kept m sections) (sym same) file) keep fine (fault (Ok (end_of (suc e.at))) rest) in
         elim read [
           | inl of ↦ of
           | inr is ↦ let place : e.at ≡ suc e.at = ap (λ (f : ConfigFault). f.at) is in absurd (omega (arith, place))
@@ -251,11 +253,11 @@ module _ (order : (sections : List Section) → (MaySections sections ↔ AreWit
       → (more : List Word) (sections : List Section) → IsFile ((words a ++ l.word ∷ []) ++ more) sections → ⊥
   no_file a l e fault stands no_name fine more sections file =
       let all = fine_both (At l.at) a (l ∷ map (place_at (suc l.at)) more) fine (λ name is. absurd (subst IsNoName is no_name), placed_fine l.at more) in
-      not_name a l e stands no_name (goes_on a l e fault (At l.at) Unlimited (suc l.at) more sections file (sections_so sections) all)
+      not_name a l e stands no_name (goes_on a l e fault (At l.at) Unlimited (suc l.at) more sections (file_loose Unlimited ((words a ++ l.word ∷ []) ++ more) sections file) (unlimited sections) all)
 
   -- no file that keeps the limit of the fault goes on with its token
   none_keeps : (a : List Located) (l : Located) (e : ConfigFault) → ((last : Result Located ConfigFault) (rest : List Located) → file_at (at last (a ++ l ∷ rest) nothing) ≡ Err e) → CanBegin (Keeps (Only e.kind)) (words a ++ l.word ∷ []) → ⊥
-  none_keeps a l e fault c = not_kept e.kind e.at (goes_on a l e fault Nowhere (Only e.kind) 0 c.more c.sections c.file c.keeps (fine_nowhere (a ++ l ∷ map (place_at 0) c.more)))
+  none_keeps a l e fault c = not_kept e.kind e.at (goes_on a l e fault Nowhere (Only e.kind) 0 c.more c.sections (file_loose (Only e.kind) ((words a ++ l.word ∷ []) ++ c.more) c.sections c.file) c.keeps (fine_nowhere (a ++ l ∷ map (place_at 0) c.more)))
 
   -- a file that keeps the limits that count before it begins so
   first_kept : (a : List Located) (l : Located) (e : ConfigFault) → ((last : Result Located ConfigFault) (rest : List Located) → file_at (at last (a ++ l ∷ rest) nothing) ≡ Err e) → StandsAt a l e → Fine (At l.at) a → IsOfName e.kind → CanBegin (Keeps (Before e.kind)) (words a ++ l.word ∷ [])
@@ -269,6 +271,19 @@ module _ (order : (sections : List Section) → (MaySections sections ↔ AreWit
 
   breaks : (a : List Located) (l : Located) (e : ConfigFault) → ((last : Result Located ConfigFault) (rest : List Located) → file_at (at last (a ++ l ∷ rest) nothing) ≡ Err e) → StandsAt a l e → Fine (At l.at) a → Breaks (words a ++ l.word ∷ []) e.kind
   breaks a l e fault stands fine = record { broken = none_keeps a l e fault; first = first_kept a l e fault stands fine }
+
+  -- a fault of shape, with which no file goes on, however loose
+  none_loosely : (a : List Located) (l : Located) (e : ConfigFault) → ((last : Result Located ConfigFault) (rest : List Located) → file_at (at last (a ++ l ∷ rest) nothing) ≡ Err e) → e ≡ record { kind = BadShape; at = l.at } → IsNoName l.word → Fine (At l.at) a → CanBeginLoosely (words a ++ l.word ∷ []) → ⊥
+  none_loosely a l e fault is no_name fine c =
+      let all = fine_both (At l.at) a (l ∷ map (place_at (suc l.at)) c.more) fine (λ name same. absurd (subst IsNoName same no_name), placed_fine l.at c.more) in
+      (subst (λ (f : ConfigFault). OfName (At l.at) NoKind f.kind f.at) is (goes_on a l e fault (At l.at) NoKind (suc l.at) c.more c.sections c.file (sections_so NoKind (λ kind limit no. no) c.sections) all)).0 refl
+
+  told_by : (a : List Located) (l : Located) (k : FaultKind) (place : ℕ) → ((last : Result Located ConfigFault) (rest : List Located) → file_at (at last (a ++ l ∷ rest) nothing) ≡ Err (record { kind = k; at = place })) → StandsAt a l (record { kind = k; at = place }) → Fine (At l.at) a → IsNoName l.word → IsTold (words a ++ l.word ∷ []) k
+  told_by a l BadShape place fault stands fine no_name = none_loosely a l (record { kind = BadShape; at = place }) fault (ap (λ (n : ℕ). record { kind = BadShape; at = n }) (shape_place a l (record { kind = BadShape; at = place }) stands refl)) no_name fine
+  told_by a l _ place fault stands fine no_name = tt
+
+  told : (a : List Located) (l : Located) (e : ConfigFault) → ((last : Result Located ConfigFault) (rest : List Located) → file_at (at last (a ++ l ∷ rest) nothing) ≡ Err e) → StandsAt a l e → Fine (At l.at) a → IsNoName l.word → IsTold (words a ++ l.word ∷ []) e.kind
+  told a l e fault stands fine no_name = told_by a l e.kind e.at fault stands fine no_name
 
   -- with the token of the fault, words aren't in order
   not_well : (a : List Located) (l : Located) (e : ConfigFault) → ((last : Result Located ConfigFault) (rest : List Located) → file_at (at last (a ++ l ∷ rest) nothing) ≡ Err e) → StandsAt a l e → Fine (At l.at) a → IsWell (words a ++ l.word ∷ []) → ⊥
@@ -312,7 +327,7 @@ module _ (order : (sections : List Section) → (MaySections sections ↔ AreWit
     end_fault e tokens so_far h which = elim which [
       | inl is ↦
           Ends s.tokens short tokens so_far
-          (λ sections file. ends_no_file sections e is (file_read (end_of (length text)) (At (length text)) Unlimited s.tokens sections e refl file (sections_so sections) (spelled_fine (length text) 0 text s.tokens tokens.spelled (omega arith)) h)) is
+          (λ sections file. ends_no_file sections e is (file_read (end_of (length text)) (At (length text)) Unlimited s.tokens sections e refl (file_loose Unlimited (words s.tokens) sections file) (unlimited sections) (spelled_fine (length text) 0 text s.tokens tokens.spelled (omega arith)) h)) is
       | inr is ↦
           Nobody s.tokens short tokens (record { sections = is.1.0; file = is.1.1; within = (order is.1.0).0 is.1.2 })
           (λ w. none_listed (length text) (apps_in w.sections) (eqb (apps_in w.sections) 0) (written w.sections (nodes_in w.sections)) refl (sym (within_judged (end_of (length text)) s.tokens w.sections refl w.file w.within) ∙ h ∙ ap (λ (f : ConfigFault). Err f) is.0)) is.0
@@ -330,7 +345,7 @@ module _ (order : (sections : List Section) → (MaySections sections ↔ AreWit
     fault_by e h (By a l b d whole goes stands wants) =
         let same : e ≡ d = same_err d e (file_at (at s.last s.tokens nothing)) (ap (λ (ts : List Located). file_at (at s.last ts nothing)) whole ∙ goes s.last b) h in
         let begins = begins_by s.last refl a l b whole in
-        Token a l short begins (well a (wants halt)) (not_well a l d goes stands (text_fine text a l begins)) (subst (λ (f : ConfigFault). Breaks (words a ++ l.word ∷ []) f.kind) (sym same) (breaks a l d goes stands (text_fine text a l begins))) (subst (λ (f : ConfigFault). StandsAt a l f) (sym same) stands)
+        Token a l short begins (well a (wants halt)) (not_well a l d goes stands (text_fine text a l begins)) (subst (λ (f : ConfigFault). Breaks (words a ++ l.word ∷ []) f.kind) (sym same) (breaks a l d goes stands (text_fine text a l begins))) (λ no_name. subst (λ (f : ConfigFault). IsTold (words a ++ l.word ∷ []) f.kind) (sym same) (told a l d goes stands (text_fine text a l begins) no_name)) (subst (λ (f : ConfigFault). StandsAt a l f) (sym same) stands)
     fault_by e h (Unsettled more ends) = wanting_fault e s.last refl h more ends
 
     pub file_fault : (e : ConfigFault) → file_at (at s.last s.tokens nothing) ≡ Err e → IsFaultOf text e

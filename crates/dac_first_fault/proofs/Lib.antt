@@ -13,6 +13,7 @@ pub mod Held
 pub mod HeldReaders
 pub mod HeldSections
 pub mod HeldFile
+pub mod Loosely
 pub mod Past
 pub mod PastReaders
 pub mod PastSections

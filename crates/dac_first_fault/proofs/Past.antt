@@ -2,7 +2,7 @@
 use Rattle.std.proofs.Common.{◌≡◌, ℕ, zero, suc, ◌<◌, Bool, true, false, cond, List, [], ◌∷◌, ◌++◌, length, Result, Ok, Err, refl, sym, ap, subst, ◌∙◌, append_assoc, length-append, arith}
 use Rattle.dac_tokens.specs.declared.fault.ConfigFault.{ConfigFault}
 use Rattle.dac_tokens.specs.declared.fault.FaultKind.{FaultKind}
-use Rattle.dac_tokens.specs.declared.fault.FaultKind.TheVariants.{BadShape, TwiceApp, TwiceInList, TooManyNodes, TooManyApps, NameTooLong}
+use Rattle.dac_tokens.specs.declared.fault.FaultKind.TheVariants.{BadShape, TwiceApp, TwiceInList, TooManyNodes, TooManyApps, NameTooLong, EmptyList, EmptyTuple, NumberTooLarge, Unsupported}
 use Rattle.dac_tokens.specs.declared.token.Symbol.{Symbol}
 use Rattle.dac_tokens.specs.declared.token.Symbol.TheVariants.{OpenList, CloseList, OpenTuple, CloseTuple, Comma}
 use Rattle.dac_tokens.specs.Gives.{◌>>=◌}
@@ -12,7 +12,7 @@ use Rattle.dac_shapes.specs.Shape.{State, is_mark, token, symbol_at, more_at, co
 use Rattle.dac_shapes.specs.Grammar.{Parted, IsListOf, IsPair}
 use Rattle.dac_shapes.specs.laws.AgainLists.{words_of, cons_is, split, cut, none, ended, inside, Begins, at, symbol_again}
 
--- a fault that a name brings which doesn't keep the limit of its kind, and not at such a place
+-- a fault of a shape or limit that isn't kept, and none of a shape at such a place
 abbrev pub OfName : (ℕ → Type 0) → (FaultKind → Type 0) → FaultKind → ℕ → Type 0
 OfName Bad Kept BadShape place = (Bad place → ⊥) × (Kept BadShape → ⊥)
 OfName Bad Kept TwiceApp place = Kept TwiceApp → ⊥
@@ -20,6 +20,10 @@ OfName Bad Kept TwiceInList place = Kept TwiceInList → ⊥
 OfName Bad Kept TooManyApps place = Kept TooManyApps → ⊥
 OfName Bad Kept TooManyNodes place = Kept TooManyNodes → ⊥
 OfName Bad Kept NameTooLong place = Kept NameTooLong → ⊥
+OfName Bad Kept EmptyList place = Kept EmptyList → ⊥
+OfName Bad Kept EmptyTuple place = Kept EmptyTuple → ⊥
+OfName Bad Kept NumberTooLarge place = Kept NumberTooLarge → ⊥
+OfName Bad Kept Unsupported place = Kept Unsupported → ⊥
 OfName Bad Kept _ place = ⊥
 
 -- no name stands at such a place
@@ -35,7 +39,7 @@ pub fine_rest : (Bad : ℕ → Type 0) (a b : List Located) → Fine Bad (a ++ b
 fine_rest Bad [] b f = f
 fine_rest Bad (t ∷ a) b f = fine_rest Bad a b f.1
 
--- this is read, these tokens are left and this was seen, or the fault is a name's
+-- this is read, these tokens are left and this was seen, or the fault is one that isn't kept
 abbrev pub Met : {A : Type 0} → Result Located ConfigFault → (ℕ → Type 0) → (FaultKind → Type 0) → A → List Located → Seen → Result (A × State) ConfigFault → Type 0
 Met last Bad Kept x us after (Ok y) = y ≡ (x, at last us after)
 Met last Bad Kept x us after (Err e) = OfName Bad Kept e.kind e.at

@@ -63,14 +63,20 @@ kind_not kind.TwiceInList w bad place e can plain of = absurd (subst IsNoName ca
 kind_not kind.TooManyApps w bad place e can plain of = absurd (subst IsNoName can.1 plain)
 kind_not kind.TooManyNodes w bad place e can plain of = absurd (subst IsNoName can.1 plain)
 kind_not kind.NameTooLong w bad place e can plain of = absurd (subst IsNoName can.1 plain)
-kind_not kind.Unsupported w bad place e can plain of = of
-kind_not kind.NumberTooLarge w bad place e can plain of = of
+kind_not kind.Unsupported w bad place e can plain of = of tt
+kind_not kind.NumberTooLarge w bad place e can plain of = of tt
 kind_not _ w bad place e can plain of = absurd can
 
 pub not_name : (a : List Located) (l : Located) (e : ConfigFault) → StandsAt a l e → IsNoName l.word → OfName (At l.at) Unlimited e.kind e.at → ⊥
 not_name a l e (Itself place can) plain of = kind_not e.kind l.word l.at e.at place can plain of
-not_name a l e (InList front o is w v f) plain of = subst (λ (f : ConfigFault). OfName (At l.at) Unlimited f.kind f.at) f of
-not_name a l e (InTuple front o is w v f) plain of = subst (λ (f : ConfigFault). OfName (At l.at) Unlimited f.kind f.at) f of
+not_name a l e (InList front o is w v f) plain of = (subst (λ (f : ConfigFault). OfName (At l.at) Unlimited f.kind f.at) f of) tt
+not_name a l e (InTuple front o is w v f) plain of = (subst (λ (f : ConfigFault). OfName (At l.at) Unlimited f.kind f.at) f of) tt
+
+-- a fault of shape stands at its token
+pub shape_place : (a : List Located) (l : Located) (e : ConfigFault) → StandsAt a l e → e.kind ≡ kind.BadShape → e.at ≡ l.at
+shape_place a l e (Itself place can) is = place
+shape_place a l e (InList front o parts w v f) is = let wrong : kind.EmptyList ≡ kind.BadShape = sym (ap (λ (f : ConfigFault). f.kind) f) ∙ is in absurd cc
+shape_place a l e (InTuple front o parts w v f) is = let wrong : kind.EmptyTuple ≡ kind.BadShape = sym (ap (λ (f : ConfigFault). f.kind) f) ∙ is in absurd cc
 
 -- a fault breaks its own limit
 pub not_kept : (k : FaultKind) (place : ℕ) → OfName Nowhere (Only k) k place → ⊥
@@ -80,6 +86,10 @@ not_kept kind.TwiceInList place of = of refl
 not_kept kind.TooManyApps place of = of refl
 not_kept kind.TooManyNodes place of = of refl
 not_kept kind.NameTooLong place of = of refl
+not_kept kind.EmptyList place of = of refl
+not_kept kind.EmptyTuple place of = of refl
+not_kept kind.NumberTooLarge place of = of refl
+not_kept kind.Unsupported place of = of refl
 not_kept _ place of = absurd of
 
 -- ---- a limit that a name breaks

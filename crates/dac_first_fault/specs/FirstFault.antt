@@ -12,6 +12,7 @@ use Rattle.dac_shapes.specs.Shape.{value_from}
 use Rattle.dac_shapes.specs.Written.{Section, written}
 use Rattle.dac_shapes.specs.Grammar.{IsFile}
 use Rattle.dac_shapes.specs.Within.{AreWithinLimits, nodes_in}
+use Rattle.dac_first_fault.specs.Loose.{IsLooseFile}
 use Rattle.dac_first_fault.specs.Keeps.{Keeps}
 
 -- a name of at most MAX_NAME bytes
@@ -105,6 +106,21 @@ pub record Breaks (ws : List Word) (kind : FaultKind) : Type 0 where
   pub broken : ¬ CanBegin (Keeps (Only kind)) ws
   pub first : IsOfName kind → CanBegin (Keeps (Before kind)) ws
 
+abbrev pub NoKind : FaultKind → Type 0
+NoKind kind = ⊥
+
+-- a file begins with these words where empty lists and tuples of nodes, numbers that are too large and strings in place
+-- of a section are let pass
+pub record CanBeginLoosely (ws : List Word) : Type 0 where
+  pub more : List Word
+  pub sections : List Section
+  pub file : IsLooseFile NoKind (ws ++ more) sections
+
+-- what the kind of a fault tells of words of which the last is no name
+abbrev pub IsTold : List Word → FaultKind → Type 0
+IsTold ws BadShape = ¬ CanBeginLoosely ws
+IsTold ws _ = Unit {0}
+
 abbrev pub apps_in : List Section → ℕ
 apps_in sections = length (written sections (nodes_in sections)).apps
 
@@ -121,7 +137,7 @@ pub data IsFaultOf (text : List ℕ) (e : ConfigFault) : Type 0 where
   NoToken : (before : List Located) → length text ≤ MAX_TEXT → IsWell (words before) → StopAt 0 0 text before e → IsFaultOf text e
   -- What is before the token t is in order, and with t it isn't. If t is a name, no file that keeps the limits goes on
   -- with it, and if not, no file at all. The fault is the first of those whose limits t breaks.
-  Token : (before : List Located) (t : Located) → length text ≤ MAX_TEXT → BeginsWith text (before ++ t ∷ []) → IsWell (words before) → ¬ IsWell (words before ++ t.word ∷ []) → Breaks (words before ++ t.word ∷ []) e.kind → StandsAt before t e → IsFaultOf text e
+  Token : (before : List Located) (t : Located) → length text ≤ MAX_TEXT → BeginsWith text (before ++ t ∷ []) → IsWell (words before) → ¬ IsWell (words before ++ t.word ∷ []) → Breaks (words before ++ t.word ∷ []) e.kind → (IsNoName t.word → IsTold (words before ++ t.word ∷ []) e.kind) → StandsAt before t e → IsFaultOf text e
   -- all is in order, and the end came where no file is at its end
   Ends : (ts : List Located) → length text ≤ MAX_TEXT → AreTokensOf text ts → IsWell (words ts) → ((sections : List Section) → ¬ IsFile (words ts) sections) → e ≡ record { kind = BadShape; at = length text } → IsFaultOf text e
   -- all is a file that keeps the limits, and no application is listed
