@@ -1,10 +1,11 @@
 -- The fault of a whole file, and of a text.
 use Rattle.std.proofs.Common.{◌≡◌, ℕ, suc, ◌+◌, ◌≤◌, Bool, true, false, cond, eqb, ltb, List, [], ◌∷◌, ◌++◌, length, map, Result, Ok, Err, refl, sym, ap, subst, ◌∙◌, append_assoc, append-nil, arith, inl, inr}
-use Rattle.std.specs.Prelude.{◌⊎◌, ◌↔◌, IfOk}
+use Rattle.std.specs.Prelude.{◌⊎◌, ◌↔◌, IfOk, All}
+use Rattle.std.proofs.lemmas.List.Elements.{All-nil, All-cons, All-head, All-tail}
 use Rattle.std.proofs.lemmas.Bool.{ltb-true, ltb-false, eqb-true}
 use Rattle.dac_tokens.specs.declared.fault.ConfigFault.{ConfigFault}
 use Rattle.dac_tokens.specs.declared.fault.FaultKind.{FaultKind}
-use Rattle.dac_tokens.specs.declared.fault.FaultKind.TheVariants.{BadShape, NoDistributed, TooLong}
+use Rattle.dac_tokens.specs.declared.fault.FaultKind.TheVariants.{BadShape, NoDistributed, TooLong, Unsupported, NumberTooLarge, NameTooLong, TwiceApp, TwiceInList, TooManyApps, TooManyNodes}
 use Rattle.dac_tokens.specs.declared.token.Symbol.TheVariants.{FullStop}
 use Rattle.dac_tokens.specs.Gives.{◌>>=◌}
 use Rattle.dac_tokens.specs.Words.{Word, Mark, Name, Number, Text, End, Located, is_end}
@@ -20,22 +21,35 @@ use Rattle.dac_shapes.specs.laws.AgainLists.{at, ended}
 use Rattle.dac_shapes.specs.laws.Again.{sections_again}
 use Rattle.dac_first_fault.specs.Loose.{IsLooseSection, IsLooseFile}
 use Rattle.dac_first_fault.specs.Keeps.{Keeps}
-use Rattle.dac_first_fault.specs.FirstFault.{StandsAt, Itself, words, CanBegin, Only, Before, IsOfName, Breaks, NoKind, CanBeginLoosely, IsTold, IsWell, IsWithin, IsNoName, apps_in, BeginsWith, IsFaultOf, Long, NoToken, Token, Ends, Nobody}
+use Rattle.dac_first_fault.specs.FirstFault.{StandsAt, Itself, InList, InTuple, words, CanBegin, CanBring, Only, Before, IsOfName, Breaks, NoKind, CanBeginLoosely, IsTold, IsWell, IsWithin, IsNoName, apps_in, BeginsWith, IsFaultOf, Long, NoToken, Token, Ends, Nobody}
 use Rattle.dac_first_fault.proofs.Outcomes.{Took, Failed, Asked, Takes, Always, Plain, Gives}
 use Rattle.dac_first_fault.proofs.Steps.{mark_is, symbol_yes, symbol_no, symbol_none, symbol_end}
 use Rattle.dac_first_fault.proofs.Sections.{sections_reader}
 use Rattle.dac_first_fault.proofs.Begun.{halt, by_pair}
 use Rattle.dac_first_fault.proofs.BegunSections.{file_begun}
-use Rattle.dac_first_fault.proofs.Held.{Had, Holds}
+use Rattle.dac_first_fault.proofs.Held.{IsQuiet, QuietBehind, Stops, Lone, Had, Holds}
 use Rattle.dac_first_fault.proofs.HeldSections.{AreSections, sections_held}
 use Rattle.dac_first_fault.proofs.Past.{OfName, Fine, fine_front, Met}
 use Rattle.dac_first_fault.proofs.PastSections.{sections_met}
 use Rattle.dac_first_fault.proofs.Spared.{Unlimited, sections_so, unlimited}
-use Rattle.dac_first_fault.proofs.Loosely.{file_loose}
+use Rattle.dac_first_fault.proofs.Loosely.{file_loose, sections_strict, file_strict}
 use Rattle.dac_first_fault.proofs.Order.{words_append}
-use Rattle.dac_first_fault.proofs.Bounds.{Every, sections_may, beyond, lone_beyond, lone_last}
-use Rattle.dac_first_fault.proofs.Places.{At, Nowhere, name_of_it, stops_so, shape_place, fine_both, fine_nowhere, not_name, not_kept, name_or_not, last_named, spelled_fine, text_fine}
+use Rattle.dac_first_fault.proofs.Fewer.{keeps_fewer}
+use Rattle.dac_first_fault.proofs.Bounds.{Every, sections_may, beyond, lone_beyond, lone_last, lone_two}
+use Rattle.dac_first_fault.proofs.Places.{At, Nowhere, Strictly, Clear, name_of_it, stops_so, fine_both, fine_nowhere, not_name, not_kept, name_or_not, last_named, spelled_fine, text_clear, text_fine, begins_front}
 use Rattle.dac_first_fault.proofs.HeldFile.{file_kept}
+
+-- words that are quiet hold no name
+quiet_name : (w : Word) → IsQuiet w → IsNoName w
+quiet_name (Name name) quiet = quiet
+quiet_name (Mark symbol) quiet = tt
+quiet_name (Number negative digits) quiet = tt
+quiet_name Text quiet = tt
+quiet_name End quiet = tt
+
+quiet_names : (ws : List Word) → All IsQuiet ws → All IsNoName ws
+quiet_names [] all = All-nil IsNoName
+quiet_names (w ∷ ws) all = All-cons IsNoName w ws (quiet_name w (All-head IsQuiet w ws all)) (quiet_names ws (All-tail IsQuiet w ws all))
 
 -- ---- the end of a file
 
@@ -140,7 +154,7 @@ module _ (ts : List Located) (k : Takes Always Plain (λ _. list_of section_at) 
       let bad = beyond ts in
       let q : Had bad Every by_pair (AreSections bad Every) (words ts) (k.x, at (Err halt) (c ∷ []) k.after) =
       subst (λ (r : Result (List Section × State) ConfigFault). Holds bad Every by_pair (AreSections bad Every) (words ts) r) (k.goes tt (Err halt) (c ∷ []) tt) (sections_held bad Every ts (lone_beyond bad Every ts (omega arith))) in
-      (k.x, (q.own, q.whole ∙ ap (λ (w : Word). q.own ++ w ∷ []) (mark_is FullStop c.word is), q.is.0), sections_may k.x q.is.1)
+      (k.x, (q.own, q.whole ∙ ap (λ (w : Word). q.own ++ w ∷ []) (mark_is FullStop c.word is), sections_strict Every tt tt tt tt q.own k.x q.is.0), sections_may k.x q.is.1)
 
   stopped_by : (c : Located) (b : List Located) → is_mark FullStop c.word ≡ true → NoEnd b → Judged (k.a ++ c ∷ b)
   stopped_by c [] is no_end = Unsettled (stop_wants c is)
@@ -176,8 +190,8 @@ module _ (order : (sections : List Section) → (MaySections sections ↔ AreWit
         named = k.named;
         rest = k.rest;
         parts = k.parts;
-        no_name = k.no_name;
-        keeps = record { more = k.begun.more; sections = k.begun.x; file = k.begun.is.0; keeps = (order k.begun.x).0 (sections_may k.begun.x k.begun.is.1) };
+        no_name = quiet_names k.rest k.no_name;
+        keeps = record { more = k.begun.more; sections = k.begun.x; file = file_strict Every tt tt tt tt (k.named ++ k.begun.more) k.begun.x k.begun.is.0; keeps = (order k.begun.x).0 (sections_may k.begun.x k.begun.is.1) };
       }
 
   within_judged : (end : Located) (ts : List Located) (sections : List Section) → end.word ≡ End → IsFile (words ts) sections → AreWithinLimits sections
@@ -259,18 +273,26 @@ module _ (order : (sections : List Section) → (MaySections sections ↔ AreWit
   none_keeps : (a : List Located) (l : Located) (e : ConfigFault) → ((last : Result Located ConfigFault) (rest : List Located) → file_at (at last (a ++ l ∷ rest) nothing) ≡ Err e) → CanBegin (Keeps (Only e.kind)) (words a ++ l.word ∷ []) → ⊥
   none_keeps a l e fault c = not_kept e.kind e.at (goes_on a l e fault Nowhere (Only e.kind) 0 c.more c.sections (file_loose (Only e.kind) ((words a ++ l.word ∷ []) ++ c.more) c.sections c.file) c.keeps (fine_nowhere (a ++ l ∷ map (place_at 0) c.more)))
 
-  -- a file that keeps the limits that count before it begins so
-  first_kept : (a : List Located) (l : Located) (e : ConfigFault) → ((last : Result Located ConfigFault) (rest : List Located) → file_at (at last (a ++ l ∷ rest) nothing) ≡ Err e) → StandsAt a l e → Fine (At l.at) a → IsOfName e.kind → CanBegin (Keeps (Before e.kind)) (words a ++ l.word ∷ [])
-  first_kept a l e fault stands fine of =
-      let n = name_of_it a l e stands of in
-      let k = file_kept l.at (Before e.kind) (a ++ l ∷ []) (lone_last l.at (Before e.kind) a l fine) e (stops_so e.kind e.at l.at n.1 of) (fault (Err halt) []) in
+  -- where reading stopped by the last token, something begins with all of them
+  stopped_kept : (bad : ℕ) (Bound : FaultKind → Type 0) (a : List Located) (l : Located) (e : ConfigFault) → ((last : Result Located ConfigFault) (rest : List Located) → file_at (at last (a ++ l ∷ rest) nothing) ≡ Err e) → Lone bad Bound (a ++ l ∷ []) → Stops bad Bound e.kind e.at → (IsQuiet l.word → ⊥)
+      → (more : List Word) × (sections : List Section) × IsLooseFile Bound ((words a ++ l.word ∷ []) ++ more) sections × Keeps Bound sections
+  stopped_kept bad Bound a l e fault lone stops loud =
+      let k = file_kept bad Bound (a ++ l ∷ []) lone e stops (fault (Err halt) []) in
       let same : words (a ++ l ∷ []) ≡ words a ++ l.word ∷ [] = words_append a (l ∷ []) in
-      let none = last_named (words a) l.word n.0.0 k.named k.rest n.0.1 (sym same ∙ k.parts) k.no_name in
+      let none = last_named IsQuiet (words a) l.word k.named k.rest loud (sym same ∙ k.parts) k.no_name in
       let all : words a ++ l.word ∷ [] ≡ k.named = sym same ∙ k.parts ∙ ap (λ (l : List Word). k.named ++ l) none ∙ append-nil k.named in
-      record { more = k.begun.more; sections = k.begun.x; file = subst (λ (m : List Word). IsFile (m ++ k.begun.more) k.begun.x) (sym all) k.begun.is.0; keeps = k.begun.is.1 }
+      (k.begun.more, k.begun.x, subst (λ (m : List Word). IsLooseFile Bound (m ++ k.begun.more) k.begun.x) (sym all) k.begun.is.0, k.begun.is.1)
 
-  breaks : (a : List Located) (l : Located) (e : ConfigFault) → ((last : Result Located ConfigFault) (rest : List Located) → file_at (at last (a ++ l ∷ rest) nothing) ≡ Err e) → StandsAt a l e → Fine (At l.at) a → Breaks (words a ++ l.word ∷ []) e.kind
-  breaks a l e fault stands fine = record { broken = none_keeps a l e fault; first = first_kept a l e fault stands fine }
+  -- a file that keeps the limits that count before it begins so
+  first_kept : (a : List Located) (l : Located) (e : ConfigFault) → ((last : Result Located ConfigFault) (rest : List Located) → file_at (at last (a ++ l ∷ rest) nothing) ≡ Err e) → StandsAt a l e → Clear l.at a → IsOfName e.kind → CanBegin (Keeps (Before e.kind)) (words a ++ l.word ∷ [])
+  first_kept a l e fault stands clear of =
+      let n = name_of_it a l e stands of in
+      let Bound = Strictly e.kind in
+      let k = stopped_kept l.at Bound a l e fault (lone_last l.at Bound a l clear) (stops_so e.kind e.at l.at n.1 of) (λ quiet. subst IsQuiet n.0.1 quiet) in
+      record { more = k.0; sections = k.1; file = file_strict Bound (inr tt) (inr tt) (inr tt) (inr tt) ((words a ++ l.word ∷ []) ++ k.0) k.1 k.2; keeps = keeps_fewer (Before e.kind) Bound (λ kind less. inl less) k.1 k.3 }
+
+  breaks : (a : List Located) (l : Located) (e : ConfigFault) → ((last : Result Located ConfigFault) (rest : List Located) → file_at (at last (a ++ l ∷ rest) nothing) ≡ Err e) → StandsAt a l e → Clear l.at a → Breaks (words a ++ l.word ∷ []) e.kind
+  breaks a l e fault stands clear = record { broken = none_keeps a l e fault; first = first_kept a l e fault stands clear }
 
   -- a fault of shape, with which no file goes on, however loose
   none_loosely : (a : List Located) (l : Located) (e : ConfigFault) → ((last : Result Located ConfigFault) (rest : List Located) → file_at (at last (a ++ l ∷ rest) nothing) ≡ Err e) → e ≡ record { kind = BadShape; at = l.at } → IsNoName l.word → Fine (At l.at) a → CanBeginLoosely (words a ++ l.word ∷ []) → ⊥
@@ -278,18 +300,49 @@ module _ (order : (sections : List Section) → (MaySections sections ↔ AreWit
       let all = fine_both (At l.at) a (l ∷ map (place_at (suc l.at)) c.more) fine (λ name same. absurd (subst IsNoName same no_name), placed_fine l.at c.more) in
       (subst (λ (f : ConfigFault). OfName (At l.at) NoKind f.kind f.at) is (goes_on a l e fault (At l.at) NoKind (suc l.at) c.more c.sections c.file (sections_so NoKind (λ kind limit no. no) c.sections) all)).0 refl
 
-  told_by : (a : List Located) (l : Located) (k : FaultKind) (place : ℕ) → ((last : Result Located ConfigFault) (rest : List Located) → file_at (at last (a ++ l ∷ rest) nothing) ≡ Err (record { kind = k; at = place })) → StandsAt a l (record { kind = k; at = place }) → Fine (At l.at) a → IsNoName l.word → IsTold (words a ++ l.word ∷ []) k
-  told_by a l BadShape place fault stands fine no_name = none_loosely a l (record { kind = BadShape; at = place }) fault (ap (λ (n : ℕ). record { kind = BadShape; at = n }) (shape_place a l (record { kind = BadShape; at = place }) stands refl)) no_name fine
-  told_by a l _ place fault stands fine no_name = tt
+  -- with what a token spoils that is no name a file goes on loosely
+  spoilt_so : (bad : ℕ) (a : List Located) (l : Located) (e : ConfigFault) → ((last : Result Located ConfigFault) (rest : List Located) → file_at (at last (a ++ l ∷ rest) nothing) ≡ Err e) → Lone bad NoKind (a ++ l ∷ []) → Stops bad NoKind e.kind e.at → (IsQuiet l.word → ⊥) → CanBeginLoosely (words a ++ l.word ∷ [])
+  spoilt_so bad a l e fault lone stops loud = let k = stopped_kept bad NoKind a l e fault lone stops loud in record { more = k.0; sections = k.1; file = k.2 }
 
-  told : (a : List Located) (l : Located) (e : ConfigFault) → ((last : Result Located ConfigFault) (rest : List Located) → file_at (at last (a ++ l ∷ rest) nothing) ≡ Err e) → StandsAt a l e → Fine (At l.at) a → IsNoName l.word → IsTold (words a ++ l.word ∷ []) e.kind
-  told a l e fault stands fine no_name = told_by a l e.kind e.at fault stands fine no_name
+  module _ (text : List ℕ) (a : List Located) (l : Located) (begins : BeginsWith text (a ++ l ∷ [])) (no_name : IsNoName l.word) where
+    abbrev FaultsBy : ConfigFault → Type 0
+    FaultsBy e = (last : Result Located ConfigFault) (rest : List Located) → file_at (at last (a ++ l ∷ rest) nothing) ≡ Err e
+
+    itself_spoils : (k : FaultKind) (place : ℕ) → FaultsBy (record { kind = k; at = place }) → Stops l.at NoKind k place → (IsQuiet l.word → ⊥) → CanBeginLoosely (words a ++ l.word ∷ [])
+    itself_spoils k place fault stops loud = spoilt_so l.at a l (record { kind = k; at = place }) fault (lone_last l.at NoKind a l (text_clear text a l begins)) stops loud
+
+    itself_told : (k : FaultKind) (place : ℕ) → FaultsBy (record { kind = k; at = place }) → place ≡ l.at → CanBring k l.word → IsTold (words a ++ l.word ∷ []) k
+    itself_told BadShape place fault e can = none_loosely a l (record { kind = BadShape; at = place }) fault (ap (λ (n : ℕ). record { kind = BadShape; at = n }) e) no_name (text_fine text a l begins)
+    itself_told Unsupported place fault e can = itself_spoils Unsupported place fault (e, λ no. no) (λ quiet. subst IsQuiet can quiet)
+    itself_told NumberTooLarge place fault e can = itself_spoils NumberTooLarge place fault (e, λ no. no) (λ quiet. subst IsQuiet can.1 quiet)
+    itself_told NameTooLong place fault e can = absurd (subst IsNoName can.1 no_name)
+    itself_told TwiceApp place fault e can = absurd (subst IsNoName can.1 no_name)
+    itself_told TwiceInList place fault e can = absurd (subst IsNoName can.1 no_name)
+    itself_told TooManyApps place fault e can = absurd (subst IsNoName can.1 no_name)
+    itself_told TooManyNodes place fault e can = absurd (subst IsNoName can.1 no_name)
+    itself_told _ place fault e can = absurd can
+
+    -- brackets with nothing between
+    empty_told : (e : ConfigFault) (front : List Located) (o : Located) → FaultsBy e → a ≡ front ++ o ∷ [] → QuietBehind o.word (l ∷ []) → Stops o.at NoKind e.kind e.at → (IsQuiet l.word → ⊥) → CanBeginLoosely (words a ++ l.word ∷ [])
+    empty_told e front o fault parts quiet stops loud =
+        let whole : a ++ l ∷ [] ≡ front ++ o ∷ l ∷ [] = ap (λ (ts : List Located). ts ++ l ∷ []) parts ∙ append_assoc front (o ∷ []) (l ∷ []) in
+        let before : BeginsWith text (front ++ o ∷ []) = subst (λ (ts : List Located). BeginsWith text ts) parts (begins_front text a l begins) in
+        spoilt_so o.at a l e fault (subst (λ (ts : List Located). Lone o.at NoKind ts) (sym whole) (lone_two o.at NoKind front o l quiet (text_clear text front o before))) stops loud
+
+    told : (e : ConfigFault) → FaultsBy e → StandsAt a l e → IsTold (words a ++ l.word ∷ []) e.kind
+    told e fault (Itself place can) = itself_told e.kind e.at fault place can
+    told e fault (InList front o parts w v k) =
+        subst (λ (f : ConfigFault). IsTold (words a ++ l.word ∷ []) f.kind) (sym k)
+        (empty_told e front o fault parts (subst (λ (u : Word). QuietBehind u (l ∷ [])) (sym w) (All-nil IsQuiet)) (subst (λ (f : ConfigFault). Stops o.at NoKind f.kind f.at) (sym k) (refl, λ no. no)) (λ quiet. subst IsQuiet v quiet))
+    told e fault (InTuple front o parts w v k) =
+        subst (λ (f : ConfigFault). IsTold (words a ++ l.word ∷ []) f.kind) (sym k)
+        (empty_told e front o fault parts (subst (λ (u : Word). QuietBehind u (l ∷ [])) (sym w) (All-nil IsQuiet)) (subst (λ (f : ConfigFault). Stops o.at NoKind f.kind f.at) (sym k) (refl, λ no. no)) (λ quiet. subst IsQuiet v quiet))
 
   -- with the token of the fault, words aren't in order
   not_well : (a : List Located) (l : Located) (e : ConfigFault) → ((last : Result Located ConfigFault) (rest : List Located) → file_at (at last (a ++ l ∷ rest) nothing) ≡ Err e) → StandsAt a l e → Fine (At l.at) a → IsWell (words a ++ l.word ∷ []) → ⊥
   not_well a l e fault stands fine w = elim (name_or_not l.word) [
     | inl is ↦
-        let none = last_named (words a) l.word is.0 w.named w.rest is.1 w.parts w.no_name in
+        let none = last_named IsNoName (words a) l.word w.named w.rest (λ no_name. subst IsNoName is.1 no_name) w.parts w.no_name in
         let all : words a ++ l.word ∷ [] ≡ w.named = w.parts ∙ ap (λ (l : List Word). w.named ++ l) none ∙ append-nil w.named in
         begins_none a l e fault w.keeps.more (record { sections = w.keeps.sections; file = subst (λ (m : List Word). IsFile (m ++ w.keeps.more) w.keeps.sections) (sym all) w.keeps.file; within = w.keeps.keeps })
     | inr no_name ↦ no_file a l e fault stands no_name fine w.goes_on.more w.goes_on.sections w.goes_on.file
@@ -345,7 +398,7 @@ module _ (order : (sections : List Section) → (MaySections sections ↔ AreWit
     fault_by e h (By a l b d whole goes stands wants) =
         let same : e ≡ d = same_err d e (file_at (at s.last s.tokens nothing)) (ap (λ (ts : List Located). file_at (at s.last ts nothing)) whole ∙ goes s.last b) h in
         let begins = begins_by s.last refl a l b whole in
-        Token a l short begins (well a (wants halt)) (not_well a l d goes stands (text_fine text a l begins)) (subst (λ (f : ConfigFault). Breaks (words a ++ l.word ∷ []) f.kind) (sym same) (breaks a l d goes stands (text_fine text a l begins))) (λ no_name. subst (λ (f : ConfigFault). IsTold (words a ++ l.word ∷ []) f.kind) (sym same) (told a l d goes stands (text_fine text a l begins) no_name)) (subst (λ (f : ConfigFault). StandsAt a l f) (sym same) stands)
+        Token a l short begins (well a (wants halt)) (not_well a l d goes stands (text_fine text a l begins)) (subst (λ (f : ConfigFault). Breaks (words a ++ l.word ∷ []) f.kind) (sym same) (breaks a l d goes stands (text_clear text a l begins))) (λ no_name. subst (λ (f : ConfigFault). IsTold (words a ++ l.word ∷ []) f.kind) (sym same) (told text a l begins no_name d goes stands)) (subst (λ (f : ConfigFault). StandsAt a l f) (sym same) stands)
     fault_by e h (Unsettled more ends) = wanting_fault e s.last refl h more ends
 
     pub file_fault : (e : ConfigFault) → file_at (at s.last s.tokens nothing) ≡ Err e → IsFaultOf text e

@@ -11,24 +11,23 @@ use Rattle.dac_tokens.specs.Words.{Word, Mark, Located, is_end}
 use Rattle.dac_shapes.specs.Written.{Section, Written, written}
 use Rattle.dac_shapes.specs.Limits.{Seen, nothing}
 use Rattle.dac_shapes.specs.Shape.{State, fails, is_mark, token, symbol_at, list_of, section_at, end_at, file_at}
-use Rattle.dac_shapes.specs.Grammar.{IsFile}
 use Rattle.dac_shapes.specs.laws.AgainLists.{at}
+use Rattle.dac_first_fault.specs.Loose.{IsLooseFile}
 use Rattle.dac_first_fault.specs.Keeps.{Keeps}
-use Rattle.dac_first_fault.specs.FirstFault.{IsNoName}
 use Rattle.dac_first_fault.proofs.Steps.{mark_is}
 use Rattle.dac_first_fault.proofs.Begun.{halt, words_in, by_pair}
-use Rattle.dac_first_fault.proofs.Held.{words, Kept, Stops, Lone, Holds}
+use Rattle.dac_first_fault.proofs.Held.{words, IsQuiet, Kept, Stops, Lone, Holds}
 use Rattle.dac_first_fault.proofs.HeldSections.{AreSections, sections_held}
 
 module _ (bad : ℕ) (Bound : FaultKind → Type 0) where
   -- a file that keeps the limits that are bound
   abbrev pub KeptFile : List Word → List Section → Type 0
-  KeptFile ws sections = IsFile ws sections × Keeps Bound sections
+  KeptFile ws sections = IsLooseFile Bound ws sections × Keeps Bound sections
 
   -- where reading stopped, these words hold no name
   abbrev Quiet : {X : Type 0} → List Word → Result X ConfigFault → Type 0
   Quiet ws (Ok x) = Unit {0}
-  Quiet ws (Err e) = Stops bad Bound e.kind e.at → All IsNoName ws
+  Quiet ws (Err e) = Stops bad Bound e.kind e.at → All IsQuiet ws
 
   abbrev Falls : {X : Type 0} → List Word → Result X ConfigFault → Type 0
   Falls ws (Ok x) = Unit {0}
@@ -51,8 +50,8 @@ module _ (bad : ℕ) (Bound : FaultKind → Type 0) where
     stop_quiet ws t u true = judged_quiet ws t.at (written sections u.seen.met) (eqb (length (written sections u.seen.met).apps) 0)
     stop_quiet ws t u false = λ h. absurd h
 
-    one_quiet : (w : Word) → w ≡ Mark FullStop → All IsNoName (w ∷ [])
-    one_quiet w e = subst (λ (v : Word). All IsNoName (v ∷ [])) (sym e) (All-cons IsNoName (Mark FullStop) [] tt (All-nil IsNoName))
+    one_quiet : (w : Word) → w ≡ Mark FullStop → All IsQuiet (w ∷ [])
+    one_quiet w e = subst (λ (v : Word). All IsQuiet (v ∷ [])) (sym e) (All-cons IsQuiet (Mark FullStop) [] tt (All-nil IsQuiet))
 
     behind_stop : (w : Word) (ts : List Located) (last : Result Located ConfigFault) → last ≡ Err halt → w ≡ Mark FullStop → Quiet (w ∷ words ts) ((token (at last ts seen) >>= stop) >>= judged)
     behind_stop w [] last e is = subst (λ (l : Result Located ConfigFault). Quiet (w ∷ []) ((token (at l [] seen) >>= stop) >>= judged)) (sym e) (λ h. one_quiet w is)
@@ -64,12 +63,12 @@ module _ (bad : ℕ) (Bound : FaultKind → Type 0) where
 
     end_quiet : (ts : List Located) (last : Result Located ConfigFault) → last ≡ Err halt → Quiet (words ts) (end_at (at last ts seen) >>= judged)
     unfolding end_at symbol_at
-    end_quiet [] last e = subst (λ (l : Result Located ConfigFault). Quiet [] (end_at (at l [] seen) >>= judged)) (sym e) (λ h. All-nil IsNoName)
+    end_quiet [] last e = subst (λ (l : Result Located ConfigFault). Quiet [] (end_at (at l [] seen) >>= judged)) (sym e) (λ h. All-nil IsQuiet)
     end_quiet (t ∷ ts) last e = at_stop t ts last e (is_mark FullStop t.word) refl
 
   -- ---- a file
 
-  empty_kept : (ws : List Word) → All IsNoName ws → Kept KeptFile ws
+  empty_kept : (ws : List Word) → All IsQuiet ws → Kept KeptFile ws
   empty_kept ws none = record {
     named = [];
     rest = ws;

@@ -20,7 +20,7 @@ pub mod PastSections
 pub mod Spared
 pub mod Places
 pub mod Bounds
+pub mod Fewer
 pub mod Order
 pub mod Files
-pub mod Fewer
 pub mod Alone

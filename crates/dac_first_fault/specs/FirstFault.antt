@@ -119,7 +119,7 @@ pub record CanBeginLoosely (ws : List Word) : Type 0 where
 -- what the kind of a fault tells of words of which the last is no name
 abbrev pub IsTold : List Word → FaultKind → Type 0
 IsTold ws BadShape = ¬ CanBeginLoosely ws
-IsTold ws _ = Unit {0}
+IsTold ws _ = CanBeginLoosely ws
 
 abbrev pub apps_in : List Section → ℕ
 apps_in sections = length (written sections (nodes_in sections)).apps
