@@ -142,12 +142,3 @@ pub data IsFaultOf (text : List ℕ) (e : ConfigFault) : Type 0 where
   Ends : (ts : List Located) → length text ≤ MAX_TEXT → AreTokensOf text ts → IsWell (words ts) → ((sections : List Section) → ¬ IsFile (words ts) sections) → e ≡ record { kind = BadShape; at = length text } → IsFaultOf text e
   -- all is a file that keeps the limits, and no application is listed
   Nobody : (ts : List Located) → length text ≤ MAX_TEXT → AreTokensOf text ts → IsWithin (words ts) → ((is : IsWithin (words ts)) → apps_in is.sections ≡ 0) → e ≡ record { kind = NoDistributed; at = length text } → IsFaultOf text e
-
--- one token that is no name brings both
-pub record ShareToken (text : List ℕ) (e f : ConfigFault) : Type 0 where
-  pub before : List Located
-  pub t : Located
-  pub begins : BeginsWith text (before ++ t ∷ [])
-  pub no_name : IsNoName t.word
-  pub one : StandsAt before t e
-  pub other : StandsAt before t f
