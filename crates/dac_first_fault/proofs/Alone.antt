@@ -14,7 +14,7 @@ use Rattle.dac_tokens.specs.TokenGrammar.{AreTokensOf}
 use Rattle.dac_tokens.specs.TokenFaults.{StopAt}
 use Rattle.dac_shapes.specs.Written.{Section}
 use Rattle.dac_shapes.specs.Grammar.{IsFile}
-use Rattle.dac_first_fault.specs.FirstFault.{StandsAt, Itself, InList, InTuple, CanBring, words, IsWell, IsWithin, IsNoName, Only, Before, IsOfName, Breaks, rank, BeginsWith, IsFaultOf, Long, NoToken, Token, Ends, Nobody, CanBeginLoosely, IsTold}
+use Rattle.dac_first_fault.specs.FirstFault.{StandsAt, Itself, InList, InTuple, CanBring, words, IsWell, IsWithin, IsNoName, Only, Before, IsOfName, Breaks, rank, BeginsWith, IsFaultOf, Long, NoToken, Token, Ends, Nobody, CanBeginLoosely, Spoils, Brings}
 use Rattle.dac_first_fault.proofs.Order.{words_append, well_so_far}
 use Rattle.dac_first_fault.proofs.Places.{name_or_not}
 use Rattle.dac_first_fault.proofs.Fewer.{keeps_fewer}
@@ -122,22 +122,22 @@ module _ (ws : List Word) (w : Word) where
   ]
 
   -- one kind is told of these words
-  one_plain : (j k : FaultKind) → IsPlainKind j w → IsPlainKind k w → IsTold ws j → IsTold ws k → j ≡ k
+  one_plain : (j k : FaultKind) → IsPlainKind j w → IsPlainKind k w → Spoils ws j → Spoils ws k → j ≡ k
   one_plain j k a b told other = elim a [
     | inl shape ↦ elim b [
       | inl same ↦ shape ∙ sym same
-      | inr some ↦ absurd (subst (λ (f : FaultKind). IsTold ws f) shape told (loosely k some other))
+      | inr some ↦ absurd (subst (λ (f : FaultKind). Spoils ws f) shape told (loosely k some other))
     ]
     | inr some ↦ elim b [
-      | inl shape ↦ absurd (subst (λ (f : FaultKind). IsTold ws f) shape other (loosely j some told))
+      | inl shape ↦ absurd (subst (λ (f : FaultKind). Spoils ws f) shape other (loosely j some told))
       | inr more ↦ both j k some more
     ]
   ]
     where
-      loosely : (k : FaultKind) → ((k ≡ kind.Unsupported) × (w ≡ Text)) ⊎ ((k ≡ kind.NumberTooLarge) × ((digits : List ℕ) × (w ≡ Number false digits))) → IsTold ws k → CanBeginLoosely ws
+      loosely : (k : FaultKind) → ((k ≡ kind.Unsupported) × (w ≡ Text)) ⊎ ((k ≡ kind.NumberTooLarge) × ((digits : List ℕ) × (w ≡ Number false digits))) → Spoils ws k → CanBeginLoosely ws
       loosely k some told = elim some [
-        | inl text ↦ subst (λ (f : FaultKind). IsTold ws f) text.0 told
-        | inr number ↦ subst (λ (f : FaultKind). IsTold ws f) number.0 told
+        | inl text ↦ subst (λ (f : FaultKind). Spoils ws f) text.0 told
+        | inr number ↦ subst (λ (f : FaultKind). Spoils ws f) number.0 told
       ]
 
       both : (j k : FaultKind) → ((j ≡ kind.Unsupported) × (w ≡ Text)) ⊎ ((j ≡ kind.NumberTooLarge) × ((digits : List ℕ) × (w ≡ Number false digits))) → ((k ≡ kind.Unsupported) × (w ≡ Text)) ⊎ ((k ≡ kind.NumberTooLarge) × ((digits : List ℕ) × (w ≡ Number false digits))) → j ≡ k
@@ -159,6 +159,13 @@ none_more : (a : List Located) (l : Located) → [] ≡ a ++ l ∷ [] → ⊥
 none_more [] l e = cc
 none_more (u ∷ a) l e = cc
 
+spoils_of : (w : Word) (ws : List Word) (k : FaultKind) → IsNoName w → Brings w ws k → Spoils ws k
+spoils_of (Name name) ws k no_name brings = absurd no_name
+spoils_of (Mark symbol) ws k no_name brings = brings
+spoils_of (Number negative digits) ws k no_name brings = brings
+spoils_of Text ws k no_name brings = brings
+spoils_of End ws k no_name brings = brings
+
 -- the last of tokens is one
 last_same : (a b : List Located) (o p : Located) → a ++ o ∷ [] ≡ b ++ p ∷ [] → o ≡ p
 last_same [] [] o p e = (cons_both o p [] [] e).0
@@ -171,22 +178,22 @@ module _ (before : List Located) (t : Located) (no_name : IsNoName t.word) where
   abbrev ws : List Word
   ws = words before ++ t.word ∷ []
 
-  shape_not : (e f : ConfigFault) (x : Symbol) → t.word ≡ Mark x → CanBring e.kind t.word → IsTold ws e.kind → CanBeginLoosely ws → ⊥
-  shape_not e f x is can told loosely = subst (λ (k : FaultKind). IsTold ws k) (no_closing ws t.word e.kind x is (plain_kind e.kind t.word can no_name)) told loosely
+  shape_not : (e f : ConfigFault) (x : Symbol) → t.word ≡ Mark x → CanBring e.kind t.word → Spoils ws e.kind → CanBeginLoosely ws → ⊥
+  shape_not e f x is can told loosely = subst (λ (k : FaultKind). Spoils ws k) (no_closing ws t.word e.kind x is (plain_kind e.kind t.word can no_name)) told loosely
 
   no_two : (x y : Symbol) → t.word ≡ Mark x → t.word ≡ Mark y → x ≡ y
   no_two x y a b = let same : Mark x ≡ Mark y = sym a ∙ b in cc
 
-  list_told : (e : ConfigFault) (o : Located) → e ≡ record { kind = kind.EmptyList; at = o.at } → IsTold ws e.kind → CanBeginLoosely ws
-  list_told e o is told = subst (λ (f : ConfigFault). IsTold ws f.kind) is told
+  list_told : (e : ConfigFault) (o : Located) → e ≡ record { kind = kind.EmptyList; at = o.at } → Spoils ws e.kind → CanBeginLoosely ws
+  list_told e o is told = subst (λ (f : ConfigFault). Spoils ws f.kind) is told
 
-  tuple_told : (e : ConfigFault) (o : Located) → e ≡ record { kind = kind.EmptyTuple; at = o.at } → IsTold ws e.kind → CanBeginLoosely ws
-  tuple_told e o is told = subst (λ (f : ConfigFault). IsTold ws f.kind) is told
+  tuple_told : (e : ConfigFault) (o : Located) → e ≡ record { kind = kind.EmptyTuple; at = o.at } → Spoils ws e.kind → CanBeginLoosely ws
+  tuple_told e o is told = subst (λ (f : ConfigFault). Spoils ws f.kind) is told
 
   closes_one : t.word ≡ Mark CloseList → t.word ≡ Mark CloseTuple → ⊥
   closes_one a b = let wrong : CloseList ≡ CloseTuple = no_two CloseList CloseTuple a b in absurd cc
 
-  one_here : (e f : ConfigFault) → IsTold ws e.kind → IsTold ws f.kind → StandsAt before t e → StandsAt before t f → e ≡ f
+  one_here : (e f : ConfigFault) → Spoils ws e.kind → Spoils ws f.kind → StandsAt before t e → StandsAt before t f → e ≡ f
   one_here e f a b (Itself p can) (Itself q other) = same_fault e f (one_plain ws t.word e.kind f.kind (plain_kind e.kind t.word can no_name) (plain_kind f.kind t.word other no_name) a b) (p ∙ sym q)
   one_here e f a b (Itself p can) (InList front o parts w v k) = absurd (shape_not e f CloseList v can a (list_told f o k b))
   one_here e f a b (Itself p can) (InTuple front o parts w v k) = absurd (shape_not e f CloseTuple v can a (tuple_told f o k b))
@@ -243,8 +250,7 @@ module _ (text : List ℕ) (s : Stream) (spelled : (ts : List Located) → (AreT
     pub begins : BeginsWith text (before ++ t ∷ [])
     pub well : IsWell (words before)
     pub not_well : IsWell (words before ++ t.word ∷ []) → ⊥
-    pub breaks : Breaks (words before ++ t.word ∷ []) e.kind
-    pub told : IsNoName t.word → IsTold (words before ++ t.word ∷ []) e.kind
+    pub brings : Brings t.word (words before ++ t.word ∷ []) e.kind
     pub stands : StandsAt before t e
 
   -- what is behind all tokens brings it
@@ -279,8 +285,8 @@ module _ (text : List ℕ) (s : Stream) (spelled : (ts : List Located) → (AreT
       let is = (stops before e).0 stop in
       let same = sym (tokens_of before e is) in
       Final short (subst (λ (ts : List Located). IsWell (words ts)) same well) (Stopped (is ∙ ap (λ (ts : List Located). stopped ts e) same))
-  cause_of e (Token before t short begins well not_well breaks told stands) =
-      Brought short (record { before = before; t = t; rest = begins.rest; whole = tokens_with (before ++ t ∷ []) begins ∙ append_assoc before (t ∷ []) begins.rest; begins = begins; well = well; not_well = not_well; breaks = breaks; told = told; stands = stands })
+  cause_of e (Token before t short begins well not_well brings stands) =
+      Brought short (record { before = before; t = t; rest = begins.rest; whole = tokens_with (before ++ t ∷ []) begins ∙ append_assoc before (t ∷ []) begins.rest; begins = begins; well = well; not_well = not_well; brings = brings; stands = stands })
   cause_of e (Ends ts short tokens well none is) =
       let same = sym (tokens_in ts tokens) in
       Final short (subst (λ (ts : List Located). IsWell (words ts)) same well) (NoFile (ended_so ts tokens) (subst (λ (ts : List Located). (sections : List Section) → IsFile (words ts) sections → ⊥) same none) is)
@@ -309,19 +315,22 @@ module _ (text : List ℕ) (s : Stream) (spelled : (ts : List Located) → (AreT
   one_end e f (Empty a is p) (Empty b other q) = p ∙ sym q
 
   -- one token brings both
-  shared : (e f : ConfigFault) (b : ByToken e) → Breaks (words b.before ++ b.t.word ∷ []) f.kind → (IsNoName b.t.word → IsTold (words b.before ++ b.t.word ∷ []) f.kind) → StandsAt b.before b.t f → e ≡ f
-  shared e f b breaks told stands = elim (name_or_not b.t.word) [
+  shared : (e f : ConfigFault) (b : ByToken e) → Brings b.t.word (words b.before ++ b.t.word ∷ []) f.kind → StandsAt b.before b.t f → e ≡ f
+  shared e f b brings stands = elim (name_or_not b.t.word) [
     | inl n ↦
+        let ws = words b.before ++ b.t.word ∷ [] in
         let x = name_kind b.before b.t e n.0 n.1 b.stands in
         let y = name_kind b.before b.t f n.0 n.1 stands in
-        same_fault e f (one_kind (words b.before ++ b.t.word ∷ []) e.kind f.kind b.breaks breaks x.1 y.1) (x.0 ∙ sym y.0)
-    | inr no_name ↦ one_here b.before b.t no_name e f (b.told no_name) (told no_name) b.stands stands
+        same_fault e f (one_kind ws e.kind f.kind (subst (λ (w : Word). Brings w ws e.kind) n.1 b.brings) (subst (λ (w : Word). Brings w ws f.kind) n.1 brings) x.1 y.1) (x.0 ∙ sym y.0)
+    | inr no_name ↦
+        let ws = words b.before ++ b.t.word ∷ [] in
+        one_here b.before b.t no_name e f (spoils_of b.t.word ws e.kind no_name b.brings) (spoils_of b.t.word ws f.kind no_name brings) b.stands stands
   ]
 
   one_token : (e f : ConfigFault) (b : ByToken e) (c : ByToken f) → Order b.before b.t c.before c.t → e ≡ f
   one_token e f b c (Same p q) =
       let at_t = λ (P : List Located → Located → Type 0) (k : P c.before c.t). subst (λ (ts : List Located). P ts b.t) (sym p) (subst (λ (t : Located). P c.before t) (sym q) k) in
-      shared e f b (at_t (λ ts t. Breaks (words ts ++ t.word ∷ []) f.kind) c.breaks) (at_t (λ ts t. IsNoName t.word → IsTold (words ts ++ t.word ∷ []) f.kind) c.told) (at_t (λ ts t. StandsAt ts t f) c.stands)
+      shared e f b (at_t (λ ts t. Brings t.word (words ts ++ t.word ∷ []) f.kind) c.brings) (at_t (λ ts t. StandsAt ts t f) c.stands)
   one_token e f b c (Earlier x p) = absurd (b.not_well (well_to b.before b.t x (subst (λ (ts : List Located). IsWell (words ts)) p c.well)))
   one_token e f b c (Later x p) = absurd (c.not_well (well_to c.before c.t x (subst (λ (ts : List Located). IsWell (words ts)) p b.well)))
 

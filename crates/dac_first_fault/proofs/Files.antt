@@ -21,7 +21,7 @@ use Rattle.dac_shapes.specs.laws.AgainLists.{at, ended}
 use Rattle.dac_shapes.specs.laws.Again.{sections_again}
 use Rattle.dac_first_fault.specs.Loose.{IsLooseSection, IsLooseFile}
 use Rattle.dac_first_fault.specs.Keeps.{Keeps}
-use Rattle.dac_first_fault.specs.FirstFault.{StandsAt, Itself, InList, InTuple, words, CanBegin, CanBring, Only, Before, IsOfName, Breaks, NoKind, CanBeginLoosely, IsTold, IsWell, IsWithin, IsNoName, apps_in, BeginsWith, IsFaultOf, Long, NoToken, Token, Ends, Nobody}
+use Rattle.dac_first_fault.specs.FirstFault.{StandsAt, Itself, InList, InTuple, words, CanBegin, CanBring, Only, Before, IsOfName, Breaks, NoKind, CanBeginLoosely, Spoils, Brings, IsWell, IsWithin, IsNoName, apps_in, BeginsWith, IsFaultOf, Long, NoToken, Token, Ends, Nobody}
 use Rattle.dac_first_fault.proofs.Outcomes.{Took, Failed, Asked, Takes, Always, Plain, Gives}
 use Rattle.dac_first_fault.proofs.Steps.{mark_is, symbol_yes, symbol_no, symbol_none, symbol_end}
 use Rattle.dac_first_fault.proofs.Sections.{sections_reader}
@@ -31,13 +31,20 @@ use Rattle.dac_first_fault.proofs.Held.{IsQuiet, QuietBehind, Stops, Lone, Had, 
 use Rattle.dac_first_fault.proofs.HeldSections.{AreSections, sections_held}
 use Rattle.dac_first_fault.proofs.Past.{OfName, Fine, fine_front, Met}
 use Rattle.dac_first_fault.proofs.PastSections.{sections_met}
-use Rattle.dac_first_fault.proofs.Spared.{Unlimited, sections_so, unlimited}
+use Rattle.dac_first_fault.proofs.Spared.{Strict, sections_so, strictly_so}
 use Rattle.dac_first_fault.proofs.Loosely.{file_loose, sections_strict, file_strict}
 use Rattle.dac_first_fault.proofs.Order.{words_append}
 use Rattle.dac_first_fault.proofs.Fewer.{keeps_fewer}
 use Rattle.dac_first_fault.proofs.Bounds.{Every, sections_may, beyond, lone_beyond, lone_last, lone_two}
 use Rattle.dac_first_fault.proofs.Places.{At, Nowhere, Strictly, Clear, name_of_it, stops_so, fine_both, fine_nowhere, not_name, not_kept, name_or_not, last_named, spelled_fine, text_clear, text_fine, begins_front}
 use Rattle.dac_first_fault.proofs.HeldFile.{file_kept}
+
+brings_by : (w : Word) (ws : List Word) (k : FaultKind) → Breaks ws k → (IsNoName w → Spoils ws k) → Brings w ws k
+brings_by (Name name) ws k breaks spoils = breaks
+brings_by (Mark symbol) ws k breaks spoils = spoils tt
+brings_by (Number negative digits) ws k breaks spoils = spoils tt
+brings_by Text ws k breaks spoils = spoils tt
+brings_by End ws k breaks spoils = spoils tt
 
 -- words that are quiet hold no name
 quiet_name : (w : Word) → IsQuiet w → IsNoName w
@@ -190,7 +197,7 @@ module _ (order : (sections : List Section) → (MaySections sections ↔ AreWit
         named = k.named;
         rest = k.rest;
         parts = k.parts;
-        no_name = quiet_names k.rest k.no_name;
+        no_name = quiet_names k.rest k.quiet;
         keeps = record { more = k.begun.more; sections = k.begun.x; file = file_strict Every tt tt tt tt (k.named ++ k.begun.more) k.begun.x k.begun.is.0; keeps = (order k.begun.x).0 (sections_may k.begun.x k.begun.is.1) };
       }
 
@@ -267,7 +274,7 @@ module _ (order : (sections : List Section) → (MaySections sections ↔ AreWit
       → (more : List Word) (sections : List Section) → IsFile ((words a ++ l.word ∷ []) ++ more) sections → ⊥
   no_file a l e fault stands no_name fine more sections file =
       let all = fine_both (At l.at) a (l ∷ map (place_at (suc l.at)) more) fine (λ name is. absurd (subst IsNoName is no_name), placed_fine l.at more) in
-      not_name a l e stands no_name (goes_on a l e fault (At l.at) Unlimited (suc l.at) more sections (file_loose Unlimited ((words a ++ l.word ∷ []) ++ more) sections file) (unlimited sections) all)
+      not_name a l e stands no_name (goes_on a l e fault (At l.at) Strict (suc l.at) more sections (file_loose Strict ((words a ++ l.word ∷ []) ++ more) sections file) (strictly_so sections) all)
 
   -- no file that keeps the limit of the fault goes on with its token
   none_keeps : (a : List Located) (l : Located) (e : ConfigFault) → ((last : Result Located ConfigFault) (rest : List Located) → file_at (at last (a ++ l ∷ rest) nothing) ≡ Err e) → CanBegin (Keeps (Only e.kind)) (words a ++ l.word ∷ []) → ⊥
@@ -279,7 +286,7 @@ module _ (order : (sections : List Section) → (MaySections sections ↔ AreWit
   stopped_kept bad Bound a l e fault lone stops loud =
       let k = file_kept bad Bound (a ++ l ∷ []) lone e stops (fault (Err halt) []) in
       let same : words (a ++ l ∷ []) ≡ words a ++ l.word ∷ [] = words_append a (l ∷ []) in
-      let none = last_named IsQuiet (words a) l.word k.named k.rest loud (sym same ∙ k.parts) k.no_name in
+      let none = last_named IsQuiet (words a) l.word k.named k.rest loud (sym same ∙ k.parts) k.quiet in
       let all : words a ++ l.word ∷ [] ≡ k.named = sym same ∙ k.parts ∙ ap (λ (l : List Word). k.named ++ l) none ∙ append-nil k.named in
       (k.begun.more, k.begun.x, subst (λ (m : List Word). IsLooseFile Bound (m ++ k.begun.more) k.begun.x) (sym all) k.begun.is.0, k.begun.is.1)
 
@@ -311,7 +318,7 @@ module _ (order : (sections : List Section) → (MaySections sections ↔ AreWit
     itself_spoils : (k : FaultKind) (place : ℕ) → FaultsBy (record { kind = k; at = place }) → Stops l.at NoKind k place → (IsQuiet l.word → ⊥) → CanBeginLoosely (words a ++ l.word ∷ [])
     itself_spoils k place fault stops loud = spoilt_so l.at a l (record { kind = k; at = place }) fault (lone_last l.at NoKind a l (text_clear text a l begins)) stops loud
 
-    itself_told : (k : FaultKind) (place : ℕ) → FaultsBy (record { kind = k; at = place }) → place ≡ l.at → CanBring k l.word → IsTold (words a ++ l.word ∷ []) k
+    itself_told : (k : FaultKind) (place : ℕ) → FaultsBy (record { kind = k; at = place }) → place ≡ l.at → CanBring k l.word → Spoils (words a ++ l.word ∷ []) k
     itself_told BadShape place fault e can = none_loosely a l (record { kind = BadShape; at = place }) fault (ap (λ (n : ℕ). record { kind = BadShape; at = n }) e) no_name (text_fine text a l begins)
     itself_told Unsupported place fault e can = itself_spoils Unsupported place fault (e, λ no. no) (λ quiet. subst IsQuiet can quiet)
     itself_told NumberTooLarge place fault e can = itself_spoils NumberTooLarge place fault (e, λ no. no) (λ quiet. subst IsQuiet can.1 quiet)
@@ -329,13 +336,13 @@ module _ (order : (sections : List Section) → (MaySections sections ↔ AreWit
         let before : BeginsWith text (front ++ o ∷ []) = subst (λ (ts : List Located). BeginsWith text ts) parts (begins_front text a l begins) in
         spoilt_so o.at a l e fault (subst (λ (ts : List Located). Lone o.at NoKind ts) (sym whole) (lone_two o.at NoKind front o l quiet (text_clear text front o before))) stops loud
 
-    told : (e : ConfigFault) → FaultsBy e → StandsAt a l e → IsTold (words a ++ l.word ∷ []) e.kind
+    told : (e : ConfigFault) → FaultsBy e → StandsAt a l e → Spoils (words a ++ l.word ∷ []) e.kind
     told e fault (Itself place can) = itself_told e.kind e.at fault place can
     told e fault (InList front o parts w v k) =
-        subst (λ (f : ConfigFault). IsTold (words a ++ l.word ∷ []) f.kind) (sym k)
+        subst (λ (f : ConfigFault). Spoils (words a ++ l.word ∷ []) f.kind) (sym k)
         (empty_told e front o fault parts (subst (λ (u : Word). QuietBehind u (l ∷ [])) (sym w) (All-nil IsQuiet)) (subst (λ (f : ConfigFault). Stops o.at NoKind f.kind f.at) (sym k) (refl, λ no. no)) (λ quiet. subst IsQuiet v quiet))
     told e fault (InTuple front o parts w v k) =
-        subst (λ (f : ConfigFault). IsTold (words a ++ l.word ∷ []) f.kind) (sym k)
+        subst (λ (f : ConfigFault). Spoils (words a ++ l.word ∷ []) f.kind) (sym k)
         (empty_told e front o fault parts (subst (λ (u : Word). QuietBehind u (l ∷ [])) (sym w) (All-nil IsQuiet)) (subst (λ (f : ConfigFault). Stops o.at NoKind f.kind f.at) (sym k) (refl, λ no. no)) (λ quiet. subst IsQuiet v quiet))
 
   -- with the token of the fault, words aren't in order
@@ -370,9 +377,9 @@ module _ (order : (sections : List Section) → (MaySections sections ↔ AreWit
     begins_by (Ok t) is a l b whole = record { rest = b; is = inl (subst (λ (ts : List Located). AreTokensOf text ts) (whole ∙ sym (append_assoc a (l ∷ []) b)) (ended_so t is).1) }
     begins_by (Err p) is a l b whole = record { rest = b; is = inr (p, subst (λ (ts : List Located). StopAt 0 0 text ts p) (whole ∙ sym (append_assoc a (l ∷ []) b)) (stopped_so p is)) }
 
-    ends_no_file : (sections : List Section) (e : ConfigFault) → e ≡ record { kind = BadShape; at = length text } → OfName (At (length text)) Unlimited e.kind e.at ⊎ (e ≡ record { kind = NoDistributed; at = length text }) → ⊥
+    ends_no_file : (sections : List Section) (e : ConfigFault) → e ≡ record { kind = BadShape; at = length text } → OfName (At (length text)) Strict e.kind e.at ⊎ (e ≡ record { kind = NoDistributed; at = length text }) → ⊥
     ends_no_file sections e is read = elim read [
-      | inl of ↦ (subst (λ (f : ConfigFault). OfName (At (length text)) Unlimited f.kind f.at) is of).0 refl
+      | inl of ↦ (subst (λ (f : ConfigFault). OfName (At (length text)) Strict f.kind f.at) is of).0 refl
       | inr nobody ↦ let kinds : BadShape ≡ NoDistributed = ap (λ (f : ConfigFault). f.kind) (sym is ∙ nobody) in absurd cc
     ]
 
@@ -380,7 +387,7 @@ module _ (order : (sections : List Section) → (MaySections sections ↔ AreWit
     end_fault e tokens so_far h which = elim which [
       | inl is ↦
           Ends s.tokens short tokens so_far
-          (λ sections file. ends_no_file sections e is (file_read (end_of (length text)) (At (length text)) Unlimited s.tokens sections e refl (file_loose Unlimited (words s.tokens) sections file) (unlimited sections) (spelled_fine (length text) 0 text s.tokens tokens.spelled (omega arith)) h)) is
+          (λ sections file. ends_no_file sections e is (file_read (end_of (length text)) (At (length text)) Strict s.tokens sections e refl (file_loose Strict (words s.tokens) sections file) (strictly_so sections) (spelled_fine (length text) 0 text s.tokens tokens.spelled (omega arith)) h)) is
       | inr is ↦
           Nobody s.tokens short tokens (record { sections = is.1.0; file = is.1.1; within = (order is.1.0).0 is.1.2 })
           (λ w. none_listed (length text) (apps_in w.sections) (eqb (apps_in w.sections) 0) (written w.sections (nodes_in w.sections)) refl (sym (within_judged (end_of (length text)) s.tokens w.sections refl w.file w.within) ∙ h ∙ ap (λ (f : ConfigFault). Err f) is.0)) is.0
@@ -398,7 +405,7 @@ module _ (order : (sections : List Section) → (MaySections sections ↔ AreWit
     fault_by e h (By a l b d whole goes stands wants) =
         let same : e ≡ d = same_err d e (file_at (at s.last s.tokens nothing)) (ap (λ (ts : List Located). file_at (at s.last ts nothing)) whole ∙ goes s.last b) h in
         let begins = begins_by s.last refl a l b whole in
-        Token a l short begins (well a (wants halt)) (not_well a l d goes stands (text_fine text a l begins)) (subst (λ (f : ConfigFault). Breaks (words a ++ l.word ∷ []) f.kind) (sym same) (breaks a l d goes stands (text_clear text a l begins))) (λ no_name. subst (λ (f : ConfigFault). IsTold (words a ++ l.word ∷ []) f.kind) (sym same) (told text a l begins no_name d goes stands)) (subst (λ (f : ConfigFault). StandsAt a l f) (sym same) stands)
+        Token a l short begins (well a (wants halt)) (not_well a l d goes stands (text_fine text a l begins)) (subst (λ (f : ConfigFault). Brings l.word (words a ++ l.word ∷ []) f.kind) (sym same) (brings_by l.word (words a ++ l.word ∷ []) d.kind (breaks a l d goes stands (text_clear text a l begins)) (λ no_name. told text a l begins no_name d goes stands))) (subst (λ (f : ConfigFault). StandsAt a l f) (sym same) stands)
     fault_by e h (Unsettled more ends) = wanting_fault e s.last refl h more ends
 
     pub file_fault : (e : ConfigFault) → file_at (at s.last s.tokens nothing) ≡ Err e → IsFaultOf text e

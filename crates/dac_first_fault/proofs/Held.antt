@@ -35,7 +35,7 @@ pub record Kept {X : Type 0} (Is : List Word → X → Type 0) (ws : List Word) 
   pub named : List Word
   pub rest : List Word
   pub parts : ws ≡ named ++ rest
-  pub no_name : All IsQuiet rest
+  pub quiet : All IsQuiet rest
   pub begun : Begun Is named
 
 abbrev pub Held : {X : Type 0} → (List Word → X → Type 0) → List Word → Type 0
@@ -43,7 +43,7 @@ Held Is ws = All IsQuiet ws ⊎ Kept Is ws
 
 -- words that begin a thing are kept whole
 pub all_kept : {X : Type 0} (Is : List Word → X → Type 0) (ws : List Word) → Begun Is ws → Kept Is ws
-all_kept Is ws b = record { named = ws; rest = []; parts = sym (append-nil ws); no_name = All-nil IsQuiet; begun = b }
+all_kept Is ws b = record { named = ws; rest = []; parts = sym (append-nil ws); quiet = All-nil IsQuiet; begun = b }
 
 -- the limit of this fault isn't bound, nor is one that is looked at after it
 abbrev pub Frees : (FaultKind → Type 0) → FaultKind → Type 0
@@ -131,7 +131,7 @@ module _ (bad : ℕ) (Bound : FaultKind → Type 0) where
 
   -- a token that stands last and begins a thing
   pub spoilt : {X : Type 0} (Is : List Word → X → Type 0) (t : Located) (ts : List Located) → All IsQuiet (words ts) → Begun Is (t.word ∷ []) → Held Is (t.word ∷ words ts)
-  spoilt Is t ts quiet b = inr (record { named = t.word ∷ []; rest = words ts; parts = refl; no_name = quiet; begun = b })
+  spoilt Is t ts quiet b = inr (record { named = t.word ∷ []; rest = words ts; parts = refl; quiet = quiet; begun = b })
 
   -- such a name that stands last
   pub broken : {X : Type 0} (Is : List Word → X → Type 0) (t : Located) (ts : List Located) → Alone t ts → (name : List ℕ) → t.word ≡ Name name → t.at ≡ bad → Begun (λ vs x. Is (t.word ∷ vs) x) [] → Held Is (t.word ∷ words ts)
@@ -143,7 +143,7 @@ module _ (bad : ℕ) (Bound : FaultKind → Type 0) where
 
   module _ {X : Type 0} (via : Via X) (Is Is' : List Word → X → Type 0) (to : (vs : List Word) (x : X) → Is vs x → Is' vs x) where
     kept_to : (ws : List Word) → Kept Is ws → Kept Is' ws
-    kept_to ws k = record { named = k.named; rest = k.rest; parts = k.parts; no_name = k.no_name; begun = record { more = k.begun.more; x = k.begun.x; is = to (k.named ++ k.begun.more) k.begun.x k.begun.is } }
+    kept_to ws k = record { named = k.named; rest = k.rest; parts = k.parts; quiet = k.quiet; begun = record { more = k.begun.more; x = k.begun.x; is = to (k.named ++ k.begun.more) k.begun.x k.begun.is } }
 
     pub held_to : (ws : List Word) (r : Result X ConfigFault) → Holds via Is ws r → Holds via Is' ws r
     held_to ws (Ok x) k = record { own = k.own; whole = k.whole; is = to k.own x k.is; short = k.short }
@@ -159,7 +159,7 @@ module _ (bad : ℕ) (Bound : FaultKind → Type 0) where
       named = a ++ k.named;
       rest = k.rest;
       parts = ap (λ (l : List Word). a ++ l) k.parts ∙ sym (append_assoc a k.named k.rest);
-      no_name = k.no_name;
+      quiet = k.quiet;
       begun = record { more = k.begun.more; x = k.begun.x; is = subst (λ (l : List Word). Is l k.begun.x) (sym (append_assoc a k.named k.begun.more)) k.begun.is };
     }
 
@@ -178,7 +178,7 @@ module _ (bad : ℕ) (Bound : FaultKind → Type 0) where
     pub behind_names : Begun Is a → (ws : List Word) (r : Result X ConfigFault) → Holds via (λ vs x. Is (a ++ vs) x) ws r → Holds via Is (a ++ ws) r
     behind_names b ws (Ok x) k = read_behind ws x k
     behind_names b ws (Err e) k = λ h. elim (k h) [
-      | inl n ↦ inr (record { named = a; rest = ws; parts = refl; no_name = n; begun = b })
+      | inl n ↦ inr (record { named = a; rest = ws; parts = refl; quiet = n; begun = b })
       | inr q ↦ inr (kept_behind ws q)
     ]
 
@@ -192,7 +192,7 @@ module _ (bad : ℕ) (Bound : FaultKind → Type 0) where
       kept_then ws k =
           let b = k.begun in
           let c = ends (k.named ++ b.more) b.x b.is in
-          record { named = k.named; rest = k.rest; parts = k.parts; no_name = k.no_name; begun = record { more = b.more ++ c.more; x = c.x; is = subst (λ (l : List Word). Is l c.x) (append_assoc k.named b.more c.more) c.is } }
+          record { named = k.named; rest = k.rest; parts = k.parts; quiet = k.quiet; begun = record { more = b.more ++ c.more; x = c.x; is = subst (λ (l : List Word). Is l c.x) (append_assoc k.named b.more c.more) c.is } }
 
       pub held_then : (ws : List Word) (r : Result X ConfigFault) → Holds vx IsX ws r → ((own : List Word) (x : X) → IsX own x → IsOver (vx.state x) → Holds vy (λ vs y. Is (own ++ vs) y) (vx.rest x) (next x)) → Holds vy Is ws (r >>= next)
       held_then ws (Ok x) k behind =

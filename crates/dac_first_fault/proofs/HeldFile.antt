@@ -73,18 +73,18 @@ module _ (bad : ℕ) (Bound : FaultKind → Type 0) where
     named = [];
     rest = ws;
     parts = refl;
-    no_name = none;
+    quiet = none;
     begun = record { more = Mark OpenList ∷ Mark CloseList ∷ Mark FullStop ∷ []; x = []; is = ((Mark OpenList ∷ Mark CloseList ∷ [], refl, ([], refl, refl)), tt) };
   }
 
   list_kept : (ws : List Word) → Kept (AreSections bad Bound) ws → Kept KeptFile ws
   list_kept ws k =
       let b = k.begun in
-      record { named = k.named; rest = k.rest; parts = k.parts; no_name = k.no_name; begun = record { more = b.more ++ Mark FullStop ∷ []; x = b.x.0; is = ((k.named ++ b.more, sym (append_assoc k.named b.more (Mark FullStop ∷ [])), b.is.0), b.is.1) } }
+      record { named = k.named; rest = k.rest; parts = k.parts; quiet = k.quiet; begun = record { more = b.more ++ Mark FullStop ∷ []; x = b.x.0; is = ((k.named ++ b.more, sym (append_assoc k.named b.more (Mark FullStop ∷ [])), b.is.0), b.is.1) } }
 
   quiet_kept : {X : Type 0} (own : List Word) (xs : List Section × State) → (AreSections bad Bound) own xs → (ws : List Word) (r : Result X ConfigFault) → Quiet ws r → Falls (own ++ ws) r
   quiet_kept own xs is ws (Ok x) k = tt
-  quiet_kept own xs is ws (Err e) k = λ h. record { named = own; rest = ws; parts = refl; no_name = k h; begun = record { more = Mark FullStop ∷ []; x = xs.0; is = ((own, refl, is.0), is.1) } }
+  quiet_kept own xs is ws (Err e) k = λ h. record { named = own; rest = ws; parts = refl; quiet = k h; begun = record { more = Mark FullStop ∷ []; x = xs.0; is = ((own, refl, is.0), is.1) } }
 
   list_falls : (ws : List Word) (r : Result (List Section × State) ConfigFault) → Holds bad Bound by_pair (AreSections bad Bound) ws r → Falls ws (r >>= λ x. end_at x.1 >>= judged x.0 x.1.seen)
   list_falls ws (Ok x) k = subst (λ (l : List Word). Falls l (end_at x.1 >>= judged x.0 x.1.seen)) (sym k.whole) (quiet_kept k.own x k.is (words_in x.1) (end_at x.1 >>= judged x.0 x.1.seen) (end_quiet x.0 x.1.seen x.1.left.tokens x.1.left.last k.short.0))

@@ -32,7 +32,7 @@ module _ (bad : ℕ) (Bound : FaultKind → Type 0) where
   made_held P Q to so ws (Ok x) k = record { own = k.own; whole = k.whole; is = so k.own x.0 x.1 k.is; short = k.short }
   made_held P Q to so ws (Err e) k = λ h. elim (k h) [
     | inl n ↦ inl n
-    | inr q ↦ inr (record { named = q.named; rest = q.rest; parts = q.parts; no_name = q.no_name; begun = record { more = q.begun.more; x = (to q.begun.x.0, q.begun.x.1); is = so (q.named ++ q.begun.more) q.begun.x.0 q.begun.x.1 q.begun.is } })
+    | inr q ↦ inr (record { named = q.named; rest = q.rest; parts = q.parts; quiet = q.quiet; begun = record { more = q.begun.more; x = (to q.begun.x.0, q.begun.x.1); is = so (q.named ++ q.begun.more) q.begun.x.0 q.begun.x.1 q.begun.is } })
   ]
 
   -- ---- a node that may come at the start of any list

@@ -13,7 +13,7 @@ use Rattle.dac_tokens.specs.TokenFaults.{StopAt}
 use Rattle.dac_first_fault.specs.FirstFault.{StandsAt, Itself, InList, InTuple, CanBring, IsNoName, BeginsWith, Only, Before, IsOfName, rank}
 use Rattle.dac_first_fault.proofs.Past.{OfName, Fine}
 use Rattle.dac_first_fault.proofs.Held.{Frees, Stops}
-use Rattle.dac_first_fault.proofs.Spared.{Unlimited}
+use Rattle.dac_first_fault.proofs.Spared.{Strict}
 
 -- this place alone
 abbrev pub At : ℕ → ℕ → Type 0
@@ -57,7 +57,7 @@ last_named P [] w (v ∷ named) rest loud e all = none_behind named rest (cons_t
 last_named P (u ∷ a) w (v ∷ named) rest loud e all = last_named P a w named rest loud (cons_tail u v (a ++ w ∷ []) (named ++ rest) e) all
 
 -- a fault at a token that is no name is none of a name
-kind_not : (k : FaultKind) (w : Word) (bad place : ℕ) → place ≡ bad → CanBring k w → IsNoName w → OfName (At bad) Unlimited k place → ⊥
+kind_not : (k : FaultKind) (w : Word) (bad place : ℕ) → place ≡ bad → CanBring k w → IsNoName w → OfName (At bad) Strict k place → ⊥
 kind_not kind.BadShape w bad place e can plain of = of.0 e
 kind_not kind.TwiceApp w bad place e can plain of = absurd (subst IsNoName can.1 plain)
 kind_not kind.TwiceInList w bad place e can plain of = absurd (subst IsNoName can.1 plain)
@@ -68,10 +68,10 @@ kind_not kind.Unsupported w bad place e can plain of = of tt
 kind_not kind.NumberTooLarge w bad place e can plain of = of tt
 kind_not _ w bad place e can plain of = absurd can
 
-pub not_name : (a : List Located) (l : Located) (e : ConfigFault) → StandsAt a l e → IsNoName l.word → OfName (At l.at) Unlimited e.kind e.at → ⊥
+pub not_name : (a : List Located) (l : Located) (e : ConfigFault) → StandsAt a l e → IsNoName l.word → OfName (At l.at) Strict e.kind e.at → ⊥
 not_name a l e (Itself place can) plain of = kind_not e.kind l.word l.at e.at place can plain of
-not_name a l e (InList front o is w v f) plain of = (subst (λ (f : ConfigFault). OfName (At l.at) Unlimited f.kind f.at) f of) tt
-not_name a l e (InTuple front o is w v f) plain of = (subst (λ (f : ConfigFault). OfName (At l.at) Unlimited f.kind f.at) f of) tt
+not_name a l e (InList front o is w v f) plain of = (subst (λ (f : ConfigFault). OfName (At l.at) Strict f.kind f.at) f of) tt
+not_name a l e (InTuple front o is w v f) plain of = (subst (λ (f : ConfigFault). OfName (At l.at) Strict f.kind f.at) f of) tt
 
 -- a fault of shape stands at its token
 pub shape_place : (a : List Located) (l : Located) (e : ConfigFault) → StandsAt a l e → e.kind ≡ kind.BadShape → e.at ≡ l.at
@@ -111,9 +111,9 @@ name_of_it a l e (InTuple front o is w v f) of = absurd (subst (λ (f : ConfigFa
 
 -- the limits that count before this one, and all that isn't of names
 abbrev pub Strictly : FaultKind → FaultKind → Type 0
-Strictly kind other = Before kind other ⊎ Unlimited other
+Strictly kind other = Before kind other ⊎ Strict other
 
-late_rank : (k : FaultKind) → Unlimited k → rank k ≤ 5 → ⊥
+late_rank : (k : FaultKind) → Strict k → rank k ≤ 5 → ⊥
 late_rank kind.EmptyList is le = absurd (omega (arith, le))
 late_rank kind.EmptyTuple is le = absurd (omega (arith, le))
 late_rank kind.NumberTooLarge is le = absurd (omega (arith, le))

@@ -17,12 +17,12 @@ IsLimit TooManyNodes = Unit {0}
 IsLimit _ = ⊥
 
 -- no limit, but all that a token spoils which is no name
-abbrev pub Unlimited : FaultKind → Type 0
-Unlimited EmptyList = Unit {0}
-Unlimited EmptyTuple = Unit {0}
-Unlimited NumberTooLarge = Unit {0}
-Unlimited Unsupported = Unit {0}
-Unlimited _ = ⊥
+abbrev pub Strict : FaultKind → Type 0
+Strict EmptyList = Unit {0}
+Strict EmptyTuple = Unit {0}
+Strict NumberTooLarge = Unit {0}
+Strict Unsupported = Unit {0}
+Strict _ = ⊥
 
 all_so : {A : Type 0} (step : Seen → A → Seen) (May : List A → Seen → A → Type 0) → ((before : List A) (seen : Seen) (x : A) → May before seen x) → (before : List A) (seen : Seen) (xs : List A) → AllMay step May before seen xs
 all_so step May so before seen [] = tt
@@ -60,10 +60,10 @@ module _ (Kept : FaultKind → Type 0) (free : (kind : FaultKind) → IsLimit ki
   sections_so sections = all_so with_section (SectionKeeps Kept) section_so [] nothing sections
 
 -- that, of any sections
-pub unlimited : (sections : List Section) → Keeps Unlimited sections
-unlimited sections = sections_so Unlimited no_limit sections
+pub strictly_so : (sections : List Section) → Keeps Strict sections
+strictly_so sections = sections_so Strict no_limit sections
   where
-    no_limit : (kind : FaultKind) → IsLimit kind → Unlimited kind → ⊥
+    no_limit : (kind : FaultKind) → IsLimit kind → Strict kind → ⊥
     no_limit BadShape is k = k
     no_limit NameTooLong is k = k
     no_limit TwiceApp is k = k
