@@ -14,7 +14,7 @@ use Rattle.dac_tokens.specs.TokenGrammar.{AreTokensOf}
 use Rattle.dac_tokens.specs.TokenFaults.{StopAt}
 use Rattle.dac_shapes.specs.Written.{Section}
 use Rattle.dac_shapes.specs.Grammar.{IsFile}
-use Rattle.dac_first_fault.specs.FirstFault.{StandsAt, Itself, InList, InTuple, CanBring, words, IsWell, IsWithin, IsNoName, Only, Before, IsOfName, Breaks, rank, BeginsWith, IsFaultOf, Long, NoToken, Token, Ends, Nobody, CanBeginLoosely, Spoils, Brings}
+use Rattle.dac_first_fault.specs.FirstFault.{StandsAt, Itself, InList, InTuple, CanBring, words, IsWell, IsWithin, IsNoName, Only, Before, IsOfName, Breaks, rank, BeginsWith, IsFaultOf, Long, NoToken, Token, Ends, Nobody, CanBeginLoosely, Spoils, Brings, apps_in}
 use Rattle.dac_first_fault.proofs.Order.{words_append, well_so_far}
 use Rattle.dac_first_fault.proofs.Places.{name_or_not}
 use Rattle.dac_first_fault.proofs.Fewer.{keeps_fewer}
@@ -242,7 +242,7 @@ well_within ws is =
 
 module _ (text : List ℕ) (s : Stream) (spelled : (ts : List Located) → (AreTokensOf text ts ↔ (s ≡ ended_by (length text) ts))) (stops : (ts : List Located) (e : ConfigFault) → (StopAt 0 0 text ts e ↔ (s ≡ stopped ts e))) where
   -- a token brings it
-  record ByToken (e : ConfigFault) : Type 0 where
+  pub record ByToken (e : ConfigFault) : Type 0 where
     pub before : List Located
     pub t : Located
     pub rest : List Located
@@ -254,12 +254,12 @@ module _ (text : List ℕ) (s : Stream) (spelled : (ts : List Located) → (AreT
     pub stands : StandsAt before t e
 
   -- what is behind all tokens brings it
-  data AtEnd (e : ConfigFault) : Type 0 where
+  pub data AtEnd (e : ConfigFault) : Type 0 where
     Stopped : s ≡ stopped s.tokens e → AtEnd e
     NoFile : s ≡ ended_by (length text) s.tokens → ((sections : List Section) → IsFile (words s.tokens) sections → ⊥) → e ≡ record { kind = kind.BadShape; at = length text } → AtEnd e
-    Empty : s ≡ ended_by (length text) s.tokens → IsWithin (words s.tokens) → e ≡ record { kind = kind.NoDistributed; at = length text } → AtEnd e
+    Empty : s ≡ ended_by (length text) s.tokens → IsWithin (words s.tokens) → ((is : IsWithin (words s.tokens)) → apps_in is.sections ≡ 0) → e ≡ record { kind = kind.NoDistributed; at = length text } → AtEnd e
 
-  data Cause (e : ConfigFault) : Type 0 where
+  pub data Cause (e : ConfigFault) : Type 0 where
     TooFar : 65536 < length text → e ≡ record { kind = kind.TooLong; at = 65536 } → Cause e
     Brought : length text ≤ 65536 → ByToken e → Cause e
     Final : length text ≤ 65536 → IsWell (words s.tokens) → AtEnd e → Cause e
@@ -279,7 +279,7 @@ module _ (text : List ℕ) (s : Stream) (spelled : (ts : List Located) → (AreT
   ended_so : (ts : List Located) → AreTokensOf text ts → s ≡ ended_by (length text) s.tokens
   ended_so ts is = (spelled ts).0 is ∙ ap (ended_by (length text)) (sym (tokens_in ts is))
 
-  cause_of : (e : ConfigFault) → IsFaultOf text e → Cause e
+  pub cause_of : (e : ConfigFault) → IsFaultOf text e → Cause e
   cause_of e (Long far is) = TooFar far is
   cause_of e (NoToken before short well stop) =
       let is = (stops before e).0 stop in
@@ -292,9 +292,9 @@ module _ (text : List ℕ) (s : Stream) (spelled : (ts : List Located) → (AreT
       Final short (subst (λ (ts : List Located). IsWell (words ts)) same well) (NoFile (ended_so ts tokens) (subst (λ (ts : List Located). (sections : List Section) → IsFile (words ts) sections → ⊥) same none) is)
   cause_of e (Nobody ts short tokens within none is) =
       let all : IsWithin (words s.tokens) = subst (λ (ts : List Located). IsWithin (words ts)) (sym (tokens_in ts tokens)) within in
-      Final short (well_within (words s.tokens) all) (Empty (ended_so ts tokens) all is)
+      Final short (well_within (words s.tokens) all) (Empty (ended_so ts tokens) all (subst (λ (ts : List Located). (is : IsWithin (words ts)) → apps_in is.sections ≡ 0) (sym (tokens_in ts tokens)) none) is)
 
-  not_final : (e : ConfigFault) → ByToken e → IsWell (words s.tokens) → ⊥
+  pub not_final : (e : ConfigFault) → ByToken e → IsWell (words s.tokens) → ⊥
   not_final e b w = b.not_well (well_to b.before b.t b.rest (subst (λ (ts : List Located). IsWell (words ts)) b.whole w))
 
   not_both : (e : ConfigFault) → s ≡ stopped s.tokens e → s ≡ ended_by (length text) s.tokens → ⊥
@@ -306,13 +306,13 @@ module _ (text : List ℕ) (s : Stream) (spelled : (ts : List Located) → (AreT
   one_end : (e f : ConfigFault) → AtEnd e → AtEnd f → e ≡ f
   one_end e f (Stopped a) (Stopped b) = err_same e f s.last (ap (λ (q : Stream). q.last) a) (ap (λ (q : Stream). q.last) b)
   one_end e f (Stopped a) (NoFile b none q) = absurd (not_both e a b)
-  one_end e f (Stopped a) (Empty b is q) = absurd (not_both e a b)
+  one_end e f (Stopped a) (Empty b is listed q) = absurd (not_both e a b)
   one_end e f (NoFile a none p) (Stopped b) = absurd (not_both f b a)
   one_end e f (NoFile a none p) (NoFile b other q) = p ∙ sym q
-  one_end e f (NoFile a none p) (Empty b is q) = absurd (none is.sections is.file)
-  one_end e f (Empty a is p) (Stopped b) = absurd (not_both f b a)
-  one_end e f (Empty a is p) (NoFile b none q) = absurd (none is.sections is.file)
-  one_end e f (Empty a is p) (Empty b other q) = p ∙ sym q
+  one_end e f (NoFile a none p) (Empty b is listed q) = absurd (none is.sections is.file)
+  one_end e f (Empty a is listed p) (Stopped b) = absurd (not_both f b a)
+  one_end e f (Empty a is listed p) (NoFile b none q) = absurd (none is.sections is.file)
+  one_end e f (Empty a is listed p) (Empty b other empty q) = p ∙ sym q
 
   -- one token brings both
   shared : (e f : ConfigFault) (b : ByToken e) → Brings b.t.word (words b.before ++ b.t.word ∷ []) f.kind → StandsAt b.before b.t f → e ≡ f

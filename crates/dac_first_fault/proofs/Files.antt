@@ -2,7 +2,7 @@
 use Rattle.std.proofs.Common.{◌≡◌, ℕ, suc, ◌+◌, ◌≤◌, Bool, true, false, cond, eqb, ltb, List, [], ◌∷◌, ◌++◌, length, map, Result, Ok, Err, refl, sym, ap, subst, ◌∙◌, append_assoc, append-nil, arith, inl, inr}
 use Rattle.std.specs.Prelude.{◌⊎◌, ◌↔◌, IfOk, All}
 use Rattle.std.proofs.lemmas.List.Elements.{All-nil, All-cons, All-head, All-tail}
-use Rattle.std.proofs.lemmas.Bool.{ltb-true, ltb-false, eqb-true}
+use Rattle.std.proofs.lemmas.Bool.{ltb-true, ltb-false, eqb-true, eq-eqb}
 use Rattle.dac_tokens.specs.declared.fault.ConfigFault.{ConfigFault}
 use Rattle.dac_tokens.specs.declared.fault.FaultKind.{FaultKind}
 use Rattle.dac_tokens.specs.declared.fault.FaultKind.TheVariants.{BadShape, NoDistributed, TooLong, Unsupported, NumberTooLarge, NameTooLong, TwiceApp, TwiceInList, TooManyApps, TooManyNodes}
@@ -108,7 +108,10 @@ AtEnd ts place e = (e ≡ record { kind = BadShape; at = place }) ⊎ ((e ≡ re
 -- what reading a file makes of these tokens
 data Judged (ts : List Located) : Type 0 where
   By : (a : List Located) (l : Located) (b : List Located) (e : ConfigFault) → ts ≡ a ++ l ∷ b → ((last : Result Located ConfigFault) (rest : List Located) → file_at (at last (a ++ l ∷ rest) nothing) ≡ Err e) → StandsAt a l e → ((p : ConfigFault) → file_at (at (Err p) a nothing) ≡ Err p) → Judged ts
-  Unsettled : ((p : ConfigFault) → file_at (at (Err p) ts nothing) ≡ Err p) → ((t : Located) (e : ConfigFault) → t.word ≡ End → file_at (at (Ok t) ts nothing) ≡ Err e → AtEnd ts t.at e) → Judged ts
+  Unsettled : ((p : ConfigFault) → file_at (at (Err p) ts nothing) ≡ Err p) → ((t : Located) (e : ConfigFault) → t.word ≡ End → file_at (at (Ok t) ts nothing) ≡ Err e → AtEnd ts t.at e) → ((t : Located) (w : Written) → t.word ≡ End → file_at (at (Ok t) ts nothing) ≡ Ok w → Done ts) → Judged ts
+
+no_draft : {A : Type 0} (e : ConfigFault) (w : Written) (r : Result Written ConfigFault) → r ≡ Err e → r ≡ Ok w → A
+no_draft e w r p q = absurd cc
 
 same_err : (d e : ConfigFault) (r : Result Written ConfigFault) → r ≡ Err d → r ≡ Err e → e ≡ d
 same_err d e r p q = cc
@@ -147,6 +150,7 @@ module _ (ts : List Located) (k : Takes Always Plain (λ _. list_of section_at) 
   none_left : Judged (k.a ++ [])
   none_left = Unsettled (λ p. goes (Err p) [] ∙ ap (λ r. r >>= judged k.x) (end_none p k.after))
       (λ t e w h. inl (same_err (record { kind = BadShape; at = t.at }) e (file_at (at (Ok t) (k.a ++ []) nothing)) (goes (Ok t) [] ∙ ap (λ r. r >>= judged k.x) (end_end t k.after w)) h))
+      (λ t w e h. no_draft (record { kind = BadShape; at = t.at }) w (file_at (at (Ok t) (k.a ++ []) nothing)) (goes (Ok t) [] ∙ ap (λ r. r >>= judged k.x) (end_end t k.after e)) h)
 
   stop_wants : (c : Located) → is_mark FullStop c.word ≡ true → (p : ConfigFault) → file_at (at (Err p) (k.a ++ c ∷ []) nothing) ≡ Err p
   stop_wants c is p = goes (Err p) (c ∷ []) ∙ ap (λ r. r >>= judged k.x) (stop_none c k.after p is)
@@ -166,6 +170,7 @@ module _ (ts : List Located) (k : Takes Always Plain (λ _. list_of section_at) 
   stopped_by : (c : Located) (b : List Located) → is_mark FullStop c.word ≡ true → NoEnd b → Judged (k.a ++ c ∷ b)
   stopped_by c [] is no_end = Unsettled (stop_wants c is)
       (λ t e w h. last_fault (k.a ++ c ∷ []) (done c is) t e (eqb (length (written k.x k.after.met).apps) 0) (written k.x k.after.met) (sym (goes (Ok t) (c ∷ []) ∙ ap (λ r. r >>= judged k.x) (stop_end c k.after t is w)) ∙ h))
+      (λ t w e h. done c is)
   stopped_by c (d ∷ b) is no_end = By (k.a ++ c ∷ []) d b (record { kind = BadShape; at = d.at }) (sym (append_assoc k.a (c ∷ []) (d ∷ b)))
       (λ last rest. ap (λ (l : List Located). file_at (at last l nothing)) (append_assoc k.a (c ∷ []) (d ∷ rest)) ∙ goes last (c ∷ d ∷ rest) ∙ ap (λ r. r >>= judged k.x) (stop_more c k.after d last rest is no_end.0)) (Itself refl tt) (stop_wants c is)
 
@@ -182,6 +187,7 @@ judged_by ts no_end (Took k) = subst Judged (sym k.whole) (took_by ts k k.b (no_
 judged_by ts no_end (Failed k) = By k.a k.l k.b k.e k.whole (λ last rest. file_is (at last (k.a ++ k.l ∷ rest) nothing) ∙ ap (λ r. r >>= behind) (k.goes tt last rest tt)) k.stands (λ p. file_is (at (Err p) k.a nothing) ∙ ap (λ r. r >>= behind) (k.wants.more tt p tt))
 judged_by ts no_end (Asked w) = Unsettled (λ p. file_is (at (Err p) ts nothing) ∙ ap (λ r. r >>= behind) (w.more tt p tt))
     (λ t e is h. inl (same_err (record { kind = BadShape; at = t.at }) e (file_at (at (Ok t) ts nothing)) (file_is (at (Ok t) ts nothing) ∙ ap (λ r. r >>= behind) (w.end tt t is tt)) h))
+    (λ t d is h. no_draft (record { kind = BadShape; at = t.at }) d (file_at (at (Ok t) ts nothing)) (file_is (at (Ok t) ts nothing) ∙ ap (λ r. r >>= behind) (w.end tt t is tt)) h)
 
 -- ---- a file that keeps the limits is read
 
@@ -406,10 +412,33 @@ module _ (order : (sections : List Section) → (MaySections sections ↔ AreWit
         let same : e ≡ d = same_err d e (file_at (at s.last s.tokens nothing)) (ap (λ (ts : List Located). file_at (at s.last ts nothing)) whole ∙ goes s.last b) h in
         let begins = begins_by s.last refl a l b whole in
         Token a l short begins (well a (wants halt)) (not_well a l d goes stands (text_fine text a l begins)) (subst (λ (f : ConfigFault). Brings l.word (words a ++ l.word ∷ []) f.kind) (sym same) (brings_by l.word (words a ++ l.word ∷ []) d.kind (breaks a l d goes stands (text_clear text a l begins)) (λ no_name. told text a l begins no_name d goes stands))) (subst (λ (f : ConfigFault). StandsAt a l f) (sym same) stands)
-    fault_by e h (Unsettled more ends) = wanting_fault e s.last refl h more ends
+    fault_by e h (Unsettled more ends files) = wanting_fault e s.last refl h more ends
 
     pub file_fault : (e : ConfigFault) → file_at (at s.last s.tokens nothing) ≡ Err e → IsFaultOf text e
     file_fault e h = fault_by e h (judged_by s.tokens (no_end_by s.last refl) (sections_reader s.tokens nothing))
+
+    -- tokens that are read whole are in order, and a file that keeps the limits
+    abbrev Whole : Type 0
+    Whole = ((e : ConfigFault) → s.last ≡ Err e → ⊥) × IsWell (words s.tokens) × Done s.tokens
+
+    whole_end : (w : Written) (r : Result Located ConfigFault) → s.last ≡ r → file_at (at r s.tokens nothing) ≡ Ok w → ((p : ConfigFault) → file_at (at (Err p) s.tokens nothing) ≡ Err p) → ((t : Located) (w : Written) → t.word ≡ End → file_at (at (Ok t) s.tokens nothing) ≡ Ok w → Done s.tokens) → Whole
+    whole_end w (Err p) is h more files = no_draft p w (file_at (at (Err p) s.tokens nothing)) (more p) h
+    whole_end w (Ok t) is h more files = (λ e wrong. (let both : Ok t ≡ Err e = sym is ∙ wrong in absurd cc), well s.tokens (more halt), files t w (ap (λ (t : Located). t.word) (ended_so t is).0) h)
+
+    whole_by : (w : Written) → file_at (at s.last s.tokens nothing) ≡ Ok w → Judged s.tokens → Whole
+    whole_by w h (By a l b d whole goes stands wants) = no_draft d w (file_at (at s.last s.tokens nothing)) (ap (λ (ts : List Located). file_at (at s.last ts nothing)) whole ∙ goes s.last b) h
+    whole_by w h (Unsettled more ends files) = whole_end w s.last refl h more files
+
+    pub whole_read : (w : Written) → file_at (at s.last s.tokens nothing) ≡ Ok w → Whole
+    whole_read w h = whole_by w h (judged_by s.tokens (no_end_by s.last refl) (sections_reader s.tokens nothing))
+
+    -- if none is listed, there is a fault
+    pub listed_read : (is : IsWithin (words s.tokens)) → apps_in is.sections ≡ 0 → s.last ≡ Ok (end_of (length text)) → (w : Written) → file_at (at s.last s.tokens nothing) ≡ Ok w → ⊥
+    listed_read is none last w h =
+        let end = end_of (length text) in
+        let read = within_judged end s.tokens is.sections refl is.file is.within in
+        let fault : file_at (at (Ok end) s.tokens nothing) ≡ fails NoDistributed end.at = read ∙ ap (λ (c : Bool). cond c (fails NoDistributed end.at) (Ok (written is.sections (nodes_in is.sections)))) (eq-eqb (apps_in is.sections) 0 none) in
+        no_draft (record { kind = NoDistributed; at = end.at }) w (file_at (at (Ok end) s.tokens nothing)) fault (subst (λ (r : Result Located ConfigFault). file_at (at r s.tokens nothing) ≡ Ok w) last h)
 
   pub text_fault : (text : List ℕ) (s : Stream) → s ≡ tokens_of (length text) 0 text → IfOk s.last (λ t. t ≡ end_of (length text)) → ((ts : List Located) → (AreTokensOf text ts ↔ (s ≡ ended_by (length text) ts)))
       → ((ts : List Located) (e : ConfigFault) → (StopAt 0 0 text ts e ↔ (s ≡ stopped ts e))) → (e : ConfigFault) → draft_at text ≡ Err e → IsFaultOf text e

@@ -24,3 +24,4 @@ pub mod Fewer
 pub mod Order
 pub mod Files
 pub mod Alone
+pub mod Only
