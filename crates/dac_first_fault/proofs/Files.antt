@@ -29,7 +29,7 @@ use Rattle.dac_first_fault.proofs.Begun.{halt, by_pair}
 use Rattle.dac_first_fault.proofs.BegunSections.{file_begun}
 use Rattle.dac_first_fault.proofs.Held.{IsQuiet, QuietBehind, Stops, Lone, Had, Holds}
 use Rattle.dac_first_fault.proofs.HeldSections.{AreSections, sections_held}
-use Rattle.dac_first_fault.proofs.Past.{OfName, Fine, fine_front, Met}
+use Rattle.dac_first_fault.proofs.Past.{Unkept, Fine, fine_front, Met}
 use Rattle.dac_first_fault.proofs.PastSections.{sections_met}
 use Rattle.dac_first_fault.proofs.Spared.{Strict, sections_so, strictly_so}
 use Rattle.dac_first_fault.proofs.Loosely.{file_loose, sections_strict, file_strict}
@@ -239,7 +239,7 @@ module _ (order : (sections : List Section) → (MaySections sections ↔ AreWit
 
   -- reading a file gives a fault that a name brings whose limit it doesn't keep, or that nobody is listed
   file_read : (end : Located) (Bad : ℕ → Type 0) (Kept : FaultKind → Type 0) (ts : List Located) (sections : List Section) (e : ConfigFault) → end.word ≡ End → IsLooseFile Kept (words ts) sections → Keeps Kept sections → Fine Bad ts → file_at (at (Ok end) ts nothing) ≡ Err e
-      → OfName Bad Kept e.kind e.at ⊎ (e ≡ record { kind = NoDistributed; at = end.at })
+      → Unkept Bad Kept e.kind e.at ⊎ (e ≡ record { kind = NoDistributed; at = end.at })
   file_read end Bad Kept ts sections e w file keep fine h =
       let c = ended ts file.0 (Mark FullStop) file.1 in
       let list : IsListOf (IsLooseSection Kept) (words c.front) sections = subst (λ (l : List Word). IsListOf (IsLooseSection Kept) l sections) (sym c.first) file.2 in
@@ -254,11 +254,11 @@ module _ (order : (sections : List Section) → (MaySections sections ↔ AreWit
       nobody true w h = same_err (record { kind = NoDistributed; at = end.at }) e (fails NoDistributed end.at) refl h
       nobody false w h = absurd cc
 
-      by : (c : Located) → is_mark FullStop c.word ≡ true → (r : Result (List Section × State) ConfigFault) → Met (Ok end) Bad Kept sections (c ∷ []) after r → (r >>= behind) ≡ Err e → OfName Bad Kept e.kind e.at ⊎ (e ≡ record { kind = NoDistributed; at = end.at })
+      by : (c : Located) → is_mark FullStop c.word ≡ true → (r : Result (List Section × State) ConfigFault) → Met (Ok end) Bad Kept sections (c ∷ []) after r → (r >>= behind) ≡ Err e → Unkept Bad Kept e.kind e.at ⊎ (e ≡ record { kind = NoDistributed; at = end.at })
       by c stop (Ok y) m h =
           let read : behind y ≡ judged sections (end.at, at (Ok end) [] after) = ap behind m ∙ ap (λ r. r >>= judged sections) (stop_end c after end stop w) in
           inr (nobody (eqb (length (written sections after.met).apps) 0) (written sections after.met) (sym read ∙ h))
-      by c stop (Err d) m h = inl (subst (λ (f : ConfigFault). OfName Bad Kept f.kind f.at) (sym (same_err d e (Err d) refl h)) m)
+      by c stop (Err d) m h = inl (subst (λ (f : ConfigFault). Unkept Bad Kept f.kind f.at) (sym (same_err d e (Err d) refl h)) m)
 
   placed_fine : (bad : ℕ) (ws : List Word) → Fine (At bad) (map (place_at (suc bad)) ws)
   placed_fine bad [] = tt
@@ -266,7 +266,7 @@ module _ (order : (sections : List Section) → (MaySections sections ↔ AreWit
 
   -- what reading makes of a file that goes on behind the token of the fault
   module _ (a : List Located) (l : Located) (e : ConfigFault) (fault : (last : Result Located ConfigFault) (rest : List Located) → file_at (at last (a ++ l ∷ rest) nothing) ≡ Err e) (Bad : ℕ → Type 0) (Kept : FaultKind → Type 0) where
-    goes_on : (place : ℕ) (more : List Word) (sections : List Section) → IsLooseFile Kept ((words a ++ l.word ∷ []) ++ more) sections → Keeps Kept sections → Fine Bad (a ++ l ∷ map (place_at place) more) → OfName Bad Kept e.kind e.at
+    goes_on : (place : ℕ) (more : List Word) (sections : List Section) → IsLooseFile Kept ((words a ++ l.word ∷ []) ++ more) sections → Keeps Kept sections → Fine Bad (a ++ l ∷ map (place_at place) more) → Unkept Bad Kept e.kind e.at
     goes_on place more sections file keep fine =
         let rest = map (place_at place) more in
         let same : words (a ++ l ∷ rest) ≡ (words a ++ l.word ∷ []) ++ more = words_append a (l ∷ rest) ∙ ap (λ (m : List Word). words a ++ l.word ∷ m) (placed place more) ∙ sym (append_assoc (words a) (l.word ∷ []) more) in
@@ -311,7 +311,7 @@ module _ (order : (sections : List Section) → (MaySections sections ↔ AreWit
   none_loosely : (a : List Located) (l : Located) (e : ConfigFault) → ((last : Result Located ConfigFault) (rest : List Located) → file_at (at last (a ++ l ∷ rest) nothing) ≡ Err e) → e ≡ record { kind = BadShape; at = l.at } → IsNoName l.word → Fine (At l.at) a → CanBeginLoosely (words a ++ l.word ∷ []) → ⊥
   none_loosely a l e fault is no_name fine c =
       let all = fine_both (At l.at) a (l ∷ map (place_at (suc l.at)) c.more) fine (λ name same. absurd (subst IsNoName same no_name), placed_fine l.at c.more) in
-      (subst (λ (f : ConfigFault). OfName (At l.at) NoKind f.kind f.at) is (goes_on a l e fault (At l.at) NoKind (suc l.at) c.more c.sections c.file (sections_so NoKind (λ kind limit no. no) c.sections) all)).0 refl
+      (subst (λ (f : ConfigFault). Unkept (At l.at) NoKind f.kind f.at) is (goes_on a l e fault (At l.at) NoKind (suc l.at) c.more c.sections c.file (sections_so NoKind (λ kind limit no. no) c.sections) all)).0 refl
 
   -- with what a token spoils that is no name a file goes on loosely
   spoilt_so : (bad : ℕ) (a : List Located) (l : Located) (e : ConfigFault) → ((last : Result Located ConfigFault) (rest : List Located) → file_at (at last (a ++ l ∷ rest) nothing) ≡ Err e) → Lone bad NoKind (a ++ l ∷ []) → Stops bad NoKind e.kind e.at → (IsQuiet l.word → ⊥) → CanBeginLoosely (words a ++ l.word ∷ [])
@@ -383,9 +383,9 @@ module _ (order : (sections : List Section) → (MaySections sections ↔ AreWit
     begins_by (Ok t) is a l b whole = record { rest = b; is = inl (subst (λ (ts : List Located). AreTokensOf text ts) (whole ∙ sym (append_assoc a (l ∷ []) b)) (ended_so t is).1) }
     begins_by (Err p) is a l b whole = record { rest = b; is = inr (p, subst (λ (ts : List Located). StopAt 0 0 text ts p) (whole ∙ sym (append_assoc a (l ∷ []) b)) (stopped_so p is)) }
 
-    ends_no_file : (sections : List Section) (e : ConfigFault) → e ≡ record { kind = BadShape; at = length text } → OfName (At (length text)) Strict e.kind e.at ⊎ (e ≡ record { kind = NoDistributed; at = length text }) → ⊥
+    ends_no_file : (sections : List Section) (e : ConfigFault) → e ≡ record { kind = BadShape; at = length text } → Unkept (At (length text)) Strict e.kind e.at ⊎ (e ≡ record { kind = NoDistributed; at = length text }) → ⊥
     ends_no_file sections e is read = elim read [
-      | inl of ↦ (subst (λ (f : ConfigFault). OfName (At (length text)) Strict f.kind f.at) is of).0 refl
+      | inl of ↦ (subst (λ (f : ConfigFault). Unkept (At (length text)) Strict f.kind f.at) is of).0 refl
       | inr nobody ↦ let kinds : BadShape ≡ NoDistributed = ap (λ (f : ConfigFault). f.kind) (sym is ∙ nobody) in absurd cc
     ]
 

@@ -1,4 +1,4 @@
--- Parameters, sections and a whole file that keep the limits that are bound, up to the last name.
+-- Parameters and sections that keep the limits that are bound, up to the last word that isn't quiet.
 use Rattle.std.proofs.Common.{◌≡◌, ◌≢◌, ℕ, zero, suc, Bool, true, false, cond, List, [], ◌∷◌, ◌++◌, Option, Some, None, Result, Ok, Err, refl, sym, ap, subst, ◌∙◌, inr, codes, inl, ◌≤◌}
 use Rattle.std.specs.Str.{bytes_eq}
 use Rattle.dac_tokens.specs.declared.fault.ConfigFault.{ConfigFault}

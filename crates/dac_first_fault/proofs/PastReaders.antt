@@ -1,4 +1,4 @@
--- Nodes, node lists, applications and permissions are read, or a name in them breaks a limit that it isn't to keep.
+-- Nodes, node lists, applications and permissions are read, or their fault is of a limit or shape that isn't kept.
 use Rattle.std.proofs.Common.{◌≡◌, ℕ, ◌<◌, ◌≤◌, Bool, true, false, not, ◌&&◌, cond, eqb, ltb, leb, List, [], ◌∷◌, ◌++◌, length, map, Result, Ok, refl, sym, ap, subst, ◌∙◌, append_assoc, arith, codes, inl, inr}
 use Rattle.std.proofs.lemmas.Bool.{lt-ltb, le-ltb, eq-eqb, ltb-true, leb-true}
 use Rattle.dac_tokens.specs.declared.fault.ConfigFault.{ConfigFault}

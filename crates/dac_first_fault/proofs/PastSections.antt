@@ -1,4 +1,4 @@
--- Parameters and sections are read, or a name in them breaks a limit that it isn't to keep.
+-- Parameters and sections are read, or their fault is of a limit or shape that isn't kept.
 use Rattle.std.proofs.Common.{◌≡◌, ℕ, Bool, true, false, cond, List, [], ◌∷◌, ◌++◌, Option, None, Some, ◌≢◌, Result, Ok, refl, sym, ap, subst, ◌∙◌, codes, arith, inl, inr}
 use Rattle.std.specs.Str.{bytes_eq}
 use Rattle.dac_tokens.specs.declared.fault.ConfigFault.{ConfigFault}

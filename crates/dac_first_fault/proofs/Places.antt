@@ -1,5 +1,5 @@
 -- Where the names of a text stand, and where a fault that they don't bring.
-use Rattle.std.proofs.Common.{◌≡◌, ℕ, ◌+◌, ◌<◌, ◌≤◌, List, [], ◌∷◌, ◌++◌, length, refl, sym, ap, subst, ◌∙◌, append_assoc, length-append, arith, inl, inr, true, false, Bool}
+use Rattle.std.proofs.Common.{◌≡◌, ℕ, ◌+◌, ◌<◌, ◌≤◌, List, [], ◌∷◌, ◌++◌, length, refl, sym, ap, subst, ◌∙◌, append_assoc, length-append, arith, inl, inr, true, false}
 use Rattle.std.specs.Prelude.{◌⊎◌, All}
 use Rattle.std.specs.Char.{IsAsciiDigit, IsAsciiLowercase}
 use Rattle.std.proofs.lemmas.List.Elements.{All-head, All-tail}
@@ -11,7 +11,7 @@ use Rattle.dac_tokens.specs.Words.{Word, Mark, Name, Number, Text, End, Located}
 use Rattle.dac_tokens.specs.TokenGrammar.{AreTokensOf, AreSpelled, Spells, Begins, depth_behind}
 use Rattle.dac_tokens.specs.TokenFaults.{StopAt}
 use Rattle.dac_first_fault.specs.FirstFault.{StandsAt, Itself, InList, InTuple, CanBring, IsNoName, BeginsWith, Only, Before, IsOfName, rank}
-use Rattle.dac_first_fault.proofs.Past.{OfName, Fine}
+use Rattle.dac_first_fault.proofs.Past.{Unkept, Fine}
 use Rattle.dac_first_fault.proofs.Held.{Frees, Stops}
 use Rattle.dac_first_fault.proofs.Spared.{Strict}
 
@@ -57,7 +57,7 @@ last_named P [] w (v ∷ named) rest loud e all = none_behind named rest (cons_t
 last_named P (u ∷ a) w (v ∷ named) rest loud e all = last_named P a w named rest loud (cons_tail u v (a ++ w ∷ []) (named ++ rest) e) all
 
 -- a fault at a token that is no name is none of a name
-kind_not : (k : FaultKind) (w : Word) (bad place : ℕ) → place ≡ bad → CanBring k w → IsNoName w → OfName (At bad) Strict k place → ⊥
+kind_not : (k : FaultKind) (w : Word) (bad place : ℕ) → place ≡ bad → CanBring k w → IsNoName w → Unkept (At bad) Strict k place → ⊥
 kind_not kind.BadShape w bad place e can plain of = of.0 e
 kind_not kind.TwiceApp w bad place e can plain of = absurd (subst IsNoName can.1 plain)
 kind_not kind.TwiceInList w bad place e can plain of = absurd (subst IsNoName can.1 plain)
@@ -68,10 +68,10 @@ kind_not kind.Unsupported w bad place e can plain of = of tt
 kind_not kind.NumberTooLarge w bad place e can plain of = of tt
 kind_not _ w bad place e can plain of = absurd can
 
-pub not_name : (a : List Located) (l : Located) (e : ConfigFault) → StandsAt a l e → IsNoName l.word → OfName (At l.at) Strict e.kind e.at → ⊥
+pub not_name : (a : List Located) (l : Located) (e : ConfigFault) → StandsAt a l e → IsNoName l.word → Unkept (At l.at) Strict e.kind e.at → ⊥
 not_name a l e (Itself place can) plain of = kind_not e.kind l.word l.at e.at place can plain of
-not_name a l e (InList front o is w v f) plain of = (subst (λ (f : ConfigFault). OfName (At l.at) Strict f.kind f.at) f of) tt
-not_name a l e (InTuple front o is w v f) plain of = (subst (λ (f : ConfigFault). OfName (At l.at) Strict f.kind f.at) f of) tt
+not_name a l e (InList front o is w v f) plain of = (subst (λ (f : ConfigFault). Unkept (At l.at) Strict f.kind f.at) f of) tt
+not_name a l e (InTuple front o is w v f) plain of = (subst (λ (f : ConfigFault). Unkept (At l.at) Strict f.kind f.at) f of) tt
 
 -- a fault of shape stands at its token
 pub shape_place : (a : List Located) (l : Located) (e : ConfigFault) → StandsAt a l e → e.kind ≡ kind.BadShape → e.at ≡ l.at
@@ -80,7 +80,7 @@ shape_place a l e (InList front o parts w v f) is = let wrong : kind.EmptyList �
 shape_place a l e (InTuple front o parts w v f) is = let wrong : kind.EmptyTuple ≡ kind.BadShape = sym (ap (λ (f : ConfigFault). f.kind) f) ∙ is in absurd cc
 
 -- a fault breaks its own limit
-pub not_kept : (k : FaultKind) (place : ℕ) → OfName Nowhere (Only k) k place → ⊥
+pub not_kept : (k : FaultKind) (place : ℕ) → Unkept Nowhere (Only k) k place → ⊥
 not_kept kind.BadShape place of = of.1 refl
 not_kept kind.TwiceApp place of = of refl
 not_kept kind.TwiceInList place of = of refl
