@@ -1,4 +1,4 @@
--- The law of the first fault admits one fault alone, unless a token brings it that is no name.
+-- The law of the first fault admits one fault alone.
 use Rattle.std.proofs.Common.{◌≡◌, ℕ, zero, suc, ◌<◌, ◌≤◌, Bool, true, false, ltb, List, [], ◌∷◌, ◌++◌, length, Result, Ok, Err, refl, sym, ap, subst, ◌∙◌, append_assoc, append-nil, arith, inl, inr}
 use Rattle.std.specs.Prelude.{◌⊎◌, ◌↔◌}
 use Rattle.std.proofs.lemmas.Bool.{ltb-true, ltb-false}
@@ -7,13 +7,14 @@ use Rattle.dac_tokens.specs.declared.fault.FaultKind.{FaultKind}
 use Rattle.dac_tokens.specs.declared.fault.FaultKind.TheVariants as kind
 use Rattle.dac_tokens.specs.declared.fault.ConfigFault.{ConfigFault}
 use Rattle.dac_tokens.specs.declared.token.Symbol.{Symbol}
+use Rattle.dac_tokens.specs.declared.token.Symbol.TheVariants.{CloseList, CloseTuple}
 use Rattle.dac_tokens.specs.Words.{Word, Mark, Name, Number, Text, End, Located}
 use Rattle.dac_tokens.specs.Stream.{Stream, ended as ended_by, stopped}
 use Rattle.dac_tokens.specs.TokenGrammar.{AreTokensOf}
 use Rattle.dac_tokens.specs.TokenFaults.{StopAt}
 use Rattle.dac_shapes.specs.Written.{Section}
 use Rattle.dac_shapes.specs.Grammar.{IsFile}
-use Rattle.dac_first_fault.specs.FirstFault.{StandsAt, Itself, InList, InTuple, CanBring, words, IsWell, IsWithin, IsNoName, Only, Before, IsOfName, Breaks, rank, BeginsWith, IsFaultOf, Long, NoToken, Token, Ends, Nobody, ShareToken}
+use Rattle.dac_first_fault.specs.FirstFault.{StandsAt, Itself, InList, InTuple, CanBring, words, IsWell, IsWithin, IsNoName, Only, Before, IsOfName, Breaks, rank, BeginsWith, IsFaultOf, Long, NoToken, Token, Ends, Nobody, CanBeginLoosely, Spoils, Brings, apps_in}
 use Rattle.dac_first_fault.proofs.Order.{words_append, well_so_far}
 use Rattle.dac_first_fault.proofs.Places.{name_or_not}
 use Rattle.dac_first_fault.proofs.Fewer.{keeps_fewer}
@@ -90,10 +91,120 @@ one_kind ws j k b c fits other = by (ltb (rank j) (rank k)) (ltb (rank k) (rank 
 same_fault : (e f : ConfigFault) → e.kind ≡ f.kind → e.at ≡ f.at → e ≡ f
 same_fault e f k n = ap (λ (k : FaultKind). record { kind = k; at = e.at }) k ∙ ap (λ (n : ℕ). record { kind = f.kind; at = n }) n
 
--- ---- where two tokens stand among the same ones
+-- ---- one token that is no name brings one fault
+
+-- what a token that is no name can bring at its own place
+abbrev IsPlainKind : FaultKind → Word → Type 0
+IsPlainKind k w = (k ≡ kind.BadShape) ⊎ (((k ≡ kind.Unsupported) × (w ≡ Text)) ⊎ ((k ≡ kind.NumberTooLarge) × ((digits : List ℕ) × (w ≡ Number false digits))))
+
+plain_kind : (k : FaultKind) (w : Word) → CanBring k w → IsNoName w → IsPlainKind k w
+plain_kind kind.BadShape w can plain = inl refl
+plain_kind kind.Unsupported w can plain = inr (inl (refl, can))
+plain_kind kind.NumberTooLarge w can plain = inr (inr (refl, (can.0, can.1)))
+plain_kind kind.NameTooLong w can plain = absurd (subst IsNoName can.1 plain)
+plain_kind kind.TwiceApp w can plain = absurd (subst IsNoName can.1 plain)
+plain_kind kind.TwiceInList w can plain = absurd (subst IsNoName can.1 plain)
+plain_kind kind.TooManyApps w can plain = absurd (subst IsNoName can.1 plain)
+plain_kind kind.TooManyNodes w can plain = absurd (subst IsNoName can.1 plain)
+plain_kind _ w can plain = absurd can
+
+module _ (ws : List Word) (w : Word) where
+  no_text : (digits : List ℕ) → w ≡ Text → w ≡ Number false digits → ⊥
+  no_text digits a b = let wrong : Text ≡ Number false digits = sym a ∙ b in absurd cc
+
+  no_closing : (k : FaultKind) (x : Symbol) → w ≡ Mark x → IsPlainKind k w → k ≡ kind.BadShape
+  no_closing k x is plain = elim plain [
+    | inl shape ↦ shape
+    | inr other ↦ elim other [
+      | inl text ↦ let wrong : Mark x ≡ Text = sym is ∙ text.1 in absurd cc
+      | inr number ↦ let wrong : Mark x ≡ Number false number.1.0 = sym is ∙ number.1.1 in absurd cc
+    ]
+  ]
+
+  -- one kind is told of these words
+  one_plain : (j k : FaultKind) → IsPlainKind j w → IsPlainKind k w → Spoils ws j → Spoils ws k → j ≡ k
+  one_plain j k a b told other = elim a [
+    | inl shape ↦ elim b [
+      | inl same ↦ shape ∙ sym same
+      | inr some ↦ absurd (subst (λ (f : FaultKind). Spoils ws f) shape told (loosely k some other))
+    ]
+    | inr some ↦ elim b [
+      | inl shape ↦ absurd (subst (λ (f : FaultKind). Spoils ws f) shape other (loosely j some told))
+      | inr more ↦ both j k some more
+    ]
+  ]
+    where
+      loosely : (k : FaultKind) → ((k ≡ kind.Unsupported) × (w ≡ Text)) ⊎ ((k ≡ kind.NumberTooLarge) × ((digits : List ℕ) × (w ≡ Number false digits))) → Spoils ws k → CanBeginLoosely ws
+      loosely k some told = elim some [
+        | inl text ↦ subst (λ (f : FaultKind). Spoils ws f) text.0 told
+        | inr number ↦ subst (λ (f : FaultKind). Spoils ws f) number.0 told
+      ]
+
+      both : (j k : FaultKind) → ((j ≡ kind.Unsupported) × (w ≡ Text)) ⊎ ((j ≡ kind.NumberTooLarge) × ((digits : List ℕ) × (w ≡ Number false digits))) → ((k ≡ kind.Unsupported) × (w ≡ Text)) ⊎ ((k ≡ kind.NumberTooLarge) × ((digits : List ℕ) × (w ≡ Number false digits))) → j ≡ k
+      both j k a b = elim a [
+        | inl text ↦ elim b [
+          | inl same ↦ text.0 ∙ sym same.0
+          | inr number ↦ absurd (no_text number.1.0 text.1 number.1.1)
+        ]
+        | inr number ↦ elim b [
+          | inl text ↦ absurd (no_text number.1.0 text.1 number.1.1)
+          | inr same ↦ number.0 ∙ sym same.0
+        ]
+      ]
 
 cons_both : (x y : Located) (xs ys : List Located) → x ∷ xs ≡ y ∷ ys → (x ≡ y) × (xs ≡ ys)
 cons_both x y xs ys e = (cc, cc)
+
+none_more : (a : List Located) (l : Located) → [] ≡ a ++ l ∷ [] → ⊥
+none_more [] l e = cc
+none_more (u ∷ a) l e = cc
+
+spoils_of : (w : Word) (ws : List Word) (k : FaultKind) → IsNoName w → Brings w ws k → Spoils ws k
+spoils_of (Name name) ws k no_name brings = absurd no_name
+spoils_of (Mark symbol) ws k no_name brings = brings
+spoils_of (Number negative digits) ws k no_name brings = brings
+spoils_of Text ws k no_name brings = brings
+spoils_of End ws k no_name brings = brings
+
+-- the last of tokens is one
+last_same : (a b : List Located) (o p : Located) → a ++ o ∷ [] ≡ b ++ p ∷ [] → o ≡ p
+last_same [] [] o p e = (cons_both o p [] [] e).0
+last_same [] (v ∷ b) o p e = absurd (none_more b p (cons_both o v [] (b ++ p ∷ []) e).1)
+last_same (u ∷ a) [] o p e = absurd (none_more a o (sym (cons_both u p (a ++ o ∷ []) [] e).1))
+last_same (u ∷ a) (v ∷ b) o p e = last_same a b o p (cons_both u v (a ++ o ∷ []) (b ++ p ∷ []) e).1
+
+-- a fault at a closing bracket, or at the one that it closes, tells them apart
+module _ (before : List Located) (t : Located) (no_name : IsNoName t.word) where
+  abbrev ws : List Word
+  ws = words before ++ t.word ∷ []
+
+  shape_not : (e f : ConfigFault) (x : Symbol) → t.word ≡ Mark x → CanBring e.kind t.word → Spoils ws e.kind → CanBeginLoosely ws → ⊥
+  shape_not e f x is can told loosely = subst (λ (k : FaultKind). Spoils ws k) (no_closing ws t.word e.kind x is (plain_kind e.kind t.word can no_name)) told loosely
+
+  no_two : (x y : Symbol) → t.word ≡ Mark x → t.word ≡ Mark y → x ≡ y
+  no_two x y a b = let same : Mark x ≡ Mark y = sym a ∙ b in cc
+
+  list_told : (e : ConfigFault) (o : Located) → e ≡ record { kind = kind.EmptyList; at = o.at } → Spoils ws e.kind → CanBeginLoosely ws
+  list_told e o is told = subst (λ (f : ConfigFault). Spoils ws f.kind) is told
+
+  tuple_told : (e : ConfigFault) (o : Located) → e ≡ record { kind = kind.EmptyTuple; at = o.at } → Spoils ws e.kind → CanBeginLoosely ws
+  tuple_told e o is told = subst (λ (f : ConfigFault). Spoils ws f.kind) is told
+
+  closes_one : t.word ≡ Mark CloseList → t.word ≡ Mark CloseTuple → ⊥
+  closes_one a b = let wrong : CloseList ≡ CloseTuple = no_two CloseList CloseTuple a b in absurd cc
+
+  one_here : (e f : ConfigFault) → Spoils ws e.kind → Spoils ws f.kind → StandsAt before t e → StandsAt before t f → e ≡ f
+  one_here e f a b (Itself p can) (Itself q other) = same_fault e f (one_plain ws t.word e.kind f.kind (plain_kind e.kind t.word can no_name) (plain_kind f.kind t.word other no_name) a b) (p ∙ sym q)
+  one_here e f a b (Itself p can) (InList front o parts w v k) = absurd (shape_not e f CloseList v can a (list_told f o k b))
+  one_here e f a b (Itself p can) (InTuple front o parts w v k) = absurd (shape_not e f CloseTuple v can a (tuple_told f o k b))
+  one_here e f a b (InList front o parts w v k) (Itself q can) = absurd (shape_not f e CloseList v can b (list_told e o k a))
+  one_here e f a b (InTuple front o parts w v k) (Itself q can) = absurd (shape_not f e CloseTuple v can b (tuple_told e o k a))
+  one_here e f a b (InList front o parts w v k) (InList other p pieces x y m) = k ∙ ap (λ (u : Located). record { kind = kind.EmptyList; at = u.at }) (last_same front other o p (sym parts ∙ pieces)) ∙ sym m
+  one_here e f a b (InTuple front o parts w v k) (InTuple other p pieces x y m) = k ∙ ap (λ (u : Located). record { kind = kind.EmptyTuple; at = u.at }) (last_same front other o p (sym parts ∙ pieces)) ∙ sym m
+  one_here e f a b (InList front o parts w v k) (InTuple other p pieces x y m) = absurd (closes_one v y)
+  one_here e f a b (InTuple front o parts w v k) (InList other p pieces x y m) = absurd (closes_one y v)
+
+-- ---- where two tokens stand among the same ones
 
 data Order (a : List Located) (l : Located) (c : List Located) (m : Located) : Type 0 where
   Same : a ≡ c → l ≡ m → Order a l c m
@@ -131,7 +242,7 @@ well_within ws is =
 
 module _ (text : List ℕ) (s : Stream) (spelled : (ts : List Located) → (AreTokensOf text ts ↔ (s ≡ ended_by (length text) ts))) (stops : (ts : List Located) (e : ConfigFault) → (StopAt 0 0 text ts e ↔ (s ≡ stopped ts e))) where
   -- a token brings it
-  record ByToken (e : ConfigFault) : Type 0 where
+  pub record ByToken (e : ConfigFault) : Type 0 where
     pub before : List Located
     pub t : Located
     pub rest : List Located
@@ -139,16 +250,16 @@ module _ (text : List ℕ) (s : Stream) (spelled : (ts : List Located) → (AreT
     pub begins : BeginsWith text (before ++ t ∷ [])
     pub well : IsWell (words before)
     pub not_well : IsWell (words before ++ t.word ∷ []) → ⊥
-    pub breaks : Breaks (words before ++ t.word ∷ []) e.kind
+    pub brings : Brings t.word (words before ++ t.word ∷ []) e.kind
     pub stands : StandsAt before t e
 
   -- what is behind all tokens brings it
-  data AtEnd (e : ConfigFault) : Type 0 where
+  pub data AtEnd (e : ConfigFault) : Type 0 where
     Stopped : s ≡ stopped s.tokens e → AtEnd e
     NoFile : s ≡ ended_by (length text) s.tokens → ((sections : List Section) → IsFile (words s.tokens) sections → ⊥) → e ≡ record { kind = kind.BadShape; at = length text } → AtEnd e
-    Empty : s ≡ ended_by (length text) s.tokens → IsWithin (words s.tokens) → e ≡ record { kind = kind.NoDistributed; at = length text } → AtEnd e
+    Empty : s ≡ ended_by (length text) s.tokens → IsWithin (words s.tokens) → ((is : IsWithin (words s.tokens)) → apps_in is.sections ≡ 0) → e ≡ record { kind = kind.NoDistributed; at = length text } → AtEnd e
 
-  data Cause (e : ConfigFault) : Type 0 where
+  pub data Cause (e : ConfigFault) : Type 0 where
     TooFar : 65536 < length text → e ≡ record { kind = kind.TooLong; at = 65536 } → Cause e
     Brought : length text ≤ 65536 → ByToken e → Cause e
     Final : length text ≤ 65536 → IsWell (words s.tokens) → AtEnd e → Cause e
@@ -168,22 +279,22 @@ module _ (text : List ℕ) (s : Stream) (spelled : (ts : List Located) → (AreT
   ended_so : (ts : List Located) → AreTokensOf text ts → s ≡ ended_by (length text) s.tokens
   ended_so ts is = (spelled ts).0 is ∙ ap (ended_by (length text)) (sym (tokens_in ts is))
 
-  cause_of : (e : ConfigFault) → IsFaultOf text e → Cause e
+  pub cause_of : (e : ConfigFault) → IsFaultOf text e → Cause e
   cause_of e (Long far is) = TooFar far is
   cause_of e (NoToken before short well stop) =
       let is = (stops before e).0 stop in
       let same = sym (tokens_of before e is) in
       Final short (subst (λ (ts : List Located). IsWell (words ts)) same well) (Stopped (is ∙ ap (λ (ts : List Located). stopped ts e) same))
-  cause_of e (Token before t short begins well not_well breaks stands) =
-      Brought short (record { before = before; t = t; rest = begins.rest; whole = tokens_with (before ++ t ∷ []) begins ∙ append_assoc before (t ∷ []) begins.rest; begins = begins; well = well; not_well = not_well; breaks = breaks; stands = stands })
+  cause_of e (Token before t short begins well not_well brings stands) =
+      Brought short (record { before = before; t = t; rest = begins.rest; whole = tokens_with (before ++ t ∷ []) begins ∙ append_assoc before (t ∷ []) begins.rest; begins = begins; well = well; not_well = not_well; brings = brings; stands = stands })
   cause_of e (Ends ts short tokens well none is) =
       let same = sym (tokens_in ts tokens) in
       Final short (subst (λ (ts : List Located). IsWell (words ts)) same well) (NoFile (ended_so ts tokens) (subst (λ (ts : List Located). (sections : List Section) → IsFile (words ts) sections → ⊥) same none) is)
   cause_of e (Nobody ts short tokens within none is) =
       let all : IsWithin (words s.tokens) = subst (λ (ts : List Located). IsWithin (words ts)) (sym (tokens_in ts tokens)) within in
-      Final short (well_within (words s.tokens) all) (Empty (ended_so ts tokens) all is)
+      Final short (well_within (words s.tokens) all) (Empty (ended_so ts tokens) all (subst (λ (ts : List Located). (is : IsWithin (words ts)) → apps_in is.sections ≡ 0) (sym (tokens_in ts tokens)) none) is)
 
-  not_final : (e : ConfigFault) → ByToken e → IsWell (words s.tokens) → ⊥
+  pub not_final : (e : ConfigFault) → ByToken e → IsWell (words s.tokens) → ⊥
   not_final e b w = b.not_well (well_to b.before b.t b.rest (subst (λ (ts : List Located). IsWell (words ts)) b.whole w))
 
   not_both : (e : ConfigFault) → s ≡ stopped s.tokens e → s ≡ ended_by (length text) s.tokens → ⊥
@@ -195,33 +306,36 @@ module _ (text : List ℕ) (s : Stream) (spelled : (ts : List Located) → (AreT
   one_end : (e f : ConfigFault) → AtEnd e → AtEnd f → e ≡ f
   one_end e f (Stopped a) (Stopped b) = err_same e f s.last (ap (λ (q : Stream). q.last) a) (ap (λ (q : Stream). q.last) b)
   one_end e f (Stopped a) (NoFile b none q) = absurd (not_both e a b)
-  one_end e f (Stopped a) (Empty b is q) = absurd (not_both e a b)
+  one_end e f (Stopped a) (Empty b is listed q) = absurd (not_both e a b)
   one_end e f (NoFile a none p) (Stopped b) = absurd (not_both f b a)
   one_end e f (NoFile a none p) (NoFile b other q) = p ∙ sym q
-  one_end e f (NoFile a none p) (Empty b is q) = absurd (none is.sections is.file)
-  one_end e f (Empty a is p) (Stopped b) = absurd (not_both f b a)
-  one_end e f (Empty a is p) (NoFile b none q) = absurd (none is.sections is.file)
-  one_end e f (Empty a is p) (Empty b other q) = p ∙ sym q
+  one_end e f (NoFile a none p) (Empty b is listed q) = absurd (none is.sections is.file)
+  one_end e f (Empty a is listed p) (Stopped b) = absurd (not_both f b a)
+  one_end e f (Empty a is listed p) (NoFile b none q) = absurd (none is.sections is.file)
+  one_end e f (Empty a is listed p) (Empty b other empty q) = p ∙ sym q
 
   -- one token brings both
-  shared : (e f : ConfigFault) (b : ByToken e) → Breaks (words b.before ++ b.t.word ∷ []) f.kind → StandsAt b.before b.t f → (e ≡ f) ⊎ ShareToken text e f
-  shared e f b breaks stands = elim (name_or_not b.t.word) [
+  shared : (e f : ConfigFault) (b : ByToken e) → Brings b.t.word (words b.before ++ b.t.word ∷ []) f.kind → StandsAt b.before b.t f → e ≡ f
+  shared e f b brings stands = elim (name_or_not b.t.word) [
     | inl n ↦
+        let ws = words b.before ++ b.t.word ∷ [] in
         let x = name_kind b.before b.t e n.0 n.1 b.stands in
         let y = name_kind b.before b.t f n.0 n.1 stands in
-        inl (same_fault e f (one_kind (words b.before ++ b.t.word ∷ []) e.kind f.kind b.breaks breaks x.1 y.1) (x.0 ∙ sym y.0))
-    | inr no_name ↦ inr (record { before = b.before; t = b.t; begins = b.begins; no_name = no_name; one = b.stands; other = stands })
+        same_fault e f (one_kind ws e.kind f.kind (subst (λ (w : Word). Brings w ws e.kind) n.1 b.brings) (subst (λ (w : Word). Brings w ws f.kind) n.1 brings) x.1 y.1) (x.0 ∙ sym y.0)
+    | inr no_name ↦
+        let ws = words b.before ++ b.t.word ∷ [] in
+        one_here b.before b.t no_name e f (spoils_of b.t.word ws e.kind no_name b.brings) (spoils_of b.t.word ws f.kind no_name brings) b.stands stands
   ]
 
-  one_token : (e f : ConfigFault) (b : ByToken e) (c : ByToken f) → Order b.before b.t c.before c.t → (e ≡ f) ⊎ ShareToken text e f
+  one_token : (e f : ConfigFault) (b : ByToken e) (c : ByToken f) → Order b.before b.t c.before c.t → e ≡ f
   one_token e f b c (Same p q) =
       let at_t = λ (P : List Located → Located → Type 0) (k : P c.before c.t). subst (λ (ts : List Located). P ts b.t) (sym p) (subst (λ (t : Located). P c.before t) (sym q) k) in
-      shared e f b (at_t (λ ts t. Breaks (words ts ++ t.word ∷ []) f.kind) c.breaks) (at_t (λ ts t. StandsAt ts t f) c.stands)
+      shared e f b (at_t (λ ts t. Brings t.word (words ts ++ t.word ∷ []) f.kind) c.brings) (at_t (λ ts t. StandsAt ts t f) c.stands)
   one_token e f b c (Earlier x p) = absurd (b.not_well (well_to b.before b.t x (subst (λ (ts : List Located). IsWell (words ts)) p c.well)))
   one_token e f b c (Later x p) = absurd (c.not_well (well_to c.before c.t x (subst (λ (ts : List Located). IsWell (words ts)) p b.well)))
 
-  one_cause : (e f : ConfigFault) → Cause e → Cause f → (e ≡ f) ⊎ ShareToken text e f
-  one_cause e f (TooFar a p) (TooFar b q) = inl (p ∙ sym q)
+  one_cause : (e f : ConfigFault) → Cause e → Cause f → e ≡ f
+  one_cause e f (TooFar a p) (TooFar b q) = p ∙ sym q
   one_cause e f (TooFar a p) (Brought short b) = absurd (omega (arith, a, short))
   one_cause e f (TooFar a p) (Final short w b) = absurd (omega (arith, a, short))
   one_cause e f (Brought short a) (TooFar b q) = absurd (omega (arith, b, short))
@@ -229,7 +343,7 @@ module _ (text : List ℕ) (s : Stream) (spelled : (ts : List Located) → (AreT
   one_cause e f (Brought short a) (Final other w b) = absurd (not_final e a w)
   one_cause e f (Final short w a) (TooFar b q) = absurd (omega (arith, b, short))
   one_cause e f (Final short w a) (Brought other b) = absurd (not_final f b w)
-  one_cause e f (Final short w a) (Final other v b) = inl (one_end e f a b)
+  one_cause e f (Final short w a) (Final other v b) = one_end e f a b
 
-  pub one_fault : (e f : ConfigFault) → IsFaultOf text e → IsFaultOf text f → (e ≡ f) ⊎ ShareToken text e f
+  pub one_fault : (e f : ConfigFault) → IsFaultOf text e → IsFaultOf text f → e ≡ f
   one_fault e f a b = one_cause e f (cause_of e a) (cause_of f b)

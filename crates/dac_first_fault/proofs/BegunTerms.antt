@@ -24,7 +24,7 @@ some_token = (record { word = End; at = 0 }, blank)
 abbrev AreTexts : List Word → Type 0
 AreTexts words = All (λ word. word ≡ Text) words
 
-text_is : (w : Word) → is_text w ≡ true → w ≡ Text
+pub text_is : (w : Word) → is_text w ≡ true → w ≡ Text
 text_is Text e = refl
 text_is (Mark x) e = absurd cc
 text_is (Name name) e = absurd cc

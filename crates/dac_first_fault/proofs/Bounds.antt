@@ -2,14 +2,13 @@
 use Rattle.std.proofs.Common.{ℕ, suc, ◌+◌, ◌≤◌, Bool, true, false, List, [], ◌∷◌, ◌++◌, arith}
 use Rattle.std.proofs.lemmas.List.Elements.{All-nil}
 use Rattle.dac_tokens.specs.declared.fault.FaultKind.{FaultKind}
-use Rattle.dac_tokens.specs.Words.{Located}
+use Rattle.dac_tokens.specs.declared.token.Symbol.TheVariants.{OpenList, CloseList, OpenTuple, CloseTuple, Comma, FullStop}
+use Rattle.dac_tokens.specs.Words.{Word, Mark, Name, Number, Text, End, Located}
 use Rattle.dac_shapes.specs.Written.{App, Param, Distributed, Permissions, Mandatory, Optional, Timeout, Section, Kernel}
 use Rattle.dac_shapes.specs.Limits.{Seen, nothing, AllMay, with_node, MayNode, with_nodes, MayNodes, MayGroups, listing, with_app, MayApp, with_permission, MayPermission, with_param, MayValue, MayParam, with_section, MaySection, MaySections}
 use Rattle.dac_first_fault.specs.Keeps.{NodeKeeps, NodesKeep, GroupsKeep, AppKeeps, PermissionKeeps, ValueKeeps, ParamKeeps, SectionKeeps, Keeps}
-use Rattle.dac_first_fault.specs.FirstFault.{IsNoName}
-use Rattle.dac_first_fault.proofs.Held.{Lone}
-use Rattle.dac_first_fault.proofs.Past.{Fine}
-use Rattle.dac_first_fault.proofs.Places.{At}
+use Rattle.dac_first_fault.proofs.Held.{IsQuiet, QuietBehind, Lone}
+use Rattle.dac_first_fault.proofs.Places.{Clear}
 
 -- ---- every limit
 
@@ -59,9 +58,26 @@ beyond (t ∷ ts) = suc (t.at + beyond ts)
 
 pub lone_beyond : (bad : ℕ) (Bound : FaultKind → Type 0) (ts : List Located) → beyond ts ≤ bad → Lone bad Bound ts
 lone_beyond bad Bound [] le = tt
-lone_beyond bad Bound (t ∷ ts) le = (λ name is e. absurd (omega (arith, e)), lone_beyond bad Bound ts (omega arith))
+lone_beyond bad Bound (t ∷ ts) le = (λ e. absurd (omega (arith, e)), lone_beyond bad Bound ts (omega arith))
 
 -- behind the last of tokens there is none
-pub lone_last : (bad : ℕ) (Bound : FaultKind → Type 0) (a : List Located) (l : Located) → Fine (At bad) a → Lone bad Bound (a ++ l ∷ [])
-lone_last bad Bound [] l fine = (λ name is e. All-nil IsNoName, tt)
-lone_last bad Bound (t ∷ a) l fine = (λ name is e. absurd (fine.0 name is e), lone_last bad Bound a l fine.1)
+quiet_none : (w : Word) → QuietBehind w []
+quiet_none (Mark OpenList) = All-nil IsQuiet
+quiet_none (Mark OpenTuple) = All-nil IsQuiet
+quiet_none (Mark CloseList) = All-nil IsQuiet
+quiet_none (Mark CloseTuple) = All-nil IsQuiet
+quiet_none (Mark Comma) = All-nil IsQuiet
+quiet_none (Mark FullStop) = All-nil IsQuiet
+quiet_none (Name name) = All-nil IsQuiet
+quiet_none (Number negative digits) = All-nil IsQuiet
+quiet_none Text = All-nil IsQuiet
+quiet_none End = All-nil IsQuiet
+
+pub lone_last : (bad : ℕ) (Bound : FaultKind → Type 0) (a : List Located) (l : Located) → Clear bad a → Lone bad Bound (a ++ l ∷ [])
+lone_last bad Bound [] l clear = (λ e. quiet_none l.word, tt)
+lone_last bad Bound (t ∷ a) l clear = (λ e. absurd (clear.0 e), lone_last bad Bound a l clear.1)
+
+-- and behind an opening bracket the last one alone
+pub lone_two : (bad : ℕ) (Bound : FaultKind → Type 0) (a : List Located) (o l : Located) → QuietBehind o.word (l ∷ []) → Clear bad a → Lone bad Bound (a ++ o ∷ l ∷ [])
+lone_two bad Bound [] o l quiet clear = (λ e. quiet, (λ e. quiet_none l.word, tt))
+lone_two bad Bound (t ∷ a) o l quiet clear = (λ e. absurd (clear.0 e), lone_two bad Bound a o l quiet clear.1)

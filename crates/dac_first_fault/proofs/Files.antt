@@ -1,10 +1,11 @@
 -- The fault of a whole file, and of a text.
 use Rattle.std.proofs.Common.{◌≡◌, ℕ, suc, ◌+◌, ◌≤◌, Bool, true, false, cond, eqb, ltb, List, [], ◌∷◌, ◌++◌, length, map, Result, Ok, Err, refl, sym, ap, subst, ◌∙◌, append_assoc, append-nil, arith, inl, inr}
-use Rattle.std.specs.Prelude.{◌⊎◌, ◌↔◌, IfOk}
-use Rattle.std.proofs.lemmas.Bool.{ltb-true, ltb-false, eqb-true}
+use Rattle.std.specs.Prelude.{◌⊎◌, ◌↔◌, IfOk, All}
+use Rattle.std.proofs.lemmas.List.Elements.{All-nil, All-cons, All-head, All-tail}
+use Rattle.std.proofs.lemmas.Bool.{ltb-true, ltb-false, eqb-true, eq-eqb}
 use Rattle.dac_tokens.specs.declared.fault.ConfigFault.{ConfigFault}
 use Rattle.dac_tokens.specs.declared.fault.FaultKind.{FaultKind}
-use Rattle.dac_tokens.specs.declared.fault.FaultKind.TheVariants.{BadShape, NoDistributed, TooLong}
+use Rattle.dac_tokens.specs.declared.fault.FaultKind.TheVariants.{BadShape, NoDistributed, TooLong, Unsupported, NumberTooLarge, NameTooLong, TwiceApp, TwiceInList, TooManyApps, TooManyNodes}
 use Rattle.dac_tokens.specs.declared.token.Symbol.TheVariants.{FullStop}
 use Rattle.dac_tokens.specs.Gives.{◌>>=◌}
 use Rattle.dac_tokens.specs.Words.{Word, Mark, Name, Number, Text, End, Located, is_end}
@@ -18,22 +19,44 @@ use Rattle.dac_shapes.specs.Grammar.{IsFile, IsSection, IsListOf}
 use Rattle.dac_shapes.specs.Shape.{State, fails, is_mark, list_of, section_at, end_at, file_at, draft_at}
 use Rattle.dac_shapes.specs.laws.AgainLists.{at, ended}
 use Rattle.dac_shapes.specs.laws.Again.{sections_again}
+use Rattle.dac_first_fault.specs.Loose.{IsLooseSection, IsLooseFile}
 use Rattle.dac_first_fault.specs.Keeps.{Keeps}
-use Rattle.dac_first_fault.specs.FirstFault.{StandsAt, Itself, words, CanBegin, Only, Before, IsOfName, Breaks, IsWell, IsWithin, IsNoName, apps_in, BeginsWith, IsFaultOf, Long, NoToken, Token, Ends, Nobody}
+use Rattle.dac_first_fault.specs.FirstFault.{StandsAt, Itself, InList, InTuple, words, CanBegin, CanBring, Only, Before, IsOfName, Breaks, NoKind, CanBeginLoosely, Spoils, Brings, IsWell, IsWithin, IsNoName, apps_in, BeginsWith, IsFaultOf, Long, NoToken, Token, Ends, Nobody}
 use Rattle.dac_first_fault.proofs.Outcomes.{Took, Failed, Asked, Takes, Always, Plain, Gives}
 use Rattle.dac_first_fault.proofs.Steps.{mark_is, symbol_yes, symbol_no, symbol_none, symbol_end}
 use Rattle.dac_first_fault.proofs.Sections.{sections_reader}
 use Rattle.dac_first_fault.proofs.Begun.{halt, by_pair}
 use Rattle.dac_first_fault.proofs.BegunSections.{file_begun}
-use Rattle.dac_first_fault.proofs.Held.{Had, Holds}
+use Rattle.dac_first_fault.proofs.Held.{IsQuiet, QuietBehind, Stops, Lone, Had, Holds}
 use Rattle.dac_first_fault.proofs.HeldSections.{AreSections, sections_held}
-use Rattle.dac_first_fault.proofs.Past.{OfName, Fine, fine_front, Met}
+use Rattle.dac_first_fault.proofs.Past.{Unkept, Fine, fine_front, Met}
 use Rattle.dac_first_fault.proofs.PastSections.{sections_met}
-use Rattle.dac_first_fault.proofs.Spared.{Unlimited, sections_so}
+use Rattle.dac_first_fault.proofs.Spared.{Strict, sections_so, strictly_so}
+use Rattle.dac_first_fault.proofs.Loosely.{file_loose, sections_strict, file_strict}
 use Rattle.dac_first_fault.proofs.Order.{words_append}
-use Rattle.dac_first_fault.proofs.Bounds.{Every, sections_may, beyond, lone_beyond, lone_last}
-use Rattle.dac_first_fault.proofs.Places.{At, Nowhere, name_of_it, stops_so, fine_both, fine_nowhere, not_name, not_kept, name_or_not, last_named, spelled_fine, text_fine}
+use Rattle.dac_first_fault.proofs.Fewer.{keeps_fewer}
+use Rattle.dac_first_fault.proofs.Bounds.{Every, sections_may, beyond, lone_beyond, lone_last, lone_two}
+use Rattle.dac_first_fault.proofs.Places.{At, Nowhere, Strictly, Clear, name_of_it, stops_so, fine_both, fine_nowhere, not_name, not_kept, name_or_not, last_named, spelled_fine, text_clear, text_fine, begins_front}
 use Rattle.dac_first_fault.proofs.HeldFile.{file_kept}
+
+brings_by : (w : Word) (ws : List Word) (k : FaultKind) → Breaks ws k → (IsNoName w → Spoils ws k) → Brings w ws k
+brings_by (Name name) ws k breaks spoils = breaks
+brings_by (Mark symbol) ws k breaks spoils = spoils tt
+brings_by (Number negative digits) ws k breaks spoils = spoils tt
+brings_by Text ws k breaks spoils = spoils tt
+brings_by End ws k breaks spoils = spoils tt
+
+-- words that are quiet hold no name
+quiet_name : (w : Word) → IsQuiet w → IsNoName w
+quiet_name (Name name) quiet = quiet
+quiet_name (Mark symbol) quiet = tt
+quiet_name (Number negative digits) quiet = tt
+quiet_name Text quiet = tt
+quiet_name End quiet = tt
+
+quiet_names : (ws : List Word) → All IsQuiet ws → All IsNoName ws
+quiet_names [] all = All-nil IsNoName
+quiet_names (w ∷ ws) all = All-cons IsNoName w ws (quiet_name w (All-head IsQuiet w ws all)) (quiet_names ws (All-tail IsQuiet w ws all))
 
 -- ---- the end of a file
 
@@ -85,7 +108,10 @@ AtEnd ts place e = (e ≡ record { kind = BadShape; at = place }) ⊎ ((e ≡ re
 -- what reading a file makes of these tokens
 data Judged (ts : List Located) : Type 0 where
   By : (a : List Located) (l : Located) (b : List Located) (e : ConfigFault) → ts ≡ a ++ l ∷ b → ((last : Result Located ConfigFault) (rest : List Located) → file_at (at last (a ++ l ∷ rest) nothing) ≡ Err e) → StandsAt a l e → ((p : ConfigFault) → file_at (at (Err p) a nothing) ≡ Err p) → Judged ts
-  Unsettled : ((p : ConfigFault) → file_at (at (Err p) ts nothing) ≡ Err p) → ((t : Located) (e : ConfigFault) → t.word ≡ End → file_at (at (Ok t) ts nothing) ≡ Err e → AtEnd ts t.at e) → Judged ts
+  Unsettled : ((p : ConfigFault) → file_at (at (Err p) ts nothing) ≡ Err p) → ((t : Located) (e : ConfigFault) → t.word ≡ End → file_at (at (Ok t) ts nothing) ≡ Err e → AtEnd ts t.at e) → ((t : Located) (w : Written) → t.word ≡ End → file_at (at (Ok t) ts nothing) ≡ Ok w → Done ts) → Judged ts
+
+no_draft : {A : Type 0} (e : ConfigFault) (w : Written) (r : Result Written ConfigFault) → r ≡ Err e → r ≡ Ok w → A
+no_draft e w r p q = absurd cc
 
 same_err : (d e : ConfigFault) (r : Result Written ConfigFault) → r ≡ Err d → r ≡ Err e → e ≡ d
 same_err d e r p q = cc
@@ -124,6 +150,7 @@ module _ (ts : List Located) (k : Takes Always Plain (λ _. list_of section_at) 
   none_left : Judged (k.a ++ [])
   none_left = Unsettled (λ p. goes (Err p) [] ∙ ap (λ r. r >>= judged k.x) (end_none p k.after))
       (λ t e w h. inl (same_err (record { kind = BadShape; at = t.at }) e (file_at (at (Ok t) (k.a ++ []) nothing)) (goes (Ok t) [] ∙ ap (λ r. r >>= judged k.x) (end_end t k.after w)) h))
+      (λ t w e h. no_draft (record { kind = BadShape; at = t.at }) w (file_at (at (Ok t) (k.a ++ []) nothing)) (goes (Ok t) [] ∙ ap (λ r. r >>= judged k.x) (end_end t k.after e)) h)
 
   stop_wants : (c : Located) → is_mark FullStop c.word ≡ true → (p : ConfigFault) → file_at (at (Err p) (k.a ++ c ∷ []) nothing) ≡ Err p
   stop_wants c is p = goes (Err p) (c ∷ []) ∙ ap (λ r. r >>= judged k.x) (stop_none c k.after p is)
@@ -138,11 +165,12 @@ module _ (ts : List Located) (k : Takes Always Plain (λ _. list_of section_at) 
       let bad = beyond ts in
       let q : Had bad Every by_pair (AreSections bad Every) (words ts) (k.x, at (Err halt) (c ∷ []) k.after) =
       subst (λ (r : Result (List Section × State) ConfigFault). Holds bad Every by_pair (AreSections bad Every) (words ts) r) (k.goes tt (Err halt) (c ∷ []) tt) (sections_held bad Every ts (lone_beyond bad Every ts (omega arith))) in
-      (k.x, (q.own, q.whole ∙ ap (λ (w : Word). q.own ++ w ∷ []) (mark_is FullStop c.word is), q.is.0), sections_may k.x q.is.1)
+      (k.x, (q.own, q.whole ∙ ap (λ (w : Word). q.own ++ w ∷ []) (mark_is FullStop c.word is), sections_strict Every tt tt tt tt q.own k.x q.is.0), sections_may k.x q.is.1)
 
   stopped_by : (c : Located) (b : List Located) → is_mark FullStop c.word ≡ true → NoEnd b → Judged (k.a ++ c ∷ b)
   stopped_by c [] is no_end = Unsettled (stop_wants c is)
       (λ t e w h. last_fault (k.a ++ c ∷ []) (done c is) t e (eqb (length (written k.x k.after.met).apps) 0) (written k.x k.after.met) (sym (goes (Ok t) (c ∷ []) ∙ ap (λ r. r >>= judged k.x) (stop_end c k.after t is w)) ∙ h))
+      (λ t w e h. done c is)
   stopped_by c (d ∷ b) is no_end = By (k.a ++ c ∷ []) d b (record { kind = BadShape; at = d.at }) (sym (append_assoc k.a (c ∷ []) (d ∷ b)))
       (λ last rest. ap (λ (l : List Located). file_at (at last l nothing)) (append_assoc k.a (c ∷ []) (d ∷ rest)) ∙ goes last (c ∷ d ∷ rest) ∙ ap (λ r. r >>= judged k.x) (stop_more c k.after d last rest is no_end.0)) (Itself refl tt) (stop_wants c is)
 
@@ -159,6 +187,7 @@ judged_by ts no_end (Took k) = subst Judged (sym k.whole) (took_by ts k k.b (no_
 judged_by ts no_end (Failed k) = By k.a k.l k.b k.e k.whole (λ last rest. file_is (at last (k.a ++ k.l ∷ rest) nothing) ∙ ap (λ r. r >>= behind) (k.goes tt last rest tt)) k.stands (λ p. file_is (at (Err p) k.a nothing) ∙ ap (λ r. r >>= behind) (k.wants.more tt p tt))
 judged_by ts no_end (Asked w) = Unsettled (λ p. file_is (at (Err p) ts nothing) ∙ ap (λ r. r >>= behind) (w.more tt p tt))
     (λ t e is h. inl (same_err (record { kind = BadShape; at = t.at }) e (file_at (at (Ok t) ts nothing)) (file_is (at (Ok t) ts nothing) ∙ ap (λ r. r >>= behind) (w.end tt t is tt)) h))
+    (λ t d is h. no_draft (record { kind = BadShape; at = t.at }) d (file_at (at (Ok t) ts nothing)) (file_is (at (Ok t) ts nothing) ∙ ap (λ r. r >>= behind) (w.end tt t is tt)) h)
 
 -- ---- a file that keeps the limits is read
 
@@ -174,8 +203,8 @@ module _ (order : (sections : List Section) → (MaySections sections ↔ AreWit
         named = k.named;
         rest = k.rest;
         parts = k.parts;
-        no_name = k.no_name;
-        keeps = record { more = k.begun.more; sections = k.begun.x; file = k.begun.is.0; keeps = (order k.begun.x).0 (sections_may k.begun.x k.begun.is.1) };
+        no_name = quiet_names k.rest k.quiet;
+        keeps = record { more = k.begun.more; sections = k.begun.x; file = file_strict Every tt tt tt tt (k.named ++ k.begun.more) k.begun.x k.begun.is.0; keeps = (order k.begun.x).0 (sections_may k.begun.x k.begun.is.1) };
       }
 
   within_judged : (end : Located) (ts : List Located) (sections : List Section) → end.word ≡ End → IsFile (words ts) sections → AreWithinLimits sections
@@ -209,11 +238,11 @@ module _ (order : (sections : List Section) → (MaySections sections ↔ AreWit
       no_clash e (eqb (apps_in is.sections) 0) (written is.sections (nodes_in is.sections)) (sym read ∙ fault (Ok (end_of (suc e.at))) rest)
 
   -- reading a file gives a fault that a name brings whose limit it doesn't keep, or that nobody is listed
-  file_read : (end : Located) (Bad : ℕ → Type 0) (Kept : FaultKind → Type 0) (ts : List Located) (sections : List Section) (e : ConfigFault) → end.word ≡ End → IsFile (words ts) sections → Keeps Kept sections → Fine Bad ts → file_at (at (Ok end) ts nothing) ≡ Err e
-      → OfName Bad Kept e.kind e.at ⊎ (e ≡ record { kind = NoDistributed; at = end.at })
+  file_read : (end : Located) (Bad : ℕ → Type 0) (Kept : FaultKind → Type 0) (ts : List Located) (sections : List Section) (e : ConfigFault) → end.word ≡ End → IsLooseFile Kept (words ts) sections → Keeps Kept sections → Fine Bad ts → file_at (at (Ok end) ts nothing) ≡ Err e
+      → Unkept Bad Kept e.kind e.at ⊎ (e ≡ record { kind = NoDistributed; at = end.at })
   file_read end Bad Kept ts sections e w file keep fine h =
       let c = ended ts file.0 (Mark FullStop) file.1 in
-      let list : IsListOf IsSection (words c.front) sections = subst (λ (l : List Word). IsListOf IsSection l sections) (sym c.first) file.2 in
+      let list : IsListOf (IsLooseSection Kept) (words c.front) sections = subst (λ (l : List Word). IsListOf (IsLooseSection Kept) l sections) (sym c.first) file.2 in
       let front : Fine Bad c.front = fine_front Bad c.front (c.end ∷ []) (subst (λ (l : List Located). Fine Bad l) c.whole fine) in
       let there : (list_of section_at (at (Ok end) (c.front ++ c.end ∷ []) nothing) >>= behind) ≡ Err e = sym (ap (λ (l : List Located). file_at (at (Ok end) l nothing)) c.whole ∙ file_is (at (Ok end) (c.front ++ c.end ∷ []) nothing)) ∙ h in
       by c.end (ap (is_mark FullStop) c.is) (list_of section_at (at (Ok end) (c.front ++ c.end ∷ []) nothing)) (sections_met (Ok end) Bad Kept c.front (c.end ∷ []) sections list front keep) there
@@ -225,11 +254,11 @@ module _ (order : (sections : List Section) → (MaySections sections ↔ AreWit
       nobody true w h = same_err (record { kind = NoDistributed; at = end.at }) e (fails NoDistributed end.at) refl h
       nobody false w h = absurd cc
 
-      by : (c : Located) → is_mark FullStop c.word ≡ true → (r : Result (List Section × State) ConfigFault) → Met (Ok end) Bad Kept sections (c ∷ []) after r → (r >>= behind) ≡ Err e → OfName Bad Kept e.kind e.at ⊎ (e ≡ record { kind = NoDistributed; at = end.at })
+      by : (c : Located) → is_mark FullStop c.word ≡ true → (r : Result (List Section × State) ConfigFault) → Met (Ok end) Bad Kept sections (c ∷ []) after r → (r >>= behind) ≡ Err e → Unkept Bad Kept e.kind e.at ⊎ (e ≡ record { kind = NoDistributed; at = end.at })
       by c stop (Ok y) m h =
           let read : behind y ≡ judged sections (end.at, at (Ok end) [] after) = ap behind m ∙ ap (λ r. r >>= judged sections) (stop_end c after end stop w) in
           inr (nobody (eqb (length (written sections after.met).apps) 0) (written sections after.met) (sym read ∙ h))
-      by c stop (Err d) m h = inl (subst (λ (f : ConfigFault). OfName Bad Kept f.kind f.at) (sym (same_err d e (Err d) refl h)) m)
+      by c stop (Err d) m h = inl (subst (λ (f : ConfigFault). Unkept Bad Kept f.kind f.at) (sym (same_err d e (Err d) refl h)) m)
 
   placed_fine : (bad : ℕ) (ws : List Word) → Fine (At bad) (map (place_at (suc bad)) ws)
   placed_fine bad [] = tt
@@ -237,11 +266,11 @@ module _ (order : (sections : List Section) → (MaySections sections ↔ AreWit
 
   -- what reading makes of a file that goes on behind the token of the fault
   module _ (a : List Located) (l : Located) (e : ConfigFault) (fault : (last : Result Located ConfigFault) (rest : List Located) → file_at (at last (a ++ l ∷ rest) nothing) ≡ Err e) (Bad : ℕ → Type 0) (Kept : FaultKind → Type 0) where
-    goes_on : (place : ℕ) (more : List Word) (sections : List Section) → IsFile ((words a ++ l.word ∷ []) ++ more) sections → Keeps Kept sections → Fine Bad (a ++ l ∷ map (place_at place) more) → OfName Bad Kept e.kind e.at
+    goes_on : (place : ℕ) (more : List Word) (sections : List Section) → IsLooseFile Kept ((words a ++ l.word ∷ []) ++ more) sections → Keeps Kept sections → Fine Bad (a ++ l ∷ map (place_at place) more) → Unkept Bad Kept e.kind e.at
     goes_on place more sections file keep fine =
         let rest = map (place_at place) more in
         let same : words (a ++ l ∷ rest) ≡ (words a ++ l.word ∷ []) ++ more = words_append a (l ∷ rest) ∙ ap (λ (m : List Word). words a ++ l.word ∷ m) (placed place more) ∙ sym (append_assoc (words a) (l.word ∷ []) more) in
-        let read = file_read (end_of (suc e.at)) Bad Kept (a ++ l ∷ rest) sections e refl (subst (λ (m : List Word). IsFile m sections) (sym same) file) keep fine (fault (Ok (end_of (suc e.at))) rest) in
+        let read = file_read (end_of (suc e.at)) Bad Kept (a ++ l ∷ rest) sections e refl (subst (λ (m : List Word). IsLooseFile Kept m sections) (sym same) file) keep fine (fault (Ok (end_of (suc e.at))) rest) in
         elim read [
           | inl of ↦ of
           | inr is ↦ let place : e.at ≡ suc e.at = ap (λ (f : ConfigFault). f.at) is in absurd (omega (arith, place))
@@ -251,30 +280,82 @@ module _ (order : (sections : List Section) → (MaySections sections ↔ AreWit
       → (more : List Word) (sections : List Section) → IsFile ((words a ++ l.word ∷ []) ++ more) sections → ⊥
   no_file a l e fault stands no_name fine more sections file =
       let all = fine_both (At l.at) a (l ∷ map (place_at (suc l.at)) more) fine (λ name is. absurd (subst IsNoName is no_name), placed_fine l.at more) in
-      not_name a l e stands no_name (goes_on a l e fault (At l.at) Unlimited (suc l.at) more sections file (sections_so sections) all)
+      not_name a l e stands no_name (goes_on a l e fault (At l.at) Strict (suc l.at) more sections (file_loose Strict ((words a ++ l.word ∷ []) ++ more) sections file) (strictly_so sections) all)
 
   -- no file that keeps the limit of the fault goes on with its token
   none_keeps : (a : List Located) (l : Located) (e : ConfigFault) → ((last : Result Located ConfigFault) (rest : List Located) → file_at (at last (a ++ l ∷ rest) nothing) ≡ Err e) → CanBegin (Keeps (Only e.kind)) (words a ++ l.word ∷ []) → ⊥
-  none_keeps a l e fault c = not_kept e.kind e.at (goes_on a l e fault Nowhere (Only e.kind) 0 c.more c.sections c.file c.keeps (fine_nowhere (a ++ l ∷ map (place_at 0) c.more)))
+  none_keeps a l e fault c = not_kept e.kind e.at (goes_on a l e fault Nowhere (Only e.kind) 0 c.more c.sections (file_loose (Only e.kind) ((words a ++ l.word ∷ []) ++ c.more) c.sections c.file) c.keeps (fine_nowhere (a ++ l ∷ map (place_at 0) c.more)))
+
+  -- where reading stopped by the last token, something begins with all of them
+  stopped_kept : (bad : ℕ) (Bound : FaultKind → Type 0) (a : List Located) (l : Located) (e : ConfigFault) → ((last : Result Located ConfigFault) (rest : List Located) → file_at (at last (a ++ l ∷ rest) nothing) ≡ Err e) → Lone bad Bound (a ++ l ∷ []) → Stops bad Bound e.kind e.at → (IsQuiet l.word → ⊥)
+      → (more : List Word) × (sections : List Section) × IsLooseFile Bound ((words a ++ l.word ∷ []) ++ more) sections × Keeps Bound sections
+  stopped_kept bad Bound a l e fault lone stops loud =
+      let k = file_kept bad Bound (a ++ l ∷ []) lone e stops (fault (Err halt) []) in
+      let same : words (a ++ l ∷ []) ≡ words a ++ l.word ∷ [] = words_append a (l ∷ []) in
+      let none = last_named IsQuiet (words a) l.word k.named k.rest loud (sym same ∙ k.parts) k.quiet in
+      let all : words a ++ l.word ∷ [] ≡ k.named = sym same ∙ k.parts ∙ ap (λ (l : List Word). k.named ++ l) none ∙ append-nil k.named in
+      (k.begun.more, k.begun.x, subst (λ (m : List Word). IsLooseFile Bound (m ++ k.begun.more) k.begun.x) (sym all) k.begun.is.0, k.begun.is.1)
 
   -- a file that keeps the limits that count before it begins so
-  first_kept : (a : List Located) (l : Located) (e : ConfigFault) → ((last : Result Located ConfigFault) (rest : List Located) → file_at (at last (a ++ l ∷ rest) nothing) ≡ Err e) → StandsAt a l e → Fine (At l.at) a → IsOfName e.kind → CanBegin (Keeps (Before e.kind)) (words a ++ l.word ∷ [])
-  first_kept a l e fault stands fine of =
+  first_kept : (a : List Located) (l : Located) (e : ConfigFault) → ((last : Result Located ConfigFault) (rest : List Located) → file_at (at last (a ++ l ∷ rest) nothing) ≡ Err e) → StandsAt a l e → Clear l.at a → IsOfName e.kind → CanBegin (Keeps (Before e.kind)) (words a ++ l.word ∷ [])
+  first_kept a l e fault stands clear of =
       let n = name_of_it a l e stands of in
-      let k = file_kept l.at (Before e.kind) (a ++ l ∷ []) (lone_last l.at (Before e.kind) a l fine) e (stops_so e.kind e.at l.at n.1 of) (fault (Err halt) []) in
-      let same : words (a ++ l ∷ []) ≡ words a ++ l.word ∷ [] = words_append a (l ∷ []) in
-      let none = last_named (words a) l.word n.0.0 k.named k.rest n.0.1 (sym same ∙ k.parts) k.no_name in
-      let all : words a ++ l.word ∷ [] ≡ k.named = sym same ∙ k.parts ∙ ap (λ (l : List Word). k.named ++ l) none ∙ append-nil k.named in
-      record { more = k.begun.more; sections = k.begun.x; file = subst (λ (m : List Word). IsFile (m ++ k.begun.more) k.begun.x) (sym all) k.begun.is.0; keeps = k.begun.is.1 }
+      let Bound = Strictly e.kind in
+      let k = stopped_kept l.at Bound a l e fault (lone_last l.at Bound a l clear) (stops_so e.kind e.at l.at n.1 of) (λ quiet. subst IsQuiet n.0.1 quiet) in
+      record { more = k.0; sections = k.1; file = file_strict Bound (inr tt) (inr tt) (inr tt) (inr tt) ((words a ++ l.word ∷ []) ++ k.0) k.1 k.2; keeps = keeps_fewer (Before e.kind) Bound (λ kind less. inl less) k.1 k.3 }
 
-  breaks : (a : List Located) (l : Located) (e : ConfigFault) → ((last : Result Located ConfigFault) (rest : List Located) → file_at (at last (a ++ l ∷ rest) nothing) ≡ Err e) → StandsAt a l e → Fine (At l.at) a → Breaks (words a ++ l.word ∷ []) e.kind
-  breaks a l e fault stands fine = record { broken = none_keeps a l e fault; first = first_kept a l e fault stands fine }
+  breaks : (a : List Located) (l : Located) (e : ConfigFault) → ((last : Result Located ConfigFault) (rest : List Located) → file_at (at last (a ++ l ∷ rest) nothing) ≡ Err e) → StandsAt a l e → Clear l.at a → Breaks (words a ++ l.word ∷ []) e.kind
+  breaks a l e fault stands clear = record { broken = none_keeps a l e fault; first = first_kept a l e fault stands clear }
+
+  -- a fault of shape, with which no file goes on, however loose
+  none_loosely : (a : List Located) (l : Located) (e : ConfigFault) → ((last : Result Located ConfigFault) (rest : List Located) → file_at (at last (a ++ l ∷ rest) nothing) ≡ Err e) → e ≡ record { kind = BadShape; at = l.at } → IsNoName l.word → Fine (At l.at) a → CanBeginLoosely (words a ++ l.word ∷ []) → ⊥
+  none_loosely a l e fault is no_name fine c =
+      let all = fine_both (At l.at) a (l ∷ map (place_at (suc l.at)) c.more) fine (λ name same. absurd (subst IsNoName same no_name), placed_fine l.at c.more) in
+      (subst (λ (f : ConfigFault). Unkept (At l.at) NoKind f.kind f.at) is (goes_on a l e fault (At l.at) NoKind (suc l.at) c.more c.sections c.file (sections_so NoKind (λ kind limit no. no) c.sections) all)).0 refl
+
+  -- with what a token spoils that is no name a file goes on loosely
+  spoilt_so : (bad : ℕ) (a : List Located) (l : Located) (e : ConfigFault) → ((last : Result Located ConfigFault) (rest : List Located) → file_at (at last (a ++ l ∷ rest) nothing) ≡ Err e) → Lone bad NoKind (a ++ l ∷ []) → Stops bad NoKind e.kind e.at → (IsQuiet l.word → ⊥) → CanBeginLoosely (words a ++ l.word ∷ [])
+  spoilt_so bad a l e fault lone stops loud = let k = stopped_kept bad NoKind a l e fault lone stops loud in record { more = k.0; sections = k.1; file = k.2 }
+
+  module _ (text : List ℕ) (a : List Located) (l : Located) (begins : BeginsWith text (a ++ l ∷ [])) (no_name : IsNoName l.word) where
+    abbrev FaultsBy : ConfigFault → Type 0
+    FaultsBy e = (last : Result Located ConfigFault) (rest : List Located) → file_at (at last (a ++ l ∷ rest) nothing) ≡ Err e
+
+    itself_spoils : (k : FaultKind) (place : ℕ) → FaultsBy (record { kind = k; at = place }) → Stops l.at NoKind k place → (IsQuiet l.word → ⊥) → CanBeginLoosely (words a ++ l.word ∷ [])
+    itself_spoils k place fault stops loud = spoilt_so l.at a l (record { kind = k; at = place }) fault (lone_last l.at NoKind a l (text_clear text a l begins)) stops loud
+
+    itself_told : (k : FaultKind) (place : ℕ) → FaultsBy (record { kind = k; at = place }) → place ≡ l.at → CanBring k l.word → Spoils (words a ++ l.word ∷ []) k
+    itself_told BadShape place fault e can = none_loosely a l (record { kind = BadShape; at = place }) fault (ap (λ (n : ℕ). record { kind = BadShape; at = n }) e) no_name (text_fine text a l begins)
+    itself_told Unsupported place fault e can = itself_spoils Unsupported place fault (e, λ no. no) (λ quiet. subst IsQuiet can quiet)
+    itself_told NumberTooLarge place fault e can = itself_spoils NumberTooLarge place fault (e, λ no. no) (λ quiet. subst IsQuiet can.1 quiet)
+    itself_told NameTooLong place fault e can = absurd (subst IsNoName can.1 no_name)
+    itself_told TwiceApp place fault e can = absurd (subst IsNoName can.1 no_name)
+    itself_told TwiceInList place fault e can = absurd (subst IsNoName can.1 no_name)
+    itself_told TooManyApps place fault e can = absurd (subst IsNoName can.1 no_name)
+    itself_told TooManyNodes place fault e can = absurd (subst IsNoName can.1 no_name)
+    itself_told _ place fault e can = absurd can
+
+    -- brackets with nothing between
+    empty_told : (e : ConfigFault) (front : List Located) (o : Located) → FaultsBy e → a ≡ front ++ o ∷ [] → QuietBehind o.word (l ∷ []) → Stops o.at NoKind e.kind e.at → (IsQuiet l.word → ⊥) → CanBeginLoosely (words a ++ l.word ∷ [])
+    empty_told e front o fault parts quiet stops loud =
+        let whole : a ++ l ∷ [] ≡ front ++ o ∷ l ∷ [] = ap (λ (ts : List Located). ts ++ l ∷ []) parts ∙ append_assoc front (o ∷ []) (l ∷ []) in
+        let before : BeginsWith text (front ++ o ∷ []) = subst (λ (ts : List Located). BeginsWith text ts) parts (begins_front text a l begins) in
+        spoilt_so o.at a l e fault (subst (λ (ts : List Located). Lone o.at NoKind ts) (sym whole) (lone_two o.at NoKind front o l quiet (text_clear text front o before))) stops loud
+
+    told : (e : ConfigFault) → FaultsBy e → StandsAt a l e → Spoils (words a ++ l.word ∷ []) e.kind
+    told e fault (Itself place can) = itself_told e.kind e.at fault place can
+    told e fault (InList front o parts w v k) =
+        subst (λ (f : ConfigFault). Spoils (words a ++ l.word ∷ []) f.kind) (sym k)
+        (empty_told e front o fault parts (subst (λ (u : Word). QuietBehind u (l ∷ [])) (sym w) (All-nil IsQuiet)) (subst (λ (f : ConfigFault). Stops o.at NoKind f.kind f.at) (sym k) (refl, λ no. no)) (λ quiet. subst IsQuiet v quiet))
+    told e fault (InTuple front o parts w v k) =
+        subst (λ (f : ConfigFault). Spoils (words a ++ l.word ∷ []) f.kind) (sym k)
+        (empty_told e front o fault parts (subst (λ (u : Word). QuietBehind u (l ∷ [])) (sym w) (All-nil IsQuiet)) (subst (λ (f : ConfigFault). Stops o.at NoKind f.kind f.at) (sym k) (refl, λ no. no)) (λ quiet. subst IsQuiet v quiet))
 
   -- with the token of the fault, words aren't in order
   not_well : (a : List Located) (l : Located) (e : ConfigFault) → ((last : Result Located ConfigFault) (rest : List Located) → file_at (at last (a ++ l ∷ rest) nothing) ≡ Err e) → StandsAt a l e → Fine (At l.at) a → IsWell (words a ++ l.word ∷ []) → ⊥
   not_well a l e fault stands fine w = elim (name_or_not l.word) [
     | inl is ↦
-        let none = last_named (words a) l.word is.0 w.named w.rest is.1 w.parts w.no_name in
+        let none = last_named IsNoName (words a) l.word w.named w.rest (λ no_name. subst IsNoName is.1 no_name) w.parts w.no_name in
         let all : words a ++ l.word ∷ [] ≡ w.named = w.parts ∙ ap (λ (l : List Word). w.named ++ l) none ∙ append-nil w.named in
         begins_none a l e fault w.keeps.more (record { sections = w.keeps.sections; file = subst (λ (m : List Word). IsFile (m ++ w.keeps.more) w.keeps.sections) (sym all) w.keeps.file; within = w.keeps.keeps })
     | inr no_name ↦ no_file a l e fault stands no_name fine w.goes_on.more w.goes_on.sections w.goes_on.file
@@ -302,9 +383,9 @@ module _ (order : (sections : List Section) → (MaySections sections ↔ AreWit
     begins_by (Ok t) is a l b whole = record { rest = b; is = inl (subst (λ (ts : List Located). AreTokensOf text ts) (whole ∙ sym (append_assoc a (l ∷ []) b)) (ended_so t is).1) }
     begins_by (Err p) is a l b whole = record { rest = b; is = inr (p, subst (λ (ts : List Located). StopAt 0 0 text ts p) (whole ∙ sym (append_assoc a (l ∷ []) b)) (stopped_so p is)) }
 
-    ends_no_file : (sections : List Section) (e : ConfigFault) → e ≡ record { kind = BadShape; at = length text } → OfName (At (length text)) Unlimited e.kind e.at ⊎ (e ≡ record { kind = NoDistributed; at = length text }) → ⊥
+    ends_no_file : (sections : List Section) (e : ConfigFault) → e ≡ record { kind = BadShape; at = length text } → Unkept (At (length text)) Strict e.kind e.at ⊎ (e ≡ record { kind = NoDistributed; at = length text }) → ⊥
     ends_no_file sections e is read = elim read [
-      | inl of ↦ (subst (λ (f : ConfigFault). OfName (At (length text)) Unlimited f.kind f.at) is of).0 refl
+      | inl of ↦ (subst (λ (f : ConfigFault). Unkept (At (length text)) Strict f.kind f.at) is of).0 refl
       | inr nobody ↦ let kinds : BadShape ≡ NoDistributed = ap (λ (f : ConfigFault). f.kind) (sym is ∙ nobody) in absurd cc
     ]
 
@@ -312,7 +393,7 @@ module _ (order : (sections : List Section) → (MaySections sections ↔ AreWit
     end_fault e tokens so_far h which = elim which [
       | inl is ↦
           Ends s.tokens short tokens so_far
-          (λ sections file. ends_no_file sections e is (file_read (end_of (length text)) (At (length text)) Unlimited s.tokens sections e refl file (sections_so sections) (spelled_fine (length text) 0 text s.tokens tokens.spelled (omega arith)) h)) is
+          (λ sections file. ends_no_file sections e is (file_read (end_of (length text)) (At (length text)) Strict s.tokens sections e refl (file_loose Strict (words s.tokens) sections file) (strictly_so sections) (spelled_fine (length text) 0 text s.tokens tokens.spelled (omega arith)) h)) is
       | inr is ↦
           Nobody s.tokens short tokens (record { sections = is.1.0; file = is.1.1; within = (order is.1.0).0 is.1.2 })
           (λ w. none_listed (length text) (apps_in w.sections) (eqb (apps_in w.sections) 0) (written w.sections (nodes_in w.sections)) refl (sym (within_judged (end_of (length text)) s.tokens w.sections refl w.file w.within) ∙ h ∙ ap (λ (f : ConfigFault). Err f) is.0)) is.0
@@ -330,11 +411,34 @@ module _ (order : (sections : List Section) → (MaySections sections ↔ AreWit
     fault_by e h (By a l b d whole goes stands wants) =
         let same : e ≡ d = same_err d e (file_at (at s.last s.tokens nothing)) (ap (λ (ts : List Located). file_at (at s.last ts nothing)) whole ∙ goes s.last b) h in
         let begins = begins_by s.last refl a l b whole in
-        Token a l short begins (well a (wants halt)) (not_well a l d goes stands (text_fine text a l begins)) (subst (λ (f : ConfigFault). Breaks (words a ++ l.word ∷ []) f.kind) (sym same) (breaks a l d goes stands (text_fine text a l begins))) (subst (λ (f : ConfigFault). StandsAt a l f) (sym same) stands)
-    fault_by e h (Unsettled more ends) = wanting_fault e s.last refl h more ends
+        Token a l short begins (well a (wants halt)) (not_well a l d goes stands (text_fine text a l begins)) (subst (λ (f : ConfigFault). Brings l.word (words a ++ l.word ∷ []) f.kind) (sym same) (brings_by l.word (words a ++ l.word ∷ []) d.kind (breaks a l d goes stands (text_clear text a l begins)) (λ no_name. told text a l begins no_name d goes stands))) (subst (λ (f : ConfigFault). StandsAt a l f) (sym same) stands)
+    fault_by e h (Unsettled more ends files) = wanting_fault e s.last refl h more ends
 
     pub file_fault : (e : ConfigFault) → file_at (at s.last s.tokens nothing) ≡ Err e → IsFaultOf text e
     file_fault e h = fault_by e h (judged_by s.tokens (no_end_by s.last refl) (sections_reader s.tokens nothing))
+
+    -- tokens that are read whole are in order, and a file that keeps the limits
+    abbrev Whole : Type 0
+    Whole = ((e : ConfigFault) → s.last ≡ Err e → ⊥) × IsWell (words s.tokens) × Done s.tokens
+
+    whole_end : (w : Written) (r : Result Located ConfigFault) → s.last ≡ r → file_at (at r s.tokens nothing) ≡ Ok w → ((p : ConfigFault) → file_at (at (Err p) s.tokens nothing) ≡ Err p) → ((t : Located) (w : Written) → t.word ≡ End → file_at (at (Ok t) s.tokens nothing) ≡ Ok w → Done s.tokens) → Whole
+    whole_end w (Err p) is h more files = no_draft p w (file_at (at (Err p) s.tokens nothing)) (more p) h
+    whole_end w (Ok t) is h more files = (λ e wrong. (let both : Ok t ≡ Err e = sym is ∙ wrong in absurd cc), well s.tokens (more halt), files t w (ap (λ (t : Located). t.word) (ended_so t is).0) h)
+
+    whole_by : (w : Written) → file_at (at s.last s.tokens nothing) ≡ Ok w → Judged s.tokens → Whole
+    whole_by w h (By a l b d whole goes stands wants) = no_draft d w (file_at (at s.last s.tokens nothing)) (ap (λ (ts : List Located). file_at (at s.last ts nothing)) whole ∙ goes s.last b) h
+    whole_by w h (Unsettled more ends files) = whole_end w s.last refl h more files
+
+    pub whole_read : (w : Written) → file_at (at s.last s.tokens nothing) ≡ Ok w → Whole
+    whole_read w h = whole_by w h (judged_by s.tokens (no_end_by s.last refl) (sections_reader s.tokens nothing))
+
+    -- if none is listed, there is a fault
+    pub listed_read : (is : IsWithin (words s.tokens)) → apps_in is.sections ≡ 0 → s.last ≡ Ok (end_of (length text)) → (w : Written) → file_at (at s.last s.tokens nothing) ≡ Ok w → ⊥
+    listed_read is none last w h =
+        let end = end_of (length text) in
+        let read = within_judged end s.tokens is.sections refl is.file is.within in
+        let fault : file_at (at (Ok end) s.tokens nothing) ≡ fails NoDistributed end.at = read ∙ ap (λ (c : Bool). cond c (fails NoDistributed end.at) (Ok (written is.sections (nodes_in is.sections)))) (eq-eqb (apps_in is.sections) 0 none) in
+        no_draft (record { kind = NoDistributed; at = end.at }) w (file_at (at (Ok end) s.tokens nothing)) fault (subst (λ (r : Result Located ConfigFault). file_at (at r s.tokens nothing) ≡ Ok w) last h)
 
   pub text_fault : (text : List ℕ) (s : Stream) → s ≡ tokens_of (length text) 0 text → IfOk s.last (λ t. t ≡ end_of (length text)) → ((ts : List Located) → (AreTokensOf text ts ↔ (s ≡ ended_by (length text) ts)))
       → ((ts : List Located) (e : ConfigFault) → (StopAt 0 0 text ts e ↔ (s ≡ stopped ts e))) → (e : ConfigFault) → draft_at text ≡ Err e → IsFaultOf text e

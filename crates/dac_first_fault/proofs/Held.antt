@@ -1,20 +1,20 @@
--- Where a reader came to the end of the tokens, or a name broke a limit, words up to the last name begin a thing that
--- keeps the limits.
+-- Where a reader came to the end of the tokens, or a token spoilt them, words up to the last that isn't quiet begin a
+-- thing that keeps the limits that are bound.
 use Rattle.std.proofs.Common.{◌≡◌, ℕ, zero, suc, ◌≤◌, Bool, true, false, cond, List, [], ◌∷◌, ◌++◌, map, Result, Ok, Err, refl, sym, ap, subst, ◌∙◌, append_assoc, append-nil, inl, inr}
 use Rattle.std.specs.Prelude.{◌⊎◌, All}
 use Rattle.std.proofs.lemmas.List.Elements.{All-nil, All-cons, All-append}
 use Rattle.dac_tokens.specs.declared.fault.ConfigFault.{ConfigFault}
 use Rattle.dac_tokens.specs.declared.fault.FaultKind.{FaultKind}
-use Rattle.dac_tokens.specs.declared.fault.FaultKind.TheVariants.{BadShape, TooLong, TwiceApp, TwiceInList, TooManyApps, TooManyNodes, NameTooLong}
+use Rattle.dac_tokens.specs.declared.fault.FaultKind.TheVariants.{BadShape, TooLong, TwiceApp, TwiceInList, TooManyApps, TooManyNodes, NameTooLong, EmptyList, EmptyTuple, NumberTooLarge, Unsupported}
 use Rattle.dac_tokens.specs.declared.token.Symbol.{Symbol}
-use Rattle.dac_tokens.specs.declared.token.Symbol.TheVariants.{OpenList, CloseList, OpenTuple, CloseTuple, Comma}
+use Rattle.dac_tokens.specs.declared.token.Symbol.TheVariants.{OpenList, CloseList, OpenTuple, CloseTuple, Comma, FullStop}
 use Rattle.dac_tokens.specs.Gives.{◌>>=◌}
 use Rattle.dac_tokens.specs.Words.{Word, Mark, Name, Located}
 use Rattle.dac_shapes.specs.Limits.{Seen, AllMay, steps}
 use Rattle.dac_shapes.specs.Shape.{State, fails, is_mark, token, symbol_at, more_at, comma_list, list_of, pair_at, closed, room}
 use Rattle.dac_shapes.specs.Grammar.{Parted, IsListOf}
 use Rattle.dac_shapes.specs.laws.AgainLists.{at}
-use Rattle.dac_first_fault.specs.FirstFault.{IsNoName, rank}
+use Rattle.dac_first_fault.specs.FirstFault.{rank}
 use Rattle.dac_first_fault.proofs.Steps.{mark_is}
 use Rattle.dac_first_fault.proofs.Lists.{regroup}
 use Rattle.dac_first_fault.proofs.Begun.{halt, words_in, Begun, Via, by_pair}
@@ -22,26 +22,34 @@ use Rattle.dac_first_fault.proofs.Begun.{halt, words_in, Begun, Via, by_pair}
 abbrev pub words : List Located → List Word
 words ts = map (λ t. t.word) ts
 
--- these words up to the last name begin such a thing
+-- A word behind which words can't be wrong yet. Names, numbers, strings and closing brackets aren't.
+abbrev pub IsQuiet : Word → Type 0
+IsQuiet (Mark OpenList) = Unit {0}
+IsQuiet (Mark OpenTuple) = Unit {0}
+IsQuiet (Mark Comma) = Unit {0}
+IsQuiet (Mark FullStop) = Unit {0}
+IsQuiet _ = ⊥
+
+-- these words up to the last that isn't quiet begin such a thing
 pub record Kept {X : Type 0} (Is : List Word → X → Type 0) (ws : List Word) : Type 0 where
   pub named : List Word
   pub rest : List Word
   pub parts : ws ≡ named ++ rest
-  pub no_name : All IsNoName rest
+  pub quiet : All IsQuiet rest
   pub begun : Begun Is named
 
 abbrev pub Held : {X : Type 0} → (List Word → X → Type 0) → List Word → Type 0
-Held Is ws = All IsNoName ws ⊎ Kept Is ws
+Held Is ws = All IsQuiet ws ⊎ Kept Is ws
 
 -- words that begin a thing are kept whole
 pub all_kept : {X : Type 0} (Is : List Word → X → Type 0) (ws : List Word) → Begun Is ws → Kept Is ws
-all_kept Is ws b = record { named = ws; rest = []; parts = sym (append-nil ws); no_name = All-nil IsNoName; begun = b }
+all_kept Is ws b = record { named = ws; rest = []; parts = sym (append-nil ws); quiet = All-nil IsQuiet; begun = b }
 
 -- the limit of this fault isn't bound, nor is one that is looked at after it
 abbrev pub Frees : (FaultKind → Type 0) → FaultKind → Type 0
-Frees Bound kind = (other : FaultKind) → rank kind ≤ rank other → Bound other → ⊥
+Frees Bound kind = (other : FaultKind) → rank kind ≤ rank other → rank other ≤ 5 → Bound other → ⊥
 
--- The fault is the end of the tokens, or a name at the place `bad` brings it, whose limit isn't bound.
+-- The fault is the end of the tokens, or stands at the place `bad`, and its limit or shape isn't bound.
 abbrev pub Stops : ℕ → (FaultKind → Type 0) → FaultKind → ℕ → Type 0
 Stops bad Bound TooLong place = Unit {0}
 Stops bad Bound NameTooLong place = (place ≡ bad) × Frees Bound NameTooLong
@@ -49,6 +57,10 @@ Stops bad Bound TwiceApp place = (place ≡ bad) × Frees Bound TwiceApp
 Stops bad Bound TwiceInList place = (place ≡ bad) × Frees Bound TwiceInList
 Stops bad Bound TooManyApps place = (place ≡ bad) × Frees Bound TooManyApps
 Stops bad Bound TooManyNodes place = (place ≡ bad) × Frees Bound TooManyNodes
+Stops bad Bound EmptyList place = (place ≡ bad) × (Bound EmptyList → ⊥)
+Stops bad Bound EmptyTuple place = (place ≡ bad) × (Bound EmptyTuple → ⊥)
+Stops bad Bound NumberTooLarge place = (place ≡ bad) × (Bound NumberTooLarge → ⊥)
+Stops bad Bound Unsupported place = (place ≡ bad) × (Bound Unsupported → ⊥)
 Stops bad Bound _ place = ⊥
 
 -- a thing that may come, and what was seen behind it
@@ -59,10 +71,20 @@ Taken Is May step seen own x = Is own x.0 × May seen x.0 × (x.1.seen ≡ step 
 abbrev pub IsHeldClosed : {A : Type 0} → (List Word → A → Seen → Type 0) → List Word → A × State → Type 0
 IsHeldClosed Is own x = (v : List Word) × (own ≡ v ++ Mark CloseTuple ∷ []) × Is v x.0 x.1.seen
 
+abbrev pub but_one : List Located → List Located
+but_one [] = []
+but_one (t ∷ ts) = ts
+
+-- what stands behind a word is quiet
+abbrev pub QuietBehind : Word → List Located → Type 0
+QuietBehind (Mark OpenList) ts = All IsQuiet (words (but_one ts))
+QuietBehind (Mark OpenTuple) ts = All IsQuiet (words (but_one ts))
+QuietBehind _ ts = All IsQuiet (words ts)
+
 module _ (bad : ℕ) (Bound : FaultKind → Type 0) where
-  -- no name stands behind a name at the place `bad`
+  -- Only quiet words stand behind a token at the place `bad`. If it is an opening bracket, another token is before them.
   abbrev pub Alone : Located → List Located → Type 0
-  Alone t ts = (name : List ℕ) → t.word ≡ Name name → t.at ≡ bad → All IsNoName (words ts)
+  Alone t ts = t.at ≡ bad → QuietBehind t.word ts
 
   abbrev pub Lone : List Located → Type 0
   Lone [] = Unit {0}
@@ -107,9 +129,13 @@ module _ (bad : ℕ) (Bound : FaultKind → Type 0) where
   abbrev pub Unfit : (K : Type 0) → (Word → K → Type 0) → Located → Type 0
   Unfit K Says t = (name : List ℕ) × (t.word ≡ Name name) × (t.at ≡ bad) × ((k : K) × Says t.word k)
 
+  -- a token that stands last and begins a thing
+  pub spoilt : {X : Type 0} (Is : List Word → X → Type 0) (t : Located) (ts : List Located) → All IsQuiet (words ts) → Begun Is (t.word ∷ []) → Held Is (t.word ∷ words ts)
+  spoilt Is t ts quiet b = inr (record { named = t.word ∷ []; rest = words ts; parts = refl; quiet = quiet; begun = b })
+
   -- such a name that stands last
   pub broken : {X : Type 0} (Is : List Word → X → Type 0) (t : Located) (ts : List Located) → Alone t ts → (name : List ℕ) → t.word ≡ Name name → t.at ≡ bad → Begun (λ vs x. Is (t.word ∷ vs) x) [] → Held Is (t.word ∷ words ts)
-  broken Is t ts alone name is e b = inr (record { named = t.word ∷ []; rest = words ts; parts = refl; no_name = alone name is e; begun = record { more = b.more; x = b.x; is = b.is } })
+  broken Is t ts alone name is e b = spoilt Is t ts (subst (λ (w : Word). QuietBehind w ts) is (alone e)) (record { more = b.more; x = b.x; is = b.is })
 
   pub held_if : {X : Type 0} (via : Via X) (Is : List Word → X → Type 0) (ws : List Word) (c : Bool) (r q : Result X ConfigFault) → (c ≡ true → Holds via Is ws r) → (c ≡ false → Holds via Is ws q) → Holds via Is ws (cond c r q)
   held_if via Is ws true r q a b = a refl
@@ -117,7 +143,7 @@ module _ (bad : ℕ) (Bound : FaultKind → Type 0) where
 
   module _ {X : Type 0} (via : Via X) (Is Is' : List Word → X → Type 0) (to : (vs : List Word) (x : X) → Is vs x → Is' vs x) where
     kept_to : (ws : List Word) → Kept Is ws → Kept Is' ws
-    kept_to ws k = record { named = k.named; rest = k.rest; parts = k.parts; no_name = k.no_name; begun = record { more = k.begun.more; x = k.begun.x; is = to (k.named ++ k.begun.more) k.begun.x k.begun.is } }
+    kept_to ws k = record { named = k.named; rest = k.rest; parts = k.parts; quiet = k.quiet; begun = record { more = k.begun.more; x = k.begun.x; is = to (k.named ++ k.begun.more) k.begun.x k.begun.is } }
 
     pub held_to : (ws : List Word) (r : Result X ConfigFault) → Holds via Is ws r → Holds via Is' ws r
     held_to ws (Ok x) k = record { own = k.own; whole = k.whole; is = to k.own x k.is; short = k.short }
@@ -133,7 +159,7 @@ module _ (bad : ℕ) (Bound : FaultKind → Type 0) where
       named = a ++ k.named;
       rest = k.rest;
       parts = ap (λ (l : List Word). a ++ l) k.parts ∙ sym (append_assoc a k.named k.rest);
-      no_name = k.no_name;
+      quiet = k.quiet;
       begun = record { more = k.begun.more; x = k.begun.x; is = subst (λ (l : List Word). Is l k.begun.x) (sym (append_assoc a k.named k.begun.more)) k.begun.is };
     }
 
@@ -141,10 +167,10 @@ module _ (bad : ℕ) (Bound : FaultKind → Type 0) where
     read_behind ws x k = record { own = a ++ k.own; whole = ap (λ (l : List Word). a ++ l) k.whole ∙ sym (append_assoc a k.own (via.rest x)); is = k.is; short = k.short }
 
     -- words without a name
-    pub behind_marks : All IsNoName a → (ws : List Word) (r : Result X ConfigFault) → Holds via (λ vs x. Is (a ++ vs) x) ws r → Holds via Is (a ++ ws) r
+    pub behind_marks : All IsQuiet a → (ws : List Word) (r : Result X ConfigFault) → Holds via (λ vs x. Is (a ++ vs) x) ws r → Holds via Is (a ++ ws) r
     behind_marks none ws (Ok x) k = read_behind ws x k
     behind_marks none ws (Err e) k = λ h. elim (k h) [
-      | inl n ↦ inl (All-append IsNoName a ws none n)
+      | inl n ↦ inl (All-append IsQuiet a ws none n)
       | inr q ↦ inr (kept_behind ws q)
     ]
 
@@ -152,12 +178,12 @@ module _ (bad : ℕ) (Bound : FaultKind → Type 0) where
     pub behind_names : Begun Is a → (ws : List Word) (r : Result X ConfigFault) → Holds via (λ vs x. Is (a ++ vs) x) ws r → Holds via Is (a ++ ws) r
     behind_names b ws (Ok x) k = read_behind ws x k
     behind_names b ws (Err e) k = λ h. elim (k h) [
-      | inl n ↦ inr (record { named = a; rest = ws; parts = refl; no_name = n; begun = b })
+      | inl n ↦ inr (record { named = a; rest = ws; parts = refl; quiet = n; begun = b })
       | inr q ↦ inr (kept_behind ws q)
     ]
 
-  pub behind_mark : {X : Type 0} (via : Via X) (Is : List Word → X → Type 0) (x : Symbol) (ws : List Word) (r : Result X ConfigFault) → Holds via (λ vs y. Is (Mark x ∷ vs) y) ws r → Holds via Is (Mark x ∷ ws) r
-  behind_mark via Is x ws r k = behind_marks via Is (Mark x ∷ []) (All-cons IsNoName (Mark x) [] tt (All-nil IsNoName)) ws r k
+  pub behind_mark : {X : Type 0} (via : Via X) (Is : List Word → X → Type 0) (x : Symbol) → IsQuiet (Mark x) → (ws : List Word) (r : Result X ConfigFault) → Holds via (λ vs y. Is (Mark x ∷ vs) y) ws r → Holds via Is (Mark x ∷ ws) r
+  behind_mark via Is x quiet ws r k = behind_marks via Is (Mark x ∷ []) (All-cons IsQuiet (Mark x) [] quiet (All-nil IsQuiet)) ws r k
 
   -- one reading, and another behind it
   module _ {X Y : Type 0} (vx : Via X) (vy : Via Y) (IsX : List Word → X → Type 0) (Is : List Word → Y → Type 0) (next : X → Result Y ConfigFault) where
@@ -166,7 +192,7 @@ module _ (bad : ℕ) (Bound : FaultKind → Type 0) where
       kept_then ws k =
           let b = k.begun in
           let c = ends (k.named ++ b.more) b.x b.is in
-          record { named = k.named; rest = k.rest; parts = k.parts; no_name = k.no_name; begun = record { more = b.more ++ c.more; x = c.x; is = subst (λ (l : List Word). Is l c.x) (append_assoc k.named b.more c.more) c.is } }
+          record { named = k.named; rest = k.rest; parts = k.parts; quiet = k.quiet; begun = record { more = b.more ++ c.more; x = c.x; is = subst (λ (l : List Word). Is l c.x) (append_assoc k.named b.more c.more) c.is } }
 
       pub held_then : (ws : List Word) (r : Result X ConfigFault) → Holds vx IsX ws r → ((own : List Word) (x : X) → IsX own x → IsOver (vx.state x) → Holds vy (λ vs y. Is (own ++ vs) y) (vx.rest x) (next x)) → Holds vy Is ws (r >>= next)
       held_then ws (Ok x) k behind =
@@ -188,35 +214,42 @@ module _ (bad : ℕ) (Bound : FaultKind → Type 0) where
     token_held s next short behind = by s.left.tokens s.left.last short
       where
         by : (ts : List Located) (last : Result Located ConfigFault) → Over ts last → Holds vy Is (words ts) (token (at last ts s.seen) >>= next)
-        by [] last e = subst (λ (l : Result Located ConfigFault). Holds vy Is [] (token (at l [] s.seen) >>= next)) (sym e.0) (λ h. inl (All-nil IsNoName))
+        by [] last e = subst (λ (l : Result Located ConfigFault). Holds vy Is [] (token (at l [] s.seen) >>= next)) (sym e.0) (λ h. inl (All-nil IsQuiet))
         by (t ∷ ts) last e = behind t ts last e.1.0 (e.0, e.1.1)
 
-    abbrev Behind : State → Symbol → (State → Result Y ConfigFault) → Type 0
-    Behind s x next = (ts : List Located) (last : Result Located ConfigFault) → Over ts last → Holds vy (λ vs y. Is (Mark x ∷ vs) y) (words ts) (next (at last ts s.seen))
+    abbrev Next : State → Symbol → (State → Result Y ConfigFault) → Type 0
+    Next s x next = (ts : List Located) (last : Result Located ConfigFault) → Over ts last → Holds vy (λ vs y. Is (Mark x ∷ vs) y) (words ts) (next (at last ts s.seen))
 
-    marked : (x : Symbol) (w : Word) (ws : List Word) (r : Result Y ConfigFault) → w ≡ Mark x → Holds vy (λ vs y. Is (Mark x ∷ vs) y) ws r → Holds vy Is (w ∷ ws) r
-    marked x w ws r e k = subst (λ (v : Word). Holds vy Is (v ∷ ws) r) (sym e) (behind_mark vy Is x ws r k)
+    -- a mark that is quiet, or that ends a thing
+    abbrev pub Goes : Symbol → Type 0
+    Goes x = IsQuiet (Mark x) ⊎ Begun Is (Mark x ∷ [])
 
-    pub symbol_held : (x : Symbol) (s : State) (next : State → Result Y ConfigFault) → IsOver s → Behind s x next → Holds vy Is (words_in s) (symbol_at x s >>= next)
+    marked : (x : Symbol) → Goes x → (w : Word) (ws : List Word) (r : Result Y ConfigFault) → w ≡ Mark x → Holds vy (λ vs y. Is (Mark x ∷ vs) y) ws r → Holds vy Is (w ∷ ws) r
+    marked x goes w ws r e k = subst (λ (v : Word). Holds vy Is (v ∷ ws) r) (sym e) (elim goes [
+      | inl quiet ↦ behind_mark vy Is x quiet ws r k
+      | inr b ↦ behind_names vy Is (Mark x ∷ []) b ws r k
+    ])
+
+    pub symbol_held : (x : Symbol) → Goes x → (s : State) (next : State → Result Y ConfigFault) → IsOver s → Next s x next → Holds vy Is (words_in s) (symbol_at x s >>= next)
     unfolding symbol_at
-    symbol_held x s next short behind =
+    symbol_held x goes s next short behind =
         let test : Located × State → Result State ConfigFault = λ t. cond (is_mark x t.0.word) (Ok t.1) (fails BadShape t.0.at) in
         subst (Holds vy Is (words_in s)) (regroup (token s) test next) (token_held s (λ t. test t >>= next) short (λ t ts last alone e. by t ts last e (is_mark x t.word) refl))
       where
         by : (t : Located) (ts : List Located) (last : Result Located ConfigFault) → Over ts last → (c : Bool) → is_mark x t.word ≡ c → Holds vy Is (t.word ∷ words ts) (cond c (Ok (at last ts s.seen)) (fails BadShape t.at) >>= next)
-        by t ts last e true is = marked x t.word (words ts) (next (at last ts s.seen)) (mark_is x t.word is) (behind ts last e)
+        by t ts last e true is = marked x goes t.word (words ts) (next (at last ts s.seen)) (mark_is x t.word is) (behind ts last e)
         by t ts last e false is = λ h. absurd h
 
-    pub more_held : (close : Symbol) (s : State) (next : Bool × State → Result Y ConfigFault) → IsOver s → Behind s Comma (λ u. next (true, u)) → Behind s close (λ u. next (false, u)) → Holds vy Is (words_in s) (more_at close s >>= next)
+    pub more_held : (close : Symbol) → Goes close → (s : State) (next : Bool × State → Result Y ConfigFault) → IsOver s → Next s Comma (λ u. next (true, u)) → Next s close (λ u. next (false, u)) → Holds vy Is (words_in s) (more_at close s >>= next)
     unfolding more_at
-    more_held close s next short comma closes =
+    more_held close goes s next short comma closes =
         let test : Located × State → Result (Bool × State) ConfigFault = λ t. cond (is_mark Comma t.0.word) (Ok (true, t.1)) (cond (is_mark close t.0.word) (Ok (false, t.1)) (fails BadShape t.0.at)) in
         subst (Holds vy Is (words_in s)) (regroup (token s) test next) (token_held s (λ t. test t >>= next) short (λ t ts last alone e. by t ts last e (is_mark Comma t.word) (is_mark close t.word) refl refl))
       where
         by : (t : Located) (ts : List Located) (last : Result Located ConfigFault) → Over ts last → (c d : Bool) → is_mark Comma t.word ≡ c → is_mark close t.word ≡ d
             → Holds vy Is (t.word ∷ words ts) (cond c (Ok (true, at last ts s.seen)) (cond d (Ok (false, at last ts s.seen)) (fails BadShape t.at)) >>= next)
-        by t ts last e true d is f = marked Comma t.word (words ts) (next (true, at last ts s.seen)) (mark_is Comma t.word is) (comma ts last e)
-        by t ts last e false true is f = marked close t.word (words ts) (next (false, at last ts s.seen)) (mark_is close t.word f) (closes ts last e)
+        by t ts last e true d is f = marked Comma (inl tt) t.word (words ts) (next (true, at last ts s.seen)) (mark_is Comma t.word is) (comma ts last e)
+        by t ts last e false true is f = marked close goes t.word (words ts) (next (false, at last ts s.seen)) (mark_is close t.word f) (closes ts last e)
         by t ts last e false false is f = λ h. absurd h
 
   -- ---- lists
@@ -256,7 +289,7 @@ module _ (bad : ℕ) (Bound : FaultKind → Type 0) where
       list_held (suc n) before t s alone short inv =
           held_then by_pair by_pair (Taken Is (May before) step s.seen) (IsHeldRun before s.seen) (λ one. more_at close one.1 >>= λ more. cond more.0 (token more.1 >>= λ next. comma_list read close n (before ++ one.0 ∷ []) next.0 next.1) (Ok (before ++ one.0 ∷ [], more.1)))
           (λ own x k. record { more = Mark close ∷ []; x = (before ++ x.0 ∷ [], x.1); is = close_one before s.seen own x k x.1 refl }) (t.word ∷ words_in s) (read before t s) (reads before t s alone short inv)
-          (λ own x k short. more_held by_pair (λ vs ys. IsHeldRun before s.seen (own ++ vs) ys) close x.1 (λ more. cond more.0 (token more.1 >>= λ next. comma_list read close n (before ++ x.0 ∷ []) next.0 next.1) (Ok (before ++ x.0 ∷ [], more.1))) short
+          (λ own x k short. more_held by_pair (λ vs ys. IsHeldRun before s.seen (own ++ vs) ys) close (inr (record { more = []; x = (before ++ x.0 ∷ [], x.1); is = close_one before s.seen own x k x.1 refl })) x.1 (λ more. cond more.0 (token more.1 >>= λ next. comma_list read close n (before ++ x.0 ∷ []) next.0 next.1) (Ok (before ++ x.0 ∷ [], more.1))) short
           (λ ts last e. token_held by_pair (λ vs ys. IsHeldRun before s.seen (own ++ Mark Comma ∷ vs) ys) (at last ts x.1.seen) (λ next. comma_list read close n (before ++ x.0 ∷ []) next.0 next.1) e
           (λ t ts last alone e. held_to by_pair (IsHeldRun (before ++ x.0 ∷ []) x.1.seen) (λ vs ys. IsHeldRun before s.seen (own ++ Mark Comma ∷ vs) ys) (λ vs ys r. comma_more before s.seen own x k vs ys r) (t.word ∷ words ts) (comma_list read close n (before ++ x.0 ∷ []) t (at last ts x.1.seen))
           (list_held n (before ++ x.0 ∷ []) t (at last ts x.1.seen) alone e (subst Inv (sym k.2) (keep before s.seen x.0 inv k.1)))))
@@ -273,7 +306,7 @@ module _ (bad : ℕ) (Bound : FaultKind → Type 0) where
     pub bracketed_held : (s : State) → IsOver s → Inv s.seen → Holds by_pair (IsHeldList s.seen) (words_in s) (list_of read s)
     unfolding list_of
     bracketed_held s short inv =
-        symbol_held by_pair (IsHeldList s.seen) OpenList s (λ begun. token begun >>= λ first. cond (is_mark CloseList first.0.word) (Ok ([], first.1)) (comma_list read CloseList (room first.1) [] first.0 first.1)) short
+        symbol_held by_pair (IsHeldList s.seen) OpenList (inl tt) s (λ begun. token begun >>= λ first. cond (is_mark CloseList first.0.word) (Ok ([], first.1)) (comma_list read CloseList (room first.1) [] first.0 first.1)) short
         (λ ts last e. token_held by_pair (λ vs xs. IsHeldList s.seen (Mark OpenList ∷ vs) xs) (at last ts s.seen) (λ first. cond (is_mark CloseList first.0.word) (Ok ([], first.1)) (comma_list read CloseList (room first.1) [] first.0 first.1)) e
         (λ t ts last alone e. held_if by_pair (λ vs xs. IsHeldList s.seen (Mark OpenList ∷ vs) xs) (t.word ∷ words ts) (is_mark CloseList t.word) (Ok ([], at last ts s.seen)) (comma_list read CloseList (room (at last ts s.seen)) [] t (at last ts s.seen))
         (λ c. record { own = t.word ∷ []; whole = refl; is = (([], ap (λ (w : Word). Mark OpenList ∷ w ∷ []) (mark_is CloseList t.word c), refl), tt, refl); short = e })
@@ -284,7 +317,7 @@ module _ (bad : ℕ) (Bound : FaultKind → Type 0) where
   pub closed_held : {A : Type 0} (Is : List Word → A → Seen → Type 0) (value : State → Result (A × State) ConfigFault) (s : State) → Holds by_pair (λ own x. Is own x.0 x.1.seen) (words_in s) (value s) → Holds by_pair (IsHeldClosed Is) (words_in s) (closed value s)
   closed_held {A} Is value s valued =
       held_then by_pair by_pair (λ own x. Is own x.0 x.1.seen) (IsHeldClosed Is) (λ one. symbol_at CloseTuple one.1 >>= λ close. Ok (one.0, close)) (λ own x is. record { more = Mark CloseTuple ∷ []; x = x; is = (own, refl, is) }) (words_in s) (value s) valued
-      (λ own x is short. symbol_held by_pair (λ vs (y : A × State). IsHeldClosed Is (own ++ vs) y) CloseTuple x.1 (λ close. Ok (x.0, close)) short (λ ts last e. record { own = []; whole = refl; is = (own, refl, is); short = e }))
+      (λ own x is short. symbol_held by_pair (λ vs (y : A × State). IsHeldClosed Is (own ++ vs) y) CloseTuple (inr (record { more = []; x = x; is = (own, refl, is) })) x.1 (λ close. Ok (x.0, close)) short (λ ts last e. record { own = []; whole = refl; is = (own, refl, is); short = e }))
 
   module _ {K A : Type 0} (Is : List Word → A × State → Type 0) (Says : Word → K → Type 0) (name_of : Located → Result K ConfigFault) (rest : K → State → Result (A × State) ConfigFault) (seen : Seen) (named : (t : Located) → Shows (Unfit K Says t) (Says t.word) (name_of t))
       (filled : (w : Word) (k : K) → Says w k → Begun (λ vs x. Is (Mark OpenTuple ∷ w ∷ Mark Comma ∷ vs) x) [])
@@ -293,7 +326,7 @@ module _ (bad : ℕ) (Bound : FaultKind → Type 0) where
     behind_name t k says ts last e =
         let full = filled t.word k says in
         behind_names by_pair (λ vs x. Is (Mark OpenTuple ∷ vs) x) (t.word ∷ []) (record { more = Mark Comma ∷ full.more; x = full.x; is = full.is }) (words ts) (symbol_at Comma (at last ts seen) >>= rest k)
-        (symbol_held by_pair (λ vs x. Is (Mark OpenTuple ∷ t.word ∷ vs) x) Comma (at last ts seen) (rest k) e (λ ts last e. rests t.word k says ts last e))
+        (symbol_held by_pair (λ vs x. Is (Mark OpenTuple ∷ t.word ∷ vs) x) Comma (inl tt) (at last ts seen) (rest k) e (λ ts last e. rests t.word k says ts last e))
 
     -- a name that breaks a limit
     name_broken : (t : Located) (ts : List Located) → Alone t ts → Unfit K Says t → Held (λ vs x. Is (Mark OpenTuple ∷ vs) x) (t.word ∷ words ts)
@@ -311,4 +344,4 @@ module _ (bad : ℕ) (Bound : FaultKind → Type 0) where
     pair_held t ts last e =
         let inner : Result (A × State) ConfigFault = token (at last ts seen) >>= λ first. name_of first.0 >>= λ name. symbol_at Comma first.1 >>= rest name in
         held_if by_pair Is (t.word ∷ words ts) (is_mark OpenTuple t.word) inner (fails BadShape t.at)
-        (λ c. subst (λ (w : Word). Holds by_pair Is (w ∷ words ts) inner) (sym (mark_is OpenTuple t.word c)) (behind_mark by_pair Is OpenTuple (words ts) inner (inner_held ts last e))) (λ c h. absurd h)
+        (λ c. subst (λ (w : Word). Holds by_pair Is (w ∷ words ts) inner) (sym (mark_is OpenTuple t.word c)) (behind_mark by_pair Is OpenTuple tt (words ts) inner (inner_held ts last e))) (λ c h. absurd h)

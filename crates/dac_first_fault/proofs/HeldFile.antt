@@ -1,4 +1,4 @@
--- A whole file that keeps the limits that are bound, up to the last name.
+-- A whole file that keeps the limits that are bound, up to the last word that isn't quiet.
 use Rattle.std.proofs.Common.{◌≡◌, ℕ, Bool, true, false, cond, eqb, List, [], ◌∷◌, ◌++◌, length, Result, Ok, Err, refl, sym, subst, append_assoc, inl, inr}
 use Rattle.std.specs.Prelude.{All}
 use Rattle.std.proofs.lemmas.List.Elements.{All-nil, All-cons}
@@ -11,24 +11,23 @@ use Rattle.dac_tokens.specs.Words.{Word, Mark, Located, is_end}
 use Rattle.dac_shapes.specs.Written.{Section, Written, written}
 use Rattle.dac_shapes.specs.Limits.{Seen, nothing}
 use Rattle.dac_shapes.specs.Shape.{State, fails, is_mark, token, symbol_at, list_of, section_at, end_at, file_at}
-use Rattle.dac_shapes.specs.Grammar.{IsFile}
 use Rattle.dac_shapes.specs.laws.AgainLists.{at}
+use Rattle.dac_first_fault.specs.Loose.{IsLooseFile}
 use Rattle.dac_first_fault.specs.Keeps.{Keeps}
-use Rattle.dac_first_fault.specs.FirstFault.{IsNoName}
 use Rattle.dac_first_fault.proofs.Steps.{mark_is}
 use Rattle.dac_first_fault.proofs.Begun.{halt, words_in, by_pair}
-use Rattle.dac_first_fault.proofs.Held.{words, Kept, Stops, Lone, Holds}
+use Rattle.dac_first_fault.proofs.Held.{words, IsQuiet, Kept, Stops, Lone, Holds}
 use Rattle.dac_first_fault.proofs.HeldSections.{AreSections, sections_held}
 
 module _ (bad : ℕ) (Bound : FaultKind → Type 0) where
   -- a file that keeps the limits that are bound
   abbrev pub KeptFile : List Word → List Section → Type 0
-  KeptFile ws sections = IsFile ws sections × Keeps Bound sections
+  KeptFile ws sections = IsLooseFile Bound ws sections × Keeps Bound sections
 
-  -- where reading stopped, these words hold no name
+  -- where reading stopped, these words are quiet
   abbrev Quiet : {X : Type 0} → List Word → Result X ConfigFault → Type 0
   Quiet ws (Ok x) = Unit {0}
-  Quiet ws (Err e) = Stops bad Bound e.kind e.at → All IsNoName ws
+  Quiet ws (Err e) = Stops bad Bound e.kind e.at → All IsQuiet ws
 
   abbrev Falls : {X : Type 0} → List Word → Result X ConfigFault → Type 0
   Falls ws (Ok x) = Unit {0}
@@ -51,8 +50,8 @@ module _ (bad : ℕ) (Bound : FaultKind → Type 0) where
     stop_quiet ws t u true = judged_quiet ws t.at (written sections u.seen.met) (eqb (length (written sections u.seen.met).apps) 0)
     stop_quiet ws t u false = λ h. absurd h
 
-    one_quiet : (w : Word) → w ≡ Mark FullStop → All IsNoName (w ∷ [])
-    one_quiet w e = subst (λ (v : Word). All IsNoName (v ∷ [])) (sym e) (All-cons IsNoName (Mark FullStop) [] tt (All-nil IsNoName))
+    one_quiet : (w : Word) → w ≡ Mark FullStop → All IsQuiet (w ∷ [])
+    one_quiet w e = subst (λ (v : Word). All IsQuiet (v ∷ [])) (sym e) (All-cons IsQuiet (Mark FullStop) [] tt (All-nil IsQuiet))
 
     behind_stop : (w : Word) (ts : List Located) (last : Result Located ConfigFault) → last ≡ Err halt → w ≡ Mark FullStop → Quiet (w ∷ words ts) ((token (at last ts seen) >>= stop) >>= judged)
     behind_stop w [] last e is = subst (λ (l : Result Located ConfigFault). Quiet (w ∷ []) ((token (at l [] seen) >>= stop) >>= judged)) (sym e) (λ h. one_quiet w is)
@@ -64,28 +63,28 @@ module _ (bad : ℕ) (Bound : FaultKind → Type 0) where
 
     end_quiet : (ts : List Located) (last : Result Located ConfigFault) → last ≡ Err halt → Quiet (words ts) (end_at (at last ts seen) >>= judged)
     unfolding end_at symbol_at
-    end_quiet [] last e = subst (λ (l : Result Located ConfigFault). Quiet [] (end_at (at l [] seen) >>= judged)) (sym e) (λ h. All-nil IsNoName)
+    end_quiet [] last e = subst (λ (l : Result Located ConfigFault). Quiet [] (end_at (at l [] seen) >>= judged)) (sym e) (λ h. All-nil IsQuiet)
     end_quiet (t ∷ ts) last e = at_stop t ts last e (is_mark FullStop t.word) refl
 
   -- ---- a file
 
-  empty_kept : (ws : List Word) → All IsNoName ws → Kept KeptFile ws
+  empty_kept : (ws : List Word) → All IsQuiet ws → Kept KeptFile ws
   empty_kept ws none = record {
     named = [];
     rest = ws;
     parts = refl;
-    no_name = none;
+    quiet = none;
     begun = record { more = Mark OpenList ∷ Mark CloseList ∷ Mark FullStop ∷ []; x = []; is = ((Mark OpenList ∷ Mark CloseList ∷ [], refl, ([], refl, refl)), tt) };
   }
 
   list_kept : (ws : List Word) → Kept (AreSections bad Bound) ws → Kept KeptFile ws
   list_kept ws k =
       let b = k.begun in
-      record { named = k.named; rest = k.rest; parts = k.parts; no_name = k.no_name; begun = record { more = b.more ++ Mark FullStop ∷ []; x = b.x.0; is = ((k.named ++ b.more, sym (append_assoc k.named b.more (Mark FullStop ∷ [])), b.is.0), b.is.1) } }
+      record { named = k.named; rest = k.rest; parts = k.parts; quiet = k.quiet; begun = record { more = b.more ++ Mark FullStop ∷ []; x = b.x.0; is = ((k.named ++ b.more, sym (append_assoc k.named b.more (Mark FullStop ∷ [])), b.is.0), b.is.1) } }
 
   quiet_kept : {X : Type 0} (own : List Word) (xs : List Section × State) → (AreSections bad Bound) own xs → (ws : List Word) (r : Result X ConfigFault) → Quiet ws r → Falls (own ++ ws) r
   quiet_kept own xs is ws (Ok x) k = tt
-  quiet_kept own xs is ws (Err e) k = λ h. record { named = own; rest = ws; parts = refl; no_name = k h; begun = record { more = Mark FullStop ∷ []; x = xs.0; is = ((own, refl, is.0), is.1) } }
+  quiet_kept own xs is ws (Err e) k = λ h. record { named = own; rest = ws; parts = refl; quiet = k h; begun = record { more = Mark FullStop ∷ []; x = xs.0; is = ((own, refl, is.0), is.1) } }
 
   list_falls : (ws : List Word) (r : Result (List Section × State) ConfigFault) → Holds bad Bound by_pair (AreSections bad Bound) ws r → Falls ws (r >>= λ x. end_at x.1 >>= judged x.0 x.1.seen)
   list_falls ws (Ok x) k = subst (λ (l : List Word). Falls l (end_at x.1 >>= judged x.0 x.1.seen)) (sym k.whole) (quiet_kept k.own x k.is (words_in x.1) (end_at x.1 >>= judged x.0 x.1.seen) (end_quiet x.0 x.1.seen x.1.left.tokens x.1.left.last k.short.0))
@@ -98,7 +97,7 @@ module _ (bad : ℕ) (Bound : FaultKind → Type 0) where
   unfolding file_at
   file_falls ts lone = list_falls (words ts) (list_of section_at (at (Err halt) ts nothing)) (sections_held bad Bound ts lone)
 
-  -- up to the last name a file that keeps them begins with the words of tokens whose reading stopped
+  -- up to the last word that isn't quiet, a file that keeps them begins with the words of tokens whose reading stopped
   pub file_kept : (ts : List Located) → Lone bad Bound ts → (e : ConfigFault) → Stops bad Bound e.kind e.at → file_at (at (Err halt) ts nothing) ≡ Err e → Kept KeptFile (words ts)
   file_kept ts lone e stops is = by (file_at (at (Err halt) ts nothing)) is (file_falls ts lone)
     where

@@ -1,9 +1,10 @@
--- Nodes, applications and permissions that keep the limits that are bound, up to the last name.
+-- Nodes, applications and permissions that keep the limits that are bound, up to the last word that isn't quiet.
 use Rattle.std.proofs.Common.{◌≡◌, ℕ, ◌<◌, ◌≤◌, Bool, true, false, cond, not, ◌&&◌, ◌||◌, eqb, ltb, leb, List, [], ◌∷◌, ◌++◌, length, map, Result, Ok, Err, refl, sym, ap, subst, ◌∙◌, inl, inr, codes, arith}
+use Rattle.std.specs.Prelude.{All}
 use Rattle.std.specs.Str.{bytes_eq}
 use Rattle.std.proofs.lemmas.Bool.{ltb-true, ltb-false, leb-false, eqb-true}
 use Rattle.std.proofs.lemmas.Slice.Eq.{bytes_eq-Decides}
-use Rattle.std.proofs.lemmas.List.Elements.{All-nil, All-cons}
+use Rattle.std.proofs.lemmas.List.Elements.{All-nil}
 use Rattle.dac_tokens.specs.declared.fault.ConfigFault.{ConfigFault}
 use Rattle.dac_tokens.specs.declared.fault.FaultKind.{FaultKind}
 use Rattle.dac_tokens.specs.declared.fault.FaultKind.TheVariants.{BadShape, EmptyList, EmptyTuple, TwiceInList, TwiceApp, TooManyApps, TooManyNodes, NumberTooLarge, NameTooLong}
@@ -14,15 +15,16 @@ use Rattle.dac_shapes.specs.Written.{App, Permission}
 use Rattle.dac_shapes.specs.Limits.{Seen, nothing, is_among, with_name, with_node, with_nodes, with_groups, listing, with_app, with_permission, AllMay, steps}
 use Rattle.dac_tokens.specs.Digits.{value_from}
 use Rattle.dac_shapes.specs.Shape.{State, fails, is_mark, token, symbol_at, atom_of, short_name_of, milliseconds_of, flag_of, app_name_of, node_of, names_at, item_at, items_at, groups_at, timeout_at, app_value_at, app_at, permission_value_at, permission_at, closed, room}
-use Rattle.dac_shapes.specs.Grammar.{Parted, IsNode, IsItem, IsNodeList, IsMs, IsTimeout, IsAppValue, IsApp, IsFlag, IsPermission}
+use Rattle.dac_shapes.specs.Grammar.{Parted, IsNode, IsMs, IsFlag, IsPermission}
 use Rattle.dac_shapes.specs.laws.AgainLists.{at}
 use Rattle.dac_shapes.specs.laws.Names.{is_named}
+use Rattle.dac_first_fault.specs.Loose.{IsLooseItem, IsLooseNodeList, IsLooseMs, IsLooseTimeout, IsLooseAppValue, IsLooseApp}
 use Rattle.dac_first_fault.specs.Keeps.{NodeKeeps, NodesKeep, GroupsKeep, AppKeeps, PermissionKeeps}
-use Rattle.dac_first_fault.specs.FirstFault.{IsNoName}
 use Rattle.dac_first_fault.proofs.Steps.{mark_is}
-use Rattle.dac_first_fault.proofs.Begun.{halt, Begun, words_in, by_pair}
-use Rattle.dac_first_fault.proofs.BegunReaders.{not_less, by_timeout, pair_is}
-use Rattle.dac_first_fault.proofs.Held.{words, Held, Frees, Alone, Over, IsOver, Holds, Shows, shows_then, shows_if, Unfit, broken, held_if, held_to, held_then, held_look, behind_mark, behind_marks, token_held, symbol_held, Taken, IsHeldRun, list_held, IsHeldClosed, closed_held, pair_held}
+use Rattle.dac_first_fault.proofs.Readers.{not_negative}
+use Rattle.dac_first_fault.proofs.Begun.{halt, Begun, Via, words_in, by_pair}
+use Rattle.dac_first_fault.proofs.BegunReaders.{not_less, pair_is}
+use Rattle.dac_first_fault.proofs.Held.{words, IsQuiet, Held, Frees, Stops, QuietBehind, but_one, Alone, Over, IsOver, Holds, Shows, shows_then, shows_if, Unfit, spoilt, broken, held_if, held_to, held_then, held_look, behind_mark, behind_names, token_held, symbol_held, Taken, IsHeldRun, list_held, IsHeldClosed, closed_held, pair_held}
 
 module _ (bad : ℕ) (Bound : FaultKind → Type 0) where
   -- what is made of what was read
@@ -31,7 +33,7 @@ module _ (bad : ℕ) (Bound : FaultKind → Type 0) where
   made_held P Q to so ws (Ok x) k = record { own = k.own; whole = k.whole; is = so k.own x.0 x.1 k.is; short = k.short }
   made_held P Q to so ws (Err e) k = λ h. elim (k h) [
     | inl n ↦ inl n
-    | inr q ↦ inr (record { named = q.named; rest = q.rest; parts = q.parts; no_name = q.no_name; begun = record { more = q.begun.more; x = (to q.begun.x.0, q.begun.x.1); is = so (q.named ++ q.begun.more) q.begun.x.0 q.begun.x.1 q.begun.is } })
+    | inr q ↦ inr (record { named = q.named; rest = q.rest; parts = q.parts; quiet = q.quiet; begun = record { more = q.begun.more; x = (to q.begun.x.0, q.begun.x.1); is = so (q.named ++ q.begun.more) q.begun.x.0 q.begun.x.1 q.begun.is } })
   ]
 
   -- ---- a node that may come at the start of any list
@@ -102,11 +104,12 @@ module _ (bad : ℕ) (Bound : FaultKind → Type 0) where
       one_name : (name wanted : List ℕ) → t.word ≡ Name name → bytes_eq name wanted ≡ true → t.word ∷ [] ≡ Name wanted ∷ []
       one_name name wanted e is = ap (λ (w : Word). w ∷ []) (e ∙ ap Name (is_named name wanted is))
 
-  pub ms_shows : (Q : Type 0) (place : ℕ) (negative : Bool) (digits : List ℕ) → Shows bad Bound Q (IsMs (Number negative digits)) (milliseconds_of place negative (value_from 0 digits))
-  ms_shows Q place negative digits =
+  pub ms_shows : (Q : Type 0) (place : ℕ) (negative : Bool) (digits : List ℕ) → (negative ≡ false → 4294967296 ≤ value_from 0 digits → Stops bad Bound NumberTooLarge place → Q) → Shows bad Bound Q (IsMs (Number negative digits)) (milliseconds_of place negative (value_from 0 digits))
+  ms_shows Q place negative digits spoils =
       let v = value_from 0 digits in
       shows_if bad Bound Q (IsMs (Number negative digits)) (negative && not (eqb v 0)) (fails BadShape place) (cond (ltb v 4294967296) (Ok v) (fails NumberTooLarge place)) (λ below h. absurd h)
-      (λ above. shows_if bad Bound Q (IsMs (Number negative digits)) (ltb v 4294967296) (Ok v) (fails NumberTooLarge place) (λ small. (negative, digits, refl, refl, ltb-true v 4294967296 small, λ n. not_less negative (eqb v 0) v n above (λ z. eqb-true v 0 z))) (λ large h. absurd h))
+      (λ above. shows_if bad Bound Q (IsMs (Number negative digits)) (ltb v 4294967296) (Ok v) (fails NumberTooLarge place) (λ small. (negative, digits, refl, refl, ltb-true v 4294967296 small, λ n. not_less negative (eqb v 0) v n above (λ z. eqb-true v 0 z)))
+      (λ large h. let least = ltb-false v 4294967296 large in spoils (not_negative negative v above least) least h))
 
   -- a name of at most MAX_NAME bytes, or a longer one that breaks the limit
   abbrev IsShortly : Word → List ℕ → Type 0
@@ -131,10 +134,10 @@ module _ (bad : ℕ) (Bound : FaultKind → Type 0) where
   unfolding app_name_of
   fine_shows before t =
       shows_then bad Bound (NoApp before t) (IsShortly t.word) (IsFine before t.word) (short_name_of t) (λ name. cond (is_among name (map (λ app. app.name) before)) (fails TwiceApp t.at) (cond (leb 64 (length before)) (fails TooManyApps t.at) (Ok name)))
-      (shortly_shows (NoApp before t) t (λ name e h. (name, e, h.0, (name, record { is = e; short = λ b. absurd (h.1 NameTooLong (omega arith) b); once = λ b. absurd (h.1 TwiceApp (omega arith) b); few = λ b. absurd (h.1 TooManyApps (omega arith) b) }))))
+      (shortly_shows (NoApp before t) t (λ name e h. (name, e, h.0, (name, record { is = e; short = λ b. absurd (h.1 NameTooLong (omega arith) (omega arith) b); once = λ b. absurd (h.1 TwiceApp (omega arith) (omega arith) b); few = λ b. absurd (h.1 TooManyApps (omega arith) (omega arith) b) }))))
       (λ name k. shows_if bad Bound (NoApp before t) (IsFine before t.word) (is_among name (map (λ app. app.name) before)) (fails TwiceApp t.at) (cond (leb 64 (length before)) (fails TooManyApps t.at) (Ok name))
-      (λ twice h. (name, k.0, h.0, (name, record { is = k.0; short = λ b. k.1; once = λ b. absurd (h.1 TwiceApp (omega arith) b); few = λ b. absurd (h.1 TooManyApps (omega arith) b) })))
-      (λ once. shows_if bad Bound (NoApp before t) (IsFine before t.word) (leb 64 (length before)) (fails TooManyApps t.at) (Ok name) (λ many h. (name, k.0, h.0, (name, record { is = k.0; short = λ b. k.1; once = λ b. once; few = λ b. absurd (h.1 TooManyApps (omega arith) b) })))
+      (λ twice h. (name, k.0, h.0, (name, record { is = k.0; short = λ b. k.1; once = λ b. absurd (h.1 TwiceApp (omega arith) (omega arith) b); few = λ b. absurd (h.1 TooManyApps (omega arith) (omega arith) b) })))
+      (λ once. shows_if bad Bound (NoApp before t) (IsFine before t.word) (leb 64 (length before)) (fails TooManyApps t.at) (Ok name) (λ many h. (name, k.0, h.0, (name, record { is = k.0; short = λ b. k.1; once = λ b. once; few = λ b. absurd (h.1 TooManyApps (omega arith) (omega arith) b) })))
       (λ few. record { is = k.0; short = λ b. k.1; once = λ b. once; few = λ b new. leb-false 64 (length before) few })))
 
   -- ---- nodes
@@ -147,11 +150,11 @@ module _ (bad : ℕ) (Bound : FaultKind → Type 0) where
   unfolding node_of
   node_held repeats t s alone short =
       held_look bad Bound (IsShortly t.word) by_pair Node ws (short_name_of t) (λ name. cond (not repeats && is_among name s.seen.listed) (fails TwiceInList t.at) (few name))
-      (shortly_shows (Held Node ws) t (λ name e h. breaks name e h.0 (record { short = λ b. absurd (h.1 NameTooLong (omega arith) b); once = λ b. absurd (h.1 TwiceInList (omega arith) b); few = λ b. absurd (h.1 TooManyNodes (omega arith) b) })))
+      (shortly_shows (Held Node ws) t (λ name e h. breaks name e h.0 (record { short = λ b. absurd (h.1 NameTooLong (omega arith) (omega arith) b); once = λ b. absurd (h.1 TwiceInList (omega arith) (omega arith) b); few = λ b. absurd (h.1 TooManyNodes (omega arith) (omega arith) b) })))
       (λ name k. held_if bad Bound by_pair Node ws (not repeats && is_among name s.seen.listed) (fails TwiceInList t.at) (few name)
-      (λ twice h. breaks name k.0 h.0 (record { short = λ b. k.1; once = λ b. absurd (h.1 TwiceInList (omega arith) b); few = λ b. absurd (h.1 TooManyNodes (omega arith) b) }))
+      (λ twice h. breaks name k.0 h.0 (record { short = λ b. k.1; once = λ b. absurd (h.1 TwiceInList (omega arith) (omega arith) b); few = λ b. absurd (h.1 TooManyNodes (omega arith) (omega arith) b) }))
       (λ once. held_if bad Bound by_pair Node ws (not (is_among name s.seen.met) && leb 16 (length s.seen.met)) (fails TooManyNodes t.at) (Ok (name, record s { seen = with_node s.seen name }))
-      (λ many h. breaks name k.0 h.0 (record { short = λ b. k.1; once = λ b e. unless_first repeats (is_among name s.seen.listed) once e; few = λ b. absurd (h.1 TooManyNodes (omega arith) b) }))
+      (λ many h. breaks name k.0 h.0 (record { short = λ b. k.1; once = λ b e. unless_first repeats (is_among name s.seen.listed) once e; few = λ b. absurd (h.1 TooManyNodes (omega arith) (omega arith) b) }))
       (λ known. record { own = t.word ∷ []; whole = refl; is = (ap (λ (w : Word). w ∷ []) k.0, may name k once known, refl); short = short })))
     where
       Node : List Word → List ℕ × State → Type 0
@@ -175,25 +178,29 @@ module _ (bad : ℕ) (Bound : FaultKind → Type 0) where
   -- ---- items of node lists, and node lists
 
   abbrev Item : Seen → List Word → List (List ℕ) × State → Type 0
-  Item seen own x = Taken IsItem (NodesKeep Bound false) with_nodes seen own x
+  Item seen own x = Taken (IsLooseItem Bound) (NodesKeep Bound false) with_nodes seen own x
 
   in_tuple : (seen : Seen) (vs : List Word) (ys : List (List ℕ) × State) (xs : List (List ℕ)) (inner : List Word) → vs ≡ inner ++ Mark CloseTuple ∷ [] → ys.0 ≡ xs → Parted IsNode inner xs → NodesKeep Bound false seen xs → ys.1.seen ≡ with_nodes seen xs → Item seen (Mark OpenTuple ∷ vs) ys
-  in_tuple seen vs ys xs inner e f p all after = subst (λ (l : List (List ℕ)). IsItem (Mark OpenTuple ∷ vs) l × NodesKeep Bound false seen l × (ys.1.seen ≡ with_nodes seen l)) (sym f) (inr (inner, ap (λ (l : List Word). Mark OpenTuple ∷ l) e, p), all, after)
+  in_tuple seen vs ys xs inner e f p all after = subst (λ (l : List (List ℕ)). IsLooseItem Bound (Mark OpenTuple ∷ vs) l × NodesKeep Bound false seen l × (ys.1.seen ≡ with_nodes seen l)) (sym f) (inl (inr (inner, ap (λ (l : List Word). Mark OpenTuple ∷ l) e, p)), all, after)
 
-  tuple_held : (t : Located) (s : State) → IsOver bad Bound s → Holds bad Bound by_pair (λ vs x. Item s.seen (Mark OpenTuple ∷ vs) x) (words_in s) (token s >>= λ first. cond (is_mark CloseTuple first.0.word) (fails EmptyTuple t.at) (names_at false CloseTuple first.0 first.1))
-  tuple_held t s short =
-      token_held bad Bound by_pair (λ vs x. Item s.seen (Mark OpenTuple ∷ vs) x) s (λ first. cond (is_mark CloseTuple first.0.word) (fails EmptyTuple t.at) (names_at false CloseTuple first.0 first.1)) short
-      (λ f ts last alone e. held_if bad Bound by_pair (λ vs x. Item s.seen (Mark OpenTuple ∷ vs) x) (f.word ∷ words ts) (is_mark CloseTuple f.word) (fails EmptyTuple t.at) (names_at false CloseTuple f (at last ts s.seen)) (λ none h. absurd h)
-      (λ some. held_to bad Bound by_pair (IsHeldRun bad Bound IsNode with_node (λ _. NodeKeeps Bound false) (λ _. node_of false) Any (λ _ _ _ _ _. tt) (λ _ t s alone short _. node_held false t s alone short) CloseTuple [] s.seen) (λ vs x. Item s.seen (Mark OpenTuple ∷ vs) x) (λ vs ys r. in_tuple s.seen vs ys r.0 r.1 r.2 r.3 r.4 r.5 r.6)
-      (f.word ∷ words ts) (names_at false CloseTuple f (at last ts s.seen)) (list_held bad Bound IsNode with_node (λ _. NodeKeeps Bound false) (λ _. node_of false) Any (λ _ _ _ _ _. tt) (λ _ t s alone short _. node_held false t s alone short) CloseTuple (room (at last ts s.seen)) [] f (at last ts s.seen) alone e tt)))
+  abbrev InTuple : Seen → List Word → List (List ℕ) × State → Type 0
+  InTuple seen vs x = Item seen (Mark OpenTuple ∷ vs) x
+
+  tuple_held : (t : Located) (seen : Seen) (ts : List Located) (last : Result Located ConfigFault) → (t.at ≡ bad → All IsQuiet (words (but_one ts))) → Over bad Bound ts last → Holds bad Bound by_pair (InTuple seen) (words ts) (token (at last ts seen) >>= λ first. cond (is_mark CloseTuple first.0.word) (fails EmptyTuple t.at) (names_at false CloseTuple first.0 first.1))
+  tuple_held t seen [] last quiet over = subst (λ (l : Result Located ConfigFault). Holds bad Bound by_pair (InTuple seen) [] (token (at l [] seen) >>= λ first. cond (is_mark CloseTuple first.0.word) (fails EmptyTuple t.at) (names_at false CloseTuple first.0 first.1))) (sym over.0) (λ h. inl (All-nil IsQuiet))
+  tuple_held t seen (f ∷ ts) last quiet over =
+      held_if bad Bound by_pair (InTuple seen) (f.word ∷ words ts) (is_mark CloseTuple f.word) (fails EmptyTuple t.at) (names_at false CloseTuple f (at last ts seen))
+      (λ none h. spoilt bad Bound (InTuple seen) f ts (quiet h.0) (record { more = []; x = ([], at (Err halt) [] seen); is = (inr (h.1, ap (λ (w : Word). Mark OpenTuple ∷ w ∷ []) (mark_is CloseTuple f.word none), refl), tt, refl) }))
+      (λ some. held_to bad Bound by_pair (IsHeldRun bad Bound IsNode with_node (λ _. NodeKeeps Bound false) (λ _. node_of false) Any (λ _ _ _ _ _. tt) (λ _ t s alone short _. node_held false t s alone short) CloseTuple [] seen) (InTuple seen) (λ vs ys r. in_tuple seen vs ys r.0 r.1 r.2 r.3 r.4 r.5 r.6)
+      (f.word ∷ words ts) (names_at false CloseTuple f (at last ts seen)) (list_held bad Bound IsNode with_node (λ _. NodeKeeps Bound false) (λ _. node_of false) Any (λ _ _ _ _ _. tt) (λ _ t s alone short _. node_held false t s alone short) CloseTuple (room (at last ts seen)) [] f (at last ts seen) over.1.0 (over.0, over.1.1) tt))
 
   item_held : (t : Located) (s : State) → Alone bad Bound t s.left.tokens → IsOver bad Bound s → Holds bad Bound by_pair (Item s.seen) (t.word ∷ words_in s) (item_at t s)
   unfolding item_at
   item_held t s alone short =
       let tuple : Result (List (List ℕ) × State) ConfigFault = token s >>= λ first. cond (is_mark CloseTuple first.0.word) (fails EmptyTuple t.at) (names_at false CloseTuple first.0 first.1) in
       held_if bad Bound by_pair (Item s.seen) (t.word ∷ words_in s) (is_mark OpenTuple t.word) tuple (node_of false t s >>= λ name. Ok (name.0 ∷ [], name.1))
-      (λ e. subst (λ (w : Word). Holds bad Bound by_pair (Item s.seen) (w ∷ words_in s) tuple) (sym (mark_is OpenTuple t.word e)) (behind_mark bad Bound by_pair (Item s.seen) OpenTuple (words_in s) tuple (tuple_held t s short)))
-      (λ e. made_held (Taken IsNode (NodeKeeps Bound false) with_node s.seen) (Item s.seen) (λ name. name ∷ []) (λ own name u k. (inl (name, k.0, refl), (k.1, tt), k.2)) (t.word ∷ words_in s) (node_of false t s) (node_held false t s alone short))
+      (λ e. subst (λ (w : Word). Holds bad Bound by_pair (Item s.seen) (w ∷ words_in s) tuple) (sym (mark_is OpenTuple t.word e)) (behind_mark bad Bound by_pair (Item s.seen) OpenTuple tt (words_in s) tuple (tuple_held t s.seen s.left.tokens s.left.last (λ place. subst (λ (w : Word). QuietBehind w s.left.tokens) (mark_is OpenTuple t.word e) (alone place)) short)))
+      (λ e. made_held (Taken IsNode (NodeKeeps Bound false) with_node s.seen) (Item s.seen) (λ name. name ∷ []) (λ own name u k. (inl (inl (name, k.0, refl)), (k.1, tt), k.2)) (t.word ∷ words_in s) (node_of false t s) (node_held false t s alone short))
 
   -- the names of a node list begin anew
   abbrev with_list : Seen → List (List (List ℕ)) → Seen
@@ -203,48 +210,65 @@ module _ (bad : ℕ) (Bound : FaultKind → Type 0) where
   MayList seen groups = GroupsKeep Bound (listing seen) groups
 
   abbrev NodeList : Seen → List Word → List (List (List ℕ)) × State → Type 0
-  NodeList seen own x = Taken IsNodeList MayList with_list seen own x
+  NodeList seen own x = Taken (IsLooseNodeList Bound) MayList with_list seen own x
 
-  in_list : (seen : Seen) (vs : List Word) (ys : List (List (List ℕ)) × State) (xs : List (List (List ℕ))) (inner : List Word) → vs ≡ inner ++ Mark CloseList ∷ [] → ys.0 ≡ xs → Parted IsItem inner xs → MayList seen xs → ys.1.seen ≡ with_list seen xs → NodeList seen (Mark OpenList ∷ vs) ys
-  in_list seen vs ys xs inner e f p all after = subst (λ (l : List (List (List ℕ))). IsNodeList (Mark OpenList ∷ vs) l × MayList seen l × (ys.1.seen ≡ with_list seen l)) (sym f) ((inner, ap (λ (l : List Word). Mark OpenList ∷ l) e, p), all, after)
+  in_list : (seen : Seen) (vs : List Word) (ys : List (List (List ℕ)) × State) (xs : List (List (List ℕ))) (inner : List Word) → vs ≡ inner ++ Mark CloseList ∷ [] → ys.0 ≡ xs → Parted (IsLooseItem Bound) inner xs → MayList seen xs → ys.1.seen ≡ with_list seen xs → NodeList seen (Mark OpenList ∷ vs) ys
+  in_list seen vs ys xs inner e f p all after = subst (λ (l : List (List (List ℕ))). IsLooseNodeList Bound (Mark OpenList ∷ vs) l × MayList seen l × (ys.1.seen ≡ with_list seen l)) (sym f) (inl (inner, ap (λ (l : List Word). Mark OpenList ∷ l) e, p), all, after)
 
-  opened_held : (t : Located) (s : State) → IsOver bad Bound s → Holds bad Bound by_pair (λ vs x. NodeList s.seen (Mark OpenList ∷ vs) x) (words_in s) (token s >>= λ first. cond (is_mark CloseList first.0.word) (fails EmptyList t.at) (items_at first.0 (record first.1 { seen = listing first.1.seen })))
-  opened_held t s short =
-      token_held bad Bound by_pair (λ vs x. NodeList s.seen (Mark OpenList ∷ vs) x) s (λ first. cond (is_mark CloseList first.0.word) (fails EmptyList t.at) (items_at first.0 (record first.1 { seen = listing first.1.seen }))) short
-      (λ f ts last alone e. held_if bad Bound by_pair (λ vs x. NodeList s.seen (Mark OpenList ∷ vs) x) (f.word ∷ words ts) (is_mark CloseList f.word) (fails EmptyList t.at) (items_at f (at last ts (listing s.seen))) (λ none h. absurd h)
-      (λ some. held_to bad Bound by_pair (IsHeldRun bad Bound IsItem with_nodes (λ _. NodesKeep Bound false) (λ _. item_at) Any (λ _ _ _ _ _. tt) (λ _ t s alone short _. item_held t s alone short) CloseList [] (listing s.seen)) (λ vs x. NodeList s.seen (Mark OpenList ∷ vs) x) (λ vs ys r. in_list s.seen vs ys r.0 r.1 r.2 r.3 r.4 r.5 r.6)
-      (f.word ∷ words ts) (items_at f (at last ts (listing s.seen))) (list_held bad Bound IsItem with_nodes (λ _. NodesKeep Bound false) (λ _. item_at) Any (λ _ _ _ _ _. tt) (λ _ t s alone short _. item_held t s alone short) CloseList (room (at last ts s.seen)) [] f (at last ts (listing s.seen)) alone e tt)))
+  abbrev InList : Seen → List Word → List (List (List ℕ)) × State → Type 0
+  InList seen vs x = NodeList seen (Mark OpenList ∷ vs) x
 
-  groups_held : (t : Located) (s : State) → IsOver bad Bound s → Holds bad Bound by_pair (NodeList s.seen) (t.word ∷ words_in s) (groups_at t s)
+  opened_held : (t : Located) (seen : Seen) (ts : List Located) (last : Result Located ConfigFault) → (t.at ≡ bad → All IsQuiet (words (but_one ts))) → Over bad Bound ts last → Holds bad Bound by_pair (InList seen) (words ts) (token (at last ts seen) >>= λ first. cond (is_mark CloseList first.0.word) (fails EmptyList t.at) (items_at first.0 (record first.1 { seen = listing first.1.seen })))
+  opened_held t seen [] last quiet over = subst (λ (l : Result Located ConfigFault). Holds bad Bound by_pair (InList seen) [] (token (at l [] seen) >>= λ first. cond (is_mark CloseList first.0.word) (fails EmptyList t.at) (items_at first.0 (record first.1 { seen = listing first.1.seen })))) (sym over.0) (λ h. inl (All-nil IsQuiet))
+  opened_held t seen (f ∷ ts) last quiet over =
+      held_if bad Bound by_pair (InList seen) (f.word ∷ words ts) (is_mark CloseList f.word) (fails EmptyList t.at) (items_at f (at last ts (listing seen)))
+      (λ none h. spoilt bad Bound (InList seen) f ts (quiet h.0) (record { more = []; x = ([], at (Err halt) [] (listing seen)); is = (inr (h.1, ap (λ (w : Word). Mark OpenList ∷ w ∷ []) (mark_is CloseList f.word none), refl), tt, refl) }))
+      (λ some. held_to bad Bound by_pair (IsHeldRun bad Bound (IsLooseItem Bound) with_nodes (λ _. NodesKeep Bound false) (λ _. item_at) Any (λ _ _ _ _ _. tt) (λ _ t s alone short _. item_held t s alone short) CloseList [] (listing seen)) (InList seen) (λ vs ys r. in_list seen vs ys r.0 r.1 r.2 r.3 r.4 r.5 r.6)
+      (f.word ∷ words ts) (items_at f (at last ts (listing seen))) (list_held bad Bound (IsLooseItem Bound) with_nodes (λ _. NodesKeep Bound false) (λ _. item_at) Any (λ _ _ _ _ _. tt) (λ _ t s alone short _. item_held t s alone short) CloseList (room (at last ts seen)) [] f (at last ts (listing seen)) over.1.0 (over.0, over.1.1) tt))
+
+  groups_held : (t : Located) (s : State) → Alone bad Bound t s.left.tokens → IsOver bad Bound s → Holds bad Bound by_pair (NodeList s.seen) (t.word ∷ words_in s) (groups_at t s)
   unfolding groups_at
-  groups_held t s short =
+  groups_held t s alone short =
       let list : Result (List (List (List ℕ)) × State) ConfigFault = token s >>= λ first. cond (is_mark CloseList first.0.word) (fails EmptyList t.at) (items_at first.0 (record first.1 { seen = listing first.1.seen })) in
       held_if bad Bound by_pair (NodeList s.seen) (t.word ∷ words_in s) (is_mark OpenList t.word) list (fails BadShape t.at)
-      (λ e. subst (λ (w : Word). Holds bad Bound by_pair (NodeList s.seen) (w ∷ words_in s) list) (sym (mark_is OpenList t.word e)) (behind_mark bad Bound by_pair (NodeList s.seen) OpenList (words_in s) list (opened_held t s short))) (λ e h. absurd h)
+      (λ e. subst (λ (w : Word). Holds bad Bound by_pair (NodeList s.seen) (w ∷ words_in s) list) (sym (mark_is OpenList t.word e))
+      (behind_mark bad Bound by_pair (NodeList s.seen) OpenList tt (words_in s) list (opened_held t s.seen s.left.tokens s.left.last (λ place. subst (λ (w : Word). QuietBehind w s.left.tokens) (mark_is OpenList t.word e) (alone place)) short))) (λ e h. absurd h)
 
   -- ---- applications
 
-  abbrev Time : Seen → List Word → ℕ × Located × State → Type 0
-  Time seen own x = IsTimeout own x.0 × (x.2.seen ≡ seen)
+  -- the token behind a timeout is left
+  abbrev by_first : Via (ℕ × Located × State)
+  by_first = record { rest = λ x. x.1.word ∷ words_in x.2; state = λ x. at x.2.left.last (x.1 ∷ x.2.left.tokens) x.2.seen }
 
-  timeout_held : (w : Word) (place : ℕ) (s : State) → IsOver bad Bound s → Holds bad Bound by_timeout (Time s.seen) (w ∷ words_in s) (timeout_at (record { word = w; at = place }) s)
+  abbrev Time : Seen → List Word → ℕ × Located × State → Type 0
+  Time seen own x = IsLooseTimeout Bound own x.0 × (x.2.seen ≡ seen)
+
+  abbrev of : Word → ℕ → Located
+  of w place = record { word = w; at = place }
+
+  module _ (w : Word) (seen : Seen) where
+    number_begun : (n : ℕ) → IsLooseMs Bound w n → Begun (Time seen) (w ∷ [])
+    number_begun n is = record { more = Mark Comma ∷ []; x = (n, of w 0, at (Err halt) [] seen); is = (inr (w, refl, is), refl) }
+
+  timeout_held : (w : Word) (place : ℕ) (s : State) → Over bad Bound (of w place ∷ s.left.tokens) s.left.last → Holds bad Bound by_first (Time s.seen) (w ∷ words_in s) (timeout_at (of w place) s)
   unfolding timeout_at
-  timeout_held (Number negative digits) place s short =
-      held_look bad Bound (IsMs w) by_timeout (Time s.seen) (w ∷ words_in s) (milliseconds_of place negative (value_from 0 digits)) (λ n. symbol_at Comma s >>= λ comma. token comma >>= λ next. Ok (n, next.0, next.1)) (ms_shows (Held (Time s.seen) (w ∷ words_in s)) place negative digits)
-      (λ n is. behind_marks bad Bound by_timeout (Time s.seen) (w ∷ []) (All-cons IsNoName w [] tt (All-nil IsNoName)) (words_in s) (symbol_at Comma s >>= λ comma. token comma >>= λ next. Ok (n, next.0, next.1))
-      (symbol_held bad Bound by_timeout (λ vs x. Time s.seen (w ∷ vs) x) Comma s (λ comma. token comma >>= λ next. Ok (n, next.0, next.1)) short
-      (λ ts last e. token_held bad Bound by_timeout (λ vs x. Time s.seen (w ∷ Mark Comma ∷ vs) x) (at last ts s.seen) (λ next. Ok (n, next.0, next.1)) e (λ t ts last alone e. record { own = []; whole = refl; is = (inr (w, refl, is), refl); short = e }))))
+  timeout_held (Number negative digits) place s over =
+      held_look bad Bound (IsMs w) by_first (Time s.seen) (w ∷ words_in s) (milliseconds_of place negative (value_from 0 digits)) (λ n. symbol_at Comma s >>= λ comma. token comma >>= λ next. Ok (n, next.0, next.1))
+      (ms_shows (Held (Time s.seen) (w ∷ words_in s)) place negative digits (λ plus large h. spoilt bad Bound (Time s.seen) (of w place) s.left.tokens (over.1.0 h.0) (number_begun w s.seen (value_from 0 digits) (inr (h.1, digits, ap (λ (b : Bool). Number b digits) plus, refl, large)))))
+      (λ n is. behind_names bad Bound by_first (Time s.seen) (w ∷ []) (number_begun w s.seen n (inl is)) (words_in s) (symbol_at Comma s >>= λ comma. token comma >>= λ next. Ok (n, next.0, next.1))
+      (symbol_held bad Bound by_first (λ vs x. Time s.seen (w ∷ vs) x) Comma (inl tt) s (λ comma. token comma >>= λ next. Ok (n, next.0, next.1)) (over.0, over.1.1)
+      (λ ts last e. token_held bad Bound by_first (λ vs x. Time s.seen (w ∷ Mark Comma ∷ vs) x) (at last ts s.seen) (λ next. Ok (n, next.0, next.1)) e (λ t ts last alone e. record { own = []; whole = refl; is = (inr (w, refl, inl is), refl); short = (e.0, (alone, e.1)) }))))
     where
       w : Word
       w = Number negative digits
-  timeout_held (Mark symbol) place s short = record { own = []; whole = refl; is = (inl (refl, refl), refl); short = short }
-  timeout_held (Name name) place s short = record { own = []; whole = refl; is = (inl (refl, refl), refl); short = short }
-  timeout_held Text place s short = record { own = []; whole = refl; is = (inl (refl, refl), refl); short = short }
-  timeout_held End place s short = record { own = []; whole = refl; is = (inl (refl, refl), refl); short = short }
+  timeout_held (Mark symbol) place s over = record { own = []; whole = refl; is = (inl (refl, refl), refl); short = over }
+  timeout_held (Name name) place s over = record { own = []; whole = refl; is = (inl (refl, refl), refl); short = over }
+  timeout_held Text place s over = record { own = []; whole = refl; is = (inl (refl, refl), refl); short = over }
+  timeout_held End place s over = record { own = []; whole = refl; is = (inl (refl, refl), refl); short = over }
 
   module _ (before : List App) (seen : Seen) (good : Good seen) where
     abbrev IsNamed : List ℕ → List Word → App → Seen → Type 0
-    IsNamed name own app after = (app.name ≡ name) × IsAppValue own app × AppKeeps Bound before seen app × (after ≡ with_app seen app)
+    IsNamed name own app after = (app.name ≡ name) × IsLooseAppValue Bound own app × AppKeeps Bound before seen app × (after ≡ with_app seen app)
 
     module _ (w : Word) (name : List ℕ) (fine : IsFine before w name) where
       abbrev app_with : ℕ → List (List (List ℕ)) → App
@@ -260,25 +284,25 @@ module _ (bad : ℕ) (Bound : FaultKind → Type 0) where
       abbrev only_words : List Word
       only_words = Mark OpenList ∷ Name good.0 ∷ Mark CloseList ∷ []
 
-      only_named : (own : List Word) (n : ℕ) → IsTimeout own n → IsNamed name (own ++ only_words) (only n) (with_app seen (only n))
-      only_named own n is = (refl, (own, only_words, refl, is, (Name good.0 ∷ [], refl, inl (good.0, refl, refl))), may_app n ((good.0 ∷ []) ∷ []) ((good.1, tt), tt), refl)
+      only_named : (own : List Word) (n : ℕ) → IsLooseTimeout Bound own n → IsNamed name (own ++ only_words) (only n) (with_app seen (only n))
+      only_named own n is = (refl, (own, only_words, refl, is, inl (Name good.0 ∷ [], refl, inl (inl (good.0, refl, refl)))), may_app n ((good.0 ∷ []) ∷ []) ((good.1, tt), tt), refl)
 
       abbrev listed : ℕ × Located × State → Result (App × State) ConfigFault
       listed timeout = groups_at timeout.1 timeout.2 >>= λ groups. Ok (app_with timeout.0 groups.0, groups.1)
 
-      list_behind : (own : List Word) (x : ℕ × Located × State) → Time seen own x → IsOver bad Bound x.2 → Holds bad Bound by_pair (λ vs y. IsNamed name (own ++ vs) y.0 y.1.seen) (x.1.word ∷ words_in x.2) (listed x)
+      list_behind : (own : List Word) (x : ℕ × Located × State) → Time seen own x → IsOver bad Bound (at x.2.left.last (x.1 ∷ x.2.left.tokens) x.2.seen) → Holds bad Bound by_pair (λ vs y. IsNamed name (own ++ vs) y.0 y.1.seen) (x.1.word ∷ words_in x.2) (listed x)
       list_behind own x k short = made_held (NodeList x.2.seen) (λ vs y. IsNamed name (own ++ vs) y.0 y.1.seen) (app_with x.0)
-          (λ vs groups u list. let l = subst (λ (q : Seen). NodeList q vs (groups, u)) k.1 list in (refl, (own, vs, refl, k.0, l.0), may_app x.0 groups l.1, l.2)) (x.1.word ∷ words_in x.2) (groups_at x.1 x.2) (groups_held x.1 x.2 short)
+          (λ vs groups u list. let l = subst (λ (q : Seen). NodeList q vs (groups, u)) k.1 list in (refl, (own, vs, refl, k.0, l.0), may_app x.0 groups l.1, l.2)) (x.1.word ∷ words_in x.2) (groups_at x.1 x.2) (groups_held x.1 x.2 short.1.0 (short.0, short.1.1))
 
       app_value_held : (ts : List Located) (last : Result Located ConfigFault) → Over bad Bound ts last → Holds bad Bound by_pair (λ own x. IsNamed name own x.0 x.1.seen) (words ts) (app_value_at name (at last ts seen))
       unfolding app_value_at
       app_value_held ts last e =
           token_held bad Bound by_pair (λ own x. IsNamed name own x.0 x.1.seen) (at last ts seen) (λ first. timeout_at first.0 first.1 >>= listed) e
-          (λ t ts last alone e. held_then bad Bound by_timeout by_pair (Time seen) (λ own x. IsNamed name own x.0 x.1.seen) listed
-          (λ own x k. record { more = only_words; x = (only x.0, at (Err halt) [] (with_app seen (only x.0))); is = only_named own x.0 k.0 }) (t.word ∷ words ts) (timeout_at t (at last ts seen)) (timeout_held t.word t.at (at last ts seen) e) (λ own x k short. list_behind own x k short))
+          (λ t ts last alone e. held_then bad Bound by_first by_pair (Time seen) (λ own x. IsNamed name own x.0 x.1.seen) listed
+          (λ own x k. record { more = only_words; x = (only x.0, at (Err halt) [] (with_app seen (only x.0))); is = only_named own x.0 k.0 }) (t.word ∷ words ts) (timeout_at t (at last ts seen)) (timeout_held t.word t.at (at last ts seen) (e.0, (alone, e.1))) (λ own x k short. list_behind own x k short))
 
       abbrev Behind : List Word → App × State → Type 0
-      Behind vs x = Taken IsApp (AppKeeps Bound before) with_app seen (Mark OpenTuple ∷ w ∷ Mark Comma ∷ vs) x
+      Behind vs x = Taken (IsLooseApp Bound) (AppKeeps Bound before) with_app seen (Mark OpenTuple ∷ w ∷ Mark Comma ∷ vs) x
 
       is_app : (vs : List Word) (x : App × State) → IsHeldClosed (IsNamed name) vs x → Behind vs x
       is_app vs x c = ((c.0, pair_is w x.0.name vs c.0 (fine.is ∙ ap Name (sym c.2.0)) c.1, c.2.1), c.2.2, c.2.3)
@@ -289,8 +313,8 @@ module _ (bad : ℕ) (Bound : FaultKind → Type 0) where
       app_rest_held : (ts : List Located) (last : Result Located ConfigFault) → Over bad Bound ts last → Holds bad Bound by_pair Behind (words ts) (closed (app_value_at name) (at last ts seen))
       app_rest_held ts last e = held_to bad Bound by_pair (IsHeldClosed (IsNamed name)) Behind is_app (words ts) (closed (app_value_at name) (at last ts seen)) (closed_held bad Bound (IsNamed name) (app_value_at name) (at last ts seen) (app_value_held ts last e))
 
-  pub app_held : (before : List App) (t : Located) (s : State) → Alone bad Bound t s.left.tokens → IsOver bad Bound s → Good s.seen → Holds bad Bound by_pair (Taken IsApp (AppKeeps Bound before) with_app s.seen) (t.word ∷ words_in s) (app_at before t s)
-  app_held before t s alone short good = pair_held bad Bound (Taken IsApp (AppKeeps Bound before) with_app s.seen) (IsFine before) (app_name_of before) (λ name. closed (app_value_at name)) s.seen (fine_shows before)
+  pub app_held : (before : List App) (t : Located) (s : State) → Alone bad Bound t s.left.tokens → IsOver bad Bound s → Good s.seen → Holds bad Bound by_pair (Taken (IsLooseApp Bound) (AppKeeps Bound before) with_app s.seen) (t.word ∷ words_in s) (app_at before t s)
+  app_held before t s alone short good = pair_held bad Bound (Taken (IsLooseApp Bound) (AppKeeps Bound before) with_app s.seen) (IsFine before) (app_name_of before) (λ name. closed (app_value_at name)) s.seen (fine_shows before)
       (λ w name fine. filled_app before s.seen good w name fine) (λ w name fine ts last e. app_rest_held before s.seen good w name fine ts last e) t s.left.tokens s.left.last short
 
   -- ---- permissions
@@ -304,7 +328,7 @@ module _ (bad : ℕ) (Bound : FaultKind → Type 0) where
   namely_shows t =
       let Q : Type 0 = Unfit bad Bound (List ℕ) IsNamely t in
       shows_then bad Bound Q (IsName t.word) (IsNamely t.word) (atom_of t) (λ name. cond (ltb 255 (length name)) (fails NameTooLong t.at) (Ok name)) (atom_shows Q t)
-      (λ name e. shows_if bad Bound Q (IsNamely t.word) (ltb 255 (length name)) (fails NameTooLong t.at) (Ok name) (λ long h. (name, e, h.0, (name, (e, λ b. absurd (h.1 NameTooLong (omega arith) b))))) (λ short. (e, λ b. ltb-false 255 (length name) short)))
+      (λ name e. shows_if bad Bound Q (IsNamely t.word) (ltb 255 (length name)) (fails NameTooLong t.at) (Ok name) (λ long h. (name, e, h.0, (name, (e, λ b. absurd (h.1 NameTooLong (omega arith) (omega arith) b))))) (λ short. (e, λ b. ltb-false 255 (length name) short)))
 
   module _ (seen : Seen) (w : Word) (name : List ℕ) (k : IsNamely w name) where
     abbrev IsGiven : List Word → Permission → Seen → Type 0

@@ -1,9 +1,9 @@
--- Parameters, sections and a whole file that keep the limits that are bound, up to the last name.
-use Rattle.std.proofs.Common.{◌≡◌, ◌≢◌, ℕ, zero, suc, Bool, true, false, cond, List, [], ◌∷◌, ◌++◌, Option, Some, None, Result, Ok, Err, refl, sym, ap, subst, ◌∙◌, inr, codes}
+-- Parameters and sections that keep the limits that are bound, up to the last word that isn't quiet.
+use Rattle.std.proofs.Common.{◌≡◌, ◌≢◌, ℕ, zero, suc, Bool, true, false, cond, List, [], ◌∷◌, ◌++◌, Option, Some, None, Result, Ok, Err, refl, sym, ap, subst, ◌∙◌, inr, codes, inl, ◌≤◌}
 use Rattle.std.specs.Str.{bytes_eq}
 use Rattle.dac_tokens.specs.declared.fault.ConfigFault.{ConfigFault}
 use Rattle.dac_tokens.specs.declared.fault.FaultKind.{FaultKind}
-use Rattle.dac_tokens.specs.declared.fault.FaultKind.TheVariants.{BadShape, Unsupported}
+use Rattle.dac_tokens.specs.declared.fault.FaultKind.TheVariants.{BadShape, Unsupported, NumberTooLarge}
 use Rattle.dac_tokens.specs.declared.token.Symbol.{Symbol}
 use Rattle.dac_tokens.specs.declared.token.Symbol.TheVariants.{OpenList, CloseList, OpenTuple, CloseTuple, Comma, FullStop}
 use Rattle.dac_tokens.specs.Gives.{◌>>=◌}
@@ -15,15 +15,16 @@ use Rattle.dac_shapes.specs.Written.{Param, Distributed, Permissions, Mandatory,
 use Rattle.dac_shapes.specs.Limits.{Seen, nothing, has_param, has_kernel, with_node, with_app, with_permission, with_param, with_section, steps, AllMay}
 use Rattle.dac_tokens.specs.Digits.{value_from}
 use Rattle.dac_shapes.specs.Shape.{State, fails, is_mark, is_text, token, room, atom_of, list_of, app_at, permission_at, node_of, wait_of, milliseconds_of, passed_at, terms_at, terms_in, texts_at, term_by, term_at, param_named, first_param, param_name_of, param_value_at, param_rest_at, param_at, names_kernel, kernel_at, section_rest_at, section_at, pair_at, closed}
-use Rattle.dac_shapes.specs.Grammar.{IsListOf, IsNode, IsApp, IsPermission, IsMs, IsWait, IsParam, IsSection}
+use Rattle.dac_shapes.specs.Grammar.{IsListOf, IsNode, IsPermission, IsMs}
 use Rattle.dac_shapes.specs.laws.AgainLists.{at}
 use Rattle.dac_shapes.specs.laws.Names.{is_named, param_is, same_seen}
+use Rattle.dac_first_fault.specs.Loose.{IsLooseApp, IsLooseWait, IsLooseParam, IsLooseSection}
 use Rattle.dac_first_fault.specs.Keeps.{NodeKeeps, AppKeeps, PermissionKeeps, ValueKeeps, ParamKeeps, SectionKeeps, Keeps}
 use Rattle.dac_first_fault.proofs.Begun.{halt, Halts, Begun, words_in, by_pair, by_state, Sees}
-use Rattle.dac_first_fault.proofs.BegunTerms.{IsPassed, passed_sees, a_term}
+use Rattle.dac_first_fault.proofs.BegunTerms.{text_is, IsPassed, passed_sees, a_term}
 use Rattle.dac_first_fault.proofs.BegunReaders.{pair_of, pair_is}
 use Rattle.dac_first_fault.proofs.BegunSections.{IsFor, unknown_is, no_kernel}
-use Rattle.dac_first_fault.proofs.Held.{words, Held, all_kept, Stops, Alone, Lone, Over, IsOver, Holds, Shows, shows_then, shows_if, Unfit, held_if, held_to, held_look, token_held, Taken, IsHeldList, bracketed_held, IsHeldClosed, closed_held, pair_held}
+use Rattle.dac_first_fault.proofs.Held.{words, Held, all_kept, Stops, QuietBehind, Alone, Lone, Over, IsOver, Holds, Shows, shows_then, shows_if, Unfit, spoilt, held_if, held_to, held_look, token_held, Taken, IsHeldList, bracketed_held, IsHeldClosed, closed_held, pair_held}
 use Rattle.dac_first_fault.proofs.HeldReaders.{made_held, Good, good_nothing, good_steps, good_nodes, good_app, atom_shows, ms_shows, node_held, Any, app_held, permission_held}
 
 module _ (bad : ℕ) (Bound : FaultKind → Type 0) where
@@ -135,18 +136,17 @@ module _ (bad : ℕ) (Bound : FaultKind → Type 0) where
   Once twice = Bound BadShape → twice ≡ false
 
   -- how long to wait
-  wait_by : (Q : Type 0) (w : Word) (place : ℕ) → Shows bad Bound Q (λ wait. IsWait (w ∷ []) wait) (wait_of (record { word = w; at = place }))
-  unfolding wait_of
-  wait_by Q (Number negative digits) place =
-      shows_then bad Bound Q (IsMs (Number negative digits)) (λ wait. IsWait (Number negative digits ∷ []) wait) (milliseconds_of place negative (value_from 0 digits)) (λ n. Ok (Ms n)) (ms_shows bad Bound Q place negative digits) (λ n is. (Number negative digits, refl, is))
-  wait_by Q (Name name) place =
-      shows_if bad Bound Q (λ wait. IsWait (Name name ∷ []) wait) (bytes_eq name (codes "infinity")) (Ok Forever) (fails BadShape place) (λ is. ap (λ (n : List ℕ). Name n ∷ []) (is_named name (codes "infinity") is)) (λ other h. absurd h)
-  wait_by Q (Mark symbol) place = λ h. absurd h
-  wait_by Q Text place = λ h. absurd h
-  wait_by Q End place = λ h. absurd h
-
-  wait_shows : (Q : Type 0) (t : Located) → Shows bad Bound Q (λ wait. IsWait (t.word ∷ []) wait) (wait_of t)
-  wait_shows Q t = wait_by Q t.word t.at
+  module _ (Q : Type 0) (w : Word) (place : ℕ) (spoils : (digits : List ℕ) → w ≡ Number false digits → 4294967296 ≤ value_from 0 digits → Stops bad Bound NumberTooLarge place → Q) where
+    wait_by : (v : Word) → w ≡ v → Shows bad Bound Q (λ wait. IsLooseWait Bound (v ∷ []) wait) (wait_of (record { word = v; at = place }))
+    unfolding wait_of
+    wait_by (Number negative digits) e =
+        shows_then bad Bound Q (IsMs (Number negative digits)) (λ wait. IsLooseWait Bound (Number negative digits ∷ []) wait) (milliseconds_of place negative (value_from 0 digits)) (λ n. Ok (Ms n))
+        (ms_shows bad Bound Q place negative digits (λ plus large h. spoils digits (e ∙ ap (λ (b : Bool). Number b digits) plus) large h)) (λ n is. (Number negative digits, refl, inl is))
+    wait_by (Name name) e =
+        shows_if bad Bound Q (λ wait. IsLooseWait Bound (Name name ∷ []) wait) (bytes_eq name (codes "infinity")) (Ok Forever) (fails BadShape place) (λ is. ap (λ (n : List ℕ). Name n ∷ []) (is_named name (codes "infinity") is)) (λ other h. absurd h)
+    wait_by (Mark symbol) e = λ h. absurd h
+    wait_by Text e = λ h. absurd h
+    wait_by End e = λ h. absurd h
 
   -- ---- values of parameters
 
@@ -156,12 +156,12 @@ module _ (bad : ℕ) (Bound : FaultKind → Type 0) where
   module _ (before : List Param) (seen : Seen) (good : (Good bad Bound) seen) where
     -- the value of the parameter of this name, which may come
     abbrev IsValue : ParamName → List Word → Param → Seen → Type 0
-    IsValue name own p after = IsParam (pair_of (spelled name) own) p × ParamKeeps Bound before seen p × (after ≡ with_param seen p)
+    IsValue name own p after = IsLooseParam Bound (pair_of (spelled name) own) p × ParamKeeps Bound before seen p × (after ≡ with_param seen p)
 
     abbrev IsOne : List Word → Param × State → Type 0
-    IsOne own x = Taken IsParam (ParamKeeps Bound before) with_param seen own x
+    IsOne own x = Taken (IsLooseParam Bound) (ParamKeeps Bound before) with_param seen own x
 
-    names_value : (name : ParamName) (to : List (List ℕ) → Param) → ((ns : List (List ℕ)) → name_of (to ns) ≡ Some name) → ((own : List Word) (ns : List (List ℕ)) → IsListOf IsNode own ns → IsParam (pair_of (spelled name) own) (to ns))
+    names_value : (name : ParamName) (to : List (List ℕ) → Param) → ((ns : List (List ℕ)) → name_of (to ns) ≡ Some name) → ((own : List Word) (ns : List (List ℕ)) → IsListOf IsNode own ns → IsLooseParam Bound (pair_of (spelled name) own) (to ns))
         → ((ns : List (List ℕ)) → AllMay with_node (λ _. NodeKeeps Bound true) [] seen ns → ValueKeeps Bound seen (to ns)) → ((ns : List (List ℕ)) → steps with_node seen ns ≡ with_param seen (to ns)) → Once (has_param name before)
         → (ts : List Located) (last : Result Located ConfigFault) → Over bad Bound ts last → Holds bad Bound by_pair (λ own x. IsValue name own x.0 x.1.seen) (words ts) (list_of (λ _. node_of true) (at last ts seen) >>= λ names. Ok (to names.0, names.1))
     names_value name to so is may after once ts last e =
@@ -172,8 +172,8 @@ module _ (bad : ℕ) (Bound : FaultKind → Type 0) where
     value_held : (name : ParamName) → Once (has_param name before) → (ts : List Located) (last : Result Located ConfigFault) → Over bad Bound ts last → Holds bad Bound by_pair (λ own x. IsValue name own x.0 x.1.seen) (words ts) (param_value_at name (at last ts seen))
     unfolding param_value_at
     value_held named.Distributed once ts last e =
-        made_held bad Bound (IsHeldList bad Bound IsApp with_app (AppKeeps Bound) app_at (Good bad Bound) (good_app bad Bound) (app_held bad Bound) seen) (λ own x. IsValue named.Distributed own x.0 x.1.seen) Distributed (λ own xs u k. ((own, refl, k.0), record { once = once_as before named.Distributed once; value = k.1 }, k.2))
-        (words ts) (list_of app_at (at last ts seen)) (bracketed_held bad Bound IsApp with_app (AppKeeps Bound) app_at (Good bad Bound) (good_app bad Bound) (app_held bad Bound) (at last ts seen) e good)
+        made_held bad Bound (IsHeldList bad Bound (IsLooseApp Bound) with_app (AppKeeps Bound) app_at (Good bad Bound) (good_app bad Bound) (app_held bad Bound) seen) (λ own x. IsValue named.Distributed own x.0 x.1.seen) Distributed (λ own xs u k. ((own, refl, k.0), record { once = once_as before named.Distributed once; value = k.1 }, k.2))
+        (words ts) (list_of app_at (at last ts seen)) (bracketed_held bad Bound (IsLooseApp Bound) with_app (AppKeeps Bound) app_at (Good bad Bound) (good_app bad Bound) (app_held bad Bound) (at last ts seen) e good)
     value_held named.Permissions once ts last e =
         made_held bad Bound (IsHeldList bad Bound IsPermission with_permission (PermissionKeeps Bound) (λ _. permission_at) (Any bad Bound) (λ _ _ _ _ _. tt) (λ before t s alone short _. permission_held bad Bound before t s alone short) seen) (λ own x. IsValue named.Permissions own x.0 x.1.seen) Permissions
         (λ own xs u k. ((own, refl, k.0), record { once = once_as before named.Permissions once; value = k.1 }, k.2 ∙ same_seen seen xs)) (words ts) (list_of (λ _. permission_at) (at last ts seen))
@@ -182,7 +182,10 @@ module _ (bad : ℕ) (Bound : FaultKind → Type 0) where
     value_held named.Optional once ts last e = names_value named.Optional Optional (λ _. refl) (λ own ns k. (own, refl, k)) (λ ns k. k) (λ ns. refl) once ts last e
     value_held named.Timeout once ts last e =
         token_held bad Bound by_pair (λ own x. IsValue named.Timeout own x.0 x.1.seen) (at last ts seen) (λ t. wait_of t.0 >>= λ wait. Ok (Timeout wait, t.1)) e
-        (λ t ts last alone e. held_look bad Bound (λ wait. IsWait (t.word ∷ []) wait) by_pair (λ own x. IsValue named.Timeout own x.0 x.1.seen) (t.word ∷ words ts) (wait_of t) (λ wait. Ok (Timeout wait, at last ts seen)) (wait_shows (Held (λ own x. IsValue named.Timeout own x.0 x.1.seen) (t.word ∷ words ts)) t)
+        (λ t ts last alone e. held_look bad Bound (λ wait. IsLooseWait Bound (t.word ∷ []) wait) by_pair (λ own x. IsValue named.Timeout own x.0 x.1.seen) (t.word ∷ words ts) (wait_of t) (λ wait. Ok (Timeout wait, at last ts seen))
+        (wait_by (Held (λ own x. IsValue named.Timeout own x.0 x.1.seen) (t.word ∷ words ts)) t.word t.at
+        (λ digits is large h. spoilt bad Bound (λ own (x : Param × State). IsValue named.Timeout own x.0 x.1.seen) t ts (subst (λ (w : Word). QuietBehind w ts) is (alone h.0))
+        (record { more = []; x = (Timeout (Ms (value_from 0 digits)), at (Err halt) [] seen); is = ((t.word ∷ [], refl, (t.word, refl, inr (h.1, digits, is, refl, large))), record { once = once_as before named.Timeout once; value = tt }, refl) })) t.word refl)
         (λ wait is. record { own = t.word ∷ []; whole = refl; is = ((t.word ∷ [], refl, is), record { once = once_as before named.Timeout once; value = tt }, refl); short = e }))
 
     -- a value of which nothing is listed
@@ -209,7 +212,7 @@ module _ (bad : ℕ) (Bound : FaultKind → Type 0) where
     In w vs x = IsOne (Mark OpenTuple ∷ w ∷ Mark Comma ∷ vs) x
 
     known_in : (w : Word) (known : ParamName) → w ≡ Name (spelled known) → (vs : List Word) (x : Param × State) → IsHeldClosed (IsValue known) vs x → In w vs x
-    known_in w known e vs x c = (subst (λ (l : List Word). IsParam l x.0) (sym (pair_is w (spelled known) vs c.0 e c.1)) c.2.0, c.2.1, c.2.2)
+    known_in w known e vs x c = (subst (λ (l : List Word). IsLooseParam Bound l x.0) (sym (pair_is w (spelled known) vs c.0 e c.1)) c.2.0, c.2.1, c.2.2)
 
     nothing_known : (known : ParamName) → ◌≡◌ {A = Option ParamName} None (Some known) → ⊥
     nothing_known known h = absurd cc
@@ -230,9 +233,9 @@ module _ (bad : ℕ) (Bound : FaultKind → Type 0) where
         (closed_held bad Bound (IsValue known) (param_value_at known) (at last ts seen) (value_held known says.3 ts last e))
     param_rest_held w None says ts last e = passed_held (In w) seen Param.Other (λ vs u c k. other_in w says.0 says.1 says.2 vs u c k) ts last e
 
-  param_held : (before : List Param) (t : Located) (s : State) → Alone bad Bound t s.left.tokens → IsOver bad Bound s → (Good bad Bound) s.seen → Holds bad Bound by_pair (Taken IsParam (ParamKeeps Bound before) with_param s.seen) (t.word ∷ words_in s) (param_at before t s)
+  param_held : (before : List Param) (t : Located) (s : State) → Alone bad Bound t s.left.tokens → IsOver bad Bound s → (Good bad Bound) s.seen → Holds bad Bound by_pair (Taken (IsLooseParam Bound) (ParamKeeps Bound before) with_param s.seen) (t.word ∷ words_in s) (param_at before t s)
   param_held before t s alone short good =
-      pair_held bad Bound (Taken IsParam (ParamKeeps Bound before) with_param s.seen) (Says before) (param_name_of before) param_rest_at s.seen (λ u. param_shows (Unfit bad Bound (Option ParamName) (Says before) u) before u) (filled_param before s.seen good) (param_rest_held before s.seen good) t s.left.tokens s.left.last short
+      pair_held bad Bound (Taken (IsLooseParam Bound) (ParamKeeps Bound before) with_param s.seen) (Says before) (param_name_of before) param_rest_at s.seen (λ u. param_shows (Unfit bad Bound (Option ParamName) (Says before) u) before u) (filled_param before s.seen good) (param_rest_held before s.seen good) t s.left.tokens s.left.last short
 
   good_apps : (seen : Seen) (p : Param) → (Good bad Bound) seen → ValueKeeps Bound seen p → (Good bad Bound) (with_param seen p)
   good_apps seen (Distributed apps) good may = good_steps bad Bound with_app (AppKeeps Bound) (good_app bad Bound) [] seen apps good may
@@ -263,22 +266,22 @@ module _ (bad : ℕ) (Bound : FaultKind → Type 0) where
 
   module _ (before : List Section) (seen : Seen) (good : (Good bad Bound) seen) where
     abbrev IsKernel : List Word → Section → Seen → Type 0
-    IsKernel own x after = IsSection (pair_of (codes "kernel") own) x × SectionKeeps Bound before seen x × (after ≡ with_section seen x)
+    IsKernel own x after = IsLooseSection Bound (pair_of (codes "kernel") own) x × SectionKeeps Bound before seen x × (after ≡ with_section seen x)
 
     abbrev Within : Word → List Word → Section × State → Type 0
-    Within w vs x = Taken IsSection (SectionKeeps Bound before) with_section seen (Mark OpenTuple ∷ w ∷ Mark Comma ∷ vs) x
+    Within w vs x = Taken (IsLooseSection Bound) (SectionKeeps Bound before) with_section seen (Mark OpenTuple ∷ w ∷ Mark Comma ∷ vs) x
 
     kernel_held : Once (has_kernel before) → (ts : List Located) (last : Result Located ConfigFault) → Over bad Bound ts last → Holds bad Bound by_pair (λ own x. IsKernel own x.0 x.1.seen) (words ts) (kernel_at (at last ts seen))
     unfolding kernel_at
     kernel_held once ts last e =
-        made_held bad Bound (IsHeldList bad Bound IsParam with_param (ParamKeeps Bound) param_at (Good bad Bound) good_param param_held seen) (λ own x. IsKernel own x.0 x.1.seen) Kernel (λ own xs u k. ((own, refl, k.0), record { once = once; params = k.1 }, k.2))
-        (words ts) (list_of param_at (at last ts seen)) (bracketed_held bad Bound IsParam with_param (ParamKeeps Bound) param_at (Good bad Bound) good_param param_held (at last ts seen) e good)
+        made_held bad Bound (IsHeldList bad Bound (IsLooseParam Bound) with_param (ParamKeeps Bound) param_at (Good bad Bound) good_param param_held seen) (λ own x. IsKernel own x.0 x.1.seen) Kernel (λ own xs u k. ((own, refl, k.0), record { once = once; params = k.1 }, k.2))
+        (words ts) (list_of param_at (at last ts seen)) (bracketed_held bad Bound (IsLooseParam Bound) with_param (ParamKeeps Bound) param_at (Good bad Bound) good_param param_held (at last ts seen) e good)
 
     kernel_in : (w : Word) → w ≡ Name (codes "kernel") → (vs : List Word) (x : Section × State) → IsHeldClosed IsKernel vs x → Within w vs x
-    kernel_in w e vs x c = (subst (λ (l : List Word). IsSection l x.0) (sym (pair_is w (codes "kernel") vs c.0 e c.1)) c.2.0, c.2.1, c.2.2)
+    kernel_in w e vs x c = (subst (λ (l : List Word). IsLooseSection Bound l x.0) (sym (pair_is w (codes "kernel") vs c.0 e c.1)) c.2.0, c.2.1, c.2.2)
 
     section_in : (w : Word) (name : List ℕ) → w ≡ Name name → name ≢ codes "kernel" → (vs : List Word) (u : State) → IsPassed vs → u.seen ≡ seen → Within w vs (Section.Other, u)
-    section_in w name e other vs u c k = ((name, other, (c.0, pair_is w name vs c.0 e c.1, c.2)), tt, k)
+    section_in w name e other vs u c k = (inl (name, other, (c.0, pair_is w name vs c.0 e c.1, c.2)), tt, k)
 
     filled_section : (w : Word) (k : Bool) → Tells before w k → Begun (Within w) []
     unfolding same
@@ -293,11 +296,12 @@ module _ (bad : ℕ) (Bound : FaultKind → Type 0) where
     section_rest_held w true says ts last e = held_to bad Bound by_pair (IsHeldClosed IsKernel) (Within w) (kernel_in w (says.1 ∙ ap Name says.2.0)) (words ts) (closed kernel_at (at last ts seen)) (closed_held bad Bound IsKernel kernel_at (at last ts seen) (kernel_held says.2.1 ts last e))
     section_rest_held w false says ts last e = passed_held (Within w) seen Section.Other (λ vs u c k. section_in w says.0 says.1 says.2 vs u c k) ts last e
 
-  section_held : (before : List Section) (t : Located) (s : State) → Alone bad Bound t s.left.tokens → IsOver bad Bound s → (Good bad Bound) s.seen → Holds bad Bound by_pair (Taken IsSection (SectionKeeps Bound before) with_section s.seen) (t.word ∷ words_in s) (section_at before t s)
+  section_held : (before : List Section) (t : Located) (s : State) → Alone bad Bound t s.left.tokens → IsOver bad Bound s → (Good bad Bound) s.seen → Holds bad Bound by_pair (Taken (IsLooseSection Bound) (SectionKeeps Bound before) with_section s.seen) (t.word ∷ words_in s) (section_at before t s)
   unfolding section_at
   section_held before t s alone short good =
-      held_if bad Bound by_pair (Taken IsSection (SectionKeeps Bound before) with_section s.seen) (t.word ∷ words_in s) (is_text t.word) (fails Unsupported t.at) (pair_at (names_kernel before) section_rest_at t s) (λ text h. absurd h)
-      (λ other. pair_held bad Bound (Taken IsSection (SectionKeeps Bound before) with_section s.seen) (Tells before) (names_kernel before) section_rest_at s.seen (λ u. kernel_shows (Unfit bad Bound Bool (Tells before) u) before u) (filled_section before s.seen good) (section_rest_held before s.seen good) t s.left.tokens s.left.last short)
+      held_if bad Bound by_pair (Taken (IsLooseSection Bound) (SectionKeeps Bound before) with_section s.seen) (t.word ∷ words_in s) (is_text t.word) (fails Unsupported t.at) (pair_at (names_kernel before) section_rest_at t s) (λ text h. let is = text_is t.word text in spoilt bad Bound (Taken (IsLooseSection Bound) (SectionKeeps Bound before) with_section s.seen) t s.left.tokens (subst (λ (w : Word). QuietBehind w s.left.tokens) is (alone h.0))
+      (record { more = []; x = (Section.Other, at (Err halt) [] s.seen); is = (inr (h.1, ap (λ (w : Word). w ∷ []) is), tt, refl) }))
+      (λ other. pair_held bad Bound (Taken (IsLooseSection Bound) (SectionKeeps Bound before) with_section s.seen) (Tells before) (names_kernel before) section_rest_at s.seen (λ u. kernel_shows (Unfit bad Bound Bool (Tells before) u) before u) (filled_section before s.seen good) (section_rest_held before s.seen good) t s.left.tokens s.left.last short)
 
   good_section : (before : List Section) (seen : Seen) (x : Section) → (Good bad Bound) seen → SectionKeeps Bound before seen x → (Good bad Bound) (with_section seen x)
   good_section before seen (Kernel params) good may = good_steps bad Bound with_param (ParamKeeps Bound) good_param [] seen params good may.params
@@ -305,7 +309,7 @@ module _ (bad : ℕ) (Bound : FaultKind → Type 0) where
 
   -- a list of sections that may come
   abbrev pub AreSections : List Word → List Section × State → Type 0
-  AreSections own xs = IsListOf IsSection own xs.0 × Keeps Bound xs.0 × (xs.1.seen ≡ steps with_section nothing xs.0)
+  AreSections own xs = IsListOf (IsLooseSection Bound) own xs.0 × Keeps Bound xs.0 × (xs.1.seen ≡ steps with_section nothing xs.0)
 
   pub sections_held : (ts : List Located) → Lone bad Bound ts → Holds bad Bound by_pair AreSections (words ts) (list_of section_at (at (Err halt) ts nothing))
-  sections_held ts lone = bracketed_held bad Bound IsSection with_section (SectionKeeps Bound) section_at (Good bad Bound) good_section section_held (at (Err halt) ts nothing) (refl, lone) (good_nothing bad Bound)
+  sections_held ts lone = bracketed_held bad Bound (IsLooseSection Bound) with_section (SectionKeeps Bound) section_at (Good bad Bound) good_section section_held (at (Err halt) ts nothing) (refl, lone) (good_nothing bad Bound)

@@ -13,13 +13,15 @@ pub mod Held
 pub mod HeldReaders
 pub mod HeldSections
 pub mod HeldFile
+pub mod Loosely
 pub mod Past
 pub mod PastReaders
 pub mod PastSections
 pub mod Spared
 pub mod Places
 pub mod Bounds
+pub mod Fewer
 pub mod Order
 pub mod Files
-pub mod Fewer
 pub mod Alone
+pub mod Only

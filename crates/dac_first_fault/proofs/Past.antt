@@ -1,8 +1,8 @@
--- A thing of the grammar is read, or a name in it breaks a limit that it isn't to keep: tokens, lists and pairs.
+-- A loose thing of the grammar is read, or its fault is of a limit or shape that isn't kept: tokens, lists and pairs.
 use Rattle.std.proofs.Common.{◌≡◌, ℕ, zero, suc, ◌<◌, Bool, true, false, cond, List, [], ◌∷◌, ◌++◌, length, Result, Ok, Err, refl, sym, ap, subst, ◌∙◌, append_assoc, length-append, arith}
 use Rattle.dac_tokens.specs.declared.fault.ConfigFault.{ConfigFault}
 use Rattle.dac_tokens.specs.declared.fault.FaultKind.{FaultKind}
-use Rattle.dac_tokens.specs.declared.fault.FaultKind.TheVariants.{BadShape, TwiceApp, TwiceInList, TooManyNodes, TooManyApps, NameTooLong}
+use Rattle.dac_tokens.specs.declared.fault.FaultKind.TheVariants.{BadShape, TwiceApp, TwiceInList, TooManyNodes, TooManyApps, NameTooLong, EmptyList, EmptyTuple, NumberTooLarge, Unsupported}
 use Rattle.dac_tokens.specs.declared.token.Symbol.{Symbol}
 use Rattle.dac_tokens.specs.declared.token.Symbol.TheVariants.{OpenList, CloseList, OpenTuple, CloseTuple, Comma}
 use Rattle.dac_tokens.specs.Gives.{◌>>=◌}
@@ -12,15 +12,19 @@ use Rattle.dac_shapes.specs.Shape.{State, is_mark, token, symbol_at, more_at, co
 use Rattle.dac_shapes.specs.Grammar.{Parted, IsListOf, IsPair}
 use Rattle.dac_shapes.specs.laws.AgainLists.{words_of, cons_is, split, cut, none, ended, inside, Begins, at, symbol_again}
 
--- a fault that a name brings which doesn't keep the limit of its kind, and not at such a place
-abbrev pub OfName : (ℕ → Type 0) → (FaultKind → Type 0) → FaultKind → ℕ → Type 0
-OfName Bad Kept BadShape place = (Bad place → ⊥) × (Kept BadShape → ⊥)
-OfName Bad Kept TwiceApp place = Kept TwiceApp → ⊥
-OfName Bad Kept TwiceInList place = Kept TwiceInList → ⊥
-OfName Bad Kept TooManyApps place = Kept TooManyApps → ⊥
-OfName Bad Kept TooManyNodes place = Kept TooManyNodes → ⊥
-OfName Bad Kept NameTooLong place = Kept NameTooLong → ⊥
-OfName Bad Kept _ place = ⊥
+-- a fault of a limit or shape that isn't kept, and if it is BadShape, not at such a place
+abbrev pub Unkept : (ℕ → Type 0) → (FaultKind → Type 0) → FaultKind → ℕ → Type 0
+Unkept Bad Kept BadShape place = (Bad place → ⊥) × (Kept BadShape → ⊥)
+Unkept Bad Kept TwiceApp place = Kept TwiceApp → ⊥
+Unkept Bad Kept TwiceInList place = Kept TwiceInList → ⊥
+Unkept Bad Kept TooManyApps place = Kept TooManyApps → ⊥
+Unkept Bad Kept TooManyNodes place = Kept TooManyNodes → ⊥
+Unkept Bad Kept NameTooLong place = Kept NameTooLong → ⊥
+Unkept Bad Kept EmptyList place = Kept EmptyList → ⊥
+Unkept Bad Kept EmptyTuple place = Kept EmptyTuple → ⊥
+Unkept Bad Kept NumberTooLarge place = Kept NumberTooLarge → ⊥
+Unkept Bad Kept Unsupported place = Kept Unsupported → ⊥
+Unkept Bad Kept _ place = ⊥
 
 -- no name stands at such a place
 abbrev pub Fine : (ℕ → Type 0) → List Located → Type 0
@@ -35,15 +39,15 @@ pub fine_rest : (Bad : ℕ → Type 0) (a b : List Located) → Fine Bad (a ++ b
 fine_rest Bad [] b f = f
 fine_rest Bad (t ∷ a) b f = fine_rest Bad a b f.1
 
--- this is read, these tokens are left and this was seen, or the fault is a name's
+-- this is read, these tokens are left and this was seen, or the fault is one that isn't kept
 abbrev pub Met : {A : Type 0} → Result Located ConfigFault → (ℕ → Type 0) → (FaultKind → Type 0) → A → List Located → Seen → Result (A × State) ConfigFault → Type 0
 Met last Bad Kept x us after (Ok y) = y ≡ (x, at last us after)
-Met last Bad Kept x us after (Err e) = OfName Bad Kept e.kind e.at
+Met last Bad Kept x us after (Err e) = Unkept Bad Kept e.kind e.at
 
--- a token says this, or the fault is a name's
+-- a token says this, or the fault is one that isn't kept
 abbrev pub Said : {K : Type 0} → (ℕ → Type 0) → (FaultKind → Type 0) → K → Result K ConfigFault → Type 0
 Said Bad Kept k (Ok j) = j ≡ k
-Said Bad Kept k (Err e) = OfName Bad Kept e.kind e.at
+Said Bad Kept k (Err e) = Unkept Bad Kept e.kind e.at
 
 module _ (last : Result Located ConfigFault) (Bad : ℕ → Type 0) (Kept : FaultKind → Type 0) where
   pub met_then : {A B : Type 0} (x : A) (us : List Located) (mid : Seen) (y : B) (vs : List Located) (after : Seen) (r : Result (A × State) ConfigFault) (next : A × State → Result (B × State) ConfigFault) → Met last Bad Kept x us mid r → Met last Bad Kept y vs after (next (x, at last us mid)) → Met last Bad Kept y vs after (r >>= next)

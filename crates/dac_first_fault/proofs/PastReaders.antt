@@ -1,9 +1,9 @@
--- Nodes, node lists, applications and permissions are read, or a name in them breaks a limit that it isn't to keep.
+-- Nodes, node lists, applications and permissions are read, or their fault is of a limit or shape that isn't kept.
 use Rattle.std.proofs.Common.{◌≡◌, ℕ, ◌<◌, ◌≤◌, Bool, true, false, not, ◌&&◌, cond, eqb, ltb, leb, List, [], ◌∷◌, ◌++◌, length, map, Result, Ok, refl, sym, ap, subst, ◌∙◌, append_assoc, arith, codes, inl, inr}
-use Rattle.std.proofs.lemmas.Bool.{lt-ltb, eq-eqb, ltb-true, leb-true}
+use Rattle.std.proofs.lemmas.Bool.{lt-ltb, le-ltb, eq-eqb, ltb-true, leb-true}
 use Rattle.dac_tokens.specs.declared.fault.ConfigFault.{ConfigFault}
 use Rattle.dac_tokens.specs.declared.fault.FaultKind.{FaultKind}
-use Rattle.dac_tokens.specs.declared.fault.FaultKind.TheVariants.{TwiceApp, TwiceInList, TooManyNodes, TooManyApps, NameTooLong}
+use Rattle.dac_tokens.specs.declared.fault.FaultKind.TheVariants.{TwiceApp, TwiceInList, TooManyNodes, TooManyApps, NameTooLong, EmptyList, EmptyTuple, NumberTooLarge}
 use Rattle.dac_tokens.specs.declared.token.Symbol.TheVariants.{OpenList, CloseList, OpenTuple, CloseTuple, Comma}
 use Rattle.dac_tokens.specs.Gives.{◌>>=◌}
 use Rattle.dac_tokens.specs.Words.{Word, Mark, Name, Number, Located}
@@ -11,8 +11,9 @@ use Rattle.dac_shapes.specs.Written.{App, Permission}
 use Rattle.dac_shapes.specs.Limits.{Seen, is_among, with_node, with_nodes, with_groups, listing, with_app}
 use Rattle.dac_tokens.specs.Digits.{value_from}
 use Rattle.dac_shapes.specs.Shape.{State, fails, is_mark, atom_of, short_name_of, node_of, names_at, item_at, items_at, groups_at, milliseconds_of, timeout_at, app_name_of, app_value_at, app_at, flag_of, permission_value_at, permission_at, closed}
-use Rattle.dac_shapes.specs.Grammar.{Parted, IsNode, IsItem, IsNodeList, IsAppValue, IsApp, IsFlag, IsPermission}
+use Rattle.dac_shapes.specs.Grammar.{Parted, IsNode, IsItem, IsMs, IsFlag, IsPermission}
 use Rattle.dac_shapes.specs.laws.AgainLists.{words_of, cons_is, split, cut, none, Begins, at, symbol_again}
+use Rattle.dac_first_fault.specs.Loose.{IsLooseItem, IsLooseNodeList, IsLooseAppValue, IsLooseApp}
 use Rattle.dac_first_fault.specs.Keeps.{NodeKeeps, NodesKeep, GroupsKeep, AppKeeps, PermissionKeeps}
 use Rattle.dac_first_fault.proofs.Past.{Fine, fine_front, Met, Said, met_then, said_then, said_said, said_if, met_if, met_is, parted_begins, whole_met, pair_met}
 
@@ -77,10 +78,16 @@ module _ (last : Result Located ConfigFault) (Bad : ℕ → Type 0) (Kept : Faul
       let c = cons_is t.word (Name name) (words_of ts) [] is in
       subst (λ (l : List Located). Met last Bad Kept name us (with_node seen name) (node_of repeats t (at last (l ++ us) seen))) (sym (none ts c.1)) (node_met repeats t us seen name c.0 keep)
 
-  item_begins : (ws : List Word) (group : List (List ℕ)) → IsItem ws group → Begins ws
-  item_begins ws group is = elim is [
+  strict_begins : (ws : List Word) (group : List (List ℕ)) → IsItem ws group → Begins ws
+  strict_begins ws group is = elim is [
     | inl h ↦ record { head = Name h.0; tail = []; whole = h.1; no_list = refl; no_tuple = refl }
     | inr h ↦ record { head = Mark OpenTuple; tail = h.0 ++ Mark CloseTuple ∷ []; whole = h.1; no_list = refl; no_tuple = refl }
+  ]
+
+  item_begins : (ws : List Word) (group : List (List ℕ)) → IsLooseItem Kept ws group → Begins ws
+  item_begins ws group is = elim is [
+    | inl strict ↦ strict_begins ws group strict
+    | inr empty ↦ record { head = Mark OpenTuple; tail = Mark CloseTuple ∷ []; whole = empty.1; no_list = refl; no_tuple = refl }
   ]
 
   alone_is : (t : Located) (s : State) (name : List ℕ) → t.word ≡ Name name → item_at t s ≡ (node_of false t s >>= λ name. Ok (name.0 ∷ [], name.1))
@@ -125,8 +132,8 @@ module _ (last : Result Located ConfigFault) (Bad : ℕ → Type 0) (Kept : Faul
   within_apart : (ts us : List Located) (inner : List Word) (right : Word) (w : Within ts inner right) → ts ++ us ≡ w.first ∷ (w.mid ++ w.close_at ∷ us)
   within_apart ts us inner right w = ap (λ (l : List Located). l ++ us) w.whole ∙ ap (λ (l : List Located). w.first ∷ l) (append_assoc w.mid (w.close_at ∷ []) us)
 
-  item_met : (before : List (List (List ℕ))) (t : Located) (ts us : List Located) (seen : Seen) (group : List (List ℕ)) → IsItem (words_of (t ∷ ts)) group → Fine Bad (t ∷ ts) → NodesKeep Kept false seen group → Met last Bad Kept group us (with_nodes seen group) (item_at t (at last (ts ++ us) seen))
-  item_met before t ts us seen group is fine keep = elim is [
+  strict_item_met : (before : List (List (List ℕ))) (t : Located) (ts us : List Located) (seen : Seen) (group : List (List ℕ)) → IsItem (words_of (t ∷ ts)) group → Fine Bad (t ∷ ts) → NodesKeep Kept false seen group → Met last Bad Kept group us (with_nodes seen group) (item_at t (at last (ts ++ us) seen))
+  strict_item_met before t ts us seen group is fine keep = elim is [
     | inl h ↦
         let c = cons_is t.word (Name h.0) (words_of ts) [] h.1 in
         let s = at last us seen in
@@ -144,17 +151,42 @@ module _ (last : Result Located ConfigFault) (Bad : ℕ → Type 0) (Kept : Faul
         (whole_met last Bad Kept IsNode node_begins (λ _. node_of false) with_node (λ _. NodeKeeps Kept false) (nodes_met false) CloseTuple refl refl w.first w.mid w.close_at us seen group (subst (λ (l : List Word). Parted IsNode l group) w.is h.2) (within_fine ts h.0 (Mark CloseTuple) w fine.1) keep w.closes)
   ]
 
+  tuple_none : (t c : Located) (us : List Located) (seen : Seen) → t.word ≡ Mark OpenTuple → c.word ≡ Mark CloseTuple → item_at t (at last (c ∷ us) seen) ≡ fails EmptyTuple t.at
+  unfolding item_at
+  tuple_none t c us seen w v = rw (w, v) refl
+
+  item_met : (before : List (List (List ℕ))) (t : Located) (ts us : List Located) (seen : Seen) (group : List (List ℕ)) → IsLooseItem Kept (words_of (t ∷ ts)) group → Fine Bad (t ∷ ts) → NodesKeep Kept false seen group → Met last Bad Kept group us (with_nodes seen group) (item_at t (at last (ts ++ us) seen))
+  item_met before t ts us seen group is fine keep = elim is [
+    | inl strict ↦ strict_item_met before t ts us seen group strict fine keep
+    | inr empty ↦
+        let b = cons_is t.word (Mark OpenTuple) (words_of ts) (Mark CloseTuple ∷ []) empty.1 in
+        let c = cut ts (Mark CloseTuple) [] b.1 in
+        let apart : ts ++ us ≡ c.head ∷ us = ap (λ (l : List Located). l ++ us) (c.whole ∙ ap (λ (l : List Located). c.head ∷ l) (none c.tail c.rest)) in
+        met_is last Bad Kept group us (with_nodes seen group) (item_at t (at last (ts ++ us) seen)) (fails EmptyTuple t.at) (ap (λ (l : List Located). item_at t (at last l seen)) apart ∙ tuple_none t c.head us seen b.0 c.is) empty.0
+  ]
+
   list_opened : (t f : Located) (ts : List Located) (seen : Seen) → t.word ≡ Mark OpenList → is_mark CloseList f.word ≡ false → groups_at t (at last (f ∷ ts) seen) ≡ items_at f (at last ts (listing seen))
   unfolding groups_at
   list_opened t f ts seen w e = rw (w, e) refl
 
-  groups_met : (t : Located) (ts us : List Located) (seen : Seen) (groups : List (List (List ℕ))) → IsNodeList (words_of (t ∷ ts)) groups → Fine Bad (t ∷ ts) → GroupsKeep Kept (listing seen) groups → Met last Bad Kept groups us (with_groups (listing seen) groups) (groups_at t (at last (ts ++ us) seen))
-  groups_met t ts us seen groups is fine keep =
-      let w = within t ts (Mark OpenList) is.0 (Mark CloseList) is.1 (parted_begins last Bad Kept IsItem item_begins is.0 groups is.2) in
-      let begun = cons_is t.word (Mark OpenList) (words_of ts) (is.0 ++ Mark CloseList ∷ []) is.1 in
-      let vs = w.mid ++ w.close_at ∷ us in
-      met_is last Bad Kept groups us (with_groups (listing seen) groups) (groups_at t (at last (ts ++ us) seen)) (items_at w.first (at last vs (listing seen))) (ap (λ (l : List Located). groups_at t (at last l seen)) (within_apart ts us is.0 (Mark CloseList) w) ∙ list_opened t w.first vs seen begun.0 w.no_list)
-      (whole_met last Bad Kept IsItem item_begins (λ _. item_at) with_nodes (λ _. NodesKeep Kept false) item_met CloseList refl refl w.first w.mid w.close_at us (listing seen) groups (subst (λ (l : List Word). Parted IsItem l groups) w.is is.2) (within_fine ts is.0 (Mark CloseList) w fine.1) keep w.closes)
+  list_none : (t c : Located) (us : List Located) (seen : Seen) → t.word ≡ Mark OpenList → c.word ≡ Mark CloseList → groups_at t (at last (c ∷ us) seen) ≡ fails EmptyList t.at
+  unfolding groups_at
+  list_none t c us seen w v = rw (w, v) refl
+
+  groups_met : (t : Located) (ts us : List Located) (seen : Seen) (groups : List (List (List ℕ))) → IsLooseNodeList Kept (words_of (t ∷ ts)) groups → Fine Bad (t ∷ ts) → GroupsKeep Kept (listing seen) groups → Met last Bad Kept groups us (with_groups (listing seen) groups) (groups_at t (at last (ts ++ us) seen))
+  groups_met t ts us seen groups is fine keep = elim is [
+    | inl filled ↦
+        let w = within t ts (Mark OpenList) filled.0 (Mark CloseList) filled.1 (parted_begins last Bad Kept (IsLooseItem Kept) item_begins filled.0 groups filled.2) in
+        let begun = cons_is t.word (Mark OpenList) (words_of ts) (filled.0 ++ Mark CloseList ∷ []) filled.1 in
+        let vs = w.mid ++ w.close_at ∷ us in
+        met_is last Bad Kept groups us (with_groups (listing seen) groups) (groups_at t (at last (ts ++ us) seen)) (items_at w.first (at last vs (listing seen))) (ap (λ (l : List Located). groups_at t (at last l seen)) (within_apart ts us filled.0 (Mark CloseList) w) ∙ list_opened t w.first vs seen begun.0 w.no_list)
+        (whole_met last Bad Kept (IsLooseItem Kept) item_begins (λ _. item_at) with_nodes (λ _. NodesKeep Kept false) item_met CloseList refl refl w.first w.mid w.close_at us (listing seen) groups (subst (λ (l : List Word). Parted (IsLooseItem Kept) l groups) w.is filled.2) (within_fine ts filled.0 (Mark CloseList) w fine.1) keep w.closes)
+    | inr empty ↦
+        let b = cons_is t.word (Mark OpenList) (words_of ts) (Mark CloseList ∷ []) empty.1 in
+        let c = cut ts (Mark CloseList) [] b.1 in
+        let apart : ts ++ us ≡ c.head ∷ us = ap (λ (l : List Located). l ++ us) (c.whole ∙ ap (λ (l : List Located). c.head ∷ l) (none c.tail c.rest)) in
+        met_is last Bad Kept groups us (with_groups (listing seen) groups) (groups_at t (at last (ts ++ us) seen)) (fails EmptyList t.at) (ap (λ (l : List Located). groups_at t (at last l seen)) apart ∙ list_none t c.head us seen b.0 c.is) empty.0
+  ]
 
   -- ---- applications
 
@@ -175,38 +207,70 @@ module _ (last : Result Located ConfigFault) (Bad : ℕ → Type 0) (Kept : Faul
   app_value_is name n first f ts vs seen e = rw e refl
 
   -- a node list behind a timeout
-  listed_met : (app : App) (f : Located) (ts us : List Located) (seen : Seen) → IsNodeList (words_of (f ∷ ts)) app.groups → Fine Bad (f ∷ ts) → GroupsKeep Kept (listing seen) app.groups → Met last Bad Kept app us (with_app seen app) (groups_at f (at last (ts ++ us) seen) >>= app_with app.name app.timeout)
+  listed_met : (app : App) (f : Located) (ts us : List Located) (seen : Seen) → IsLooseNodeList Kept (words_of (f ∷ ts)) app.groups → Fine Bad (f ∷ ts) → GroupsKeep Kept (listing seen) app.groups → Met last Bad Kept app us (with_app seen app) (groups_at f (at last (ts ++ us) seen) >>= app_with app.name app.timeout)
   listed_met app f ts us seen list fine keep = met_then last Bad Kept app.groups us (with_app seen app) app us (with_app seen app) (groups_at f (at last (ts ++ us) seen)) (app_with app.name app.timeout) (groups_met f ts us seen app.groups list fine keep) refl
 
-  app_value_met : (vs us : List Located) (seen : Seen) (app : App) → IsAppValue (words_of vs) app → Fine Bad vs → GroupsKeep Kept (listing seen) app.groups → Met last Bad Kept app us (with_app seen app) (app_value_at app.name (at last (vs ++ us) seen))
+  -- a node list begins with its bracket
+  list_begins : (ws : List Word) (groups : List (List (List ℕ))) → IsLooseNodeList Kept ws groups → (tail : List Word) × (ws ≡ Mark OpenList ∷ tail)
+  list_begins ws groups is = elim is [
+    | inl filled ↦ (filled.0 ++ Mark CloseList ∷ [], filled.1)
+    | inr empty ↦ (Mark CloseList ∷ [], empty.1)
+  ]
+
+  untimed_met : (vs us : List Located) (seen : Seen) (app : App) → app.timeout ≡ 0 → IsLooseNodeList Kept (words_of vs) app.groups → Fine Bad vs → GroupsKeep Kept (listing seen) app.groups → Met last Bad Kept app us (with_app seen app) (app_value_at app.name (at last (vs ++ us) seen))
+  untimed_met vs us seen app zero is fine keep =
+      let b = list_begins (words_of vs) app.groups is in
+      let c = cut vs (Mark OpenList) b.0 b.1 in
+      let list : IsLooseNodeList Kept (words_of (c.head ∷ c.tail)) app.groups = subst (λ (l : List Word). IsLooseNodeList Kept l app.groups) (ap words_of c.whole) is in
+      let ts = c.tail ++ us in
+      let time : timeout_at c.head (at last ts seen) ≡ Ok (app.timeout, c.head, at last ts seen) = untimed_is c.head.word c.head.at (at last ts seen) c.is ∙ ap (λ (n : ℕ). Ok (n, c.head, at last ts seen)) (sym zero) in
+      met_is last Bad Kept app us (with_app seen app) (app_value_at app.name (at last (vs ++ us) seen)) (groups_at c.head (at last ts seen) >>= app_with app.name app.timeout)
+      (ap (λ (l : List Located). app_value_at app.name (at last (l ++ us) seen)) c.whole ∙ app_value_is app.name app.timeout c.head c.head ts ts seen time)
+      (listed_met app c.head c.tail us seen list (subst (λ (l : List Located). Fine Bad l) c.whole fine) keep)
+
+  timed_met : (vs us : List Located) (seen : Seen) (app : App) (w : Word) (list : List Word) → words_of vs ≡ w ∷ Mark Comma ∷ list → IsMs w app.timeout → IsLooseNodeList Kept list app.groups → Fine Bad vs → GroupsKeep Kept (listing seen) app.groups → Met last Bad Kept app us (with_app seen app) (app_value_at app.name (at last (vs ++ us) seen))
+  timed_met vs us seen app w list whole ms is fine keep =
+      let b = list_begins list app.groups is in
+      let c = cut vs w (Mark Comma ∷ list) whole in
+      let d = cut c.tail (Mark Comma) list c.rest in
+      let f = cut d.tail (Mark OpenList) b.0 (d.rest ∙ b.1) in
+      let here : IsLooseNodeList Kept (words_of (f.head ∷ f.tail)) app.groups = subst (λ (l : List Word). IsLooseNodeList Kept l app.groups) (sym d.rest ∙ ap words_of f.whole) is in
+      let apart : vs ≡ c.head ∷ d.head ∷ f.head ∷ f.tail = c.whole ∙ ap (λ (l : List Located). c.head ∷ l) (d.whole ∙ ap (λ (l : List Located). d.head ∷ l) f.whole) in
+      let number : c.head.word ≡ Number ms.0 ms.1 = c.is ∙ ms.2 in
+      let ts = f.tail ++ us in
+      let time = timed_is c.head.at d.head f.head ts seen ms.0 ms.1 app.timeout (ms_is c.head.at ms.0 (value_from 0 ms.1) app.timeout ms.3 ms.4 ms.5) d.is in
+      let timed : timeout_at c.head (at last (d.head ∷ f.head ∷ ts) seen) ≡ Ok (app.timeout, f.head, at last ts seen) = ap (λ (w : Word). timeout_at (record { word = w; at = c.head.at }) (at last (d.head ∷ f.head ∷ ts) seen)) number ∙ time in
+      met_is last Bad Kept app us (with_app seen app) (app_value_at app.name (at last (vs ++ us) seen)) (groups_at f.head (at last ts seen) >>= app_with app.name app.timeout)
+      (ap (λ (l : List Located). app_value_at app.name (at last (l ++ us) seen)) apart ∙ app_value_is app.name app.timeout c.head f.head ts (d.head ∷ f.head ∷ ts) seen timed)
+      (listed_met app f.head f.tail us seen here (subst (λ (l : List Located). Fine Bad l) apart fine).1.1 keep)
+
+  -- a number that is too large
+  pub large_is : (place v : ℕ) → 4294967296 ≤ v → milliseconds_of place false v ≡ fails NumberTooLarge place
+  large_is place v large = let no : ltb v 4294967296 ≡ false = le-ltb v 4294967296 large in rw no refl
+
+  value_large : (name : List ℕ) (place : ℕ) (digits : List ℕ) (vs : List Located) (seen : Seen) → milliseconds_of place false (value_from 0 digits) ≡ fails NumberTooLarge place → app_value_at name (at last (record { word = Number false digits; at = place } ∷ vs) seen) ≡ fails NumberTooLarge place
+  unfolding app_value_at timeout_at
+  value_large name place digits vs seen e = rw e refl
+
+  app_value_met : (vs us : List Located) (seen : Seen) (app : App) → IsLooseAppValue Kept (words_of vs) app → Fine Bad vs → GroupsKeep Kept (listing seen) app.groups → Met last Bad Kept app us (with_app seen app) (app_value_at app.name (at last (vs ++ us) seen))
   app_value_met vs us seen app is fine keep = elim is.3 [
     | inl h ↦
         let whole : words_of vs ≡ is.1 = is.2 ∙ ap (λ (l : List Word). l ++ is.1) h.0 in
-        let c = cut vs (Mark OpenList) (is.4.0 ++ Mark CloseList ∷ []) (whole ∙ is.4.1) in
-        let list : IsNodeList (words_of (c.head ∷ c.tail)) app.groups = subst (λ (l : List Word). IsNodeList l app.groups) (sym whole ∙ ap words_of c.whole) is.4 in
-        let ts = c.tail ++ us in
-        let time : timeout_at c.head (at last ts seen) ≡ Ok (app.timeout, c.head, at last ts seen) = untimed_is c.head.word c.head.at (at last ts seen) c.is ∙ ap (λ (n : ℕ). Ok (n, c.head, at last ts seen)) (sym h.1) in
-        met_is last Bad Kept app us (with_app seen app) (app_value_at app.name (at last (vs ++ us) seen)) (groups_at c.head (at last ts seen) >>= app_with app.name app.timeout)
-        (ap (λ (l : List Located). app_value_at app.name (at last (l ++ us) seen)) c.whole ∙ app_value_is app.name app.timeout c.head c.head ts ts seen time)
-        (listed_met app c.head c.tail us seen list (subst (λ (l : List Located). Fine Bad l) c.whole fine) keep)
+        untimed_met vs us seen app h.1 (subst (λ (l : List Word). IsLooseNodeList Kept l app.groups) (sym whole) is.4) fine keep
     | inr h ↦
-        let ms = h.2 in
         let whole : words_of vs ≡ h.0 ∷ Mark Comma ∷ is.1 = is.2 ∙ ap (λ (l : List Word). l ++ is.1) h.1 in
-        let c = cut vs h.0 (Mark Comma ∷ is.1) whole in
-        let d = cut c.tail (Mark Comma) is.1 c.rest in
-        let f = cut d.tail (Mark OpenList) (is.4.0 ++ Mark CloseList ∷ []) (d.rest ∙ is.4.1) in
-        let list : IsNodeList (words_of (f.head ∷ f.tail)) app.groups = subst (λ (l : List Word). IsNodeList l app.groups) (sym d.rest ∙ ap words_of f.whole) is.4 in
-        let apart : vs ≡ c.head ∷ d.head ∷ f.head ∷ f.tail = c.whole ∙ ap (λ (l : List Located). c.head ∷ l) (d.whole ∙ ap (λ (l : List Located). d.head ∷ l) f.whole) in
-        let number : c.head.word ≡ Number ms.0 ms.1 = c.is ∙ ms.2 in
-        let ts = f.tail ++ us in
-        let time = timed_is c.head.at d.head f.head ts seen ms.0 ms.1 app.timeout (ms_is c.head.at ms.0 (value_from 0 ms.1) app.timeout ms.3 ms.4 ms.5) d.is in
-        let timed : timeout_at c.head (at last (d.head ∷ f.head ∷ ts) seen) ≡ Ok (app.timeout, f.head, at last ts seen) = ap (λ (w : Word). timeout_at (record { word = w; at = c.head.at }) (at last (d.head ∷ f.head ∷ ts) seen)) number ∙ time in
-        met_is last Bad Kept app us (with_app seen app) (app_value_at app.name (at last (vs ++ us) seen)) (groups_at f.head (at last ts seen) >>= app_with app.name app.timeout)
-        (ap (λ (l : List Located). app_value_at app.name (at last (l ++ us) seen)) apart ∙ app_value_is app.name app.timeout c.head f.head ts (d.head ∷ f.head ∷ ts) seen timed)
-        (listed_met app f.head f.tail us seen list (subst (λ (l : List Located). Fine Bad l) apart fine).1.1 keep)
+        elim h.2 [
+          | inl ms ↦ timed_met vs us seen app h.0 is.1 whole ms is.4 fine keep
+          | inr large ↦
+              let c = cut vs h.0 (Mark Comma ∷ is.1) whole in
+              let number : c.head.word ≡ Number false large.1 = c.is ∙ large.2 in
+              let read : app_value_at app.name (at last (c.head ∷ (c.tail ++ us)) seen) ≡ fails NumberTooLarge c.head.at =
+              ap (λ (w : Word). app_value_at app.name (at last (record { word = w; at = c.head.at } ∷ (c.tail ++ us)) seen)) number ∙ value_large app.name c.head.at large.1 (c.tail ++ us) seen (large_is c.head.at (value_from 0 large.1) (omega (arith, large.3, large.4))) in
+              met_is last Bad Kept app us (with_app seen app) (app_value_at app.name (at last (vs ++ us) seen)) (fails NumberTooLarge c.head.at) (ap (λ (l : List Located). app_value_at app.name (at last (l ++ us) seen)) c.whole ∙ read) large.0
+        ]
   ]
 
-  pub app_begins : (ws : List Word) (app : App) → IsApp ws app → Begins ws
+  pub app_begins : (ws : List Word) (app : App) → IsLooseApp Kept ws app → Begins ws
   app_begins ws app is = record { head = Mark OpenTuple; tail = Name app.name ∷ Mark Comma ∷ is.0 ++ Mark CloseTuple ∷ []; whole = is.1; no_list = refl; no_tuple = refl }
 
   app_named : (before : List App) (seen : Seen) (app : App) → AppKeeps Kept before seen app → (t : Located) → t.word ≡ Name app.name → Said Bad Kept app.name (app_name_of before t)
@@ -218,10 +282,10 @@ module _ (last : Result Located ConfigFault) (Bad : ℕ → Type 0) (Kept : Faul
       (said_if last Bad Kept name among (fails TwiceApp t.at) (cond (leb 64 (length before)) (fails TooManyApps t.at) (Ok name)) (λ twice kept. apart among twice (keep.once kept))
       (λ once. said_if last Bad Kept name (leb 64 (length before)) (fails TooManyApps t.at) (Ok name) (λ many kept. absurd (omega (arith, keep.few kept once, leb-true 64 (length before) many))) (λ few. refl)))
 
-  pub app_met : (before : List App) (t : Located) (ts us : List Located) (seen : Seen) (app : App) → IsApp (words_of (t ∷ ts)) app → Fine Bad (t ∷ ts) → AppKeeps Kept before seen app → Met last Bad Kept app us (with_app seen app) (app_at before t (at last (ts ++ us) seen))
+  pub app_met : (before : List App) (t : Located) (ts us : List Located) (seen : Seen) (app : App) → IsLooseApp Kept (words_of (t ∷ ts)) app → Fine Bad (t ∷ ts) → AppKeeps Kept before seen app → Met last Bad Kept app us (with_app seen app) (app_at before t (at last (ts ++ us) seen))
   app_met before t ts us seen app is fine keep =
       pair_met last Bad Kept (app_name_of before) (λ name. closed (app_value_at name)) app.name app.name app seen (with_app seen app) (λ n w ok. app_named before seen app keep n w)
-      (app_value_at app.name) (λ value. IsAppValue value app) (λ s. refl) (λ vs us' value f. app_value_met vs us' seen app value f keep.nodes) t ts us is fine
+      (app_value_at app.name) (λ value. IsLooseAppValue Kept value app) (λ s. refl) (λ vs us' value f. app_value_met vs us' seen app value f keep.nodes) t ts us is fine
 
   -- ---- permissions
 

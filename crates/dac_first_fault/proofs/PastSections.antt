@@ -1,11 +1,11 @@
--- Parameters and sections are read, or a name in them breaks a limit that it isn't to keep.
-use Rattle.std.proofs.Common.{◌≡◌, ℕ, Bool, true, false, cond, List, [], ◌∷◌, ◌++◌, Option, None, Some, ◌≢◌, Result, Ok, refl, sym, ap, subst, ◌∙◌, codes}
+-- Parameters and sections are read, or their fault is of a limit or shape that isn't kept.
+use Rattle.std.proofs.Common.{◌≡◌, ℕ, Bool, true, false, cond, List, [], ◌∷◌, ◌++◌, Option, None, Some, ◌≢◌, Result, Ok, refl, sym, ap, subst, ◌∙◌, codes, arith, inl, inr}
 use Rattle.std.specs.Str.{bytes_eq}
 use Rattle.dac_tokens.specs.declared.fault.ConfigFault.{ConfigFault}
 use Rattle.dac_tokens.specs.declared.fault.FaultKind.{FaultKind}
-use Rattle.dac_tokens.specs.declared.fault.FaultKind.TheVariants.{BadShape}
+use Rattle.dac_tokens.specs.declared.fault.FaultKind.TheVariants.{BadShape, Unsupported, NumberTooLarge}
 use Rattle.dac_tokens.specs.declared.token.Symbol.TheVariants.{OpenTuple, CloseTuple, Comma}
-use Rattle.dac_tokens.specs.Words.{Word, Mark, Name, Number, Located}
+use Rattle.dac_tokens.specs.Words.{Word, Mark, Name, Number, Text, Located}
 use Rattle.dac_shapes.specs.declared.draft.SyncWait.{SyncWait}
 use Rattle.dac_shapes.specs.declared.draft.SyncWait.TheVariants.{NoSync, Forever, Ms}
 use Rattle.dac_shapes.specs.declared.param.ParamName.{ParamName}
@@ -13,29 +13,34 @@ use Rattle.dac_shapes.specs.declared.param.ParamName.TheVariants as named
 use Rattle.dac_shapes.specs.Written.{App, Permission, Param, Distributed, Permissions, Mandatory, Optional, Timeout, Section, Kernel, spelled}
 use Rattle.dac_shapes.specs.Limits.{Seen, nothing, AllMay, steps, has_param, has_kernel, with_node, with_nodes, with_app, with_apps, with_permission, with_param, with_section}
 use Rattle.dac_tokens.specs.Digits.{value_from}
-use Rattle.dac_shapes.specs.Shape.{State, fails, node_of, wait_of, app_at, permission_at, param_named, param_name_of, param_value_at, param_rest_at, param_at, names_kernel, kernel_at, section_rest_at, section_at, passed_at, pair_at, closed, list_of}
-use Rattle.dac_shapes.specs.Grammar.{IsListOf, IsPair, IsNode, IsApp, IsPermission, IsTerm, IsWait, IsParam, IsSection}
+use Rattle.dac_shapes.specs.Shape.{State, fails, node_of, wait_of, milliseconds_of, app_at, permission_at, param_named, param_name_of, param_value_at, param_rest_at, param_at, names_kernel, kernel_at, section_rest_at, section_at, passed_at, pair_at, closed, list_of}
+use Rattle.dac_shapes.specs.Grammar.{IsListOf, IsPair, IsNode, IsPermission, IsTerm, IsWait}
 use Rattle.dac_shapes.specs.laws.Names.{is_named, param_is, same_seen}
 use Rattle.dac_shapes.specs.laws.AgainLists.{words_of, cons_is, cut, none, Begins, at}
 use Rattle.dac_shapes.specs.laws.AgainTerms.{passed_again}
+use Rattle.dac_first_fault.specs.Loose.{IsLooseApp, IsLooseWait, IsLooseParam, IsLooseSection}
 use Rattle.dac_first_fault.specs.Keeps.{NodeKeeps, NodesKeep, AppKeeps, PermissionKeeps, ParamKeeps, KernelKeeps, SectionKeeps, Keeps}
 use Rattle.dac_first_fault.proofs.Past.{Fine, Met, Said, met_then, met_is, bracketed_met, rest_met, pair_met}
-use Rattle.dac_first_fault.proofs.PastReaders.{atom_is, ms_is, node_begins, nodes_met, app_begins, app_met, permission_begins, permission_met}
+use Rattle.dac_first_fault.proofs.PastReaders.{large_is, atom_is, ms_is, node_begins, nodes_met, app_begins, app_met, permission_begins, permission_met}
 
 pair_begins : (name : List ℕ) (IsValue : List Word → Type 0) (ws : List Word) → IsPair name IsValue ws → Begins ws
 pair_begins name IsValue ws is = record { head = Mark OpenTuple; tail = Name name ∷ Mark Comma ∷ is.0 ++ Mark CloseTuple ∷ []; whole = is.1; no_list = refl; no_tuple = refl }
 
-param_begins : (ws : List Word) (p : Param) → IsParam ws p → Begins ws
-param_begins ws (Distributed apps) is = pair_begins (spelled named.Distributed) (λ value. IsListOf IsApp value apps) ws is
-param_begins ws (Permissions permissions) is = pair_begins (spelled named.Permissions) (λ value. IsListOf IsPermission value permissions) ws is
-param_begins ws (Mandatory names) is = pair_begins (spelled named.Mandatory) (λ value. IsListOf IsNode value names) ws is
-param_begins ws (Optional names) is = pair_begins (spelled named.Optional) (λ value. IsListOf IsNode value names) ws is
-param_begins ws (Timeout wait) is = pair_begins (spelled named.Timeout) (λ value. IsWait value wait) ws is
-param_begins ws Param.Other is = pair_begins is.0 IsTerm ws is.2
+module _ (Kept : FaultKind → Type 0) where
+  param_begins : (ws : List Word) (p : Param) → IsLooseParam Kept ws p → Begins ws
+  param_begins ws (Distributed apps) is = pair_begins (spelled named.Distributed) (λ value. IsListOf (IsLooseApp Kept) value apps) ws is
+  param_begins ws (Permissions permissions) is = pair_begins (spelled named.Permissions) (λ value. IsListOf IsPermission value permissions) ws is
+  param_begins ws (Mandatory names) is = pair_begins (spelled named.Mandatory) (λ value. IsListOf IsNode value names) ws is
+  param_begins ws (Optional names) is = pair_begins (spelled named.Optional) (λ value. IsListOf IsNode value names) ws is
+  param_begins ws (Timeout wait) is = pair_begins (spelled named.Timeout) (λ value. IsLooseWait Kept value wait) ws is
+  param_begins ws Param.Other is = pair_begins is.0 IsTerm ws is.2
 
-section_begins : (ws : List Word) (x : Section) → IsSection ws x → Begins ws
-section_begins ws (Kernel params) is = pair_begins (codes "kernel") (λ value. IsListOf IsParam value params) ws is
-section_begins ws Section.Other is = pair_begins is.0 IsTerm ws is.2
+  section_begins : (ws : List Word) (x : Section) → IsLooseSection Kept ws x → Begins ws
+  section_begins ws (Kernel params) is = pair_begins (codes "kernel") (λ value. IsListOf (IsLooseParam Kept) value params) ws is
+  section_begins ws Section.Other is = elim is [
+    | inl pair ↦ pair_begins pair.0 IsTerm ws pair.2
+    | inr file ↦ record { head = Text; tail = []; whole = file.1; no_list = refl; no_tuple = refl }
+  ]
 
 spelled_so : (name : ParamName) → param_named (spelled name) ≡ Some name
 spelled_so named.Distributed = refl
@@ -70,12 +75,6 @@ wait_is w place (Ms n) is =
     let number : w ≡ Number ms.0 ms.1 = c.0 ∙ ms.2 in
     rw (number, ms_is place ms.0 (value_from 0 ms.1) n ms.3 ms.4 ms.5) refl
 
--- a wait is one word
-wait_word : (ws : List Word) (wait : SyncWait) → IsWait ws wait → (w : Word) × (ws ≡ w ∷ [])
-wait_word ws NoSync is = absurd is
-wait_word ws Forever is = (Name (codes "infinity"), is)
-wait_word ws (Ms n) is = (is.0, is.1)
-
 module _ (last : Result Located ConfigFault) (Bad : ℕ → Type 0) (Kept : FaultKind → Type 0) where
   -- a second one brings a fault, at its name
   once_said : {K : Type 0} (k : K) (place : ℕ) → (Bad place → ⊥) → (c : Bool) → (Kept BadShape → c ≡ false) → Said Bad Kept k (cond c (fails BadShape place) (Ok k))
@@ -97,20 +96,37 @@ module _ (last : Result Located ConfigFault) (Bad : ℕ → Type 0) (Kept : Faul
   unfolding param_value_at
   timeout_is t us seen wait is = rw (wait_is t.word t.at wait is) refl
 
-  timeout_met : (vs us : List Located) (seen : Seen) (wait : SyncWait) → IsWait (words_of vs) wait → Met last Bad Kept (Timeout wait) us seen (param_value_at named.Timeout (at last (vs ++ us) seen))
-  timeout_met vs us seen wait is =
-      let w = wait_word (words_of vs) wait is in
-      let c = cut vs w.0 [] w.1 in
+  -- a wait that is one word
+  word_met : (vs us : List Located) (seen : Seen) (wait : SyncWait) (w : Word) → words_of vs ≡ w ∷ [] → IsWait (w ∷ []) wait → Met last Bad Kept (Timeout wait) us seen (param_value_at named.Timeout (at last (vs ++ us) seen))
+  word_met vs us seen wait w e is =
+      let c = cut vs w [] e in
       let only : vs ≡ c.head ∷ [] = c.whole ∙ ap (λ (l : List Located). c.head ∷ l) (none c.tail c.rest) in
-      let said : IsWait (c.head.word ∷ []) wait = subst (λ (l : List Located). IsWait (words_of l) wait) only is in
+      let said : IsWait (c.head.word ∷ []) wait = subst (λ (v : Word). IsWait (v ∷ []) wait) (sym c.is) is in
       met_is last Bad Kept (Timeout wait) us seen (param_value_at named.Timeout (at last (vs ++ us) seen)) (Ok (Timeout wait, at last us seen)) (ap (λ (l : List Located). param_value_at named.Timeout (at last (l ++ us) seen)) only ∙ timeout_is c.head us seen wait said) refl
 
-  distributed_met : (vs us : List Located) (seen : Seen) (apps : List App) → IsListOf IsApp (words_of vs) apps → Fine Bad vs → AllMay with_app (AppKeeps Kept) [] seen apps → Met last Bad Kept (Distributed apps) us (with_apps seen apps) (param_value_at named.Distributed (at last (vs ++ us) seen))
+  wait_large : (place : ℕ) (digits : List ℕ) (us : List Located) (seen : Seen) → milliseconds_of place false (value_from 0 digits) ≡ fails NumberTooLarge place → param_value_at named.Timeout (at last (record { word = Number false digits; at = place } ∷ us) seen) ≡ fails NumberTooLarge place
+  unfolding param_value_at wait_of
+  wait_large place digits us seen e = rw e refl
+
+  timeout_met : (vs us : List Located) (seen : Seen) (wait : SyncWait) → IsLooseWait Kept (words_of vs) wait → Met last Bad Kept (Timeout wait) us seen (param_value_at named.Timeout (at last (vs ++ us) seen))
+  timeout_met vs us seen NoSync is = absurd is
+  timeout_met vs us seen Forever is = word_met vs us seen Forever (Name (codes "infinity")) is refl
+  timeout_met vs us seen (Ms n) is = elim is.2 [
+    | inl ms ↦ word_met vs us seen (Ms n) is.0 is.1 (is.0, refl, ms)
+    | inr large ↦
+        let c = cut vs is.0 [] is.1 in
+        let number : c.head.word ≡ Number false large.1 = c.is ∙ large.2 in
+        let read : param_value_at named.Timeout (at last (c.head ∷ (c.tail ++ us)) seen) ≡ fails NumberTooLarge c.head.at =
+        ap (λ (w : Word). param_value_at named.Timeout (at last (record { word = w; at = c.head.at } ∷ (c.tail ++ us)) seen)) number ∙ wait_large c.head.at large.1 (c.tail ++ us) seen (large_is last Bad Kept c.head.at (value_from 0 large.1) (omega (arith, large.3, large.4))) in
+        met_is last Bad Kept (Timeout (Ms n)) us seen (param_value_at named.Timeout (at last (vs ++ us) seen)) (fails NumberTooLarge c.head.at) (ap (λ (l : List Located). param_value_at named.Timeout (at last (l ++ us) seen)) c.whole ∙ read) large.0
+  ]
+
+  distributed_met : (vs us : List Located) (seen : Seen) (apps : List App) → IsListOf (IsLooseApp Kept) (words_of vs) apps → Fine Bad vs → AllMay with_app (AppKeeps Kept) [] seen apps → Met last Bad Kept (Distributed apps) us (with_apps seen apps) (param_value_at named.Distributed (at last (vs ++ us) seen))
   unfolding param_value_at
   distributed_met vs us seen apps is fine keep =
       let after = with_apps seen apps in
       met_then last Bad Kept apps us after (Distributed apps) us after (list_of app_at (at last (vs ++ us) seen)) (λ apps. Ok (Distributed apps.0, apps.1))
-      (bracketed_met last Bad Kept IsApp (app_begins last Bad Kept) app_at with_app (AppKeeps Kept) (app_met last Bad Kept) vs us seen apps is fine keep) refl
+      (bracketed_met last Bad Kept (IsLooseApp Kept) (app_begins last Bad Kept) app_at with_app (AppKeeps Kept) (app_met last Bad Kept) vs us seen apps is fine keep) refl
 
   permissions_met : (vs us : List Located) (seen : Seen) (permissions : List Permission) → IsListOf IsPermission (words_of vs) permissions → Fine Bad vs → AllMay with_permission (PermissionKeeps Kept) [] seen permissions → Met last Bad Kept (Permissions permissions) us seen (param_value_at named.Permissions (at last (vs ++ us) seen))
   unfolding param_value_at
@@ -146,13 +162,13 @@ module _ (last : Result Located ConfigFault) (Bad : ℕ → Type 0) (Kept : Faul
   known_met name before p seen IsValue once value t ts us pair fine =
       pair_met last Bad Kept (param_name_of before) param_rest_at (spelled name) (Some name) p seen (with_param seen p) (λ n w ok. known_said before n name once w ok) (param_value_at name) IsValue (rest_of_known name) value t ts us pair fine
 
-  param_met : (before : List Param) (t : Located) (ts us : List Located) (seen : Seen) (p : Param) → IsParam (words_of (t ∷ ts)) p → Fine Bad (t ∷ ts) → ParamKeeps Kept before seen p → Met last Bad Kept p us (with_param seen p) (param_at before t (at last (ts ++ us) seen))
-  param_met before t ts us seen (Distributed apps) is fine keep = known_met named.Distributed before (Distributed apps) seen (λ value. IsListOf IsApp value apps) (λ kept. keep.once kept named.Distributed refl) (λ vs us' value f. distributed_met vs us' seen apps value f keep.value) t ts us is fine
+  param_met : (before : List Param) (t : Located) (ts us : List Located) (seen : Seen) (p : Param) → IsLooseParam Kept (words_of (t ∷ ts)) p → Fine Bad (t ∷ ts) → ParamKeeps Kept before seen p → Met last Bad Kept p us (with_param seen p) (param_at before t (at last (ts ++ us) seen))
+  param_met before t ts us seen (Distributed apps) is fine keep = known_met named.Distributed before (Distributed apps) seen (λ value. IsListOf (IsLooseApp Kept) value apps) (λ kept. keep.once kept named.Distributed refl) (λ vs us' value f. distributed_met vs us' seen apps value f keep.value) t ts us is fine
   param_met before t ts us seen (Permissions permissions) is fine keep =
       known_met named.Permissions before (Permissions permissions) seen (λ value. IsListOf IsPermission value permissions) (λ kept. keep.once kept named.Permissions refl) (λ vs us' value f. permissions_met vs us' seen permissions value f keep.value) t ts us is fine
   param_met before t ts us seen (Mandatory names) is fine keep = known_met named.Mandatory before (Mandatory names) seen (λ value. IsListOf IsNode value names) (λ kept. keep.once kept named.Mandatory refl) (λ vs us' value f. mandatory_met vs us' seen names value f keep.value) t ts us is fine
   param_met before t ts us seen (Optional names) is fine keep = known_met named.Optional before (Optional names) seen (λ value. IsListOf IsNode value names) (λ kept. keep.once kept named.Optional refl) (λ vs us' value f. optional_met vs us' seen names value f keep.value) t ts us is fine
-  param_met before t ts us seen (Timeout wait) is fine keep = known_met named.Timeout before (Timeout wait) seen (λ value. IsWait value wait) (λ kept. keep.once kept named.Timeout refl) (λ vs us' value f. timeout_met vs us' seen wait value) t ts us is fine
+  param_met before t ts us seen (Timeout wait) is fine keep = known_met named.Timeout before (Timeout wait) seen (λ value. IsLooseWait Kept value wait) (λ kept. keep.once kept named.Timeout refl) (λ vs us' value f. timeout_met vs us' seen wait value) t ts us is fine
   param_met before t ts us seen Param.Other is fine keep =
       rest_met last Bad Kept (param_name_of before) param_rest_at is.0 None Param.Other seen seen (λ n w ok. other_said before n is.0 w (unknown_so is.0 is.1)) (is.2.0 ++ Mark CloseTuple ∷ []) t ts us is.2.1 fine
       (λ vs e f. met_is last Bad Kept Param.Other us seen (param_rest_at None (at last (vs ++ us) seen)) (Ok (Param.Other, at last us seen)) (rest_of_other (at last (vs ++ us) seen) (at last us seen) (passed_again last is.2.0 vs us seen is.2.2 e)) refl)
@@ -170,11 +186,11 @@ module _ (last : Result Located ConfigFault) (Bad : ℕ → Type 0) (Kept : Faul
   other_section_said : (before : List Section) (t : Located) (name : List ℕ) → t.word ≡ Name name → bytes_eq name (codes "kernel") ≡ false → Said Bad Kept false (names_kernel before t)
   other_section_said before t name w other = subst (λ (r : Result Bool ConfigFault). Said Bad Kept false r) (sym (other_section_is before t name w other)) refl
 
-  kernel_met : (before : List Section) (vs us : List Located) (seen : Seen) (params : List Param) → IsListOf IsParam (words_of vs) params → Fine Bad vs → KernelKeeps Kept before seen params → Met last Bad Kept (Kernel params) us (with_section seen (Kernel params)) (kernel_at (at last (vs ++ us) seen))
+  kernel_met : (before : List Section) (vs us : List Located) (seen : Seen) (params : List Param) → IsListOf (IsLooseParam Kept) (words_of vs) params → Fine Bad vs → KernelKeeps Kept before seen params → Met last Bad Kept (Kernel params) us (with_section seen (Kernel params)) (kernel_at (at last (vs ++ us) seen))
   unfolding kernel_at
   kernel_met before vs us seen params is fine keep =
       let after = with_section seen (Kernel params) in
-      met_then last Bad Kept params us after (Kernel params) us after (list_of param_at (at last (vs ++ us) seen)) (λ params. Ok (Kernel params.0, params.1)) (bracketed_met last Bad Kept IsParam param_begins param_at with_param (ParamKeeps Kept) param_met vs us seen params is fine keep.params) refl
+      met_then last Bad Kept params us after (Kernel params) us after (list_of param_at (at last (vs ++ us) seen)) (λ params. Ok (Kernel params.0, params.1)) (bracketed_met last Bad Kept (IsLooseParam Kept) (param_begins Kept) param_at with_param (ParamKeeps Kept) param_met vs us seen params is fine keep.params) refl
 
   rest_of_kernel : (s : State) → section_rest_at true s ≡ closed kernel_at s
   unfolding section_rest_at
@@ -184,25 +200,35 @@ module _ (last : Result Located ConfigFault) (Bad : ℕ → Type 0) (Kept : Faul
   unfolding section_rest_at
   rest_of_section s u e = rw e refl
 
-  section_pair_met : (before : List Section) (t : Located) (ts us : List Located) (seen : Seen) (x : Section) → IsSection (words_of (t ∷ ts)) x → Fine Bad (t ∷ ts) → SectionKeeps Kept before seen x → Met last Bad Kept x us (with_section seen x) (pair_at (names_kernel before) section_rest_at t (at last (ts ++ us) seen))
-  section_pair_met before t ts us seen (Kernel params) is fine keep =
-      pair_met last Bad Kept (names_kernel before) section_rest_at (codes "kernel") true (Kernel params) seen (with_section seen (Kernel params)) (λ n w ok. kernel_said before n keep.once w ok) kernel_at (λ value. IsListOf IsParam value params) rest_of_kernel (λ vs us' value f. kernel_met before vs us' seen params value f keep) t ts us is fine
-  section_pair_met before t ts us seen Section.Other is fine keep =
-      rest_met last Bad Kept (names_kernel before) section_rest_at is.0 false Section.Other seen seen (λ n w ok. other_section_said before n is.0 w (no_kernel is.0 is.1)) (is.2.0 ++ Mark CloseTuple ∷ []) t ts us is.2.1 fine
-      (λ vs e f. met_is last Bad Kept Section.Other us seen (section_rest_at false (at last (vs ++ us) seen)) (Ok (Section.Other, at last us seen)) (rest_of_section (at last (vs ++ us) seen) (at last us seen) (passed_again last is.2.0 vs us seen is.2.2 e)) refl)
-
-  -- a section begins with a brace
-  braced : (t : Located) (ts : List Located) (x : Section) → IsSection (words_of (t ∷ ts)) x → t.word ≡ Mark OpenTuple
-  braced t ts (Kernel params) is = (cons_is t.word (Mark OpenTuple) (words_of ts) (Name (codes "kernel") ∷ Mark Comma ∷ is.0 ++ Mark CloseTuple ∷ []) is.1).0
-  braced t ts Section.Other is = (cons_is t.word (Mark OpenTuple) (words_of ts) (Name is.0 ∷ Mark Comma ∷ is.2.0 ++ Mark CloseTuple ∷ []) is.2.1).0
-
   no_text : (before : List Section) (t : Located) (s : State) → t.word ≡ Mark OpenTuple → section_at before t s ≡ pair_at (names_kernel before) section_rest_at t s
   unfolding section_at
   no_text before t s w = rw w refl
 
-  section_met : (before : List Section) (t : Located) (ts us : List Located) (seen : Seen) (x : Section) → IsSection (words_of (t ∷ ts)) x → Fine Bad (t ∷ ts) → SectionKeeps Kept before seen x → Met last Bad Kept x us (with_section seen x) (section_at before t (at last (ts ++ us) seen))
-  section_met before t ts us seen x is fine keep =
-      met_is last Bad Kept x us (with_section seen x) (section_at before t (at last (ts ++ us) seen)) (pair_at (names_kernel before) section_rest_at t (at last (ts ++ us) seen)) (no_text before t (at last (ts ++ us) seen) (braced t ts x is)) (section_pair_met before t ts us seen x is fine keep)
+  -- a string in place of a section
+  file_is : (before : List Section) (t : Located) (s : State) → t.word ≡ Text → section_at before t s ≡ fails Unsupported t.at
+  unfolding section_at
+  file_is before t s w = rw w refl
 
-  pub sections_met : (ts us : List Located) (sections : List Section) → IsListOf IsSection (words_of ts) sections → Fine Bad ts → Keeps Kept sections → Met last Bad Kept sections us (steps with_section nothing sections) (list_of section_at (at last (ts ++ us) nothing))
-  sections_met ts us sections is fine keep = bracketed_met last Bad Kept IsSection section_begins section_at with_section (SectionKeeps Kept) section_met ts us nothing sections is fine keep
+  kernel_section_met : (before : List Section) (t : Located) (ts us : List Located) (seen : Seen) (params : List Param) → IsLooseSection Kept (words_of (t ∷ ts)) (Kernel params) → Fine Bad (t ∷ ts) → SectionKeeps Kept before seen (Kernel params) → Met last Bad Kept (Kernel params) us (with_section seen (Kernel params)) (section_at before t (at last (ts ++ us) seen))
+  kernel_section_met before t ts us seen params is fine keep =
+      let brace = (cons_is t.word (Mark OpenTuple) (words_of ts) (Name (codes "kernel") ∷ Mark Comma ∷ is.0 ++ Mark CloseTuple ∷ []) is.1).0 in
+      let after = with_section seen (Kernel params) in
+      met_is last Bad Kept (Kernel params) us after (section_at before t (at last (ts ++ us) seen)) (pair_at (names_kernel before) section_rest_at t (at last (ts ++ us) seen)) (no_text before t (at last (ts ++ us) seen) brace)
+      (pair_met last Bad Kept (names_kernel before) section_rest_at (codes "kernel") true (Kernel params) seen after (λ n w ok. kernel_said before n keep.once w ok) kernel_at (λ value. IsListOf (IsLooseParam Kept) value params) rest_of_kernel (λ vs us' value f. kernel_met before vs us' seen params value f keep) t ts us is fine)
+
+  other_pair_met : (before : List Section) (t : Located) (ts us : List Located) (seen : Seen) (name : List ℕ) → name ≢ codes "kernel" → IsPair name IsTerm (words_of (t ∷ ts)) → Fine Bad (t ∷ ts) → Met last Bad Kept Section.Other us seen (section_at before t (at last (ts ++ us) seen))
+  other_pair_met before t ts us seen name other is fine =
+      let brace = (cons_is t.word (Mark OpenTuple) (words_of ts) (Name name ∷ Mark Comma ∷ is.0 ++ Mark CloseTuple ∷ []) is.1).0 in
+      met_is last Bad Kept Section.Other us seen (section_at before t (at last (ts ++ us) seen)) (pair_at (names_kernel before) section_rest_at t (at last (ts ++ us) seen)) (no_text before t (at last (ts ++ us) seen) brace)
+      (rest_met last Bad Kept (names_kernel before) section_rest_at name false Section.Other seen seen (λ n w ok. other_section_said before n name w (no_kernel name other)) (is.0 ++ Mark CloseTuple ∷ []) t ts us is.1 fine
+      (λ vs e f. met_is last Bad Kept Section.Other us seen (section_rest_at false (at last (vs ++ us) seen)) (Ok (Section.Other, at last us seen)) (rest_of_section (at last (vs ++ us) seen) (at last us seen) (passed_again last is.0 vs us seen is.2 e)) refl))
+
+  section_met : (before : List Section) (t : Located) (ts us : List Located) (seen : Seen) (x : Section) → IsLooseSection Kept (words_of (t ∷ ts)) x → Fine Bad (t ∷ ts) → SectionKeeps Kept before seen x → Met last Bad Kept x us (with_section seen x) (section_at before t (at last (ts ++ us) seen))
+  section_met before t ts us seen (Kernel params) is fine keep = kernel_section_met before t ts us seen params is fine keep
+  section_met before t ts us seen Section.Other is fine keep = elim is [
+    | inl pair ↦ other_pair_met before t ts us seen pair.0 pair.1 pair.2 fine
+    | inr file ↦ met_is last Bad Kept Section.Other us seen (section_at before t (at last (ts ++ us) seen)) (fails Unsupported t.at) (file_is before t (at last (ts ++ us) seen) (cons_is t.word Text (words_of ts) [] file.1).0) file.0
+  ]
+
+  pub sections_met : (ts us : List Located) (sections : List Section) → IsListOf (IsLooseSection Kept) (words_of ts) sections → Fine Bad ts → Keeps Kept sections → Met last Bad Kept sections us (steps with_section nothing sections) (list_of section_at (at last (ts ++ us) nothing))
+  sections_met ts us sections is fine keep = bracketed_met last Bad Kept (IsLooseSection Kept) (section_begins Kept) section_at with_section (SectionKeeps Kept) section_met ts us nothing sections is fine keep

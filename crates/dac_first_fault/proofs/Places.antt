@@ -1,18 +1,19 @@
 -- Where the names of a text stand, and where a fault that they don't bring.
-use Rattle.std.proofs.Common.{◌≡◌, ℕ, ◌+◌, ◌<◌, ◌≤◌, List, [], ◌∷◌, ◌++◌, length, refl, sym, ap, subst, ◌∙◌, append_assoc, length-append, arith, inl, inr}
+use Rattle.std.proofs.Common.{◌≡◌, ℕ, ◌+◌, ◌<◌, ◌≤◌, List, [], ◌∷◌, ◌++◌, length, refl, sym, ap, subst, ◌∙◌, append_assoc, length-append, arith, inl, inr, true, false}
 use Rattle.std.specs.Prelude.{◌⊎◌, All}
-use Rattle.std.specs.Char.{IsAsciiLowercase}
+use Rattle.std.specs.Char.{IsAsciiDigit, IsAsciiLowercase}
 use Rattle.std.proofs.lemmas.List.Elements.{All-head, All-tail}
 use Rattle.dac_tokens.specs.declared.fault.ConfigFault.{ConfigFault}
 use Rattle.dac_tokens.specs.declared.fault.FaultKind.{FaultKind}
 use Rattle.dac_tokens.specs.declared.fault.FaultKind.TheVariants as kind
+use Rattle.dac_tokens.specs.declared.token.Symbol.TheVariants.{OpenList, CloseList, OpenTuple, CloseTuple, Comma, FullStop}
 use Rattle.dac_tokens.specs.Words.{Word, Mark, Name, Number, Text, End, Located}
-use Rattle.dac_tokens.specs.TokenGrammar.{AreSpelled, Spells, Begins, depth_behind}
+use Rattle.dac_tokens.specs.TokenGrammar.{AreTokensOf, AreSpelled, Spells, Begins, depth_behind}
 use Rattle.dac_tokens.specs.TokenFaults.{StopAt}
-use Rattle.dac_first_fault.specs.FirstFault.{StandsAt, Itself, InList, InTuple, CanBring, IsNoName, BeginsWith, Only, Before, IsOfName}
-use Rattle.dac_first_fault.proofs.Past.{OfName, Fine}
+use Rattle.dac_first_fault.specs.FirstFault.{StandsAt, Itself, InList, InTuple, CanBring, IsNoName, BeginsWith, Only, Before, IsOfName, rank}
+use Rattle.dac_first_fault.proofs.Past.{Unkept, Fine}
 use Rattle.dac_first_fault.proofs.Held.{Frees, Stops}
-use Rattle.dac_first_fault.proofs.Spared.{Unlimited}
+use Rattle.dac_first_fault.proofs.Spared.{Strict}
 
 -- this place alone
 abbrev pub At : ℕ → ℕ → Type 0
@@ -41,45 +42,55 @@ name_or_not End = inr tt
 cons_tail : (v w : Word) (a b : List Word) → v ∷ a ≡ w ∷ b → a ≡ b
 cons_tail v w a b e = cc
 
-all_last : (a : List Word) (w : Word) → All IsNoName (a ++ w ∷ []) → IsNoName w
-all_last [] w all = All-head IsNoName w [] all
-all_last (v ∷ a) w all = all_last a w (All-tail IsNoName v (a ++ w ∷ []) all)
+all_last : (P : Word → Type 0) (a : List Word) (w : Word) → All P (a ++ w ∷ []) → P w
+all_last P [] w all = All-head P w [] all
+all_last P (v ∷ a) w all = all_last P a w (All-tail P v (a ++ w ∷ []) all)
 
 none_behind : (a b : List Word) → [] ≡ a ++ b → b ≡ []
 none_behind [] b e = sym e
 none_behind (v ∷ a) b e = absurd cc
 
--- behind words of which the last is a name there is nothing without names
-pub last_named : (a : List Word) (w : Word) (name : List ℕ) (named rest : List Word) → w ≡ Name name → a ++ w ∷ [] ≡ named ++ rest → All IsNoName rest → rest ≡ []
-last_named a w name [] rest is e all = absurd (subst IsNoName is (all_last a w (subst (λ (l : List Word). All IsNoName l) (sym e) all)))
-last_named [] w name (v ∷ named) rest is e all = none_behind named rest (cons_tail w v [] (named ++ rest) e)
-last_named (u ∷ a) w name (v ∷ named) rest is e all = last_named a w name named rest is (cons_tail u v (a ++ w ∷ []) (named ++ rest) e) all
+-- behind words of which the last isn't so there is nothing of which all is so
+pub last_named : (P : Word → Type 0) (a : List Word) (w : Word) (named rest : List Word) → (P w → ⊥) → a ++ w ∷ [] ≡ named ++ rest → All P rest → rest ≡ []
+last_named P a w [] rest loud e all = absurd (loud (all_last P a w (subst (λ (l : List Word). All P l) (sym e) all)))
+last_named P [] w (v ∷ named) rest loud e all = none_behind named rest (cons_tail w v [] (named ++ rest) e)
+last_named P (u ∷ a) w (v ∷ named) rest loud e all = last_named P a w named rest loud (cons_tail u v (a ++ w ∷ []) (named ++ rest) e) all
 
 -- a fault at a token that is no name is none of a name
-kind_not : (k : FaultKind) (w : Word) (bad place : ℕ) → place ≡ bad → CanBring k w → IsNoName w → OfName (At bad) Unlimited k place → ⊥
+kind_not : (k : FaultKind) (w : Word) (bad place : ℕ) → place ≡ bad → CanBring k w → IsNoName w → Unkept (At bad) Strict k place → ⊥
 kind_not kind.BadShape w bad place e can plain of = of.0 e
 kind_not kind.TwiceApp w bad place e can plain of = absurd (subst IsNoName can.1 plain)
 kind_not kind.TwiceInList w bad place e can plain of = absurd (subst IsNoName can.1 plain)
 kind_not kind.TooManyApps w bad place e can plain of = absurd (subst IsNoName can.1 plain)
 kind_not kind.TooManyNodes w bad place e can plain of = absurd (subst IsNoName can.1 plain)
 kind_not kind.NameTooLong w bad place e can plain of = absurd (subst IsNoName can.1 plain)
-kind_not kind.Unsupported w bad place e can plain of = of
-kind_not kind.NumberTooLarge w bad place e can plain of = of
+kind_not kind.Unsupported w bad place e can plain of = of tt
+kind_not kind.NumberTooLarge w bad place e can plain of = of tt
 kind_not _ w bad place e can plain of = absurd can
 
-pub not_name : (a : List Located) (l : Located) (e : ConfigFault) → StandsAt a l e → IsNoName l.word → OfName (At l.at) Unlimited e.kind e.at → ⊥
+pub not_name : (a : List Located) (l : Located) (e : ConfigFault) → StandsAt a l e → IsNoName l.word → Unkept (At l.at) Strict e.kind e.at → ⊥
 not_name a l e (Itself place can) plain of = kind_not e.kind l.word l.at e.at place can plain of
-not_name a l e (InList front o is w v f) plain of = subst (λ (f : ConfigFault). OfName (At l.at) Unlimited f.kind f.at) f of
-not_name a l e (InTuple front o is w v f) plain of = subst (λ (f : ConfigFault). OfName (At l.at) Unlimited f.kind f.at) f of
+not_name a l e (InList front o is w v f) plain of = (subst (λ (f : ConfigFault). Unkept (At l.at) Strict f.kind f.at) f of) tt
+not_name a l e (InTuple front o is w v f) plain of = (subst (λ (f : ConfigFault). Unkept (At l.at) Strict f.kind f.at) f of) tt
+
+-- a fault of shape stands at its token
+pub shape_place : (a : List Located) (l : Located) (e : ConfigFault) → StandsAt a l e → e.kind ≡ kind.BadShape → e.at ≡ l.at
+shape_place a l e (Itself place can) is = place
+shape_place a l e (InList front o parts w v f) is = let wrong : kind.EmptyList ≡ kind.BadShape = sym (ap (λ (f : ConfigFault). f.kind) f) ∙ is in absurd cc
+shape_place a l e (InTuple front o parts w v f) is = let wrong : kind.EmptyTuple ≡ kind.BadShape = sym (ap (λ (f : ConfigFault). f.kind) f) ∙ is in absurd cc
 
 -- a fault breaks its own limit
-pub not_kept : (k : FaultKind) (place : ℕ) → OfName Nowhere (Only k) k place → ⊥
+pub not_kept : (k : FaultKind) (place : ℕ) → Unkept Nowhere (Only k) k place → ⊥
 not_kept kind.BadShape place of = of.1 refl
 not_kept kind.TwiceApp place of = of refl
 not_kept kind.TwiceInList place of = of refl
 not_kept kind.TooManyApps place of = of refl
 not_kept kind.TooManyNodes place of = of refl
 not_kept kind.NameTooLong place of = of refl
+not_kept kind.EmptyList place of = of refl
+not_kept kind.EmptyTuple place of = of refl
+not_kept kind.NumberTooLarge place of = of refl
+not_kept kind.Unsupported place of = of refl
 not_kept _ place of = absurd of
 
 -- ---- a limit that a name breaks
@@ -98,10 +109,24 @@ name_of_it a l e (Itself place can) of = (can_name e.kind l.word can of, place)
 name_of_it a l e (InList front o is w v f) of = absurd (subst (λ (f : ConfigFault). IsOfName f.kind) f of)
 name_of_it a l e (InTuple front o is w v f) of = absurd (subst (λ (f : ConfigFault). IsOfName f.kind) f of)
 
-frees_so : (k : FaultKind) → Frees (Before k) k
-frees_so k other le less = absurd (omega (arith, le, less))
+-- the limits that count before this one, and all that isn't of names
+abbrev pub Strictly : FaultKind → FaultKind → Type 0
+Strictly kind other = Before kind other ⊎ Strict other
 
-pub stops_so : (k : FaultKind) (place bad : ℕ) → place ≡ bad → IsOfName k → Stops bad (Before k) k place
+late_rank : (k : FaultKind) → Strict k → rank k ≤ 5 → ⊥
+late_rank kind.EmptyList is le = absurd (omega (arith, le))
+late_rank kind.EmptyTuple is le = absurd (omega (arith, le))
+late_rank kind.NumberTooLarge is le = absurd (omega (arith, le))
+late_rank kind.Unsupported is le = absurd (omega (arith, le))
+late_rank _ is le = absurd is
+
+frees_so : (k : FaultKind) → Frees (Strictly k) k
+frees_so k other le fits b = elim b [
+  | inl less ↦ absurd (omega (arith, le, less))
+  | inr special ↦ late_rank other special fits
+]
+
+pub stops_so : (k : FaultKind) (place bad : ℕ) → place ≡ bad → IsOfName k → Stops bad (Strictly k) k place
 stops_so kind.NameTooLong place bad e of = (e, frees_so kind.NameTooLong)
 stops_so kind.TwiceApp place bad e of = (e, frees_so kind.TwiceApp)
 stops_so kind.TwiceInList place bad e of = (e, frees_so kind.TwiceInList)
@@ -130,30 +155,66 @@ spelled_fine bad place bytes (t ∷ ts) is le =
     let own = length-append is.0 is.1 in
     (λ name w e. absurd (omega (arith, le, long, own, k.place, e, name_some t.word name is.0 is.1 w k.spelled)), spelled_fine bad (t.at + length is.0) is.1 ts is.3 (omega (arith, le, long, own, k.place)))
 
+digits_some : (digits : List ℕ) → Begins IsAsciiDigit digits → 0 < length digits
+digits_some [] is = absurd is
+digits_some (b ∷ bytes) is = omega arith
+
+-- a token has a byte at least
+own_some : (w : Word) (own rest : List ℕ) → Spells w own rest → 0 < length own
+own_some (Mark OpenList) own rest is = omega (arith, ap length is)
+own_some (Mark CloseList) own rest is = omega (arith, ap length is)
+own_some (Mark OpenTuple) own rest is = omega (arith, ap length is)
+own_some (Mark CloseTuple) own rest is = omega (arith, ap length is)
+own_some (Mark Comma) own rest is = omega (arith, ap length is)
+own_some (Mark FullStop) own rest is = omega (arith, ap length is.0)
+own_some (Name name) own rest is = name_some (Name name) name own rest refl is
+own_some (Number false digits) own rest is = omega (arith, ap length is.0.0, digits_some digits is.0.1.begins)
+own_some (Number true digits) own rest is = omega (arith, ap length is.0.0)
+own_some Text own rest is = omega (arith, ap length is.parts)
+own_some End own rest is = absurd is
+
 -- tokens one behind another
 abbrev Apart : ℕ → List Located → Type 0
 Apart place [] = Unit {0}
-Apart place (t ∷ ts) = (next : ℕ) × (place ≤ t.at) × (t.at ≤ next) × ((name : List ℕ) → t.word ≡ Name name → t.at < next) × Apart next ts
+Apart place (t ∷ ts) = (next : ℕ) × (place ≤ t.at) × (t.at < next) × Apart next ts
 
 apart_spelled : (place : ℕ) (bytes : List ℕ) (ts : List Located) → AreSpelled place bytes ts → Apart place ts
 apart_spelled place bytes [] is = tt
-apart_spelled place bytes (t ∷ ts) is = (t.at + length is.0, omega (arith, is.2.place), omega arith, λ name w. omega (arith, name_some t.word name is.0 is.1 w is.2.spelled), apart_spelled (t.at + length is.0) is.1 ts is.3)
+apart_spelled place bytes (t ∷ ts) is = (t.at + length is.0, omega (arith, is.2.place), omega (arith, own_some t.word is.0 is.1 is.2.spelled), apart_spelled (t.at + length is.0) is.1 ts is.3)
 
 apart_stopped : (place depth : ℕ) (bytes : List ℕ) (ts : List Located) (e : ConfigFault) → StopAt place depth bytes ts e → Apart place ts
 apart_stopped place depth bytes [] e is = tt
-apart_stopped place depth bytes (t ∷ ts) e is = (t.at + length is.0, omega (arith, is.2.place), omega arith, λ name w. omega (arith, name_some t.word name is.0 is.1 w is.2.spelled), apart_stopped (t.at + length is.0) (depth_behind depth t.word) is.1 ts e is.4)
+apart_stopped place depth bytes (t ∷ ts) e is = (t.at + length is.0, omega (arith, is.2.place), omega (arith, own_some t.word is.0 is.1 is.2.spelled), apart_stopped (t.at + length is.0) (depth_behind depth t.word) is.1 ts e is.4)
 
 apart_later : (place : ℕ) (a : List Located) (l : Located) (b : List Located) → Apart place (a ++ l ∷ b) → place ≤ l.at
 apart_later place [] l b is = is.1
-apart_later place (t ∷ a) l b is = let later = apart_later is.0 a l b is.4 in omega (arith, later, is.1, is.2)
+apart_later place (t ∷ a) l b is = let later = apart_later is.0 a l b is.3 in omega (arith, later, is.1, is.2)
 
-apart_fine : (place : ℕ) (a : List Located) (l : Located) (b : List Located) → Apart place (a ++ l ∷ b) → Fine (At l.at) a
-apart_fine place [] l b is = tt
-apart_fine place (t ∷ a) l b is = let later = apart_later is.0 a l b is.4 in (λ name w e. absurd (omega (arith, later, is.3 name w, e)), apart_fine is.0 a l b is.4)
+-- none of these stands at this place
+abbrev pub Clear : ℕ → List Located → Type 0
+Clear bad [] = Unit {0}
+Clear bad (t ∷ ts) = (t.at ≡ bad → ⊥) × Clear bad ts
 
--- no name before a token of a text stands at its place
-pub text_fine : (text : List ℕ) (a : List Located) (l : Located) → BeginsWith text (a ++ l ∷ []) → Fine (At l.at) a
-text_fine text a l is = apart_fine 0 a l is.rest (subst (λ (ts : List Located). Apart 0 ts) (append_assoc a (l ∷ []) is.rest) (elim is.is [
+apart_clear : (place : ℕ) (a : List Located) (l : Located) (b : List Located) → Apart place (a ++ l ∷ b) → Clear l.at a
+apart_clear place [] l b is = tt
+apart_clear place (t ∷ a) l b is = let later = apart_later is.0 a l b is.3 in (λ e. absurd (omega (arith, later, is.2, e)), apart_clear is.0 a l b is.3)
+
+-- no token of a text before another stands at its place
+pub text_clear : (text : List ℕ) (a : List Located) (l : Located) → BeginsWith text (a ++ l ∷ []) → Clear l.at a
+text_clear text a l is = apart_clear 0 a l is.rest (subst (λ (ts : List Located). Apart 0 ts) (append_assoc a (l ∷ []) is.rest) (elim is.is [
   | inl tokens ↦ apart_spelled 0 text ((a ++ l ∷ []) ++ is.rest) tokens.spelled
   | inr stopped ↦ apart_stopped 0 0 text ((a ++ l ∷ []) ++ is.rest) stopped.0 stopped.1
 ]))
+
+clear_fine : (bad : ℕ) (ts : List Located) → Clear bad ts → Fine (At bad) ts
+clear_fine bad [] c = tt
+clear_fine bad (t ∷ ts) c = (λ name is e. c.0 e, clear_fine bad ts c.1)
+
+pub text_fine : (text : List ℕ) (a : List Located) (l : Located) → BeginsWith text (a ++ l ∷ []) → Fine (At l.at) a
+text_fine text a l is = clear_fine l.at a (text_clear text a l is)
+
+pub begins_front : (text : List ℕ) (ts : List Located) (l : Located) → BeginsWith text (ts ++ l ∷ []) → BeginsWith text ts
+begins_front text ts l is = record {
+  rest = l ∷ is.rest;
+  is = subst (λ (all : List Located). AreTokensOf text all ⊎ ((e : ConfigFault) × StopAt 0 0 text all e)) (append_assoc ts (l ∷ []) is.rest) is.is;
+}

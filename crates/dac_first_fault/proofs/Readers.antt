@@ -81,7 +81,7 @@ flag_end t w = rw (atom_end t w) refl
 flag_look : IsLook flag_of
 flag_look = record { place = flag_here; end = flag_end }
 
-not_negative : (negative : Bool) (n : ℕ) → (negative && not (eqb n 0)) ≡ false → 4294967296 ≤ n → negative ≡ false
+pub not_negative : (negative : Bool) (n : ℕ) → (negative && not (eqb n 0)) ≡ false → 4294967296 ≤ n → negative ≡ false
 not_negative false n e large = refl
 not_negative true n e large = let nonzero : eqb n 0 ≡ false = ne_eqb n 0 (λ zero_is. absurd (omega arith)) in let both : true ≡ false = sym (ap not nonzero) ∙ e in absurd cc
 

@@ -1,4 +1,4 @@
--- Where the first fault of a text stands, said without a reader.
+-- The first fault of a text, said without a reader.
 use Rattle.std.specs.Prelude.{◌≡◌, ◌⊎◌, false, ℕ, ◌<◌, ◌≤◌, List, [], ◌∷◌, ◌++◌, length, map, All}
 use Rattle.dac_tokens.specs.declared.fault.FaultKind.{FaultKind}
 use Rattle.dac_tokens.specs.declared.fault.FaultKind.TheVariants.{TooLong, Unsupported, BadShape, NoDistributed, TwiceApp, TwiceInList, EmptyList, EmptyTuple, TooManyNodes, TooManyApps, NumberTooLarge, NameTooLong}
@@ -12,6 +12,7 @@ use Rattle.dac_tokens.specs.Digits.{value_from}
 use Rattle.dac_shapes.specs.Written.{Section, written}
 use Rattle.dac_shapes.specs.Grammar.{IsFile}
 use Rattle.dac_shapes.specs.Within.{AreWithinLimits, nodes_in}
+use Rattle.dac_first_fault.specs.Loose.{IsLooseFile}
 use Rattle.dac_first_fault.specs.Keeps.{Keeps}
 
 -- a name of at most MAX_NAME bytes
@@ -72,7 +73,9 @@ pub record IsWell (ws : List Word) : Type 0 where
   pub no_name : All IsNoName rest
   pub keeps : CanBegin AreWithinLimits named
 
--- the order in which the limits of names count, where one name breaks several
+-- ---- which fault a token brings
+
+-- the order in which limits count, where a name breaks several
 abbrev pub rank : FaultKind → ℕ
 rank BadShape = 0
 rank NameTooLong = 1
@@ -99,11 +102,33 @@ IsOfName TooManyApps = Unit {0}
 IsOfName TooManyNodes = Unit {0}
 IsOfName _ = ⊥
 
--- The last of these words breaks the limit of this fault: no file that keeps it begins with them, whatever other limits
--- that file breaks. If the fault is of names alone, a file begins with them that keeps the limits that count before it.
+-- A name at the end of these words breaks the limit of this fault first. No file that keeps the limit begins with them,
+-- whatever others it breaks. A file that keeps those that count before it does; where the fault is BadShape, maybe none.
 pub record Breaks (ws : List Word) (kind : FaultKind) : Type 0 where
   pub broken : ¬ CanBegin (Keeps (Only kind)) ws
   pub first : IsOfName kind → CanBegin (Keeps (Before kind)) ws
+
+abbrev pub NoKind : FaultKind → Type 0
+NoKind kind = ⊥
+
+-- a file begins with these words where empty lists and tuples of nodes, numbers that are too large and strings in place
+-- of a section are let pass
+pub record CanBeginLoosely (ws : List Word) : Type 0 where
+  pub more : List Word
+  pub sections : List Section
+  pub file : IsLooseFile NoKind (ws ++ more) sections
+
+-- Another token at the end of these words spoils a shape: nothing goes on with it, or only what is let pass.
+abbrev pub Spoils : List Word → FaultKind → Type 0
+Spoils ws BadShape = ¬ CanBeginLoosely ws
+Spoils ws _ = CanBeginLoosely ws
+
+-- the word at the end of these words brings a fault of this kind
+abbrev pub Brings : Word → List Word → FaultKind → Type 0
+Brings (Name name) ws kind = Breaks ws kind
+Brings _ ws kind = Spoils ws kind
+
+-- ---- the fault of a text
 
 abbrev pub apps_in : List Section → ℕ
 apps_in sections = length (written sections (nodes_in sections)).apps
@@ -120,18 +145,9 @@ pub data IsFaultOf (text : List ℕ) (e : ConfigFault) : Type 0 where
   -- these tokens are in order, and behind them no token begins
   NoToken : (before : List Located) → length text ≤ MAX_TEXT → IsWell (words before) → StopAt 0 0 text before e → IsFaultOf text e
   -- What is before the token t is in order, and with t it isn't. If t is a name, no file that keeps the limits goes on
-  -- with it, and if not, no file at all. The fault is the first of those whose limits t breaks.
-  Token : (before : List Located) (t : Located) → length text ≤ MAX_TEXT → BeginsWith text (before ++ t ∷ []) → IsWell (words before) → ¬ IsWell (words before ++ t.word ∷ []) → Breaks (words before ++ t.word ∷ []) e.kind → StandsAt before t e → IsFaultOf text e
+  -- with it, and if not, no file at all.
+  Token : (before : List Located) (t : Located) → length text ≤ MAX_TEXT → BeginsWith text (before ++ t ∷ []) → IsWell (words before) → ¬ IsWell (words before ++ t.word ∷ []) → Brings t.word (words before ++ t.word ∷ []) e.kind → StandsAt before t e → IsFaultOf text e
   -- all is in order, and the end came where no file is at its end
   Ends : (ts : List Located) → length text ≤ MAX_TEXT → AreTokensOf text ts → IsWell (words ts) → ((sections : List Section) → ¬ IsFile (words ts) sections) → e ≡ record { kind = BadShape; at = length text } → IsFaultOf text e
   -- all is a file that keeps the limits, and no application is listed
   Nobody : (ts : List Located) → length text ≤ MAX_TEXT → AreTokensOf text ts → IsWithin (words ts) → ((is : IsWithin (words ts)) → apps_in is.sections ≡ 0) → e ≡ record { kind = NoDistributed; at = length text } → IsFaultOf text e
-
--- one token that is no name brings both
-pub record ShareToken (text : List ℕ) (e f : ConfigFault) : Type 0 where
-  pub before : List Located
-  pub t : Located
-  pub begins : BeginsWith text (before ++ t ∷ [])
-  pub no_name : IsNoName t.word
-  pub one : StandsAt before t e
-  pub other : StandsAt before t f

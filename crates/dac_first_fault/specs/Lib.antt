@@ -1,2 +1,3 @@
+pub mod Loose
 pub mod Keeps
 pub mod FirstFault

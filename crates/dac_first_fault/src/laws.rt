@@ -1,20 +1,20 @@
 //! The law of the first fault, as the contract of a function that only looks at a text.
 
-ghost use Rattle.std.specs.Prelude.{◌≡◌, ◌⊎◌, List, ◌++◌, Err};
+ghost use Rattle.std.specs.Prelude.{◌≡◌, ◌↔◌, List, ◌++◌, Err};
 ghost use Rattle.dac_tokens.specs.declared.fault.ConfigFault.{ConfigFault};
 ghost use Rattle.dac_tokens.specs.Words.{Word};
 ghost use Rattle.dac_shapes.specs.Shape.{draft_at};
-ghost use Rattle.dac_first_fault.specs.FirstFault.{IsWell, IsFaultOf, ShareToken};
+ghost use Rattle.dac_first_fault.specs.FirstFault.{IsWell, IsFaultOf};
 
 use dac_shapes::laws::limits_in_text_order;
 use dac_tokens::Tokens;
 
-/// What brings the fault that reading this text has. Mostly it is one token: what stands before it is in order, and
-/// with it no longer, whatever stands behind it. Words that are in order are so up to each of them, so no other token
-/// of the text is that one. No other fault of the text is admitted, unless that token is no name.
+/// Reading this text has a fault if and only if the law admits it, which says what brings it and of which kind it is.
+/// The law admits one fault alone. Mostly one token brings it: what stands before that is in order, and with it no
+/// longer, whatever stands behind it. Words that are in order are so up to each of them.
 pub fn first_fault(text: &[u8])
-    ensures first { (e : ConfigFault) → draft_at text.now ≡ Err e → IsFaultOf text.now e }
-    ensures alone { (e f : ConfigFault) → IsFaultOf text.now e → IsFaultOf text.now f → (e ≡ f) ⊎ ShareToken text.now e f }
+    ensures first { (e : ConfigFault) → ((draft_at text.now ≡ Err e) ↔ IsFaultOf text.now e) }
+    ensures alone { (e f : ConfigFault) → IsFaultOf text.now e → IsFaultOf text.now f → e ≡ f }
     ensures so_far { (front rest : List Word) → IsWell (front ++ rest) → IsWell front }
 {
     limits_in_text_order();
