@@ -63,9 +63,6 @@ Sees via Is ws (Err e) = Halts e.kind → Begun Is ws
 abbrev pub blank : State
 blank = at (Err halt) [] nothing
 
-pub with_state : {A : Type 0} (Is : List Word → A → Type 0) (ws : List Word) → Begun Is ws → Begun (λ vs (x : A × State). Is vs x.0) ws
-with_state Is ws b = record { more = b.more; x = (b.x, blank); is = b.is }
-
 pub chosen : {X : Type 0} (via : Via X) (Is : List Word → X → Type 0) (ws : List Word) (c : Bool) (r q : Result X ConfigFault) → (c ≡ true → Sees via Is ws r) → (c ≡ false → Sees via Is ws q) → Sees via Is ws (cond c r q)
 chosen via Is ws true r q a b = a refl
 chosen via Is ws false r q a b = b refl

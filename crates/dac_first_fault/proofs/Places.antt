@@ -73,12 +73,6 @@ not_name a l e (Itself place can) plain of = kind_not e.kind l.word l.at e.at pl
 not_name a l e (InList front o is w v f) plain of = (subst (λ (f : ConfigFault). Unkept (At l.at) Strict f.kind f.at) f of) tt
 not_name a l e (InTuple front o is w v f) plain of = (subst (λ (f : ConfigFault). Unkept (At l.at) Strict f.kind f.at) f of) tt
 
--- a fault of shape stands at its token
-pub shape_place : (a : List Located) (l : Located) (e : ConfigFault) → StandsAt a l e → e.kind ≡ kind.BadShape → e.at ≡ l.at
-shape_place a l e (Itself place can) is = place
-shape_place a l e (InList front o parts w v f) is = let wrong : kind.EmptyList ≡ kind.BadShape = sym (ap (λ (f : ConfigFault). f.kind) f) ∙ is in absurd cc
-shape_place a l e (InTuple front o parts w v f) is = let wrong : kind.EmptyTuple ≡ kind.BadShape = sym (ap (λ (f : ConfigFault). f.kind) f) ∙ is in absurd cc
-
 -- a fault breaks its own limit
 pub not_kept : (k : FaultKind) (place : ℕ) → Unkept Nowhere (Only k) k place → ⊥
 not_kept kind.BadShape place of = of.1 refl
