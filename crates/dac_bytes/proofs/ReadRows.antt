@@ -11,7 +11,7 @@ use Rattle.dac_dots.specs.Keys.{has_key}
 use Rattle.dac_dots.specs.InOrder.{less, tie}
 use Rattle.dac_dots.specs.Dots.{Dots, origin_cmp, origins_total, exact_origins}
 use Rattle.dac_dots.specs.declared.dot.Origin.{Origin}
-use Rattle.dac_dots.specs.RowSets.{rises_to, kept_are, dots_back}
+use Rattle.dac_dots.specs.laws.RowSets.{rises_to, kept_are, dots_back}
 use Rattle.dac_dots.proofs.PlaceLemmas.{none_in}
 use Rattle.dac_dots.specs.Rows.{Row, rows_of, dots_in, origins, rises_on, HasSome, EndBefore, CanFollow}
 use Rattle.dac_bytes.specs.declared.fault.ReadFaultKind.TheVariants.{BadOrder, BadNumber}

@@ -8,6 +8,7 @@ use Rattle.dac_deltas.specs.Kept.{Kept, newest, pushed, trimmed}
 use Rattle.dac_deltas.specs.Logs.{same_kept, pushes_drop_together}
 use Rattle.dac_deltas.specs.Endings.{HasJoins, AreJoined, IsKept, deltas_of}
 use Rattle.dac_deltas.proofs.Joining.{joined_push, joined_drop}
+use Rattle.dac_deltas.specs.declared.buffer.TheConstants.{MAX_DELTAS}
 
 module _ {L : Type 0} (is_value : L → Type 0) (join : L → L → L) where
   -- each delta that is kept is a value, since it is a block itself
@@ -25,16 +26,16 @@ module _ {L : Type 0} (is_value : L → Type 0) (join : L → L → L) where
     whole = let buffer = h.buffer in let numbered = buffer.numbered in let many = length-map es (λ (x : L × List L). x.0) in omega arith
 
     -- where deltas were added, all but the newest are dropped
-    pub kept_added : (mid new : List (L × List L)) (ds : List L) → count + length ds ≤ MAX_COUNTER → AreJoined is_value join (count - length es) mid → deltas_of mid ≡ deltas_of es ++ ds → new ≡ drop (length mid - 256) mid → IsKept is_value join (count + length ds) new
+    pub kept_added : (mid new : List (L × List L)) (ds : List L) → count + length ds ≤ MAX_COUNTER → AreJoined is_value join (count - length es) mid → deltas_of mid ≡ deltas_of es ++ ds → new ≡ drop (length mid - MAX_DELTAS) mid → IsKept is_value join (count + length ds) new
     kept_added mid new ds room joined added dropped =
         let w = whole in
         let many = length-map es (λ (x : L × List L). x.0) in
         let more = length-map mid (λ (x : L × List L). x.0) in
         let all = ap length added ∙ length-append (deltas_of es) ds in
-        let left = ap length dropped ∙ length-drop (length mid - 256) mid in
+        let left = ap length dropped ∙ length-drop (length mid - MAX_DELTAS) mid in
         let long = length-map new (λ (x : L × List L). x.0) in
-        let base : (count - length es) + (length mid - 256) ≡ count + length ds - length new = omega arith in
-        let now = subst (λ b. AreJoined is_value join b new) base (subst (AreJoined is_value join ((count - length es) + (length mid - 256))) (sym dropped) (joined_drop is_value join (count - length es) (length mid - 256) mid joined)) in
+        let base : (count - length es) + (length mid - MAX_DELTAS) ≡ count + length ds - length new = omega arith in
+        let now = subst (λ b. AreJoined is_value join b new) base (subst (AreJoined is_value join ((count - length es) + (length mid - MAX_DELTAS))) (sym dropped) (joined_drop is_value join (count - length es) (length mid - MAX_DELTAS) mid joined)) in
         record {
           buffer = record {
             numbered = omega arith;
@@ -46,7 +47,7 @@ module _ {L : Type 0} (is_value : L → Type 0) (join : L → L → L) where
         }
 
     -- which is as many pushes
-    pub shown_added : (mid new : List (L × List L)) (ds : List L) → deltas_of mid ≡ deltas_of es ++ ds → new ≡ drop (length mid - 256) mid → newest (count + length ds) (deltas_of new) ≡ fold pushed (newest count (deltas_of es)) ds
+    pub shown_added : (mid new : List (L × List L)) (ds : List L) → deltas_of mid ≡ deltas_of es ++ ds → new ≡ drop (length mid - MAX_DELTAS) mid → newest (count + length ds) (deltas_of new) ≡ fold pushed (newest count (deltas_of es)) ds
     shown_added mid new ds added dropped =
         let w = whole in
         let buffer = h.buffer in
@@ -54,10 +55,10 @@ module _ {L : Type 0} (is_value : L → Type 0) (join : L → L → L) where
         let many = length-map es (λ (x : L × List L). x.0) in
         let more = length-map mid (λ (x : L × List L). x.0) in
         let all = ap length added ∙ length-append (deltas_of es) ds in
-        let left = ap length dropped ∙ length-drop (length mid - 256) mid in
+        let left = ap length dropped ∙ length-drop (length mid - MAX_DELTAS) mid in
         let long = length-map new (λ (x : L × List L). x.0) in
-        let gone : length mid - 256 ≡ length (deltas_of es) + length ds - 256 = omega arith in
-        same_kept _ _ _ _ _ _ refl (omega arith) (ap deltas_of dropped ∙ (sym (drop-map (λ (x : L × List L). x.0) (length mid - 256) mid) ∙ (ap (drop (length mid - 256)) added ∙ ap (λ n. drop n (deltas_of es ++ ds)) gone)))
+        let gone : length mid - MAX_DELTAS ≡ length (deltas_of es) + length ds - MAX_DELTAS = omega arith in
+        same_kept _ _ _ _ _ _ refl (omega arith) (ap deltas_of dropped ∙ (sym (drop-map (λ (x : L × List L). x.0) (length mid - MAX_DELTAS) mid) ∙ (ap (drop (length mid - MAX_DELTAS)) added ∙ ap (λ n. drop n (deltas_of es ++ ds)) gone)))
         ∙ sym (pushes_drop_together (newest count (deltas_of es)) ds few)
 
     -- without the oldest

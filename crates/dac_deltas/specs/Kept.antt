@@ -1,8 +1,13 @@
 -- What a buffer keeps of a log of deltas, which are numbered from 0. (Delta intervals are after delta-state
 -- replicated data types. That 256 are kept is this project's own.)
-use Rattle.std.specs.Prelude.{◌≡◌, ℕ, ◌+◌, ◌-◌, ◌≤◌, List, [], ◌∷◌, ◌++◌, length, drop, fold, min, cond, nat_lt, Option, Some, None}
+use Rattle.std.specs.Prelude.{◌≡◌, ℕ, ◌+◌, ◌-◌, ◌≤◌, List, [], ◌∷◌, ◌++◌, length, drop, fold, min, cond, nat_lt, Option, Some, None, refl}
 use Rattle.std.specs.List.{All}
 use Rattle.dac_base.specs.declared.limits.TheConstants.{MAX_COUNTER}
+use Rattle.dac_deltas.specs.declared.buffer.TheConstants.{MAX_DELTAS}
+
+-- how many are kept at most
+pub the_limit : MAX_DELTAS ≡ 256
+the_limit = refl
 
 -- how many deltas there were ever, the least number that is kept, and the deltas kept, the oldest first
 pub record Kept (L : Type 0) : Type 0 where
@@ -13,7 +18,7 @@ pub record Kept (L : Type 0) : Type 0 where
 -- what holds of each buffer
 pub record IsBuffer {L : Type 0} (is_value : L → Type 0) (k : Kept L) : Type 0 where
   pub numbered : k.base + length k.deltas ≡ k.count
-  pub few : length k.deltas ≤ 256
+  pub few : length k.deltas ≤ MAX_DELTAS
   pub countable : k.count ≤ MAX_COUNTER
   pub values : All is_value k.deltas
 
@@ -32,7 +37,7 @@ cut k n = record { count = k.count; base = k.base + n; deltas = drop n k.deltas 
 
 -- with one more delta, and at most 256 kept
 abbrev pub pushed : {L : Type 0} → Kept L → L → Kept L
-pushed k x = cut (record { count = k.count + 1; base = k.base; deltas = k.deltas ++ x ∷ [] }) (length k.deltas + 1 - 256)
+pushed k x = cut (record { count = k.count + 1; base = k.base; deltas = k.deltas ++ x ∷ [] }) (length k.deltas + 1 - MAX_DELTAS)
 
 -- without the deltas below a number
 abbrev pub trimmed : {L : Type 0} → Kept L → ℕ → Kept L

@@ -4,6 +4,7 @@ use Rattle.std.proofs.Common.{arith, sym, ap, ◌∙◌, suc, append_assoc, drop
 use Rattle.std.specs.List.{All}
 use Rattle.std.proofs.lemmas.List.{append-nil, drop-append-le, length-append, length-drop}
 use Rattle.dac_deltas.specs.Kept.{Kept, IsJoinOf, empty, cut, pushed, trimmed, interval_of}
+use Rattle.dac_deltas.specs.declared.buffer.TheConstants.{MAX_DELTAS}
 
 -- what is kept of a log, where those below the base are dropped
 abbrev pub kept_of : {L : Type 0} → ℕ → List L → Kept L
@@ -11,7 +12,7 @@ kept_of base log = record { count = length log; base = base; deltas = drop base 
 
 -- the same, where all but the newest 256 are dropped too
 abbrev pub newest_of : {L : Type 0} → ℕ → List L → Kept L
-newest_of base log = kept_of (max base (length log - 256)) log
+newest_of base log = kept_of (max base (length log - MAX_DELTAS)) log
 
 -- a buffer begins as the empty log
 abbrev pub EmptyIsOfNothing : Type 0 → Type 0
@@ -23,7 +24,7 @@ PushesAppend L = (base : ℕ) (log : List L) (delta : L) → base ≤ length log
 
 -- several pushes append to the log in order, and drop all but the newest 256
 abbrev pub PushesAppendAll : Type 0 → Type 0
-PushesAppendAll L = (base : ℕ) (log deltas : List L) → base ≤ length log → length log ≤ base + 256 → fold pushed (kept_of base log) deltas ≡ newest_of base (log ++ deltas)
+PushesAppendAll L = (base : ℕ) (log deltas : List L) → base ≤ length log → length log ≤ base + MAX_DELTAS → fold pushed (kept_of base log) deltas ≡ newest_of base (log ++ deltas)
 
 -- a trim leaves the log, and moves the base on to the number or to the end
 abbrev pub TrimsMoveTheBase : Type 0 → Type 0
@@ -52,33 +53,33 @@ module _ {L : Type 0} where
       let all = length-append log (delta ∷ []) in
       let some = length-drop base log in
       let more = log ++ delta ∷ [] in
-      let gone = length (drop base log) + 1 - 256 in
-      let to : base + gone ≡ max base (length more - 256) = omega arith in
+      let gone = length (drop base log) + 1 - MAX_DELTAS in
+      let to : base + gone ≡ max base (length more - MAX_DELTAS) = omega arith in
       same_kept _ _ _ _ _ _ (sym all) to (ap (drop gone) (sym (drop-append-le base log (delta ∷ []) h)) ∙ (drop-drop gone base more ∙ ap (λ n. drop n more) to))
 
   -- several pushes drop at last what each would drop in turn
-  pub pushes_drop_together : (k : Kept L) (ds : List L) → length k.deltas ≤ 256 → fold pushed k ds ≡ cut (record { count = k.count + length ds; base = k.base; deltas = k.deltas ++ ds }) (length k.deltas + length ds - 256)
+  pub pushes_drop_together : (k : Kept L) (ds : List L) → length k.deltas ≤ MAX_DELTAS → fold pushed k ds ≡ cut (record { count = k.count + length ds; base = k.base; deltas = k.deltas ++ ds }) (length k.deltas + length ds - MAX_DELTAS)
   pushes_drop_together k [] few =
-      let none : length k.deltas + 0 - 256 ≡ 0 = omega arith in
+      let none : length k.deltas + 0 - MAX_DELTAS ≡ 0 = omega arith in
       same_kept _ _ _ _ _ _ (omega arith) (omega arith) (sym (append-nil k.deltas) ∙ ap (λ n. drop n (k.deltas ++ [])) (sym none))
   pushes_drop_together k (d ∷ ds) few =
       let one = k.deltas ++ d ∷ [] in
       let all = k.deltas ++ d ∷ ds in
-      let gone = length k.deltas + 1 - 256 in
+      let gone = length k.deltas + 1 - MAX_DELTAS in
       let long = length-append k.deltas (d ∷ []) in
       let left = length-drop gone one in
-      let later = length (drop gone one) + length ds - 256 in
-      let to : gone + later ≡ length k.deltas + suc (length ds) - 256 = omega arith in
+      let later = length (drop gone one) + length ds - MAX_DELTAS in
+      let to : gone + later ≡ length k.deltas + suc (length ds) - MAX_DELTAS = omega arith in
       pushes_drop_together (pushed k d) ds (omega arith)
       ∙ same_kept _ _ _ _ _ _ (omega arith) (omega arith)
-      (ap (drop later) (sym (drop-append-le gone one ds (omega arith))) ∙ (drop-drop later gone (one ++ ds) ∙ (ap (λ n. drop n (one ++ ds)) to ∙ ap (drop (length k.deltas + suc (length ds) - 256)) (append_assoc k.deltas (d ∷ []) ds))))
+      (ap (drop later) (sym (drop-append-le gone one ds (omega arith))) ∙ (drop-drop later gone (one ++ ds) ∙ (ap (λ n. drop n (one ++ ds)) to ∙ ap (drop (length k.deltas + suc (length ds) - MAX_DELTAS)) (append_assoc k.deltas (d ∷ []) ds))))
 
   pub pushes_append_all : PushesAppendAll L
   pushes_append_all base log deltas h few =
       let left = length-drop base log in
       let all = length-append log deltas in
-      let gone = length (drop base log) + length deltas - 256 in
-      let to : base + gone ≡ max base (length (log ++ deltas) - 256) = omega arith in
+      let gone = length (drop base log) + length deltas - MAX_DELTAS in
+      let to : base + gone ≡ max base (length (log ++ deltas) - MAX_DELTAS) = omega arith in
       pushes_drop_together (kept_of base log) deltas (omega arith)
       ∙ same_kept _ _ _ _ _ _ (sym all) to (ap (drop gone) (sym (drop-append-le base log deltas h)) ∙ (drop-drop gone base (log ++ deltas) ∙ ap (λ n. drop n (log ++ deltas)) to))
 

@@ -2,6 +2,7 @@
 ghost use Rattle.std.specs.Prelude.{◌≡◌, ◌+◌, ◌-◌, ◌<◌, ◌≤◌, fold, drop, length, Ok, None, OnOk, OnErr, IfOk, IfSome, IsSome, unwrap_or};
 ghost use Rattle.dac_deltas.specs.Kept.{IsBuffer, empty, pushed, trimmed, numbered_from, interval_of, IsJoinOf};
 ghost use Rattle.dac_deltas.specs.Blocks.{AreBlocks};
+ghost use Rattle.dac_deltas.specs.declared.buffer.TheConstants.{MAX_DELTAS};
 
 use crate::blocks::{Ending, add_all, level_at};
 use dac_base::{MAX_COUNTER, NoMemory};
@@ -11,7 +12,7 @@ use std::collections::VecDeque;
 use std::marker::Model;
 
 /// How many deltas a buffer keeps at most. The number is this project's own.
-const MOST_KEPT: usize = 256;
+pub const MAX_DELTAS: usize = 256;
 
 /// The newest deltas of a log, at most 256. Deltas are numbered in the order in which they are pushed, from
 /// 0. Contracts see how many there were ever, the least number that is kept, and those kept, the oldest
@@ -39,9 +40,9 @@ impl<L: Bottom> Model for Buffer<L> {
 
 /// Drops all but the newest 256.
 fn keep_newest<L: Bottom>(kept: &mut VecDeque<Ending<L>>)
-    ensures { kept.new.items ≡ drop (length kept.old.items - 256) kept.old.items }
+    ensures { kept.new.items ≡ drop (length kept.old.items - MAX_DELTAS) kept.old.items }
 {
-    let dropped = kept.len().saturating_sub(MOST_KEPT);
+    let dropped = kept.len().saturating_sub(MAX_DELTAS);
     kept.drain(..dropped);
 }
 

@@ -3,7 +3,7 @@
 //! A replica numbers the deltas that it adds to its state, from 0, and keeps the newest of them. A peer
 //! that acknowledged all below some number is sent the join of the later ones, an interval, in place of the
 //! whole state. These are the delta intervals of delta-state replicated data types. A [`Buffer`] keeps at
-//! most 256 deltas of any lattice with a least value, and [`Acks`] the greatest number that each origin
+//! most [`MAX_DELTAS`] deltas of any lattice with a least value, and [`Acks`] the greatest number that each origin
 //! acknowledged.
 //!
 //! Contracts see a buffer as a count, the least number that is kept, and the deltas from there on. That
@@ -12,7 +12,7 @@
 #![tactic(auto)]
 
 pub use acks::Acks;
-pub use buffer::Buffer;
+pub use buffer::{Buffer, MAX_DELTAS};
 
 mod acks;
 mod blocks;

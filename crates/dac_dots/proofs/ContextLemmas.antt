@@ -15,8 +15,8 @@ use Rattle.dac_dots.specs.InOrder.{tie, less}
 use Rattle.dac_dots.specs.Dots.{Dots, dot, dots_total, exact_dots, origin_cmp, origins_total, exact_origins, IsSubset, IsNext, IsUsedUp, IsVector}
 use Rattle.dac_dots.specs.declared.dot.Origin.{Origin}
 use Rattle.dac_dots.specs.declared.dot.Dot.{Dot}
-use Rattle.dac_dots.specs.CounterLaws.{less as number_less, is_same}
-use Rattle.dac_dots.specs.RowSets.{kept_are, kept_ends, some_counter, alone, IsAlone, rises_to}
+use Rattle.dac_dots.specs.laws.CounterLaws.{less as number_less, is_same}
+use Rattle.dac_dots.specs.laws.RowSets.{kept_are, kept_ends, some_counter, alone, IsAlone, rises_to}
 use Rattle.dac_dots.specs.Rows.{Row, dots_in, rows_of, has_counter, row_has, any_row, origins, rises_on, IsKept, HasSome, AreKept, IsLastOf, IsRowIn, IsWithinRow, EndBefore, CanFollow}
 use Rattle.dac_dots.proofs.PlaceLemmas.{contains_is, row_there, some_from, at_origin, length_origins}
 use Rattle.dac_dots.proofs.RowLemmas.{above_low}

@@ -12,7 +12,7 @@ use Rattle.std.proofs.lemmas.List.Folds.{list_any-append, list_any_none}
 use Rattle.std.proofs.lemmas.List.Sorted.{searchable_from_sorted}
 use Rattle.std.proofs.lemmas.Map.Lookups.{CmpEqualImpliesEq}
 use Rattle.dac_dots.specs.InOrder.{less, tie, or_swap, below_more, below_absent}
-use Rattle.dac_dots.specs.KeyLaws.{has_at}
+use Rattle.dac_dots.specs.laws.KeyLaws.{has_at}
 use Rattle.dac_dots.specs.Keys.{is_below_all, IsRising, has_key}
 
 or_same : (a b : Bool) → (a ≡ true → b ≡ true) → b ≡ (a || b)

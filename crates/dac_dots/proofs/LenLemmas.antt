@@ -18,9 +18,9 @@ use Rattle.dac_dots.specs.InOrder.{tie, in_order, in_order-one, below_absent}
 use Rattle.dac_dots.specs.Dots.{Dots, dot, dot_cmp, dots_total, exact_dots, origin_cmp, exact_origins}
 use Rattle.dac_dots.specs.declared.dot.Origin.{Origin}
 use Rattle.dac_dots.specs.declared.dot.Dot.{Dot}
-use Rattle.dac_dots.specs.CounterLaws.{is_eq-then}
-use Rattle.dac_dots.specs.KeyLaws.{has_is}
-use Rattle.dac_dots.specs.RowSets.{has_one_to, has_dots, has_row, has_rows, absent}
+use Rattle.dac_dots.specs.laws.CounterLaws.{is_eq-then}
+use Rattle.dac_dots.specs.laws.KeyLaws.{has_is}
+use Rattle.dac_dots.specs.laws.RowSets.{has_one_to, has_dots, has_row, has_rows, absent}
 use Rattle.dac_dots.specs.Rows.{Row, row_of, reach_of, further_of, one_to, dots_in_row, dots_in, has_counter, row_has, any_row, origins, IsKept, HasSome, AreKept}
 use Rattle.dac_dots.proofs.PlaceLemmas.{contains_is}
 use Rattle.dac_dots.proofs.RowLemmas.{no_range, row_counter, row_kept, seen_counter}

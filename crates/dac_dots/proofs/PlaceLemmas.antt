@@ -16,8 +16,8 @@ use Rattle.dac_dots.specs.InOrder.{or_swap}
 use Rattle.dac_dots.specs.Dots.{Dots, dot, dot_cmp, dots_total, exact_dots, origin_cmp, origins_total, exact_origins}
 use Rattle.dac_dots.specs.declared.dot.Origin.{Origin}
 use Rattle.dac_dots.specs.declared.dot.Dot.{Dot}
-use Rattle.dac_dots.specs.CounterLaws.{is_eq-then, is_same}
-use Rattle.dac_dots.specs.RowSets.{alone, IsAlone, contains-dots_in, distribute, some_length, some_counter}
+use Rattle.dac_dots.specs.laws.CounterLaws.{is_eq-then, is_same}
+use Rattle.dac_dots.specs.laws.RowSets.{alone, IsAlone, contains-dots_in, distribute, some_length, some_counter}
 use Rattle.dac_dots.specs.Rows.{Row, dots_in, has_counter, row_has, any_row, origins, IsKept, HasSome, AreKept, IsPlaceOf, HasAlso, HasBoth, HasMore, IsOne}
 use Rattle.dac_dots.proofs.KeyLemmas.{greater, neighbours, rising_insert}
 

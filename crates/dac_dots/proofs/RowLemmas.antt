@@ -9,9 +9,9 @@ use Rattle.std.proofs.lemmas.List.{take_all}
 use Rattle.std.proofs.lemmas.List.Folds.{list_any_more}
 use Rattle.dac_dots.specs.Keys.{is_below_all, is_rising, IsRising, has_key}
 use Rattle.dac_dots.specs.InOrder.{same_rising, below_absent}
-use Rattle.dac_dots.specs.CounterLaws.{grows, on_the_way, ends_there, has_key-filter, rising_filter, same, is_same, less as number_less}
-use Rattle.dac_dots.specs.RowLaws.{splits}
-use Rattle.dac_dots.specs.RowSets.{some_counter}
+use Rattle.dac_dots.specs.laws.CounterLaws.{grows, on_the_way, ends_there, has_key-filter, rising_filter, same, is_same, less as number_less}
+use Rattle.dac_dots.specs.laws.RowLaws.{splits}
+use Rattle.dac_dots.specs.laws.RowSets.{some_counter}
 use Rattle.dac_dots.specs.Rows.{Row, row_of, reach_of, reach_from, further_of, has_counter, HasAlso, HasBoth, HasMore, HasSome, IsGreatest, IsKept, IsLastOf, IsOne, IsWithinRow}
 use Rattle.dac_dots.specs.declared.dot.Dot.{Dot}
 use Rattle.dac_dots.specs.declared.dot.Origin.{Origin}

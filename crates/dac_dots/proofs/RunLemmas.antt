@@ -12,7 +12,7 @@ use Rattle.dac_dots.specs.Keys.{is_below_all, is_rising, IsRising, has_key}
 use Rattle.std.proofs.lemmas.Cmp.{nat_cmp_total}
 use Rattle.std.proofs.lemmas.Map.Lookups.{exact_unsigned}
 use Rattle.dac_dots.specs.InOrder.{or_swap, same_rising}
-use Rattle.dac_dots.specs.CounterLaws.{is_less, on_the_way, ends_there, rising_filter, has_key-filter}
+use Rattle.dac_dots.specs.laws.CounterLaws.{is_less, on_the_way, ends_there, rising_filter, has_key-filter}
 use Rattle.dac_dots.specs.Rows.{IsGreatest, further_of, reach_of}
 use Rattle.dac_dots.specs.Runs.{from_on, counters_of_run, counters_in, run_has, any_run, any_past, are_apart, AreRuns, HaveEnded, IsPlaceFor, joined, absorbed}
 use Rattle.dac_dots.specs.declared.counters.Run.{Run}

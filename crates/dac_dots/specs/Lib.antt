@@ -1,9 +1,6 @@
-pub mod CounterLaws
 pub mod Dots
 pub mod InOrder
-pub mod KeyLaws
 pub mod Keys
-pub mod RowLaws
-pub mod RowSets
 pub mod Rows
 pub mod Runs
+pub mod laws

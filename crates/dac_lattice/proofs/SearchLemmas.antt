@@ -12,7 +12,7 @@ use Rattle.std.proofs.lemmas.Map.Lookups.{CmpEqualImpliesEq}
 use Rattle.std.proofs.lemmas.List.Sorted.{searchable_from_sorted}
 use Rattle.std.specs.FinMap.{find, is_sorted}
 use Rattle.dac_lattice.specs.Search.{IsInOrder, IsPlaceOf}
-use Rattle.dac_lattice.specs.EntryLaws.{first, second, greater, above_at, find_at}
+use Rattle.dac_lattice.specs.laws.EntryLaws.{first, second, greater, above_at, find_at}
 
 module _ {K : Type 0} {R : K → K → Ordering} (o : IsTotalOrder R) where
   apart_less : (x k : K) → R x k ≡ Less → eq_by_cmp R k x ≡ false

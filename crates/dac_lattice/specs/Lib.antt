@@ -1,13 +1,11 @@
 pub mod Laws
-pub mod Joins
 pub mod Chains
 pub mod Flags
 pub mod Entries
 pub mod Search
-pub mod EntryLaws
 pub mod Maps
 pub mod Pieces
-pub mod PieceLaws
+pub mod laws
 pub use Rattle.dac_dots.specs.Dots
 pub use Rattle.dac_dots.specs.declared.dot.Dot
 pub use Rattle.dac_dots.specs.declared.dot.Origin

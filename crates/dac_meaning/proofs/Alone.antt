@@ -27,7 +27,7 @@ use Rattle.dac_operations.specs.Seen.{wish_in, permit_in, without, seen_wish, se
 use Rattle.dac_meaning.specs.StateValue.{permissions_of, wishes_of}
 use Rattle.dac_meaning.specs.Meaning.{meaning_of, has_dot, replaces, names, wishes, is_start, is_same, says, flag_said, life_said, claim_said}
 use Rattle.dac_meaning.specs.Chained.{greatest-one}
-use Rattle.dac_meaning.specs.Readers.{or-false, heard-meaning, known-meaning, starts-meaning, permits-meaning, lives-meaning, claims-meaning}
+use Rattle.dac_meaning.specs.laws.Readers.{or-false, heard-meaning, known-meaning, starts-meaning, permits-meaning, lives-meaning, claims-meaning}
 use Rattle.dac_meaning.specs.DeltaLaws.{OneIsHeard, PermitDeltaIsMeaning, WishDeltaIsMeaning, LifeDeltaIsMeaning, ClaimDeltaIsMeaning}
 
 pub one_is_heard : OneIsHeard

@@ -23,9 +23,9 @@ use Rattle.dac_operations.specs.declared.act.Act.TheVariants.{Up, Down, Permit, 
 use Rattle.dac_operations.specs.Operations.{Operation}
 use Rattle.dac_meaning.specs.Meaning.{meaning_of, has_dot, replaces, is_replaced, names, wishes, is_start, says, is_same, is_permit, flag_said, said, pairs, life_said, claim_said, In, Agree, Stands}
 use Rattle.dac_meaning.specs.MeaningLaws.{HeardAreDots, KnownAreNamed, Names, IsStart, StartsAreUnreplaced, IsPermit, PermitsAreUnreplaced, SaysLife, LivesAreGreatest, IsClaim, ClaimsAreGreatest}
-use Rattle.dac_meaning.specs.Members.{found, finds}
+use Rattle.dac_meaning.specs.laws.Members.{found, finds}
 use Rattle.dac_meaning.specs.Chained.{of_said, is_said}
-use Rattle.dac_meaning.specs.Readers.{heard-meaning, known-meaning, starts-meaning, permits-meaning, lives-meaning, claims-meaning, lives_are, claims_are}
+use Rattle.dac_meaning.specs.laws.Readers.{heard-meaning, known-meaning, starts-meaning, permits-meaning, lives-meaning, claims-meaning, lives_are, claims_are}
 
 -- ---- dots
 

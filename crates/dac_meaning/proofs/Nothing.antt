@@ -6,11 +6,11 @@ use Rattle.dac_dots.specs.Dots.{dot_cmp, dots_total, exact_dots}
 use Rattle.dac_wishes.specs.Writes.{write_cmp}
 use Rattle.dac_wishes.specs.WishesValue.{same_wishes}
 use Rattle.dac_wishes.specs.PermissionsValue.{same_permissions}
-use Rattle.dac_meaning.specs.StateLaws.{same_state}
+use Rattle.dac_meaning.specs.laws.StateLaws.{same_state}
 use Rattle.dac_meaning.specs.StateValue.{bottom, permissions_of, wishes_of}
 use Rattle.dac_meaning.specs.Meaning.{meaning_of}
 use Rattle.dac_meaning.specs.MeaningLaws.{NothingMeansBottom}
-use Rattle.dac_meaning.specs.Readers.{heard-meaning, known-meaning, starts-meaning, permits-meaning, lives-meaning, claims-meaning}
+use Rattle.dac_meaning.specs.laws.Readers.{heard-meaning, known-meaning, starts-meaning, permits-meaning, lives-meaning, claims-meaning}
 
 pub nothing_means_bottom : NothingMeansBottom
 nothing_means_bottom =

@@ -14,9 +14,9 @@ use Rattle.dac_operations.specs.declared.act.Act.{Act}
 use Rattle.dac_operations.specs.Operations.{Operation}
 use Rattle.dac_operations.specs.Seen.{seen_wish, seen_permit, seen_life, seen_claim}
 use Rattle.dac_meaning.specs.StateValue.{StateValue, bottom, join, permissions_of, wishes_of}
-use Rattle.dac_meaning.specs.StateLaws.{permissions-join, wishes-join, lives-join, claims-join}
+use Rattle.dac_meaning.specs.laws.StateLaws.{permissions-join, wishes-join, lives-join, claims-join}
 use Rattle.dac_meaning.specs.Meaning.{In, Within, Agree, meaning_of}
-use Rattle.dac_meaning.specs.Joins.{join-meaning, meaning-same}
+use Rattle.dac_meaning.specs.laws.Joins.{join-meaning, meaning-same}
 use Rattle.dac_meaning.specs.PieceParts.{as_seen, PermitsAreJoined, WishesAreJoined, LivesAreJoined, ClaimsAreJoined}
 use Rattle.dac_meaning.proofs.Alone.{permit_delta_is_meaning, wish_delta_is_meaning, life_delta_is_meaning, claim_delta_is_meaning}
 use Rattle.dac_meaning.proofs.Nothing.{nothing_means_bottom}

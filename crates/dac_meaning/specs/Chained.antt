@@ -6,11 +6,11 @@ use Rattle.std.specs.FinMap as map
 use Rattle.std.proofs.lemmas.Map.Lookups.{CmpEqualImpliesEq}
 use Rattle.dac_dots.specs.declared.dot.Dot.{Dot}
 use Rattle.dac_chains.specs.Greatest.{IsGreatest, IsSaid, AreGreatest, greater, alone, get-greater, greatest_either, greatest_same, one_more, greatest_piece, greatest_laws, empty_is_least}
-use Rattle.dac_lattice.specs.Joins.{join_above}
+use Rattle.dac_lattice.specs.laws.Joins.{join_above}
 use Rattle.dac_operations.specs.declared.act.Act.{Act}
 use Rattle.dac_operations.specs.Operations.{Operation, operation}
 use Rattle.dac_meaning.specs.Meaning.{In, Within, pairs, greatest_of}
-use Rattle.dac_meaning.specs.Members.{In-append_left, In-append_right, In-append_cases, in_pairs, of_pairs}
+use Rattle.dac_meaning.specs.laws.Members.{In-append_left, In-append_right, In-append_cases, in_pairs, of_pairs}
 
 -- some operation says the value of the key
 abbrev pub Says : {K T : Type 0} → (Dot → Act → Option (K × T)) → List Operation → K → T → Type 0

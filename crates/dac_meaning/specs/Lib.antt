@@ -1,12 +1,9 @@
 pub mod StateValue
-pub mod StateLaws
 pub mod Tables
 pub mod Meaning
-pub mod Members
 pub mod Chained
-pub mod Readers
-pub mod Joins
 pub mod MeaningLaws
 pub mod DeltaLaws
 pub mod PieceParts
 pub mod Below
+pub mod laws

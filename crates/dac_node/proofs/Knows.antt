@@ -6,9 +6,9 @@ use Rattle.dac_dots.specs.declared.dot.Origin.{Origin}
 use Rattle.dac_dots.specs.Dots.{dot, dots_total}
 use Rattle.dac_wishes.specs.Writes.{same_dot_itself}
 use Rattle.dac_meaning.specs.StateValue.{StateValue, bottom, join}
-use Rattle.dac_meaning.specs.StateLaws.{known-join}
+use Rattle.dac_meaning.specs.laws.StateLaws.{known-join}
 use Rattle.dac_meaning.specs.Meaning.{meaning_of}
-use Rattle.dac_meaning.specs.Readers.{known-meaning}
+use Rattle.dac_meaning.specs.laws.Readers.{known-meaning}
 use Rattle.dac_commands.specs.Commands.{KnowsItself}
 use Rattle.dac_rules.specs.Step.{up}
 

@@ -16,6 +16,7 @@ use Rattle.dac_rules.specs.NodeValue.{NodeValue, RunValue}
 use Rattle.dac_rules.specs.EventRefusals.{refusal_of}
 use Rattle.dac_rules.specs.Deeds.{Deed, deed_of, moment_of, note_of}
 use Rattle.dac_rules.specs.Step.{up}
+use Rattle.dac_deltas.specs.declared.buffer.TheConstants.{MAX_DELTAS}
 
 -- what runs after a boot at this moment
 abbrev pub booted : Table → Origin → ℕ → RunValue
@@ -54,7 +55,7 @@ IsNotingBy t (Some r) noted e = IsNoting t r noted e
 -- the deltas kept are the newest, at most 256
 pub record AreNewest (k : Kept StateValue) : Type 0 where
   pub numbered : k.base + length k.deltas ≡ k.count
-  pub few : length k.deltas ≤ 256
+  pub few : length k.deltas ≤ MAX_DELTAS
 
 -- the event isn't refused, and the node goes on to this value with this reply
 pub record AcceptedAs (t : Table) (me : NodeId) (old : NodeValue) (e : Event) (new : NodeValue) (answer : Reply) : Type 0 where

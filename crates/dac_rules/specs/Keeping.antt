@@ -17,6 +17,7 @@ use Rattle.dac_messages.specs.declared.reply.Reply.{Reply}
 use Rattle.dac_messages.specs.declared.reply.Reply.TheVariants.{Booted, Crashed, Issued, Ticked, GaveUp, Heard}
 use Rattle.dac_rules.specs.NodeValue.{NodeValue, RunValue}
 use Rattle.dac_rules.specs.Refused.{tick_in, Some! }
+use Rattle.dac_deltas.specs.declared.buffer.TheConstants.{MAX_DELTAS}
 
 -- ---- what becomes of each part of what runs
 
@@ -59,7 +60,7 @@ had_by_all t _ u = 0
 abbrev pub kept_after : Kept StateValue → List StateValue → ℕ → Kept StateValue
 kept_after k deltas had =
     let count = k.count + length deltas in
-    let base = max (max k.base (count - 256)) (min had count) in
+    let base = max (max k.base (count - MAX_DELTAS)) (min had count) in
     record { count = count; base = base; deltas = drop (base - k.base) (k.deltas ++ deltas) }
 
 -- ---- what runs

@@ -10,6 +10,7 @@ use Rattle.dac_peers.specs.Peers.{PeersValue}
 use Rattle.dac_decide.specs.FailoverWait.{Note, waits_of}
 use Rattle.dac_rules.specs.declared.moments.Moments.{Moments}
 use Rattle.dac_rules.specs.NodeValue.{NodeValue, RunValue}
+use Rattle.dac_deltas.specs.declared.buffer.TheConstants.{MAX_DELTAS}
 
 -- A node that runs: its present incarnation, when it was booted and ticked last, and whether its start gate is open.
 -- It keeps the notes of its ticks, newest first, and each state that it issued or heard, oldest first. Neither list
@@ -31,7 +32,7 @@ pub record ModelNode : Type 0 where
 
 -- the base after so many states, and a trim: the newest 256 are kept at most, and none below the trim
 abbrev pub base_after : ℕ → ℕ → ℕ → ℕ
-base_after base count trim = max (max base (count - 256)) (min trim count)
+base_after base count trim = max (max base (count - MAX_DELTAS)) (min trim count)
 
 -- the states joined
 abbrev pub joined : List StateValue → StateValue

@@ -9,7 +9,7 @@ use Rattle.dac_chains.specs.Claims.{Claims, claim_cmp}
 use Rattle.dac_wishes.specs.WishesValue.{WishesValue, join_wishes}
 use Rattle.dac_wishes.specs.PermissionsValue.{PermissionsValue, IsPermissionsBelow, join_permissions}
 use Rattle.dac_meaning.specs.StateValue.{StateValue, IsState, permissions_of, wishes_of, join}
-use Rattle.dac_meaning.specs.StateLaws.{heard-join, permissions-join, wishes-join, lives-join, claims-join}
+use Rattle.dac_meaning.specs.laws.StateLaws.{heard-join, permissions-join, wishes-join, lives-join, claims-join}
 use Rattle.dac_state.specs.Parts.{AreParts, state_of_parts}
 
 -- the parts show what the state does

@@ -139,7 +139,7 @@ impl State {
 
 impl Lattice for State {
     ghost use Rattle.dac_meaning.specs.StateValue.{IsState, IsBelow, join};
-    ghost use Rattle.dac_meaning.specs.StateLaws.{state_laws};
+    ghost use Rattle.dac_meaning.specs.laws.StateLaws.{state_laws};
 
     ghost is_value = { IsState };
 
@@ -184,7 +184,7 @@ impl Lattice for State {
 
 impl Bottom for State {
     ghost use Rattle.dac_meaning.specs.StateValue.{bottom};
-    ghost use Rattle.dac_meaning.specs.StateLaws.{bottom_least, bottom_value};
+    ghost use Rattle.dac_meaning.specs.laws.StateLaws.{bottom_least, bottom_value};
 
     ghost bottom = { bottom };
 

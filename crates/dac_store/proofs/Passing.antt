@@ -9,7 +9,7 @@ use Rattle.std.proofs.lemmas.Bool.{false≢true, or_cases, or_left, or_right}
 use Rattle.std.proofs.lemmas.List.{take_all}
 use Rattle.std.proofs.lemmas.List.Folds.{list_any_more}
 use Rattle.dac_dots.specs.Keys.{has_key}
-use Rattle.dac_dots.specs.KeyLaws.{has_is}
+use Rattle.dac_dots.specs.laws.KeyLaws.{has_is}
 use Rattle.dac_dots.specs.Dots.{Dots, dot_cmp, dots_total, exact_dots}
 use Rattle.dac_dots.specs.declared.dot.Dot.{Dot}
 use Rattle.dac_store.specs.Stores.{IsHeld}

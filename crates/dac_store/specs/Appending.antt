@@ -14,7 +14,7 @@ use Rattle.dac_dots.specs.Keys.{is_below_all, IsRising}
 use Rattle.dac_dots.specs.Dots.{Dots, dot_cmp}
 use Rattle.dac_dots.specs.InOrder.{in_order, less}
 use Rattle.dac_dots.specs.declared.dot.Dot.{Dot}
-use Rattle.dac_lattice.specs.EntryLaws.{first, second, less as below}
+use Rattle.dac_lattice.specs.laws.EntryLaws.{first, second, less as below}
 
 -- the key is above each of the list
 abbrev pub is_above_keys : {K : Type 0} → (K → K → Ordering) → List K → K → Bool

@@ -14,7 +14,7 @@ use Rattle.dac_dots.specs.Dots.{dot_cmp, dots_total, exact_dots}
 use Rattle.dac_lattice.specs.declared.flags.Flag.{Flag}
 use Rattle.dac_lattice.specs.declared.flags.Flag.TheVariants.{Up, Down}
 use Rattle.dac_lattice.specs.Flags.{IsFlagBelow, join_flags, flag_laws}
-use Rattle.dac_lattice.specs.EntryLaws.{each_entry}
+use Rattle.dac_lattice.specs.laws.EntryLaws.{each_entry}
 use Rattle.dac_store.specs.Stores.{IsStoredBelow, join_stored, causal_laws}
 use Rattle.dac_store.specs.AtDot.{StandsBelow}
 use Rattle.dac_store.specs.DotFuns.{has_dot, IsFunBelow, join_funs, is_empty_list, fun_laws, find_join}

@@ -18,7 +18,7 @@ use Rattle.dac_lattice.specs.Laws.{IsIn}
 use Rattle.dac_lattice.specs.Maps.{IsMap}
 use Rattle.dac_lattice.specs.Flags.{flag_laws}
 use Rattle.dac_lattice.specs.Entries.{find_below}
-use Rattle.dac_lattice.specs.EntryLaws.{first, second}
+use Rattle.dac_lattice.specs.laws.EntryLaws.{first, second}
 use Rattle.dac_store.specs.DotFuns.{is_empty_list, when_empty, fun_laws}
 use Rattle.dac_store.specs.DotMaps.{store_at, kept, at_store, IsKeyed}
 use Rattle.dac_wishes.specs.declared.key.Key.{Key}

@@ -14,7 +14,7 @@ use Rattle.dac_dots.specs.Dots.{Dots, dot_cmp, dots_total, exact_dots}
 use Rattle.dac_dots.specs.Keys.{has_key}
 use Rattle.dac_lattice.specs.Chains.{IsAny}
 use Rattle.dac_lattice.specs.Entries.{find_below}
-use Rattle.dac_lattice.specs.EntryLaws.{first, second}
+use Rattle.dac_lattice.specs.laws.EntryLaws.{first, second}
 use Rattle.dac_store.specs.DotFuns.{is_empty_list}
 use Rattle.dac_store.specs.DotSets.{is_empty_set}
 use Rattle.dac_store.specs.DotMaps.{store_at, kept, IsKeyed}

@@ -10,7 +10,7 @@ use Rattle.dac_store.specs.Stores.{same_context, subset_left, subset_union}
 use Rattle.dac_wishes.specs.Writes.{same_dot}
 use Rattle.dac_operations.specs.Operations.{Operation}
 use Rattle.dac_meaning.specs.StateValue.{StateValue, join}
-use Rattle.dac_meaning.specs.StateLaws.{heard-join}
+use Rattle.dac_meaning.specs.laws.StateLaws.{heard-join}
 use Rattle.dac_meaning.specs.Meaning.{meaning_of}
 use Rattle.dac_meaning.specs.Below.{is_below, is_below-is}
 use Rattle.dac_config.specs.Table.{Table}

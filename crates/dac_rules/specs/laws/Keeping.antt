@@ -21,6 +21,7 @@ use Rattle.dac_rules.specs.Deeds.{Deed, deed_of, opening_at, ticks_by}
 use Rattle.dac_rules.specs.Accepted.{AreNewest, IsNotingBy, left_by, reply_by, run_by}
 use Rattle.dac_rules.specs.Keeping.{AreWaitsAfter, Keeps, LeavesRunning, RunsOn, deltas_in, had_by_all, is_open_after, kept_after, peers_after}
 use Rattle.dac_rules.specs.laws.Writing.{NotesSo, gate, no_off, no_on}
+use Rattle.dac_deltas.specs.declared.buffer.TheConstants.{MAX_DELTAS}
 
 -- ---- the deltas kept
 
@@ -30,8 +31,8 @@ kept_so k newest deltas trim =
     let numbered = newest.numbered in
     let few = newest.few in
     let count = k.count + length deltas in
-    let base = max (max k.base (count - 256)) (min trim count) in
-    let gone = length k.deltas + length deltas - 256 in
+    let base = max (max k.base (count - MAX_DELTAS)) (min trim count) in
+    let gone = length k.deltas + length deltas - MAX_DELTAS in
     let more = min trim count - (k.base + gone) in
     let to : k.base + gone + more ≡ base = omega arith in
     let all : gone + more ≡ base - k.base = omega arith in

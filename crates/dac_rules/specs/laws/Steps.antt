@@ -25,6 +25,7 @@ use Rattle.dac_rules.specs.EventRefusals.{refusal_of}
 use Rattle.dac_rules.specs.Deeds.{Deed, deed_of, ticks_by, opening_at, note_of}
 use Rattle.dac_rules.specs.Step.{model_step, step_by, accepted, deed_on, goes_on, Stepped, Steps, IsShown}
 use Rattle.dac_rules.specs.Accepted.{AcceptedAs, AreNewest, IsNoting, IsNotingBy, run_by, left_by, reply_by}
+use Rattle.dac_deltas.specs.declared.buffer.TheConstants.{MAX_DELTAS}
 
 -- more states joined
 pub joined-append : (log states : List StateValue) → joined (log ++ states) ≡ fold join (joined log) states
@@ -76,7 +77,7 @@ kept-after base log adds trim newest =
     let left = length-drop base log in
     let numbered = newest.numbered in
     let few = newest.few in
-    sym (ap (λ k. trimmed k trim) (pushes_append_all base log adds (omega arith) (omega arith)) ∙ trims_move_the_base (max base (length (log ++ adds) - 256)) (log ++ adds) trim)
+    sym (ap (λ k. trimmed k trim) (pushes_append_all base log adds (omega arith) (omega arith)) ∙ trims_move_the_base (max base (length (log ++ adds) - MAX_DELTAS)) (log ++ adds) trim)
 
 module _ (t : Table) (r : ModelRun) (newest : AreNewest (kept_of r.base r.log)) (note : Note) (last : ℕ) (is_open : Bool) (adds : List StateValue) (peers : PeersValue) (trim : ℕ) where
   -- the model node with these notes

@@ -10,7 +10,7 @@ use Rattle.dac_base.specs.declared.NodeId.{NodeId}
 use Rattle.dac_base.specs.declared.AppId.{AppId}
 use Rattle.dac_operations.specs.Operations.{Operation}
 use Rattle.dac_meaning.specs.Meaning.{In, Within}
-use Rattle.dac_meaning.specs.Members.{In-append_left, In-append_right, In-append_cases}
+use Rattle.dac_meaning.specs.laws.Members.{In-append_left, In-append_right, In-append_cases}
 use Rattle.dac_settle.specs.Rounds.{Held, IsApp, Placement, IsWellMade, IsGrown, IsPlacement, Claims, SetsEvent, Sets, InCopies, with_held, Happens, Run, Ticks, IsReady, IsRound, Rounds}
 use Rattle.dac_settle.specs.Rounds.SetsEvent.{Tick, Ship, Deliver}
 use Rattle.dac_settle.specs.laws.Counting.{count, count_few, count_none, none_count, some_or_none, count_le, count_lt}

@@ -20,9 +20,9 @@ use Rattle.dac_operations.specs.Operations.{Operation}
 use Rattle.dac_meaning.specs.StateValue.{StateValue}
 use Rattle.dac_meaning.specs.Meaning.{In, meaning_of, pairs, life_said, claim_said, lives_of}
 use Rattle.dac_meaning.specs.Chained.{Says, of_said, is_said}
-use Rattle.dac_meaning.specs.Readers.{known-meaning, lives-meaning, lives_are, or-false}
-use Rattle.dac_meaning.specs.StateLaws.{bottom-join}
-use Rattle.dac_meaning.specs.Joins.{meaning-state}
+use Rattle.dac_meaning.specs.laws.Readers.{known-meaning, lives-meaning, lives_are, or-false}
+use Rattle.dac_meaning.specs.laws.StateLaws.{bottom-join}
+use Rattle.dac_meaning.specs.laws.Joins.{meaning-state}
 use Rattle.dac_placement.specs.Placement.{is_up}
 use Rattle.dac_placement.specs.laws.Tests.{up_is}
 use Rattle.dac_decide.specs.FailoverWait.{IsLost, waits_of}

@@ -24,8 +24,8 @@ use Rattle.dac_operations.specs.declared.act.Act.{Act}
 use Rattle.dac_operations.specs.declared.act.Act.TheVariants.{Up, Down, Permit, Start, Stop, Claim}
 use Rattle.dac_operations.specs.Operations.{Operation, operation}
 use Rattle.dac_meaning.specs.Meaning.{In, Within, meaning_of, replaces, is_start, is_permit, permit_at, flag_said, pairs, life_said, claim_said}
-use Rattle.dac_meaning.specs.Members.{found, finds}
-use Rattle.dac_meaning.specs.Readers.{starts-meaning, permits-meaning, lives-meaning, lives_are, claims-meaning, claims_are}
+use Rattle.dac_meaning.specs.laws.Members.{found, finds}
+use Rattle.dac_meaning.specs.laws.Readers.{starts-meaning, permits-meaning, lives-meaning, lives_are, claims-meaning, claims_are}
 use Rattle.dac_meaning.specs.Chained.{Says, of_said, is_said}
 use Rattle.dac_ticks.specs.laws.Claimed.{Alike}
 

@@ -19,7 +19,7 @@ use Rattle.dac_chains.specs.Lives.{Lives, IsLive, live_at}
 use Rattle.dac_chains.specs.laws.Live.{live_is}
 use Rattle.dac_operations.specs.Operations.{Operation}
 use Rattle.dac_meaning.specs.Meaning.{In, meaning_of, claim_said}
-use Rattle.dac_meaning.specs.Joins.{meaning-same}
+use Rattle.dac_meaning.specs.laws.Joins.{meaning-same}
 use Rattle.dac_meaning.specs.Chained.{Says}
 use Rattle.dac_config.specs.Table.{Table}
 use Rattle.dac_placement.specs.Placement.{IsStartedAt, IsPermittedAt, key_at, apps_of, verdict_of, candidate_of}

@@ -10,7 +10,7 @@ use Rattle.dac_chains.specs.declared.claims.Claim.{Claim}
 use Rattle.dac_chains.specs.Lives.{Lives, IsLive}
 use Rattle.dac_operations.specs.Operations.{Operation}
 use Rattle.dac_meaning.specs.Meaning.{Within, meaning_of}
-use Rattle.dac_meaning.specs.Members.{In-append_left}
+use Rattle.dac_meaning.specs.laws.Members.{In-append_left}
 use Rattle.dac_config.specs.Table.{Table, app_count}
 use Rattle.dac_placement.specs.declared.verdicts.Verdict.{Verdict}
 use Rattle.dac_placement.specs.declared.verdicts.Verdict.TheVariants.{Start, Failover, Halted, Move, Takeover, Kept, Nobody}

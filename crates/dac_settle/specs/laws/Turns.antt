@@ -14,9 +14,9 @@ use Rattle.dac_chains.specs.laws.Live.{live_is}
 use Rattle.dac_wishes.specs.Writes.{same_dot_itself}
 use Rattle.dac_operations.specs.Operations.{Operation}
 use Rattle.dac_meaning.specs.Meaning.{In, Within, Agree, names, meaning_of}
-use Rattle.dac_meaning.specs.Members.{In-append_left, In-append_cases, finds}
-use Rattle.dac_meaning.specs.Readers.{known-meaning}
-use Rattle.dac_meaning.specs.Joins.{join-meaning}
+use Rattle.dac_meaning.specs.laws.Members.{In-append_left, In-append_cases, finds}
+use Rattle.dac_meaning.specs.laws.Readers.{known-meaning}
+use Rattle.dac_meaning.specs.laws.Joins.{join-meaning}
 use Rattle.dac_config.specs.Table.{Table, app_count}
 use Rattle.dac_placement.specs.Placement.{IsUp, apps_of, verdict_of, candidate_of}
 use Rattle.dac_decide.specs.declared.waits.Noted.{Noted}

@@ -20,9 +20,9 @@ use Rattle.dac_operations.specs.declared.act.Act.TheVariants.{Claim as Claims}
 use Rattle.dac_operations.specs.Operations.{Operation, operation}
 use Rattle.dac_meaning.specs.StateValue.{StateValue}
 use Rattle.dac_meaning.specs.Meaning.{meaning_of, claim_said}
-use Rattle.dac_meaning.specs.Members.{In-append_left, In-append_right, In-append_cases}
+use Rattle.dac_meaning.specs.laws.Members.{In-append_left, In-append_right, In-append_cases}
 use Rattle.dac_meaning.specs.Chained.{Says}
-use Rattle.dac_meaning.specs.Readers.{starts-meaning, permits-meaning}
+use Rattle.dac_meaning.specs.laws.Readers.{starts-meaning, permits-meaning}
 use Rattle.dac_shapes.specs.declared.draft.SyncWait.TheVariants.{NoSync}
 use Rattle.dac_config.specs.Table.{Table, group_of}
 use Rattle.dac_placement.specs.declared.verdicts.Verdict.{Verdict}

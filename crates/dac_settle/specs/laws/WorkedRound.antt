@@ -12,8 +12,8 @@ use Rattle.dac_chains.specs.Lives.{IsLive}
 use Rattle.dac_wishes.specs.Writes.{write}
 use Rattle.dac_operations.specs.Operations.{Operation}
 use Rattle.dac_meaning.specs.Meaning.{In, Within, meaning_of}
-use Rattle.dac_meaning.specs.Members.{In-append_left, In-append_right, In-append_cases}
-use Rattle.dac_meaning.specs.Readers.{starts-meaning, permits-meaning}
+use Rattle.dac_meaning.specs.laws.Members.{In-append_left, In-append_right, In-append_cases}
+use Rattle.dac_meaning.specs.laws.Readers.{starts-meaning, permits-meaning}
 use Rattle.dac_placement.specs.declared.verdicts.Verdict.{Verdict}
 use Rattle.dac_placement.specs.declared.verdicts.Verdict.TheVariants.{Start as ToStart, Failover, Halted, Move, Takeover, Kept, Nobody}
 use Rattle.dac_placement.specs.Placement.{IsEligible, key_at, verdict_of, candidate_of}

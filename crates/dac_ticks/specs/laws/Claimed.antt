@@ -18,7 +18,7 @@ use Rattle.dac_dots.specs.declared.dot.Dot.{Dot}
 use Rattle.dac_dots.specs.Dots.{dot}
 use Rattle.dac_lattice.specs.declared.flags.Flag.{Flag}
 use Rattle.dac_lattice.specs.Flags.{flag_cmp, flags_exact}
-use Rattle.dac_lattice.specs.Joins.{join_bottom}
+use Rattle.dac_lattice.specs.laws.Joins.{join_bottom}
 use Rattle.dac_lattice.specs.Laws.{join_options}
 use Rattle.dac_chains.specs.declared.claims.Claim.{Claim}
 use Rattle.dac_chains.specs.declared.claims.How.{How}
@@ -31,11 +31,11 @@ use Rattle.dac_wishes.specs.WishesValue.{WishesValue, may_stand, standing-join a
 use Rattle.dac_wishes.specs.PermissionsValue.{PermissionsValue, joined_permit, standing-join as standing-permissions}
 use Rattle.dac_operations.specs.Operations.{Operation}
 use Rattle.dac_meaning.specs.StateValue.{StateValue, IsState, join, permissions_of, wishes_of}
-use Rattle.dac_meaning.specs.StateLaws.{state_laws, life_laws, lives-join, claims-join, wishes-join, permissions-join}
+use Rattle.dac_meaning.specs.laws.StateLaws.{state_laws, life_laws, lives-join, claims-join, wishes-join, permissions-join}
 use Rattle.dac_meaning.specs.Meaning.{meaning_of, life_said, claim_said, is_replaced}
 use Rattle.dac_meaning.specs.Chained.{greatest-one}
-use Rattle.dac_meaning.specs.Joins.{meaning-state}
-use Rattle.dac_meaning.specs.Readers.{starts-meaning, permits-meaning, lives-meaning, claims-meaning}
+use Rattle.dac_meaning.specs.laws.Joins.{meaning-state}
+use Rattle.dac_meaning.specs.laws.Readers.{starts-meaning, permits-meaning, lives-meaning, claims-meaning}
 use Rattle.dac_placement.specs.declared.verdicts.Verdict.{Verdict}
 use Rattle.dac_placement.specs.declared.verdicts.Verdict.TheVariants.{Start, Failover, Halted, Move, Takeover, Kept, Nobody}
 use Rattle.dac_commands.specs.Commands.{greatest_counter, next_term, claim_act, next_operation}

@@ -14,9 +14,9 @@ use Rattle.dac_wishes.specs.Writes.{same_dot, same_dot_is, same_dot_itself}
 use Rattle.dac_operations.specs.declared.act.Act.{Act}
 use Rattle.dac_operations.specs.Operations.{over_list}
 use Rattle.dac_meaning.specs.StateValue.{StateValue, join}
-use Rattle.dac_meaning.specs.StateLaws.{known-join}
+use Rattle.dac_meaning.specs.laws.StateLaws.{known-join}
 use Rattle.dac_meaning.specs.Meaning.{meaning_of}
-use Rattle.dac_meaning.specs.Readers.{or-false, known-meaning}
+use Rattle.dac_meaning.specs.laws.Readers.{or-false, known-meaning}
 use Rattle.dac_commands.specs.Commands.{KnowsItself, greatest_among, greatest_counter, next_operation}
 use Rattle.dac_commands.specs.laws.Counters.{counter-greatest}
 

@@ -11,7 +11,7 @@ use Rattle.dac_dots.specs.declared.dot.Dot.{Dot}
 use Rattle.dac_dots.specs.Dots.{dot_cmp, dots_total, exact_dots}
 use Rattle.dac_lattice.specs.declared.flags.Flag.{Flag}
 use Rattle.dac_lattice.specs.declared.flags.Flag.TheVariants.{Up, Down}
-use Rattle.dac_lattice.specs.EntryLaws.{each_entry}
+use Rattle.dac_lattice.specs.laws.EntryLaws.{each_entry}
 use Rattle.dac_wishes.specs.declared.key.Key.{Key}
 use Rattle.dac_wishes.specs.Writes.{same_dot}
 use Rattle.dac_wishes.specs.PermissionsValue.{PermissionsValue, permits_at, is_permitted_by, is_permitted, says_true, IsPermitted}

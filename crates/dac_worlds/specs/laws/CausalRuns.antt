@@ -11,8 +11,8 @@ use Rattle.dac_dots.specs.declared.dot.Origin.{Origin}
 use Rattle.dac_dots.specs.Dots.{dot}
 use Rattle.dac_operations.specs.Operations.{Operation}
 use Rattle.dac_meaning.specs.Meaning.{Within, Agree}
-use Rattle.dac_meaning.specs.Members.{Within-append, In-append_left, In-append_right}
-use Rattle.dac_meaning.specs.Readers.{known-meaning}
+use Rattle.dac_meaning.specs.laws.Members.{Within-append, In-append_left, In-append_right}
+use Rattle.dac_meaning.specs.laws.Readers.{known-meaning}
 use Rattle.dac_config.specs.Table.{Table}
 use Rattle.dac_decide.specs.declared.start_gate.Opening.{Opening}
 use Rattle.dac_decide.specs.declared.start_gate.Opening.TheVariants.{Shut, Opened, GiveUp}

@@ -4,7 +4,7 @@ use Rattle.std.proofs.Common.{◌≡◌, ◌⊎◌, inl, inr, List, [], ◌∷�
 use Rattle.std.proofs.lemmas.List.{map-append}
 use Rattle.dac_operations.specs.Operations.{Operation}
 use Rattle.dac_meaning.specs.Meaning.{In, Within}
-use Rattle.dac_meaning.specs.Members.{In-append_left, In-append_right, In-append_cases, Within-append}
+use Rattle.dac_meaning.specs.laws.Members.{In-append_left, In-append_right, In-append_cases, Within-append}
 use Rattle.dac_worlds.specs.SetWorld.{Issue, issues_of, operations_of}
 use Rattle.dac_worlds.specs.Convergence.{DistinctDots}
 use Rattle.dac_worlds.specs.Causality.{IsAmong}

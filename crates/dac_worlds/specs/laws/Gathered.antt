@@ -9,11 +9,11 @@ use Rattle.dac_wishes.specs.WishesValue.{same_wishes}
 use Rattle.dac_wishes.specs.PermissionsValue.{same_permissions}
 use Rattle.dac_operations.specs.Operations.{Operation}
 use Rattle.dac_meaning.specs.StateValue.{StateValue, bottom, join, permissions_of, wishes_of}
-use Rattle.dac_meaning.specs.StateLaws.{same_state}
+use Rattle.dac_meaning.specs.laws.StateLaws.{same_state}
 use Rattle.dac_meaning.specs.Meaning.{meaning_of, In, Within, Agree}
-use Rattle.dac_meaning.specs.Readers.{heard-meaning, known-meaning, starts-meaning, permits-meaning, lives-meaning, claims-meaning}
-use Rattle.dac_meaning.specs.Members.{In-append_left, In-append_right, In-append_cases}
-use Rattle.dac_meaning.specs.Joins.{join-meaning, meaning-same}
+use Rattle.dac_meaning.specs.laws.Readers.{heard-meaning, known-meaning, starts-meaning, permits-meaning, lives-meaning, claims-meaning}
+use Rattle.dac_meaning.specs.laws.Members.{In-append_left, In-append_right, In-append_cases}
+use Rattle.dac_meaning.specs.laws.Joins.{join-meaning, meaning-same}
 use Rattle.dac_rules.specs.ModelNode.{joined}
 use Rattle.dac_rules.specs.Deeds.{meanings}
 use Rattle.dac_worlds.specs.laws.Operations.{Agree-within}

@@ -13,9 +13,9 @@ use Rattle.dac_wishes.specs.Writes.{same_dot, same_dot_is, same_dot_itself}
 use Rattle.dac_operations.specs.declared.act.Act.{Act}
 use Rattle.dac_operations.specs.Operations.{Operation}
 use Rattle.dac_meaning.specs.Meaning.{meaning_of, In, Within, Agree, has_dot, replaces, is_replaced}
-use Rattle.dac_meaning.specs.Members.{found, finds}
-use Rattle.dac_meaning.specs.Readers.{heard-meaning, known-meaning}
-use Rattle.dac_meaning.specs.Joins.{names-or}
+use Rattle.dac_meaning.specs.laws.Members.{found, finds}
+use Rattle.dac_meaning.specs.laws.Readers.{heard-meaning, known-meaning}
+use Rattle.dac_meaning.specs.laws.Joins.{names-or}
 use Rattle.dac_worlds.specs.SetWorld.{SetWorld, Issue, operations_of}
 use Rattle.dac_worlds.specs.Causality.{IsCausallyBefore, IsMaximal, IsDotOfOne}
 use Rattle.dac_worlds.specs.laws.Replacing.{Replaces}

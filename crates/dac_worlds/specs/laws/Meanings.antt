@@ -5,11 +5,11 @@ use Rattle.std.specs.FinSet as set
 use Rattle.dac_wishes.specs.Writes.{same_dot_is, same_dot_itself}
 use Rattle.dac_operations.specs.Operations.{Operation}
 use Rattle.dac_meaning.specs.StateValue.{IsBelow, bottom, join}
-use Rattle.dac_meaning.specs.StateLaws.{state_laws, bottom_value, bottom_least}
+use Rattle.dac_meaning.specs.laws.StateLaws.{state_laws, bottom_value, bottom_least}
 use Rattle.dac_meaning.specs.Meaning.{meaning_of, In, Within, Agree, has_dot}
-use Rattle.dac_meaning.specs.Readers.{heard-meaning}
-use Rattle.dac_meaning.specs.Members.{In-append_left, Within-append, found, finds}
-use Rattle.dac_meaning.specs.Joins.{meaning-same, meaning-state, join-meaning}
+use Rattle.dac_meaning.specs.laws.Readers.{heard-meaning}
+use Rattle.dac_meaning.specs.laws.Members.{In-append_left, Within-append, found, finds}
+use Rattle.dac_meaning.specs.laws.Joins.{meaning-same, meaning-state, join-meaning}
 use Rattle.dac_worlds.specs.Convergence.{heard_among}
 use Rattle.dac_worlds.specs.laws.Operations.{Agree-within}
 

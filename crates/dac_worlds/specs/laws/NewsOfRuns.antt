@@ -10,8 +10,8 @@ use Rattle.dac_wishes.specs.Writes.{same_dot_is}
 use Rattle.dac_operations.specs.Operations.{Operation}
 use Rattle.dac_meaning.specs.StateValue.{StateValue}
 use Rattle.dac_meaning.specs.Meaning.{meaning_of, In, Within, Agree, has_dot}
-use Rattle.dac_meaning.specs.Readers.{heard-meaning}
-use Rattle.dac_meaning.specs.Members.{found, finds}
+use Rattle.dac_meaning.specs.laws.Readers.{heard-meaning}
+use Rattle.dac_meaning.specs.laws.Members.{found, finds}
 use Rattle.dac_config.specs.Table.{Table}
 use Rattle.dac_decide.specs.declared.start_gate.Opening.{Opening}
 use Rattle.dac_decide.specs.declared.start_gate.Opening.TheVariants.{Shut, Opened, GiveUp}

@@ -15,9 +15,9 @@ use Rattle.dac_operations.specs.declared.act.Act.{Act}
 use Rattle.dac_operations.specs.Operations.{Operation}
 use Rattle.dac_meaning.specs.StateValue.{StateValue, join}
 use Rattle.dac_meaning.specs.Meaning.{meaning_of, In, Within, Agree, has_dot, replaces, names}
-use Rattle.dac_meaning.specs.Readers.{known-meaning}
-use Rattle.dac_meaning.specs.Members.{Within-append, In-append_left, In-append_right, In-append_cases, found, finds}
-use Rattle.dac_meaning.specs.Joins.{join-meaning}
+use Rattle.dac_meaning.specs.laws.Readers.{known-meaning}
+use Rattle.dac_meaning.specs.laws.Members.{Within-append, In-append_left, In-append_right, In-append_cases, found, finds}
+use Rattle.dac_meaning.specs.laws.Joins.{join-meaning}
 use Rattle.dac_commands.specs.Commands.{next_operation, greatest_counter}
 use Rattle.dac_commands.specs.laws.Counters.{counter-greatest}
 use Rattle.dac_rules.specs.Issued.{IsNextOf, AreIssued}

@@ -7,7 +7,7 @@ use Rattle.dac_dots.specs.declared.dot.Dot.{Dot}
 use Rattle.dac_wishes.specs.Writes.{same_dot, same_dot_is, same_dot_itself}
 use Rattle.dac_operations.specs.Operations.{Operation}
 use Rattle.dac_meaning.specs.Meaning.{In, Within, Agree, has_dot}
-use Rattle.dac_meaning.specs.Members.{finds, In-append_right}
+use Rattle.dac_meaning.specs.laws.Members.{finds, In-append_right}
 use Rattle.dac_worlds.specs.Convergence.{DistinctDots}
 
 pub one_in : (o x : Operation) → In o (x ∷ []) → o ≡ x

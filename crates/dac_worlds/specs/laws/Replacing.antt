@@ -10,8 +10,8 @@ use Rattle.dac_operations.specs.declared.act.Act.TheVariants.{Permit, Start, Sto
 use Rattle.dac_operations.specs.Operations.{Operation}
 use Rattle.dac_meaning.specs.StateValue.{StateValue, join}
 use Rattle.dac_meaning.specs.Meaning.{meaning_of, Within, Agree}
-use Rattle.dac_meaning.specs.Members.{Within-append, In-append_left, In-append_right}
-use Rattle.dac_meaning.specs.Joins.{join-meaning}
+use Rattle.dac_meaning.specs.laws.Members.{Within-append, In-append_left, In-append_right}
+use Rattle.dac_meaning.specs.laws.Joins.{join-meaning}
 use Rattle.dac_base.specs.declared.AppId.{AppId}
 use Rattle.dac_config.specs.Table.{Table}
 use Rattle.dac_decide.specs.Verdict.{Verdict}

@@ -14,7 +14,7 @@ use Rattle.dac_dots.specs.declared.dot.Origin.{Origin}
 use Rattle.dac_operations.specs.Operations.{Operation}
 use Rattle.dac_meaning.specs.StateValue.{StateValue}
 use Rattle.dac_meaning.specs.Meaning.{meaning_of, In, Within, Agree}
-use Rattle.dac_meaning.specs.Members.{In-append_left, In-append_right}
+use Rattle.dac_meaning.specs.laws.Members.{In-append_left, In-append_right}
 use Rattle.dac_config.specs.Table.{Table}
 use Rattle.dac_decide.specs.declared.start_gate.Opening.{Opening}
 use Rattle.dac_decide.specs.declared.start_gate.Opening.TheVariants.{Shut, Opened, GiveUp}

@@ -14,8 +14,8 @@ use Rattle.dac_operations.specs.declared.act.Act.{Act}
 use Rattle.dac_operations.specs.declared.act.Act.TheVariants.{Permit, Start, Stop}
 use Rattle.dac_operations.specs.Operations.{Operation, over_list}
 use Rattle.dac_meaning.specs.Meaning.{meaning_of, In, has_dot, is_replaced, is_same, says, is_permit, flag_said, said, wishes, is_start}
-use Rattle.dac_meaning.specs.Members.{found, finds}
-use Rattle.dac_meaning.specs.Readers.{starts-meaning, permits-meaning}
+use Rattle.dac_meaning.specs.laws.Members.{found, finds}
+use Rattle.dac_meaning.specs.laws.Readers.{starts-meaning, permits-meaning}
 use Rattle.dac_commands.specs.Written.{PermitStands, StartStands}
 use Rattle.dac_worlds.specs.Causality.{IsPermitOf, IsStartOf, EndsStart}
 use Rattle.dac_worlds.specs.laws.Replacing.{Replaces}

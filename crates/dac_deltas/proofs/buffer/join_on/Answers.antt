@@ -1,6 +1,6 @@
 use Rattle.std.specs.Prelude.{◌≡◌, IfOk, unwrap_or}
 use Rattle.std.proofs.Common.{sym, subst}
-use Rattle.dac_lattice.specs.Joins.{join_above}
+use Rattle.dac_lattice.specs.laws.Joins.{join_above}
 use Rattle.dac_deltas.proofs.buffer.join_on.Goals as goal
 
 pub returns-in-None : goal.returns-in-None

@@ -1,5 +1,5 @@
 use Rattle.std.proofs.Common.{arith}
-use Rattle.dac_lattice.specs.PieceLaws.{step_at}
+use Rattle.dac_lattice.specs.laws.PieceLaws.{step_at}
 use Rattle.dac_lattice.proofs.pieces.join_deltas.Goals as goal
 
 pub loop-i-preserved : goal.loop-i-preserved

@@ -1,4 +1,4 @@
-use Rattle.dac_lattice.specs.PieceLaws.{joined_means, together, order_and_repeats}
+use Rattle.dac_lattice.specs.laws.PieceLaws.{joined_means, together, order_and_repeats}
 use Rattle.dac_lattice.proofs.pieces.laws_of_pieces.Goals as goal
 
 pub returns : goal.returns

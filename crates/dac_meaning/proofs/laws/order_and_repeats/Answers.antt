@@ -1,4 +1,4 @@
-use Rattle.dac_meaning.specs.Joins.{meaning-same}
+use Rattle.dac_meaning.specs.laws.Joins.{meaning-same}
 use Rattle.dac_meaning.proofs.laws.order_and_repeats.Goals as goal
 
 pub returns : goal.returns

@@ -1,4 +1,4 @@
-use Rattle.dac_meaning.specs.StateLaws.{state_laws, bottom_least}
+use Rattle.dac_meaning.specs.laws.StateLaws.{state_laws, bottom_least}
 use Rattle.dac_meaning.proofs.laws.order_of_states.Goals as goal
 
 pub returns-clause-lattice : goal.returns-clause-lattice

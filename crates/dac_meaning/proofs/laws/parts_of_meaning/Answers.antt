@@ -1,4 +1,4 @@
-use Rattle.dac_meaning.specs.Joins.{meaning-state}
+use Rattle.dac_meaning.specs.laws.Joins.{meaning-state}
 use Rattle.dac_meaning.proofs.Membership.{heard_are_dots, known_are_named, permits_are_unreplaced, starts_are_unreplaced, lives_are_greatest, claims_are_greatest}
 use Rattle.dac_meaning.proofs.Nothing.{nothing_means_bottom}
 use Rattle.dac_meaning.proofs.laws.parts_of_meaning.Goals as goal

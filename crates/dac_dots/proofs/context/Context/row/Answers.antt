@@ -1,6 +1,6 @@
 use Rattle.std.proofs.Common.{◌<◌, ◌^◌, List, length, Some, refl, sym, ap, subst, ◌∙◌, arith}
 use Rattle.std.proofs.lemmas.Option.{slice_get_read}
-use Rattle.dac_dots.specs.RowLaws.{rows_tell}
+use Rattle.dac_dots.specs.laws.RowLaws.{rows_tell}
 use Rattle.dac_dots.specs.Rows.{Row}
 use Rattle.dac_dots.proofs.ContextLemmas.{rows_are}
 use Rattle.dac_dots.proofs.context.Context.row.Goals as goal

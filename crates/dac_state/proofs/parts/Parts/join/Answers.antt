@@ -1,6 +1,6 @@
 use Rattle.std.proofs.Common.{◌∙◌}
 use Rattle.dac_meaning.specs.StateValue.{join}
-use Rattle.dac_meaning.specs.StateLaws.{state_laws}
+use Rattle.dac_meaning.specs.laws.StateLaws.{state_laws}
 use Rattle.dac_state.proofs.Making.{state_is, are_parts, show_joined}
 use Rattle.dac_state.proofs.parts.Parts.join.Goals as goal
 

@@ -1,4 +1,4 @@
-use Rattle.dac_meaning.specs.StateLaws.{bottom_value}
+use Rattle.dac_meaning.specs.laws.StateLaws.{bottom_value}
 use Rattle.dac_state.proofs.Making.{are_parts}
 use Rattle.dac_state.proofs.state.StateBottom.bottom.Goals as goal
 

@@ -1,6 +1,6 @@
 use Rattle.std.proofs.Common.{◌∙◌, sym}
 use Rattle.std.proofs.lemmas.Bool.{false≢true}
-use Rattle.dac_meaning.specs.StateLaws.{state_laws}
+use Rattle.dac_meaning.specs.laws.StateLaws.{state_laws}
 use Rattle.dac_state.proofs.state.StateLattice.equal.Goals as goal
 
 pub returns-then-leq : goal.returns-then-leq

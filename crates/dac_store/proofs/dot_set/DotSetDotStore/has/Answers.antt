@@ -1,6 +1,6 @@
 use Rattle.std.proofs.Common.{◌∙◌}
 use Rattle.dac_dots.specs.Dots.{dots_total}
-use Rattle.dac_dots.specs.KeyLaws.{has_is}
+use Rattle.dac_dots.specs.laws.KeyLaws.{has_is}
 use Rattle.dac_store.proofs.dot_set.DotSetDotStore.has.Goals as goal
 
 pub returns : goal.returns

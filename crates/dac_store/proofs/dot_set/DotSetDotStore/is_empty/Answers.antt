@@ -1,7 +1,7 @@
 use Rattle.std.proofs.Common.{◌≡◌, ◌∙◌, ap, nat_eq, length, vec_len, rules}
 use Rattle.std.specs.FinSet as set
 use Rattle.dac_dots.specs.Dots.{dots_total}
-use Rattle.dac_dots.specs.KeyLaws.{len_rising}
+use Rattle.dac_dots.specs.laws.KeyLaws.{len_rising}
 use Rattle.dac_store.proofs.dot_set.DotSetDotStore.is_empty.Goals as goal
 
 pub returns : goal.returns

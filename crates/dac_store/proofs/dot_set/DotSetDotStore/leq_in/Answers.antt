@@ -3,7 +3,7 @@ use Rattle.std.proofs.lemmas.Bool.{false≢true}
 use Rattle.std.proofs.lemmas.List.Elements.{All-more}
 use Rattle.std.specs.FinSet as set
 use Rattle.dac_dots.specs.Dots.{dots_total, exact_dots}
-use Rattle.dac_dots.specs.KeyLaws.{each_member, member_at}
+use Rattle.dac_dots.specs.laws.KeyLaws.{each_member, member_at}
 use Rattle.dac_store.specs.DotSets.{may_stay, held_if_stays, stays_if_held}
 use Rattle.dac_store.proofs.dot_set.DotSetDotStore.leq_in.Goals as goal
 

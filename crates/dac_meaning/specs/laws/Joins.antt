@@ -20,11 +20,11 @@ use Rattle.dac_wishes.specs.WishesValue.{join_wishes, same_wishes, known-join as
 use Rattle.dac_wishes.specs.PermissionsValue.{join_permissions, same_permissions, known-join as known-permissions, standing-join as standing-permissions}
 use Rattle.dac_operations.specs.Operations.{Operation}
 use Rattle.dac_meaning.specs.StateValue.{IsState, permissions_of, wishes_of, join}
-use Rattle.dac_meaning.specs.StateLaws.{same_state, heard-join, permissions-join, wishes-join, lives-join, claims-join}
+use Rattle.dac_meaning.specs.laws.StateLaws.{same_state, heard-join, permissions-join, wishes-join, lives-join, claims-join}
 use Rattle.dac_meaning.specs.Meaning.{meaning_of, has_dot, replaces, is_replaced, names, wishes, is_start, says, is_permit, flag_said, said, permit_at, life_said, claim_said, Within, Agree}
-use Rattle.dac_meaning.specs.Members.{In-append_left, In-append_right, list_any-same, list_any-wider, shared}
+use Rattle.dac_meaning.specs.laws.Members.{In-append_left, In-append_right, list_any-same, list_any-wider, shared}
 use Rattle.dac_meaning.specs.Chained.{greatest-same, greatest-append}
-use Rattle.dac_meaning.specs.Readers.{heard-meaning, known-meaning, starts-meaning, permits-meaning, lives-meaning, claims-meaning}
+use Rattle.dac_meaning.specs.laws.Readers.{heard-meaning, known-meaning, starts-meaning, permits-meaning, lives-meaning, claims-meaning}
 
 -- sets of the same dots are equal
 same_dots : (a b : Dots) → ((d : Dot) → set.contains a d ≡ set.contains b d) → a ≡ b

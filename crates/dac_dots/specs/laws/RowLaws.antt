@@ -11,7 +11,7 @@ use Rattle.dac_dots.specs.Dots.{Dots, dot, dot_cmp, dots_total, exact_dots, orig
 use Rattle.dac_dots.specs.declared.dot.Origin.{Origin}
 use Rattle.dac_dots.specs.declared.dot.Dot.{Dot}
 use Rattle.dac_dots.specs.Rows.{Row, row_of, rows_of, origins_of, counters_of, further_of, reach_of, IsRowOf, AreRowsOf}
-use Rattle.dac_dots.specs.CounterLaws.{on_the_way, ends_there, has_key-filter, rising_filter, has_key-counters, rising_counters}
+use Rattle.dac_dots.specs.laws.CounterLaws.{on_the_way, ends_there, has_key-filter, rising_filter, has_key-counters, rising_counters}
 
 outside : (v n : ℕ) → (nat_le 1 n && nat_le n v) ≡ false → (nat_lt v n || nat_eq n 0) ≡ true
 outside v n out = elim (and_cases (nat_le 1 n) (nat_le n v) out) [

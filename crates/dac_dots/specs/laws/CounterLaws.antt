@@ -9,7 +9,7 @@ use Rattle.std.proofs.lemmas.Bool.Decides.{nat_tests}
 use Rattle.std.proofs.lemmas.Cmp.{tied_itself}
 use Rattle.dac_dots.specs.Keys.{is_below_all, is_rising, IsRising, has_key}
 use Rattle.dac_dots.specs.Dots.{dot, dot_cmp, origin_cmp, origins_total}
-use Rattle.dac_dots.specs.KeyLaws.{equal_origins}
+use Rattle.dac_dots.specs.laws.KeyLaws.{equal_origins}
 use Rattle.dac_dots.specs.declared.dot.Origin.{Origin}
 use Rattle.dac_dots.specs.declared.dot.Dot.{Dot}
 use Rattle.dac_dots.specs.Rows.{is_of, counters_of, reach_from}

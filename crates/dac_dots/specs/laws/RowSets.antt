@@ -16,8 +16,8 @@ use Rattle.dac_dots.specs.InOrder.{tie, less, same_rising}
 use Rattle.dac_dots.specs.Dots.{Dots, dot, dot_cmp, dots_total, exact_dots, origin_cmp, origins_total, exact_origins}
 use Rattle.dac_dots.specs.declared.dot.Origin.{Origin}
 use Rattle.dac_dots.specs.declared.dot.Dot.{Dot}
-use Rattle.dac_dots.specs.CounterLaws.{is_eq-then, is_same, is_less, below_more}
-use Rattle.dac_dots.specs.RowLaws.{rows_tell}
+use Rattle.dac_dots.specs.laws.CounterLaws.{is_eq-then, is_same, is_less, below_more}
+use Rattle.dac_dots.specs.laws.RowLaws.{rows_tell}
 use Rattle.dac_dots.specs.Rows.{Row, IsRowOf, AreRowsOf, rows_of, one_to, dots_in_row, dots_in, has_counter, row_has, any_row, origins, rises_on, IsKept, HasSome, AreKept}
 
 -- ---- 1 to n

@@ -21,7 +21,7 @@ use Rattle.dac_operations.specs.declared.act.Act.TheVariants.{Up, Down, Permit, 
 use Rattle.dac_operations.specs.Operations.{Operation, over_list}
 use Rattle.dac_meaning.specs.Tables.{get-table, given_or_none}
 use Rattle.dac_meaning.specs.Meaning.{meaning_of, has_dot, is_replaced, names, starts_in, permits_in, wishes, is_start, is_same, says, is_permit, flag_said, permit_at, pairs, life_said, claim_said, lives_of, claims_of}
-use Rattle.dac_meaning.specs.Members.{list_any-narrower}
+use Rattle.dac_meaning.specs.laws.Members.{list_any-narrower}
 use Rattle.dac_meaning.specs.Chained.{are_greatest}
 
 list_any-list_map : {X Y : Type 0} (p : Y → Bool) (f : X → Y) (xs : List X) → list_any p (list_map f xs) ≡ list_any (λ x. p (f x)) xs

@@ -1,0 +1,4 @@
+pub mod CounterLaws
+pub mod KeyLaws
+pub mod RowLaws
+pub mod RowSets

@@ -1,0 +1,4 @@
+pub mod StateLaws
+pub mod Members
+pub mod Readers
+pub mod Joins
