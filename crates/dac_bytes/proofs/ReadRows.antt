@@ -9,10 +9,9 @@ use Rattle.std.proofs.lemmas.Bool.{and_from, or_cases, or_parts, or_left, or_rig
 use Rattle.dac_base.specs.declared.limits.TheConstants.{MAX_COUNTER}
 use Rattle.dac_dots.specs.Keys.{has_key}
 use Rattle.dac_dots.specs.InOrder.{less, tie}
-use Rattle.dac_dots.specs.Dots.{Dots, origin_cmp, origins_total, exact_origins}
+use Rattle.dac_dots.specs.Dots.{Dots, dot_cmp, origin_cmp, origins_total, exact_origins}
 use Rattle.dac_dots.specs.declared.dot.Origin.{Origin}
-use Rattle.dac_dots.specs.laws.RowSets.{rises_to, kept_are, dots_back}
-use Rattle.dac_dots.proofs.PlaceLemmas.{none_in}
+use Rattle.dac_dots.specs.laws.RowSets.{rises_to, is_dots_in, kept_are, dots_back}
 use Rattle.dac_dots.specs.Rows.{Row, rows_of, dots_in, origins, rises_on, HasSome, EndBefore, CanFollow}
 use Rattle.dac_bytes.specs.declared.fault.ReadFaultKind.TheVariants.{BadOrder, BadNumber}
 use Rattle.dac_bytes.specs.Reading.{Rest, Field, Gives, ◌>>=◌, fault, rows_at, context_at, is_above, number_at, range_at, counter_at, origin_at, origin_above_at, items_at, further_at, further_count_at, row_at}
@@ -101,7 +100,7 @@ last_more rows row can x h = has_last rows can.above x h
 -- ---- the set of the rows that are read
 
 pub no_rows : rows_of set.empty ≡ []
-no_rows = ap rows_of (sym none_in) ∙ kept_are [] (record { each = tt; rising = refl })
+no_rows = ap rows_of (is_dots_in set.empty [] (λ q. set.contains-empty dot_cmp q)) ∙ kept_are [] (record { each = tt; rising = refl })
 
 front_none : {X : Type 0} (x : Field (List X)) → with_front [] x ≡ x
 front_none (Ok x) = refl
