@@ -1,7 +1,5 @@
-//! Dots and configurations that the tests share.
-use dac_base::NodeId;
+//! A configuration that the tests share, and what a fault is.
 use dac_config::{Config, ConfigFault, FaultKind, read_config};
-use dac_dots::{Dot, Origin};
 use std::alloc::Global;
 
 /// The example of OTP's manual on distributed applications.
@@ -16,20 +14,4 @@ pub fn config(alloc: Global, text: &[u8]) -> Option<Config> {
 /// Whether this is the fault that comes of a text.
 pub fn is_fault(fault: Option<ConfigFault>, kind: FaultKind, at: usize) -> bool {
     fault == Some(ConfigFault { kind, at })
-}
-
-/// An incarnation of a node.
-pub fn origin(node: u8, inc: u32) -> Origin {
-    Origin {
-        node: NodeId(node),
-        inc,
-    }
-}
-
-/// A dot of an incarnation of a node.
-pub fn dot(node: u8, inc: u32, n: u64) -> Dot {
-    Dot {
-        origin: origin(node, inc),
-        n,
-    }
 }

@@ -1,0 +1,30 @@
+//! Dots and a configuration that the tests share.
+use dac_base::NodeId;
+use dac_config::{Config, read_config};
+use dac_dots::{Dot, Origin};
+use std::alloc::Global;
+
+/// The example of OTP's manual on distributed applications.
+pub const EXAMPLE: &[u8] =
+    b"[{kernel,\n [{distributed, [{myapp, 5000, [cp1@cave, {cp2@cave, cp3@cave}]}]},\n {sync_nodes_mandatory, [cp2@cave, cp3@cave]},\n {sync_nodes_timeout, 5000}\n ]\n }\n].";
+
+/// A configuration, if it is accepted.
+pub fn config(alloc: Global, text: &[u8]) -> Option<Config> {
+    read_config(alloc, text).ok()
+}
+
+/// An incarnation of a node.
+pub fn origin(node: u8, inc: u32) -> Origin {
+    Origin {
+        node: NodeId(node),
+        inc,
+    }
+}
+
+/// A dot of an incarnation of a node.
+pub fn dot(node: u8, inc: u32, n: u64) -> Dot {
+    Dot {
+        origin: origin(node, inc),
+        n,
+    }
+}
