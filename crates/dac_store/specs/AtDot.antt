@@ -1,6 +1,6 @@
 -- What two sides hold at one dot, each beside whether it has heard of the dot.
 use Rattle.std.specs.Prelude.{◌≡◌, Bool, true, false, ◌||◌, Option, None, Some, is_some, if◌then◌else◌, refl}
-use Rattle.std.proofs.Common.{ap}
+use Rattle.std.proofs.Common.{sym, ap}
 use Rattle.std.proofs.lemmas.Bool.{false≢true}
 use Rattle.dac_lattice.specs.Laws.{IsLattice, IsIn}
 
@@ -16,6 +16,12 @@ join_at join c d None None = None
 join_at join c d (Some v) None = if d then None else Some v
 join_at join c d None (Some w) = if c then None else Some w
 join_at join c d (Some v) (Some w) = Some (join v w)
+
+-- beside nothing a value stays where the other side hasn't heard of its dot
+pub at_alone : {V : Type 0} (join : V → V → V) (c d : Bool) (v : Option V) → (is_some v ≡ true → d ≡ false) → join_at join c d v None ≡ v
+at_alone join c d None h = refl
+at_alone join c true (Some v) h = absurd (false≢true (sym (h refl)))
+at_alone join c false (Some v) h = refl
 
 -- a value at a dot, which the context has if there is one
 abbrev pub Under : {V : Type 0} → (V → Type 0) → Bool → Option V → Type 0

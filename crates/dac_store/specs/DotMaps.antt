@@ -161,4 +161,9 @@ module _ {K : Type 0} {R : K → K → Ordering} (o : IsTotalOrder R) (exact : C
     one_empty = λ s u e. when_empty s e;
     cleared = λ s c d u k. laws.cleared _ c d (at_store _ (u.stores k));
     first = λ s c u k. laws.first _ c (within_at s c u k);
+    alone = λ s c d u h. same_entries R o exact (join_keyed R nothing is_empty join s c [] d) s
+        (sorted_merge o exact (λ _ v w. kept is_empty (join (store_at nothing v) c (store_at nothing w) d)) s [] u.in_order tt) u.in_order
+        (λ k. find_keyed s c [] d u (record { in_order = tt; stores = λ k. tt }) k
+        ∙ ap (kept is_empty) (laws.alone _ c d (at_store _ (u.stores k)) (λ x e. h x (has_found s k x e)))
+        ∙ kept_at _ (u.stores k));
   }

@@ -83,6 +83,13 @@ held_joined false false true d f g h = refl
 held_joined false false false true f g h = absurd (false≢true (g refl))
 held_joined false false false false f g h = absurd (false≢true h)
 
+-- a dot stays beside a side that holds none and hasn't heard of it
+stays_alone : (s c t d : Bool) → t ≡ false → (s ≡ true → d ≡ false) → ((s && (t || not d)) || (t && (s || not c))) ≡ s
+stays_alone s c true d e f = absurd (false≢true (sym e))
+stays_alone true c false true e f = absurd (false≢true (sym (f refl)))
+stays_alone true c false false e f = refl
+stays_alone false c false d e f = refl
+
 -- ---- the laws
 
 none_in : (s : Dots) → ((x : Dot) → set.contains s x ≡ false) → s ≡ set.empty
@@ -104,4 +111,6 @@ set_laws = record {
   one_empty = λ s u e. set.empty_of_len s (eqb-true _ _ e);
   cleared = λ s c d u x h k. absurd (false≢true (sym (set.contains-empty dot_cmp x) ∙ h));
   first = λ s c u x h k. absurd (false≢true (sym (set.contains-empty dot_cmp x) ∙ k));
+  alone = λ s c d u h. set.same_set dots_total exact_dots (join_sets s c set.empty d) s (λ x.
+      contains_join s c set.empty d x ∙ stays_alone (set.contains s x) (set.contains c x) (set.contains set.empty x) (set.contains d x) (set.contains-empty dot_cmp x) (h x));
 }

@@ -4,3 +4,5 @@ pub mod AtDot
 pub mod DotFuns
 pub mod DotMaps
 pub mod Appending
+pub mod Few
+pub mod Keeping

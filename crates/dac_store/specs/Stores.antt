@@ -1,16 +1,21 @@
 -- What a store of dots is: values that hold dots, ordered and joined beside what each side has heard of.
 -- (Dot stores are after delta-state replicated data types.)
 use Rattle.std.specs.Prelude.{◌≡◌, Bool, true, false, ◌||◌, refl}
-use Rattle.std.proofs.Common.{sym, subst, ◌∙◌, inl, inr}
+use Rattle.std.proofs.Common.{sym, ap, subst, ◌∙◌, inl, inr}
 use Rattle.std.proofs.lemmas.Bool.{false≢true, or_cases, or_left, or_right}
 use Rattle.std.specs.FinSet as set
 use Rattle.dac_dots.specs.Dots.{Dots, IsSubset, dot_cmp, dots_total, exact_dots}
 use Rattle.dac_dots.specs.declared.dot.Dot.{Dot}
 use Rattle.dac_lattice.specs.Laws.{IsLattice}
+use Rattle.dac_lattice.specs.laws.Joins.{join_comm}
 
 -- each dot that is held is in the context
 abbrev pub IsHeld : (Dot → Bool) → Dots → Type 0
 IsHeld has c = (x : Dot) → has x ≡ true → set.contains c x ≡ true
+
+-- no dot that is held has been heard of
+abbrev pub IsUnheard : (Dot → Bool) → Dots → Type 0
+IsUnheard has c = (x : Dot) → has x ≡ true → set.contains c x ≡ false
 
 -- a store whose dots are in the context
 pub record IsWithin {S : Type 0} (is_store : S → Type 0) (has : S → Dot → Bool) (s : S) (c : Dots) : Type 0 where
@@ -40,6 +45,8 @@ pub record IsDotStore {S : Type 0} (is_store : S → Type 0) (has : S → Dot �
   -- it is above each store, and below each where nothing was heard of
   pub cleared : (s : S) (c d : Dots) → is_store s → below s c nothing d
   pub first : (s : S) (c : Dots) → IsWithin is_store has s c → below nothing set.empty s c
+  -- joined where none of a store's dots have been heard of, it leaves the store as it is
+  pub alone : (s : S) (c d : Dots) → is_store s → IsUnheard (has s) d → join s c nothing d ≡ s
 
 -- ---- a store beside its context is a lattice
 
@@ -78,6 +85,11 @@ both_ways true b f g = sym (f refl)
 both_ways false true f g = g refl
 both_ways false false f g = refl
 
+-- a dot that is held hasn't been heard of where no dot that has been heard of is held
+pub held_unheard : (held heard : Bool) → (heard ≡ true → held ≡ false) → held ≡ true → heard ≡ false
+held_unheard held true f e = absurd (false≢true (sym (f refl) ∙ e))
+held_unheard held false f e = refl
+
 pub same_context : (c d : Dots) → IsSubset c d → IsSubset d c → c ≡ d
 same_context c d p q = set.same_set dots_total exact_dots c d (λ x. both_ways (set.contains c x) (set.contains d x) (p x) (q x))
 
@@ -107,6 +119,12 @@ module _ {S : Type 0} {is_store : S → Type 0} {has : S → Dot → Bool} {belo
     right = λ x y u v. (subset_right x.context y.context, laws.right _ _ _ _ u v);
     least = λ x y z u v w p q. (subset_union x.context y.context z.context p.0 q.0, laws.least _ _ _ _ _ _ u v w p.0 q.0 p.1 q.1);
   }
+
+  -- a store stays as it is on either side
+  pub alone_right : (s : S) (c d : Dots) → IsWithin is_store has s c → IsUnheard (has s) d → join nothing d s c ≡ s
+  alone_right s c d u h =
+      let empty : IsWithin is_store has nothing d = record { store = laws.empty_store; held = λ x e. absurd (false≢true (sym (laws.empty_has x) ∙ e)) } in
+      ap (λ v. v.store) (join_comm causal_laws (record { store = nothing; context = d }) (record { store = s; context = c }) empty u) ∙ laws.alone s c d u.store h
 
   pub bottom_within : IsWithin is_store has nothing set.empty
   bottom_within = record { store = laws.empty_store; held = λ x e. absurd (false≢true (sym (laws.empty_has x) ∙ e)) }

@@ -1,18 +1,26 @@
 //! A store beside its context.
-ghost use Rattle.std.specs.Prelude.{◌≡◌, ◌↔◌, IsTrue, IfOk, IfErr};
-ghost use Rattle.dac_store.specs.Stores.{IsHeld};
+ghost use Rattle.std.specs.Prelude.{◌≡◌, ◌↔◌, true, IsTrue, IfOk, IfErr};
+ghost use Rattle.dac_store.specs.Keeping.{kept_in};
+ghost use Rattle.dac_store.specs.Stores.{IsHeld, IsUnheard};
 
 use crate::DotStore;
+use crate::kept::Kept;
 use dac_dots::{Context, NoMemory};
 use dac_lattice::{Bottom, Lattice};
 use std::alloc::Global;
 use std::marker::Model;
+use std::sync::Arc;
+
+/// The most dots that a join looks up in the other side's store, to see whether that store stays as it is.
+const MOST_LOOKED_UP: usize = 16;
 
 /// A store beside the dots that it has heard of, among which are all that it holds. Its order is that of
 /// the contexts and of the stores under them.
+///
+/// A store never changes, so copies share it, and so does a join that leaves one side's store as it is.
 #[derive(Drop)]
 pub struct Causal<S: DotStore> {
-    store: S,
+    kept: Kept<S>,
     context: Context,
 }
 
@@ -22,14 +30,15 @@ impl<S: DotStore> Model for Causal<S> {
     ghost use Rattle.std.specs.FinSet as set;
     ghost use Rattle.dac_dots.specs.Dots.{Dots, coded_dot};
     ghost use Rattle.dac_store.specs.Stores.{IsWithin, Stored};
+    ghost use Rattle.dac_store.specs.Keeping.{kept_in};
 
     ghost Value = { Stored S };
 
     ghost coded = { code_by (S × Dots) (coded× S.code (set.code coded_dot)) (λ v. (v.store, v.context)) (λ p. record { store = p.0; context = p.1 }) (λ _. refl) };
 
-    ghost view = { λ a. record { store = a.store; context = a.context } };
+    ghost view = { λ a. record { store = kept_in a.kept; context = a.context } };
 
-    ghost invariant = { λ a. IsWithin S.is_store S.has a.store a.context };
+    ghost invariant = { λ a. IsWithin S.is_store S.has (kept_in a.kept) a.context };
 }
 
 impl<S: DotStore> Causal<S> {
@@ -41,7 +50,8 @@ impl<S: DotStore> Causal<S> {
     {
         store.known();
         if store.within(&context) {
-            Ok(Causal { store, context })
+            let kept = Kept::Here(store);
+            Ok(Causal { kept, context })
         } else {
             Err((store, context))
         }
@@ -51,7 +61,10 @@ impl<S: DotStore> Causal<S> {
     pub fn store(&self) -> &S
         ensures { result.now ≡ self.now.store }
     {
-        &self.store
+        match &self.kept {
+            Kept::Here(store) => store,
+            Kept::Shared(store) => store,
+        }
     }
 
     /// The dots that have been heard of.
@@ -60,6 +73,73 @@ impl<S: DotStore> Causal<S> {
     {
         &self.context
     }
+
+    /// Its store, shared with it where it can be.
+    fn share(&self) -> Result<Kept<S>, NoMemory>
+        ensures { IfOk result (λ kept. kept_in kept ≡ self.now.store) }
+    {
+        match &self.kept {
+            Kept::Here(store) => shared(store.copy()?),
+            Kept::Shared(store) => Ok(Kept::Shared(Arc::try_clone(store)?)),
+        }
+    }
+
+    /// Whether a join with this side surely leaves the other side's store as it is.
+    fn leaves(&self, other: &Self) -> Result<bool, NoMemory>
+        ensures nothing { IfOk result (λ leaves. leaves ≡ true → self.now.store ≡ S.nothing) }
+        ensures unheard { IfOk result (λ leaves. leaves ≡ true → IsUnheard (S.has other.now.store) self.now.context) }
+    {
+        let store = self.store();
+        store.known();
+        if !store.is_empty() {
+            return Ok(false);
+        }
+        let heard = self.context();
+        if !heard.has_at_most(MOST_LOOKED_UP) {
+            return Ok(false);
+        }
+        let none = holds_none(other.store(), heard)?;
+        Ok(none)
+    }
+
+    /// The store of the join.
+    fn join_kept(&self, other: &Self) -> Result<Kept<S>, NoMemory>
+        ensures { IfOk result (λ kept. kept_in kept ≡ S.join self.now.store self.now.context other.now.store other.now.context) }
+    {
+        self.known();
+        other.known();
+        if other.leaves(self)? {
+            return self.share();
+        }
+        if self.leaves(other)? {
+            return other.share();
+        }
+        let store = self
+            .store()
+            .join_in(&self.context, other.store(), &other.context)?;
+        shared(store)
+    }
+}
+
+/// A store that others may have too.
+fn shared<S: DotStore>(store: S) -> Result<Kept<S>, NoMemory>
+    ensures { IfOk result (λ kept. kept_in kept ≡ store) }
+{
+    let shared = Arc::new(store.allocator(), store)?;
+    Ok(Kept::Shared(shared))
+}
+
+/// Whether a store holds none of these dots.
+fn holds_none<S: DotStore>(store: &S, heard: &Context) -> Result<bool, NoMemory>
+    ensures { IfOk result (λ none. IsTrue none ↔ IsUnheard (S.has store.now) heard.now) }
+{
+    let dots = heard.dots()?;
+    for dot in &dots {
+        if store.has(*dot) {
+            return Ok(false);
+        }
+    }
+    Ok(true)
 }
 
 impl<S: DotStore> Lattice for Causal<S> {
@@ -74,22 +154,20 @@ impl<S: DotStore> Lattice for Causal<S> {
     ghost laws = { causal_laws S.laws };
 
     fn known(&self) {
-        let _store = &self.store;
+        let _kept = &self.kept;
     }
 
     fn join(&self, other: &Self) -> Result<Self, NoMemory> {
-        let store = self
-            .store
-            .join_in(&self.context, &other.store, &other.context)?;
+        let kept = self.join_kept(other)?;
         let context = self.context.union(&other.context)?;
-        Ok(Causal { store, context })
+        Ok(Causal { kept, context })
     }
 
     fn leq(&self, other: &Self) -> bool {
         self.context.is_subset(&other.context)
             && self
-                .store
-                .leq_in(&self.context, &other.store, &other.context)
+                .store()
+                .leq_in(&self.context, other.store(), &other.context)
     }
 
     fn equal(&self, other: &Self) -> bool {
@@ -99,9 +177,9 @@ impl<S: DotStore> Lattice for Causal<S> {
     }
 
     fn copy(&self) -> Result<Self, NoMemory> {
-        let store = self.store.copy()?;
+        let kept = self.share()?;
         let context = self.context.copy()?;
-        Ok(Causal { store, context })
+        Ok(Causal { kept, context })
     }
 }
 
@@ -117,7 +195,7 @@ impl<S: DotStore> Bottom for Causal<S> {
 
     fn bottom(alloc: Global) -> Self {
         Causal {
-            store: S::empty(alloc),
+            kept: Kept::Here(S::empty(alloc)),
             context: Context::empty(alloc),
         }
     }

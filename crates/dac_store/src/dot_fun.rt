@@ -155,6 +155,10 @@ impl<V: Lattice> DotStore for DotFun<V> {
         }
     }
 
+    fn allocator(&self) -> Global {
+        *self.entries.allocator()
+    }
+
     fn copy(&self) -> Result<Self, NoMemory> {
         let mut entries = Vec::with_capacity(*self.entries.allocator(), self.entries.len())?;
         for (dot, value) in &self.entries {

@@ -149,6 +149,10 @@ impl<K: MapKey, S: DotStore> DotStore for DotMap<K, S> {
         }
     }
 
+    fn allocator(&self) -> Global {
+        *self.entries.allocator()
+    }
+
     fn copy(&self) -> Result<Self, NoMemory> {
         let mut entries = Vec::with_capacity(*self.entries.allocator(), self.entries.len())?;
         for (key, store) in &self.entries {

@@ -6,7 +6,8 @@ ghost use Rattle.dac_store.specs.Appending.{is_above_dots};
 ghost use Rattle.dac_store.specs.DotSets.{join_sets, may_stay};
 
 use crate::DotStore;
-use dac_dots::keys::{holds_key, insert_key, remove_key};
+use crate::few::FewDots;
+use dac_dots::keys::holds_key;
 use dac_dots::{Context, Dot, NoMemory};
 use std::alloc::Global;
 use std::marker::Model;
@@ -16,41 +17,42 @@ use std::marker::Model;
 /// Each dot that is dropped moves those after it, so the number is higher than one look at a dot would ask.
 const FEW_BESIDE: usize = 32;
 
-/// A set of dots, kept as one sorted list. Contracts see it as a finite set.
+/// A set of dots, kept as one sorted list. A single dot takes no memory. Contracts see it as a finite set.
 #[derive(Drop)]
 pub struct DotSet {
-    dots: Vec<Dot>,
+    alloc: Global,
+    few: FewDots,
 }
 
 impl Model for DotSet {
     ghost use Rattle.std.specs.FinSet as set;
     ghost use Rattle.dac_dots.specs.Keys.{IsRising};
     ghost use Rattle.dac_dots.specs.Dots.{dot_cmp, coded_dot};
+    ghost use Rattle.dac_store.specs.Few.{dots_of};
 
     ghost Value = { set.FinSet dot_cmp };
 
     ghost coded = { set.code coded_dot };
 
-    ghost view = { λ a. set.from_list a.dots.items };
+    ghost view = { λ a. set.from_list (dots_of a.few) };
 
-    ghost invariant = { λ a. IsRising dot_cmp a.dots.items };
+    ghost invariant = { λ a. IsRising dot_cmp (dots_of a.few) };
 }
 
 impl DotSet {
-    /// The set of one dot. [`NoMemory`] is the only error.
+    /// The set of one dot. It takes no memory, and answers as the other stores do.
     pub fn one(alloc: Global, dot: Dot) -> Result<Self, NoMemory>
         ensures { IfOk result (λ one. one ≡ set.insert set.empty dot) }
     {
-        let mut dots = Vec::new(alloc);
-        dots.push(dot)?;
-        Ok(DotSet { dots })
+        let few = FewDots::One(dot);
+        Ok(DotSet { alloc, few })
     }
 
     /// The dots in rising order, each once. It takes no memory.
     pub fn dots(&self) -> &[Dot]
         ensures { result.now ≡ in_order self.now }
     {
-        self.dots.as_slice()
+        self.few.as_slice()
     }
 
     /// Appends a dot, if it is above each dot of the set, and says whether it was. Where it wasn't, and
@@ -64,7 +66,7 @@ impl DotSet {
         if !self.ends_below(dot) {
             return Ok(false);
         }
-        self.dots.push(dot)?;
+        self.insert(dot)?;
         Ok(true)
     }
 
@@ -72,35 +74,35 @@ impl DotSet {
     fn with_room(alloc: Global, most: usize) -> Result<Self, NoMemory>
         ensures { IfOk result (λ made. made ≡ set.empty) }
     {
-        let dots = Vec::with_capacity(alloc, most)?;
-        Ok(DotSet { dots })
+        let few = FewDots::with_room(alloc, most)?;
+        Ok(DotSet { alloc, few })
     }
 
     /// An equal set, with room for so many dots more.
     fn copy_with_room(&self, more: usize) -> Result<Self, NoMemory>
         ensures { IfOk result (λ copied. copied ≡ self.now) }
     {
-        let most = self.dots.len().saturating_add(more);
-        let mut dots = Vec::with_capacity(*self.dots.allocator(), most)?;
-        dots.extend_from_slice(&self.dots)?;
-        Ok(DotSet { dots })
+        let alloc = self.alloc;
+        let few = self.few.copy_with_room(alloc, more)?;
+        Ok(DotSet { alloc, few })
     }
 
     /// Whether each dot of the set is below this one.
     fn ends_below(&self, dot: Dot) -> bool
         ensures { result ≡ is_above_dots self.now dot }
     {
-        match self.dots.last() {
+        match self.dots().last() {
             Some(last) => last.cmp(&dot).is_lt(),
             None => true,
         }
     }
 
-    /// Puts a dot into the set.
+    /// Puts a dot into the set. Where memory is refused the set stays as it was.
     fn insert(&mut self, dot: Dot) -> Result<(), NoMemory>
-        ensures { OnOk result (self.new ≡ set.insert self.old dot) }
+        ensures ok { OnOk result (self.new ≡ set.insert self.old dot) }
+        ensures err { OnErr result (self.new ≡ self.old) }
     {
-        insert_key(&mut self.dots, dot)?;
+        self.few.insert(self.alloc, dot)?;
         Ok(())
     }
 
@@ -108,7 +110,7 @@ impl DotSet {
     fn remove(&mut self, dot: Dot)
         ensures { self.new ≡ set.remove self.old dot }
     {
-        remove_key(&mut self.dots, dot);
+        self.few.remove(dot);
     }
 
     /// Whether a dot may stay beside these: it is one of them, or this side hasn't heard of it.
@@ -122,7 +124,7 @@ impl DotSet {
     fn add_staying(&mut self, from: &Self, beside: &Self, heard: &Context) -> Result<(), NoMemory>
         ensures { OnOk result ((q : _) → set.contains self.new q ≡ (set.contains self.old q || (set.contains from.now q && may_stay beside.now heard.now q))) }
     {
-        for dot in &from.dots {
+        for dot in from.dots() {
             if beside.lets_stay(heard, *dot) {
                 self.insert(*dot)?;
             }
@@ -147,7 +149,7 @@ impl DotSet {
     fn join_few(&self, heard: &Context, few: &Self, few_heard: &Context) -> Result<Self, NoMemory>
         ensures { IfOk result (λ joined. joined ≡ join_sets self.now heard.now few.now few_heard.now) }
     {
-        let mut joined = self.copy_with_room(few.dots.len())?;
+        let mut joined = self.copy_with_room(few.dots().len())?;
         joined.drop_missing(few, few_heard)?;
         joined.add_staying(few, self, heard)?;
         Ok(joined)
@@ -162,8 +164,8 @@ impl DotSet {
     ) -> Result<Self, NoMemory>
         ensures { IfOk result (λ joined. joined ≡ join_sets self.now heard.now other.now other_heard.now) }
     {
-        let most = self.dots.len().max(other.dots.len());
-        let mut joined = DotSet::with_room(*self.dots.allocator(), most)?;
+        let most = self.dots().len().max(other.dots().len());
+        let mut joined = DotSet::with_room(self.alloc, most)?;
         joined.add_staying(self, other, other_heard)?;
         joined.add_staying(other, self, heard)?;
         Ok(joined)
@@ -192,14 +194,18 @@ impl DotStore for DotSet {
     fn known(&self) {}
 
     fn empty(alloc: Global) -> Self {
-        DotSet {
-            dots: Vec::new(alloc),
-        }
+        let few = FewDots::Empty;
+        DotSet { alloc, few }
+    }
+
+    fn allocator(&self) -> Global {
+        self.alloc
     }
 
     fn copy(&self) -> Result<Self, NoMemory> {
-        let dots = Vec::from_slice(*self.dots.allocator(), &self.dots)?;
-        Ok(DotSet { dots })
+        let alloc = self.alloc;
+        let few = self.few.copy(alloc)?;
+        Ok(DotSet { alloc, few })
     }
 
     fn join_in(
@@ -208,17 +214,17 @@ impl DotStore for DotSet {
         other: &Self,
         other_heard: &Context,
     ) -> Result<Self, NoMemory> {
-        if other_heard.has_at_most(self.dots.len() / FEW_BESIDE) {
+        if other_heard.has_at_most(self.dots().len() / FEW_BESIDE) {
             return self.join_few(heard, other, other_heard);
         }
-        if heard.has_at_most(other.dots.len() / FEW_BESIDE) {
+        if heard.has_at_most(other.dots().len() / FEW_BESIDE) {
             return other.join_few(other_heard, self, heard);
         }
         self.join_each(heard, other, other_heard)
     }
 
     fn leq_in(&self, heard: &Context, other: &Self, _other_heard: &Context) -> bool {
-        for dot in &other.dots {
+        for dot in other.dots() {
             if !self.lets_stay(heard, *dot) {
                 return false;
             }
@@ -227,11 +233,11 @@ impl DotStore for DotSet {
     }
 
     fn has(&self, dot: Dot) -> bool {
-        holds_key(&self.dots, dot)
+        holds_key(self.few.as_slice(), dot)
     }
 
     fn within(&self, context: &Context) -> bool {
-        for dot in &self.dots {
+        for dot in self.dots() {
             if !context.contains(*dot) {
                 return false;
             }
@@ -240,6 +246,6 @@ impl DotStore for DotSet {
     }
 
     fn is_empty(&self) -> bool {
-        self.dots.is_empty()
+        self.dots().is_empty()
     }
 }

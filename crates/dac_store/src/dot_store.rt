@@ -40,6 +40,9 @@ pub trait DotStore: Drop {
     fn empty(alloc: Global) -> Self
         ensures { result ≡ nothing };
 
+    /// Where its memory comes from.
+    fn allocator(&self) -> Global;
+
     /// An equal store, with memory of its own. [`NoMemory`] is the only error.
     fn copy(&self) -> Result<Self, NoMemory>
         ensures { IfOk result (λ copied. copied ≡ self.now) };

@@ -23,3 +23,5 @@ mod dot_fun;
 mod dot_map;
 mod dot_set;
 mod dot_store;
+mod few;
+mod kept;

@@ -3,4 +3,4 @@ use Rattle.dac_store.proofs.causal.CausalLattice.join.Goals as goal
 
 pub invariant_of-result : goal.invariant_of-result
 invariant_of-result g c =
-    rw (c.in_ok-store.ensures, c.in_ok-context.ensures) (within_join g.met.S.DotStore.laws _ _ _ _ c.self.invariant c.other.invariant)
+    rw (c.in_ok-kept.ensures, c.in_ok-context.ensures, ← c.self.view_is, ← c.other.view_is) (within_join g.met.S.DotStore.laws _ _ _ _ c.self.invariant c.other.invariant)

@@ -1,18 +1,13 @@
-use Rattle.std.proofs.Common.{◌∙◌, ap, sym, arith}
-use Rattle.std.specs.FinSet as set
-use Rattle.dac_dots.specs.Dots.{dot_cmp, dots_total, exact_dots}
-use Rattle.dac_dots.specs.InOrder.{in_order-one}
-use Rattle.dac_store.specs.Appending.{is_above_keys, above_last_key, all_without_last}
+use Rattle.std.proofs.Common.{sym, arith}
+use Rattle.dac_dots.specs.Dots.{dots_total, exact_dots}
+use Rattle.dac_dots.specs.InOrder.{in_order, in_order-rising}
+use Rattle.dac_store.specs.Appending.{above_last_key, all_without_last}
 use Rattle.dac_store.proofs.dot_set.DotSet.ends_below.Goals as goal
 
 pub returns-in-Some : goal.returns-in-Some
 returns-in-Some c =
-    let ks = c.self.inside.dots.items in
     rw (c.is_lt.ensures, c.cmp.ensures)
-    (sym (above_last_key dots_total ks _ c.in-Some.last.now c.args.dot c.self.invariant (omega arith) (sym (rw c.deref.ensures.value at c.in-Some.ensures.value)))
-    ∙ ap (λ ks. is_above_keys dot_cmp ks c.args.dot) (in_order-one dots_total exact_dots c.args.self.now ks c.self.invariant c.self.view_is))
+    (sym (above_last_key dots_total (in_order c.args.self.now) _ c.in-Some.last.now c.args.dot (in_order-rising dots_total exact_dots c.args.self.now) (omega arith) (sym (rw c.dots.ensures at c.in-Some.ensures.value))))
 
 pub returns-in-None : goal.returns-in-None
-returns-in-None c =
-    let ks = c.self.inside.dots.items in
-    all_without_last _ ks (rw c.deref.ensures.value at c.in-None.ensures.value) ∙ ap (λ ks. is_above_keys dot_cmp ks c.args.dot) (in_order-one dots_total exact_dots c.args.self.now ks c.self.invariant c.self.view_is)
+returns-in-None c = all_without_last _ (in_order c.args.self.now) (rw c.dots.ensures at c.in-None.ensures.value)

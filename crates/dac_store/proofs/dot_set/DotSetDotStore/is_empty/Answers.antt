@@ -1,10 +1,11 @@
-use Rattle.std.proofs.Common.{◌≡◌, ◌∙◌, ap, nat_eq, length, vec_len, rules}
+use Rattle.std.proofs.Common.{◌∙◌, ap, nat_eq}
 use Rattle.std.specs.FinSet as set
-use Rattle.dac_dots.specs.Dots.{dots_total}
+use Rattle.dac_dots.specs.Dots.{dots_total, exact_dots}
+use Rattle.dac_dots.specs.InOrder.{in_order, in_order-rising, in_order-same}
 use Rattle.dac_dots.specs.laws.KeyLaws.{len_rising}
 use Rattle.dac_store.proofs.dot_set.DotSetDotStore.is_empty.Goals as goal
 
 pub returns : goal.returns
 returns c =
-    let all : vec_len c.self.inside.dots ≡ length c.self.inside.dots.items = search rules in
-    c.is_empty.ensures ∙ ap (λ n. nat_eq n 0) (all ∙ len_rising dots_total c.self.inside.dots.items c.self.invariant ∙ ap (λ s. set.len s) c.self.view_is)
+    rw c.dots.ensures at c.is_empty.ensures
+    ∙ ap (λ n. nat_eq n 0) (len_rising dots_total (in_order c.args.self.now) (in_order-rising dots_total exact_dots c.args.self.now) ∙ ap (λ s. set.len s) (in_order-same dots_total exact_dots c.args.self.now))

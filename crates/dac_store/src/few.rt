@@ -1,0 +1,120 @@
+//! Few dots, with little memory.
+ghost use Rattle.std.specs.Prelude.{◌≡◌, ◌||◌, ◌&&◌, [], ◌∷◌, IfOk, OnErr, OnOk, not};
+ghost use Rattle.std.specs.Ordering.{eq_by_cmp};
+ghost use Rattle.dac_dots.specs.Dots.{dot_cmp};
+ghost use Rattle.dac_dots.specs.Keys.{IsRising, has_key};
+ghost use Rattle.dac_store.specs.Few.{dots_of};
+
+use dac_dots::keys::{insert_key, remove_key};
+use dac_dots::{Dot, NoMemory};
+use std::alloc::Global;
+use std::slice::from_ref;
+
+/// The dots of a set in rising order. A single one takes no memory.
+#[derive(Drop)]
+pub(crate) enum FewDots {
+    /// No dots.
+    Empty,
+    /// A single dot.
+    One(Dot),
+    /// A list of dots.
+    Sorted(Vec<Dot>),
+}
+
+impl FewDots {
+    /// No dots, with room for so many.
+    pub(crate) fn with_room(alloc: Global, most: usize) -> Result<Self, NoMemory>
+        ensures { IfOk result (λ made. dots_of made ≡ []) }
+    {
+        if most <= 1 {
+            return Ok(FewDots::Empty);
+        }
+        let dots = Vec::with_capacity(alloc, most)?;
+        Ok(FewDots::Sorted(dots))
+    }
+
+    /// The dots in rising order. It takes no memory.
+    pub(crate) fn as_slice(&self) -> &[Dot]
+        ensures { result.now ≡ dots_of self.now }
+    {
+        match self {
+            FewDots::Empty => &[],
+            FewDots::One(dot) => from_ref(dot),
+            FewDots::Sorted(dots) => dots.as_slice(),
+        }
+    }
+
+    /// Equal dots.
+    pub(crate) fn copy(&self, alloc: Global) -> Result<Self, NoMemory>
+        ensures { IfOk result (λ copied. dots_of copied ≡ dots_of self.now) }
+    {
+        match self {
+            FewDots::Empty => Ok(FewDots::Empty),
+            FewDots::One(dot) => Ok(FewDots::One(*dot)),
+            FewDots::Sorted(dots) => {
+                let copied = Vec::from_slice(alloc, dots)?;
+                Ok(FewDots::Sorted(copied))
+            }
+        }
+    }
+
+    /// Equal dots, with room for so many more.
+    pub(crate) fn copy_with_room(&self, alloc: Global, more: usize) -> Result<Self, NoMemory>
+        ensures { IfOk result (λ copied. dots_of copied ≡ dots_of self.now) }
+    {
+        if more == 0 {
+            return self.copy(alloc);
+        }
+        let dots = self.as_slice();
+        let mut copied = Vec::with_capacity(alloc, dots.len().saturating_add(more))?;
+        copied.extend_from_slice(dots)?;
+        Ok(FewDots::Sorted(copied))
+    }
+
+    /// Puts a dot in its place, unless it is there. Where memory is refused the dots stay as they were.
+    pub(crate) fn insert(&mut self, alloc: Global, dot: Dot) -> Result<(), NoMemory>
+        requires { IsRising dot_cmp (dots_of self.old) }
+        ensures rising { IsRising dot_cmp (dots_of self.new) }
+        ensures ok { OnOk result ((q : _) → has_key dot_cmp (dots_of self.new) q ≡ (eq_by_cmp dot_cmp q dot || has_key dot_cmp (dots_of self.old) q)) }
+        ensures err { OnErr result (dots_of self.new ≡ dots_of self.old) }
+    {
+        match self {
+            FewDots::Empty => *self = FewDots::One(dot),
+            FewDots::One(single) => *self = one_or_two(alloc, *single, dot)?,
+            FewDots::Sorted(dots) => insert_key(dots, dot)?,
+        }
+        Ok(())
+    }
+
+    /// Takes a dot out, if it is there. It takes no memory.
+    pub(crate) fn remove(&mut self, dot: Dot)
+        requires { IsRising dot_cmp (dots_of self.old) }
+        ensures rising { IsRising dot_cmp (dots_of self.new) }
+        ensures value { (q : _) → has_key dot_cmp (dots_of self.new) q ≡ (not (eq_by_cmp dot_cmp q dot) && has_key dot_cmp (dots_of self.old) q) }
+    {
+        match self {
+            FewDots::Empty => (),
+            FewDots::One(single) => {
+                let single = *single;
+                if single.cmp(&dot).is_eq() {
+                    *self = FewDots::Empty;
+                }
+            }
+            FewDots::Sorted(dots) => remove_key(dots, dot),
+        }
+    }
+}
+
+/// A dot beside a single one, which takes memory only where it is another.
+fn one_or_two(alloc: Global, single: Dot, dot: Dot) -> Result<FewDots, NoMemory>
+    ensures rising { IfOk result (λ both. IsRising dot_cmp (dots_of both)) }
+    ensures ok { IfOk result (λ both. (q : _) → has_key dot_cmp (dots_of both) q ≡ (eq_by_cmp dot_cmp q dot || has_key dot_cmp (single ∷ []) q)) }
+{
+    if single.cmp(&dot).is_eq() {
+        return Ok(FewDots::One(dot));
+    }
+    let mut both = Vec::with_capacity(alloc, 2)?;
+    both.push(single)?;
+    insert_key(&mut both, dot)?;
+    Ok(FewDots::Sorted(both))
+}
