@@ -347,9 +347,9 @@ fn read_how_and_from<'a>(
     Ok(((how, from), rest))
 }
 
-/// How an application came to its node, and from which. The first is `BadNumber` at its byte where it isn't
-/// 1 to 3. The second is `BadName` at its byte where it is above the number of nodes, and else `BadNumber`
-/// where it isn't 0 exactly for a start.
+/// How an application came to its node, and from which. The first is `BadNumber` at its byte where it isn't 1 to 3.
+/// The second is `BadName` at its byte where it is above the number of nodes. Else it is `BadNumber` where it isn't 0
+/// exactly for a start.
 pub fn read_manner<'a>(
     reader: ByteReader<'a>,
     nodes: u8,

@@ -36,8 +36,8 @@ impl InputFault {
     }
 }
 
-/// What is wrong with a line of a script. Of several kinds in one line the first of this list is answered;
-/// the number and the name of each are part of the program's output.
+/// What is wrong with a line of a script. Of several kinds in one line the first of this list is answered. The number
+/// and the name of each are part of the program's output.
 #[derive(Clone, Copy, Debug, PartialEq, Eq, Hash)]
 pub enum ScriptFaultKind {
     /// The line begins with no word that a script knows.

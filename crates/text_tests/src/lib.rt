@@ -1,8 +1,8 @@
 //! Tests of texts and bytes: tokens, shapes and configurations, numbers and contexts in bytes, states and their parts, and
 //! scripts.
 //!
-//! The crates below are proved. So here stand the vectors and the faults of the formats, each public call once with ample
-//! memory, and nothing that a contract says wholly.
+//! The crates below are proved. So here stand the vectors and the faults of the formats, and each public call once
+//! with ample memory. Nothing stands here that a contract says wholly.
 #![tactic(auto)]
 
 #[cfg(test)]
