@@ -32,7 +32,7 @@ pub struct Claim {
     pub origin: Origin,
     /// How it came there.
     pub how: How,
-    /// The node that it was taken from, unless it was started.
+    /// The node that it was taken from, unless it was started or moved.
     pub from: Option<NodeId>,
 }
 
@@ -54,7 +54,7 @@ pub enum ClaimAct {
         term: u64,
         /// How the application came there.
         how: How,
-        /// The node that it was taken from, unless it was started.
+        /// The node that it was taken from, unless it was started or moved.
         from: Option<NodeId>,
     },
     /// Nothing.

@@ -7,8 +7,8 @@
 //!
 //! The promises are convergence and settling, on [`World::run`]. After any list of events each running
 //! controller's state is the meaning of the set of operations that it has heard. So controllers that heard
-//! the same set hold equal states. Where the events end in enough rounds, each application is settled at each
-//! running controller.
+//! the same set hold equal states. Where the events end in enough rounds, begun in a ready world, each application
+//! is settled at each running controller.
 #![tactic(auto)]
 
 pub use dac_events::{Command, What, WorldEvent};

@@ -21,7 +21,7 @@ use std::marker::Model;
 /// An incarnation number is used once. A controller that boots again has lost all that it knew and goes by the next
 /// number, so an operation's dot never comes twice. While it runs it keeps its state, the moments of its boot and its
 /// last tick, and whether its start gate is open. It also keeps how long each failover has been waiting, and the
-/// newest of the deltas that made its state. Last comes what it keeps of its peers.
+/// newest of the deltas that made its state. Beside these it has what is kept of its peers.
 pub struct Node {
     alloc: Global,
     last: u32,
@@ -64,7 +64,7 @@ impl Node {
     /// A controller that is off and whose last incarnation had this number; 0 for one that never booted.
     pub fn off(alloc: Global, last: u32) -> Self
         ensures value { result ≡ off last }
-        // Under each configuration some model node shows it, so what a step promises of each such node says something.
+        // Under each configuration some model node shows as it, so what a step promises of each such node says something.
         ensures shown { (t : Table) → IsShown t result }
     {
         Node {
@@ -138,7 +138,7 @@ impl Node {
         ensures keeps { IfOk result (λ reply. Keeps config.now self_id self.old event reply self.new) }
         // What it has heard grows by the dots that the event brings, and by no more.
         ensures heard { IfOk result (λ reply. HearsExactly self.old event reply self.new) }
-        // Where some model node shows it, one shows what it becomes.
+        // Where some model node shows as it, one shows as what it becomes.
         ensures shown { IsShown config.now self.old → IsShown config.now self.new }
     {
         let change = self.prepare(config, self_id, &event)?;

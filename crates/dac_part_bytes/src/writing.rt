@@ -156,7 +156,7 @@ fn from_code(from: Option<NodeId>) -> usize
     }
 }
 
-/// How an application came to its node: 1 for a start, 2 for a failover or 3 for a takeover. Then comes 0 or one more
+/// How an application came to its node: 1 for normal, 2 for a failover or 3 for a takeover. Then comes 0 or one more
 /// than the node that it was taken from, by its lowest bits. [`NoMemory`] is the only error; the writer is gone then.
 #[tactic(auto, unfolding(crate::specs::Spelling::manner_bytes))]
 pub fn write_manner(

@@ -44,7 +44,7 @@ pub enum ScriptFaultKind {
     BadWord = 1,
     /// The line has too few or too many words.
     BadCount,
-    /// A word that has to be a name is no atom.
+    /// A word that has to be a name is no atom, or one that has to be `true` or `false` is neither.
     BadName,
     /// A word that has to be a number isn't decimal, has a leading zero or is above 2^62.
     BadNumber,
