@@ -16,8 +16,8 @@ use Rattle.dac_worlds.specs.Histories.{Entry, IsHistory, off_after}
 use Rattle.dac_worlds.specs.WorldValue.{WorldValue}
 use Rattle.dac_worlds.specs.ModelWorld.{ModelWorld, event_of, start, went, numbered, Run}
 
--- The node's own answer, where it is one: none where the world has no such node, message or operation, and none where
--- memory was refused, which is no event.
+-- The node's own answer, where it is one. There is none where the world has no such node, message or operation. There
+-- is none where memory was refused, which is no event.
 abbrev pub own_answer : Result Reply WorldFault → Option (Result Reply Refusal)
 own_answer (Ok reply) = Some (Ok reply)
 own_answer (Err (Refused NoMemory)) = None

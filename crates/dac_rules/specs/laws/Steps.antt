@@ -152,7 +152,7 @@ answered_steps t me v e why is other = by_refusal (refusal_of t v e) refl is
     by_refusal None none p = absurd (other p)
     by_refusal (Some least) some p = refused_steps t me v e why (some ∙ ap (λ r. Some r) (sym p))
 
--- some model node shows as a node that is off, and where one shows as a node, one shows as what it becomes by a step
+-- Some model node shows as a node that is off. Where one shows as a node, one shows as what it becomes by a step
 pub off_shown : (t : Table) (last : ℕ) → IsShown t (off last)
 off_shown t last = (record { last = last; run = None }, refl)
 
