@@ -200,8 +200,8 @@ fn contexts_from_bytes(rt: HostRuntime) {
     );
 }
 
-/// Bytes that are no context, each with the fault and its place: a count of much more than there is, a counter that
-/// continues, an origin without dots, and counter 0.
+/// Bytes that are no context, each with the fault and its place. They are a count of much more than there is, a
+/// counter that continues, an origin without dots, and counter 0.
 const FAULTS: &[(&[u8], ReadFaultKind, usize)] = &[
     (
         b"\x00\x01\x01\x00\x00\x00\x01\x00\x00\x00\x00\x00\x00\x00\x00\xff\xff\xff\xff",

@@ -26,8 +26,8 @@ fn acknowledged(alloc: Global, config: &Config, number: u64) -> Option<Node> {
     Some(node)
 }
 
-/// Whether the second node ships its whole state to the first, which acknowledged so many deltas before the second
-/// heard of each of its starts below this counter.
+/// Whether the second node ships its whole state to the first. The first acknowledged so many deltas before the
+/// second heard of each of its starts below this counter.
 fn ships_whole(alloc: Global, number: u64, end: u64) -> Option<bool> {
     let config = read_config(alloc, ONE).ok()?;
     let mut node = acknowledged(alloc, &config, number)?;

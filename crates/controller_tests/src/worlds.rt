@@ -34,8 +34,8 @@ const START_AT_R: What = What::Command(Command::Start {
     node: R,
 });
 
-/// An answer, but that of an operation its counter is said alone, of a message its addressee, and of a tick how much it
-/// claimed and how much it passed.
+/// An answer in short. Of an operation its counter is said alone, and of a message its addressee. Of a tick it is how
+/// much it claimed and how much it passed.
 #[derive(Clone, Copy, PartialEq, Eq)]
 enum Answer {
     Booted(u64),

@@ -30,7 +30,8 @@ pub record IsFurther (low n : ℕ) : Type 0 where
   pub last : n ≤ MAX_COUNTER
   pub above : low < n
 
--- the dots of an origin as they can be written: 1 to upto, and further ones that don't continue these; there is one at least
+-- the dots of an origin as they can be written: 1 to upto, and further ones that don't continue these. There is one
+-- at least
 pub record IsRow (nodes : ℕ) (row : Row) : Type 0 where
   pub origin : IsOrigin nodes row.origin
   pub upto : row.upto ≤ MAX_COUNTER

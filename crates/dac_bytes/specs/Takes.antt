@@ -38,7 +38,8 @@ Passes Is good x = Is x × (good x ≡ true)
 abbrev pub IsFoundAs : {X Y : Type 0} → (X → Y × Rest) → (Y → List ℕ) → (Y → Type 0) → Rest → Result X ReadFault → Type 0
 IsFoundAs view text Is r result = IsBytes r.bytes → IfOk result (λ x. Takes r (text (view x).0) (view x).1 × Is (view x).0)
 
--- What r begins with is what a call read of it, as view shows it, unless memory ran out: any y of which Is holds, as text spells it.
+-- What r begins with is what a call read of it, as view shows it, unless memory ran out. So it is of any y of which
+-- Is holds, as text spells it.
 abbrev pub IsReadAgain : {X Y : Type 0} → (X → Y × Rest) → (Y → List ℕ) → (Y → Type 0) → Rest → Result X ReadFault → Type 0
 IsReadAgain {Y = Y} view text Is r result =
     (y : Y) (rest : List ℕ) → Is y → r.bytes ≡ text y ++ rest → Gives view result (Ok (y, record { at = r.at + length (text y); bytes = rest }))

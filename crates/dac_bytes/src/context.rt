@@ -55,8 +55,8 @@ fn write_rows(
 }
 
 impl ByteWriter {
-    /// A context: how many origins have dots, and for each origin in rising order how far its counters go
-    /// 1, 2, 3, .. without a gap, and the further ones in rising order. So each set of dots is written in
+    /// A context: how many origins have dots, and for each origin in rising order its row. A row is how far its
+    /// counters go 1, 2, 3, .. without a gap, and the further ones in rising order. So each set of dots is written in
     /// one way.
     #[tactic(auto, unfolding(crate::specs::Spelling::context_bytes))]
     pub fn write_context(self, context: &Context) -> Result<Self, NoMemory>

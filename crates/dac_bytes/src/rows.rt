@@ -126,10 +126,10 @@ fn read_set<'a>(
 }
 
 impl<'a> ByteReader<'a> {
-    /// A context of dots whose nodes are below the number of nodes. The first field that isn't in form is
-    /// the fault, at its first byte. An origin that isn't above the one before it is `BadOrder`, and so is
-    /// a further counter that isn't above the one before it, or continues those without a gap. An origin
-    /// without dots is `BadNumber` at its number of further counters.
+    /// A context of dots whose nodes are below the number of nodes. The first field that isn't in form is the fault,
+    /// at its first byte. An origin that isn't above the one before it is `BadOrder`. So is a further counter that
+    /// isn't above the one before it, or continues those without a gap. An origin without dots is `BadNumber` at its
+    /// number of further counters.
     ///
     /// Memory is taken for what was read, and nothing is reserved for a count.
     pub fn read_context(

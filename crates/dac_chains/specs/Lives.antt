@@ -28,7 +28,8 @@ life_cmp a b = ordering_then (nat_cmp a.inc b.inc) (flag_cmp a.flag b.flag)
 abbrev pub Lives : Type 0
 Lives = map.FinMap node_cmp Life
 
--- what an operation says of which node's life: an Up, that the incarnation that issued it is up, and a Down, that the incarnation that it names is down
+-- what an operation says of which node's life. An Up says that the incarnation that issued it is up. A Down says that
+-- the incarnation that it names is down
 abbrev pub said_life : Dot → LifeAct → Option (NodeId × Life)
 said_life d CameUp = Some (d.origin.node, record { inc = d.origin.inc; flag = Up })
 said_life d (WentDown n i) = Some (n, record { inc = i; flag = Down })

@@ -21,9 +21,9 @@ pub enum How {
 
 /// That an incarnation of a node runs an application.
 ///
-/// Claims are ordered by term, then by the node and the incarnation that claims, then by how, and then by
-/// the node that it was taken from, none first. Later claims have greater terms; between claims of one
-/// term, which nodes that were out of touch may make, the order of the names decides.
+/// Claims are ordered by term, and then by the node and the incarnation that claims. Then comes how, and last the
+/// node that it was taken from, none first. Later claims have greater terms. Nodes that were out of touch may make
+/// claims of one term: between those the order of the names decides.
 #[derive(Clone, Copy, Debug, PartialEq, Eq, PartialOrd, Ord, Hash)]
 pub struct Claim {
     /// Which claim of the application it was, from 1.
@@ -32,7 +32,7 @@ pub struct Claim {
     pub origin: Origin,
     /// How it came there.
     pub how: How,
-    /// The node that it was taken from, unless it was started.
+    /// The node that it was taken from, unless it was started or moved.
     pub from: Option<NodeId>,
 }
 
@@ -54,7 +54,7 @@ pub enum ClaimAct {
         term: u64,
         /// How the application came there.
         how: How,
-        /// The node that it was taken from, unless it was started.
+        /// The node that it was taken from, unless it was started or moved.
         from: Option<NodeId>,
     },
     /// Nothing.

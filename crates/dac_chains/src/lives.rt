@@ -11,8 +11,8 @@ use std::marker::Model;
 
 /// What is said of a node: that one of its incarnations is up, or that it is down.
 ///
-/// Lives are ordered by incarnation, and then Up below Down: what went down stays down, and the node comes
-/// up again as a later incarnation.
+/// Lives are ordered by incarnation, and then Up below Down. What went down stays down, and the node comes up again
+/// as a later incarnation.
 #[derive(Clone, Copy, Debug, PartialEq, Eq, PartialOrd, Ord, Hash)]
 pub struct Life {
     /// Which of its incarnations.

@@ -13,10 +13,10 @@ use dac_dots::Origin;
 use dac_events::Command;
 use dac_placement::{State, is_up};
 
-/// Why a controller that runs as this incarnation with this state refuses a command, if it does: the cause of the
-/// least number that holds. A takeover is by the controller's own node, which is to be eligible, from where the
-/// application runs, which is to be at another node and at none of an earlier group (after `application:takeover/2`
-/// of Erlang/OTP). It takes no memory.
+/// Why a controller that runs as this incarnation with this state refuses a command, if it does. It is the cause of
+/// the least number that holds. A takeover is by the controller's own node, which is to be eligible. It is from where
+/// the application runs. That is to be another node, and none of an earlier group (after `application:takeover/2` of
+/// Erlang/OTP). It takes no memory.
 pub fn refusal_of(config: &Config, own: Origin, state: &State, command: Command) -> Option<Refusal>
     ensures { result ≡ refusal_of_command config.now own state.now command }
 {

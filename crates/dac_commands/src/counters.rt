@@ -10,7 +10,7 @@ use dac_base::{AppId, MAX_COUNTER};
 use dac_dots::Origin;
 use dac_placement::State;
 
-/// Whether the counters of an incarnation's operations are used up: one of its dots that are known here has the last
+/// Whether the counters of an incarnation's operations are used up. One of its dots that are known here has the last
 /// counter, 2^62, or a later one. It takes no memory.
 pub fn dots_used_up(state: &State, own: Origin) -> bool
     ensures value { result ≡ used_up state.now own }

@@ -21,9 +21,9 @@ use dac_wishes::{DotList, Key};
 use std::alloc::{AllocError, Global};
 
 /// The operation that a command issues at a controller that runs as this incarnation with this state, and doesn't
-/// refuse it: what the command says, under the next counter. A takeover claims the application for the controller's own
-/// node, under the next term, from the node at which it runs (after `application:takeover/2` of Erlang/OTP).
-/// [`NoMemory`] is the only error.
+/// refuse it. It is what the command says, under the next counter. A takeover claims the application for the
+/// controller's own node, under the next term. It names the node at which the application runs (after
+/// `application:takeover/2` of Erlang/OTP). [`NoMemory`] is the only error.
 pub fn operation_of(
     alloc: Global,
     config: &Config,
@@ -34,8 +34,8 @@ pub fn operation_of(
     requires knows { KnowsItself own state.now }
     requires accepted { refusal_of_command config.now own state.now command ≡ None }
     ensures next { IfOk result (λ operation. operation ≡ next_operation state.now own (said_by config.now state.now command)) }
-    // It has the next dot, and says the command: its key is at the live incarnation, and it replaces what stands there;
-    // or it claims the application from where it runs.
+    // It has the next dot, and says the command. Its key is at the live incarnation, and it replaces what stands
+    // there. Or it claims the application from where it runs.
     ensures written { IfOk result (IsWritten config.now own state.now command) }
 {
     // What stands in a state is known there, so it doesn't have the next dot.
@@ -45,9 +45,9 @@ pub fn operation_of(
 }
 
 /// The operation by which an incarnation claims an application, under the application's next term and its own next
-/// counter: how the application comes to it, and the node that it is taken from, unless it is started or moved. Whether
-/// a term and a counter are left, [`terms_used_up`](crate::terms_used_up) and [`dots_used_up`](crate::dots_used_up)
-/// tell. It takes no memory.
+/// counter. It says how the application comes to it. It names the node that the application is taken from, unless it
+/// is started or moved. Whether a term and a counter are left, [`terms_used_up`](crate::terms_used_up) and
+/// [`dots_used_up`](crate::dots_used_up) tell. It takes no memory.
 pub fn claim(own: Origin, state: &State, app: AppId, how: How, from: Option<NodeId>) -> Op
     requires knows { KnowsItself own state.now }
     requires left { used_up state.now own ≡ false }

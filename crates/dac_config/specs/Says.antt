@@ -38,8 +38,8 @@ pub record IsApp (permissions : List Permission) (nodes : List NodeRow) (app : A
   pub groups : AllZip (IsGroup nodes) app.groups row.groups
   pub permission : IsDefaultPermission permissions app.name row.permission
 
--- The tables say by numbers what is written by names: the nodes are those that are named, in the byte order of
--- their names, and the applications stand in the order of the text.
+-- The tables say by numbers what is written by names. The nodes are those that are named, in the byte order of their
+-- names. The applications stand in the order of the text.
 pub record IsTableOf (w : Written) (table : Table) : Type 0 where
   pub rising : IsStrictlySortedBy name_cmp (map (λ node. node.name) table.nodes)
   pub nodes : (name : List ℕ) → is_among name (map (λ node. node.name) table.nodes) ≡ is_among name w.nodes

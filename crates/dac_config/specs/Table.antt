@@ -13,15 +13,15 @@ pub record NodeRow : Type 0 where
   pub mandatory : Bool
   pub optional : Bool
 
--- an application: its name, the wait of a failover in milliseconds, the nodes that may run it: groups of node
--- numbers, the most preferred group first, and whether it is permitted where no one has said
+-- an application: its name, the wait of a failover in milliseconds, and the nodes that may run it. These are groups
+-- of node numbers, the most preferred group first. Last comes whether it is permitted where no one has said
 pub record AppRow : Type 0 where
   pub name : List ℕ
   pub timeout : ℕ
   pub groups : List (List ℕ)
   pub permission : Bool
 
--- a configuration: the nodes in the byte order of their names, so that a node's number is its place, the
+-- a configuration: the nodes in the byte order of their names, so that a node's number is its place. Then come the
 -- applications in the order of the file, and the wait of a starting node
 pub record Table : Type 0 where
   pub nodes : List NodeRow

@@ -31,8 +31,8 @@ struct App {
 
 /// A configuration: what all controllers of a cluster agree on before they start.
 ///
-/// A node's number is its place among the names of all nodes in byte order, an application's number its
-/// place in the file; both begin with 0.
+/// A node's number is its place among the names of all nodes in byte order. An application's number is its place in
+/// the file. Both begin with 0.
 pub struct Config {
     nodes: Vec<Node>,
     apps: IndexMap<Vec<u8>, App>,
@@ -191,8 +191,8 @@ impl Config {
     }
 
     /// The one text of this configuration: a line without spaces that reads as this configuration, with every
-    /// timeout, and with the nodes of a tuple and those to wait for in the order of their names. It can
-    /// have more bytes than the text that was read, and then be too long to be read itself.
+    /// timeout. The nodes of a tuple and those to wait for stand in the order of their names. It can have more bytes
+    /// than the text that was read, and then be too long to be read itself.
     pub fn canonical_text(&self) -> Result<Vec<u8>, NoMemory>
         ensures bytes { IfOk result (λ text. text.items ≡ canonical_text self.now) }
         // What is written is read again as an equal configuration, where it isn't too long to be read.

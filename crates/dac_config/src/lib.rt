@@ -1,4 +1,4 @@
-//! The configuration that all controllers of a cluster share: its nodes, its distributed applications with
+//! The configuration that all controllers of a cluster share. It has the nodes, the distributed applications with
 //! their groups of nodes, and how long a starting node waits for the others.
 //!
 //! A configuration is read from the text of an Erlang configuration file, whose section `kernel` has

@@ -90,7 +90,8 @@ impl World {
         // controllers that heard the same set hold equal states and bytes, and name the same holder and the same next
         // candidate. The record says more: of what was issued and shipped, of answers, of causes and of histories.
         ensures converges { IfOk result (λ both. Converges config.now events.now both.1.items both.0) }
-        // Once nothing more is commanded, each application has its place after as many rounds as there are applications.
+        // Settling. Let the events end in as many rounds as there are applications, begun in a ready world. Then nothing is
+        // to be done about any application at any running controller.
         ensures settles { IfOk result (λ both. Settles config.now events.now both.1.items both.0) }
     {
         let mut world = World::new(alloc, config)?;

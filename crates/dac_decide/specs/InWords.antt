@@ -1,4 +1,5 @@
--- Waits and the start gate compute what they say in words, for every list of notes and every state, also one that no operation made.
+-- Waits and the start gate compute what they say in words. They do so for every list of notes and every state, also
+-- one that no operation made.
 use Rattle.std.specs.Prelude.{◌≡◌, ◌↔◌, ℕ, ◌<◌, true, List, length, Some}
 use Rattle.dac_base.specs.declared.AppId.{AppId}
 use Rattle.dac_config.specs.Table.{Table, app_count}

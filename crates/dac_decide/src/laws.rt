@@ -1,9 +1,10 @@
 //! The laws of waits and of the start gate, each as a clause of a function that does nothing.
 ghost use Rattle.dac_decide.specs.InWords.{DueInWords, LostInWords, NotesAreKept, OpeningInWords, RowsInWords};
 
-/// Waits and the start gate compute what they say in words, for every list of notes and every state, also one that
-/// no operation made: which claim is lost, since when the unbroken row of notes found it lost, what is due, and what
-/// becomes of a starting node. And waits keep what the notes say of each application.
+/// Waits and the start gate compute what they say in words. They do so for every list of notes and every state, also
+/// one that no operation made. The words say which claim is lost, and since when the unbroken row of notes found it
+/// lost. They say what is due, and what becomes of a starting node. And waits keep what the notes say of each
+/// application.
 pub fn waits_in_words()
     ensures lost { LostInWords }
     ensures rows { RowsInWords }

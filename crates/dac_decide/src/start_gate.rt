@@ -27,10 +27,10 @@ pub(crate) struct Present {
     pub optional: bool,
 }
 
-/// Whether a node that was booted at one moment goes on at another, both in milliseconds. After OTP's kernel
-/// manual, parameters `sync_nodes_mandatory`, `sync_nodes_optional` and `sync_nodes_timeout`: it goes on when all
-/// these nodes are up, or when the time is over and the mandatory ones are up; when it is over and one
-/// of those isn't, the node terminates. Where no time is defined it doesn't wait. It takes no memory.
+/// Whether a node that was booted at one moment goes on at another, both in milliseconds. It follows OTP's kernel
+/// manual, parameters `sync_nodes_mandatory`, `sync_nodes_optional` and `sync_nodes_timeout`. The node goes on when
+/// all these nodes are up, or when the time is over and the mandatory ones are up. When it is over and one of those
+/// isn't, the node terminates. Where no time is defined it doesn't wait. It takes no memory.
 pub fn gate(config: &Config, state: &State, booted: u64, now: u64) -> Opening
     requires { booted ≤ now }
     ensures value { result ≡ opening_of config.now state.now (now - booted) }

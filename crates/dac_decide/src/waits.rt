@@ -22,10 +22,10 @@ pub(crate) struct Noted {
 
 /// How long each application's failover has been waiting at this controller.
 ///
-/// A claim is lost where it is its application's greatest and the incarnation that made it isn't live.
-/// A controller notes at its ticks which claims are lost. Contracts see, for each application of the
-/// configuration in turn, the lost claim that the last note found, if any, with the moment at which the
-/// unbroken row of notes of it began.
+/// A claim is lost where it is its application's greatest and the incarnation that made it isn't live. A controller
+/// notes at its ticks which claims are lost. Contracts see, for each application of the configuration in turn, the
+/// lost claim that the last note found, if any. Beside it they see the moment at which the unbroken row of notes of
+/// it began.
 pub struct Waits {
     noted: Vec<Option<Noted>>,
 }
@@ -77,8 +77,8 @@ impl Waits {
     }
 
     /// Whether an application's verdict is to be carried out at this moment. After OTP's kernel manual, parameter
-    /// `distributed`: a failover waits for the application's time, unless the node that was lost is back and is
-    /// to have it again; whatever else there is to do isn't put off. It takes no memory.
+    /// `distributed`, a failover waits for the application's time. It doesn't where the node that was lost is back
+    /// and is to have it again. Whatever else there is to do isn't put off. It takes no memory.
     pub fn due(&self, config: &Config, state: &State, app: AppId, now: u64) -> bool
         requires { app.0 < app_count config.now }
         ensures kept { result ≡ is_due_with config.now (noted_at self.now app) state.now app now }
@@ -91,7 +91,7 @@ impl Waits {
         self.due_by(config, state, app, verdict, now)
     }
 
-    /// Whether this verdict on an application is to be carried out at this moment, in milliseconds: what
+    /// Whether this verdict on an application is to be carried out at this moment, in milliseconds. It is what
     /// [`Waits::due`] tells of the application's verdict, for a caller who has computed it. It takes no memory.
     pub fn due_by(
         &self,

@@ -16,7 +16,8 @@ module _ {L : Type 0} (is_value : L → Type 0) (join : L → L → L) where
     pub value : is_value x
     pub same : (y : L) → is_value y → fold join y ds ≡ join y x
 
-  -- an ending has the joins of all blocks that end at a place and are wholly kept, where these are the deltas kept before the place
+  -- an ending has the joins of all blocks that end at a place and are wholly kept. Here these are the deltas kept
+  -- before the place
   abbrev pub HasJoins : ℕ → List L → L × List L → Type 0
   HasJoins place ds e = (k : ℕ) → k ≤ 8 → place % 2 ^ k ≡ 0 → 2 ^ k ≤ length ds → (k ≤ length e.1) × StandsFor (join_at e k) (drop (length ds - 2 ^ k) ds)
 

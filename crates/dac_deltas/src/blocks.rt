@@ -65,8 +65,8 @@ impl<L: Lattice> Ending<L> {
         &self.joins[level - 1]
     }
 
-    /// The next delta after those that are kept, of which the first has number `base`, with the joins of
-    /// all blocks of kept deltas that end with it. [`NoMemory`] is the only error.
+    /// The next delta after those that are kept, of which the first has number `base`. It has the joins of all blocks
+    /// of kept deltas that end with it. [`NoMemory`] is the only error.
     pub(crate) fn next(
         alloc: Global,
         kept: &VecDeque<Ending<L>>,

@@ -81,7 +81,7 @@ impl<L: Bottom> Buffer<L> {
         }
     }
 
-    /// The base and those kept make the count, at most 256 are kept, each is a value of the lattice, and the
+    /// The base and those kept make the count, and at most 256 are kept. Each is a value of the lattice, and the
     /// count is at most 2^62. This only tells proofs so, and does nothing when it runs.
     pub fn known(&self)
         ensures { IsBuffer L.is_value self.now }
@@ -146,9 +146,9 @@ impl<L: Bottom> Buffer<L> {
         self.kept.drain(..dropped as usize);
     }
 
-    /// The join of the deltas from number `a` on, which is the least value where `a` is the count, and none
-    /// where a delta from `a` on is no longer kept. The caller owes that `a` is at most the count. [`NoMemory`]
-    /// is the only error, and comes only where all deltas from `a` on are kept.
+    /// The join of the deltas from number `a` on. It is the least value where `a` is the count, and none where a
+    /// delta from `a` on is no longer kept. The caller owes that `a` is at most the count. [`NoMemory`] is the only
+    /// error, and comes only where all deltas from `a` on are kept.
     ///
     /// It joins the blocks that [`Buffer::blocks`] lists, from the first to the last.
     pub fn interval(&self, a: u64) -> Result<Option<L>, NoMemory>

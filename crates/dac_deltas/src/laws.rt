@@ -6,10 +6,10 @@ ghost use Rattle.dac_deltas.specs.Numbers.{NothingIsGreatest, RaisesAcknowledge}
 
 use dac_lattice::Bottom;
 
-/// A buffer keeps what is left of a log of deltas that is never cut, when those below its base are dropped.
-/// It begins as the empty log. A push of one delta or of several appends to the log, and moves the base on
-/// to the newest 256; a trim moves the base alone. An interval from the base on is the join of the log's
-/// deltas from there on, which is the least value above each of them, and below the base there is none.
+/// A buffer keeps what is left of a log of deltas that is never cut, when those below its base are dropped. It begins
+/// as the empty log. A push of one delta or of several appends to the log, and moves the base on to the newest 256. A
+/// trim moves the base alone. An interval from the base on is the join of the log's deltas from there on. That is the
+/// least value above each of them. Below the base there is none.
 pub fn buffers_keep_logs<L: Bottom>()
     ensures new { EmptyIsOfNothing L }
     ensures push { PushesAppend L }

@@ -6,9 +6,8 @@
 //! most [`MAX_DELTAS`] deltas of any lattice with a least value, and [`Acks`] the greatest number that each origin
 //! acknowledged.
 //!
-//! Contracts see a buffer as a count, the least number that is kept, and the deltas from there on. That
-//! this is what is left of a log that is never cut, and that an interval is the join of the log's deltas,
-//! stands in [`laws`].
+//! Contracts see a buffer as a count, the least number that is kept, and the deltas from there on. [`laws`] says that
+//! this is what is left of a log that is never cut. It says too that an interval is the join of the log's deltas.
 #![tactic(auto)]
 
 pub use acks::Acks;

@@ -6,10 +6,10 @@
 
 use dac_base::{AppId, NodeId};
 
-/// What an operator tells a controller. All but a takeover may be given at any controller: they name the node that
-/// they are about, and hold for that node's live incarnation, so a reboot returns to the configuration (after
-/// `application:permit/2`, `application:start/1` and `application:stop/1` of Erlang/OTP, which hold for
-/// the node where they run).
+/// What an operator tells a controller. All but a takeover may be given at any controller. They name the node that
+/// they are about, and hold for that node's live incarnation, so a reboot returns to the configuration. They are
+/// after `application:permit/2`, `application:start/1` and `application:stop/1` of Erlang/OTP, which hold for the
+/// node where they run.
 #[derive(Clone, Copy, Debug, PartialEq, Eq)]
 pub enum Command {
     /// The node is down: its live incarnation has ended. (OTP learns this of its distribution; here a
@@ -42,7 +42,7 @@ pub enum Command {
         node: NodeId,
     },
     /// The application is taken over from where it runs by the node at which the command is given (after
-    /// `application:takeover/2`; only a node of the same group or an earlier one may).
+    /// `application:takeover/2`). Only a node of the same group or an earlier one may.
     Takeover {
         /// The application.
         app: AppId,

@@ -5,8 +5,8 @@ use crate::{Bottom, Lattice};
 use dac_dots::{MapKey, NoMemory};
 use std::alloc::Global;
 
-/// Whether something is up. Up is below down, so what is said to be down by one is down for all who hear
-/// it: a node that went down, or a permission that was taken (up is permitted, down is not).
+/// Whether something is up. Up is below down, so what is said to be down by one is down for all who hear it. It says
+/// whether a node went down, or whether a permission was taken: up is permitted, down is not.
 #[derive(Clone, Copy, Debug, PartialEq, Eq, PartialOrd, Ord, Hash)]
 pub enum Flag {
     /// Up, or permitted.

@@ -5,8 +5,8 @@ use crate::{Bottom, Lattice};
 use dac_dots::NoMemory;
 use std::alloc::Global;
 
-/// Two values side by side. Each has its own order: a pair is below another where both of its values are
-/// below the other's, and a join joins each with its own.
+/// Two values side by side. Each has its own order. A pair is below another where both of its values are below the
+/// other's, and a join joins each with its own.
 #[derive(Debug, Drop)]
 pub struct Pair<A, B> {
     /// The first value.

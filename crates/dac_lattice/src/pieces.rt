@@ -48,9 +48,9 @@ pub fn join_deltas<P: Piece>(alloc: Global, operations: &[(Dot, P::Act)]) -> Res
     Ok(joined)
 }
 
-/// The laws that follow for every piece, as the contract of a function that does nothing: the joined deltas
-/// of operations are what they mean, two meanings joined are the meaning of both together where no two
-/// different operations have one dot, and the order of operations and their repeats make no difference.
+/// The laws that follow for every piece, as the contract of a function that does nothing. The joined deltas of
+/// operations are what they mean. Two meanings joined are the meaning of both together where no two different
+/// operations have one dot. The order of operations and their repeats make no difference.
 pub fn laws_of_pieces<P: Piece>()
     ensures deltas { DeltasAreMeanings P.join P.bottom P.fits P.delta P.means }
     ensures together { JoinsAreTogether P.is_value P.join P.fits P.means }

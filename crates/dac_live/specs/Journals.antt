@@ -59,7 +59,7 @@ pub record AreHistory (o : Opening) (rs : List Record) : Type 0 where
   pub final : ModelNode
   pub history : IsHistoryFrom o rs final
 
--- they are one, and the program's node shows where it ends
+-- they are one, and the model node where it ends shows as the program's node
 pub record EndsAt (o : Opening) (rs : List Record) (v : NodeValue) : Type 0 where
   pub final : ModelNode
   pub history : IsHistoryFrom o rs final

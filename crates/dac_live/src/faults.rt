@@ -39,10 +39,10 @@ pub enum CloseFault {
     /// Not all seats came back that the site was opened with.
     #[error("a seat is missing")]
     SeatMissing,
-    /// A seat's calls and its records in the journal differ.
+    /// A seat's calls and its records in the journal differ, or a record is of none of the seats.
     #[error("the calls of a seat differ from its records")]
     Mismatch {
-        /// The place at which they first differ.
+        /// The place at which they first differ, or that of the record.
         place: u64,
     },
 }

@@ -44,8 +44,8 @@ pub fn add_record<R: Wait>(
 }
 
 /// Whether the seat's records, with their places and in the journal's order, are the list of calls. `None` where they
-/// are. Else the place at which the two first differ: the lesser of the two places there, or the one place where the
-/// other list has ended. Places count from 1. It takes no memory.
+/// are. Else the place at which the two first differ. It is the lesser of the two places there, or the one place
+/// where the other list has ended. Places count from 1. It takes no memory.
 pub fn same_calls(records: &[Record], seat: u16, calls: &[Call]) -> Option<u64>
     ensures { MatchOption result (calls_of seat records.now ≡ calls.now) (λ p. DifferAt p (calls_of seat records.now) calls.now) }
 {

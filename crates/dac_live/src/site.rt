@@ -212,7 +212,8 @@ impl<L: SiteName> Site<L> {
     /// Ends the site: its journal, in which each seat's calls stand once, and nothing else.
     ///
     /// `SeatMissing` comes where fewer seats come back than the site was opened with. `Mismatch` comes where a seat's
-    /// calls aren't its records, or a record is of none of these seats. At both the site and its seats are given up.
+    /// calls aren't its records, or a record is of none of these seats. No clause speaks of `Mismatch`. At both the site
+    /// and its seats are given up.
     pub fn close<R: Wait>(self, _rt: &R, mut seats: Vec<Seat<L>>) -> Result<Closed, CloseFault>
         requires { L.seats ≡ L.parts }
         ensures opening { IfOk result (λ c. c.opening ≡ L.opening) }

@@ -147,7 +147,7 @@ permit_says key (Start k over) = refl
 permit_says key (Stop k over) = refl
 permit_says key (Claim app term how from) = refl
 
--- b: the act replaces its own dot; n, y: it says false or true of the key; e: it has the dot; r: it replaces the dot
+-- b: the act replaces its own dot; n, y: it says false or true of the key. e: it has the dot; r: it replaces the dot
 permit_alone : (b n y e r : Bool) → (e ≡ true → r ≡ b) → cond e (cond b None (flag_said n y)) None ≡ cond (r || false) None (flag_said ((n && e) || false) ((y && e) || false))
 permit_alone b n y true r h = (λ i. cond (sym (h refl) i) None (flag_said n y)) ∙ sides n y r
   where

@@ -1,4 +1,5 @@
--- The joined deltas of a piece are a part of the meaning: operation by operation, since the join of meanings is the meaning of both.
+-- The joined deltas of a piece are a part of the meaning. This goes operation by operation, since the join of
+-- meanings is the meaning of both.
 use Rattle.std.proofs.Common.{◌≡◌, List, [], ◌∷◌, ◌++◌, inl, inr, refl, sym, ap, subst, ◌∙◌}
 use Rattle.std.specs.FinMap as map
 use Rattle.dac_dots.specs.declared.dot.Dot.{Dot}

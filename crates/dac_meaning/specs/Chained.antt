@@ -1,4 +1,5 @@
--- The greatest of what operations say at each key: it depends on which operations there are alone, and that of two lists is the greater of both.
+-- The greatest of what operations say at each key. It depends on which operations there are alone, and that of two
+-- lists is the greater of both.
 use Rattle.std.proofs.Common.{◌≡◌, List, [], ◌∷◌, ◌++◌, Option, Some, sym, subst, inl, inr, ◌⊎◌}
 use Rattle.std.specs.declared.cmp.Ordering.{Ordering}
 use Rattle.std.specs.Cmp.{IsTotalOrder}

@@ -53,7 +53,8 @@ Permits key value o = (over : List Dot) × (o.act ≡ Permit key value over)
 abbrev pub IsPermit : Write → Flag → Operation → Type 0
 IsPermit w f o = (o.dot ≡ w.dot) × Permits w.key (says_true f) o
 
--- a permit stands with a value exactly if an operation is it with this value and none replaces it, where no two different operations have one dot
+-- a permit stands with a value exactly if an operation is it with this value and none replaces it. This asks that no
+-- two different operations have one dot
 abbrev pub PermitsAreUnreplaced : Type 0
 PermitsAreUnreplaced = (os : List Operation) → Agree os → (w : Write) (f : Flag) → (map.get (meaning_of os).permits w ≡ Some f) ↔ (((o : Operation) × (In o os × IsPermit w f o)) × Stands w.dot os)
 
@@ -61,7 +62,7 @@ PermitsAreUnreplaced = (os : List Operation) → Agree os → (w : Write) (f : F
 abbrev pub IsUpOf : NodeId → ℕ → Operation → Type 0
 IsUpOf n i o = (o.act ≡ Up) × (o.dot.origin ≡ record { node = n; inc = i })
 
--- the operation says this of the node's life: an Up of the node that it is up, a Down about it that it is down
+-- the operation says this of the node's life: an Up of the node says up, a Down about it says down
 abbrev pub SaysLife : NodeId → Life → Operation → Type 0
 SaysLife n l o = ((l.flag ≡ IsUp) × IsUpOf n l.inc o) ⊎ ((l.flag ≡ IsDown) × (o.act ≡ Down n l.inc))
 

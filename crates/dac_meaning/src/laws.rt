@@ -7,10 +7,10 @@ ghost use Rattle.dac_meaning.specs.MeaningLaws.{HeardAreDots, KnownAreNamed, Per
 ghost use Rattle.dac_meaning.specs.PieceParts.{PermitsAreJoined, WishesAreJoined, LivesAreJoined, ClaimsAreJoined};
 ghost use Rattle.dac_meaning.specs.DeltaLaws.{OneIsHeard, PermitDeltaIsMeaning, WishDeltaIsMeaning, LifeDeltaIsMeaning, ClaimDeltaIsMeaning};
 
-/// What the parts of a meaning are, in terms of its operations: heard are their dots, known these and the
-/// dots that they replace, standing the permits and start wishes that none of them replaces, the life of a
-/// node is the greatest that an Up of the node or a Down about it says, and the claim of an application
-/// the greatest of its claims. So a meaning is always a state, and nothing means the least one.
+/// What the parts of a meaning are, in terms of its operations. Heard are their dots, known these and the dots that
+/// they replace. Standing are the permits and start wishes that none of them replaces. The life of a node is the
+/// greatest that an Up of the node or a Down about it says. The claim of an application is the greatest of its
+/// claims. So a meaning is always a state, and nothing means the least one.
 pub fn parts_of_meaning()
     ensures heard { HeardAreDots }
     ensures known { KnownAreNamed }
@@ -22,9 +22,9 @@ pub fn parts_of_meaning()
     ensures nothing { NothingMeansBottom }
 {}
 
-/// What is wished and permitted in a meaning: a key is wished exactly if an operation starts it that none
-/// replaces, and permitted exactly if no permit of it stands and the default is true, or one stands that
-/// says true and none that says false.
+/// What is wished and permitted in a meaning. A key is wished exactly if an operation starts it that none replaces.
+/// It is permitted in two cases alone. No permit of it stands and the default is true, or one stands that says true
+/// and none that says false.
 pub fn keys_of_meaning()
     ensures wished { WishedHaveStarts }
     ensures permitted { PermittedAreSaid }
@@ -41,8 +41,8 @@ pub fn join_of_meanings()
     ensures { JoinsAreTogether }
 {}
 
-/// The delta that each part of a state takes of an operation is that part of what the operation means
-/// alone, and its dot alone is heard.
+/// The delta that each part of a state takes of an operation is that part of what the operation means alone. Its dot
+/// alone is heard.
 pub fn delta_is_meaning()
     ensures heard { OneIsHeard }
     ensures permits { PermitDeltaIsMeaning }
@@ -51,8 +51,8 @@ pub fn delta_is_meaning()
     ensures claims { ClaimDeltaIsMeaning }
 {}
 
-/// What each piece makes of the operations that it sees, its joined deltas, is that part of what they mean, where
-/// no two different operations have one dot. So the definitions of the pieces and of meanings are one.
+/// What each piece makes of the operations that it sees, its joined deltas, is that part of what they mean. It is so
+/// where no two different operations have one dot. So the definitions of the pieces and of meanings are one.
 pub fn pieces_are_parts()
     ensures permits { PermitsAreJoined }
     ensures starts { WishesAreJoined }

@@ -76,8 +76,8 @@ pub struct Message {
     pub up_to: u64,
     /// What it brings.
     pub body: Body,
-    /// What the sender acknowledges: the latest incarnation of the receiver from which it got anything, and the most
-    /// deltas that this one had in a message that was got.
+    /// What the sender acknowledges. It is the latest incarnation of the receiver from which it got anything. With it
+    /// go the most deltas that this one had in a message that was got.
     pub ack: Option<(Origin, u64)>,
 }
 

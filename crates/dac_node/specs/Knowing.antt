@@ -42,7 +42,8 @@ run_of k kept = record { origin = k.origin; moments = k.moments; is_open = k.is_
 abbrev pub knowledge_of : RunValue → KnowledgeValue
 knowledge_of r = record { origin = r.origin; moments = r.moments; is_open = r.is_open; waits = r.waits; state = r.state; peers = r.peers }
 
--- what goes on after an event: what the node knows by then, the deltas that come, and the number below which no delta is kept any more
+-- what goes on after an event: what the node knows by then, and the deltas that come. With them comes the number
+-- below which no delta is kept any more
 pub record NextValue : Type 0 where
   pub knowledge : KnowledgeValue
   pub deltas : List StateValue

@@ -5,9 +5,9 @@
 //! newest deltas those that come, which takes memory, and nothing else of it does. So a caller that keeps more than a
 //! node can make room for all of it before anything changes.
 //!
-//! At a tick a node looks after the applications: once its start gate is open it notes which claims are lost, and claims
-//! what it is to run now. A ship sends another node what it hasn't acknowledged, as an interval of the newest deltas or as
-//! the whole state. What comes of a message is joined, and what all others have acknowledged is dropped.
+//! At a tick a node looks after the applications. Once its start gate is open it notes which claims are lost, and
+//! claims what it is to run now. A ship sends another node what it hasn't acknowledged, as an interval of the newest
+//! deltas or as the whole state. What comes of a message is joined, and what all others have acknowledged is dropped.
 #![tactic(auto)]
 
 pub use change::Change;

@@ -6,8 +6,8 @@ use crate::knowledge::Knowledge;
 use dac_state::State;
 use std::marker::Model;
 
-/// What goes on after an event: what the controller knows by then, the deltas that come, and the number below which no
-/// delta is kept any more.
+/// What goes on after an event: what the controller knows by then, and the deltas that come. With them comes the
+/// number below which no delta is kept any more.
 pub(crate) struct Next {
     /// What the controller knows by then.
     pub(crate) knowledge: Knowledge,

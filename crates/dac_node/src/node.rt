@@ -18,10 +18,10 @@ use std::marker::Model;
 
 /// A controller: off, where it keeps the number of its last incarnation alone, or running.
 ///
-/// An incarnation number is used once. A controller that boots again has lost all that it knew and goes by
-/// the next number, so an operation's dot never comes twice. While it runs it keeps its state, the moments of its boot
-/// and its last tick, whether its start gate is open, how long each failover has been waiting, the newest of the deltas
-/// that made its state, and what it keeps of its peers.
+/// An incarnation number is used once. A controller that boots again has lost all that it knew and goes by the next
+/// number, so an operation's dot never comes twice. While it runs it keeps its state, the moments of its boot and its
+/// last tick, and whether its start gate is open. It also keeps how long each failover has been waiting, and the
+/// newest of the deltas that made its state. Beside these it has what is kept of its peers.
 pub struct Node {
     alloc: Global,
     last: u32,
@@ -64,7 +64,7 @@ impl Node {
     /// A controller that is off and whose last incarnation had this number; 0 for one that never booted.
     pub fn off(alloc: Global, last: u32) -> Self
         ensures value { result ≡ off last }
-        // Under each configuration some model node shows it, so what a step promises of each such node says something.
+        // Under each configuration some model node shows as it, so what a step promises of each such node says something.
         ensures shown { (t : Table) → IsShown t result }
     {
         Node {
@@ -124,13 +124,13 @@ impl Node {
         ensures ok { IfOk result (λ reply. Steps config.now self_id self.old event self.new (Ok reply)) }
         // A refusal other than `NoMemory` is a step too, which changes nothing.
         ensures refused { IfErr result (λ why. (why ≡ Refusal.NoMemory → ⊥) → Steps config.now self_id self.old event self.new (Err why)) }
-        // A command is answered by the operation that says it: under the next dot, at the key of the live incarnation, in
-        // the place of exactly what stands there. A tick is answered by the claims of exactly the applications that are
-        // due to this node. But for a boot, no other event issues anything. What comes is answered as new exactly where it
-        // isn't below the state.
+        // A command is answered by the operation that says it: under the next dot and at the key of the live
+        // incarnation. The operation replaces exactly what stands there. A tick is answered by the claims of exactly
+        // the applications that are due to this node. But for a boot, no other event issues anything. What comes is
+        // answered as new exactly where it isn't below the state.
         ensures writes { IfOk result (λ reply. Writes config.now self_id self.old event reply) }
-        // A ship is answered by the message that the log says in words: the whole state where there is no place to begin an
-        // interval, and else what the log got from there on, or nothing.
+        // A ship is answered by the message that the log says in words. It brings the whole state where there is no
+        // place to begin an interval. Else it brings what the log got from there on, or nothing.
         ensures ships { IfOk result (λ reply. ShipsSo config.now self.old event reply) }
         // What comes up is the next incarnation. What ran runs on as the same one, or is off by a crash or a gate that gave
         // up. Its gate stays open once it is, and each tick that looks after the applications adds its note. Its state, its
@@ -138,7 +138,7 @@ impl Node {
         ensures keeps { IfOk result (λ reply. Keeps config.now self_id self.old event reply self.new) }
         // What it has heard grows by the dots that the event brings, and by no more.
         ensures heard { IfOk result (λ reply. HearsExactly self.old event reply self.new) }
-        // Where some model node shows it, one shows what it becomes.
+        // Where some model node shows as it, one shows as what it becomes.
         ensures shown { IsShown config.now self.old → IsShown config.now self.new }
     {
         let change = self.prepare(config, self_id, &event)?;

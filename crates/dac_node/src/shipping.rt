@@ -28,8 +28,8 @@ impl Running {
             .is_up_to_date(&known.state, self.buffer.base(), self.buffer.count(), to)
     }
 
-    /// What is shipped from a place on: nothing where the node has all, else the interval from there; and the whole state
-    /// where there is no place to begin.
+    /// What is shipped from a place on: nothing where the node has all, else the interval from there. It is the whole
+    /// state where there is no place to begin.
     fn body_from(&self, from: Option<Place>) -> Result<Body, NoMemory>
         requires { IfSome from (λ place. self.now.kept.base ≤ place.number) }
         ensures { IfOk result (λ body. body ≡ body_from self.now from) }

@@ -115,7 +115,7 @@ impl Knowledge {
         }
     }
 
-    /// What goes on after a tick at this moment, where the gate is so, so much is noted, and the claims' deltas left this
+    /// What goes on after a tick at this moment. The gate is so, so much is noted, and the claims' deltas left this
     /// state.
     fn ticked(
         &self,

@@ -52,7 +52,7 @@ pub enum Act {
         term: u64,
         /// How the application came there.
         how: How,
-        /// The node that it was taken from, unless it was started.
+        /// The node that it was taken from, unless it was started or moved.
         from: Option<NodeId>,
     },
 }

@@ -30,8 +30,8 @@ pub enum OpFault {
 
 /// An operation: an act, and the dot that names it.
 ///
-/// Its replaced dots ascend, are at most 1,024 and don't have its own dot among them, its counter is 1
-/// exactly if its act is an Up, and it doesn't declare its own node down.
+/// Its replaced dots ascend, are at most 1,024 and don't have its own dot among them. Its counter is 1 exactly if its
+/// act is an Up. It doesn't declare its own node down.
 #[derive(Debug)]
 pub struct Op {
     dot: Dot,

@@ -1,4 +1,4 @@
--- What is read as lives or as claims is spelled so and is in form, and all that is in form is read from its spelling.
+-- What is read as lives or as claims is spelled so and is in form. All that is in form is read from its spelling.
 use Rattle.std.specs.Prelude.{ℕ, ◌<◌, ◌≤◌, ◌^◌, length}
 use Rattle.std.specs.List.{AllByRecursion}
 use Rattle.std.specs.Int.{w8, w16}

@@ -1,4 +1,5 @@
--- Entries in the order of their keys: their keys rise, what holds of each entry holds of each that is found, and a map is that of its entries.
+-- Entries in the order of their keys. Their keys rise, and what holds of each entry holds of each that is found. A
+-- map is that of its entries.
 use Rattle.std.specs.Prelude.{◌≡◌, Bool, true, false, cond, ◌&&◌, T, List, [], ◌∷◌, map as list_map, Option, None, Some, is_some, unwrap_or, refl}
 use Rattle.std.proofs.Common.{sym, ap, subst, ◌∙◌, inl, inr}
 use Rattle.std.specs.declared.cmp.Ordering.{Ordering}

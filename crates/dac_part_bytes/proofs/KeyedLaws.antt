@@ -1,4 +1,5 @@
--- The laws of permits and start wishes: what is read is spelled so and in form, and what is in form is read from its spelling.
+-- The laws of permits and start wishes. What is read is spelled so and in form, and what is in form is read from its
+-- spelling.
 use Rattle.std.specs.Prelude.{◌^◌, ◌≤◌}
 use Rattle.std.proofs.Common.{sym, ap, subst}
 use Rattle.dac_dots.specs.Dots.{Dots}

@@ -1,4 +1,5 @@
--- The values and the spellings of each field and each part are one to one, where nodes are numbered in one byte and applications in two.
+-- The values and the spellings of each field and each part are one to one. This asks that nodes are numbered in one
+-- byte and applications in two.
 use Rattle.std.specs.Prelude.{◌<◌, ◌≤◌, ◌^◌}
 use Rattle.std.proofs.Common.{arith}
 use Rattle.dac_config.specs.Table.{Table, node_count, app_count}

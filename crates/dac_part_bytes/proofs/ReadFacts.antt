@@ -1,4 +1,4 @@
--- What is known of an item that was read: it is above the one before it, its dots are known, and a key has some.
+-- What is known of an item that was read. It is above the one before it, its dots are known, and a key has some.
 use Rattle.std.proofs.Common.{◌≡◌, ℕ, ◌≤◌, ◌-◌, ◌^◌, Bool, true, false, cond, ◌||◌, nat_lt, List, [], ◌∷◌, Option, None, Some, Ok, is_some, refl, sym, ap, subst, ◌∙◌, inl, inr}
 use Rattle.std.specs.List.{AllByRecursion}
 use Rattle.std.specs.Int.{w8, w32}

@@ -1,4 +1,5 @@
--- What lives and claims have to be so that they can be read: of lives, where there are so many nodes, and of claims, by a configuration.
+-- What lives and claims have to be so that they can be read. Lives go by how many nodes there are, and claims by a
+-- configuration.
 use Rattle.std.specs.Prelude.{◌≡◌, ℕ, ◌<◌, ◌≤◌, ◌^◌, true, length, Option, None, Some}
 use Rattle.std.specs.List.{AllByRecursion}
 use Rattle.std.specs.FinMap as map

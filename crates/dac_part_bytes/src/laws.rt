@@ -6,8 +6,8 @@ ghost use Rattle.dac_part_bytes.specs.PartCodecs.{PartCodecs};
 use dac_bytes::laws::fields_have_one_spelling;
 use dac_config::Config;
 
-/// The values and the spellings of each field and each part are one to one: what is read is spelled so and is in
-/// form, and what is in form is read from its spelling, whatever follows.
+/// The values and the spellings of each field and each part are one to one. What is read is spelled so and is in
+/// form. What is in form is read from its spelling, whatever follows.
 pub fn parts_have_one_spelling(config: &Config)
     ensures { PartCodecs config.now }
 {

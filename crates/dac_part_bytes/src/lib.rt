@@ -6,13 +6,13 @@
 //!
 //! A count that doesn't fit its field is written by its lowest bits.
 //!
-//! Each call that reads answers the part and what is after it, or the first fault from left to right with
-//! its place, exactly as the reading functions of `specs/Reading` say. Only `NoMemory`, at 0, may come in
-//! place of either. The names are those of a configuration, and the dots that stand are known. The
-//! contract of each call that reads says that what is read is spelled so and is in the form of
-//! `specs/ChainForm` and `specs/KeyedForm`, and that what is in that form is read from its bytes. That of
-//! [`laws::parts_have_one_spelling`] says so wherever the bytes stand. Items are read one after another, so
-//! no count makes a reader take memory that the bytes don't pay for.
+//! Each call that reads answers the part and what is after it, or the first fault from left to right with its place.
+//! It does so exactly as the reading functions of `specs/Reading` say. Only `NoMemory`, at 0, may come in place of
+//! either. The names are those of a configuration, and the dots that stand are known. The contract of each call that
+//! reads says that what is read is spelled so and is in the form of `specs/ChainForm` and `specs/KeyedForm`. It also
+//! says that what is in that form is read from its bytes. That of [`laws::parts_have_one_spelling`] says so wherever
+//! the bytes stand. Items are read one after another, so no count makes a reader take memory that the bytes don't pay
+//! for.
 #![tactic(auto)]
 
 pub use dac_config::Config;

@@ -68,13 +68,12 @@ fn read_all_lives<'a>(
     Ok(read)
 }
 
-/// The lives: how many nodes have one, and for each in ascending order the node, its incarnation, and 0
-/// for up or 1 for down.
+/// The lives: how many nodes have one, and for each in ascending order its life. That is the node, its incarnation,
+/// and 0 for up or 1 for down.
 ///
-/// Each field is checked as it is read, so the fault is the first from left to right: a node is `BadName`
-/// where the configuration hasn't it and then `BadOrder` where it isn't above the one before it, an
-/// incarnation of 0 is `BadNumber` at its first byte, and so is a flag above 1. `NoMemory` says nothing of
-/// the bytes.
+/// Each field is checked as it is read, so the fault is the first from left to right. A node is `BadName` where the
+/// configuration hasn't it and then `BadOrder` where it isn't above the one before it. An incarnation of 0 is
+/// `BadNumber` at its first byte, and so is a flag above 1. `NoMemory` says nothing of the bytes.
 pub fn read_lives<'a>(
     reader: ByteReader<'a>,
     alloc: Global,
@@ -218,14 +217,14 @@ fn read_all_claims<'a>(
     Ok(read)
 }
 
-/// The claims: how many applications are claimed, and for each in ascending order the application, the
-/// term of its claim, who claims it, and how it came there.
+/// The claims: how many applications are claimed, and for each in ascending order its claim. That is the application,
+/// the term of its claim, who claims it, and how it came there.
 ///
-/// Each field is checked as it is read, so the fault is the first from left to right: an application and a
-/// node that the configuration hasn't are `BadName` at their first byte, a term and an incarnation out of
-/// range `BadNumber`, and the last two fields as in [`read_manner`](crate::read_manner). Then the claim is
-/// `NotInList` at its first byte where the node isn't in the application's list, and `BadOrder` there where
-/// the application isn't above the one before it. `NoMemory` says nothing of the bytes.
+/// Each field is checked as it is read, so the fault is the first from left to right. An application and a node that
+/// the configuration hasn't are `BadName` at their first byte. A term and an incarnation out of range are
+/// `BadNumber`, and the last two fields are as in [`read_manner`](crate::read_manner). Then the claim is `NotInList`
+/// at its first byte where the node isn't in the application's list. Last it is `BadOrder` there where the
+/// application isn't above the one before it. `NoMemory` says nothing of the bytes.
 pub fn read_claims<'a>(
     reader: ByteReader<'a>,
     alloc: Global,

@@ -280,7 +280,7 @@ fn read_from_code<'a>(reader: ByteReader<'a>, nodes: u8) -> Result<(u8, ByteRead
     Ok((code, rest))
 }
 
-/// Whether the code is that of no node exactly for a start.
+/// Whether the code is that of no node exactly for normal.
 fn is_from_of(how: How, code: u8) -> bool
     ensures { result ≡ is_from_of how code }
 {
@@ -347,9 +347,9 @@ fn read_how_and_from<'a>(
     Ok(((how, from), rest))
 }
 
-/// How an application came to its node, and from which. The first is `BadNumber` at its byte where it isn't
-/// 1 to 3. The second is `BadName` at its byte where it is above the number of nodes, and else `BadNumber`
-/// where it isn't 0 exactly for a start.
+/// How an application came to its node, and from which. The first is `BadNumber` at its byte where it isn't 1 to 3.
+/// The second is `BadName` at its byte where it is above the number of nodes. Else it is `BadNumber` where it isn't 0
+/// exactly for normal.
 pub fn read_manner<'a>(
     reader: ByteReader<'a>,
     nodes: u8,

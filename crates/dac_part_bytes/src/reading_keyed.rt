@@ -138,16 +138,15 @@ fn read_all_permits<'a>(
     Ok((Permissions::new(causal), rest))
 }
 
-/// The permits that stand, beside the dots that are known: how many keys have permits, and for each in
-/// ascending order the key, how many permits it has, at least one, and these in the order of their dots,
-/// each a dot and 0 or 1.
+/// The permits that stand, beside the dots that are known: how many keys have permits, and for each in ascending
+/// order an entry. An entry is the key, how many permits it has, at least one, and these in the order of their dots.
+/// Each permit is a dot and 0 or 1.
 ///
-/// Each field is checked as it is read, so the fault is the first from left to right. The fields of a key
-/// are checked as [`read_key`](crate::read_key) does. A number of permits that is 0 is `BadNumber` at its
-/// first byte. A dot's node is `BadName` where the configuration hasn't it, and its incarnation and counter
-/// are `BadNumber` where they are out of range; then the dot is `BadOrder` at its first byte where it isn't
-/// above the one before it, and `NotKnown` there where it isn't known. A value above 1 is `BadNumber`.
-/// `NoMemory` says nothing of the bytes.
+/// Each field is checked as it is read, so the fault is the first from left to right. The fields of a key are checked
+/// as [`read_key`](crate::read_key) does. A number of permits that is 0 is `BadNumber` at its first byte. A dot's
+/// node is `BadName` where the configuration hasn't it, and its incarnation and counter are `BadNumber` where they
+/// are out of range. Then the dot is `BadOrder` at its first byte where it isn't above the one before it, and
+/// `NotKnown` there where it isn't known. A value above 1 is `BadNumber`. `NoMemory` says nothing of the bytes.
 pub fn read_permissions<'a>(
     reader: ByteReader<'a>,
     alloc: Global,
@@ -275,8 +274,8 @@ fn read_all_starts<'a>(
     Ok((Wishes::new(causal), rest))
 }
 
-/// The start wishes that stand, beside the dots that are known: how many keys have wishes, and for each in
-/// ascending order the key, how many wishes it has, at least one, and their dots in ascending order.
+/// The start wishes that stand, beside the dots that are known: how many keys have wishes, and for each in ascending
+/// order an entry. An entry is the key, how many wishes it has, at least one, and their dots in ascending order.
 ///
 /// The faults are those of [`read_permissions`], but for those of values.
 pub fn read_wishes<'a>(

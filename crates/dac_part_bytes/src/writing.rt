@@ -58,8 +58,8 @@ fn write_permits(
     Ok(written)
 }
 
-/// The permits that stand: how many keys have permits, and for each in ascending order the key, how many
-/// permits it has, and these, each a dot and 1 for true or 0 for false. [`NoMemory`] is the only error; the
+/// The permits that stand: how many keys have permits, and for each in ascending order an entry. An entry is the key,
+/// how many permits it has, and these, each a dot and 1 for true or 0 for false. [`NoMemory`] is the only error; the
 /// writer is gone then.
 #[tactic(auto, unfolding(crate::specs::Spelling::permits_bytes))]
 pub fn write_permissions(
@@ -89,8 +89,8 @@ fn write_dots(writer: ByteWriter, key: Key, dots: &[Dot]) -> Result<ByteWriter, 
     Ok(written)
 }
 
-/// The start wishes that stand: how many keys have wishes, and for each in ascending order the key, how
-/// many wishes it has, and their dots. [`NoMemory`] is the only error; the writer is gone then.
+/// The start wishes that stand: how many keys have wishes, and for each in ascending order an entry. An entry is the
+/// key, how many wishes it has, and their dots. [`NoMemory`] is the only error; the writer is gone then.
 #[tactic(auto, unfolding(crate::specs::Spelling::starts_bytes))]
 pub fn write_wishes(writer: ByteWriter, wishes: &Wishes) -> Result<ByteWriter, NoMemory>
     ensures { IfOk result (λ written. written ≡ writer ++ starts_bytes wishes.now.standing) }
@@ -123,8 +123,8 @@ fn write_life(writer: ByteWriter, node: NodeId, life: Life) -> Result<ByteWriter
     Ok(written)
 }
 
-/// The lives: how many nodes have one, and for each in ascending order the node, its incarnation, and 0
-/// for up or 1 for down. [`NoMemory`] is the only error; the writer is gone then.
+/// The lives: how many nodes have one, and for each in ascending order its life. That is the node, its incarnation,
+/// and 0 for up or 1 for down. [`NoMemory`] is the only error; the writer is gone then.
 #[tactic(auto, unfolding(crate::specs::Spelling::lives_bytes))]
 pub fn write_lives(writer: ByteWriter, lives: &Lives) -> Result<ByteWriter, NoMemory>
     ensures { IfOk result (λ written. written ≡ writer ++ lives_bytes lives.now) }
@@ -156,9 +156,8 @@ fn from_code(from: Option<NodeId>) -> usize
     }
 }
 
-/// How an application came to its node: 1 for a start, 2 for a failover or 3 for a takeover, and then 0 or
-/// one more than the node that it was taken from, by its lowest bits. [`NoMemory`] is the only error; the
-/// writer is gone then.
+/// How an application came to its node: 1 for normal, 2 for a failover or 3 for a takeover. Then comes 0 or one more
+/// than the node that it was taken from, by its lowest bits. [`NoMemory`] is the only error; the writer is gone then.
 #[tactic(auto, unfolding(crate::specs::Spelling::manner_bytes))]
 pub fn write_manner(
     writer: ByteWriter,
@@ -185,9 +184,9 @@ fn write_claim(writer: ByteWriter, app: AppId, claim: Claim) -> Result<ByteWrite
     Ok(written)
 }
 
-/// The claims: how many applications are claimed, and for each in ascending order the application, the
-/// term of its claim, who claims it, and how it came there. [`NoMemory`] is the only error; the writer is
-/// gone then.
+/// The claims: how many applications are claimed, and for each in ascending order its claim. That is the application,
+/// the term of its claim, who claims it, and how it came there. [`NoMemory`] is the only error; the writer is gone
+/// then.
 #[tactic(auto, unfolding(crate::specs::Spelling::claims_bytes))]
 pub fn write_claims(writer: ByteWriter, claims: &Claims) -> Result<ByteWriter, NoMemory>
     ensures { IfOk result (λ written. written ≡ writer ++ claims_bytes claims.now) }

@@ -92,7 +92,8 @@ abbrev pub acked_after : Origin → ℕ → Numbers → Origin → Option (Origi
 acked_after own count acked from None = acked
 acked_after own count acked from (Some ack) = cond (counts own count ack) (raised acked from ack.1) acked
 
--- what was got, and who is owed an answer, after a body of so many deltas of its sender comes: one that brings nothing says nothing
+-- what was got, and who is owed an answer, after a body of so many deltas of its sender comes. One that brings
+-- nothing says nothing
 abbrev pub got_by : PeersValue → Origin → ℕ → Body → PeersValue
 got_by p from up_to Nothing = p
 got_by p from up_to _ = record {

@@ -25,7 +25,8 @@ StandingInWords = (table : Table) (s : StateValue) (app : AppId) → IsStanding 
 abbrev pub VerdictInWords : Type 0
 VerdictInWords = (table : Table) (s : StateValue) (app : AppId) → IsVerdict table s app (verdict_of table s app)
 
--- who is to claim an application is its first choice, and nobody is exactly where it is left alone by how it stands and by who is eligible, and by no load
+-- Who is to claim an application is its first choice. Nobody is exactly where it is left alone by how it stands and
+-- by who is eligible, and by no load
 abbrev pub CandidateInWords : Type 0
 CandidateInWords = (table : Table) (s : StateValue) (app : AppId) (node : NodeId) → candidate_of (verdict_of table s app) ≡ Some node → IsFirst table s app node
 

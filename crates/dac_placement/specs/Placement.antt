@@ -1,6 +1,6 @@
 -- Where an application runs and where it belongs, read off a configuration and a state. This follows OTP's Design
 -- Principles, chapter Distributed Applications, and application(3). An application is started at the first node of
--- its list that is up, and within a tuple at the one that runs the fewest. When its node goes down, it fails over. A
+-- its list that is up. Within a tuple that is the one that runs the fewest. When its node goes down, it fails over. A
 -- stopped application isn't moved, and a forbidden one is. A node of an earlier group takes it over from a later one.
 -- (This project's own: wishes and permissions are of one incarnation, and a tie goes by name.)
 use Rattle.std.specs.Prelude.{◌≡◌, ◌⊎◌, ℕ, ◌<◌, ◌≤◌, Bool, false, not, ◌&&◌, ◌==◌, nat_lt, List, length, map as list_map, filter, Option, None, Some, IsSome, is_some, if◌then◌else◌}
@@ -44,7 +44,8 @@ IsStartedAt s key = SomeStands key (wishes_of s)
 abbrev pub is_started_at : StateValue → Key → Bool
 is_started_at s key = is_wished key (wishes_of s)
 
--- the node may run the application: the application's list names it, and it is live at an incarnation at which the application is permitted and started
+-- The node may run the application. The application's list names it, and it is live at an incarnation at which the
+-- application is permitted and started
 pub record IsEligible (table : Table) (s : StateValue) (app : AppId) (node : NodeId) : Type 0 where
   pub listed : IsSome (group_of table app node)
   pub inc : ℕ

@@ -10,11 +10,10 @@ use dac_base::{AppId, NodeId};
 use dac_config::Config;
 use dac_state::State;
 
-/// What is to become of an application, after OTP's Design Principles, chapter Distributed Applications: it is
-/// started at the first node of its list that is eligible, fails over when its node goes down, stays
-/// stopped where it was stopped, is moved when it isn't permitted any more, and is taken over by an earlier
-/// group, but never within a tuple. It takes no memory. (A failover has its wait, which is no part of the
-/// verdict.)
+/// What is to become of an application, after OTP's Design Principles, chapter Distributed Applications. It is
+/// started at the first node of its list that is eligible. It fails over when its node goes down, stays stopped where
+/// it was stopped, and is moved when it isn't permitted any more. It is taken over by an earlier group, but never
+/// within a tuple. It takes no memory. (A failover has its wait, which is no part of the verdict.)
 pub fn verdict(config: &Config, state: &State, app: AppId) -> Verdict
     requires { app.0 < app_count config.now }
     ensures value { result ≡ verdict_of config.now state.now app }

@@ -7,9 +7,9 @@ use dac_base::{AppId, NodeId};
 use dac_config::Config;
 use dac_state::{Key, State};
 
-/// Whether a node may run an application: the application's list names it, and it is live at an incarnation
-/// at which the application is permitted and started. After OTP's kernel manual, parameters `distributed` and
-/// `permissions`, and application(3), `permit` and `start`. It takes no memory.
+/// Whether a node may run an application. The application's list names it, and it is live at an incarnation at which
+/// the application is permitted and started. After OTP's kernel manual, parameters `distributed` and `permissions`,
+/// and application(3), `permit` and `start`. It takes no memory.
 pub fn eligible(config: &Config, state: &State, app: AppId, node: NodeId) -> bool
     requires { app.0 < app_count config.now }
     ensures value { result ≡ is_eligible config.now state.now app node }

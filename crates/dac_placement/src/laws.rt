@@ -1,9 +1,9 @@
 //! The laws of placement, each as a clause of a function that does nothing.
 ghost use Rattle.dac_placement.specs.InWords.{CandidateInWords, EligibleInWords, FirstInWords, RestsInWords, RunnerInWords, RunsInWords, StandingInWords, VerdictInWords};
 
-/// Placement computes what it says in words, for every configuration and every state, also one that no
-/// operation made: who is eligible, where an application runs, who is its first choice, how it stands at its holder,
-/// what is to become of it, and when it is left alone.
+/// Placement computes what it says in words, for every configuration and every state, also one that no operation
+/// made. The words say who is eligible, where an application runs, who is its first choice, and how it stands at its
+/// holder. They say what is to become of it, and when it is left alone.
 pub fn placement_in_words()
     ensures eligible { EligibleInWords }
     ensures runs { RunsInWords }

@@ -11,10 +11,10 @@ use dac_config::Config;
 use dac_dots::Origin;
 use dac_state::State;
 
-/// How many other applications run at a node. An application runs at a node where its greatest claim is
-/// of the node's live incarnation and the node is eligible for it; claims of who went down don't count.
-/// After OTP's Design Principles, chapter Distributed Applications: of a tuple's nodes, the one with the
-/// fewest applications is taken. It takes no memory.
+/// How many other applications run at a node. An application runs at a node where its greatest claim is of the node's
+/// live incarnation and the node is eligible for it. Claims of who went down don't count. After OTP's Design
+/// Principles, chapter Distributed Applications: of a tuple's nodes, the one with the fewest applications is taken.
+/// It takes no memory.
 pub fn load(config: &Config, state: &State, app: AppId, node: NodeId) -> u32
     ensures value { result ≡ load_of config.now state.now app node }
     // what is counted

@@ -55,7 +55,7 @@ pub written : {T E : Type 0} (r : Result T E) (P : Type 0) → is_err r ≡ fals
 written (Ok x) P fine p = p
 written (Err e) P fine p = absurd (true≢false fine)
 
--- the node of a world that shows v
+-- the node of a world that shows as v
 node_shown : (table : Table) (w : ModelWorld) (v : WorldValue) (node : NodeId) → Shows table w v → node.0 < length v.nodes → slice_get v.nodes node.0 ≡ Some (shown table (w.node node))
 node_shown table w v node shows lt =
     let within : node.0 < w.count = omega (arith, shows.count) in

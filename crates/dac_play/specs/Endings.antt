@@ -26,8 +26,8 @@ Ends Well Fails ending.Done old new = Well old new
 Ends Well Fails (ending.Refused why) old new = Fails why × Appends old new (failure_text why)
 Ends Well Fails ending.Stopped old new = Unit {0}
 
--- how a command that ended so leaves its source: read to its end where all was done, and as the failure tells where it
--- was refused, so `Read` is the failure exactly where the source is given up
+-- How a command that ended so leaves its source. It is read to its end where all was done, and as the failure tells
+-- where it was refused. So `Read` is the failure exactly where the source is given up
 abbrev pub IsLeftAt : Ending → Sourced → Type 0
 IsLeftAt ending.Done source = source.progress ≡ Ended
 IsLeftAt (ending.Refused why) source = IsLeftBy why source

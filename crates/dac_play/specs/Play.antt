@@ -34,8 +34,8 @@ origin_at v node = option_and_then origin_of (slice_get v.nodes node.0)
 abbrev pub HasState : (NodeId → Option StateValue) → ℕ → NodeId → Type 0
 HasState state count node = (node.0 < count) × IsTrue (is_some (state node))
 
--- From old, each node of the program's world that runs tells each other one that runs, one pair after another, and it
--- goes on to new as each model world that shows old does by that.
+-- From old, each node of the program's world that runs tells each other one that runs, one pair after another. By that
+-- it goes on to new, as each model world that shows as old does.
 pub record IsShared (table : Table) (old new : WorldValue) : Type 0 where
   pub pairs : List (NodeId × NodeId)
   pub each_other : TellsEachOther (HasState (state_at old) (length old.nodes)) pairs
@@ -85,6 +85,6 @@ abbrev pub script_text : Table → ModelWorld → List ScriptLine → List ℕ
 script_text table w [] = []
 script_text table w (line ∷ lines) = line_text table w line ++ script_text table (after_line table w line) lines
 
--- From old, a line prints this text and leads to new, as in each model world that shows old.
+-- From old, a line prints this text and leads to new, as in each model world that shows as old.
 pub record PlaysLine (table : Table) (old : WorldValue) (line : ScriptLine) (text : List ℕ) (new : WorldValue) : Type 0 where
   pub each : (w : ModelWorld) → Shows table w old → (text ≡ line_text table w line) × Shows table (after_line table w line) new

@@ -64,8 +64,8 @@ pub record IsRunOf (t : Table) (lines : List ScriptLine) (v : WorldValue) : Type
   pub converges : Converges t (events_in t lines) (answers_in t lines) v
   pub enough : IsEnough (answers_in t lines)
 
--- After each number of lines of a script its world is that of a run from the start, by the events that these lines
--- are; a share is told from each node that runs to each other one.
+-- After each number of lines of a script its world is that of a run from the start. The run is by the events that
+-- these lines are. A share is told from each node that runs to each other one.
 pub record PlaysRuns (t : Table) (script : List ScriptLine) : Type 0 where
   pub runs : (n : ℕ) (v : WorldValue) → Shows t (world_from t (start t) (take n script)) v → IsRunOf t (take n script) v
   pub shares : (n : ℕ) → let w = world_from t (start t) (take n script) in TellsEachOther (HasState (state_in w) w.count) (pairs_in w)

@@ -49,11 +49,11 @@ told table w pair = delivered table pair.1 (happens table w (shipping pair))
 abbrev pub shared : Table → ModelWorld → ModelWorld
 shared table w = fold (told table) w (pairs (having_state (state_in w) w.count))
 
--- From old, the program's world goes on to new as each model world that shows old does.
+-- From old, the program's world goes on to new as each model world that shows as old does.
 pub record Leads (table : Table) (old : WorldValue) (by : ModelWorld → ModelWorld) (new : WorldValue) : Type 0 where
   pub each : (w : ModelWorld) → Shows table w old → Shows table (by w) new
 
--- From old, the program's world accepts this event or refuses it, as each model world that shows old does, and goes
--- on to new.
+-- From old, the program's world accepts this event or refuses it, and goes on to new. So does each model world that
+-- shows as old.
 pub record IsAnswered (table : Table) (old : WorldValue) (event : WorldEvent) (accepted : Bool) (new : WorldValue) : Type 0 where
   pub each : (w : ModelWorld) → Shows table w old → (accepted ≡ is_ok (happens table w event).answer) × Shows table (happens table w event).world new

@@ -29,11 +29,12 @@ fn refuse<T: Print + Eprint, W: Write>(rt: &T, error: &Error, output: &mut W) ->
     if error.use_stderr() { 2 } else { 0 }
 }
 
-/// Runs the program on the words of a command line, the program's name first, and answers its status: 2 where
-/// the words are no command line, 1 where an input has a fault, memory was refused or a write failed, and else 0.
+/// Runs the program on the words of a command line, the program's name first, and answers its status. It is 2 where
+/// the words are no command line. It is 1 where an input has a fault, memory was refused or a write failed. Else it
+/// is 0.
 ///
-/// `distac check` and `distac sim` write to the output alone. Help goes to the standard output, and the text about words that are
-/// no command line to the standard error.
+/// `distac check` and `distac sim` write to the output alone. Help goes to the standard output. The text about words
+/// that are no command line goes to the standard error.
 pub fn run<'a, T: Print + Eprint, R: Read, W: Write>(
     rt: &T,
     alloc: Global,

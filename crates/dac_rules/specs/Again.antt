@@ -18,7 +18,8 @@ use Rattle.dac_rules.specs.Step.{model_step}
 abbrev pub HoldsState : ModelNode → Type 0
 HoldsState d = IfSome d.run (λ (r : ModelRun). IsState (joined r.log))
 
--- Nothing is claimed, and no application is passed but some of these; or the counters that a tick is taken to need are left no more.
+-- Nothing is claimed, and no application is passed but some of these. Or the counters that a tick is taken to need
+-- are left no more.
 abbrev pub ClaimsNothing : List AppId → Result Reply Refusal → Type 0
 ClaimsNothing passed answer = (answer ≡ Err DotsUsedUp) ⊎ ((later : List AppId) × ((answer ≡ Ok (Ticked [] later)) × ((app : AppId) → IsAmong app later → IsAmong app passed)))
 

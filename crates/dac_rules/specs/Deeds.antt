@@ -52,7 +52,8 @@ goes_down r reply = record { reply = reply; adds = []; goes_off = true; last = r
 abbrev pub issues : RunValue → Operation → Deed
 issues r o = keeps r (Issued o) (meaning_of (o ∷ []) ∷ [])
 
--- what is shipped from a place on: nothing where the node has all, else the interval from there; and the whole state where there is no place to begin
+-- What is shipped from a place on: nothing where the node has all, else the interval from there. It is the whole
+-- state where there is no place to begin
 abbrev pub body_from : RunValue → Option Place → Body
 body_from r None = Whole r.state
 body_from r (Some p) = cond (has_all r.kept.count (Some p)) Nothing (Interval (fold join bottom (numbered_from r.kept p.number)))

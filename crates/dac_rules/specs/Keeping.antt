@@ -56,7 +56,8 @@ abbrev pub had_by_all : Table → Event → RunValue → ℕ
 had_by_all t (Hear m) u = acked_by_all u.peers u.state (node_count t) u.origin.node
 had_by_all t _ u = 0
 
--- The deltas kept, once some come and all others have so many: of those kept before and these the newest 256, without those that all others have.
+-- The deltas kept, once some come and all others have so many. They are, of those kept before and these, the newest
+-- 256, without those that all others have.
 abbrev pub kept_after : Kept StateValue → List StateValue → ℕ → Kept StateValue
 kept_after k deltas had =
     let count = k.count + length deltas in

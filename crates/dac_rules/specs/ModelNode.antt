@@ -38,7 +38,7 @@ base_after base count trim = max (max base (count - MAX_DELTAS)) (min trim count
 abbrev pub joined : List StateValue → StateValue
 joined states = fold join bottom states
 
--- what the program's node shows of it, under a configuration
+-- the program's node that it shows as, under a configuration
 abbrev pub run_shown : Table → ModelRun → RunValue
 run_shown t r = record { origin = r.origin; moments = r.moments; is_open = r.is_open; waits = waits_of t r.notes; state = joined r.log; kept = kept_of r.base r.log; peers = r.peers }
 

@@ -13,8 +13,8 @@ use Rattle.dac_commands.specs.Commands.{KnowsItself}
 use Rattle.dac_rules.specs.declared.moments.Moments.{Moments}
 
 -- What a running node keeps: its present incarnation, when it was booted and ticked last, and whether its start gate
--- is open. It also keeps how long each failover has been waiting, its state, the newest of the deltas that made it,
--- and what it knows of its peers.
+-- is open. It also keeps how long each failover has been waiting, its state and the newest of the deltas that made
+-- it. Beside these it has what it knows of its peers.
 pub record RunValue : Type 0 where
   pub origin : Origin
   pub moments : Moments

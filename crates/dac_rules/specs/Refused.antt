@@ -1,5 +1,5 @@
--- Why an event is refused, in words: which causes an event can have, when each holds, and that the least of those
--- that hold is answered. (The causes and their order are this project's own.)
+-- Why an event is refused, in words. They say which causes an event can have, when each holds, and that the least of
+-- those that hold is answered. (The causes and their order are this project's own.)
 use Rattle.std.specs.Prelude.{◌≡◌, ◌⊎◌, ℕ, ◌+◌, ◌-◌, ◌^◌, ◌<◌, ◌≤◌, true, false, List, [], ◌∷◌, length, Option, None, Some, IfSome}
 use Rattle.std.specs.Option.{option_map}
 use Rattle.std.specs.FinSet as set

@@ -53,7 +53,7 @@ ShipsBy t (Some r) (Ship to) _ = ⊥
 ShipsBy t None (Ship to) reply = ⊥
 ShipsBy t run e reply = Unit {0}
 
--- so it is by each model node that shows the value
+-- so it is by each model node that shows as the value
 abbrev pub ShipsSo : Table → NodeValue → Event → Reply → Type 0
 ShipsSo t old e reply = (d : ModelNode) → shown t d ≡ old → ShipsBy t d.run e reply
 

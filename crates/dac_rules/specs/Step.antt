@@ -61,10 +61,10 @@ step_by None t me d e = accepted t me d.last d.run e
 abbrev pub model_step : Table → NodeId → ModelNode → Event → Stepped
 model_step t me d e = step_by (refusal_of t (shown t d) e) t me d e
 
--- From old, the program's node answers and goes on to new as each model node that shows old.
+-- From old, the program's node answers and goes on to new as each model node that shows as old.
 pub record Steps (t : Table) (me : NodeId) (old : NodeValue) (e : Event) (new : NodeValue) (answer : Result Reply Refusal) : Type 0 where
   pub by : (d : ModelNode) → shown t d ≡ old → (shown t (model_step t me d e).node ≡ new) × ((model_step t me d e).answer ≡ answer)
 
--- some model node shows the value
+-- some model node shows as the value
 abbrev pub IsShown : Table → NodeValue → Type 0
 IsShown t v = (d : ModelNode) × (shown t d ≡ v)

@@ -1,5 +1,6 @@
 -- A line is read where it has no fault, and is else answered the least kind of fault that it has. The reader looks
--- for faults in the order of their kinds: behind each look no fault of the line is below the kinds that are still to come.
+-- for faults in the order of their kinds. Behind each look no fault of the line is below the kinds that are still to
+-- come.
 use Rattle.std.proofs.Common.{◌≡◌, ℕ, zero, suc, ◌<◌, ◌≤◌, Bool, true, false, List, [], ◌∷◌, length, get_or, Option, Some, None, Result, Ok, Err, refl, sym, ap, subst, ◌∙◌, arith, inl, inr, cond}
 use Rattle.std.specs.Prelude.{◌≢◌, codes, is_some}
 use Rattle.std.specs.Option.{MatchOption, IsSomeAnd, ok_or}

@@ -29,8 +29,8 @@ abbrev pub with_feeds : List (List ℕ) → List ℕ
 with_feeds [] = []
 with_feeds (line ∷ lines) = line ++ 10 ∷ with_feeds lines
 
--- a text is parted at the first of its lines that is the mark: the lines before it with their line feeds are
--- the configuration, and those behind it are the script
+-- A text is parted at the first of its lines that is the mark. The lines before it with their line feeds are the
+-- configuration, and those behind it are the script
 pub record IsParted (text config script : List ℕ) : Type 0 where
   pub before : List (List ℕ)
   pub behind : List (List ℕ)
@@ -46,7 +46,7 @@ pub record Takes {T E : Type 0} (had left : Option (List ℕ)) (room : ℕ) (old
   pub few : length bytes ≤ room
   pub kept : OnOk result (new ≡ old ++ bytes)
 
--- why an input of at most so many bytes isn't read to its end: it is too long, a read failed, or memory is refused
+-- Why an input of at most so many bytes isn't read to its end. It is too long, a read failed, or memory is refused
 abbrev pub IsReadFailure : ℕ → Option (List ℕ) → Failure → Type 0
 IsReadFailure most had (failure.Input TooLong) = IfSome had (λ bytes. most < length bytes)
 IsReadFailure most had (failure.Input NoScript) = ⊥

@@ -1,4 +1,5 @@
--- The faults of a line, whatever a reader does: what each word has to be, by the first one, and what is wrong with it.
+-- The faults of a line, whatever a reader does. They are by what each word has to be, by the first one, and what is
+-- wrong with it.
 use Rattle.std.specs.Prelude.{◌≡◌, ◌≢◌, ◌⊎◌, ℕ, ◌≤◌, ◌%◌, List, [], ◌∷◌, length, codes, None}
 use Rattle.std.specs.Option.{MatchOption, IsSomeAnd}
 use Rattle.std.specs.List.{Any, AllPass, zip}
@@ -11,7 +12,8 @@ use Rattle.dac_script.specs.Faults.{script_number}
 use Rattle.dac_script.specs.Words.{name_in, number_in, is_small_digit}
 use Rattle.dac_script.specs.Line.{verb_of}
 
--- what a word has to be: the node where something happens, the application or the node that it is about, a number, `true` or `false`, or bytes in digits
+-- What a word has to be: the node where something happens, the application or the node that it is about, or a number.
+-- Or it is `true` or `false`, or bytes in digits
 pub data Role : Type 0 where
   Actor : Role
   Application : Role

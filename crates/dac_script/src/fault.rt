@@ -36,15 +36,15 @@ impl InputFault {
     }
 }
 
-/// What is wrong with a line of a script. Of several kinds in one line the first of this list is answered;
-/// the number and the name of each are part of the program's output.
+/// What is wrong with a line of a script. Of several kinds in one line the first of this list is answered. The number
+/// and the name of each are part of the program's output.
 #[derive(Clone, Copy, Debug, PartialEq, Eq, Hash)]
 pub enum ScriptFaultKind {
     /// The line begins with no word that a script knows.
     BadWord = 1,
     /// The line has too few or too many words.
     BadCount,
-    /// A word that has to be a name is no atom.
+    /// A word that has to be a name is no atom, or one that has to be `true` or `false` is neither.
     BadName,
     /// A word that has to be a number isn't decimal, has a leading zero or is above 2^62.
     BadNumber,

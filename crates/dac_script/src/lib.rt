@@ -1,8 +1,7 @@
 //! What an input of `distac sim` says: a configuration, a line `--`, and a script, line by line.
 //!
-//! [`prepare`] reads a whole input, or says which fault it has. An input is parted at its first line `--`; a
-//! script is read exactly, up to the first fault of the first line that has one. Nothing is played or printed
-//! here.
+//! [`prepare`] reads a whole input, or says which fault it has. An input is parted at its first line `--`. A script
+//! is read exactly, up to the first fault of the first line that has one. Nothing is played or printed here.
 #![tactic(auto)]
 
 mod asked;

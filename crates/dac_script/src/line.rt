@@ -92,6 +92,7 @@ fn wire_verb(word: &[u8]) -> Option<Verb>
     command_verb(word)
 }
 
+/// What the first word of a line asks for, if a script knows it.
 fn verb_of(word: &[u8]) -> Option<Verb>
     ensures { result ≡ verb_of word.now }
 {

@@ -40,8 +40,8 @@ fn read_line(
     }
 }
 
-/// Reads a script. Its lines end at a line feed or at the end of the text, and are counted from 1; empty
-/// lines and lines that begin with `%` say nothing.
+/// Reads a script. Its lines end at a line feed or at the end of the text, and are counted from 1. Empty lines and
+/// lines that begin with `%` say nothing.
 ///
 /// The first line that has a fault is answered, with the first kind of fault that it has.
 pub fn read_script(alloc: Global, config: &Config, text: &[u8]) -> Result<Vec<ScriptLine>, Failure>

@@ -28,7 +28,8 @@ pub record Placement : Type 1 where
   pub claim : NodeId → List Operation → AppId → Operation
   -- the node is live by the set
   pub IsLive : List Operation → NodeId → Type 0
-  -- beside the set, the operation claims the application well: it is greater than each claim of the set, and its node may have the application
+  -- Beside the set, the operation claims the application well. It is greater than each claim of the set, and its node
+  -- may have the application
   pub IsWell : List Operation → AppId → Operation → Type 0
 
 -- the operation claims one of the applications well beside s

@@ -56,13 +56,15 @@ ticked d now more = record { inc = d.inc; held = d.held ++ more; notes = noting 
 abbrev pub IsLate : Table → List Note → ℕ → Type 0
 IsLate t notes now = (app : AppId) (claim : Claim) (since : ℕ) → IsNotedSince notes app claim since → since + timeout_of t app ≤ now
 
--- what is accepted in a round: a node's tick at this moment, a ship, and a delivery of a copy that was shipped in the round
+-- What is accepted in a round: a node's tick at this moment, a ship, or a delivery. The copy that is delivered was
+-- shipped in the round
 pub data MemberEvent : Type 0 where
   Tick : NodeId → ℕ → MemberEvent
   Ship : NodeId → MemberEvent
   Deliver : NodeId → MemberEvent
 
--- A tick in a round: no two operations that the node holds have one dot, all that it noted has waited its time, and it passes no application.
+-- A tick in a round. No two operations that the node holds have one dot, all that it noted has waited its time, and
+-- it passes no application.
 pub record IsTick (t : Table) (n : NodeId) (d : Member) (now : ℕ) : Type 0 where
   pub agree : Agree d.held
   pub late : IsLate t d.notes now

@@ -73,7 +73,8 @@ AnswersTick n [] answers = ⊥
 AnswersTick n (e ∷ es) [] = ⊥
 AnswersTick n (e ∷ es) (a ∷ answers) = ((e.node ≡ n) × IsTicked a) ⊎ AnswersTick n es answers
 
--- These events with these answers are a round: each node that runs ticks in it, and in the end all running nodes hold the same set.
+-- These events with these answers are a round. Each node that runs ticks in it, and in the end all running nodes hold
+-- the same set.
 pub record IsWorldRound (t : Table) (w : ModelWorld) (s : SetWorld) (events : List WorldEvent) (answers : List (Result Reply WorldFault)) : Type 0 where
   pub answered : AnsweredAs t w events answers
   pub fits : AreInRound t (length s.copies) w events answers
@@ -88,7 +89,8 @@ AreRounds t (suc k) w s events answers =
     × (events ≡ first ++ later) × (answers ≡ replies ++ more)
     × IsWorldRound t w s first replies × AreRounds t k (world_after t w first replies) (set_run s first replies) later more
 
--- The events end in as many rounds as there are applications, and the world was ready before them: then nothing is to be done at any running node.
+-- The events end in as many rounds as there are applications, and the world was ready before them. Then nothing is to
+-- be done at any running node.
 pub record Settles (t : Table) (events : List WorldEvent) (answers : List (Result Reply WorldFault)) (v : WorldValue) : Type 0 where
   pub each : (before rounds : List WorldEvent) (replies more : List (Result Reply WorldFault)) → events ≡ before ++ rounds → answers ≡ replies ++ more → AnsweredAs t (start t) before replies
       → let w = world_after t (start t) before replies in

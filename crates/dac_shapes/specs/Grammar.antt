@@ -115,7 +115,7 @@ IsSection words Section.Other = (name : List ℕ) × (name ≢ codes "kernel") �
 abbrev pub IsFile : List Word → List Section → Type 0
 IsFile words sections = (list : List Word) × (words ≡ list ++ Mark FullStop ∷ []) × IsListOf IsSection list sections
 
--- A text of at most MAX_TEXT bytes says this: its tokens are a file, which keeps the limits, and which lists one
+-- A text of at most MAX_TEXT bytes says this. Its tokens are a file, which keeps the limits, and which lists one
 -- application at least.
 pub record IsTextOf (text : List ℕ) (draft : Written) : Type 0 where
   pub short : length text ≤ MAX_TEXT

@@ -62,8 +62,8 @@ with_name names name = if is_among name names then names else names ++ name ∷ 
 abbrev pub with_node : Seen → List ℕ → Seen
 with_node seen name = record { met = with_name seen.met name; listed = seen.listed ++ name ∷ [] }
 
--- A node may come: its name has at most MAX_NAME bytes, it stands in its list once unless repeats are taken there, and
--- it is known or fewer than MAX_NODES are.
+-- A node may come. Its name has at most MAX_NAME bytes. It stands in its list once unless repeats are taken there. It
+-- is known or fewer than MAX_NODES are.
 pub record MayNode (repeats : Bool) (seen : Seen) (name : List ℕ) : Type 0 where
   pub short : length name ≤ MAX_NAME
   pub once : repeats ≡ false → is_among name seen.listed ≡ false
@@ -90,7 +90,7 @@ listing seen = record seen { listed = [] }
 abbrev pub with_app : Seen → App → Seen
 with_app seen app = with_groups (listing seen) app.groups
 
--- An application may come after these: its name has at most MAX_NAME bytes and is new, fewer than MAX_APPS came, and
+-- An application may come after these. Its name has at most MAX_NAME bytes and is new, fewer than MAX_APPS came, and
 -- its nodes may come.
 pub record MayApp (before : List App) (seen : Seen) (app : App) : Type 0 where
   pub short : length app.name ≤ MAX_NAME

@@ -165,8 +165,8 @@ node_of repeats t s = do
 abbrev pub room : State → ℕ
 room s = suc (length s.left.tokens)
 
--- One or more things, parted by commas, up to the closing symbol: those of `before` and, from the token t on, those
--- that `read` gives. At most n of them.
+-- One or more things, parted by commas, up to the closing symbol. They are those of `before` and, from the token t
+-- on, those that `read` gives. At most n of them.
 unfoldable pub comma_list : {A : Type 0} → (List A → Located → State → Result (A × State) ConfigFault) → Symbol → ℕ → List A → Located → State → Result (List A × State) ConfigFault
 comma_list read close zero before t s = fails BadShape t.at
 comma_list read close (suc n) before t s = do

@@ -61,8 +61,8 @@ IsValueWithin (Optional names) = Unit {0}
 IsValueWithin (Timeout wait) = Unit {0}
 IsValueWithin Param.Other = Unit {0}
 
--- Sections keep the limits: `kernel` stands once at most, and so does each parameter that is read; the applications
--- and permissions keep theirs; and there are at most MAX_NODES different names of nodes, of at most MAX_NAME bytes each.
+-- Sections keep the limits. `kernel` stands once at most, and so does each parameter that is read. The applications
+-- and permissions keep theirs. There are at most MAX_NODES different names of nodes, of at most MAX_NAME bytes each.
 pub record AreWithinLimits (sections : List Section) : Type 0 where
   pub kernel : count_by is_kernel sections ≤ 1
   pub params : (name : ParamName) → count_by (λ param. is_named name (name_of param)) (params_in sections) ≤ 1
@@ -70,8 +70,8 @@ pub record AreWithinLimits (sections : List Section) : Type 0 where
   pub short : All (λ name. length name ≤ MAX_NAME) (names_in sections)
   pub few : length (nodes_in sections) ≤ MAX_NODES
 
--- What is written keeps the limits: the applications and permissions theirs; the nodes are at most MAX_NODES
--- different names of at most MAX_NAME bytes, among which are all that are written; and an application has at most
+-- What is written keeps the limits: the applications and permissions theirs. The nodes are at most MAX_NODES
+-- different names of at most MAX_NAME bytes, among which are all that are written. An application has at most
 -- MAX_NODES groups, none of them empty.
 pub record IsWithinLimits (w : Written) : Type 0 where
   pub apps : AreAppsWithin w.apps

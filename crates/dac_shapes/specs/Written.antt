@@ -47,8 +47,8 @@ spelled named.Mandatory = codes "sync_nodes_mandatory"
 spelled named.Optional = codes "sync_nodes_optional"
 spelled named.Timeout = codes "sync_nodes_timeout"
 
--- a whole text: its applications in order, its permissions in order, the nodes to wait for at the start, how long, and
--- the different names of nodes in the order in which they first stand
+-- A whole text: its applications in order, its permissions in order, the nodes to wait for at the start, and how
+-- long. Last come the different names of nodes in the order in which they first stand
 pub record Written : Type 0 where
   pub apps : List App
   pub permissions : List Permission

@@ -5,7 +5,7 @@ ghost use Rattle.dac_shapes.specs.Written.{Section};
 ghost use Rattle.dac_shapes.specs.Limits.{MaySections, nothing, steps, with_section};
 ghost use Rattle.dac_shapes.specs.Within.{AreWithinLimits, nodes_in};
 
-/// Sections keep the limits exactly if, in the order of the text, each thing may come after those before it; and the
+/// Sections keep the limits exactly if, in the order of the text, each thing may come after those before it. The
 /// nodes that are met on the way are the different names in sections, in the order in which they first stand.
 pub fn limits_in_text_order()
     ensures order { (sections : List Section) → (MaySections sections ↔ AreWithinLimits sections) }

@@ -1,13 +1,12 @@
 //! The shape of a configuration text: from tokens to the names and numbers that are written.
 //!
 //! [`read_draft`] answers what a text says as a [`Draft`], or its first fault in text order. The promise: a text is
-//! read exactly if its tokens are a file by the grammar of OTP's `sys.config` and its
-//! names may stand where they stand, and then what it says is given; any other text has its first fault answered, at
-//! its place.
+//! read exactly on two conditions. Its tokens are a file by the grammar of OTP's `sys.config`, and its names may
+//! stand where they stand. Then what it says is given. Any other text has its first fault answered, at its place.
 //!
 //! Of the section `kernel` the parameters `distributed`, `permissions`, `sync_nodes_mandatory`, `sync_nodes_optional`
-//! and `sync_nodes_timeout` are read. Any other section or parameter is a pair of a name and a term, which is passed
-//! over; a string in place of a section, in Erlang the name of a file to include, is `Unsupported`.
+//! and `sync_nodes_timeout` are read. Any other section or parameter is a pair of a name and a term, which is parsed
+//! and ignored. A string in place of a section, in Erlang the name of a file to include, is `Unsupported`.
 #![tactic(auto)]
 
 mod apps;

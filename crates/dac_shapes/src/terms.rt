@@ -1,4 +1,4 @@
-//! Terms, which are passed over.
+//! Terms, which are parsed and ignored.
 
 ghost use Rattle.std.specs.Prelude.{◌≡◌, ℕ, ◌<◌, ◌≤◌, IfOk, false};
 ghost use Rattle.dac_tokens.specs.Words.{located_of, word_of, is_end};

@@ -8,7 +8,7 @@ use dac_bytes::ByteWriter;
 use dac_part_bytes::{write_claims, write_lives, write_permissions, write_wishes};
 
 impl State {
-    /// The bytes of the state, version 1: the dots heard, the dots known, the permits and the start wishes
+    /// The bytes of the state, version 1. They are the dots heard, the dots known, the permits and the start wishes
     /// that stand, the lives, the claims. Equal states have equal bytes. [`NoMemory`] is the only error.
     pub fn encode(&self) -> Result<Vec<u8>, NoMemory>
         ensures { IfOk result (λ bytes. bytes.items ≡ spelling_of self.now) }

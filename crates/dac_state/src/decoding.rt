@@ -159,11 +159,10 @@ impl State {
 
     /// The state that the bytes spell, version 1, under a configuration.
     ///
-    /// Each field is checked as it is read, so the fault is the first from left to right, with its byte
-    /// counted from 0: `Short` where a field isn't whole, `BadNumber`, `BadName`, `NotInList`, `BadOrder`
-    /// and `NotKnown` as the parts say, `NotKnown` after the dots known where a heard one isn't among
-    /// them, `Trailing` at the first byte after the claims. `NoMemory` stands at 0, and says nothing of the
-    /// bytes.
+    /// Each field is checked as it is read, so the fault is the first from left to right, with its byte counted from
+    /// 0. `Short` comes where a field isn't whole. `BadNumber`, `BadName`, `NotInList`, `BadOrder` and `NotKnown`
+    /// come as the parts say. `NotKnown` comes too after the dots known, where a heard one isn't among them.
+    /// `Trailing` comes at the first byte after the claims. `NoMemory` stands at 0, and says nothing of the bytes.
     pub fn decode(alloc: Global, config: &Config, bytes: &[u8]) -> Result<Self, ReadFault>
         // What is read is spelled so, and in form.
         ensures found { IfOk result (λ s. IsInForm config.now s × (bytes.now ≡ spelling_of s)) }

@@ -9,8 +9,8 @@ ghost use Rattle.dac_state.specs.StateSpelling.{spelling_of};
 use dac_part_bytes::Config;
 use dac_part_bytes::laws::parts_have_one_spelling;
 
-/// States in form and their spellings are one to one under a configuration: what is read as a state is its spelling
-/// and in form, and a state in form is read from its spelling, whatever follows.
+/// States in form and their spellings are one to one under a configuration. What is read as a state is its spelling
+/// and in form. A state in form is read from its spelling, whatever follows.
 pub fn states_have_one_spelling(config: &Config)
     ensures { IsCodec (parts_at config.now) spelling_of (IsInForm config.now) }
 {

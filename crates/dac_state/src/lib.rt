@@ -1,9 +1,9 @@
 //! The state that controllers keep in place of the operations that they have heard.
 //!
-//! A set of operations means a [`State`]: the dots heard, the dots known, the permits and start wishes that
-//! stand, the life of each node and the greatest claim of each application. Controllers keep states alone.
-//! The state of one operation is what it means alone ([`State::delta_of`]), and the join of what two sets
-//! mean is what both mean together, so nothing is lost. States are a lattice, for every value of the type.
+//! A set of operations means a [`State`]: the dots heard, the dots known, and the permits and start wishes that
+//! stand. With them come the life of each node and the greatest claim of each application. Controllers keep states
+//! alone. The state of one operation is what it means alone ([`State::delta_of`]). The join of what two sets mean is
+//! what both mean together, so nothing is lost. States are a lattice, for every value of the type.
 //!
 //! A state has one spelling in bytes ([`State::encode`]), and is read from it ([`State::decode`]). It keeps none of the
 //! operations.

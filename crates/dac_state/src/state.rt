@@ -14,13 +14,13 @@ use std::alloc::Global;
 use std::marker::Model;
 use std::sync::Arc;
 
-/// What a controller keeps of the operations that it has heard: their dots, the permits and the start
-/// wishes that none of them replaces, each beside the dots that they name, the life of each node and the
-/// greatest claim of each application.
+/// What a controller keeps of the operations that it has heard. It has their dots, and the permits and the start
+/// wishes that none of them replaces. Both stand beside the dots that they name. It keeps the life of each node and
+/// the greatest claim of each application too.
 ///
-/// States are a lattice. A join knows what either side knows, and a permit or wish that one side has
-/// stands in it unless the other side knows its dot and has it no more. Contracts see a state as a record
-/// of finite sets and maps, so states with equal parts are equal.
+/// States are a lattice. A join knows what either side knows. A permit or wish that one side has stands in it unless
+/// the other side knows its dot and has it no more. Contracts see a state as a record of finite sets and maps, so
+/// states with equal parts are equal.
 ///
 /// Copies of a state share its parts, since no part ever changes: a copy costs as much as a pointer.
 pub struct State {

@@ -64,6 +64,7 @@ no_app = record { claim = None; verdict = Nobody; marks = replicate MAX_NODES Do
 abbrev pub app_summaries : Table → StateValue → List AppSummary
 app_summaries table s = placed MAX_APPS no_app (list_map (app_summary table s) (apps_of table))
 
--- what a state says, in short: how many dots it has heard and knows, the life of each node of the configuration, and where each of its applications stands
+-- What a state says, in short: how many dots it has heard and knows, and the life of each node of the configuration.
+-- Then comes where each of its applications stands
 abbrev pub summary_of : Table → StateValue → Summary
 summary_of table s = record { heard = set.len s.heard; known = set.len s.known; lives = lives_of table s; apps = app_summaries table s }

@@ -46,6 +46,7 @@ life_text node (Some life) = codes "node " ++ (name_text node ++ (flag_text life
 
 -- ---- applications
 
+-- how an application came to its node, behind a space
 abbrev pub how_text : How → List ℕ
 how_text how.Normal = codes " normal"
 how_text how.Failover = codes " failover"
@@ -82,6 +83,7 @@ standing_text table app claim verdict =
 
 -- ---- lists of nodes
 
+-- the word of a mark
 abbrev pub mark_text : Mark → List ℕ
 mark_text mark.Down = codes "down"
 mark_text mark.Barred = codes "barred"

@@ -124,6 +124,7 @@ fn standing_line(
     Ok(line)
 }
 
+/// The word of a mark.
 fn mark_text(mark: Mark) -> &'static str
     ensures { result.now ≡ mark_text mark }
 {

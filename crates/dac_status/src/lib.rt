@@ -1,8 +1,8 @@
 //! What operators are shown of a controller: a summary of its state, and the page that is printed of one.
 //!
-//! A [`Summary`] is plain data of a fixed size, made and copied without memory: it says what the definitions of
-//! lives, claims, permissions, wishes and placement say of a state. [`page`] is its text, and [`header`] the
-//! line above it.
+//! A [`Summary`] is plain data of a fixed size, made and copied without memory. It says what the definitions of
+//! lives, claims, permissions, wishes and placement say of a state. [`page`] is its text, and [`header`] the line
+//! above it.
 #![tactic(auto)]
 
 mod apps;

@@ -39,10 +39,10 @@ pub fn header(
     Ok(line)
 }
 
-/// The page of a node: what is printed of a summary of its state. It says how much was heard, the life of each
-/// node in the order of the names, and in two lines of each application, in the order of the configuration
-/// file, who holds it with the verdict, and the mark of each node of its list, by group, then by name.
-/// [`NoMemory`] is the only error.
+/// The page of a node: what is printed of a summary of its state. It says how much was heard, and the life of each
+/// node in the order of the names. Then come two lines of each application, in the order of the configuration file.
+/// The one says who holds it with the verdict. The other says the mark of each node of its list, by group, then by
+/// name. [`NoMemory`] is the only error.
 pub fn page(alloc: Global, config: &Config, summary: &Summary) -> Result<Vec<u8>, NoMemory>
     ensures { IfOk result (λ text. text.items ≡ page_text config.now summary.now) }
 {

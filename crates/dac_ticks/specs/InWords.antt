@@ -1,4 +1,5 @@
--- What a tick claims, in words: exactly the applications whose due candidate is its own node, each on the state that the earlier claims left.
+-- What a tick claims, in words. It is exactly the applications whose due candidate is its own node, each on the state
+-- that the earlier claims left.
 use Rattle.std.specs.Prelude.{◌≡◌, ◌⊎◌, ℕ, List, [], ◌∷◌, Option, None, Some}
 use Rattle.dac_base.specs.declared.NodeId.{NodeId}
 use Rattle.dac_base.specs.declared.AppId.{AppId}

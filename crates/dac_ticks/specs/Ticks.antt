@@ -1,6 +1,6 @@
--- What a tick claims: the applications of the configuration in the order of its file, each on the state that the
--- claims before it left. (OTP starts, restarts and moves distributed applications as soon as nodes come and go. That
--- a controller looks after them at its ticks is this project's own.)
+-- What a tick claims. It takes the applications of the configuration in the order of its file, each on the state that
+-- the claims before it left. (OTP starts, restarts and moves distributed applications as soon as nodes come and go.
+-- That a controller looks after them at its ticks is this project's own.)
 use Rattle.std.specs.Prelude.{ℕ, Bool, false, ◌&&◌, ◌==◌, List, [], ◌∷◌, ◌++◌, Option, None, fold, if◌then◌else◌}
 use Rattle.std.specs.Option.{option_map, option_map_or}
 use Rattle.dac_base.specs.declared.NodeId.{NodeId}
@@ -24,7 +24,8 @@ use Rattle.dac_commands.specs.Causes.{terms_used_up}
 abbrev pub held_by : StateValue → AppId → Option NodeId
 held_by s app = option_map (λ (o : Origin). o.node) (holder_of s app)
 
--- how the application comes to its candidate by this verdict: a failover and a takeover are named, from the node that held it, and whatever else is normal
+-- How the application comes to its candidate by this verdict. A failover and a takeover are named, from the node that
+-- held it, and whatever else is normal
 abbrev pub claimed_by : StateValue → AppId → Verdict → Act
 claimed_by s app (Failover n) = claim_act s app FailedOver (held_by s app)
 claimed_by s app (Takeover n) = claim_act s app TakenOver (held_by s app)
@@ -42,7 +43,8 @@ is_mine_by t own waits now s app verdict = option_map_or (λ (n : NodeId). n.0 =
 abbrev pub is_mine : Table → Origin → List (Option Noted) → ℕ → StateValue → AppId → Bool
 is_mine t own waits now s app = is_mine_by t own waits now s app (verdict_of t s app)
 
--- what a tick has done so far: the claims that it issued, the applications that it passed since their terms are used up, and the state that the claims leave
+-- What a tick has done so far: the claims that it issued, and the applications that it passed since their terms are
+-- used up. Last comes the state that the claims leave
 pub record Turn : Type 0 where
   pub ops : List Operation
   pub passed : List AppId

@@ -59,12 +59,12 @@ pub(crate) enum Found {
 
 /// What a controller that runs as this incarnation with this state does at a tick at this moment, in milliseconds.
 ///
-/// The applications are taken in the order of the configuration file. One whose verdict names the controller's own node,
-/// and is due, is claimed for this node, under its next term and the incarnation's next counter; and each is looked
-/// at in the state that the claims before it leave. A failover and a takeover name the node that held the application, a
-/// start and a move none. An application whose terms are used up is passed. (After OTP's Design Principles, chapter
-/// Distributed Applications: applications are started, restarted and moved as nodes come and go. That a controller looks
-/// after them at its ticks, and how it claims them, is this project's own.)
+/// The applications are taken in the order of the configuration file. One whose verdict names the controller's own
+/// node, and is due, is claimed for this node. The claim has its next term and the incarnation's next counter. Each
+/// application is looked at in the state that the claims before it leave. A failover and a takeover name the node
+/// that held the application, a start and a move none. An application whose terms are used up is passed. (After OTP's
+/// Design Principles, chapter Distributed Applications: applications are started, restarted and moved as nodes come
+/// and go. That a controller looks after them at its ticks, and how it claims them, is this project's own.)
 ///
 /// [`NoMemory`] is the only error.
 pub fn tick(

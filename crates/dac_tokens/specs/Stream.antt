@@ -23,8 +23,8 @@ depth_after at depth (Number negative digits) = Ok depth
 depth_after at depth Text = Ok depth
 depth_after at depth End = Ok depth
 
--- The first token of the bytes, which stand before the offset `end`, with `depth` brackets open: the token,
--- the depth after it and the bytes after it.
+-- The first token of the bytes, which stand before the offset `end`, with `depth` brackets open. It comes with the
+-- depth after it and the bytes after it.
 unfoldable pub token_from : ℕ → ℕ → List ℕ → Result (Located × ℕ × List ℕ) ConfigFault
 token_from end depth bytes = do
   let rest = after_gap false bytes

@@ -29,8 +29,8 @@ pub record IsUnknown (b : ℕ) : Type 0 where
   pub no_double_quote : b ≢ 34
   pub no_refused : ¬ IsRefused b
 
--- No token begins with these bytes, where so many brackets are open: the number of bytes from the first of
--- them to the fault, and the kind of fault.
+-- No token begins with these bytes, where so many brackets are open. The relation has the number of bytes from the
+-- first of them to the fault, and the kind of fault.
 pub data NoToken (depth : ℕ) (bytes : List ℕ) : ℕ → FaultKind → Type 0 where
   LoneDot : (rest : List ℕ) → bytes ≡ codes "." ++ rest → ¬ EndsTerm rest → NoToken depth bytes 0 BadToken
   LoneMinus : (rest : List ℕ) → bytes ≡ codes "-" ++ rest → ¬ Begins IsAsciiDigit rest → NoToken depth bytes 0 BadToken

@@ -87,8 +87,8 @@ IsBare name own rest = (own ≡ name) × IsBareAtom name × (¬ Begins IsNameByt
 abbrev pub IsQuoted : List ℕ → List ℕ → Type 0
 IsQuoted name own = (own ≡ codes "'" ++ (name ++ codes "'")) × All IsQuotable name
 
--- What stands between the quotes of a string: a backslash (92) takes the byte behind it along, which is not
--- `^` (94), and any other byte but a double quote (34) may stand there.
+-- What stands between the quotes of a string. A backslash (92) takes the byte behind it along, which is not `^` (94).
+-- Any other byte but a double quote (34) may stand there.
 pub data IsStringText : List ℕ → Type 0 where
   Empty : IsStringText []
   Plain : (b : ℕ) (more : List ℕ) → b ≢ 34 → b ≢ 92 → IsStringText more → IsStringText (b ∷ more)
@@ -110,8 +110,8 @@ Spells (Number negative digits) own rest = IsNumber negative digits own × (¬ G
 Spells Text own rest = IsString own rest
 Spells End own rest = ⊥
 
--- Of bytes that begin at the offset `at`, the first token, its own bytes and the rest behind it: a gap may
--- stand before it, and its place is the number of bytes before its own.
+-- Of bytes that begin at the offset `at`, the first token, its own bytes and the rest behind it. A gap may stand
+-- before it. Its place is the number of bytes before its own.
 pub record IsNextToken (at : ℕ) (bytes : List ℕ) (t : Located) (own rest : List ℕ) : Type 0 where
   pub gap : List ℕ
   pub parts : bytes ≡ gap ++ (own ++ rest)

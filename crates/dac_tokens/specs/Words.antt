@@ -5,8 +5,8 @@ use Rattle.dac_tokens.specs.declared.token.Token.{Token}
 use Rattle.dac_tokens.specs.declared.token.Token.TheVariants as tokens
 use Rattle.dac_tokens.specs.declared.token.Located.{Located as LocatedToken}
 
--- a token: a mark, an atom by its name, a number by its sign (true: negative) and digits, a string, of which
--- nothing is kept, or the end of the text
+-- A token: a mark, an atom by its name, or a number by its sign (true: negative) and digits. Or it is a string, of
+-- which nothing is kept, or the end of the text
 pub data Word : Type 0 where
   Mark : Symbol → Word
   Name : List ℕ → Word

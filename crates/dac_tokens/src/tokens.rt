@@ -51,8 +51,8 @@ fn token_from(
     Ok((Located { token, at }, depth, rest))
 }
 
-/// The tokens that are left of a text, after Erlang's scanner of terms: contracts see their list, up to
-/// the end or the first fault, and what stands there.
+/// The tokens that are left of a text, after Erlang's scanner of terms. Contracts see their list, up to the end or
+/// the first fault, and what stands there.
 #[derive(Drop)]
 pub struct Tokens<'a> {
     rest: &'a [u8],
@@ -96,12 +96,15 @@ impl<'a> Tokens<'a> {
     ///
     /// # Errors
     ///
-    /// Where no token begins, mostly at the first byte of what stands there. `Unsupported` for what Erlang has
-    /// and this doesn't read: `<`, `#`, `$`, `+`, `~`, `|`, a byte from 80 hexadecimal on, the word `fun`, a
-    /// number with a fraction, a base or underscores, three double quotes in a row, and a 65th open bracket.
-    /// It is at its own place, and comes before a missing quote, for a backslash or control character (below
-    /// a space, or 7F hexadecimal) in a quoted atom, and for a backslash before `^` in a string. `BadToken`
-    /// for anything else, as a dot that ends no term, or an atom or string whose quote is never closed. Then
+    /// Where no token begins, mostly at the first byte of what stands there. `Unsupported` is what Erlang has and this
+    /// doesn't read:
+    ///
+    /// - `<`, `#`, `$`, `+`, `~`, `|`, a byte from 80 hexadecimal on, and the word `fun`;
+    /// - a number with a fraction, a base or underscores, three double quotes in a row, and a 65th open bracket;
+    /// - a backslash or control character (below a space, or 7F hexadecimal) in a quoted atom, and a backslash before `^`
+    ///   in a string. These are at their own place, and come before a missing quote.
+    ///
+    /// `BadToken` is anything else, as a dot that ends no term, or an atom or string whose quote is never closed. Then
     /// nothing is taken: the next call answers the same.
     pub fn next(&mut self) -> Result<Located<'a>, ConfigFault>
         ensures taken { Reads (λ x. (located_of x, self.new)) result (taken self.old) }

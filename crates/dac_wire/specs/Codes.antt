@@ -13,7 +13,8 @@ use Rattle.dac_wire.specs.declared.packet.Packet.TheVariants as packet
 
 -- ---- packets
 
--- what a packet is: 1 for a whole state, 2 for an interval, 3 for a message that brings nothing, 4 for a single operation
+-- What a packet is: 1 for a whole state, 2 for an interval, 3 for a message that brings nothing. It is 4 for a single
+-- operation
 abbrev pub packet_code : PacketKind → ℕ
 packet_code Whole = 1
 packet_code Interval = 2

@@ -51,7 +51,8 @@ body_bytes (Whole s) = state.spelling_of s
 body_bytes (Interval s) = state.spelling_of s
 body_bytes Nothing = []
 
--- who ships it, for which node, for which incarnation of it, how many deltas the sender had, what it got of the receiver, and what it brings
+-- Who ships it, for which node, for which incarnation of it, and how many deltas the sender had. Then what it got of
+-- the receiver, and what it brings
 unfoldable pub message_bytes : Message → List ℕ
 message_bytes m = origin_bytes m.from ++ u8_bytes m.to.0 ++ incarnation_bytes (only_code m.only) ++ u64_bytes m.up_to ++ ack_bytes m.ack ++ body_bytes m.body
 

@@ -78,7 +78,7 @@ fn decode_fields(alloc: Global, config: &Config, bytes: &[u8]) -> Result<Packet,
 ///
 /// More than 4,194,304 bytes are `TooLong` at 4,194,304. Bytes that don't begin with `DAC` are `BadMagic` at 0, and
 /// those whose fourth isn't 1 `BadVersion` at 3. A mark of another configuration is `OtherConfig` at 4. Then each
-/// field is checked as it is read, so the fault is the first from left to right, with its byte counted from 0.
+/// field is checked as it is read. So the fault is the first from left to right, with its byte counted from 0.
 /// `NoMemory` stands at 0, and says nothing of the bytes.
 pub fn decode(alloc: Global, config: &Config, bytes: &[u8]) -> Result<Packet, WireFault>
     // What is read is spelled so, and in form.

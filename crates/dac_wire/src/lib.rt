@@ -2,13 +2,13 @@
 //!
 //! A [`Packet`] is a message from one controller to another, or an operation alone. [`encode`] writes it, and
 //! [`decode`] reads it again. All numbers are big-endian. A packet begins with the name of the format, its version
-//! and the mark of the configuration, and goes on with what it is and its fields. The state that a message brings
+//! and the mark of the configuration. It goes on with what it is and its fields. The state that a message brings
 //! comes last, as `State::encode` writes it.
 //!
-//! A packet has one spelling under a configuration. [`decode`] answers a packet exactly for the spelling of one
-//! whose names, list places, numbers, orders and counts are those that its bytes can say. For any other bytes it
-//! answers the first fault from left to right, with its byte. `NoMemory` stands at 0, and says nothing of the
-//! bytes. No count makes a reader take memory that the bytes don't pay for.
+//! A packet has one spelling under a configuration. [`decode`] answers a packet exactly for the spelling of a packet
+//! in form. In form are those whose names, list places, numbers, orders and counts are those that the bytes can say.
+//! For any other bytes it answers the first fault from left to right, with its byte. `NoMemory` stands at 0, and says
+//! nothing of the bytes. No count makes a reader take memory that the bytes don't pay for.
 #![tactic(auto)]
 
 pub use coding::{decode, encode};

@@ -231,10 +231,10 @@ fn read_dot_and_act<'a>(
 
 /// An operation: the dot that names it, which act it is, and the fields of the act.
 ///
-/// Each field is checked as it is read. A key or a claim whose node isn't in the application's list is `NotInList`
-/// at its first byte; of a claim the node is that of the dot. A dot of those replaced that isn't above the one
-/// before it is `BadOrder` at its first byte. Where dot and act make no operation for another cause, that is
-/// `BadNumber` at the operation's first byte, after all of its fields.
+/// Each field is checked as it is read. A key or a claim whose node isn't in the application's list is `NotInList` at
+/// its first byte. Of a claim the node is that of the dot. A dot of those replaced that isn't above the one before it
+/// is `BadOrder` at its first byte. Where dot and act make no operation for another cause, that is `BadNumber` at the
+/// operation's first byte, after all of its fields.
 #[tactic(auto, unfolding(crate::specs::Reading::operation_at))]
 pub(crate) fn read_operation<'a>(
     reader: ByteReader<'a>,

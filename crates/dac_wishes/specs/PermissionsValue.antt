@@ -56,7 +56,8 @@ coded_permissions = code_by (Dots × Permits) (coded× (set.code coded_dot) (map
 abbrev pub ArePermissions : PermissionsValue → Type 0
 ArePermissions v = (w : Write) → is_some (map.get v.standing w) ≡ true → set.contains v.known w.dot ≡ true
 
--- x is below y: y knows all that x does, and what stands in y and x knows stands in x, with a value that isn't above. Written without join.
+-- x is below y. What x knows y knows too. What stands in y and x knows stands in x, with a value that isn't above.
+-- Written without join.
 pub record IsPermissionsBelow (x y : PermissionsValue) : Type 0 where
   pub known : IsSubset x.known y.known
   pub standing : (w : Write) → set.contains x.known w.dot ≡ true → StandsBelow IsFlagBelow (map.get x.standing w) (map.get y.standing w)
@@ -65,7 +66,8 @@ pub record IsPermissionsBelow (x y : PermissionsValue) : Type 0 where
 abbrev pub no_permissions : PermissionsValue
 no_permissions = record { known = set.empty; standing = map.empty }
 
--- what stands of a permit when two sides come together: the greater value where it stands on both, and else its value where the other side doesn't know its dot
+-- What stands of a permit when two sides come together. It is the greater value where it stands on both, and else its
+-- value where the other side doesn't know its dot
 abbrev pub joined_permit : PermissionsValue → PermissionsValue → Write → Option Flag → Option Flag → Option Flag
 joined_permit x y w = join_at join_flags (set.contains x.known w.dot) (set.contains y.known w.dot)
 

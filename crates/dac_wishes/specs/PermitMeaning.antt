@@ -85,7 +85,8 @@ joined_again f g e = ap (λ (x : Flag). Some (join_flags x f)) (ap (λ (o : Opti
     same Up = refl
     same Down = refl
 
--- e, o: the operation has the dot, replaces it; u: what it says of the key; dt, ov, st: of those before, one has the dot, one replaces it, what they say
+-- e, o: the operation has the dot, replaces it; u: what it says of the key. dt, ov, st: of those before, one has the
+-- dot, one replaces it, what they say
 one_stands : (e o ov dt : Bool) (st u : Option Flag) → (e ≡ true → o ≡ false) → (is_some st ≡ true → dt ≡ true) → (e ≡ true → dt ≡ true → st ≡ u)
     → join_at join_flags (ov || dt) (e || o) (cond ov None st) (cond e u None) ≡ cond (o || ov) None (or_else (cond e u None) st)
 one_stands true true ov dt st u f g h = absurd (true≢false (f refl))

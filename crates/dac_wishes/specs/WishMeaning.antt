@@ -58,7 +58,8 @@ contains-delta d a w = set.contains-from_list writes_total (starts_in d a) w ∙
     in_starts (Start key over) = or_false _ ∙ same_write w key d
     in_starts (Other over) = refl
 
--- k, e, o: the operation wishes the key, has the dot, replaces it; st, dt, ov: of those before, one is the wish, one has the dot, one replaces it
+-- k, e, o: the operation wishes the key, has the dot, replaces it. st, dt, ov: of those before, one is the wish, one
+-- has the dot, one replaces it
 one_stands : (k e o st dt ov : Bool) → (e ≡ true → o ≡ false) → (st ≡ true → dt ≡ true) → (e ≡ true → dt ≡ true → st ≡ k)
     → (((st && not ov) && ((k && e) || not (e || o))) || ((k && e) && ((st && not ov) || not (ov || dt)))) ≡ (((k && e) || st) && not (o || ov))
 one_stands k true true st dt ov f g h = absurd (true≢false (f refl))

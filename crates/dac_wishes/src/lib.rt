@@ -1,11 +1,11 @@
 //! Permits and start wishes: which writes of a set of operations stand.
 //!
-//! A permit or start wish is of a [`Key`], an application at one incarnation of a node, and stands until an
-//! operation replaces its dot. [`Wishes`] and [`Permissions`] keep what stands beside the dots that are
-//! known, so replicas that join them agree whatever the order: a wish or permit that stands on one side
-//! alone goes where the other side knows its dot, since there it was replaced. Both are lattices, for every
-//! value of the type, and pieces of a controller's state: the joined deltas of operations are exactly the
-//! writes that none of them replaces, and the dots that they name.
+//! A permit or start wish is of a [`Key`], an application at one incarnation of a node. It stands until an operation
+//! replaces its dot. [`Wishes`] and [`Permissions`] keep what stands beside the dots that are known, so replicas that
+//! join them agree whatever the order. A wish or permit that stands on one side alone goes where the other side knows
+//! its dot, since there it was replaced. Both are lattices, for every value of the type, and pieces of a controller's
+//! state. The joined deltas of operations are exactly the writes that none of them replaces, and the dots that they
+//! name.
 //!
 //! A start beside a stop wins, as a stop replaces only the starts that it names. Of permits that stand
 //! together false wins, here in [`Permissions::permitted`].

@@ -59,12 +59,14 @@ state_by held = meaning_of held.operations
 abbrev pub origin_by : NodeId → NodeSet → Origin
 origin_by n held = record { node = n; inc = held.inc }
 
--- each node runs exactly where it has a set in the world of sets, its state is that set's meaning, and its incarnation is that set's
+-- Each node runs exactly where it has a set in the world of sets. Its state is that set's meaning, and its
+-- incarnation is that set's
 pub record HoldsSets (v : WorldValue) (sets : SetWorld) : Type 0 where
   pub each : (n : ℕ) (x : NodeValue) → slice_get v.nodes n ≡ Some x → state_of x ≡ option_map state_by (sets.node (numbered n))
   pub incarnation : (n : ℕ) (x : NodeValue) → slice_get v.nodes n ≡ Some x → origin_of x ≡ option_map (origin_by (numbered n)) (sets.node (numbered n))
 
--- the operations of the world are those of the issues of the world of sets, in order, and there is a copy for each message
+-- The operations of the world are those of the issues of the world of sets, in order. There is a copy for each
+-- message
 pub record ListsAll (v : WorldValue) (sets : SetWorld) : Type 0 where
   pub operations : v.operations ≡ operations_of sets.issued
   pub copies : length sets.copies ≡ length v.messages

@@ -23,7 +23,7 @@ run_from t w (e ∷ es) = run_from t (happens t w e).world es
 abbrev pub model_run : Table → List WorldEvent → ModelWorld
 model_run t es = run_from t (start t) es
 
--- what a program's world would hold that shows it
+-- the program's world that it shows as
 abbrev pub shown_world : Table → ModelWorld → WorldValue
 shown_world t w = record {
   nodes = map (λ n. shown t (w.node (numbered n))) (range_with_len 0 w.count);
@@ -35,7 +35,8 @@ shown_world t w = record {
 abbrev pub IsEnough : List (Result Reply WorldFault) → Type 0
 IsEnough answers = AllByRecursion (λ (answer : Result Reply WorldFault). ¬ (answer ≡ out_of_memory)) answers
 
--- of each list this holds: of the configuration, the events, their answers from the start, and what shows the world after them
+-- of each list this holds: of the configuration, the events, their answers from the start, and what the world after them
+-- shows as
 abbrev pub OfEachList : (Table → List WorldEvent → List (Result Reply WorldFault) → WorldValue → Type 0) → Type 0
 OfEachList P = (t : Table) (events : List WorldEvent) → P t events (answers_of t (start t) events) (shown_world t (model_run t events))
 
@@ -43,6 +44,6 @@ OfEachList P = (t : Table) (events : List WorldEvent) → P t events (answers_of
 abbrev pub RunsEachList : Type 0
 RunsEachList = (t : Table) (events : List WorldEvent) → Run t (start t) events (answers_of t (start t) events) (model_run t events)
 
--- each model world is shown
+-- each model world shows as some world of the program
 abbrev pub IsShownWorld : Type 0
 IsShownWorld = (t : Table) (w : ModelWorld) → Shows t w (shown_world t w)

@@ -33,7 +33,7 @@ pub record ModelWorld : Type 0 where
 abbrev pub numbered : ℕ → NodeId
 numbered n = record { 0 = n }
 
--- what the program's world shows of it, under a configuration
+-- the program's world that it shows as, under a configuration
 pub record Shows (t : Table) (w : ModelWorld) (v : WorldValue) : Type 0 where
   pub count : length v.nodes ≡ w.count
   pub nodes : (n : ℕ) → slice_get v.nodes n ≡ cond (nat_lt n w.count) (Some (shown t (w.node (numbered n)))) None
@@ -156,7 +156,7 @@ AnsweredAs t w (e ∷ es) (a ∷ answers) = IsAnswer (happens t w e) a × Answer
 abbrev pub Run : Table → ModelWorld → List WorldEvent → List (Result Reply WorldFault) → ModelWorld → Type 0
 Run t w es answers final = AnsweredAs t w es answers × (final ≡ world_after t w es answers)
 
--- From old, the program's world answers and goes on to new as each model world that shows old may.
+-- From old, the program's world answers and goes on to new as each model world that shows as old may.
 pub record Follows (t : Table) (old : WorldValue) (by : ModelWorld → WorldStepped) (answer : Result Reply WorldFault) (new : WorldValue) : Type 0 where
   pub each : (w : ModelWorld) → Shows t w old → (next : ModelWorld) × (Step w (by w) answer next × Shows t next new)
 

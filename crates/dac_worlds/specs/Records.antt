@@ -16,8 +16,8 @@ use Rattle.dac_worlds.specs.Histories.{Entry, IsHistory, off_after}
 use Rattle.dac_worlds.specs.WorldValue.{WorldValue}
 use Rattle.dac_worlds.specs.ModelWorld.{ModelWorld, event_of, start, went, numbered, Run}
 
--- The node's own answer, where it is one: none where the world has no such node, message or operation, and none where
--- memory was refused, which is no event.
+-- The node's own answer, where it is one. There is none where the world has no such node, message or operation. There
+-- is none where memory was refused, which is no event.
 abbrev pub own_answer : Result Reply WorldFault → Option (Result Reply Refusal)
 own_answer (Ok reply) = Some (Ok reply)
 own_answer (Err (Refused NoMemory)) = None
@@ -45,7 +45,7 @@ abbrev pub RecordsAreHistories : Type 0
 RecordsAreHistories = (t : Table) (events : List WorldEvent) (answers : List (Result Reply WorldFault)) (final : ModelWorld) → Run t (start t) events answers final
     → (n : NodeId) → IsHistory t n (off_after 0) (records_at t n (start t) events answers) (final.node n)
 
--- each node of the program's world shows where the history that it records comes to
+-- of each node of the program's world: where the history that it records comes to shows as it
 pub record HaveHistories (t : Table) (events : List WorldEvent) (answers : List (Result Reply WorldFault)) (v : WorldValue) : Type 0 where
   pub each : (n : ℕ) (x : NodeValue) → slice_get v.nodes n ≡ Some x
       → (d : ModelNode) × (IsHistory t (numbered n) (off_after 0) (records_at t (numbered n) (start t) events answers) d × (shown t d ≡ x))

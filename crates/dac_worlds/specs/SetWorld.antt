@@ -1,5 +1,5 @@
--- The world of sets: each node is off or holds a set of operations, and a message carries a copy of the
--- sender's whole set. A set is given as a list; order and repeats don't matter.
+-- The world of sets. Each node is off or holds a set of operations, and a message carries a copy of the sender's
+-- whole set. A set is given as a list; order and repeats don't matter.
 use Rattle.std.specs.Prelude.{ℕ, Bool, true, cond, not, ◌&&◌, nat_eq, List, [], ◌∷◌, ◌++◌, map as list_map, Option, Some, None, Result, Ok, Err}
 use Rattle.std.specs.Option.{option_map_or}
 use Rattle.dac_base.specs.declared.NodeId.{NodeId}
@@ -23,7 +23,8 @@ pub record Issue : Type 0 where
   pub operation : Operation
   pub before : List Operation
 
--- a copy of a node's whole set on its way to another one, and the incarnation of the addressee that it is bound to, if it is to one
+-- A copy of a node's whole set on its way to another one. With it goes the incarnation of the addressee that it is
+-- bound to, if it is to one
 pub record Copy : Type 0 where
   pub from : NodeId
   pub to : NodeId
@@ -91,8 +92,8 @@ copied_by (Some held) n m = (record { from = n; to = m.to; only = m.only; operat
 abbrev pub is_for : NodeId → ℕ → Copy → Bool
 is_for n inc c = nat_eq c.to.0 n.0 && (not (nat_eq c.from.0 n.0) && option_map_or (λ only. nat_eq only inc) c.only true)
 
--- The operations that a copy brings to a node: its whole set. Where the node is off, at the sender, at another
--- node than the addressee and at another incarnation than it is bound to it brings none.
+-- The operations that a copy brings to a node: its whole set. It brings none where the node is off, at the sender,
+-- and at another node than the addressee. Nor does it at another incarnation than it is bound to.
 abbrev pub copied_to : NodeId → Option NodeSet → Option Copy → List Operation
 copied_to n None c = []
 copied_to n (Some held) None = []
@@ -110,10 +111,10 @@ brought_to w n (Hand k) = alone (counted (operations_of w.issued) k)
 brought_to w n _ = []
 
 -- ---- events
--- One event at node n with its answer, which brings the operations that are issued and the bindings of the
--- copies. A boot gives the set of one Up, a crash or a tick that gives up takes the node's set away, a command
--- or a tick adds what it issues, a ship puts a copy of the whole set on its way, what is delivered or handed is
--- united with the set, and a refused event changes nothing.
+-- One event at node n with its answer, which brings the operations that are issued and the bindings of the copies. A
+-- boot gives the set of one Up. A crash or a tick that gives up takes the node's set away. A command or a tick adds
+-- what it issues. A ship puts a copy of the whole set on its way. What is delivered or handed is united with the set.
+-- A refused event changes nothing.
 abbrev pub set_step : SetWorld → NodeId → What → Result Reply WorldFault → SetWorld
 set_step w n what (Err fault) = w
 set_step w n what (Ok (Booted o)) = booting w n o

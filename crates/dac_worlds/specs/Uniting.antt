@@ -12,7 +12,8 @@ use Rattle.dac_worlds.specs.declared.fault.WorldFault.{WorldFault}
 use Rattle.dac_worlds.specs.ModelWorld.{counted}
 use Rattle.dac_worlds.specs.SetWorld.{SetWorld, NodeSet, Copy, and_more, is_for, operations_of, set_step}
 
--- node n runs, and a copy of its whole set is put on its way after all others, to the node of the message and bound as it is
+-- Node n runs. A copy of its whole set is put on its way after all others. It goes to the node of the message and is
+-- bound as that is
 pub record IsPut (w : SetWorld) (n : NodeId) (m : Message) (next : SetWorld) : Type 0 where
   pub held : NodeSet
   pub on : w.node n ≡ Some held

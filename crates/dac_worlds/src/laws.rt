@@ -6,25 +6,25 @@ ghost use Rattle.dac_worlds.specs.Converges.{Converges};
 ghost use Rattle.dac_worlds.specs.Records.{RecordsAreHistories};
 ghost use Rattle.dac_worlds.specs.EveryList.{IsEnough, OfEachList, RunsEachList};
 
-/// What every run from the start leaves. Each running controller's state is the meaning of the issued operations whose
-/// dots it has heard, so controllers that heard the same set hold equal states and bytes, and name the same holder and
-/// the same next candidate. No two issued operations have one dot. Each controller holds the set that the world of sets
-/// has at its node, and each shipped message carries the meaning of a set of issued operations. Each delivery unites
-/// the receiver's set with the whole set that the sender had when it shipped. So does one of an interval or of nothing.
-/// Each answer to what was heard tells whether it brought a dot that the controller hadn't heard. What comes to a
-/// running controller is heard, unless memory is refused or its numbers of deltas are used up: a message that was
-/// shipped to it from another node, to no other incarnation alone, and an operation that was issued. Where no single
-/// operation is handed, each controller has with each operation all that were causally before it, and what stands in
-/// its state are exactly the maximal writes. What happened at each controller, its own events with their answers, is a
-/// history of it from never booted to where the run leaves it.
+/// What every run from the start leaves. Each running controller's state is the meaning of the issued operations
+/// whose dots it has heard. So controllers that heard the same set hold equal states and bytes, and name the same
+/// holder and the same next candidate. No two issued operations have one dot. Each controller holds the set that the
+/// world of sets has at its node. Each shipped message carries the meaning of a set of issued operations. Each
+/// delivery that is heard unites the receiver's set with the whole set that the sender had when it shipped. So does
+/// one of an interval or of nothing. Each answer to what was heard tells whether it brought a dot that the controller hadn't
+/// heard. What comes to a running controller is heard, unless memory is refused or its numbers of deltas are used up.
+/// That is a message that was shipped to it from another node, to no other incarnation alone, or an operation that
+/// was issued. Where no single operation is handed, each controller has with each operation all that were causally
+/// before it. What stands in its state are then exactly the maximal writes. What happened at each controller, its own
+/// events with their answers, is a history of it. The history goes from never booted to where the run leaves it.
 pub fn runs_converge()
     ensures converges { InEachRun Converges }
     // The same of the model nodes, wherever the run goes.
     ensures records { RecordsAreHistories }
 {}
 
-/// What the model's run of any list of events leaves, where memory is never refused. It is a run, and all that every
-/// run leaves holds of the events, their answers and the world that a program would show after them.
+/// What the model's run of any list of events leaves, where memory is never refused. It is a run. All that every run
+/// leaves holds of the events, their answers and the world that a program would show after them.
 pub fn every_list_converges()
     ensures run { RunsEachList }
     ensures enough { OfEachList (λ t events answers v. IsEnough answers) }

@@ -1,7 +1,8 @@
 //! Tests of the lattices and of what stands on them: contexts of dots, stores, deltas, chains, wishes and operations.
 //!
-//! The crates below are proved. So here stand the vectors of the formats, each public call once with ample memory, each
-//! generic call at a concrete type through its bound, and nothing that a contract says wholly.
+//! The crates below are proved. So here stand the vectors of the formats, and each public call once with ample
+//! memory. Each generic call stands at a concrete type through its bound. Nothing stands here that a contract says
+//! wholly.
 //!
 //! Each test is proved too, at a cost that grows with the calls and the values of one body. So a test asserts what a small
 //! function answers, for each row of a table where there are several.

@@ -173,8 +173,8 @@ fn fills<L: SiteName, R: Wait>(rt: &R, site: &Site<L>, seat: &mut Seat<L>) -> bo
     true
 }
 
-/// A site whose journal is full: what one more call is answered, how many calls the seat then has, and how many records
-/// the journal.
+/// A site whose journal is full. It is what one more call is answered, how many calls the seat then has, and how many
+/// records the journal.
 fn one_more<L: SiteName, R: Wait>(
     rt: &R,
     alloc: Global,

@@ -1,5 +1,5 @@
-//! Tests of the program `distac` over readers and writers in memory: what each command line, configuration and script
-//! prints, and what comes of readers and writers that fail.
+//! Tests of the program `distac` over readers and writers in memory. They show what each command line, configuration
+//! and script prints, and what comes of readers and writers that fail.
 //!
 //! The crates below are proved. The configurations and the scripts are tables, which one loop each goes through.
 #![tactic(auto)]

@@ -57,8 +57,8 @@ fn prints<R: Read>(rt: &HostRuntime, input: &mut R, status: u8, printed: &str) -
 /// A script of one line.
 const LINE: &str = "boot cp1@cave 0";
 
-/// Whether `distac sim` prints this of a script of one line, read byte by byte, where a read fails once with so many bytes
-/// left, and answers this status.
+/// Whether `distac sim` prints this of a script of one line and answers this status. The script is read byte by byte,
+/// and a read fails once with so many bytes left.
 fn reads(
     rt: &HostRuntime,
     fault: Option<ErrorKind>,

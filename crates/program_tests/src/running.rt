@@ -112,8 +112,8 @@ fn names_faults_of_inputs(rt: HostRuntime) {
     }
 }
 
-/// A configuration behind others of these bytes: so many opening brackets and as many closing ones in a section, and so
-/// many spaces in front.
+/// A configuration behind others of these bytes. These are so many opening brackets and as many closing ones in a
+/// section, and so many spaces in front.
 fn large(alloc: Global, lists: usize, spaces: usize) -> Result<Vec<u8>, AllocError> {
     let mut text = vec![in alloc; b' '; spaces]?;
     text.extend_from_slice(b"[{x,[")?;
@@ -131,8 +131,8 @@ fn checks(rt: &HostRuntime, lists: usize, spaces: usize, status: u8, printed: &s
     }
 }
 
-/// Lists and spaces of large configurations, the status and what is printed: brackets that are 64 deep and 65, and texts
-/// of 65,536 bytes and 65,537.
+/// Lists and spaces of large configurations, the status and what is printed. They are brackets that are 64 deep and
+/// 65, and texts of 65,536 bytes and 65,537.
 const LARGE: &[(usize, usize, u8, &str)] = &[
     (61, 0, 0, PRINTED),
     (62, 0, 1, "config fault 3 Unsupported at 66\n"),

@@ -1,4 +1,4 @@
--- What is read as a context is the one spelling of a set of dots in range, and each such set is read from its spelling.
+-- What is read as a context is the one spelling of a set of dots in range. Each such set is read from its spelling.
 use Rattle.std.specs.Prelude.{◌≡◌, ℕ, ◌+◌, ◌-◌, ◌<◌, ◌≤◌, ◌^◌, true, false, cond, nat_lt, nat_eq, List, [], ◌∷◌, ◌++◌, length, Option, Some, None, Ok, refl}
 use Rattle.std.specs.List.{flat_map, AllByRecursion}
 use Rattle.std.specs.Int.{w16, w64}

@@ -1,4 +1,4 @@
--- What is at a place of a list of entries in order, and how a loop over the entries shows what holds at each key.
+-- What is at a place of a list of entries in order. And how a loop over the entries shows what holds at each key.
 use Rattle.std.specs.Prelude.{◌≡◌, ℕ, ◌+◌, ◌<◌, ◌≤◌, Bool, true, false, cond, ◌&&◌, T, List, [], ◌∷◌, length, Option, None, Some, refl}
 use Rattle.std.proofs.lemmas.List.{take_all}
 use Rattle.std.proofs.lemmas.List.Elements.{All-more}

@@ -1,4 +1,5 @@
--- What follows from the laws of a lattice: what a join does to values that it is above, and that the order of joins makes no difference.
+-- What follows from the laws of a lattice. A join does so much to values that it is above, and the order of joins
+-- makes no difference.
 use Rattle.std.specs.Prelude.{◌≡◌}
 use Rattle.std.proofs.Common.{subst}
 use Rattle.dac_lattice.specs.Laws.{IsLattice}

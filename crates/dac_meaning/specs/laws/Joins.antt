@@ -1,4 +1,5 @@
--- The laws of meanings: order and repeats don't matter, a meaning is a state, and a join of meanings is the meaning of all operations together.
+-- The laws of meanings. Order and repeats don't matter, and a meaning is a state. A join of meanings is the meaning
+-- of all operations together.
 use Rattle.std.proofs.Common.{◌≡◌, Bool, true, false, not, cond, ◌&&◌, ◌||◌, List, [], ◌∷◌, ◌++◌, Option, None, Some, is_some, refl, sym, ap, ◌∙◌, inl, inr}
 use Rattle.std.specs.List.{list_any}
 use Rattle.std.specs.FinSet as set

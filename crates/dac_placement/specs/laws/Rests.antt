@@ -1,4 +1,5 @@
--- What a verdict leaves alone is said by how the application stands and by which nodes are eligible, and by no load: for every configuration and every state.
+-- What a verdict leaves alone is said by how the application stands and by which nodes are eligible, and by no load.
+-- This is so for every configuration and every state.
 use Rattle.std.specs.Prelude.{◌≡◌, ◌↔◌, ℕ, Bool, true, false, not, cond, Option, None, Some, refl}
 use Rattle.std.proofs.Common.{sym, ap, subst, ◌∙◌}
 use Rattle.std.specs.Option.{option_map_or}

@@ -80,6 +80,6 @@ by_run t me last None (HearOp o) reply is = tt
 pub ships_in_words : ShipsInWords
 ships_in_words t me d e reply is = by_run t me d.last d.run e reply is
 
--- so does each model node that shows a value, where the value is accepted so
+-- so does each model node that shows as a value, where the value is accepted so
 pub ships_so : (t : Table) (me : NodeId) (old : NodeValue) (e : Event) (new : NodeValue) (reply : Reply) → AcceptedAs t me old e new reply → ShipsSo t old e reply
 ships_so t me old e new reply p d same = ships_in_words t me d e reply ((steps t me old e new reply p).by d same).1

@@ -1,4 +1,4 @@
--- The model node and what it shows.
+-- The model node and what it shows as.
 use Rattle.std.proofs.Common.{◌≡◌, ℕ, ◌-◌, Bool, true, false, cond, List, ◌∷◌, ◌++◌, length, Option, Some, None, Ok, Err, refl, sym, ap, subst, ◌∙◌, arith, true≢false}
 use Rattle.std.specs.Prelude.{fold, max, unwrap_or, IfSome}
 use Rattle.std.specs.Option.{option_map}
@@ -69,7 +69,7 @@ same_deed t r n m e same =
       | false ↦ λ h. (quiet_deed t r n m e h, quiet_run r n m (deed_of t r n e) h ∙ ap (run_by r m) (quiet_deed t r n m e h))
     ] refl
 
--- ---- what the model node shows after a deed
+-- ---- what the model node shows as after a deed
 
 -- the deltas that are kept after some more and a trim are those of the log
 kept-after : (base : ℕ) (log adds : List StateValue) (trim : ℕ) → AreNewest (kept_of base log) → kept_of (base_after base (length (log ++ adds)) trim) (log ++ adds) ≡ trimmed (fold pushed (kept_of base log) adds) trim
@@ -110,7 +110,7 @@ deed_same t r noted e newest noting =
 abbrev AreNewestBy : Option RunValue → Type 0
 AreNewestBy run = IfSome run (λ (r : RunValue). AreNewest r.kept)
 
--- an accepted event shows what the rules on values leave
+-- after an accepted event it shows as what the rules on values leave
 pub shown_accepted : (t : Table) (me : NodeId) (last : ℕ) (run : Option ModelRun) (noted : List (Option Noted)) (e : Event) → AreNewestBy (option_map (run_shown t) run) → IsNotingBy t (option_map (run_shown t) run) noted e
     → shown t (accepted t me last run e).node ≡ left_by t me last (option_map (run_shown t) run) noted e
 shown_accepted t me last None noted e newest noting = refl
@@ -126,7 +126,7 @@ answer_accepted t me last (Some r) noted e newest noting = ap (λ (deed : Deed).
 pub step_accepted : (t : Table) (me : NodeId) (d : ModelNode) (e : Event) → refusal_of t (shown t d) e ≡ None → model_step t me d e ≡ accepted t me d.last d.run e
 step_accepted t me d e none = ap (λ r. step_by r t me d e) none
 
--- a value that is accepted so is a step of each model node that shows the old one
+-- a value that is accepted so is a step of each model node that shows as the old one
 pub steps : (t : Table) (me : NodeId) (old : NodeValue) (e : Event) (new : NodeValue) (reply : Reply) → AcceptedAs t me old e new reply → Steps t me old e new (Ok reply)
 steps t me old e new reply p = record { by = λ d same. subst (λ v. AcceptedAs t me v e new reply → (shown t (model_step t me d e).node ≡ new) × ((model_step t me d e).answer ≡ Ok reply)) same (from d) p }
   where
@@ -153,7 +153,7 @@ answered_steps t me v e why is other = by_refusal (refusal_of t v e) refl is
     by_refusal None none p = absurd (other p)
     by_refusal (Some least) some p = refused_steps t me v e why (some ∙ ap (λ r. Some r) (sym p))
 
--- a node that is off is shown, and where a node is shown, so is what it becomes by a step
+-- Some model node shows as a node that is off. Where one shows as a node, one shows as what it becomes by a step
 pub off_shown : (t : Table) (last : ℕ) → IsShown t (off last)
 off_shown t last = (record { last = last; run = None }, refl)
 

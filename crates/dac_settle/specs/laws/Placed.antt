@@ -1,4 +1,5 @@
--- The definitions of placement are such that rounds settle: what is used of any placement holds of verdicts over the meanings of sets of operations.
+-- The definitions of placement are such that rounds settle. What is used of any placement holds of verdicts over the
+-- meanings of sets of operations.
 use Rattle.std.proofs.Common.{◌≡◌, ◌⊎◌, ℕ, ◌+◌, ◌<◌, ◌≤◌, true, List, Option, Some, None, option_map, refl, sym, ap, subst, ◌∙◌, arith, inl, inr}
 use Rattle.std.specs.Prelude.{unwrap_or, IsSome}
 use Rattle.std.specs.Option.{is_some, option_map_or}

@@ -1,4 +1,5 @@
--- Sets by which two nodes are up in their first incarnations and applications are started: who is live by them, and that nothing is claimed or permitted.
+-- Sets by which two nodes are up in their first incarnations and applications are started. The laws say who is live
+-- by them, and that nothing is claimed or permitted.
 use Rattle.std.proofs.Common.{◌≡◌, ℕ, List, Option, Some, None, refl, sym, ap, subst, ◌∙◌, inl, inr}
 use Rattle.std.specs.FinMap as map
 use Rattle.dac_base.specs.declared.NodeId.{NodeId}

@@ -126,7 +126,7 @@ module _ (t : Table) where
       subst (λ (p : List WorldEvent × List Answer). Reaches (suc k) w s (world_after t w p.0 p.1) (set_run s p.0 p.1)) (λ i. (sym r.4 i, sym r.5 i))
       (subst (λ (p : ModelWorld × SetWorld). Reaches (suc k) w s p.0 p.1) (λ i. (sym (after_both w r.0 r.1 r.2 r.3 r.6.answered) i, sym (sets_both w s r.0 r.1 r.2 r.3 r.6.answered) i)) whole)
 
--- ---- what the program's world shows
+-- ---- what shows as the program's world
 
 set_there : (o : Option NodeSet) (state : StateValue) → option_map state_by o ≡ Some state → (set : NodeSet) × (o ≡ Some set) × (meaning_of set.operations ≡ state)
 set_there None state e = cc
@@ -139,7 +139,7 @@ run_there : (o : Option ModelRun) (state : StateValue) → option_map state_in o
 run_there None state e = cc
 run_there (Some r) state e = (r, refl)
 
--- where all rounds came to, each state that is shown is settled
+-- where all rounds came to, each state of the program's world is settled
 settled_there : (t : Table) (w final : ModelWorld) (s last : SetWorld) (v : WorldValue) → IsReadyWorld w s → Rounds t (app_count t) (members_of w s) (members_of final last) → Sound final last → Shows t final v
     → (n : ℕ) (state : StateValue) → RunsWith v n state → (app : AppId) → app.0 < app_count t → IsSettled (verdict_of t state app)
 settled_there t w final s last v ready rounds h shows n state runs app lt =

@@ -50,9 +50,9 @@ noting s now notes = record { state = s; moment = now } ∷ notes
 abbrev pub tick_of : Table → Origin → List Note → ℕ → StateValue → Turn
 tick_of t own notes now s = turn_of t own (waits_of t (noting s now notes)) now s
 
--- Where the incarnation is the live one of its node, a second tick at the same moment claims nothing and leaves the
--- state as it is. It notes once more. It passes none but those that the first passed. It may pass fewer: a claim of
--- the first may have made another node the better choice.
+-- Let the incarnation be the live one of its node. Then a second tick at the same moment claims nothing and leaves
+-- the state as it is. It notes once more. It passes none but those that the first passed. It may pass fewer: a claim
+-- of the first may have made another node the better choice.
 abbrev pub SecondTickClaimsNothing : Type 0
 SecondTickClaimsNothing = (t : Table) (own : Origin) (notes : List Note) (now : ℕ) (s : StateValue) → IsState s → IsLive s.lives own.node own.inc
     → let first = tick_of t own notes now s in

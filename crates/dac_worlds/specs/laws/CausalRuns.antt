@@ -1,5 +1,5 @@
--- In a run in which no operation is handed alone, each set is closed, and each operation was issued as the next after
--- a closed set.
+-- Runs in which no operation is handed alone. In them each set is closed, and each operation was issued as the next
+-- after a closed set.
 use Rattle.std.proofs.Common.{◌≡◌, ℕ, zero, suc, ◌-◌, ◌+◌, true, false, cond, inl, inr, List, [], ◌∷◌, ◌++◌, Option, Some, None, Ok, Err, nat_eq, refl, sym, ap, subst, ◌∙◌, true≢false}
 use Rattle.std.specs.Prelude.{nat_lt}
 use Rattle.std.specs.List.{slice_get}

@@ -1,5 +1,5 @@
--- What a node has of another's log. A node is seen with its last incarnation, its set where it runs, and the sets
--- that the states of its log mean, the oldest first.
+-- What a node has of another's log. A node is seen with its last incarnation, and its set where it runs. It is seen
+-- with the sets that the states of its log mean, the oldest first.
 use Rattle.std.proofs.Common.{◌≡◌, ℕ, ◌<◌, ◌≤◌, ◌⊎◌, true, false, inl, inr, List, [], ◌++◌, length, take, max, Option, Some, refl, sym, ap, subst, ◌∙◌, append-nil, le_trans, le_refl, arith, leb, leb-true, leb-false}
 use Rattle.std.proofs.lemmas.List.{take-append-le, length-append}
 use Rattle.dac_operations.specs.Operations.{Operation}
@@ -71,7 +71,8 @@ longer b es more fs short is = let all = length-append es more in subst (λ (l :
 first_sets : (b : ℕ) (es more fs : Entries) → b ≤ length es → fs ≡ es ++ more → take b fs ≡ take b es
 first_sets b es more fs short is = ap (take b) is ∙ take-append-le b es more short
 
--- While node x runs incarnation j, its log has b states, and y has the operations of these for as long as it runs incarnation i.
+-- While node x runs incarnation j, its log has b states. Node y has the operations of these for as long as it runs
+-- incarnation i.
 pub record Covered (x y : Seen) (j b i : ℕ) : Type 0 where
   pub old : j ≤ x.last
   pub short : (now : NodeSet) → x.on ≡ Some now → x.last ≡ j → b ≤ length x.entries

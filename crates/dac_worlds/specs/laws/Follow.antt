@@ -1,4 +1,4 @@
--- How the program's world follows the model worlds that it shows.
+-- How the program's world follows the model worlds that show as it.
 use Rattle.std.proofs.Common.{◌≡◌, ℕ, ◌<◌, ◌-◌, Bool, true, false, cond, inl, inr, List, ◌∷◌, ◌++◌, Option, Some, None, Result, Ok, Err, length, nat_eq, refl, sym, ap, subst, ◌∙◌, lt-ltb, eq-eqb, get_or, true≢false}
 use Rattle.std.specs.Prelude.{nat_lt, unwrap_or, IsOk, IfOk, IfErr, IfSome, OnErr}
 use Rattle.std.specs.Option.{option_map}
@@ -36,7 +36,7 @@ use Rattle.dac_rules.specs.laws.Heard.{hears_exactly}
 use Rattle.dac_rules.specs.laws.Steps.{shown_accepted, answer_accepted, step_accepted}
 use Rattle.dac_rules.specs.laws.Options.{some_same}
 
--- the node of a world that shows v
+-- the node of a world that shows as v
 node_shown : (t : Table) (w : ModelWorld) (v : WorldValue) → Shows t w v → (me : NodeId) (old : NodeValue) → me.0 < length v.nodes → slice_get v.nodes me.0 ≡ Some old → shown t (w.node me) ≡ old
 node_shown t w v h me old lt is =
     let inside : nat_lt me.0 w.count ≡ true = ap (nat_lt me.0) (sym h.count) ∙ lt-ltb me.0 (length v.nodes) lt in
@@ -169,7 +169,7 @@ ok_follows t v u me e old become own reply here p goes = record {
     at w new n inside = pick w new (numbered n) (nat_eq n me.0) (nat_lt n w.count) (λ x. ap (λ k. nat_lt k w.count) (exact_unsigned_eq n me.0 x) ∙ inside)
 
 -- ---- from a node's event to the world's
--- the same step, said of the world that shows v
+-- the same step, said of the world that shows as v
 follows_by : (t : Table) (v u : WorldValue) (answer : Result Reply WorldFault) (f g : ModelWorld → WorldStepped) → ((w : ModelWorld) → Shows t w v → f w ≡ g w) → Follows t v f answer u → Follows t v g answer u
 follows_by t v u answer f g same h = record {
   each = λ w s. let r = h.each w s in (r.0, (subst (λ x. Step w x answer r.0) (same w s) r.1.0, r.1.1));

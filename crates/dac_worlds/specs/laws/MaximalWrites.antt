@@ -1,4 +1,4 @@
--- What stands in a closed set's meaning are its maximal writes, it knows no dot that it hasn't heard, and it has heard
+-- What stands in a closed set's meaning are its maximal writes. It knows no dot that it hasn't heard. It has heard
 -- the dots of each origin from 1 on.
 use Rattle.std.proofs.Common.{◌≡◌, ◌⊎◌, ℕ, zero, suc, ◌-◌, ◌<◌, ◌≤◌, Bool, true, false, ◌||◌, inl, inr, List, nat_eq, eq-eqb, refl, sym, ap, subst, ◌∙◌, arith, true≢false}
 use Rattle.std.specs.Prelude.{◌↔◌}

@@ -78,7 +78,7 @@ news-is os ps ops w v agree = (
 
 -- ---- one event of the world
 
--- where the node has the rest of what an event brings, there is news in the whole exactly where there is in the part that comes
+-- Where the node has the rest of what an event brings, the whole has news exactly where the part that comes has
 news_of_part : (os part all : List Operation) → Within part all → ((o : Operation) → In o all → In o part ⊎ In o os) → HasNews os part ↔ HasNews os all
 news_of_part os part all inside rest = (
   λ h. (h.0, (inside h.0 h.1.0, h.1.1)),

@@ -111,7 +111,7 @@ records_are_histories t events answers final run n =
     subst (λ (v : ModelWorld). IsHistory t n ((start t).node n) (records_at t n (start t) events answers) (v.node n)) (sym run.1)
     (records_along t n (start t) events answers run.0)
 
--- so the program's world shows where histories come to
+-- so where histories come to shows as the program's world
 pub have_histories : (t : Table) (events : List WorldEvent) (answers : List (Result Reply WorldFault)) (v : WorldValue) → RanAs t events answers v → HaveHistories t events answers v
 have_histories t events answers v ran = record {
   each = λ n x there. (ran.final.node (numbered n), (records_are_histories t events answers ran.final ran.run (numbered n), sym (node_there t ran.final v ran.shows n x there)));

@@ -70,7 +70,7 @@ ran_turn t es i bs v u e a f lt read r =
     (ran_more t (take i es) bs v e a u r f)
 
 -- ---- what is shown
--- the node that a place of the program's world shows
+-- what the node at a place of the program's world is
 pub node_there : (t : Table) (w : ModelWorld) (v : WorldValue) → Shows t w v → (n : ℕ) (x : NodeValue) → slice_get v.nodes n ≡ Some x → x ≡ shown t (w.node (numbered n))
 node_there t w v h n x e = there (nat_lt n w.count) (sym (h.nodes n) ∙ e)
   where
