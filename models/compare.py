@@ -18,7 +18,9 @@ from concurrent.futures import ProcessPoolExecutor
 from dataclasses import dataclass
 
 import check
+import random_scripts
 import random_texts
+import sim
 
 Model = Callable[[bytes], tuple[bytes, int]]
 BATCH = 50
@@ -44,7 +46,10 @@ class Difference:
     model: tuple[bytes, int]
 
 
-KINDS = {"check": Kind("check", random_texts.random_text, check.check)}
+KINDS = {
+    "check": Kind("check", random_texts.random_text, check.check),
+    "sim": Kind("sim", random_scripts.random_script, sim.simulate),
+}
 
 
 def run_program(program: list[str], word: str, source: bytes) -> tuple[bytes, int]:

@@ -32,11 +32,11 @@ CONFIGS = (
     b"[{kernel,[{distributed,[{a,[{x,y}]},{b,[{x,y}]},{c,[{x,y}]},{d,[y,x]},{e,3,[x,y]}]}]}].\n",
 )
 
-CALM = {"share": 6, "tick": 12, "start": 6, "stop": 2, "permit": 3, "crash": 2, "boot": 3, "down": 4, "takeover": 4, "page": 3}
-LETTERS = {"ship": 14, "hear": 18, "start": 4, "permit": 3, "boot": 2, "crash": 2, "tick": 4, "bytes": 2, "down": 2, "same": 1}
+CALM = {"share": 10, "tick": 16, "start": 6, "stop": 1, "permit": 3, "crash": 1, "boot": 1, "down": 2, "takeover": 4, "page": 2}
+LETTERS = {"ship": 14, "hear": 18, "start": 4, "permit": 3, "boot": 1, "crash": 1, "tick": 4, "bytes": 2, "down": 1, "same": 1}
 HANDS = {"hand": 16, "start": 6, "stop": 4, "permit": 6, "page": 3, "state": 2, "ship": 3, "hear": 3, "boot": 1, "tick": 1}
 FEEDS = {"feed": 16, "start": 3, "permit": 3, "tick": 2, "ship": 3, "bytes": 3, "share": 1}
-PAUSES = {"tick": 20, "crash": 3, "down": 8, "boot": 3, "share": 5, "start": 4, "permit": 2, "page": 2, "stop": 1}
+PAUSES = {"tick": 24, "crash": 2, "down": 2, "boot": 1, "share": 8, "start": 4, "permit": 2, "page": 2, "takeover": 1}
 ALL = dict.fromkeys(
     "boot crash down permit start stop takeover tick ship hear hand share page state same bytes feed".split(), 1
 )
@@ -100,9 +100,9 @@ class ScriptMaker:
     # Words
 
     def name_of(self, node: int) -> bytes:
-        """A node's name as a word. A name with a space can't be one."""
-        name = self.config.nodes[node]
-        return spelled(name) if b" " not in name else spelled(self.config.nodes[0])
+        """A node's name as a word. A name with a space can't be one, and then another node's stands in its place."""
+        names = [name for name in (self.config.nodes[node], *self.config.nodes) if b" " not in name]
+        return spelled(names[0])
 
     def node(self) -> bytes:
         """A node."""
@@ -143,6 +143,25 @@ class ScriptMaker:
         off = [node for node in range(len(self.config.nodes)) if not self.world.is_on(node)]
         choose = off and self.random.random() < 0.9
         self.add(b"boot", self.name_of(self.random.choice(off)) if choose else self.node(), self.moment())
+
+    def revive(self) -> None:
+        """A node that is off comes up, most often with start wishes for all that it may run."""
+        off = [node for node in range(len(self.config.nodes)) if not self.world.is_on(node)]
+        if not off:
+            return
+        node = self.random.choice(off)
+        self.add(b"boot", self.name_of(node), self.moment())
+        if self.random.random() < 0.6:
+            self.start_all(node, 0.9)
+        if self.random.random() < 0.5:
+            self.share()
+
+    def start_all(self, node: int, rate: float) -> None:
+        """Start wishes for what a node may run."""
+        for app in self.config.apps:
+            if app.group_of(node) is not None and b" " not in app.name and self.random.random() < rate:
+                at = self.name_of(node) if self.world.is_on(node) else self.on()
+                self.add(b"start", at, spelled(app.name), self.name_of(node))
 
     def crash(self) -> None:
         """A crash, and at times what follows: the word that the node is down."""
@@ -239,17 +258,17 @@ class ScriptMaker:
                 self.add(b"boot", self.name_of(node), b"%d" % self.now)
         if self.random.random() < 0.5:
             self.share()
-        for app in range(len(self.config.apps)):
-            for node in self.config.apps[app].nodes():
-                if self.random.random() < 0.7 and b" " not in self.config.apps[app].name:
-                    at = self.name_of(node) if self.world.is_on(node) else self.on()
-                    self.add(b"start", at, spelled(self.config.apps[app].name), self.name_of(node))
+        for node in range(len(self.config.nodes)):
+            self.start_all(node, 0.8)
         if self.random.random() < 0.7:
             self.share()
 
     def some(self, profile: dict[str, int], count: int) -> None:
         """Lines of a profile."""
         for _ in range(count):
+            off = sum(not self.world.is_on(node) for node in range(len(self.config.nodes)))
+            if self.random.random() < 0.25 * off / len(self.config.nodes):
+                self.revive()
             verb = self.random.choices(list(profile), list(profile.values()))[0]
             getattr(self, verb)()
 
@@ -391,7 +410,8 @@ def script_config(random: Random, seed: int, number: int) -> bytes:
             config = read_config(text)
         except ConfigFault:
             continue
-        if len(text) < 4_000 and len(config.apps) < 12 and b"--" not in text and b" " not in config.nodes[0]:
+        is_small = len(text) < 4_000 and len(config.apps) < 12 and b"--" not in text
+        if is_small and any(b" " not in name for name in config.nodes):
             return text + b"\n"
     return random.choice(CONFIGS)
 
