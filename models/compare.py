@@ -1,0 +1,119 @@
+#!/usr/bin/env python3
+"""Runs the program and the models on the same random inputs, and prints the first difference whole.
+
+Usage: python3 compare.py PROGRAM [--seed S] [--count N] [--scripts M] [--jobs J]
+
+PROGRAM may be a command of several words in one argument, as of a loader with its arguments. The word `check` or `sim` is
+added to it.
+"""
+
+from __future__ import annotations
+
+import argparse
+import shlex
+import subprocess
+import sys
+from collections.abc import Callable, Iterator
+from concurrent.futures import ProcessPoolExecutor
+from dataclasses import dataclass
+
+import check
+import random_scripts
+import random_texts
+import sim
+
+Model = Callable[[bytes], tuple[bytes, int]]
+BATCH = 50
+
+
+@dataclass(frozen=True)
+class Kind:
+    """A kind of input: the command's word, how an input is made of a seed and a number, and the model."""
+
+    word: str
+    make: Callable[[int, int], bytes]
+    model: Model
+
+
+@dataclass(frozen=True)
+class Difference:
+    """An input to which program and model answer differently."""
+
+    word: str
+    number: int
+    source: bytes
+    program: tuple[bytes, int]
+    model: tuple[bytes, int]
+
+
+KINDS = {
+    "check": Kind("check", random_texts.random_text, check.check),
+    "sim": Kind("sim", random_scripts.random_script, sim.simulate),
+}
+
+
+def run_program(program: list[str], word: str, source: bytes) -> tuple[bytes, int]:
+    """What the program prints for an input, and its exit status."""
+    done = subprocess.run([*program, word], input=source, stdout=subprocess.PIPE, check=False)
+    return done.stdout, done.returncode
+
+
+def compare_batch(program: list[str], word: str, seed: int, numbers: range) -> list[Difference]:
+    """The differences among the inputs of some numbers."""
+    kind = KINDS[word]
+    found = []
+    for number in numbers:
+        source = kind.make(seed, number)
+        said, expected = run_program(program, word, source), kind.model(source)
+        if said != expected:
+            found.append(Difference(word, number, source, said, expected))
+    return found
+
+
+def batches(word: str, count: int) -> Iterator[tuple[str, range]]:
+    """The numbers of all inputs of a kind, in batches."""
+    for start in range(0, count, BATCH):
+        yield word, range(start, min(start + BATCH, count))
+
+
+def compare_all(program: list[str], seed: int, texts: int, scripts: int, jobs: int) -> list[Difference]:
+    """All differences, found by several processes at once."""
+    work = [*batches("check", texts), *batches("sim", scripts)]
+    with ProcessPoolExecutor(jobs) as pool:
+        tasks = [pool.submit(compare_batch, program, word, seed, numbers) for word, numbers in work]
+        return [difference for task in tasks for difference in task.result()]
+
+
+def show(difference: Difference) -> None:
+    """Prints a difference whole."""
+    print(f"{difference.word} {difference.number}, the input as bytes and as it is:")
+    print(repr(difference.source))
+    print(difference.source.decode(errors="backslashreplace"))
+    for name, (output, status) in (("program", difference.program), ("model", difference.model)):
+        print(f"the {name}, with status {status}:")
+        print(output.decode(errors="backslashreplace"))
+
+
+def arguments() -> argparse.Namespace:
+    """The words of the command line."""
+    parser = argparse.ArgumentParser(description="Compares the program with the models on random inputs.")
+    parser.add_argument("--seed", type=int, default=1)
+    parser.add_argument("--count", type=int, default=20_000, help="how many texts for `check`")
+    parser.add_argument("--scripts", type=int, default=2_000, help="how many scripts for `sim`")
+    parser.add_argument("--jobs", type=int, default=2)
+    parser.add_argument("program", type=shlex.split, help="the program, or a command of several words")
+    return parser.parse_args()
+
+
+def main() -> int:
+    """Compares, shows the first difference, and counts all."""
+    words = arguments()
+    found = compare_all(words.program, words.seed, words.count, words.scripts, words.jobs)
+    if found:
+        show(found[0])
+    print(f"{words.count} texts, {words.scripts} scripts, {len(found)} differences")
+    return 1 if found else 0
+
+
+if __name__ == "__main__":
+    sys.exit(main())

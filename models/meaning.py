@@ -1,0 +1,187 @@
+"""Operations, and what a set of operations means. Nothing is joined here: each part is read off the whole set."""
+
+from __future__ import annotations
+
+from collections.abc import Iterable
+from dataclasses import dataclass, field
+from typing import NamedTuple
+
+NORMAL, FAILOVER, TAKEOVER = 1, 2, 3
+
+
+class Origin(NamedTuple):
+    """An incarnation of a node."""
+
+    node: int
+    inc: int
+
+
+class Dot(NamedTuple):
+    """The name of an operation: who issued it, and which one of its operations it is."""
+
+    node: int
+    inc: int
+    n: int
+
+    @property
+    def origin(self) -> Origin:
+        """Who issued it."""
+        return Origin(self.node, self.inc)
+
+
+class Key(NamedTuple):
+    """What a permission or a start wish is about."""
+
+    app: int
+    node: int
+    inc: int
+
+
+class Life(NamedTuple):
+    """The life of a node. At one incarnation up is below down."""
+
+    inc: int
+    is_down: bool
+
+
+class Claim(NamedTuple):
+    """A claim with its origin, in the order of claims. A `source` of -1 is none."""
+
+    term: int
+    node: int
+    inc: int
+    how: int
+    source: int
+
+    @property
+    def origin(self) -> Origin:
+        """Who claims."""
+        return Origin(self.node, self.inc)
+
+
+@dataclass(frozen=True)
+class Up:
+    """A node comes up."""
+
+
+@dataclass(frozen=True)
+class Down:
+    """An incarnation of a node is down."""
+
+    node: int
+    inc: int
+
+
+@dataclass(frozen=True)
+class Permit:
+    """A permission, in the place of others."""
+
+    key: Key
+    value: bool
+    over: tuple[Dot, ...]
+
+
+@dataclass(frozen=True)
+class Start:
+    """A start wish, in the place of others."""
+
+    key: Key
+    over: tuple[Dot, ...]
+
+
+@dataclass(frozen=True)
+class Stop:
+    """The end of some start wishes."""
+
+    key: Key
+    over: tuple[Dot, ...]
+
+
+@dataclass(frozen=True)
+class ClaimAct:
+    """An application is claimed by the one who issues it."""
+
+    app: int
+    term: int
+    how: int
+    source: int
+
+
+Act = Up | Down | Permit | Start | Stop | ClaimAct
+
+
+@dataclass(frozen=True)
+class Operation:
+    """An operation: its dot, and what it does."""
+
+    dot: Dot
+    act: Act
+
+    @property
+    def over(self) -> tuple[Dot, ...]:
+        """The dots that it replaces."""
+        return self.act.over if isinstance(self.act, (Permit, Start, Stop)) else ()
+
+
+@dataclass
+class Meaning:
+    """What a set of operations means, in six parts."""
+
+    heard: set[Dot] = field(default_factory=set)
+    known: set[Dot] = field(default_factory=set)
+    permits: dict[Key, dict[Dot, bool]] = field(default_factory=dict)
+    starts: dict[Key, set[Dot]] = field(default_factory=dict)
+    lives: dict[int, Life] = field(default_factory=dict)
+    claims: dict[int, Claim] = field(default_factory=dict)
+
+    def live(self, node: int) -> int | None:
+        """The incarnation at which a node is live."""
+        life = self.lives.get(node)
+        return None if life is None or life.is_down else life.inc
+
+    def standing(self, key: Key, permits: bool) -> tuple[Dot, ...]:
+        """The dots that stand at a key, of its permits or of its starts."""
+        return tuple(sorted(self.permits.get(key, {}) if permits else self.starts.get(key, ())))
+
+
+def meaning_of(operations: Iterable[Operation]) -> Meaning:
+    """The meaning of a set of operations."""
+    listed = list(operations)
+    found = Meaning()
+    found.heard = {operation.dot for operation in listed}
+    replaced = {dot for operation in listed for dot in operation.over}
+    found.known = found.heard | replaced
+    for operation in listed:
+        if operation.dot not in replaced:
+            add_standing(found, operation)
+        add_life(found, operation)
+        add_claim(found, operation)
+    return found
+
+
+def add_standing(found: Meaning, operation: Operation) -> None:
+    """Adds a permit or a start that nothing replaces."""
+    act = operation.act
+    if isinstance(act, Permit):
+        found.permits.setdefault(act.key, {})[operation.dot] = act.value
+    elif isinstance(act, Start):
+        found.starts.setdefault(act.key, set()).add(operation.dot)
+
+
+def add_life(found: Meaning, operation: Operation) -> None:
+    """Adds what an operation says of a node's life."""
+    if isinstance(operation.act, Up):
+        node, life = operation.dot.node, Life(operation.dot.inc, False)
+    elif isinstance(operation.act, Down):
+        node, life = operation.act.node, Life(operation.act.inc, True)
+    else:
+        return
+    found.lives[node] = max(found.lives.get(node, life), life)
+
+
+def add_claim(found: Meaning, operation: Operation) -> None:
+    """Adds a claim where it is the greatest of its application."""
+    act = operation.act
+    if isinstance(act, ClaimAct):
+        claim = Claim(act.term, operation.dot.node, operation.dot.inc, act.how, act.source)
+        found.claims[act.app] = max(found.claims.get(act.app, claim), claim)

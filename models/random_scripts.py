@@ -1,0 +1,443 @@
+#!/usr/bin/env python3
+"""Random inputs of `distac sim`: scripts that reach every verb and refusal, and faults of scripts and of bytes.
+
+A script is made line after line, and the model plays along, so that the next line can be one that does something. The same
+seed and number give the same input.
+
+Usage: python3 random_scripts.py SEED NUMBER
+"""
+
+from __future__ import annotations
+
+import sys
+from collections.abc import Callable
+from random import Random
+
+from check import MOST_INPUT, Config, ConfigFault, read_config, spelled
+from random_packets import changed_bytes, random_packet
+from random_texts import random_text
+from sim import LineReader, Player
+
+CONFIGS = (
+    b"[{kernel,[{distributed,[{myapp,5000,[cp1@cave,{cp2@cave,cp3@cave}]}]},"
+    b"{sync_nodes_mandatory,[cp2@cave,cp3@cave]},{sync_nodes_timeout,5000}]}].\n",
+    b"[{kernel,[{distributed,[{a,5000,[c1@h,{c2@h,c3@h}]},{b,[c2@h]}]}]}].\n",
+    b"[{kernel,[{distributed,[{a,[c1@h,{c2@h,c3@h}]}]}]}].\n",
+    b"[{kernel,[{distributed,[{a,10,[{x,y,z}]},{b,[{x,y},z]},{c,[z,{y,x}]},{d,0,[y,x]}]},{permissions,[{c,false}]}]}].\n",
+    b"[{kernel,[{distributed,[{a,[x,y,z]},{b,[{z,y}]}]},{sync_nodes_mandatory,[x]},{sync_nodes_optional,[y,'W w']},"
+    b"{sync_nodes_timeout,100}]}].\n",
+    b"[{kernel,[{distributed,[{a,7,[x,{y,z}]},{'B',[y,x]}]},{sync_nodes_optional,[x,y]},"
+    b"{sync_nodes_timeout,infinity}]}].\n",
+    b"[{kernel,[{distributed,[{a,[x]}]}]}].\n",
+    b"[{kernel,[{distributed,[{a,[{x,y}]},{b,[{x,y}]},{c,[{x,y}]},{d,[y,x]},{e,3,[x,y]}]}]}].\n",
+)
+
+CALM = {"share": 10, "tick": 16, "start": 6, "stop": 1, "permit": 3, "crash": 1, "boot": 1, "down": 2, "takeover": 4, "page": 2}
+LETTERS = {"ship": 14, "hear": 18, "start": 4, "permit": 3, "boot": 1, "crash": 1, "tick": 4, "bytes": 2, "down": 1, "same": 1}
+HANDS = {"hand": 16, "start": 6, "stop": 4, "permit": 6, "page": 3, "state": 2, "ship": 3, "hear": 3, "boot": 1, "tick": 1}
+FEEDS = {"feed": 16, "start": 3, "permit": 3, "tick": 2, "ship": 3, "bytes": 3, "share": 1}
+PAUSES = {"tick": 24, "crash": 2, "down": 2, "boot": 1, "share": 8, "start": 4, "permit": 2, "page": 2, "takeover": 1}
+ALL = dict.fromkeys(
+    "boot crash down permit start stop takeover tick ship hear hand share page state same bytes feed".split(), 1
+)
+PROFILES = (CALM, CALM, LETTERS, LETTERS, HANDS, FEEDS, PAUSES, PAUSES, ALL)
+
+ODD_WORDS = (
+    b"'true'",
+    b"True",
+    b"01",
+    b"-1",
+    b"4611686018427387904",
+    b"4611686018427387905",
+    b"99999999999999999999999",
+    b"1x",
+    b"fun",
+    b"'fun'",
+    b"Zz",
+    b"'",
+    b"''",
+    b"'a'b'",
+    b"'\\'",
+    b"a\t",
+    b"zz@h",
+    b"\r",
+    b"%",
+    b"0A",
+    b"abc",
+    b"0g",
+    b"boot",
+    b"'boot'",
+    b"live",
+    b"c1@h",
+    b"true",
+    b"\xc3\xa9",
+    b"'\xc3\xa9'",
+)
+
+
+class ScriptMaker:
+    """Makes a script, with the model playing along."""
+
+    def __init__(self, random: Random, config: Config) -> None:
+        self.random = random
+        self.config = config
+        self.player = Player(config)
+        self.reader = LineReader(config)
+        self.lines: list[bytes] = []
+        self.now = 0
+
+    @property
+    def world(self):  # noqa: ANN201 - the type is the player's
+        """The world as it is now."""
+        return self.player.world
+
+    def add(self, *words: bytes) -> None:
+        """Adds a line and plays it."""
+        line = b" ".join(words)
+        self.lines.append(line)
+        self.player.play(self.reader.read(line, 1))
+
+    # Words
+
+    def name_of(self, node: int) -> bytes:
+        """A node's name as a word. A name with a space can't be one, and then another node's stands in its place."""
+        names = [name for name in (self.config.nodes[node], *self.config.nodes) if b" " not in name]
+        return spelled(names[0])
+
+    def node(self) -> bytes:
+        """A node."""
+        return self.name_of(self.random.randrange(len(self.config.nodes)))
+
+    def on(self) -> bytes:
+        """A node that runs, most often."""
+        running = [node for node in range(len(self.config.nodes)) if self.world.is_on(node)]
+        if running and self.random.random() < 0.93:
+            return self.name_of(self.random.choice(running))
+        return self.node()
+
+    def about(self, app: int) -> bytes:
+        """A node that a line is about, most often of an application's list."""
+        roll = self.random.random()
+        if roll < 0.85 and app < len(self.config.apps):
+            return self.name_of(self.random.choice(self.config.apps[app].nodes()))
+        return self.random.choice((b"zz@h", b"'Zz'")) if roll > 0.97 else self.node()
+
+    def app(self) -> tuple[int, bytes]:
+        """An application and its word."""
+        apps = self.config.apps
+        at = self.random.randrange(len(apps))
+        if self.random.random() < 0.02 or b" " in apps[at].name:
+            return len(apps), b"zz"
+        return at, spelled(apps[at].name)
+
+    def moment(self) -> bytes:
+        """A moment, most often later than the one before."""
+        self.now += self.random.choice((0, 0, 1, 3, 7, 10, 100, 999, 1000, 4999, 5000))
+        back = self.random.choice((1, 100)) if self.random.random() < 0.04 else 0
+        return b"%d" % max(0, self.now - back)
+
+    # Lines
+
+    def boot(self) -> None:
+        """A boot, most often of a node that is off."""
+        off = [node for node in range(len(self.config.nodes)) if not self.world.is_on(node)]
+        choose = off and self.random.random() < 0.9
+        self.add(b"boot", self.name_of(self.random.choice(off)) if choose else self.node(), self.moment())
+
+    def revive(self) -> None:
+        """A node that is off comes up, most often with start wishes for all that it may run."""
+        off = [node for node in range(len(self.config.nodes)) if not self.world.is_on(node)]
+        if not off:
+            return
+        node = self.random.choice(off)
+        self.add(b"boot", self.name_of(node), self.moment())
+        if self.random.random() < 0.6:
+            self.start_all(node, 0.9)
+        if self.random.random() < 0.5:
+            self.share()
+
+    def start_all(self, node: int, rate: float) -> None:
+        """Start wishes for what a node may run."""
+        for app in self.config.apps:
+            if app.group_of(node) is not None and b" " not in app.name and self.random.random() < rate:
+                at = self.name_of(node) if self.world.is_on(node) else self.on()
+                self.add(b"start", at, spelled(app.name), self.name_of(node))
+
+    def crash(self) -> None:
+        """A crash, and at times what follows: the word that the node is down."""
+        node = self.on()
+        self.add(b"crash", node)
+        if self.random.random() < 0.5:
+            self.add(b"down", self.on(), node)
+
+    def down(self) -> None:
+        """The word that a node is down, most often of one that is."""
+        off = [node for node in range(len(self.config.nodes)) if not self.world.is_on(node)]
+        choose = off and self.random.random() < 0.7
+        self.add(b"down", self.on(), self.name_of(self.random.choice(off)) if choose else self.about(len(self.config.apps)))
+
+    def permit(self) -> None:
+        """A permission."""
+        app, word = self.app()
+        self.add(b"permit", self.on(), word, self.about(app), self.random.choice((b"true", b"true", b"false")))
+
+    def start(self) -> None:
+        """A start wish."""
+        app, word = self.app()
+        self.add(b"start", self.on(), word, self.about(app))
+
+    def stop(self) -> None:
+        """The end of start wishes."""
+        app, word = self.app()
+        self.add(b"stop", self.on(), word, self.about(app))
+
+    def takeover(self) -> None:
+        """A takeover by hand."""
+        self.add(b"takeover", self.on(), self.app()[1])
+
+    def tick(self) -> None:
+        """A tick."""
+        self.add(b"tick", self.on(), self.moment())
+
+    def ship(self) -> None:
+        """A ship."""
+        self.add(b"ship", self.on(), self.about(self.random.randrange(len(self.config.apps) + 1)))
+
+    def number_near(self, count: int) -> int:
+        """A number up to a count, most often one of the last."""
+        roll = self.random.random()
+        if count == 0 or roll < 0.02:
+            return self.random.choice((0, count + 1, 2**62))
+        return self.random.randint(max(1, count - 5), count) if roll < 0.7 else self.random.randint(1, count)
+
+    def hear(self) -> None:
+        """A delivery, most often to whom the message is for."""
+        number = self.number_near(len(self.world.messages))
+        node = self.node()
+        if 1 <= number <= len(self.world.messages) and self.random.random() < 0.92:
+            node = self.name_of(self.world.shipped(number).to)
+        self.add(b"hear", node, b"%d" % number)
+
+    def hand(self) -> None:
+        """A handing."""
+        self.add(b"hand", self.on(), b"%d" % self.number_near(len(self.world.operations)))
+
+    def share(self) -> None:
+        """A share."""
+        self.add(b"share")
+
+    def page(self) -> None:
+        """A page."""
+        self.add(b"page", self.on())
+
+    def state(self) -> None:
+        """The bytes of a state."""
+        self.add(b"state", self.on())
+
+    def same(self) -> None:
+        """A comparison of two states."""
+        self.add(b"same", self.on(), self.on())
+
+    def bytes(self) -> None:
+        """The bytes of a message."""
+        self.add(b"bytes", b"%d" % self.number_near(len(self.world.messages)))
+
+    def feed(self) -> None:
+        """The bytes of a packet, most often changed a little."""
+        data = random_packet(self.random, self.world)
+        for _ in range(self.random.choice((0, 1, 1, 1, 2))):
+            data = changed_bytes(self.random, data)
+        self.add(b"feed", (data or b"D").hex().encode())
+
+    # Whole scripts
+
+    def open(self) -> None:
+        """Nodes come up, and most often start what they may and share it."""
+        for node in range(len(self.config.nodes)):
+            if self.random.random() < 0.85:
+                self.add(b"boot", self.name_of(node), b"%d" % self.now)
+        if self.random.random() < 0.5:
+            self.share()
+        for node in range(len(self.config.nodes)):
+            self.start_all(node, 0.8)
+        if self.random.random() < 0.7:
+            self.share()
+
+    def some(self, profile: dict[str, int], count: int) -> None:
+        """Lines of a profile."""
+        for _ in range(count):
+            off = sum(not self.world.is_on(node) for node in range(len(self.config.nodes)))
+            if self.random.random() < 0.25 * off / len(self.config.nodes):
+                self.revive()
+            verb = self.random.choices(list(profile), list(profile.values()))[0]
+            getattr(self, verb)()
+
+    def close(self) -> None:
+        """Everything is shown."""
+        for node in range(len(self.config.nodes)):
+            self.add(b"page", self.name_of(node))
+            self.add(b"state", self.name_of(node))
+        self.add(b"bytes", b"%d" % len(self.world.messages))
+
+    def burst(self, count: int) -> None:
+        """Many commands at one node, whose oldest deltas are then dropped."""
+        node = self.on()
+        for _ in range(count):
+            app, word = self.app()
+            about = self.about(app)
+            if self.random.random() < 0.5:
+                self.add(b"permit", node, word, about, self.random.choice((b"true", b"false")))
+            else:
+                self.add(b"start", node, word, about)
+
+    def exchange(self, count: int) -> None:
+        """Ships and deliveries, some of them lost, doubled or late."""
+        for _ in range(count):
+            self.ship()
+            for _ in range(self.random.choice((0, 1, 1, 1, 2))):
+                self.hear()
+
+
+def usual(maker: ScriptMaker) -> None:
+    """A script of one profile, or of several after each other."""
+    maker.open()
+    for _ in range(maker.random.choice((1, 1, 2, 3))):
+        maker.some(maker.random.choice(PROFILES), maker.random.choice((5, 20, 40)))
+    maker.close()
+
+
+def dropped_fronts(maker: ScriptMaker) -> None:
+    """Acknowledgements, then more deltas than are kept, or nearly, and ships again."""
+    maker.open()
+    maker.exchange(8)
+    for _ in range(maker.random.choice((1, 2))):
+        maker.burst(maker.random.choice((120, 245, 255, 256, 257, 270)))
+        maker.exchange(6)
+        maker.some(LETTERS, 10)
+    maker.close()
+
+
+def standing_dots(maker: ScriptMaker) -> None:
+    """Many standing starts of one key, each of another incarnation: as many as may be replaced, or one more."""
+    first, other = maker.name_of(0), maker.name_of(len(maker.config.nodes) - 1)
+    app = next((app for app in maker.config.apps if app.group_of(0) is not None and b" " not in app.name), None)
+    count = maker.random.choice((1023, 1024, 1025, 1026))
+    if app is None or first == other:
+        return usual(maker)
+    word = spelled(app.name)
+    maker.add(b"boot", first, b"0")
+    starts = []
+    for _ in range(count):
+        maker.add(b"boot", other, b"0")
+        maker.add(b"hand", other, b"1")
+        maker.add(b"start", other, word, first)
+        starts.append(len(maker.world.operations))
+        maker.add(b"crash", other)
+    for number in starts:
+        maker.add(b"hand", first, b"%d" % number)
+    verb = maker.random.choice((b"start", b"stop"))
+    maker.add(verb, first, word, first)
+    maker.add(b"page", first)
+    return None
+
+
+def quiet(maker: ScriptMaker) -> None:
+    """Two nodes exchange all until there is nothing left to say, then go on."""
+    maker.open()
+    for _ in range(maker.random.randint(2, 6)):
+        maker.share()
+    maker.some(CALM, 10)
+    maker.exchange(10)
+    maker.some(LETTERS, 30)
+    maker.close()
+
+
+# Around the script
+
+
+def decorated(random: Random, lines: list[bytes]) -> bytes:
+    """The lines as a script, some with more spaces, some with comments or empty lines between them."""
+    found: list[bytes] = []
+    for line in lines:
+        roll = random.random()
+        if roll < 0.02:
+            line = b" " + line.replace(b" ", b"  ") + b" "
+        elif roll < 0.04:
+            found.append(random.choice((b"", b"% note", b"%")))
+        found.append(line)
+    return b"\n".join(found) + random.choice((b"", b"\n", b"\n\n"))
+
+
+def with_fault(random: Random, lines: list[bytes]) -> list[bytes]:
+    """The lines with one changed so that it has a fault, most likely."""
+    at = random.randrange(len(lines))
+    words = lines[at].split(b" ")
+    place = random.randrange(len(words) + 1)
+    roll = random.randrange(4)
+    if roll == 0:
+        words = words[:place] + words[place + 1 :]
+    elif roll == 1:
+        words.insert(place, random.choice(ODD_WORDS))
+    elif roll == 2:
+        words[place : place + 1] = [random.choice(ODD_WORDS)]
+    else:
+        words = [random.choice(ODD_WORDS) if random.random() < 0.5 else word for word in words]
+    return [*lines[:at], b" ".join(words) or b" ", *lines[at + 1 :]]
+
+
+def odd_input(random: Random, text: bytes, script: bytes) -> bytes:
+    """An input with something wrong around the script, or nearly."""
+    mark = random.choice((b"", b"-- \n", b"--\r\n", b" --\n", b"---\n", b"--", b"--\n--\n", b"--\n\n--\n"))
+    choices = (
+        lambda: text + mark + script,
+        lambda: script,
+        lambda: b"--\n" + script,
+        lambda: text + b"--",
+        lambda: text[: random.randrange(len(text))] + b"\n--\n" + script,
+        lambda: text.rstrip(b"\n") + b"--\n" + script,
+        lambda: text + b"--\n" + script + b"\n%" + b" " * (MOST_INPUT - len(text) - len(script) - 5 + random.randint(-1, 2)),
+    )
+    return random.choice(choices)()
+
+
+def script_config(random: Random, seed: int, number: int) -> bytes:
+    """A configuration to play with: one of the chosen ones, or any that is valid."""
+    if random.random() < 0.7:
+        return random.choice(CONFIGS)
+    for other in range(20):
+        text = random_text(seed, -1 - number * 20 - other)
+        try:
+            config = read_config(text)
+        except ConfigFault:
+            continue
+        is_small = len(text) < 4_000 and len(config.apps) < 12 and b"--" not in text
+        if is_small and any(b" " not in name for name in config.nodes):
+            return text + b"\n"
+    return random.choice(CONFIGS)
+
+
+KINDS: tuple[tuple[Callable[[ScriptMaker], None], int], ...] = (
+    (usual, 860),
+    (quiet, 100),
+    (dropped_fronts, 38),
+    (standing_dots, 2),
+)
+
+
+def random_script(seed: int, number: int) -> bytes:
+    """The input of a number under a seed."""
+    random = Random(f"script {seed} {number}")
+    text = script_config(random, seed, number)
+    maker = ScriptMaker(random, read_config(text))
+    kinds, weights = zip(*KINDS)
+    random.choices(kinds, weights)[0](maker)
+    lines = maker.lines
+    roll = random.random()
+    if roll < 0.08 and lines:
+        lines = with_fault(random, lines)
+    script = decorated(random, lines)
+    return odd_input(random, text, script) if roll > 0.98 else text + b"--\n" + script
+
+
+if __name__ == "__main__":
+    sys.stdout.buffer.write(random_script(int(sys.argv[1]), int(sys.argv[2])))

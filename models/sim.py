@@ -1,0 +1,406 @@
+#!/usr/bin/env python3
+"""An outside model of `distac sim`: a configuration and a script in, what the program prints for each line out.
+
+Usage: python3 sim.py < FILE
+"""
+
+from __future__ import annotations
+
+import sys
+from collections.abc import Callable
+from dataclasses import dataclass
+
+import placement
+from check import MOST_INPUT, Config, ConfigFault, is_bare_atom, read_config, spelled
+from meaning import FAILOVER, NORMAL, TAKEOVER, Claim, ClaimAct, Key, Meaning
+from wire import INTERVAL, NOTHING, WHOLE, WireFault, message_bytes, read_packet, state_bytes
+from world import NoSuch, Refused, Ticked, World
+
+MOST_NUMBER = 2**62
+SCRIPT_FAULTS = ("BadWord", "BadCount", "BadName", "BadNumber", "UnknownActor", "BadHex")
+HOW_NAMES = {NORMAL: b"normal", FAILOVER: b"failover", TAKEOVER: b"takeover"}
+BODY_NAMES = {WHOLE: "whole", INTERVAL: "interval", NOTHING: "nothing"}
+
+ACTOR, NODE, APP, NUMBER, TRUTH, HEX = "actor", "node", "app", "number", "truth", "hex"
+
+SHAPES: dict[bytes, tuple[str, ...]] = {
+    b"boot": (ACTOR, NUMBER),
+    b"crash": (ACTOR,),
+    b"down": (ACTOR, NODE),
+    b"permit": (ACTOR, APP, NODE, TRUTH),
+    b"start": (ACTOR, APP, NODE),
+    b"stop": (ACTOR, APP, NODE),
+    b"takeover": (ACTOR, APP),
+    b"tick": (ACTOR, NUMBER),
+    b"ship": (ACTOR, NODE),
+    b"hear": (ACTOR, NUMBER),
+    b"hand": (ACTOR, NUMBER),
+    b"share": (),
+    b"page": (ACTOR,),
+    b"state": (ACTOR,),
+    b"same": (ACTOR, ACTOR),
+    b"bytes": (NUMBER,),
+    b"feed": (HEX,),
+}
+
+
+class ScriptFault(Exception):
+    """The first fault of a script."""
+
+    def __init__(self, line: int, kind: str) -> None:
+        super().__init__(line, kind)
+        self.number = line
+        self.kind = kind
+
+    def line(self) -> str:
+        """The line that the program prints for it."""
+        return f"script fault {self.number} {SCRIPT_FAULTS.index(self.kind) + 1} {self.kind}"
+
+
+# Reading
+
+
+Value = int | bool | bytes
+
+
+@dataclass(frozen=True)
+class Line:
+    """A line that is in order: its first word, and the values of the others."""
+
+    word: bytes
+    values: tuple[Value, ...]
+
+
+def atom_name(word: bytes) -> bytes | None:
+    """The name that a word spells, if it is an atom."""
+    if is_bare_atom(word):
+        return word
+    inner = word[1:-1]
+    is_quoted = len(word) >= 2 and word[:1] == b"'" == word[-1:]
+    if is_quoted and not any(byte < 0x20 or byte in b"'\\\x7f" for byte in inner):
+        return inner
+    return None
+
+
+def number_of(word: bytes) -> int | None:
+    """The number that a word is, if it is one within bounds."""
+    if not word.isdigit() or (word[:1] == b"0" and word != b"0") or len(word) > len(str(MOST_NUMBER)):
+        return None
+    return int(word) if int(word) <= MOST_NUMBER else None
+
+
+def bytes_of(word: bytes) -> bytes | None:
+    """The bytes that a word spells, if it does."""
+    if len(word) % 2 or any(byte not in b"0123456789abcdef" for byte in word):
+        return None
+    return bytes.fromhex(word.decode())
+
+
+def place_of(name: bytes, names: list[bytes]) -> int:
+    """The place of a name among others, or the number just past them."""
+    return names.index(name) if name in names else len(names)
+
+
+class LineReader:
+    """Reads the lines of a script under a configuration."""
+
+    def __init__(self, config: Config) -> None:
+        self.nodes = list(config.nodes)
+        self.apps = [app.name for app in config.apps]
+
+    def fault_of(self, words: list[bytes]) -> str | None:
+        """The least kind of fault of a line, over all its words."""
+        if words[0] not in SHAPES:
+            return "BadWord"
+        shape = SHAPES[words[0]]
+        if len(words) != len(shape) + 1:
+            return "BadCount"
+        faults = [self.fault_of_word(kind, word) for kind, word in zip(shape, words[1:])]
+        return min((fault for fault in faults if fault), key=SCRIPT_FAULTS.index, default=None)
+
+    def fault_of_word(self, kind: str, word: bytes) -> str | None:
+        """What is wrong with a word."""
+        if kind in (ACTOR, NODE, APP) and atom_name(word) is None:
+            return "BadName"
+        if kind == TRUTH and word not in (b"true", b"false"):
+            return "BadName"
+        if kind == NUMBER and number_of(word) is None:
+            return "BadNumber"
+        if kind == ACTOR and atom_name(word) not in self.nodes:
+            return "UnknownActor"
+        return "BadHex" if kind == HEX and bytes_of(word) is None else None
+
+    def value_of(self, kind: str, word: bytes) -> Value:
+        """The value of a word that is in order."""
+        if kind in (ACTOR, NODE):
+            return place_of(atom_name(word) or b"", self.nodes)
+        if kind == APP:
+            return place_of(atom_name(word) or b"", self.apps)
+        if kind == NUMBER:
+            return number_of(word) or 0
+        return word == b"true" if kind == TRUTH else bytes_of(word) or b""
+
+    def read(self, line: bytes, number: int) -> Line:
+        """A line, or its fault."""
+        words = [word for word in line.split(b" ") if word] or [b""]
+        fault = self.fault_of(words)
+        if fault is not None:
+            raise ScriptFault(number, fault)
+        values = [self.value_of(kind, word) for kind, word in zip(SHAPES[words[0]], words[1:])]
+        return Line(words[0], tuple(values))
+
+
+def read_script(config: Config, script: bytes) -> list[Line]:
+    """All lines of a script that do something, or the first fault."""
+    reader = LineReader(config)
+    lines = enumerate(script.split(b"\n"), 1)
+    return [reader.read(line, number) for number, line in lines if line and line[:1] != b"%"]
+
+
+def parted(source: bytes) -> tuple[bytes, bytes] | None:
+    """The configuration and the script of an input, at its first line that is exactly two dashes."""
+    at = 0
+    while at < len(source):
+        line_end = source.find(b"\n", at)
+        past = len(source) if line_end < 0 else line_end
+        if source[at:past] == b"--":
+            return source[:at], source[past + 1 :]
+        at = past + 1
+    return None
+
+
+# Printing
+
+
+class Printer:
+    """The texts of a world."""
+
+    def __init__(self, world: World) -> None:
+        self.world = world
+        self.config = world.config
+
+    def node(self, node: int) -> bytes:
+        """The name of a node."""
+        return spelled(self.config.nodes[node])
+
+    def app(self, app: int) -> bytes:
+        """The name of an application."""
+        return spelled(self.config.apps[app].name)
+
+    def how(self, how: int, source: int) -> bytes:
+        """How an application was claimed."""
+        return HOW_NAMES[how] + (b" from " + self.node(source) if source >= 0 else b"")
+
+    def issued(self, number: int) -> bytes:
+        """An operation that a command issued."""
+        dot = self.world.operations[number - 1].dot
+        return b"issued %d %s %d %d" % (number, self.node(dot.node), dot.inc, dot.n)
+
+    def claim(self, number: int) -> bytes:
+        """A claim of a tick."""
+        act = self.world.operations[number - 1].act
+        if not isinstance(act, ClaimAct):
+            raise TypeError(act)
+        return b"claim %d %s term %d %s" % (number, self.app(act.app), act.term, self.how(act.how, act.source))
+
+    def shipped(self, number: int) -> bytes:
+        """A shipped message."""
+        message = self.world.shipped(number)
+        heard = "" if message.kind == NOTHING else f" {message.body.bit_count()}"
+        return f"shipped {number} {BODY_NAMES[message.kind]}{heard}".encode()
+
+    def page(self, node: int) -> list[bytes]:
+        """The page of a node."""
+        running = self.world.nodes[node].running
+        if running is None:
+            return [self.off(node)]
+        state = self.world.state(node)
+        lines = [b"node %s %d" % (self.node(node), running.inc)]
+        lines.append(b"heard %d known %d" % (len(state.heard), len(state.known)))
+        lines += [self.life(state, other) for other in range(len(self.config.nodes))]
+        for app in range(len(self.config.apps)):
+            lines += [self.app_line(state, app), self.list_line(state, app)]
+        return lines
+
+    def off(self, node: int) -> bytes:
+        """The header of a node that is off."""
+        return b"node %s off" % self.node(node)
+
+    def life(self, state: Meaning, node: int) -> bytes:
+        """The line of a node's life."""
+        life = state.lives.get(node)
+        if life is None:
+            return b"node %s unknown" % self.node(node)
+        return b"node %s %s %d" % (self.node(node), b"down" if life.is_down else b"up", life.inc)
+
+    def app_line(self, state: Meaning, app: int) -> bytes:
+        """The line of an application: who holds it, and what is to become of it."""
+        claim = state.claims.get(app)
+        found = placement.verdict(self.config, state, app)
+        at = b"" if found.node is None else b" " + self.node(found.node)
+        holder = b"none" if claim is None else self.holder(claim)
+        return b"app %s holder %s verdict %s%s" % (self.app(app), holder, found.what.encode(), at)
+
+    def holder(self, claim: Claim) -> bytes:
+        """The holder of an application."""
+        return b"%s %d term %d %s" % (self.node(claim.node), claim.inc, claim.term, self.how(claim.how, claim.source))
+
+    def list_line(self, state: Meaning, app: int) -> bytes:
+        """The line of an application's list."""
+        listed = self.config.apps[app].nodes()
+        return b"list" + b"".join(b" %s=%s" % (self.node(node), self.mark(state, app, node)) for node in listed)
+
+    def mark(self, state: Meaning, app: int, node: int) -> bytes:
+        """How a node of a list stands."""
+        inc = state.live(node)
+        if inc is None:
+            return b"down"
+        key = Key(app, node, inc)
+        if not placement.is_permitted(self.config, state, key):
+            return b"barred"
+        return b"ok" if placement.is_wished(state, key) else b"idle"
+
+
+# Playing
+
+
+class Player:
+    """Plays lines, one after another."""
+
+    def __init__(self, config: Config) -> None:
+        self.world = World(config)
+        self.text = Printer(self.world)
+
+    def play(self, line: Line) -> list[bytes]:
+        """What is printed for a line."""
+        method: Callable[..., list[bytes]] = getattr(self, "play_" + line.word.decode())
+        try:
+            return method(*line.values)
+        except Refused as refused:
+            return [refused.line().encode()]
+
+    def play_boot(self, node: int, now: int) -> list[bytes]:
+        """A boot."""
+        number = self.world.boot(node, now)
+        return [b"booted %d op %d" % (self.world.nodes[node].last, number)]
+
+    def play_crash(self, node: int) -> list[bytes]:
+        """A crash."""
+        self.world.crash(node)
+        return [b"crashed"]
+
+    def play_down(self, node: int, about: int) -> list[bytes]:
+        """The word that a node is down."""
+        return [self.text.issued(self.world.down(node, about))]
+
+    def play_permit(self, node: int, app: int, about: int, value: bool) -> list[bytes]:
+        """A permission."""
+        return [self.text.issued(self.world.permit(node, app, about, value))]
+
+    def play_start(self, node: int, app: int, about: int) -> list[bytes]:
+        """A start wish."""
+        return [self.text.issued(self.world.start(node, app, about))]
+
+    def play_stop(self, node: int, app: int, about: int) -> list[bytes]:
+        """The end of start wishes."""
+        return [self.text.issued(self.world.stop(node, app, about))]
+
+    def play_takeover(self, node: int, app: int) -> list[bytes]:
+        """A takeover by hand."""
+        return [self.text.issued(self.world.takeover(node, app))]
+
+    def play_tick(self, node: int, now: int) -> list[bytes]:
+        """A tick."""
+        found = self.world.tick(node, now)
+        if isinstance(found, Ticked):
+            return [b"ticked", *(self.text.claim(number) for number in found.issued)]
+        return [found.encode()]
+
+    def play_ship(self, node: int, to: int) -> list[bytes]:
+        """A ship."""
+        return [self.text.shipped(self.world.ship(node, to))]
+
+    def play_hear(self, node: int, number: int) -> list[bytes]:
+        """A delivery."""
+        try:
+            return [b"heard new" if self.world.hear(node, number) else b"heard nothing new"]
+        except NoSuch:
+            return [b"no message %d" % number]
+
+    def play_hand(self, node: int, number: int) -> list[bytes]:
+        """A handing."""
+        try:
+            return [b"heard new" if self.world.hand(node, number) else b"heard nothing new"]
+        except NoSuch:
+            return [b"no operation %d" % number]
+
+    def play_share(self) -> list[bytes]:
+        """A share."""
+        return [b"shared %d" % self.world.share()]
+
+    def play_page(self, node: int) -> list[bytes]:
+        """A page."""
+        return self.text.page(node)
+
+    def play_state(self, node: int) -> list[bytes]:
+        """The bytes of a state."""
+        if not self.world.is_on(node):
+            return [self.text.off(node)]
+        return [state_bytes(self.world.state(node)).hex().encode()]
+
+    def play_same(self, node: int, other: int) -> list[bytes]:
+        """Whether two states have the same bytes."""
+        for one in (node, other):
+            if not self.world.is_on(one):
+                return [self.text.off(one)]
+        is_same = state_bytes(self.world.state(node)) == state_bytes(self.world.state(other))
+        return [b"same" if is_same else b"differ"]
+
+    def play_bytes(self, number: int) -> list[bytes]:
+        """The bytes of a message."""
+        try:
+            return [message_bytes(self.world.config, self.world.message(number)).hex().encode()]
+        except NoSuch:
+            return [b"no message %d" % number]
+        except WireFault as fault:
+            return [fault.line().encode()]
+
+    def play_feed(self, data: bytes) -> list[bytes]:
+        """Bytes that are read as a packet."""
+        try:
+            read_packet(self.world.config, data)
+        except WireFault as fault:
+            return [fault.line().encode()]
+        return [b"wire ok"]
+
+
+def play_all(config: Config, lines: list[Line]) -> bytes:
+    """What is printed for all lines."""
+    player = Player(config)
+    return b"".join(text + b"\n" for line in lines for text in player.play(line))
+
+
+def simulate(source: bytes) -> tuple[bytes, int]:
+    """What the program prints for an input, and its exit status."""
+    if len(source) > MOST_INPUT:
+        return b"input fault 1 TooLong\n", 1
+    parts = parted(source)
+    if parts is None:
+        return b"input fault 2 NoScript\n", 1
+    try:
+        config = read_config(parts[0])
+        lines = read_script(config, parts[1])
+    except (ConfigFault, ScriptFault) as fault:
+        return fault.line().encode() + b"\n", 1
+    return play_all(config, lines), 0
+
+
+def main() -> int:
+    """Plays the standard input."""
+    output, status = simulate(sys.stdin.buffer.read())
+    sys.stdout.buffer.write(output)
+    return status
+
+
+if __name__ == "__main__":
+    sys.exit(main())

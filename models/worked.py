@@ -1,0 +1,417 @@
+#!/usr/bin/env python3
+"""Worked examples, whose answers were written down before any program: the models have to give them.
+
+Usage: python3 worked.py
+"""
+
+from __future__ import annotations
+
+import re
+import sys
+from collections.abc import Callable, Iterator
+from dataclasses import dataclass
+
+from check import Config, check, read_config
+from meaning import NORMAL, ClaimAct, Dot, Down, Key, Meaning, Operation, Start, Up, meaning_of
+from placement import load, verdict
+from sim import LineReader, Player, simulate
+from wire import WireFault, context_bytes, is_operation, read_packet, read_state, state_bytes
+
+EXAMPLE = b"""[{kernel,
+ [{distributed, [{myapp, 5000, [cp1@cave, {cp2@cave, cp3@cave}]}]},
+  {sync_nodes_mandatory, [cp2@cave, cp3@cave]},
+  {sync_nodes_timeout, 5000}
+ ]
+}
+].
+"""
+TWO_APPLICATIONS = b"[{kernel,[{distributed,[{a,5000,[c1@h,{c2@h,c3@h}]},{b,[c2@h]}]}]}].\n"
+ONE_APPLICATION = b"[{kernel,[{distributed,[{a,[c1@h,{c2@h,c3@h}]}]}]}].\n"
+
+SHORT = {"p": "cp1@cave", "q": "cp2@cave", "r": "cp3@cave", "x": "c1@h", "y": "c2@h", "z": "c3@h", "m": "myapp"}
+ANY_LINES = ".."
+
+
+def whole(text: str) -> list[str]:
+    """The lines of a shortened text, with whole names."""
+    text = re.sub(r"\+(\d+) ", r"issued \1 ", text)
+    text = re.sub(r"(?<![\w@'])[pqrxyzm](?![\w@'])", lambda found: SHORT[found[0]], text)
+    return [line.strip() for line in text.split(";") if line.strip()]
+
+
+def matches(lines: list[str], expected: list[str]) -> bool:
+    """Whether lines are those expected, where two dots stand for any lines."""
+    if not expected:
+        return not lines
+    if expected[0] == ANY_LINES:
+        return any(matches(lines[at:], expected[1:]) for at in range(len(lines) + 1))
+    return lines[:1] == expected[:1] and matches(lines[1:], expected[1:])
+
+
+@dataclass(frozen=True)
+class Row:
+    """A script under a configuration, after some nodes booted, and what it prints. What a share prints is left out."""
+
+    name: str
+    config: bytes
+    booted: str
+    script: str
+    output: str
+
+    def failure(self) -> str | None:
+        """What is wrong, if anything."""
+        config = read_config(self.config)
+        player, reader = Player(config), LineReader(config)
+        printed: list[str] = []
+        boots = [f"boot {node} 0" for node in whole(self.booted.replace(" ", ";"))]
+        for line in [*boots, *whole(self.script)]:
+            texts = [text.decode() for text in player.play(reader.read(line.encode(), 1))]
+            if line == "share":
+                count = sum(player.world.is_on(node) for node in range(len(config.nodes)))
+                if texts != [f"shared {count * (count - 1)}"]:
+                    return f"{line}: {texts}"
+            else:
+                printed += texts
+        opening = [f"booted 1 op {number + 1}" for number in range(len(boots))]
+        if not matches(printed, opening + whole(self.output)):
+            return "\n".join(printed)
+        return None
+
+
+FIRST_PATH = "start p m p;ship p q;hear q 1;ship q p;hear p 2;same p q"
+FIRST_PATH_OUT = "+3 p 1 2;shipped 1 whole 2;heard new;shipped 2 whole 3;heard new;same"
+OUT_OF_ORDER = (
+    "permit p m p false;permit p m p true;permit p m p true;start p m p;"
+    "hand q 1;hand q 6;hand q 5;hand q 3;page q;hand q 4;page q;hand q 4;ship q p;hear p 1;same p q"
+)
+OUT_OF_ORDER_OUT = (
+    "+3 p 1 2;+4 p 1 3;+5 p 1 4;+6 p 1 5;heard new;heard new;heard new;heard new;"
+    "node q 1;heard 5 known 6;node p up 1;node q up 1;node r unknown;"
+    "app m holder none verdict nobody;list p=barred q=idle r=down;heard new;"
+    "node q 1;heard 6 known 6;node p up 1;node q up 1;node r unknown;"
+    "app m holder none verdict start p;list p=ok q=idle r=down;"
+    "heard nothing new;shipped 1 whole 6;heard new;same"
+)
+WAIT_STARTS = "start x a x;start y a y;start y b y;start z a z;share;tick x 0;tick y 0;share;crash x;down z x;tick z 1000;"
+WAIT_STARTS_OUT = (
+    "+4 x 1 2;+5 y 1 2;+6 y 1 3;+7 z 1 2;ticked;claim 8 a term 1 normal;ticked;claim 9 b term 1 normal;"
+    "crashed;+10 z 1 3;ticked;"
+)
+REBOOT = (
+    "ship p q;hear q 1;ship q p;hear p 2;start p m p;crash q;boot q 10;ship p q;hear q 3;ship q p;hear p 4;ship p q;hear q 5;"
+)
+REBOOT_OUT = (
+    "shipped 1 whole 1;heard new;shipped 2 whole 2;heard new;+3 p 1 2;crashed;booted 2 op 4;shipped 3 interval 3;"
+    "refused 15 NotForMe;shipped 4 whole 1;heard new;shipped 5 whole 4;heard new;"
+)
+PERMISSIONS = (
+    "permit x a x false;permit y a y true;share;permit y a x true;same x y;share;same x y",
+    "+3 x 1 2;+4 y 1 2;+5 y 1 3;differ;same",
+)
+
+ROWS = (
+    Row("first path", EXAMPLE, "p q", FIRST_PATH, FIRST_PATH_OUT),
+    Row(
+        "first path and a stop",
+        EXAMPLE,
+        "p q",
+        FIRST_PATH + ";stop q m p;same p q",
+        FIRST_PATH_OUT + ";+4 q 1 2;differ",
+    ),
+    Row("permissions", ONE_APPLICATION, "x y", *PERMISSIONS),
+    Row(
+        "start and claim",
+        EXAMPLE,
+        "p q r",
+        "start p m p;start q m q;start r m r;tick p 0;share;tick p 0;tick p 0;share;page q",
+        "+4 p 1 2;+5 q 1 2;+6 r 1 2;held;ticked;claim 7 m term 1 normal;ticked;node q 1;heard 7 known 7;..;"
+        "app m holder p 1 term 1 normal verdict kept p;list p=ok q=ok r=ok",
+    ),
+    Row(
+        "fresh page",
+        EXAMPLE,
+        "q",
+        "page q;state q",
+        "node q 1;heard 1 known 1;node p unknown;node q up 1;node r unknown;app m holder none verdict nobody;"
+        "list p=down q=idle r=down;"
+        "00010100000001000000000000000100000000000101000000010000000000000001000000000000000000000000010100000001000000",
+    ),
+    Row("handed out of order", EXAMPLE, "p q", OUT_OF_ORDER, OUT_OF_ORDER_OUT),
+    Row("gate gives up", EXAMPLE, "p", "tick p 4999;tick p 5000;page p;boot p 6000", "held;gave up;node p off;booted 2 op 2"),
+    Row(
+        "failover after the wait",
+        TWO_APPLICATIONS,
+        "x y z",
+        WAIT_STARTS + "tick z 5999;tick z 6000",
+        WAIT_STARTS_OUT + "ticked;ticked;claim 11 a term 2 failover from x",
+    ),
+    Row(
+        "failover where loads tie",
+        TWO_APPLICATIONS,
+        "x y z",
+        WAIT_STARTS.replace("start y b y;", "") + "tick z 5999;tick z 6000;page z",
+        "..;ticked;ticked;node z 1;..;app a holder x 1 term 1 normal verdict failover y;..",
+    ),
+    Row(
+        "return inside the wait",
+        TWO_APPLICATIONS,
+        "x y z",
+        WAIT_STARTS + "boot x 3000;start x a x;share;tick x 3000",
+        WAIT_STARTS_OUT + "booted 2 op 11;+12 x 2 2;ticked;claim 13 a term 2 failover from x",
+    ),
+    Row("interval after a reboot", EXAMPLE, "p q", REBOOT, REBOOT_OUT),
+    Row(
+        "repeats and an older message",
+        EXAMPLE,
+        "p q",
+        REBOOT + "hear q 5;hear q 1;ship q p;hear p 6;ship p q;hear q 7;ship p q;ship q p",
+        REBOOT_OUT + "heard nothing new;heard nothing new;shipped 6 interval 4;heard nothing new;shipped 7 nothing;"
+        "heard nothing new;refused 16 UpToDate;refused 16 UpToDate",
+    ),
+    Row(
+        "two claims of one term",
+        ONE_APPLICATION,
+        "x y z",
+        "start x a x;start z a z;share;tick x 0;share;crash x;start y a y;down y x;down z x;tick y 10;tick z 10;share;page y",
+        "+4 x 1 2;+5 z 1 2;ticked;claim 6 a term 1 normal;crashed;+7 y 1 2;+8 y 1 3;+9 z 1 3;ticked;"
+        "claim 10 a term 2 failover from x;ticked;claim 11 a term 2 failover from x;node y 1;heard 11 known 11;..;"
+        "app a holder z 1 term 2 failover from x verdict kept z;list x=down y=ok z=ok",
+    ),
+    Row(
+        "permission false",
+        TWO_APPLICATIONS,
+        "x z",
+        "start x a x;start z a z;share;tick x 0;permit x a x false;share;tick z 0;permit z a z false;page z",
+        "+3 x 1 2;+4 z 1 2;ticked;claim 5 a term 1 normal;+6 x 1 4;ticked;claim 7 a term 2 normal;+8 z 1 4;node z 1;"
+        "heard 8 known 8;..;app a holder z 1 term 2 normal verdict nobody;list x=barred y=down z=barred;"
+        "app b holder none verdict nobody;list y=down",
+    ),
+    Row(
+        "halted, then failover",
+        ONE_APPLICATION,
+        "x y",
+        "start x a x;start y a y;share;tick x 0;stop x a x;stop x a x;share;tick y 0;page y;crash x;down y x;tick y 20",
+        "+3 x 1 2;+4 y 1 2;ticked;claim 5 a term 1 normal;+6 x 1 4;refused 10 NotStarted;ticked;node y 1;..;"
+        "app a holder x 1 term 1 normal verdict halted x;list x=idle y=ok z=down;crashed;+7 y 1 3;ticked;"
+        "claim 8 a term 2 failover from x",
+    ),
+    Row(
+        "takeovers",
+        ONE_APPLICATION,
+        "y z",
+        "start y a y;start z a z;share;tick y 0;share;takeover z a;share;tick y 0;takeover z a;boot x 0;start x a x;share;"
+        "tick x 0;share;takeover z a",
+        "+3 y 1 2;+4 z 1 2;ticked;claim 5 a term 1 normal;+6 z 1 3;ticked;refused 13 AlreadyHolder;booted 1 op 7;+8 x 1 2;"
+        "ticked;claim 9 a term 3 takeover from z;refused 14 LowerPriority",
+    ),
+    Row(
+        "declared down",
+        ONE_APPLICATION,
+        "y z",
+        "share;down y z;share;tick z 5;start z a z;crash z;boot z 6;boot z 6;tick x 0;page x",
+        "+3 y 1 2;refused 3 DeclaredDown;refused 3 DeclaredDown;crashed;booted 2 op 4;refused 2 AlreadyOn;refused 1 Off;"
+        "node x off",
+    ),
+    Row(
+        "refusals",
+        TWO_APPLICATIONS,
+        "",
+        "boot y 10;tick y 9;down y y;down y x;start y zz y;start y a zz@h;start y b z;takeover y a;start y a y;takeover y a;"
+        "hear y 1;hand y 3",
+        "booted 1 op 1;refused 8 MomentBack;refused 6 OnSelf;refused 9 NotLive;refused 4 UnknownApp;refused 5 UnknownNode;"
+        "refused 7 NotInList;refused 11 NotEligible;+2 y 1 2;refused 12 NotRunning;no message 1;no operation 3",
+    ),
+)
+
+CANONICAL = (
+    b"[{kernel,[{distributed,[{myapp,5000,[cp1@cave,{cp2@cave,cp3@cave}]}]},{permissions,[]},"
+    b"{sync_nodes_mandatory,[cp2@cave,cp3@cave]},{sync_nodes_optional,[]},{sync_nodes_timeout,5000}]}].\n"
+)
+QUOTED = b"""[{sasl,[{f,"x.log"}]},{kernel,[{distributed,[{myapp,['n-1@h.example',{a@h}]}]}]}]."""
+QUOTED_CANONICAL = (
+    b"[{kernel,[{distributed,[{myapp,0,['n-1@h.example',a@h]}]},{permissions,[]},{sync_nodes_mandatory,[]},"
+    b"{sync_nodes_optional,[]}]}].\n"
+)
+
+
+def one_entry(entries: bytes) -> bytes:
+    """A file with these applications alone."""
+    return b"[{kernel,[{distributed,[%s]}]}]." % entries
+
+
+TEXTS = (
+    (b"%% cp1.config\n" + EXAMPLE.replace(b"{cp2@cave, cp3@cave}", b"{cp3@cave, cp2@cave}"), CANONICAL),
+    (QUOTED, QUOTED_CANONICAL),
+    (one_entry(b"{a,[b@h,{c@h,b@h}]}"), b"config fault 7 TwiceInList at 37\n"),
+    (one_entry(b"{a,[b@h,{}]}"), b"config fault 9 EmptyTuple at 32\n"),
+    (one_entry(b"{a,[]}"), b"config fault 8 EmptyList at 27\n"),
+    (one_entry(b"{a,5.0,[b@h]}"), b"config fault 3 Unsupported at 27\n"),
+    (b"[{kernel,[", b"config fault 4 BadShape at 10\n"),
+    (b"[].", b"config fault 5 NoDistributed at 3\n"),
+    (b"[{kernel,[;", b"config fault 2 BadToken at 10\n"),
+    (one_entry(b"{a,[b@h]},{a,[b@h]}"), b"config fault 6 TwiceApp at 35\n"),
+    (one_entry(b"{a,4294967296,[b@h]}"), b"config fault 12 NumberTooLarge at 27\n"),
+    (one_entry(b"{a,-1,[b@h]}"), b"config fault 4 BadShape at 27\n"),
+    (b"[{kernel,[{f,fun a:b/1}]}].", b"config fault 3 Unsupported at 13\n"),
+    (b'[{kernel,[{f,~"a"}]}].', b"config fault 3 Unsupported at 13\n"),
+    (b" " * 65_537, b"config fault 1 TooLong at 65536\n"),
+    (one_entry(b",".join(b"{a%d,[n@h]}" % number for number in range(65))), b"config fault 11 TooManyApps at 783\n"),
+)
+
+CONTEXT_HEX = "00010100000001000000000000000100000000"
+FRESH_HEX = CONTEXT_HEX * 2 + "0000000000000000" + "01010000000100" + "0000"
+FRESH = bytes.fromhex(FRESH_HEX)
+D1, D2 = Dot(0, 1, 1), Dot(0, 1, 2)
+
+
+def fresh_message(config: Config) -> bytes:
+    """The whole state of the first node, which has just come up, for the second."""
+    head = bytes.fromhex("44414301") + config.mark.to_bytes(8, "big")
+    fields = bytes.fromhex("01" + "0000000001" + "01" + "00000000" + "0000000000000001" + "00")
+    state = bytearray(FRESH)
+    for at in (2, 21, 47):
+        state[at] = 0
+    return head + fields + bytes(state)
+
+
+def with_byte(data: bytes, at: int, byte: int) -> bytes:
+    """The bytes with one of them changed."""
+    return data[:at] + bytes((byte,)) + data[at + 1 :]
+
+
+def fault_of(read: Callable[[], object]) -> tuple[str, int] | None:
+    """The fault of a reading."""
+    try:
+        read()
+    except WireFault as fault:
+        return fault.kind, fault.at
+    return None
+
+
+PREFIXES = {
+    **dict.fromkeys(range(3), ("BadMagic", 0)),
+    3: ("BadVersion", 3),
+    **dict.fromkeys(range(4, 12), ("Short", 4)),
+    12: ("Short", 12),
+    13: ("Short", 13),
+    **dict.fromkeys(range(14, 18), ("Short", 14)),
+    18: ("Short", 18),
+    **dict.fromkeys(range(19, 23), ("Short", 19)),
+    **dict.fromkeys(range(23, 31), ("Short", 23)),
+    31: ("Short", 31),
+    32: ("Short", 32),
+    33: ("Short", 32),
+}
+
+
+def state_checks(config: Config) -> Iterator[tuple[str, bool]]:
+    """The bytes of a state, whole and changed."""
+    def fault(data: bytes) -> tuple[str, int] | None:
+        return fault_of(lambda: read_state(config, data))
+
+    yield "a fresh state is read", state_bytes(read_state(config, FRESH).meaning()) == FRESH and len(FRESH) == 55
+    yield "a fresh state, cut", fault(FRESH[:54]) == ("Short", 53)
+    yield "a fresh state and a byte", fault(FRESH + b"\0") == ("Trailing", 55)
+    yield "a fresh state, neither up nor down", fault(with_byte(FRESH, 52, 2)) == ("BadNumber", 52)
+    yield "a fresh state, no such node", fault(with_byte(FRESH, 47, 3)) == ("BadName", 47)
+    yield "a fresh state, nothing known", fault(FRESH[:19] + b"\0\0" + FRESH[38:]) == ("NotKnown", 21)
+    most = bytes.fromhex("4000000000000000")
+    large = FRESH[:7] + most + FRESH[15:26] + most + FRESH[34:]
+    read = read_state(config, large)
+    yield "a state with very many dots", read.heard == read.known == {(1, 1): (2**62, [])}
+
+
+def packet_checks(config: Config) -> Iterator[tuple[str, bool]]:
+    """The bytes of a message, whole and changed."""
+    def fault(data: bytes) -> tuple[str, int] | None:
+        return fault_of(lambda: read_packet(config, data))
+
+    packet = fresh_message(config)
+    script = EXAMPLE + b"--\nboot cp1@cave 0\nboot cp2@cave 0\nship cp1@cave cp2@cave\nbytes 1\n"
+    yield "a message", simulate(script)[0].splitlines()[-1] == packet.hex().encode() and len(packet) == 87
+    yield "a message is read", fault(packet) is None
+    yield "a message, cut", fault(packet[:12]) == ("Short", 12)
+    yield "a message with another magic", fault(with_byte(packet, 0, 0x45)) == ("BadMagic", 0)
+    yield "a message of another version", fault(with_byte(packet, 3, 2)) == ("BadVersion", 3)
+    for length, expected in PREFIXES.items():
+        yield f"{length} bytes of a message", fault(packet[:length]) == expected
+    yield "longer parts of a message are short", all(
+        (found := fault(packet[:length])) is not None and found[0] == "Short" for length in range(34, 87)
+    )
+    yield "a packet that is too long", fault(bytes(4_194_305)) == ("TooLong", 4_194_304)
+
+
+def operation_checks() -> Iterator[tuple[str, bool]]:
+    """What makes an operation, and what it means."""
+    key = Key(0, 0, 1)
+    yield "its own dot replaced", not is_operation(Operation(D2, Start(key, (D2,))))
+    yield "a start that is the first", not is_operation(Operation(D1, Start(key, ())))
+    yield "an up that is the second", not is_operation(Operation(D2, Up()))
+    yield "a down of its own node", not is_operation(Operation(D2, Down(0, 1)))
+    yield "an up", is_operation(Operation(D1, Up())) and meaning_of([Operation(D1, Up())]).heard == {D1}
+    later = Dot(0, 1, 3)
+    both = meaning_of([Operation(D2, Start(key, ())), Operation(later, Start(key, (D2,)))])
+    yield "a start in the place of another", both.starts == {key: {later}} and both.known == {D2, later}
+    gap = {D1, D2, Dot(0, 1, 4)}
+    yield "a context with a gap", context_bytes(gap).hex() == "0001" "0000000001" "0000000000000002" "00000001" "0000000000000004"
+    yield "a context without", context_bytes(gap | {later}).hex() == "0001" "0000000001" "0000000000000004" "00000000"
+
+
+def verdicts_of(config: Config, state: Meaning) -> tuple[str, str, int]:
+    """The verdicts of both applications, and the second node's load for the first."""
+    texts = []
+    for app in range(2):
+        found = verdict(config, state, app)
+        texts.append(found.what + ("" if found.node is None else f" {found.node + 1}"))
+    return texts[0], texts[1], load(config, state, 0, 1)
+
+
+def placement_checks() -> Iterator[tuple[str, bool]]:
+    """Where two applications belong."""
+    config = read_config(TWO_APPLICATIONS)
+    ups = [Operation(Dot(node, 1, 1), Up()) for node in range(3)]
+    starts = [Operation(Dot(node, 1, 2), Start(Key(0, node, 1), ())) for node in range(3)]
+    starts.append(Operation(Dot(1, 1, 3), Start(Key(1, 1, 1), ())))
+    claim = Operation(Dot(1, 1, 4), ClaimAct(1, 1, NORMAL, -1))
+    base = [*ups, *starts, claim]
+    down = Operation(Dot(2, 1, 3), Down(0, 1))
+    other_down = Operation(Dot(2, 1, 4), Down(1, 1))
+    claimed = Operation(Dot(0, 1, 3), ClaimAct(0, 1, NORMAL, -1))
+    for name, operations, expected in (
+        ("all are up", base, ("start 1", "kept 2", 1)),
+        ("the first is down", [*base, down], ("start 3", "kept 2", 1)),
+        ("the first had it and is down", [*base, down, claimed], ("failover 3", "kept 2", 1)),
+        ("two are down", [*base, down, other_down], ("start 3", "nobody", 0)),
+    ):
+        yield name, verdicts_of(config, meaning_of(operations)) == expected
+
+
+def run_all() -> Iterator[tuple[str, bool]]:
+    """Each example's name, and whether the models give its answer."""
+    for row in ROWS:
+        failure = row.failure()
+        if failure is not None:
+            print(failure)
+        yield row.name, failure is None
+    for text, expected in TEXTS:
+        output, status = check(text)
+        yield f"text {text[:60]!r}", output == expected and status == expected.startswith(b"config fault")
+    config = read_config(EXAMPLE)
+    yield from state_checks(config)
+    yield from packet_checks(config)
+    yield from operation_checks()
+    yield from placement_checks()
+
+
+def main() -> int:
+    """Runs all, and names those that fail."""
+    results = list(run_all())
+    failed = [name for name, holds in results if not holds]
+    for name in failed:
+        print(f"failed: {name}")
+    print(f"{len(results) - len(failed)} worked examples agree, {len(failed)} don't")
+    return 1 if failed else 0
+
+
+if __name__ == "__main__":
+    sys.exit(main())

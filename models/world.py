@@ -1,0 +1,427 @@
+"""All nodes, what was issued and what was shipped. Each node has the set of the operations that it heard.
+
+A set of operations is a number: its bit k says that operation k + 1 is in it. No script is so long that incarnations, terms,
+counters or numbers of deltas run out, so no refusal for that is here.
+"""
+
+from __future__ import annotations
+
+from dataclasses import dataclass, field
+
+from check import Config
+from meaning import FAILOVER, NORMAL, TAKEOVER, Act, Claim, ClaimAct, Dot, Down, Key, Meaning, Operation, Origin
+from meaning import Permit, Start, Stop, Up, meaning_of
+import placement
+from wire import INTERVAL, NOTHING, WHOLE, Message
+
+MOST_DELTAS = 256
+MOST_OVER = 1_024
+MOST_CACHED = 64
+
+REFUSALS = (
+    "Off",
+    "AlreadyOn",
+    "DeclaredDown",
+    "UnknownApp",
+    "UnknownNode",
+    "OnSelf",
+    "NotInList",
+    "MomentBack",
+    "NotLive",
+    "NotStarted",
+    "NotEligible",
+    "NotRunning",
+    "AlreadyHolder",
+    "LowerPriority",
+    "NotForMe",
+    "UpToDate",
+    "TooManyDots",
+)
+
+
+class Refused(Exception):
+    """An event is refused, and nothing changes."""
+
+    def __init__(self, why: str) -> None:
+        super().__init__(why)
+        self.why = why
+
+    def line(self) -> str:
+        """The line that the program prints for it."""
+        return f"refused {REFUSALS.index(self.why) + 1} {self.why}"
+
+
+class NoSuch(Exception):
+    """A number names no message, or no operation."""
+
+
+def refuse(why: str, holds: bool) -> None:
+    """Refuses where the cause holds."""
+    if holds:
+        raise Refused(why)
+
+
+@dataclass(frozen=True)
+class Shipped:
+    """A shipped message, its body as a set of operations."""
+
+    kind: int
+    sender: Origin
+    to: int
+    only: int
+    up_to: int
+    ack: tuple[Origin, int] | None
+    body: int
+
+
+@dataclass(frozen=True)
+class Note:
+    """What a tick noted: its moment, and the lost claim of each application that has one."""
+
+    now: int
+    lost: dict[int, Claim]
+
+
+@dataclass
+class Running:
+    """A running node: what it heard, the log of what was added, what it keeps of its peers, and its moments and notes."""
+
+    inc: int
+    booted: int
+    now: int
+    heard: int = 0
+    log: list[int] = field(default_factory=list)
+    trimmed: int = 0
+    acks: dict[Origin, int] = field(default_factory=dict)
+    got: dict[int, tuple[int, int]] = field(default_factory=dict)
+    owed: set[int] = field(default_factory=set)
+    is_open: bool = False
+    notes: list[Note] = field(default_factory=list)
+
+    @property
+    def count(self) -> int:
+        """How many entries the log has."""
+        return len(self.log)
+
+    @property
+    def base(self) -> int:
+        """From which entry on an interval may begin."""
+        return max(0, self.count - MOST_DELTAS, self.trimmed)
+
+    def add(self, operations: int) -> bool:
+        """Adds a set of operations. Whether it has any that the node hadn't heard."""
+        if operations & ~self.heard == 0:
+            return False
+        self.heard |= operations
+        self.log.append(operations)
+        return True
+
+    def interval(self, start: int) -> int:
+        """The union of the entries from a number on."""
+        union = 0
+        for entry in self.log[start:]:
+            union |= entry
+        return union
+
+    def noted_moment(self, app: int, claim: Claim) -> int | None:
+        """Since when each note has found the claim lost, if the last one has."""
+        moment = None
+        for note in reversed(self.notes):
+            if note.lost.get(app) != claim:
+                break
+            moment = note.now
+        return moment
+
+
+@dataclass(frozen=True)
+class Ticked:
+    """What a tick claimed, by the numbers of the operations."""
+
+    issued: tuple[int, ...]
+
+
+@dataclass
+class Node:
+    """A node: the number of its last incarnation, and what it is while it runs."""
+
+    last: int = 0
+    running: Running | None = None
+
+
+class World:
+    """All nodes under a configuration."""
+
+    def __init__(self, config: Config) -> None:
+        self.config = config
+        self.nodes = [Node() for _ in config.nodes]
+        self.operations: list[Operation] = []
+        self.messages: list[Shipped] = []
+        self.cached: dict[int, Meaning] = {}
+
+    # What is known
+
+    def meaning(self, operations: int) -> Meaning:
+        """The meaning of a set of operations."""
+        if operations not in self.cached:
+            if len(self.cached) >= MOST_CACHED:
+                self.cached.clear()
+            members = [operation for at, operation in enumerate(self.operations) if operations >> at & 1]
+            self.cached[operations] = meaning_of(members)
+        return self.cached[operations]
+
+    def state(self, node: int) -> Meaning:
+        """The state of a running node."""
+        return self.meaning(self.running(node).heard)
+
+    def running(self, node: int) -> Running:
+        """A node that has to run."""
+        running = self.nodes[node].running
+        if running is None:
+            raise Refused("Off")
+        return running
+
+    def is_on(self, node: int) -> bool:
+        """Whether a node runs."""
+        return self.nodes[node].running is not None
+
+    def message(self, number: int) -> Message:
+        """The message of a number, with the meaning of its body."""
+        shipped = self.shipped(number)
+        body = None if shipped.kind == NOTHING else self.meaning(shipped.body)
+        return Message(shipped.kind, shipped.sender, shipped.to, shipped.only, shipped.up_to, shipped.ack, body)
+
+    def shipped(self, number: int) -> Shipped:
+        """The shipped message of a number."""
+        if not 1 <= number <= len(self.messages):
+            raise NoSuch
+        return self.messages[number - 1]
+
+    def issue(self, node: int, act: Act) -> int:
+        """Issues an operation at a running node. Its number."""
+        running = self.running(node)
+        own = [dot.n for dot in self.state(node).known if dot.origin == (node, running.inc)]
+        self.operations.append(Operation(Dot(node, running.inc, max(own, default=0) + 1), act))
+        running.add(1 << len(self.operations) - 1)
+        return len(self.operations)
+
+    # Boots and crashes
+
+    def boot(self, node: int, now: int) -> int:
+        """A node comes up. The number of the operation that says so."""
+        refuse("AlreadyOn", self.is_on(node))
+        self.nodes[node].last += 1
+        self.nodes[node].running = Running(self.nodes[node].last, now, now)
+        return self.issue(node, Up())
+
+    def crash(self, node: int) -> None:
+        """A node goes down and loses all but the number of its incarnation."""
+        self.running(node)
+        self.nodes[node].running = None
+
+    # Commands
+
+    def refuse_declared_down(self, node: int) -> None:
+        """Refuses where the node has heard that it is down."""
+        refuse("DeclaredDown", self.state(node).live(node) != self.running(node).inc)
+
+    def down(self, node: int, about: int) -> int:
+        """The word that another node is down."""
+        self.running(node)
+        self.refuse_declared_down(node)
+        refuse("UnknownNode", about >= len(self.nodes))
+        refuse("OnSelf", about == node)
+        inc = self.state(node).live(about)
+        if inc is None:
+            raise Refused("NotLive")
+        return self.issue(node, Down(about, inc))
+
+    def key(self, node: int, app: int, about: int) -> Key:
+        """The key of an application at the live incarnation of a node."""
+        self.running(node)
+        self.refuse_declared_down(node)
+        refuse("UnknownApp", app >= len(self.config.apps))
+        refuse("UnknownNode", about >= len(self.nodes))
+        refuse("NotInList", self.config.apps[app].group_of(about) is None)
+        inc = self.state(node).live(about)
+        if inc is None:
+            raise Refused("NotLive")
+        return Key(app, about, inc)
+
+    def permit(self, node: int, app: int, about: int, value: bool) -> int:
+        """A permission."""
+        key = self.key(node, app, about)
+        over = self.state(node).standing(key, permits=True)
+        refuse("TooManyDots", len(over) > MOST_OVER)
+        return self.issue(node, Permit(key, value, over))
+
+    def start(self, node: int, app: int, about: int) -> int:
+        """A start wish."""
+        key = self.key(node, app, about)
+        over = self.state(node).standing(key, permits=False)
+        refuse("TooManyDots", len(over) > MOST_OVER)
+        return self.issue(node, Start(key, over))
+
+    def stop(self, node: int, app: int, about: int) -> int:
+        """The end of all start wishes that stand at the key."""
+        key = self.key(node, app, about)
+        over = self.state(node).standing(key, permits=False)
+        refuse("NotStarted", not over)
+        refuse("TooManyDots", len(over) > MOST_OVER)
+        return self.issue(node, Stop(key, over))
+
+    def takeover(self, node: int, app: int) -> int:
+        """The node takes an application over from where it runs."""
+        self.running(node)
+        self.refuse_declared_down(node)
+        refuse("UnknownApp", app >= len(self.config.apps))
+        state, listed = self.state(node), self.config.apps[app]
+        own_group = listed.group_of(node)
+        if own_group is None:
+            raise Refused("NotInList")
+        refuse("NotEligible", not placement.is_eligible(self.config, state, app, node))
+        source = placement.running_node(self.config, state, app)
+        if source is None:
+            raise Refused("NotRunning")
+        refuse("AlreadyHolder", source == node)
+        other_group = listed.group_of(source)
+        refuse("LowerPriority", other_group is not None and own_group > other_group)
+        return self.issue(node, ClaimAct(app, self.next_term(state, app), TAKEOVER, source))
+
+    def next_term(self, state: Meaning, app: int) -> int:
+        """The term of the next claim of an application."""
+        return state.claims[app].term + 1 if app in state.claims else 1
+
+    # Ticks
+
+    def tick(self, node: int, now: int) -> Ticked | str:
+        """A node looks after its applications. What it claims, or `held`, or `gave up`."""
+        running = self.running(node)
+        self.refuse_declared_down(node)
+        refuse("MomentBack", now < running.now)
+        running.now = now
+        opening = "opened" if running.is_open else self.opening(running, node)
+        if opening == "gave up":
+            self.nodes[node].running = None
+        if opening != "opened":
+            return opening
+        running.is_open = True
+        self.note(running)
+        issued = [self.claim(node, app) for app in range(len(self.config.apps))]
+        return Ticked(tuple(number for number in issued if number is not None))
+
+    def opening(self, running: Running, node: int) -> str:
+        """What the start gate says."""
+        config, state = self.config, self.state(node)
+        live = {other for other in range(len(self.nodes)) if state.live(other) is not None}
+        if config.sync_timeout is None or config.mandatory | config.optional <= live:
+            return "opened"
+        if config.sync_timeout == "infinity" or running.now - running.booted < int(config.sync_timeout):
+            return "held"
+        return "opened" if config.mandatory <= live else "gave up"
+
+    def note(self, running: Running) -> None:
+        """Notes which claims are lost."""
+        state = self.meaning(running.heard)
+        found = {app: placement.lost_claim(state, app) for app in range(len(self.config.apps))}
+        running.notes.append(Note(running.now, {app: claim for app, claim in found.items() if claim is not None}))
+
+    def claim(self, node: int, app: int) -> int | None:
+        """Claims an application that the node is to have. The operation's number, if it does."""
+        running, state = self.running(node), self.state(node)
+        found = placement.verdict(self.config, state, app)
+        if placement.candidate(self.config, state, app) != node or not self.is_due(running, state, app, found):
+            return None
+        how, source = NORMAL, -1
+        if found.what in (placement.FAILOVER, placement.TAKEOVER):
+            how = FAILOVER if found.what == placement.FAILOVER else TAKEOVER
+            source = state.claims[app].node
+        return self.issue(node, ClaimAct(app, self.next_term(state, app), how, source))
+
+    def is_due(self, running: Running, state: Meaning, app: int, found: placement.Verdict) -> bool:
+        """Whether what is to be done is to be done now: a failover waits, unless to where the application was."""
+        if found.what != placement.FAILOVER:
+            return True
+        claim = state.claims[app]
+        since = running.noted_moment(app, claim)
+        return found.node == claim.node or (since is not None and running.now >= since + self.config.apps[app].timeout)
+
+    # Messages
+
+    def ship(self, node: int, to: int) -> int:
+        """Ships what the other node hasn't acknowledged. The message's number."""
+        running = self.running(node)
+        refuse("UnknownNode", to >= len(self.nodes))
+        refuse("OnSelf", to == node)
+        life = self.state(node).lives.get(to)
+        start = running.acks.get(Origin(to, life.inc)) if life is not None else None
+        kind, only, body = WHOLE, 0, running.heard
+        if life is not None and start is not None and start >= running.base:
+            kind, only, body = INTERVAL, life.inc, running.interval(start)
+            if start == running.count:
+                kind = NOTHING
+        refuse("UpToDate", kind == NOTHING and to not in running.owed)
+        got = running.got.get(to)
+        ack = None if got is None else (Origin(to, got[0]), got[1])
+        self.messages.append(Shipped(kind, Origin(node, running.inc), to, only, running.count, ack, body))
+        running.owed.discard(to)
+        return len(self.messages)
+
+    def hear(self, node: int, number: int) -> bool:
+        """A message is delivered to a node. Whether it brings something new."""
+        message = self.shipped(number)
+        running = self.running(node)
+        refuse("OnSelf", message.sender.node == node)
+        refuse("NotForMe", message.to != node or message.only not in (0, running.inc))
+        count = running.count
+        is_new = running.add(message.body)
+        if message.kind != NOTHING:
+            self.get(running, message)
+        if message.ack is not None and message.ack[0] == (node, running.inc) and message.ack[1] <= count:
+            running.acks[message.sender] = max(running.acks.get(message.sender, 0), message.ack[1])
+        self.trim(running, node)
+        return is_new
+
+    def get(self, running: Running, message: Shipped) -> None:
+        """Notes how far a sender's log came, and that the sender is owed an answer."""
+        peer = message.sender.node
+        running.owed.add(peer)
+        running.got[peer] = max(running.got.get(peer, (0, 0)), (message.sender.inc, message.up_to))
+
+    def trim(self, running: Running, node: int) -> None:
+        """Drops what all other nodes have acknowledged."""
+        lives = self.meaning(running.heard).lives
+        others = [other for other in range(len(self.nodes)) if other != node]
+        if not others or any(other not in lives for other in others):
+            return
+        acked = [running.acks.get(Origin(other, lives[other].inc)) for other in others]
+        numbers = [number for number in acked if number is not None]
+        if len(numbers) == len(others):
+            running.trimmed = max(running.trimmed, min(numbers))
+
+    def hand(self, node: int, number: int) -> bool:
+        """A single operation is handed to a node. Whether it is new."""
+        if not 1 <= number <= len(self.operations):
+            raise NoSuch
+        return self.running(node).add(1 << number - 1)
+
+    def share(self) -> int:
+        """Each running node ships to each other one, and all is delivered at once. How many messages were shipped."""
+        on = [node for node in range(len(self.nodes)) if self.is_on(node)]
+        shipped = 0
+        for node in on:
+            for to in on:
+                if to != node:
+                    shipped += self.ship_and_hear(node, to)
+        return shipped
+
+    def ship_and_hear(self, node: int, to: int) -> bool:
+        """Ships to a node and delivers there, where neither is refused. Whether something was shipped."""
+        try:
+            number = self.ship(node, to)
+        except Refused:
+            return False
+        try:
+            self.hear(to, number)
+        except Refused:
+            pass
+        return True
