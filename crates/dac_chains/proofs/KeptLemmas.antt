@@ -10,7 +10,7 @@ use Rattle.std.specs.FinMap.Entries.{same_entries, below_all}
 use Rattle.std.proofs.lemmas.Map.Lookups.{CmpEqualImpliesEq}
 use Rattle.dac_lattice.specs.declared.chain.Max.{Max}
 use Rattle.dac_lattice.specs.Chains.{IsAtMost}
-use Rattle.dac_lattice.specs.Laws.{IsWithin, join_options}
+use Rattle.dac_lattice.specs.Lattices.{IsWithin, join_options}
 use Rattle.dac_lattice.specs.Entries.{find_merge}
 use Rattle.dac_lattice.specs.Maps.{IsMapBelow, join_maps}
 use Rattle.dac_chains.specs.Greatest.{AreNotAbove, greater, get-greater}

@@ -10,7 +10,7 @@ use Rattle.std.proofs.lemmas.Cmp.{tied_itself}
 use Rattle.std.proofs.lemmas.Map.Lookups.{CmpEqualImpliesEq}
 use Rattle.dac_lattice.specs.Dot.{Dot}
 use Rattle.dac_lattice.specs.Chains.{IsAny, IsAtMost, chain_laws}
-use Rattle.dac_lattice.specs.Laws.{IsLattice, IsIn, IsWithin, join_options, optional_laws}
+use Rattle.dac_lattice.specs.Lattices.{IsLattice, IsIn, IsWithin, join_options, optional_laws}
 use Rattle.dac_lattice.specs.Entries.{merge_entries, find_merge}
 use Rattle.dac_lattice.specs.Pieces.{In, IsPiece}
 

@@ -6,7 +6,7 @@ use Rattle.std.proofs.lemmas.List.{take-append-le, take_all, drop_all, drop_at, 
 use Rattle.std.proofs.lemmas.Nat.{pow_pos, one_shl}
 use Rattle.std.proofs.lemmas.List.Sums.{fold-append}
 use Rattle.dac_base.specs.declared.limits.TheConstants.{MAX_COUNTER}
-use Rattle.dac_lattice.specs.Laws.{IsLattice}
+use Rattle.dac_lattice.specs.Lattices.{IsLattice}
 use Rattle.dac_lattice.specs.laws.Joins.{join_assoc}
 use Rattle.dac_deltas.proofs.Places.{below_longest, next_power, aligned_below, aligned_before, aligned_after}
 use Rattle.dac_deltas.specs.Blocks.{IsLongest}

@@ -2,7 +2,7 @@
 use Rattle.std.specs.Prelude.{List, [], ◌∷◌, fold}
 use Rattle.std.proofs.Common.{zero, suc, arith}
 use Rattle.std.specs.List.{All}
-use Rattle.dac_lattice.specs.Laws.{IsLattice}
+use Rattle.dac_lattice.specs.Lattices.{IsLattice}
 use Rattle.dac_deltas.specs.Kept.{IsJoinOf}
 
 module _ {L : Type 0} {is_value : L → Type 0} {below : L → L → Type 0} {join : L → L → L} (laws : IsLattice is_value below join) where

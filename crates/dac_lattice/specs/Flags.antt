@@ -12,7 +12,7 @@ use Rattle.std.proofs.lemmas.Map.Lookups.{CmpEqualImpliesEq}
 use Rattle.dac_lattice.specs.declared.flags.Flag.{Flag}
 use Rattle.dac_lattice.specs.declared.flags.Flag.TheVariants.{Up, Down}
 use Rattle.dac_lattice.specs.Chains.{IsAny}
-use Rattle.dac_lattice.specs.Laws.{IsLattice}
+use Rattle.dac_lattice.specs.Lattices.{IsLattice}
 
 -- Up is below both, and Down is below itself alone
 abbrev pub IsFlagBelow : Flag → Flag → Type 0

@@ -1,4 +1,4 @@
-pub mod Laws
+pub mod Lattices
 pub mod Chains
 pub mod Flags
 pub mod Entries

@@ -25,7 +25,7 @@ impl<T: MapKey> Lattice for Max<T> {
     ghost use Rattle.std.specs.Prelude.{refl};
     ghost use Rattle.std.specs.Ordering.{ord_max};
     ghost use Rattle.dac_lattice.specs.Chains.{IsAny, IsAtMost, chain_laws};
-    ghost use Rattle.dac_lattice.specs.Laws.{wrapped_laws};
+    ghost use Rattle.dac_lattice.specs.Lattices.{wrapped_laws};
 
     ghost is_value = { IsAny };
 

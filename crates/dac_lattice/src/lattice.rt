@@ -1,6 +1,6 @@
 //! The traits of lattices.
 ghost use Rattle.std.specs.Prelude.{◌≡◌, ◌↔◌, IsTrue, IfOk};
-ghost use Rattle.dac_lattice.specs.Laws.{IsLattice};
+ghost use Rattle.dac_lattice.specs.Lattices.{IsLattice};
 
 use dac_dots::NoMemory;
 use std::alloc::Global;

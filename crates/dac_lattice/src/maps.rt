@@ -2,7 +2,7 @@
 ghost use Rattle.std.specs.Prelude.{◌≡◌, ◌↔◌, [], ◌∷◌, IsTrue, IfOk, Some};
 ghost use Rattle.std.specs.Option.{option_copied};
 ghost use Rattle.std.specs.FinMap.{find};
-ghost use Rattle.dac_lattice.specs.Laws.{IsWithin};
+ghost use Rattle.dac_lattice.specs.Lattices.{IsWithin};
 
 use crate::merging::{Combine, merge, value_at};
 use crate::{Bottom, Lattice};
@@ -69,7 +69,7 @@ fn is_within<L: Lattice>(mine: &L, theirs: Option<&L>) -> bool
 struct JoinValues;
 
 impl<K: MapKey, L: Lattice> Combine<K, L> for JoinValues {
-    ghost use Rattle.dac_lattice.specs.Laws.{join_options};
+    ghost use Rattle.dac_lattice.specs.Lattices.{join_options};
 
     ghost combined = { λ _ _. join_options L.join };
 

@@ -14,7 +14,7 @@ use Rattle.dac_dots.specs.Dots.{IsSubset, dots_total}
 use Rattle.dac_lattice.specs.declared.flags.Flag.{Flag}
 use Rattle.dac_lattice.specs.declared.flags.Flag.TheVariants.{Up, Down}
 use Rattle.dac_lattice.specs.Flags.{IsFlagBelow}
-use Rattle.dac_lattice.specs.Laws.{IsWithin}
+use Rattle.dac_lattice.specs.Lattices.{IsWithin}
 use Rattle.dac_lattice.specs.Chains.{IsAtMost}
 use Rattle.dac_wishes.specs.AtDot.{StandsBelow}
 use Rattle.dac_chains.specs.Greatest.{AreNotAbove}

@@ -1,7 +1,7 @@
 //! The laws of meanings, each as the contract of a function that does nothing.
 //!
 //! A proof that needs a law calls its function. The functions take nothing and answer nothing.
-ghost use Rattle.dac_lattice.specs.Laws.{IsLattice};
+ghost use Rattle.dac_lattice.specs.Lattices.{IsLattice};
 ghost use Rattle.dac_meaning.specs.StateValue.{StateValue, IsState, IsBelow, bottom, join};
 ghost use Rattle.dac_meaning.specs.MeaningLaws.{HeardAreDots, KnownAreNamed, PermitsAreUnreplaced, StartsAreUnreplaced, LivesAreGreatest, ClaimsAreGreatest, WishedHaveStarts, PermittedAreSaid, MeaningsAreStates, NothingMeansBottom, OrderAndRepeatsAreNothing, JoinsAreTogether};
 ghost use Rattle.dac_meaning.specs.PieceParts.{PermitsAreJoined, WishesAreJoined, LivesAreJoined, ClaimsAreJoined};

@@ -9,7 +9,7 @@ use Rattle.dac_dots.specs.declared.dot.Dot.{Dot}
 use Rattle.dac_dots.specs.Dots.{Dots, dot_cmp, dots_total, exact_dots}
 use Rattle.dac_lattice.specs.declared.flags.Flag.{Flag}
 use Rattle.dac_lattice.specs.Chains.{IsAny}
-use Rattle.dac_lattice.specs.Laws.{IsIn}
+use Rattle.dac_lattice.specs.Lattices.{IsIn}
 use Rattle.dac_lattice.specs.Maps.{IsMap}
 use Rattle.dac_store.specs.DotFuns.{is_empty_list}
 use Rattle.dac_store.specs.DotMaps.{store_at, IsKept}

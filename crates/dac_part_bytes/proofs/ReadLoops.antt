@@ -14,7 +14,7 @@ use Rattle.std.proofs.lemmas.Map.Lookups.{CmpEqualImpliesEq}
 use Rattle.dac_dots.specs.declared.dot.Dot.{Dot}
 use Rattle.dac_dots.specs.Dots.{Dots, dots_total, exact_dots}
 use Rattle.dac_dots.specs.InOrder.{in_order, in_order-one, in_order-rising, in_order-same, tie}
-use Rattle.dac_lattice.specs.Laws.{join_options}
+use Rattle.dac_lattice.specs.Lattices.{join_options}
 use Rattle.dac_store.specs.Appending.{is_above_dots, is_above_entries, rising_appended, sorted_appended}
 use Rattle.dac_chains.specs.Greatest.{greater, get-greater}
 use Rattle.dac_bytes.specs.Reading.{Rest, Field, items_at}

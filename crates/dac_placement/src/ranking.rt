@@ -1,7 +1,7 @@
 //! Who is the first choice for an application.
 ghost use Rattle.std.specs.Prelude.{◌≡◌, ◌<◌};
 ghost use Rattle.std.specs.Ordering.{ord_min};
-ghost use Rattle.dac_lattice.specs.Laws.{join_options};
+ghost use Rattle.dac_lattice.specs.Lattices.{join_options};
 ghost use Rattle.dac_config.specs.Table.{app_count};
 ghost use Rattle.dac_placement.specs.Placement.{rank_of, first_choice};
 ghost use Rattle.dac_placement.specs.Ranks.{rank_cmp};

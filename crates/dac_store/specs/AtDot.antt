@@ -2,7 +2,7 @@
 use Rattle.std.specs.Prelude.{◌≡◌, Bool, true, false, ◌||◌, Option, None, Some, is_some, if◌then◌else◌, refl}
 use Rattle.std.proofs.Common.{sym, ap}
 use Rattle.std.proofs.lemmas.Bool.{false≢true}
-use Rattle.dac_lattice.specs.Laws.{IsLattice, IsIn}
+use Rattle.dac_lattice.specs.Lattices.{IsLattice, IsIn}
 
 -- what the second holds the first holds too, with a value that isn't above
 abbrev pub StandsBelow : {V : Type 0} → (V → V → Type 0) → Option V → Option V → Type 0

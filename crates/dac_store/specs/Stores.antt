@@ -6,7 +6,7 @@ use Rattle.std.proofs.lemmas.Bool.{false≢true, or_cases, or_left, or_right}
 use Rattle.std.specs.FinSet as set
 use Rattle.dac_dots.specs.Dots.{Dots, IsSubset, dot_cmp, dots_total, exact_dots}
 use Rattle.dac_dots.specs.declared.dot.Dot.{Dot}
-use Rattle.dac_lattice.specs.Laws.{IsLattice}
+use Rattle.dac_lattice.specs.Lattices.{IsLattice}
 use Rattle.dac_lattice.specs.laws.Joins.{join_comm}
 
 -- each dot that is held is in the context

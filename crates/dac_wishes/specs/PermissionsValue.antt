@@ -13,7 +13,7 @@ use Rattle.dac_lattice.specs.declared.flags.Flag.{Flag}
 use Rattle.dac_lattice.specs.declared.flags.Flag.TheVariants.{Up, Down}
 use Rattle.dac_lattice.specs.Chains.{IsAny}
 use Rattle.dac_lattice.specs.Flags.{IsFlagBelow, join_flags, flag_laws}
-use Rattle.dac_lattice.specs.Laws.{IsLattice, IsIn}
+use Rattle.dac_lattice.specs.Lattices.{IsLattice, IsIn}
 use Rattle.dac_lattice.specs.Entries.{merge_entries, find_merge}
 use Rattle.dac_store.specs.Stores.{subset_left, subset_right, subset_union, subset_empty, same_context}
 use Rattle.dac_store.specs.AtDot.{StandsBelow, join_at, Under, at_refl, at_trans, at_antisymm, at_comes, at_left, at_right, at_least}

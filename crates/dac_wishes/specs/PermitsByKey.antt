@@ -14,7 +14,7 @@ use Rattle.dac_dots.specs.Dots.{dot_cmp, dots_total, exact_dots}
 use Rattle.dac_dots.specs.Keys.{has_key}
 use Rattle.dac_lattice.specs.declared.flags.Flag.{Flag}
 use Rattle.dac_lattice.specs.Chains.{IsAny}
-use Rattle.dac_lattice.specs.Laws.{IsIn}
+use Rattle.dac_lattice.specs.Lattices.{IsIn}
 use Rattle.dac_lattice.specs.Maps.{IsMap}
 use Rattle.dac_lattice.specs.Flags.{flag_laws}
 use Rattle.dac_lattice.specs.Entries.{find_below}

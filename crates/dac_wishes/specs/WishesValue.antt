@@ -7,7 +7,7 @@ use Rattle.std.specs.FinSet as set
 use Rattle.std.proofs.lemmas.Bool.{false≢true, or_cases}
 use Rattle.dac_dots.specs.declared.dot.Dot.{Dot}
 use Rattle.dac_dots.specs.Dots.{Dots, IsSubset, dot_cmp, dots_total, coded_dot}
-use Rattle.dac_lattice.specs.Laws.{IsLattice}
+use Rattle.dac_lattice.specs.Lattices.{IsLattice}
 use Rattle.dac_store.specs.Stores.{subset_left, subset_right, subset_union, subset_empty, same_context, both_ways}
 use Rattle.dac_store.specs.DotSets.{from_either, held_left, held_right, held_joined}
 use Rattle.dac_wishes.specs.declared.key.Key.{Key}

@@ -2,7 +2,7 @@
 -- makes no difference.
 use Rattle.std.specs.Prelude.{◌≡◌}
 use Rattle.std.proofs.Common.{subst}
-use Rattle.dac_lattice.specs.Laws.{IsLattice}
+use Rattle.dac_lattice.specs.Lattices.{IsLattice}
 
 module _ {T : Type 0} {is_value : T → Type 0} {below : T → T → Type 0} {join : T → T → T} (laws : IsLattice is_value below join) where
   -- a value joined with one below it stays

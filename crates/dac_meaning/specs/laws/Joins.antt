@@ -9,7 +9,7 @@ use Rattle.dac_base.specs.Ids.{nodes_total, exact_nodes, apps_total, exact_apps}
 use Rattle.dac_dots.specs.declared.dot.Dot.{Dot}
 use Rattle.dac_dots.specs.Dots.{Dots, dots_total, exact_dots}
 use Rattle.dac_lattice.specs.declared.flags.Flag.{Flag}
-use Rattle.dac_lattice.specs.Laws.{join_options}
+use Rattle.dac_lattice.specs.Lattices.{join_options}
 use Rattle.dac_lattice.specs.Flags.{join_flags, flag_cmp, flags_exact}
 use Rattle.dac_wishes.specs.Stores.{both_ways}
 use Rattle.dac_wishes.specs.AtDot.{join_at}

@@ -4,7 +4,7 @@ use Rattle.std.proofs.Common.{sym, subst}
 use Rattle.std.specs.FinSet as set
 use Rattle.dac_base.specs.Ids.{nodes_total, exact_nodes, apps_total, exact_apps}
 use Rattle.dac_dots.specs.Dots.{IsSubset}
-use Rattle.dac_lattice.specs.Laws.{IsLattice}
+use Rattle.dac_lattice.specs.Lattices.{IsLattice}
 use Rattle.dac_lattice.specs.Chains.{IsAny}
 use Rattle.dac_lattice.specs.Flags.{flag_cmp, flags_exact}
 use Rattle.dac_wishes.specs.Stores.{subset_left, subset_right, subset_union, subset_empty, same_context}

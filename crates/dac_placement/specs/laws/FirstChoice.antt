@@ -9,7 +9,7 @@ use Rattle.std.proofs.lemmas.List.Elements.{filter_map-append}
 use Rattle.std.proofs.lemmas.List.FromFn.{map-range_with_len_more}
 use Rattle.dac_base.specs.declared.NodeId.{NodeId}
 use Rattle.dac_base.specs.declared.AppId.{AppId}
-use Rattle.dac_lattice.specs.Laws.{join_options}
+use Rattle.dac_lattice.specs.Lattices.{join_options}
 use Rattle.dac_config.specs.Table.{Table, node_count, group_of}
 use Rattle.dac_state.specs.StateValue.{StateValue}
 use Rattle.dac_placement.specs.Ranks.{Rank, rank_cmp}

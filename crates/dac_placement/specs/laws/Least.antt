@@ -9,7 +9,7 @@ use Rattle.std.specs.Ordering.{nat_cmp, ordering_then, ordering_reverse, is_lt, 
 use Rattle.std.proofs.lemmas.Bool.{true≢false, false≢true}
 use Rattle.std.proofs.lemmas.Cmp.{ranked, upto, tied_itself}
 use Rattle.std.proofs.lemmas.List.Sums.{fold-append}
-use Rattle.dac_lattice.specs.Laws.{join_options}
+use Rattle.dac_lattice.specs.Lattices.{join_options}
 use Rattle.dac_placement.specs.Ranks.{Rank, rank_cmp, ranks_total}
 
 -- ---- one more of them

@@ -1,6 +1,6 @@
 use Rattle.std.proofs.Common.{sym, ap₂, ◌∙◌}
 use Rattle.std.specs.Ordering.{ord_min}
-use Rattle.dac_lattice.specs.Laws.{join_options}
+use Rattle.dac_lattice.specs.Lattices.{join_options}
 use Rattle.dac_placement.specs.Ranks.{rank_cmp}
 use Rattle.dac_placement.specs.laws.FirstChoice.{first_more}
 use Rattle.dac_placement.proofs.ranking.first_choice.Goals as goal

@@ -1,7 +1,7 @@
 use Rattle.std.proofs.Common.{◌∙◌, sym, refl}
 use Rattle.std.proofs.lemmas.Bool.{false≢true}
 use Rattle.std.specs.FinMap.{find}
-use Rattle.dac_lattice.specs.Laws.{IsWithin}
+use Rattle.dac_lattice.specs.Lattices.{IsWithin}
 use Rattle.dac_lattice.specs.laws.EntryLaws.{no_more, one_more, at_place}
 use Rattle.dac_lattice.proofs.maps.MapOfLattice.leq.Goals as goal
 

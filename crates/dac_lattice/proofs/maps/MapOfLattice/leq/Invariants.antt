@@ -1,7 +1,7 @@
 use Rattle.std.proofs.Common.{take, Some}
 use Rattle.std.specs.List.{All}
 use Rattle.std.specs.FinMap.{find}
-use Rattle.dac_lattice.specs.Laws.{IsWithin}
+use Rattle.dac_lattice.specs.Lattices.{IsWithin}
 use Rattle.dac_lattice.proofs.maps.MapOfLattice.leq.Given as goal
 
 abbrev pub invariant-loop-key : goal.invariant-loop-key

@@ -1,7 +1,7 @@
 use Rattle.std.proofs.Common.{◌∙◌, sym}
 use Rattle.dac_dots.specs.Dots.{dots_total}
 use Rattle.dac_dots.specs.declared.dot.Dot.{Dot}
-use Rattle.dac_lattice.specs.Laws.{IsIn}
+use Rattle.dac_lattice.specs.Lattices.{IsIn}
 use Rattle.dac_store.specs.Appending.{sorted_appended, find_appended}
 use Rattle.dac_store.proofs.dot_fun.DotFun.push.Goals as goal
 
