@@ -1,13 +1,14 @@
 //! A configuration from its text.
-ghost use Rattle.std.specs.Prelude.{◌≡◌, IfErr, IfOk, MatchResult};
+ghost use Rattle.std.specs.Prelude.{◌≡◌, ◌≢◌, IfErr, IfOk, MatchResult};
 ghost use Rattle.dac_tokens.specs.declared.fault.FaultKind.TheVariants.{NoMemory};
 ghost use Rattle.dac_tokens.specs.Gives.{Gives};
+ghost use Rattle.dac_first_fault.specs.FirstFault.{IsFaultOf};
 ghost use Rattle.dac_config.specs.Table.{Table};
 ghost use Rattle.dac_config.specs.Says.{IsConfigOf};
 ghost use Rattle.dac_config.specs.Reading.{config_at};
 
 use crate::Config;
-use dac_shapes::read_draft;
+use dac_first_fault::read_draft;
 use dac_tokens::ConfigFault;
 use std::alloc::Global;
 
@@ -27,6 +28,8 @@ pub fn read_config(alloc: Global, text: &[u8]) -> Result<Config, ConfigFault>
     ensures only { (table : Table) → IsConfigOf text.now table → MatchResult result (λ config. config ≡ table) (λ fault. fault.kind ≡ NoMemory) }
     // Which fault it is, unless memory ran out.
     ensures exact { Gives (λ config. config) result (config_at text.now) }
+    // The law of the first fault admits it, and no other fault of this text.
+    ensures first { IfErr result (λ fault. fault.kind ≢ NoMemory → IsFaultOf text.now fault) }
     ensures memory { IfErr result (λ fault. fault.kind ≡ NoMemory → fault.at ≡ 0) }
 {
     let draft = read_draft(alloc, text)?;

@@ -25,3 +25,4 @@ pub mod Order
 pub mod Files
 pub mod Alone
 pub mod Only
+pub mod Answered

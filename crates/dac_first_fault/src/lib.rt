@@ -1,4 +1,7 @@
-//! The first fault of a configuration text, said without a reader.
+//! The first fault of a configuration text, said without a reader, and the reader of drafts that answers it.
+//!
+//! [`read_draft`] is the reader. The parser of `dac_shapes` reads the text for it. Its contract says more: a fault that
+//! it answers is the one that the law admits.
 //!
 //! [`laws`] says of each text which fault it has, if any. What brings the fault is the text's length, a place where no
 //! token begins, its end, or one token. The fault stands at that token, or at the bracket that it closes with nothing
@@ -19,3 +22,6 @@
 #![tactic(auto)]
 
 pub mod laws;
+mod reading;
+
+pub use reading::read_draft;

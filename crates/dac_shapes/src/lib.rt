@@ -1,8 +1,12 @@
 //! The shape of a configuration text: from tokens to the names and numbers that are written.
 //!
-//! [`read_draft`] answers what a text says as a [`Draft`], or its first fault in text order. The promise: a text is
-//! read exactly on two conditions. Its tokens are a file by the grammar of OTP's `sys.config`, and its names may
-//! stand where they stand. Then what it says is given. Any other text has its first fault answered, at its place.
+//! [`parse_draft`] is the parser. It answers what a text says as a [`Draft`], or its first fault in text order. The
+//! promise: a text is read exactly on two conditions. Its tokens are a file by the grammar of OTP's `sys.config`, and
+//! its names may stand where they stand. Then what it says is given. Any other text has its first fault answered, at
+//! its place.
+//!
+//! Which fault that is says the function `draft_at`, which reads as the parser does. A law that is said without a reader
+//! says it too: it stands in `dac_first_fault`, with the reader of drafts, which promises both.
 //!
 //! Of the section `kernel` the parameters `distributed`, `permissions`, `sync_nodes_mandatory`, `sync_nodes_optional`
 //! and `sync_nodes_timeout` are read. Any other section or parameter is a pair of a name and a term, which is parsed
@@ -26,4 +30,4 @@ mod terms;
 
 pub use draft::{Draft, DraftApp, Permission, SyncWait};
 pub use limits::{MAX_APPS, MAX_NAME, MAX_NODES, MAX_TEXT};
-pub use reading::read_draft;
+pub use reading::parse_draft;

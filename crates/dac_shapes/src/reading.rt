@@ -16,7 +16,8 @@ use crate::parser::Parser;
 use dac_tokens::{ConfigFault, FaultKind, Tokens};
 use std::alloc::Global;
 
-/// What a configuration text says, by names and numbers as they are written, or its first fault in text order.
+/// The parser of configuration texts: what a text says, by names and numbers as they are written, or its first fault in
+/// text order.
 ///
 /// A missing or unexpected token is `BadShape` at its first byte, at the text's length where the end came; so are
 /// a second section `kernel` and one of the parameters that are read a second time, at the name. A string in place of
@@ -25,7 +26,7 @@ use std::alloc::Global;
 /// `TooManyApps` or `TooManyNodes`. A text of more than 65,536 bytes is `TooLong` at 65,536, whatever it holds, and
 /// `NoMemory` stands at 0.
 #[tactic(auto, unfolding(crate::specs::Shape::draft_at))]
-pub fn read_draft(alloc: Global, text: &[u8]) -> Result<Draft<'_>, ConfigFault>
+pub fn parse_draft(alloc: Global, text: &[u8]) -> Result<Draft<'_>, ConfigFault>
     // What is read is in the grammar.
     ensures found { IfOk result (λ draft. IsTextOf text.now (draft_of draft)) }
     // What is in the grammar is read.

@@ -1,6 +1,7 @@
 //! Configuration files: which are read, and the first fault of the others at its place.
 use crate::sample::{EXAMPLE, is_fault};
-use dac_shapes::{MAX_APPS, MAX_NAME, MAX_NODES, MAX_TEXT, SyncWait, read_draft};
+use dac_first_fault::read_draft;
+use dac_shapes::{MAX_APPS, MAX_NAME, MAX_NODES, MAX_TEXT, SyncWait};
 use dac_tokens::{ConfigFault, FaultKind};
 use std::alloc::{AllocError, Global};
 

@@ -19,6 +19,11 @@ returns-in_err-draft-clause-exact c =
     let p = err_from_is_err_and c.from_residual.result c.from_residual.ensures.1 in
     rw (p.1, p.2) (fails_then _ (draft_at c.args.text.now) (λ draft. Ok (numbered draft)) c.in_err-draft.ensures.exact)
 
+pub returns-in_err-draft-clause-first : goal.returns-in_err-draft-clause-first
+returns-in_err-draft-clause-first c =
+    let p = err_from_is_err_and c.from_residual.result c.from_residual.ensures.1 in
+    rw (p.1, p.2) c.in_err-draft.ensures.first
+
 pub of_draft-requires-clause-said : goal.of_draft-requires-clause-said
 of_draft-requires-clause-said c = (c.args.text.now, c.in_ok-draft.ensures.found)
 

@@ -5,7 +5,7 @@ use Rattle.dac_shapes.specs.Shape.{file_at, draft_at}
 use Rattle.dac_shapes.specs.Views.{draft_of}
 use Rattle.dac_shapes.proofs.Texts.{Tokenizes, whole, found_in, only_in, memory_in}
 use Rattle.dac_shapes.proofs.DraftLimits.{limits_in}
-use Rattle.dac_shapes.proofs.reading.read_draft.Goals as goal
+use Rattle.dac_shapes.proofs.reading.parse_draft.Goals as goal
 
 pub returns : goal.returns
 unfolding draft_at
