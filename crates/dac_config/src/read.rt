@@ -14,11 +14,11 @@ use std::alloc::Global;
 
 /// The configuration that a text says, or the first fault of the text, in the order of the text.
 ///
-/// The text is a file of Erlang terms as OTP's command line flag `-config` takes it, with a section `kernel`
-/// whose parameters `distributed`, `permissions`, `sync_nodes_mandatory`, `sync_nodes_optional` and
-/// `sync_nodes_timeout` are those of OTP's kernel manual. Other sections and other parameters are read over. Nodes
-/// are all names in its node lists and in both sync lists. Of two permissions for one application the first stands,
-/// and one for an application that isn't listed is ignored.
+/// The text is a file of Erlang terms as OTP's command line flag `-config` takes it. Its section `kernel` has the
+/// parameters `distributed`, `permissions`, `sync_nodes_mandatory`, `sync_nodes_optional` and `sync_nodes_timeout` of
+/// OTP's kernel manual. Other sections and other parameters are parsed and ignored. Nodes are all names in its node
+/// lists and in both sync lists. Of two permissions for one application the first stands, and one for an application
+/// that isn't listed is ignored.
 ///
 /// A fault's place counts bytes from 0. Where memory is refused, the answer is `NoMemory` at 0.
 pub fn read_config(alloc: Global, text: &[u8]) -> Result<Config, ConfigFault>

@@ -15,8 +15,8 @@ use std::marker::Model;
 
 /// A causal context: the set of the dots that a replica has heard of. Contracts see it as a finite set.
 ///
-/// Dots may come in any order, so a context need not be a version vector: it may have the fourth dot of
-/// an origin and lack the third.
+/// Dots may come in any order, so a context need not be a version vector. It may have the fourth dot of an origin and
+/// lack the third.
 pub struct Context {
     rows: Vec<OriginRow>,
 }
@@ -218,8 +218,8 @@ impl Context {
         self.rows.len()
     }
 
-    /// The row of the `i`-th origin that has dots, by the order of origins: the origin, how far its counters
-    /// go 1, 2, 3, .. without a gap, and the further ones. It takes no memory.
+    /// The row of the `i`-th origin that has dots, by the order of origins. It is the origin, how far its counters go
+    /// 1, 2, 3, .. without a gap, and the further ones. It takes no memory.
     pub fn row(&self, i: usize) -> Option<(Origin, u64, Further<'_>)>
         ensures value { MatchOption result (length (rows_of self.now) ≤ i) (λ row. slice_get (rows_of self.now) i ≡ Some (record { origin = row.0; upto = row.1; further = row.2 })) }
         // There are fewer than there are numbers of places.

@@ -1,4 +1,4 @@
--- Where a reader came to the end of the tokens, or a token spoilt them, words up to the last that isn't quiet begin a
+-- A reader came to the end of the tokens, or a token spoilt them. Then words up to the last that isn't quiet begin a
 -- thing that keeps the limits that are bound.
 use Rattle.std.proofs.Common.{◌≡◌, ℕ, zero, suc, ◌≤◌, Bool, true, false, cond, List, [], ◌∷◌, ◌++◌, map, Result, Ok, Err, refl, sym, ap, subst, ◌∙◌, append_assoc, append-nil, inl, inr}
 use Rattle.std.specs.Prelude.{◌⊎◌, All}

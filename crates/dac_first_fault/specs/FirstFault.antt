@@ -31,7 +31,7 @@ CanBring TooManyApps word = IsShortName word
 CanBring TooManyNodes word = IsShortName word
 CanBring _ word = ⊥
 
--- A fault that the token t brings, behind these: it stands at t, or for empty brackets at the one before it, which t
+-- A fault that the token t brings, behind these. It stands at t, or for empty brackets at the one before it, which t
 -- closes.
 pub data StandsAt (before : List Located) (t : Located) (e : ConfigFault) : Type 0 where
   Itself : e.at ≡ t.at → CanBring e.kind t.word → StandsAt before t e
@@ -111,8 +111,8 @@ pub record Breaks (ws : List Word) (kind : FaultKind) : Type 0 where
 abbrev pub NoKind : FaultKind → Type 0
 NoKind kind = ⊥
 
--- a file begins with these words where empty lists and tuples of nodes, numbers that are too large and strings in place
--- of a section are let pass
+-- A file begins with these words where three things are let pass. They are empty lists and tuples of nodes, numbers
+-- that are too large and strings in place of a section
 pub record CanBeginLoosely (ws : List Word) : Type 0 where
   pub more : List Word
   pub sections : List Section

@@ -9,7 +9,7 @@ use Rattle.dac_shapes.specs.Written.{App, Permission, Param, Distributed, Permis
 use Rattle.dac_shapes.specs.Limits.{Seen, nothing, AllMay, is_among, has_param, has_kernel, with_node, with_nodes, listing, with_app, with_permission, with_param, with_section}
 
 module _ (Kept : FaultKind → Type 0) where
-  -- A node's name has at most MAX_NAME bytes, it stands in its list once unless repeats are taken there, and it is known
+  -- A node's name has at most MAX_NAME bytes. It stands in its list once unless repeats are taken there. It is known
   -- or fewer than MAX_NODES are.
   pub record NodeKeeps (repeats : Bool) (seen : Seen) (name : List ℕ) : Type 0 where
     pub short : Kept NameTooLong → length name ≤ MAX_NAME

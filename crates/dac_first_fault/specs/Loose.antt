@@ -1,5 +1,5 @@
--- Looser shapes of a configuration. An empty list or tuple of nodes, a number that is too large, and a string in place
--- of a section are let pass where the kind of their fault isn't kept.
+-- Looser shapes of a configuration. Let pass are an empty list or tuple of nodes, a number that is too large, and a
+-- string in place of a section. Each passes where the kind of its fault isn't kept.
 use Rattle.std.specs.Prelude.{◌≡◌, ◌≢◌, ◌⊎◌, ℕ, ◌≤◌, false, List, [], ◌∷◌, ◌++◌, codes}
 use Rattle.dac_tokens.specs.declared.fault.FaultKind.{FaultKind}
 use Rattle.dac_tokens.specs.declared.fault.FaultKind.TheVariants.{Unsupported, EmptyList, EmptyTuple, NumberTooLarge}

@@ -14,9 +14,9 @@
 //! A name's fault is of the first limit, in a fixed order, that the name breaks. No file that keeps this limit goes on
 //! with the name, whatever else that file breaks. One does that keeps the limits before it.
 //!
-//! Another token brings a fault of shape, unless a file goes on with it that is loose: lists and tuples of nodes may be
-//! empty there, numbers too large, and a string may stand in place of a section. The token then brings the fault of
-//! what it spoils.
+//! Another token brings a fault of shape, unless a file goes on with it that is loose. In a loose file lists and
+//! tuples of nodes may be empty and numbers too large. A string may stand in place of a section. The token then
+//! brings the fault of what it spoils.
 //!
 //! The law is exact: reading a text has a fault if and only if the law admits it, and the law admits one alone.
 #![tactic(auto)]

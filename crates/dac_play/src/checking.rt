@@ -11,8 +11,8 @@ use dac_script::{Failure, Source, read_input};
 use std::alloc::Global;
 use std::io::{Read, Write};
 
-/// The canonical text of the configuration that an input is, or why it is none. The input as such is looked at
-/// first, and then what it says; `NoMemory` is answered only where memory is refused before a fault is met.
+/// The canonical text of the configuration that an input is, or why it is none. The input as such is looked at first,
+/// and then what it says. `NoMemory` is answered only where memory is refused before a fault is met.
 pub fn canonical<R: Read>(alloc: Global, source: &mut Source<R>) -> Result<Vec<u8>, Failure>
     ensures says { IfOk result (λ text. IfSome source.old.left (λ bytes. IsCanonicalOf bytes text.items)) }
     ensures fails { IfErr result (λ why. IfSome source.old.left (λ bytes. IsUnchecked bytes why)) }

@@ -1,10 +1,10 @@
-//! What `distac check` and `distac sim` do with an input: one prints the configuration in its one form, the other
+//! What `distac check` and `distac sim` do with an input. One prints the configuration in its one form. The other
 //! plays a script in a world of controllers and prints what comes of each of its lines.
 //!
 //! The promises are on [`check_source`] and [`simulate_source`]. Where [`simulate_source`] is done, what it wrote is,
-//! line by line, what the script that the input says does in the model world; each printed line is the text
-//! that its contract names. A failed read is the failure exactly where the source shows one. Where memory or a write
-//! fails, the status 1 alone is promised.
+//! line by line, what the script that the input says does in the model world. Each printed line is the text that its
+//! contract names. A failed read is the failure exactly where the source shows one. Where memory or a write fails,
+//! the status 1 alone is promised.
 #![tactic(auto)]
 
 mod answers;

@@ -126,8 +126,8 @@ pub fn play<W: Write>(
     Ok(())
 }
 
-/// Reads a configuration and a script, plays the script and prints what comes of each line. The whole input is
-/// read and checked before anything is played; where it has a fault, a line that says so is all that is printed.
+/// Reads a configuration and a script, plays the script and prints what comes of each line. The whole input is read
+/// and checked before anything is played. Where it has a fault, a line that says so is all that is printed.
 pub fn simulate_source<R: Read, W: Write>(
     alloc: Global,
     source: &mut Source<R>,

@@ -19,12 +19,11 @@ use std::alloc::Global;
 /// The parser of configuration texts: what a text says, by names and numbers as they are written, or its first fault in
 /// text order.
 ///
-/// A missing or unexpected token is `BadShape` at its first byte, at the text's length where the end came; so are
-/// a second section `kernel` and one of the parameters that are read a second time, at the name. A string in place of
-/// a section is `Unsupported` at its first byte. At one place a token's own fault comes
-/// first, then `BadShape`, then `NameTooLong` or `NumberTooLarge`, then `TwiceApp` or `TwiceInList`, then
-/// `TooManyApps` or `TooManyNodes`. A text of more than 65,536 bytes is `TooLong` at 65,536, whatever it holds, and
-/// `NoMemory` stands at 0.
+/// A missing or unexpected token is `BadShape` at its first byte, at the text's length where the end came. So are a
+/// second section `kernel` and one of the parameters that are read a second time, at the name. A string in place of a
+/// section is `Unsupported` at its first byte. At one place a token's own fault comes first, then `BadShape`, then
+/// `NameTooLong` or `NumberTooLarge`, then `TwiceApp` or `TwiceInList`, then `TooManyApps` or `TooManyNodes`. A text
+/// of more than 65,536 bytes is `TooLong` at 65,536, whatever it holds, and `NoMemory` stands at 0.
 #[tactic(auto, unfolding(crate::specs::Shape::draft_at))]
 pub fn parse_draft(alloc: Global, text: &[u8]) -> Result<Draft<'_>, ConfigFault>
     // What is read is in the grammar.

@@ -1,5 +1,5 @@
--- Sets that grow by those dots of a list that pass a test, sets that lose those that another lacks, and the dots of
--- stores in a list.
+-- Sets that grow by those dots of a list that pass a test, and sets that lose those that another lacks. And the dots
+-- of stores in a list.
 use Rattle.std.proofs.Common.{◌≡◌, ℕ, ◌+◌, ◌<◌, ◌≤◌, zero, suc, Bool, true, false, not, ◌&&◌, ◌||◌, inl, inr, List, [], ◌∷◌, length, get_or, take, refl, sym, ap, subst, ◌∙◌, arith}
 use Rattle.std.specs.Ordering.{eq_by_cmp}
 use Rattle.std.specs.List.{All}

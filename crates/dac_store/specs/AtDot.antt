@@ -10,7 +10,8 @@ StandsBelow below x None = Unit {0}
 StandsBelow below None (Some y) = ⊥
 StandsBelow below (Some x) (Some y) = below x y
 
--- the join where both sides have a value, and else the value of one where the other hasn't heard of the dot. c and d say which side has heard of it
+-- the join where both sides have a value, and else the value of one where the other hasn't heard of the dot. Whether
+-- a side has heard of it c and d say
 abbrev pub join_at : {V : Type 0} → (V → V → V) → Bool → Bool → Option V → Option V → Option V
 join_at join c d None None = None
 join_at join c d (Some v) None = if d then None else Some v

@@ -76,8 +76,8 @@ impl<V: Lattice> DotFun<V> {
         self.entries.as_slice()
     }
 
-    /// Whether the other side may hold this value at a dot: this side hasn't heard of the dot, or holds it
-    /// with a value that isn't above.
+    /// Whether the other side may hold this value at a dot. This side hasn't heard of the dot, or holds it with a
+    /// value that isn't above.
     fn lets_stand(&self, heard: &Context, dot: Dot, theirs: &V) -> bool
         ensures { IsTrue result
             ↔ (set.contains heard.now dot ≡ true → StandsBelow V.below (find dot_cmp dot self.now) (Some theirs.now)) }
@@ -92,8 +92,8 @@ impl<V: Lattice> DotFun<V> {
     }
 }
 
-/// Keeps the value of a dot that one side alone holds where the other hasn't heard of it, and joins two
-/// values at one dot.
+/// Keeps the value of a dot that one side alone holds where the other hasn't heard of it. Joins two values at one
+/// dot.
 #[derive(Clone, Copy)]
 struct JoinHeard<'a> {
     mine: &'a Context,

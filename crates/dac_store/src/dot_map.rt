@@ -51,9 +51,9 @@ impl<K: MapKey, S: DotStore> DotMap<K, S> {
         Ok(DotMap { entries })
     }
 
-    /// Appends a key with its store, if the key is above each key of the map and the store holds dots, and
-    /// says whether that was so. Where it wasn't, and where memory is refused ([`NoMemory`], the only
-    /// error), the map stays as it was.
+    /// Appends a key with its store, if the key is above each key of the map and the store holds dots. Says whether
+    /// that was so. Where it wasn't, and where memory is refused ([`NoMemory`], the only error), the map stays as it
+    /// was.
     pub fn push(&mut self, key: K, store: S) -> Result<bool, NoMemory>
         ensures ok { IfOk result (λ pushed. pushed ≡ (is_above_entries K.cmp self.old key && not (S.is_empty store))) }
         ensures new { IfOk result (λ pushed. self.new ≡ (if pushed then self.old ++ (key, store) ∷ [] else self.old)) }

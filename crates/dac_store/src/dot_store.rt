@@ -10,9 +10,9 @@ use std::alloc::Global;
 /// Values that hold dots. Two of them are ordered and joined beside their contexts, the dots that each
 /// side has heard of.
 ///
-/// The laws are one ghost member. For stores whose dots are in their contexts the order is a partial
-/// order, and the join is the least upper bound under the union of the contexts. Each law asks that its
-/// values are values of the type, which `known` tells.
+/// The laws are one ghost member. They are of stores whose dots are in their contexts. The order is a partial order,
+/// and the join is the least upper bound under the union of the contexts. Each law asks that its values are values of
+/// the type, which `known` tells.
 pub trait DotStore: Drop {
     /// Holds of the values of the type.
     ghost is_store: { Self → Type 0 };
@@ -57,8 +57,8 @@ pub trait DotStore: Drop {
     ) -> Result<Self, NoMemory>
         ensures { IfOk result (λ joined. joined ≡ join self.now heard.now other.now other_heard.now) };
 
-    /// Whether this store is below the other one: the other holds no dot that this side has heard of and
-    /// doesn't hold, and no lower value at one that both hold.
+    /// Whether this store is below the other one. The other holds no dot that this side has heard of and doesn't
+    /// hold. It holds no lower value at one that both hold.
     fn leq_in(&self, heard: &Context, other: &Self, other_heard: &Context) -> bool
         ensures { IsTrue result ↔ below self.now heard.now other.now other_heard.now };
 

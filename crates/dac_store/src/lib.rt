@@ -1,14 +1,14 @@
 //! Stores of dots: values that hold dots, ordered and joined under what each side has heard of.
 //!
-//! A replica that has heard of a dot and doesn't hold it has dropped it; one that hasn't heard of it may
-//! still get it. So two stores are joined beside their contexts: what one side alone holds stays where the
-//! other hasn't heard of it. These are the dot stores of delta-state replicated data types. This crate says
-//! once what a store owes, as the laws of the trait [`DotStore`], and proves them for sets of dots
-//! ([`DotSet`]), values at dots ([`DotFun`]) and stores at keys ([`DotMap`]). A store beside a context that
-//! has all its dots ([`Causal`]) is then a lattice, for every value of the type.
+//! A replica that has heard of a dot and doesn't hold it has dropped it. One that hasn't heard of it may still get
+//! it. So two stores are joined beside their contexts: what one side alone holds stays where the other hasn't heard
+//! of it. These are the dot stores of delta-state replicated data types. This crate says once what a store owes, as
+//! the laws of the trait [`DotStore`]. It proves them for sets of dots ([`DotSet`]), values at dots ([`DotFun`]) and
+//! stores at keys ([`DotMap`]). A store beside a context that has all its dots ([`Causal`]) is then a lattice, for
+//! every value of the type.
 //!
-//! Stores ask mostly whether a context contains a dot. One call lists the dots of a context: the join of two
-//! sets, where the context has few dots beside those of the other set.
+//! Stores ask mostly whether a context contains a dot. One call alone lists the dots of a context. It is the join of
+//! two sets, where the context has few dots beside those of the other set.
 #![tactic(auto)]
 
 pub use causal::Causal;
