@@ -29,12 +29,14 @@ Usage: distac check
 Options:
   -h, --help  Print help
 
-The canonical text says what was read: names in order, each default written out.
+The canonical text says what was read: applications in file order, nodes of a tuple in name order,
+each default written out.
 A fault is printed as `config fault 7 TwiceInList at 37`: its number, its name, and its byte, counted from 0.
 
 Exit status:
   0  The configuration was read, and its canonical text is printed
-  1  It has a fault, which is printed, memory ran out, or a write failed
+  1  The input has a fault, which is printed; or memory ran out, or a write failed
+  2  The command line can't be read
 
 Example:
   ./distac check < examples/manual.config
@@ -77,7 +79,8 @@ Lines that begin with % and empty lines are skipped.
 
 Exit status:
   0  The script was played, also where some of its lines were refused
-  1  The input has a fault, which is printed, memory ran out, or a write failed
+  1  The input has a fault, which is printed; or memory ran out, or a write failed
+  2  The command line can't be read
 
 Example:
   ./distac sim < examples/first-path.distac
