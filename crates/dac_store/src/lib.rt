@@ -7,8 +7,8 @@
 //! stores at keys ([`DotMap`]). A store beside a context that has all its dots ([`Causal`]) is then a lattice, for
 //! every value of the type.
 //!
-//! Stores ask mostly whether a context contains a dot. One call alone lists the dots of a context. It is the join of
-//! two sets, where the context has few dots beside those of the other set.
+//! Stores ask mostly whether a context contains a dot. Two calls list the dots of a context, where it has few. One is
+//! the join of two sets. The other is a join beside contexts, which sees whether it leaves one side's store as it is.
 #![tactic(auto)]
 
 pub use causal::Causal;
