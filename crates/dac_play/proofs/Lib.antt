@@ -3,4 +3,5 @@ mod Playing
 mod ScriptRuns
 mod Shares
 mod Simulating
+mod Unchecked
 mod WireTexts

@@ -1,6 +1,7 @@
 //! A configuration checked, and printed in its one form.
 
 ghost use Rattle.std.specs.Prelude.{◌≡◌, IfOk, IfErr, IfSome};
+ghost use Rattle.dac_script.specs.Input.{IsReadWithinBound};
 ghost use Rattle.dac_script.specs.Sources.{IsReadBy};
 ghost use Rattle.dac_play.specs.Checks.{IsCanonicalOf, IsUnchecked, EndsCheck};
 ghost use Rattle.dac_play.specs.Endings.{IsLeftAt};
@@ -13,10 +14,12 @@ use std::io::{Read, Write};
 
 /// The canonical text of the configuration that an input is, or why it is none. The input as such is looked at first,
 /// and then what it says. `NoMemory` is answered only where memory is refused before a fault is met.
-pub fn canonical<R: Read>(alloc: Global, source: &mut Source<R>) -> Result<Vec<u8>, Failure>
+pub fn canonical<R: Read>(alloc: Global, source: &mut Source<'_, R>) -> Result<Vec<u8>, Failure>
     ensures says { IfOk result (λ text. IfSome source.old.left (λ bytes. IsCanonicalOf bytes text.items)) }
     ensures fails { IfErr result (λ why. IfSome source.old.left (λ bytes. IsUnchecked bytes why)) }
     ensures reads { IsReadBy result source.new }
+    ensures bound { IsReadWithinBound source.old.left source.new.left }
+    ensures same_reader { source.new.reader ≡ source.old.reader }
 {
     let text = read_input(alloc, source)?;
     let config = read_config(alloc, &text)?;
@@ -27,11 +30,14 @@ pub fn canonical<R: Read>(alloc: Global, source: &mut Source<R>) -> Result<Vec<u
 /// Reads a configuration and prints its canonical text, or the line that says what is wrong with it.
 pub fn check_source<R: Read, W: Write>(
     alloc: Global,
-    source: &mut Source<R>,
+    source: &mut Source<'_, R>,
     output: &mut W,
 ) -> Ending
     ensures ends { IfSome source.old.left (λ bytes. EndsCheck bytes result (W.contents output.old) (W.contents output.new)) }
     ensures reads { IsLeftAt result source.new }
+    // However it ends, no more was read than the bound and one byte.
+    ensures bound { IsReadWithinBound source.old.left source.new.left }
+    ensures same_reader { source.new.reader ≡ source.old.reader }
 {
     let text = match canonical(alloc, source) {
         Ok(text) => text,
@@ -45,7 +51,11 @@ pub fn check_source<R: Read, W: Write>(
 
 /// As [`check_source`], of a reader of which nothing was read.
 pub fn check<R: Read, W: Write>(alloc: Global, input: &mut R, output: &mut W) -> Ending
-    ensures { IfSome (R.remaining input.old) (λ bytes. EndsCheck bytes result (W.contents output.old) (W.contents output.new)) }
+    ensures ends { IfSome (R.remaining input.old) (λ bytes. EndsCheck bytes result (W.contents output.old) (W.contents output.new)) }
+    ensures bound { IsReadWithinBound (R.remaining input.old) (R.remaining input.new) }
 {
-    check_source(alloc, &mut Source::new(input), output)
+    let mut source = Source::new(input);
+    let ending = check_source(alloc, &mut source, output);
+    let _reader = source.into_reader();
+    ending
 }

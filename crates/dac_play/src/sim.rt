@@ -4,6 +4,7 @@ ghost use Rattle.std.specs.Prelude.{◌≡◌, ◌<◌, ◌-◌, IfOk, IfSome, O
 ghost use Rattle.std.specs.Io.KnownBytes.{Appends};
 ghost use Rattle.dac_config.specs.Table.{node_count};
 ghost use Rattle.dac_core.specs.ModelWorld.{start};
+ghost use Rattle.dac_script.specs.Input.{IsReadWithinBound};
 ghost use Rattle.dac_script.specs.Line.{HasActors};
 ghost use Rattle.dac_script.specs.declared.line.ScriptLine.TheVariants as says;
 ghost use Rattle.dac_play.specs.Play.{script_text, PlaysLine};
@@ -130,11 +131,14 @@ pub fn play<W: Write>(
 /// and checked before anything is played. Where it has a fault, a line that says so is all that is printed.
 pub fn simulate_source<R: Read, W: Write>(
     alloc: Global,
-    source: &mut Source<R>,
+    source: &mut Source<'_, R>,
     output: &mut W,
 ) -> Ending
     ensures ends { IfSome source.old.left (λ bytes. EndsSim bytes result (W.contents output.old) (W.contents output.new)) }
     ensures reads { IsLeftAt result source.new }
+    // However it ends, no more was read than the bound and one byte.
+    ensures bound { IsReadWithinBound source.old.left source.new.left }
+    ensures same_reader { source.new.reader ≡ source.old.reader }
 {
     let (config, script) = match prepare(alloc, source) {
         Ok(both) => both,
@@ -152,7 +156,11 @@ pub fn simulate_source<R: Read, W: Write>(
 
 /// As [`simulate_source`], of a reader of which nothing was read.
 pub fn simulate<R: Read, W: Write>(alloc: Global, input: &mut R, output: &mut W) -> Ending
-    ensures { IfSome (R.remaining input.old) (λ bytes. EndsSim bytes result (W.contents output.old) (W.contents output.new)) }
+    ensures ends { IfSome (R.remaining input.old) (λ bytes. EndsSim bytes result (W.contents output.old) (W.contents output.new)) }
+    ensures bound { IsReadWithinBound (R.remaining input.old) (R.remaining input.new) }
 {
-    simulate_source(alloc, &mut Source::new(input), output)
+    let mut source = Source::new(input);
+    let ending = simulate_source(alloc, &mut source, output);
+    let _reader = source.into_reader();
+    ending
 }

@@ -1,5 +1,5 @@
 -- The whole input.
-use Rattle.std.specs.Prelude.{◌≡◌, ◌≢◌, ℕ, ◌<◌, ◌≤◌, List, [], ◌∷◌, ◌++◌, length, All, Option, Result, OnOk, IfSome, codes, ◌==◌}
+use Rattle.std.specs.Prelude.{◌≡◌, ◌≢◌, ℕ, ◌+◌, ◌<◌, ◌≤◌, List, [], ◌∷◌, ◌++◌, length, All, Option, Result, OnOk, IfSome, codes, ◌==◌}
 use Rattle.std.specs.List.{join_with_byte, position_or_len}
 use Rattle.std.specs.Io.KnownBytes.{Consumes}
 use Rattle.dac_script.specs.declared.failure.Failure.{Failure}
@@ -60,3 +60,7 @@ pub record TakesAtMost (had left : Option (List ℕ)) (most : ℕ) : Type 0 wher
   pub bytes : List ℕ
   pub taken : Consumes had left bytes
   pub few : length bytes ≤ most
+
+-- whatever came of an input, its reader gave at most one byte more than an input may have
+abbrev pub IsReadWithinBound : Option (List ℕ) → Option (List ℕ) → Type 0
+IsReadWithinBound had left = TakesAtMost had left (max_input + 1)

@@ -11,15 +11,17 @@ use Rattle.dac_script.specs.declared.source.Progress.TheVariants.{Open, Ended, F
 abbrev pub max_reads : ℕ
 max_reads = MAX_READS
 
--- a reader in use: what it has left, where that is known, how often it was read, and how that went
+-- a reader in use: the reference to it, by the name that proofs have for it, what it has left, where that is known, how
+-- often it was read, and how that went
 pub record Sourced : Type 0 where
+  pub reader : ℕ
   pub left : Option (List ℕ)
   pub reads : ℕ
   pub progress : Progress
 
 -- a reader of which nothing was read
-abbrev pub unread : Option (List ℕ) → Sourced
-unread left = record { left = left; reads = 0; progress = Open }
+abbrev pub unread : ℕ → Option (List ℕ) → Sourced
+unread reader left = record { reader = reader; left = left; reads = 0; progress = Open }
 
 -- the end wasn't met, no read failed, and there may be a further one
 abbrev pub IsOpen : Sourced → Type 0

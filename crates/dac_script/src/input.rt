@@ -57,9 +57,14 @@ pub fn parted(text: &[u8]) -> Option<(&[u8], &[u8])>
 }
 
 /// One read of at most `room` bytes, which go behind the text.
-fn read_on<R: Read>(source: &mut Source<R>, room: usize, text: &mut Vec<u8>) -> Result<(), NoMemory>
+fn read_on<R: Read>(
+    source: &mut Source<'_, R>,
+    room: usize,
+    text: &mut Vec<u8>,
+) -> Result<(), NoMemory>
     requires is_open { IsOpen source.old }
     requires room { 0 < room }
+    ensures same_reader { source.new.reader ≡ source.old.reader }
     ensures taken { Takes source.old.left source.new.left room text.old.items text.new.items result }
     ensures counted { source.new.reads ≡ source.old.reads + 1 }
     ensures more { length text.old.items < length text.new.items → source.new.progress ≡ Open }
@@ -82,13 +87,14 @@ fn read_on<R: Read>(source: &mut Source<R>, room: usize, text: &mut Vec<u8>) -> 
 /// was only interrupted is tried again; any other failed read is answered.
 pub(crate) fn read_within<R: Read>(
     alloc: Global,
-    source: &mut Source<R>,
+    source: &mut Source<'_, R>,
     most: usize,
 ) -> Result<Vec<u8>, Failure>
     requires { most < usize.MAX }
     ensures whole { IfOk result (λ text. IfSome source.old.left (λ bytes. text.items ≡ bytes)) }
     ensures short { IfOk result (λ text. length text.items ≤ most) }
     ensures stops { TakesAtMost source.old.left source.new.left (most + 1) }
+    ensures same_reader { source.new.reader ≡ source.old.reader }
     ensures failed { IfErr result (IsReadFailure most source.old.left) }
     ensures reads { IsReadBy result source.new }
 {
@@ -107,10 +113,11 @@ pub(crate) fn read_within<R: Read>(
 }
 
 /// Reads an input to its end. It is too long where it has more bytes than an input may have.
-pub fn read_input<R: Read>(alloc: Global, source: &mut Source<R>) -> Result<Vec<u8>, Failure>
+pub fn read_input<R: Read>(alloc: Global, source: &mut Source<'_, R>) -> Result<Vec<u8>, Failure>
     ensures whole { IfOk result (λ text. IfSome source.old.left (λ bytes. text.items ≡ bytes)) }
     ensures short { IfOk result (λ text. IsTaken text.items) }
     ensures stops { TakesAtMost source.old.left source.new.left (max_input + 1) }
+    ensures same_reader { source.new.reader ≡ source.old.reader }
     ensures failed { IfErr result (IsReadFailure max_input source.old.left) }
     ensures reads { IsReadBy result source.new }
 {

@@ -4,6 +4,7 @@ ghost use Rattle.std.specs.Prelude.{◌≡◌, IfOk, IfErr, IfSome, All};
 ghost use Rattle.dac_config.specs.Table.{node_count};
 ghost use Rattle.dac_script.specs.Line.{HasActors};
 ghost use Rattle.dac_script.specs.Inputs.{HasParts, IsPartsFailure, Says, IsFailureOf};
+ghost use Rattle.dac_script.specs.Input.{IsReadWithinBound};
 ghost use Rattle.dac_script.specs.Sources.{IsReadBy};
 
 use crate::failure::Failure;
@@ -34,12 +35,15 @@ fn parts_of(alloc: Global, text: &[u8]) -> Result<(Config, Vec<ScriptLine>), Fai
 /// that has a fault is answered; `NoMemory` only where memory is refused before a fault is met.
 pub fn prepare<R: Read>(
     alloc: Global,
-    source: &mut Source<R>,
+    source: &mut Source<'_, R>,
 ) -> Result<(Config, Vec<ScriptLine>), Failure>
     ensures says { IfOk result (λ both. IfSome source.old.left (λ bytes. Says bytes both.0 both.1.items)) }
     ensures actors { IfOk result (λ both. All (HasActors (node_count both.0)) both.1.items) }
     ensures fails { IfErr result (λ why. IfSome source.old.left (λ bytes. IsFailureOf bytes why)) }
     ensures reads { IsReadBy result source.new }
+    // However it ends, no more was read than the bound and one byte.
+    ensures bound { IsReadWithinBound source.old.left source.new.left }
+    ensures same_reader { source.new.reader ≡ source.old.reader }
 {
     let text = read_input(alloc, source)?;
     let both = parts_of(alloc, &text)?;

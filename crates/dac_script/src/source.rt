@@ -24,15 +24,15 @@ pub enum Progress {
     Failed,
 }
 
-/// A reader that counts its reads and remembers how they went.
+/// A reader in use, which counts its reads and remembers how they went.
 #[derive(Drop)]
-pub struct Source<R: Read> {
-    reader: R,
+pub struct Source<'a, R: Read> {
+    reader: &'a mut R,
     reads: u32,
     progress: Progress,
 }
 
-impl<R: Read> Model for Source<R> {
+impl<'a, R: Read> Model for Source<'a, R> {
     ghost use Rattle.std.specs.Prelude.{◌≡◌, ◌≤◌};
     ghost use Rattle.std.specs.Io.KnownBytes.{IsAtEnd};
     ghost use Rattle.dac_script.specs.Sources.{Sourced, max_reads};
@@ -40,21 +40,34 @@ impl<R: Read> Model for Source<R> {
 
     ghost Value = { Sourced };
 
-    ghost view = { λ s. record { left = R.remaining s.reader; reads = s.reads; progress = s.progress } };
+    ghost view = { λ s. record { reader = s.reader.ghost_name; left = R.remaining s.reader.now; reads = s.reads; progress = s.progress } };
 
-    ghost invariant = { λ s. (s.reads ≤ max_reads) × (s.progress ≡ Ended → IsAtEnd (R.remaining s.reader)) };
+    ghost invariant = { λ s. (s.reads ≤ max_reads) × (s.progress ≡ Ended → IsAtEnd (R.remaining s.reader.now)) };
 }
 
-impl<R: Read> Source<R> {
+impl<'a, R: Read> Source<'a, R> {
     /// A source of which nothing was read.
-    pub fn new(reader: R) -> Self
-        ensures { result ≡ unread (R.remaining reader) }
+    pub fn new(reader: &'a mut R) -> Self
+        ensures { result ≡ unread reader.entry.ghost_name (R.remaining reader.old) }
     {
         Source {
             reader,
             reads: 0,
             progress: Progress::Open,
         }
+    }
+
+    /// The reader, as the reads left it.
+    pub fn into_reader(self) -> &'a mut R
+        ensures same_reader { result.ghost_name ≡ self.entry.reader }
+        ensures left { R.remaining result.now ≡ self.entry.left }
+    {
+        let Source {
+            reader,
+            reads: _reads,
+            progress: _progress,
+        } = self;
+        reader
     }
 
     /// Whether it may be read on: its end wasn't met, no read failed, and there were fewer reads than there may be.
@@ -77,6 +90,7 @@ impl<R: Read> Source<R> {
     pub(crate) fn read(&mut self, buffer: &mut [u8]) -> io::Result<usize>
         requires is_open { IsOpen self.old }
         requires room { 0 < length buffer.old }
+        ensures same_reader { self.new.reader ≡ self.old.reader }
         ensures bound { ReadsAtMost result buffer.new }
         ensures bytes { ReadConsumes self.old.left self.new.left result buffer.new }
         ensures counted { self.new.reads ≡ self.old.reads + 1 }

@@ -1,4 +1,4 @@
-use Rattle.std.proofs.Common.{◌≤◌, ◌-◌, length}
+use Rattle.std.proofs.Common.{◌≡◌, ◌≤◌, ◌-◌, length}
 use Rattle.std.specs.Io.KnownBytes.{Consumes}
 use Rattle.dac_script.specs.Sources.{max_reads}
 use Rattle.dac_script.proofs.input.read_within.Given as goal
@@ -7,6 +7,7 @@ abbrev pub invariant-loop-text : goal.invariant-loop-text
 invariant-loop-text g l = record {
   taken : Consumes l.fn.source.left l.source.left l.text.items;
   short : length l.text.items ≤ l.most;
+  same_reader : l.source.reader ≡ l.fn.source.reader;
 }
 
 abbrev pub decreases-loop-text : goal.decreases-loop-text
