@@ -5,6 +5,7 @@ ghost use Rattle.clap.specs.Words.{Text, kind_of};
 ghost use Rattle.dac_play.specs.Checks.{EndsCheck};
 ghost use Rattle.dac_play.specs.Endings.{EndsWith};
 ghost use Rattle.dac_play.specs.Simulations.{EndsSim};
+ghost use Rattle.dac_script.specs.Input.{IsReadWithinBound};
 ghost use Rattle.dac_program.specs.CommandLine.{check_words, sim_words};
 
 use crate::command_line::{Request, asked};
@@ -35,6 +36,7 @@ fn refuse<T: Print + Eprint, W: Write>(rt: &T, error: &Error, output: &mut W) ->
 ///
 /// `distac check` and `distac sim` write to the output alone. Help goes to the standard output. The text about words
 /// that are no command line goes to the standard error.
+#[tactic(auto, using(crate::proofs::Reading::nothing_read))]
 pub fn run<'a, T: Print + Eprint, R: Read, W: Write>(
     rt: &T,
     alloc: Global,
@@ -47,6 +49,8 @@ pub fn run<'a, T: Print + Eprint, R: Read, W: Write>(
     ensures check { (name : Text) → map (λ word. word.now) words.entry.now ≡ check_words name → EndsWith (λ bytes ending. EndsCheck bytes ending (W.contents output.old) (W.contents output.new)) (R.remaining input.old) result }
     // What `distac sim` prints is what the script of its input does, or the line of the input's failure.
     ensures sim { (name : Text) → map (λ word. word.now) words.entry.now ≡ sim_words name → EndsWith (λ bytes ending. EndsSim bytes ending (W.contents output.old) (W.contents output.new)) (R.remaining input.old) result }
+    // However it ends, no more was read than the bound and one byte.
+    ensures bound { IsReadWithinBound (R.remaining input.old) (R.remaining input.new) }
 {
     match asked(alloc, words) {
         Ok(Some(Request::Check)) => check(alloc, input, output).status(),
