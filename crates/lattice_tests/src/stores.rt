@@ -64,7 +64,8 @@ fn is_cleared<S: DotStore>(alloc: Global, store: &S, context: &Context) -> Resul
 /// Whether a store of the first dot keeps it where the other side hasn't heard of it, through the bound.
 fn is_kept<S: DotStore>(alloc: Global, store: &S, context: &Context) -> Result<bool, NoMemory> {
     let unheard = Context::empty(alloc);
-    let kept = store.copy()?.join_in(context, &S::empty(alloc), &unheard)?;
+    let nothing = S::empty(store.allocator());
+    let kept = store.copy()?.join_in(context, &nothing, &unheard)?;
     Ok(kept.has(dot(0, 1)))
 }
 
