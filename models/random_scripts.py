@@ -17,6 +17,7 @@ from check import MOST_INPUT, Config, ConfigFault, read_config, spelled
 from random_packets import changed_bytes, random_packet
 from random_texts import random_text
 from sim import LineReader, Player
+from world import World
 
 CONFIGS = (
     b"[{kernel,[{distributed,[{myapp,5000,[cp1@cave,{cp2@cave,cp3@cave}]}]},"
@@ -87,7 +88,7 @@ class ScriptMaker:
         self.now = 0
 
     @property
-    def world(self):  # noqa: ANN201 - the type is the player's
+    def world(self) -> World:
         """The world as it is now."""
         return self.player.world
 
@@ -318,12 +319,22 @@ def dropped_fronts(maker: ScriptMaker) -> None:
 
 
 def standing_dots(maker: ScriptMaker) -> None:
-    """Many standing starts of one key, each of another incarnation: as many as may be replaced, or one more."""
+    """Some standing starts of one key, each of another incarnation."""
+    standing(maker, maker.random.choice((3, 20, 50)))
+
+
+def very_many_standing_dots(maker: ScriptMaker) -> None:
+    """As many standing starts of one key as may be replaced, or one more. Such a script takes the program long."""
+    standing(maker, maker.random.choice((1023, 1024, 1025, 1026)))
+
+
+def standing(maker: ScriptMaker, count: int) -> None:
+    """So many standing starts of one key."""
     first, other = maker.name_of(0), maker.name_of(len(maker.config.nodes) - 1)
     app = next((app for app in maker.config.apps if app.group_of(0) is not None and b" " not in app.name), None)
-    count = maker.random.choice((1023, 1024, 1025, 1026))
     if app is None or first == other:
-        return usual(maker)
+        usual(maker)
+        return
     word = spelled(app.name)
     maker.add(b"boot", first, b"0")
     starts = []
@@ -338,7 +349,6 @@ def standing_dots(maker: ScriptMaker) -> None:
     verb = maker.random.choice((b"start", b"stop"))
     maker.add(verb, first, word, first)
     maker.add(b"page", first)
-    return None
 
 
 def quiet(maker: ScriptMaker) -> None:
@@ -417,10 +427,11 @@ def script_config(random: Random, seed: int, number: int) -> bytes:
 
 
 KINDS: tuple[tuple[Callable[[ScriptMaker], None], int], ...] = (
-    (usual, 860),
-    (quiet, 100),
-    (dropped_fronts, 38),
-    (standing_dots, 2),
+    (usual, 7_200),
+    (quiet, 1_800),
+    (dropped_fronts, 380),
+    (standing_dots, 615),
+    (very_many_standing_dots, 5),
 )
 
 

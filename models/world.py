@@ -199,7 +199,7 @@ class World:
     def issue(self, node: int, act: Act) -> int:
         """Issues an operation at a running node. Its number."""
         running = self.running(node)
-        own = [dot.n for dot in self.state(node).known if dot.origin == (node, running.inc)]
+        own = [dot.n for dot in self.state(node).known if dot[:2] == (node, running.inc)]
         self.operations.append(Operation(Dot(node, running.inc, max(own, default=0) + 1), act))
         running.add(1 << len(self.operations) - 1)
         return len(self.operations)
