@@ -44,35 +44,9 @@ ALL = dict.fromkeys(
 PROFILES = (CALM, CALM, LETTERS, LETTERS, HANDS, FEEDS, PAUSES, PAUSES, ALL)
 
 ODD_WORDS = (
-    b"'true'",
-    b"True",
-    b"01",
-    b"-1",
-    b"4611686018427387904",
-    b"4611686018427387905",
-    b"99999999999999999999999",
-    b"1x",
-    b"fun",
-    b"'fun'",
-    b"Zz",
-    b"'",
-    b"''",
-    b"'a'b'",
-    b"'\\'",
-    b"a\t",
-    b"zz@h",
-    b"\r",
-    b"%",
-    b"0A",
-    b"abc",
-    b"0g",
-    b"boot",
-    b"'boot'",
-    b"live",
-    b"c1@h",
-    b"true",
-    b"\xc3\xa9",
-    b"'\xc3\xa9'",
+    *b"'true' True 01 -1 4611686018427387904 4611686018427387905 99999999999999999999999 1x fun 'fun' Zz ' '' 'a'b'".split(),
+    *(b"'\\'", b"a\t", b"zz@h", b"\r", b"%", b"0A", b"abc", b"0g", b"boot", b"'boot'", b"live", b"c1@h", b"true"),
+    *(b"\xc3\xa9", b"'\xc3\xa9'"),
 )
 
 
@@ -155,7 +129,7 @@ class ScriptMaker:
         if self.random.random() < 0.6:
             self.start_all(node, 0.9)
         if self.random.random() < 0.5:
-            self.share()
+            self.add(b"share")
 
     def start_all(self, node: int, rate: float) -> None:
         """Start wishes for what a node may run."""
@@ -177,28 +151,11 @@ class ScriptMaker:
         choose = off and self.random.random() < 0.7
         self.add(b"down", self.on(), self.name_of(self.random.choice(off)) if choose else self.about(len(self.config.apps)))
 
-    def permit(self) -> None:
-        """A permission."""
+    def wish(self, verb: bytes) -> None:
+        """A permission, a start wish, or the end of such wishes."""
         app, word = self.app()
-        self.add(b"permit", self.on(), word, self.about(app), self.random.choice((b"true", b"true", b"false")))
-
-    def start(self) -> None:
-        """A start wish."""
-        app, word = self.app()
-        self.add(b"start", self.on(), word, self.about(app))
-
-    def stop(self) -> None:
-        """The end of start wishes."""
-        app, word = self.app()
-        self.add(b"stop", self.on(), word, self.about(app))
-
-    def takeover(self) -> None:
-        """A takeover by hand."""
-        self.add(b"takeover", self.on(), self.app()[1])
-
-    def tick(self) -> None:
-        """A tick."""
-        self.add(b"tick", self.on(), self.moment())
+        words = [verb, self.on(), word, self.about(app)]
+        self.add(*words, *([self.random.choice((b"true", b"true", b"false"))] if verb == b"permit" else []))
 
     def ship(self) -> None:
         """A ship."""
@@ -219,29 +176,28 @@ class ScriptMaker:
             node = self.name_of(self.world.shipped(number).to)
         self.add(b"hear", node, b"%d" % number)
 
-    def hand(self) -> None:
-        """A handing."""
-        self.add(b"hand", self.on(), b"%d" % self.number_near(len(self.world.operations)))
+    def simple(self, verb: bytes) -> None:
+        """A line whose words hang together in no way."""
+        words: dict[bytes, Callable[[], list[bytes]]] = {
+            b"takeover": lambda: [self.on(), self.app()[1]],
+            b"tick": lambda: [self.on(), self.moment()],
+            b"hand": lambda: [self.on(), b"%d" % self.number_near(len(self.world.operations))],
+            b"share": lambda: [],
+            b"page": lambda: [self.on()],
+            b"state": lambda: [self.on()],
+            b"same": lambda: [self.on(), self.on()],
+            b"bytes": lambda: [b"%d" % self.number_near(len(self.world.messages))],
+        }
+        self.add(verb, *words[verb]())
 
-    def share(self) -> None:
-        """A share."""
-        self.add(b"share")
-
-    def page(self) -> None:
-        """A page."""
-        self.add(b"page", self.on())
-
-    def state(self) -> None:
-        """The bytes of a state."""
-        self.add(b"state", self.on())
-
-    def same(self) -> None:
-        """A comparison of two states."""
-        self.add(b"same", self.on(), self.on())
-
-    def bytes(self) -> None:
-        """The bytes of a message."""
-        self.add(b"bytes", b"%d" % self.number_near(len(self.world.messages)))
+    def any_line(self, verb: str) -> None:
+        """A line of a verb."""
+        if verb in ("permit", "start", "stop"):
+            self.wish(verb.encode())
+        elif hasattr(self, verb):
+            getattr(self, verb)()
+        else:
+            self.simple(verb.encode())
 
     def feed(self) -> None:
         """The bytes of a packet, most often changed a little."""
@@ -258,11 +214,11 @@ class ScriptMaker:
             if self.random.random() < 0.85:
                 self.add(b"boot", self.name_of(node), b"%d" % self.now)
         if self.random.random() < 0.5:
-            self.share()
+            self.add(b"share")
         for node in range(len(self.config.nodes)):
             self.start_all(node, 0.8)
         if self.random.random() < 0.7:
-            self.share()
+            self.add(b"share")
 
     def some(self, profile: dict[str, int], count: int) -> None:
         """Lines of a profile."""
@@ -270,8 +226,7 @@ class ScriptMaker:
             off = sum(not self.world.is_on(node) for node in range(len(self.config.nodes)))
             if self.random.random() < 0.25 * off / len(self.config.nodes):
                 self.revive()
-            verb = self.random.choices(list(profile), list(profile.values()))[0]
-            getattr(self, verb)()
+            self.any_line(self.random.choices(list(profile), list(profile.values()))[0])
 
     def close(self) -> None:
         """Everything is shown."""
@@ -355,7 +310,7 @@ def quiet(maker: ScriptMaker) -> None:
     """Two nodes exchange all until there is nothing left to say, then go on."""
     maker.open()
     for _ in range(maker.random.randint(2, 6)):
-        maker.share()
+        maker.add(b"share")
     maker.some(CALM, 10)
     maker.exchange(10)
     maker.some(LETTERS, 30)

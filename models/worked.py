@@ -17,13 +17,8 @@ from placement import load, verdict
 from sim import LineReader, Player, simulate
 from wire import WireFault, context_bytes, is_operation, read_packet, read_state, state_bytes
 
-EXAMPLE = b"""[{kernel,
- [{distributed, [{myapp, 5000, [cp1@cave, {cp2@cave, cp3@cave}]}]},
-  {sync_nodes_mandatory, [cp2@cave, cp3@cave]},
-  {sync_nodes_timeout, 5000}
- ]
-}
-].
+EXAMPLE = b"""[{kernel, [{distributed, [{myapp, 5000, [cp1@cave, {cp2@cave, cp3@cave}]}]},
+ {sync_nodes_mandatory, [cp2@cave, cp3@cave]}, {sync_nodes_timeout, 5000}]}].
 """
 TWO_APPLICATIONS = b"[{kernel,[{distributed,[{a,5000,[c1@h,{c2@h,c3@h}]},{b,[c2@h]}]}]}].\n"
 ONE_APPLICATION = b"[{kernel,[{distributed,[{a,[c1@h,{c2@h,c3@h}]}]}]}].\n"
@@ -288,20 +283,14 @@ def fault_of(read: Callable[[], object]) -> tuple[str, int] | None:
     return None
 
 
-PREFIXES = {
-    **dict.fromkeys(range(3), ("BadMagic", 0)),
-    3: ("BadVersion", 3),
-    **dict.fromkeys(range(4, 12), ("Short", 4)),
-    12: ("Short", 12),
-    13: ("Short", 13),
-    **dict.fromkeys(range(14, 18), ("Short", 14)),
-    18: ("Short", 18),
-    **dict.fromkeys(range(19, 23), ("Short", 19)),
-    **dict.fromkeys(range(23, 31), ("Short", 23)),
-    31: ("Short", 31),
-    32: ("Short", 32),
-    33: ("Short", 32),
-}
+SHORT_FIELDS = (4, 12, 13, 14, 18, 19, 23, 31, 32, 34)
+
+
+def fault_of_prefix(length: int) -> tuple[str, int]:
+    """The fault of so many bytes of a message: after its first bytes, a field that isn't whole."""
+    if length < 4:
+        return ("BadMagic", 0) if length < 3 else ("BadVersion", 3)
+    return "Short", max(at for at in SHORT_FIELDS if at <= length)
 
 
 def state_checks(config: Config) -> Iterator[tuple[str, bool]]:
@@ -333,8 +322,8 @@ def packet_checks(config: Config) -> Iterator[tuple[str, bool]]:
     yield "a message, cut", fault(packet[:12]) == ("Short", 12)
     yield "a message with another magic", fault(with_byte(packet, 0, 0x45)) == ("BadMagic", 0)
     yield "a message of another version", fault(with_byte(packet, 3, 2)) == ("BadVersion", 3)
-    for length, expected in PREFIXES.items():
-        yield f"{length} bytes of a message", fault(packet[:length]) == expected
+    for length in range(34):
+        yield f"{length} bytes of a message", fault(packet[:length]) == fault_of_prefix(length)
     yield "longer parts of a message are short", all(
         (found := fault(packet[:length])) is not None and found[0] == "Short" for length in range(34, 87)
     )

@@ -6,37 +6,21 @@ counters or numbers of deltas run out, so no refusal for that is here.
 
 from __future__ import annotations
 
+from contextlib import suppress
 from dataclasses import dataclass, field
 
-from check import Config
-from meaning import FAILOVER, NORMAL, TAKEOVER, Act, Claim, ClaimAct, Dot, Down, Key, Meaning, Operation, Origin
-from meaning import Permit, Start, Stop, Up, meaning_of
 import placement
-from wire import INTERVAL, NOTHING, WHOLE, Message
+from check import Config
+from meaning import FAILOVER, NORMAL, TAKEOVER, Act, Claim, ClaimAct, Dot, Down, Key, Meaning, Operation, Origin, Permit
+from meaning import Start, Stop, Up, meaning_of
+from wire import INTERVAL, MOST_OVER, NOTHING, WHOLE, Message
 
-MOST_DELTAS = 256
-MOST_OVER = 1_024
-MOST_CACHED = 64
+MOST_DELTAS, MOST_CACHED = 256, 64
 
 REFUSALS = (
-    "Off",
-    "AlreadyOn",
-    "DeclaredDown",
-    "UnknownApp",
-    "UnknownNode",
-    "OnSelf",
-    "NotInList",
-    "MomentBack",
-    "NotLive",
-    "NotStarted",
-    "NotEligible",
-    "NotRunning",
-    "AlreadyHolder",
-    "LowerPriority",
-    "NotForMe",
-    "UpToDate",
-    "TooManyDots",
-)
+    "Off AlreadyOn DeclaredDown UnknownApp UnknownNode OnSelf NotInList MomentBack NotLive NotStarted NotEligible NotRunning "
+    "AlreadyHolder LowerPriority NotForMe UpToDate TooManyDots"
+).split()
 
 
 class Refused(Exception):
@@ -46,13 +30,13 @@ class Refused(Exception):
         super().__init__(why)
         self.why = why
 
-    def line(self) -> str:
+    def line(self) -> bytes:
         """The line that the program prints for it."""
-        return f"refused {REFUSALS.index(self.why) + 1} {self.why}"
+        return f"refused {REFUSALS.index(self.why) + 1} {self.why}".encode()
 
 
 class NoSuch(Exception):
-    """A number names no message, or no operation."""
+    """A number names no message, or no operation: the word for it, and the number."""
 
 
 def refuse(why: str, holds: bool) -> None:
@@ -133,13 +117,6 @@ class Running:
         return moment
 
 
-@dataclass(frozen=True)
-class Ticked:
-    """What a tick claimed, by the numbers of the operations."""
-
-    issued: tuple[int, ...]
-
-
 @dataclass
 class Node:
     """A node: the number of its last incarnation, and what it is while it runs."""
@@ -193,7 +170,7 @@ class World:
     def shipped(self, number: int) -> Shipped:
         """The shipped message of a number."""
         if not 1 <= number <= len(self.messages):
-            raise NoSuch
+            raise NoSuch(b"message", number)
         return self.messages[number - 1]
 
     def issue(self, node: int, act: Act) -> int:
@@ -220,14 +197,15 @@ class World:
 
     # Commands
 
-    def refuse_declared_down(self, node: int) -> None:
-        """Refuses where the node has heard that it is down."""
-        refuse("DeclaredDown", self.state(node).live(node) != self.running(node).inc)
+    def active(self, node: int) -> Running:
+        """A node that has to run, and not to have heard that it is down."""
+        running = self.running(node)
+        refuse("DeclaredDown", self.state(node).live(node) != running.inc)
+        return running
 
     def down(self, node: int, about: int) -> int:
         """The word that another node is down."""
-        self.running(node)
-        self.refuse_declared_down(node)
+        self.active(node)
         refuse("UnknownNode", about >= len(self.nodes))
         refuse("OnSelf", about == node)
         inc = self.state(node).live(about)
@@ -237,8 +215,7 @@ class World:
 
     def key(self, node: int, app: int, about: int) -> Key:
         """The key of an application at the live incarnation of a node."""
-        self.running(node)
-        self.refuse_declared_down(node)
+        self.active(node)
         refuse("UnknownApp", app >= len(self.config.apps))
         refuse("UnknownNode", about >= len(self.nodes))
         refuse("NotInList", self.config.apps[app].group_of(about) is None)
@@ -248,31 +225,27 @@ class World:
         return Key(app, about, inc)
 
     def permit(self, node: int, app: int, about: int, value: bool) -> int:
-        """A permission."""
+        """A permission, in the place of all that stand at the key."""
         key = self.key(node, app, about)
         over = self.state(node).standing(key, permits=True)
         refuse("TooManyDots", len(over) > MOST_OVER)
         return self.issue(node, Permit(key, value, over))
 
-    def start(self, node: int, app: int, about: int) -> int:
-        """A start wish."""
+    def start(self, node: int, app: int, about: int, is_stop: bool = False) -> int:
+        """A start wish in the place of all that stand at the key, or their end."""
         key = self.key(node, app, about)
         over = self.state(node).standing(key, permits=False)
+        refuse("NotStarted", is_stop and not over)
         refuse("TooManyDots", len(over) > MOST_OVER)
-        return self.issue(node, Start(key, over))
+        return self.issue(node, Stop(key, over) if is_stop else Start(key, over))
 
     def stop(self, node: int, app: int, about: int) -> int:
         """The end of all start wishes that stand at the key."""
-        key = self.key(node, app, about)
-        over = self.state(node).standing(key, permits=False)
-        refuse("NotStarted", not over)
-        refuse("TooManyDots", len(over) > MOST_OVER)
-        return self.issue(node, Stop(key, over))
+        return self.start(node, app, about, is_stop=True)
 
     def takeover(self, node: int, app: int) -> int:
         """The node takes an application over from where it runs."""
-        self.running(node)
-        self.refuse_declared_down(node)
+        self.active(node)
         refuse("UnknownApp", app >= len(self.config.apps))
         state, listed = self.state(node), self.config.apps[app]
         own_group = listed.group_of(node)
@@ -293,10 +266,9 @@ class World:
 
     # Ticks
 
-    def tick(self, node: int, now: int) -> Ticked | str:
-        """A node looks after its applications. What it claims, or `held`, or `gave up`."""
-        running = self.running(node)
-        self.refuse_declared_down(node)
+    def tick(self, node: int, now: int) -> list[int] | str:
+        """A node looks after its applications. The numbers of its claims, or `held`, or `gave up`."""
+        running = self.active(node)
         refuse("MomentBack", now < running.now)
         running.now = now
         opening = "opened" if running.is_open else self.opening(running, node)
@@ -307,7 +279,7 @@ class World:
         running.is_open = True
         self.note(running)
         issued = [self.claim(node, app) for app in range(len(self.config.apps))]
-        return Ticked(tuple(number for number in issued if number is not None))
+        return [number for number in issued if number is not None]
 
     def opening(self, running: Running, node: int) -> str:
         """What the start gate says."""
@@ -401,7 +373,7 @@ class World:
     def hand(self, node: int, number: int) -> bool:
         """A single operation is handed to a node. Whether it is new."""
         if not 1 <= number <= len(self.operations):
-            raise NoSuch
+            raise NoSuch(b"operation", number)
         return self.running(node).add(1 << number - 1)
 
     def share(self) -> int:
@@ -420,8 +392,6 @@ class World:
             number = self.ship(node, to)
         except Refused:
             return False
-        try:
+        with suppress(Refused):
             self.hear(to, number)
-        except Refused:
-            pass
         return True
