@@ -306,6 +306,61 @@ def standing(maker: ScriptMaker, count: int) -> None:
     maker.add(b"page", first)
 
 
+def edge_of_buffer(maker: ScriptMaker) -> None:
+    """An acknowledgement, then as many deltas as are kept, or one more or less, and a ship."""
+    words = [(app, node) for app in maker.config.apps for node in app.nodes() if b" " not in app.name]
+    app, node = maker.random.choice(words or [(maker.config.apps[0], 0)])
+    first = maker.name_of(node)
+    other = maker.name_of((node + 1) % len(maker.config.nodes))
+    if not words or first == other:
+        usual(maker)
+        return
+    for line in (first, other):
+        maker.add(b"boot", line, b"0")
+    for one, to in ((first, other), (other, first), (first, other), (other, first)):
+        maker.add(b"ship", one, to)
+        maker.add(b"hear", to, b"%d" % len(maker.world.messages))
+    for _ in range(maker.random.choice((254, 255, 256, 257, 258))):
+        maker.add(b"permit", first, spelled(app.name), first, maker.random.choice((b"true", b"false")))
+    maker.add(b"ship", first, other)
+    maker.add(b"hear", other, b"%d" % len(maker.world.messages))
+    maker.add(b"same", first, other)
+
+
+def disputes(maker: ScriptMaker) -> None:
+    """Permits and starts of one key at several nodes that don't hear of each other, and then a share."""
+    maker.open()
+    maker.add(b"share")
+    for _ in range(maker.random.randint(2, 6)):
+        app, word = maker.app()
+        about = maker.about(app)
+        for node in range(len(maker.config.nodes)):
+            verb = maker.random.choice((b"permit", b"permit", b"start", b"stop"))
+            values = [maker.random.choice((b"true", b"false"))] if verb == b"permit" else []
+            maker.add(verb, maker.name_of(node), word, about, *values)
+        maker.add(b"share")
+        maker.add(b"page", maker.on())
+        maker.some(CALM, 4)
+    maker.close()
+
+
+def rebooted_holders(maker: ScriptMaker) -> None:
+    """Applications of tuples are claimed, some holders boot again, and the others are placed anew."""
+    maker.open()
+    for _ in range(maker.random.randint(1, 4)):
+        for node in range(len(maker.config.nodes)):
+            maker.add(b"tick", maker.name_of(node), maker.moment())
+            maker.add(b"share")
+        node = maker.random.randrange(len(maker.config.nodes))
+        maker.add(b"crash", maker.name_of(node))
+        maker.add(b"boot", maker.name_of(node), maker.moment())
+        maker.start_all(node, 0.6)
+        maker.add(b"share")
+        for node in range(len(maker.config.nodes)):
+            maker.add(b"page", maker.name_of(node))
+    maker.close()
+
+
 def quiet(maker: ScriptMaker) -> None:
     """Two nodes exchange all until there is nothing left to say, then go on."""
     maker.open()
@@ -333,13 +388,20 @@ def decorated(random: Random, lines: list[bytes]) -> bytes:
     return b"\n".join(found) + random.choice((b"", b"\n", b"\n\n"))
 
 
+def near_word(random: Random, word: bytes) -> bytes:
+    """A word that is nearly the one given."""
+    return random.choice((b"0" + word, b"'%s'" % word, word + b"0", word.upper(), word[:-1] or b"+", b"+" + word, word + b"'"))
+
+
 def with_fault(random: Random, lines: list[bytes]) -> list[bytes]:
     """The lines with one changed so that it has a fault, most likely."""
     at = random.randrange(len(lines))
     words = lines[at].split(b" ")
     place = random.randrange(len(words) + 1)
-    roll = random.randrange(4)
-    if roll == 0:
+    roll = random.randrange(6)
+    if roll >= 4:
+        words[-1] = near_word(random, words[-1])
+    elif roll == 0:
         words = words[:place] + words[place + 1 :]
     elif roll == 1:
         words.insert(place, random.choice(ODD_WORDS))
@@ -382,10 +444,13 @@ def script_config(random: Random, seed: int, number: int) -> bytes:
 
 
 KINDS: tuple[tuple[Callable[[ScriptMaker], None], int], ...] = (
-    (usual, 7_200),
-    (quiet, 1_800),
-    (dropped_fronts, 380),
-    (standing_dots, 615),
+    (usual, 6_395),
+    (quiet, 800),
+    (dropped_fronts, 300),
+    (standing_dots, 300),
+    (edge_of_buffer, 400),
+    (disputes, 900),
+    (rebooted_holders, 900),
     (very_many_standing_dots, 5),
 )
 
@@ -399,7 +464,7 @@ def random_script(seed: int, number: int) -> bytes:
     random.choices(kinds, weights)[0](maker)
     lines = maker.lines
     roll = random.random()
-    if roll < 0.08 and lines:
+    if roll < 0.12 and lines:
         lines = with_fault(random, lines)
     script = decorated(random, lines)
     return odd_input(random, text, script) if roll > 0.98 else text + b"--\n" + script

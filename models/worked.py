@@ -342,7 +342,8 @@ def operation_checks() -> Iterator[tuple[str, bool]]:
     both = meaning_of([Operation(D2, Start(key, ())), Operation(later, Start(key, (D2,)))])
     yield "a start in the place of another", both.starts == {key: {later}} and both.known == {D2, later}
     gap = {D1, D2, Dot(0, 1, 4)}
-    yield "a context with a gap", context_bytes(gap).hex() == "0001" "0000000001" "0000000000000002" "00000001" "0000000000000004"
+    spelled_gap = "0001" "0000000001" "0000000000000002" "00000001" "0000000000000004"
+    yield "a context with a gap", context_bytes(gap).hex() == spelled_gap
     yield "a context without", context_bytes(gap | {later}).hex() == "0001" "0000000001" "0000000000000004" "00000000"
 
 
