@@ -58,14 +58,6 @@ class Shipped:
     body: int
 
 
-@dataclass(frozen=True)
-class Note:
-    """What a tick noted: its moment, and the lost claim of each application that has one."""
-
-    now: int
-    lost: dict[int, Claim]
-
-
 @dataclass
 class Running:
     """A running node: what it heard, the log of what was added, what it keeps of its peers, and its moments and notes."""
@@ -80,7 +72,7 @@ class Running:
     got: dict[int, tuple[int, int]] = field(default_factory=dict)
     owed: set[int] = field(default_factory=set)
     is_open: bool = False
-    notes: list[Note] = field(default_factory=list)
+    notes: list[tuple[int, dict[int, Claim]]] = field(default_factory=list)
 
     @property
     def count(self) -> int:
@@ -110,10 +102,10 @@ class Running:
     def noted_moment(self, app: int, claim: Claim) -> int | None:
         """Since when each note has found the claim lost, if the last one has."""
         moment = None
-        for note in reversed(self.notes):
-            if note.lost.get(app) != claim:
+        for now, lost in reversed(self.notes):
+            if lost.get(app) != claim:
                 break
-            moment = note.now
+            moment = now
         return moment
 
 
@@ -292,10 +284,10 @@ class World:
         return "opened" if config.mandatory <= live else "gave up"
 
     def note(self, running: Running) -> None:
-        """Notes which claims are lost."""
+        """Notes the moment, and the lost claim of each application that has one."""
         state = self.meaning(running.heard)
         found = {app: placement.lost_claim(state, app) for app in range(len(self.config.apps))}
-        running.notes.append(Note(running.now, {app: claim for app, claim in found.items() if claim is not None}))
+        running.notes.append((running.now, {app: claim for app, claim in found.items() if claim is not None}))
 
     def claim(self, node: int, app: int) -> int | None:
         """Claims an application that the node is to have. The operation's number, if it does."""
