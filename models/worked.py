@@ -12,10 +12,10 @@ from collections.abc import Callable, Iterator
 from dataclasses import dataclass
 
 from check import Config, check, read_config
-from meaning import NORMAL, ClaimAct, Dot, Down, Key, Meaning, Operation, Start, Up, meaning_of
+from meaning import NORMAL, Claim, ClaimAct, Dot, Down, Key, Meaning, Operation, Start, Up, meaning_of
 from placement import load, verdict
 from sim import LineReader, Player, simulate
-from wire import WireFault, context_bytes, is_operation, read_packet, read_state, state_bytes
+from wire import WireFault, claim_bytes, context_bytes, is_operation, read_packet, read_state, state_bytes
 
 EXAMPLE = b"""[{kernel, [{distributed, [{myapp, 5000, [cp1@cave, {cp2@cave, cp3@cave}]}]},
  {sync_nodes_mandatory, [cp2@cave, cp3@cave]}, {sync_nodes_timeout, 5000}]}].
@@ -376,6 +376,16 @@ def placement_checks() -> Iterator[tuple[str, bool]]:
         yield name, verdicts_of(config, meaning_of(operations)) == expected
 
 
+def two_fault_checks() -> Iterator[tuple[str, bool]]:
+    """Inputs with two faults, of which the one that is looked for first is answered."""
+    source = TWO_APPLICATIONS + b"--\nboot zz@h 01\n"
+    yield "a line with two faults", simulate(source) == (b"script fault 1 4 BadNumber\n", 1)
+    claims = [claim_bytes(1, Claim(1, node, 1, NORMAL, -1)) for node in (1, 0)]
+    state = bytes(13) + b"\0\2" + b"".join(claims)
+    config = read_config(TWO_APPLICATIONS)
+    yield "a claim with two faults", fault_of(lambda: read_state(config, state)) == ("NotInList", 32)
+
+
 def run_all() -> Iterator[tuple[str, bool]]:
     """Each example's name, and whether the models give its answer."""
     for row in ROWS:
@@ -391,6 +401,7 @@ def run_all() -> Iterator[tuple[str, bool]]:
     yield from packet_checks(config)
     yield from operation_checks()
     yield from placement_checks()
+    yield from two_fault_checks()
 
 
 def main() -> int:
