@@ -13,29 +13,14 @@ from collections.abc import Callable
 from dataclasses import dataclass, field
 from functools import cached_property
 
-MOST_BYTES = 65_536
-MOST_INPUT = 2_097_152
-MOST_NODES = 16
-MOST_APPS = 64
-MOST_NAME = 255
-MOST_TIMEOUT = 4_294_967_295
-MOST_DEPTH = 64
+MOST_BYTES, MOST_INPUT = 65_536, 2_097_152
+MOST_NODES, MOST_APPS = 16, 64
+MOST_NAME, MOST_TIMEOUT, MOST_DEPTH = 255, 4_294_967_295, 64
 
 FAULT_KINDS = (
-    "TooLong",
-    "BadToken",
-    "Unsupported",
-    "BadShape",
-    "NoDistributed",
-    "TwiceApp",
-    "TwiceInList",
-    "EmptyList",
-    "EmptyTuple",
-    "TooManyNodes",
-    "TooManyApps",
-    "NumberTooLarge",
-    "NameTooLong",
-)
+    "TooLong BadToken Unsupported BadShape NoDistributed TwiceApp TwiceInList EmptyList EmptyTuple TooManyNodes TooManyApps "
+    "NumberTooLarge NameTooLong"
+).split()
 
 BLANKS = frozenset(range(0x21))
 DIGITS = frozenset(b"0123456789")
@@ -44,24 +29,31 @@ ATOM_BYTES = SMALL_LETTERS | DIGITS | frozenset(b"ABCDEFGHIJKLMNOPQRSTUVWXYZ_@")
 MARKS = frozenset(b"[]{},")
 UNREAD_BYTES = frozenset(b"<#$+~|") | frozenset(range(0x80, 0x100))
 
-DISTRIBUTED = b"distributed"
-PERMISSIONS = b"permissions"
-MANDATORY = b"sync_nodes_mandatory"
-OPTIONAL = b"sync_nodes_optional"
-SYNC_TIMEOUT = b"sync_nodes_timeout"
+DISTRIBUTED, PERMISSIONS = b"distributed", b"permissions"
+MANDATORY, OPTIONAL, SYNC_TIMEOUT = b"sync_nodes_mandatory", b"sync_nodes_optional", b"sync_nodes_timeout"
 
 
-class ConfigFault(Exception):
-    """The first fault of a text: its kind and the byte at which it stands."""
+class Fault(Exception):
+    """A fault: its kind and the byte at which it stands."""
+
+    word = "fault"
+    kinds: list[str] = []
 
     def __init__(self, kind: str, at: int) -> None:
         super().__init__(kind, at)
         self.kind = kind
         self.at = at
 
-    def line(self) -> str:
+    def line(self) -> bytes:
         """The line that the program prints for it."""
-        return f"config fault {FAULT_KINDS.index(self.kind) + 1} {self.kind} at {self.at}"
+        return f"{self.word} {self.kinds.index(self.kind) + 1} {self.kind} at {self.at}".encode()
+
+
+class ConfigFault(Fault):
+    """The first fault of a text."""
+
+    word = "config fault"
+    kinds = FAULT_KINDS
 
 
 # Tokens
@@ -286,25 +278,22 @@ class Reader:
         if name.value in self.seen:
             raise ConfigFault("BadShape", name.at)
         self.want(",")
-        if name.value in (DISTRIBUTED, PERMISSIONS, MANDATORY, OPTIONAL):
-            self.seen.add(name.value)
+        items: dict[bytes, Callable[[], None]] = {
+            DISTRIBUTED: self.entry,
+            PERMISSIONS: self.permission,
+            MANDATORY: lambda: self.draft.mandatory.add(self.node(set())),
+            OPTIONAL: lambda: self.draft.optional.add(self.node(set())),
+        }
+        if name.value in items:
             self.want("[")
-            self.parted_or_none("]", self.item_of(name.value))
+            self.parted_or_none("]", items[name.value])
         elif name.value == SYNC_TIMEOUT:
-            self.seen.add(name.value)
             self.sync_timeout()
         else:
             self.term()
+        if name.value in items or name.value == SYNC_TIMEOUT:
+            self.seen.add(name.value)
         self.want("}")
-
-    def item_of(self, parameter: bytes) -> Callable[[], None]:
-        """What reads one item of a parameter that is a list."""
-        if parameter == DISTRIBUTED:
-            return self.entry
-        if parameter == PERMISSIONS:
-            return self.permission
-        names = self.draft.mandatory if parameter == MANDATORY else self.draft.optional
-        return lambda: self.sync_node(names)
 
     def name(self) -> Token:
         """A name that is read."""
@@ -387,10 +376,6 @@ class Reader:
         self.want("}")
         self.draft.permissions.append((name.value, value.value == b"true"))
 
-    def sync_node(self, names: set[bytes]) -> None:
-        """A node to wait for."""
-        names.add(self.node(set()))
-
     def sync_timeout(self) -> None:
         """How long to wait: milliseconds or without end."""
         token = self.peek()
@@ -402,7 +387,9 @@ class Reader:
 
     def term(self) -> None:
         """A term that is passed over."""
-        token = self.take_term_start()
+        if self.peek().kind not in ("atom", "number", "string", "[", "{"):
+            raise ConfigFault("BadShape", self.peek().at)
+        token = self.take()
         if token.kind == "[":
             self.parted_or_none("]", self.term)
         elif token.kind == "{":
@@ -410,12 +397,6 @@ class Reader:
         elif token.kind == "string":
             while self.peek().kind == "string":
                 self.take()
-
-    def take_term_start(self) -> Token:
-        """The first token of a term."""
-        if self.peek().kind not in ("atom", "number", "string", "[", "{"):
-            raise ConfigFault("BadShape", self.peek().at)
-        return self.take()
 
 
 # The configuration
@@ -526,7 +507,7 @@ def check(text: bytes) -> tuple[bytes, int]:
     try:
         return read_config(text).canonical_text, 0
     except ConfigFault as fault:
-        return fault.line().encode() + b"\n", 1
+        return fault.line() + b"\n", 1
 
 
 def main() -> int:

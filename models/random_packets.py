@@ -4,8 +4,9 @@ from __future__ import annotations
 
 from random import Random
 
-from meaning import Act, ClaimAct, Dot, Down, Key, Meaning, Operation, Origin, Permit, Start, Stop, Up
-from wire import INTERVAL, MOST_NUMBER, NOTHING, WHOLE, Message, message_bytes, operation_bytes, u
+from meaning import Act, Claim, ClaimAct, Dot, Down, Key, Meaning, Operation, Origin, Permit, Start, Stop, Up
+from wire import INTERVAL, MOST_NUMBER, NOTHING, WHOLE, Message, claim_bytes, context_bytes, dot_bytes, key_bytes
+from wire import life_bytes, message_bytes, operation_bytes, u
 from world import World
 
 EDGES = (0, 1, 2, 3, 255, 256, 2**16 - 1, 2**32 - 1, MOST_NUMBER, MOST_NUMBER + 1, 2**64 - 1)
@@ -69,6 +70,54 @@ def some_state(random: Random, world: World) -> Meaning:
     return forged
 
 
+def shuffled(random: Random, items: list[bytes]) -> list[bytes]:
+    """The items, at times with one moved or doubled."""
+    if items and random.random() < 0.3:
+        items.insert(random.randrange(len(items) + 1), random.choice(items))
+    if len(items) > 1 and random.random() < 0.2:
+        items.append(items.pop(0))
+    return items
+
+
+def forged_parts(random: Random, world: World) -> bytes:
+    """The bytes of a state's parts, each item of which is most likely in order, but maybe not in place."""
+    chosen = [number for number in range(len(world.operations)) if random.random() < 0.8]
+    state = world.meaning(sum(1 << number for number in chosen))
+    known = context_bytes(state.known)
+    dots = sorted(state.known) or [Dot(0, 1, 1)]
+    parts = [known, known]
+    for values in ([b"\0", b"\1"], [b""]):
+        keys = [Key(*key) for key in sorted({some_key(random, world) for _ in range(random.randint(0, 3))})]
+        stores = []
+        for key in keys:
+            standing = [dot_bytes(dot) + random.choice(values) for dot in sorted(random.sample(dots, min(2, len(dots))))]
+            standing = shuffled(random, standing)
+            stores.append(key_bytes(key) + u(4, len(standing)) + b"".join(standing))
+        stores = shuffled(random, stores)
+        parts.append(u(4, len(stores)) + b"".join(stores))
+    lives = shuffled(random, [life_bytes(node, state.lives[node]) for node in sorted(state.lives)])
+    apps = sorted(random.choices(range(len(world.config.apps)), k=random.randint(0, 3)))
+    claims = [Claim(1, random.randrange(len(world.nodes)), 1, *random.choice(((1, -1), (2, 0), (3, 0)))) for _ in apps]
+    listed = shuffled(random, [claim_bytes(app, claim) for app, claim in zip(apps, claims)])
+    return b"".join([*parts, u(1, len(lives)), *lives, u(2, len(listed)), *listed])
+
+
+def forged_packet(random: Random, world: World) -> bytes:
+    """A message whose state is forged by its bytes."""
+    empty = Message(WHOLE, Origin(0, 1), 0, 0, 1, None, None)
+    return message_bytes(world.config, empty) + forged_parts(random, world)
+
+
+def continued(random: Random, data: bytes) -> bytes:
+    """The bytes with the last dot of an unbroken row written as a further one, if there is such a row."""
+    places = range(len(data) - 12)
+    rows = [at for at in places if data[at : at + 7] == bytes(7) and data[at + 7] > 0 and data[at + 8 : at + 12] == bytes(4)]
+    if not rows:
+        return data
+    at = random.choice(rows)
+    return data[:at] + u(8, data[at + 7] - 1) + u(4, 1) + u(8, data[at + 7]) + data[at + 12 :]
+
+
 def some_message(random: Random, world: World) -> Message:
     """A message whose fields may not fit."""
     kind = random.choice((WHOLE, INTERVAL, NOTHING))
@@ -87,7 +136,9 @@ def random_packet(random: Random, world: World) -> bytes:
         return message_bytes(world.config, world.message(random.randint(1, len(world.messages))))
     if world.operations and roll < 0.5:
         return operation_bytes(world.config, random.choice(world.operations))
-    if roll < 0.75:
+    if roll < 0.65:
+        return forged_packet(random, world)
+    if roll < 0.8:
         return message_bytes(world.config, some_message(random, world))
     return operation_bytes(world.config, Operation(some_dot(random, world), some_act(random, world)))
 
@@ -95,7 +146,9 @@ def random_packet(random: Random, world: World) -> bytes:
 def changed_bytes(random: Random, data: bytes) -> bytes:
     """Some bytes with one changed, put in or left out, a number at its edge, two parts swapped, or an end cut off."""
     at = random.randrange(12, len(data)) if len(data) > 13 and random.random() < 0.9 else random.randrange(len(data) + 1)
-    roll = random.randrange(7)
+    roll = random.randrange(8)
+    if roll == 7:
+        return continued(random, data)
     if roll == 0:
         return data[:at]
     if roll == 1:

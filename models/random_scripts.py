@@ -17,6 +17,7 @@ from check import MOST_INPUT, Config, ConfigFault, read_config, spelled
 from random_packets import changed_bytes, random_packet
 from random_texts import random_text
 from sim import LineReader, Player
+from world import World
 
 CONFIGS = (
     b"[{kernel,[{distributed,[{myapp,5000,[cp1@cave,{cp2@cave,cp3@cave}]}]},"
@@ -43,35 +44,9 @@ ALL = dict.fromkeys(
 PROFILES = (CALM, CALM, LETTERS, LETTERS, HANDS, FEEDS, PAUSES, PAUSES, ALL)
 
 ODD_WORDS = (
-    b"'true'",
-    b"True",
-    b"01",
-    b"-1",
-    b"4611686018427387904",
-    b"4611686018427387905",
-    b"99999999999999999999999",
-    b"1x",
-    b"fun",
-    b"'fun'",
-    b"Zz",
-    b"'",
-    b"''",
-    b"'a'b'",
-    b"'\\'",
-    b"a\t",
-    b"zz@h",
-    b"\r",
-    b"%",
-    b"0A",
-    b"abc",
-    b"0g",
-    b"boot",
-    b"'boot'",
-    b"live",
-    b"c1@h",
-    b"true",
-    b"\xc3\xa9",
-    b"'\xc3\xa9'",
+    *b"'true' True 01 -1 4611686018427387904 4611686018427387905 99999999999999999999999 1x fun 'fun' Zz ' '' 'a'b'".split(),
+    *(b"'\\'", b"a\t", b"zz@h", b"\r", b"%", b"0A", b"abc", b"0g", b"boot", b"'boot'", b"live", b"c1@h", b"true"),
+    *(b"\xc3\xa9", b"'\xc3\xa9'"),
 )
 
 
@@ -87,7 +62,7 @@ class ScriptMaker:
         self.now = 0
 
     @property
-    def world(self):  # noqa: ANN201 - the type is the player's
+    def world(self) -> World:
         """The world as it is now."""
         return self.player.world
 
@@ -154,7 +129,7 @@ class ScriptMaker:
         if self.random.random() < 0.6:
             self.start_all(node, 0.9)
         if self.random.random() < 0.5:
-            self.share()
+            self.add(b"share")
 
     def start_all(self, node: int, rate: float) -> None:
         """Start wishes for what a node may run."""
@@ -176,28 +151,11 @@ class ScriptMaker:
         choose = off and self.random.random() < 0.7
         self.add(b"down", self.on(), self.name_of(self.random.choice(off)) if choose else self.about(len(self.config.apps)))
 
-    def permit(self) -> None:
-        """A permission."""
+    def wish(self, verb: bytes) -> None:
+        """A permission, a start wish, or the end of such wishes."""
         app, word = self.app()
-        self.add(b"permit", self.on(), word, self.about(app), self.random.choice((b"true", b"true", b"false")))
-
-    def start(self) -> None:
-        """A start wish."""
-        app, word = self.app()
-        self.add(b"start", self.on(), word, self.about(app))
-
-    def stop(self) -> None:
-        """The end of start wishes."""
-        app, word = self.app()
-        self.add(b"stop", self.on(), word, self.about(app))
-
-    def takeover(self) -> None:
-        """A takeover by hand."""
-        self.add(b"takeover", self.on(), self.app()[1])
-
-    def tick(self) -> None:
-        """A tick."""
-        self.add(b"tick", self.on(), self.moment())
+        words = [verb, self.on(), word, self.about(app)]
+        self.add(*words, *([self.random.choice((b"true", b"true", b"false"))] if verb == b"permit" else []))
 
     def ship(self) -> None:
         """A ship."""
@@ -218,29 +176,28 @@ class ScriptMaker:
             node = self.name_of(self.world.shipped(number).to)
         self.add(b"hear", node, b"%d" % number)
 
-    def hand(self) -> None:
-        """A handing."""
-        self.add(b"hand", self.on(), b"%d" % self.number_near(len(self.world.operations)))
+    def simple(self, verb: bytes) -> None:
+        """A line whose words hang together in no way."""
+        words: dict[bytes, Callable[[], list[bytes]]] = {
+            b"takeover": lambda: [self.on(), self.app()[1]],
+            b"tick": lambda: [self.on(), self.moment()],
+            b"hand": lambda: [self.on(), b"%d" % self.number_near(len(self.world.operations))],
+            b"share": lambda: [],
+            b"page": lambda: [self.on()],
+            b"state": lambda: [self.on()],
+            b"same": lambda: [self.on(), self.on()],
+            b"bytes": lambda: [b"%d" % self.number_near(len(self.world.messages))],
+        }
+        self.add(verb, *words[verb]())
 
-    def share(self) -> None:
-        """A share."""
-        self.add(b"share")
-
-    def page(self) -> None:
-        """A page."""
-        self.add(b"page", self.on())
-
-    def state(self) -> None:
-        """The bytes of a state."""
-        self.add(b"state", self.on())
-
-    def same(self) -> None:
-        """A comparison of two states."""
-        self.add(b"same", self.on(), self.on())
-
-    def bytes(self) -> None:
-        """The bytes of a message."""
-        self.add(b"bytes", b"%d" % self.number_near(len(self.world.messages)))
+    def any_line(self, verb: str) -> None:
+        """A line of a verb."""
+        if verb in ("permit", "start", "stop"):
+            self.wish(verb.encode())
+        elif hasattr(self, verb):
+            getattr(self, verb)()
+        else:
+            self.simple(verb.encode())
 
     def feed(self) -> None:
         """The bytes of a packet, most often changed a little."""
@@ -257,11 +214,11 @@ class ScriptMaker:
             if self.random.random() < 0.85:
                 self.add(b"boot", self.name_of(node), b"%d" % self.now)
         if self.random.random() < 0.5:
-            self.share()
+            self.add(b"share")
         for node in range(len(self.config.nodes)):
             self.start_all(node, 0.8)
         if self.random.random() < 0.7:
-            self.share()
+            self.add(b"share")
 
     def some(self, profile: dict[str, int], count: int) -> None:
         """Lines of a profile."""
@@ -269,8 +226,7 @@ class ScriptMaker:
             off = sum(not self.world.is_on(node) for node in range(len(self.config.nodes)))
             if self.random.random() < 0.25 * off / len(self.config.nodes):
                 self.revive()
-            verb = self.random.choices(list(profile), list(profile.values()))[0]
-            getattr(self, verb)()
+            self.any_line(self.random.choices(list(profile), list(profile.values()))[0])
 
     def close(self) -> None:
         """Everything is shown."""
@@ -318,12 +274,22 @@ def dropped_fronts(maker: ScriptMaker) -> None:
 
 
 def standing_dots(maker: ScriptMaker) -> None:
-    """Many standing starts of one key, each of another incarnation: as many as may be replaced, or one more."""
+    """Some standing starts of one key, each of another incarnation."""
+    standing(maker, maker.random.choice((3, 20, 50)))
+
+
+def very_many_standing_dots(maker: ScriptMaker) -> None:
+    """As many standing starts of one key as may be replaced, or one more. Such a script takes the program long."""
+    standing(maker, maker.random.choice((1023, 1024, 1025, 1026)))
+
+
+def standing(maker: ScriptMaker, count: int) -> None:
+    """So many standing starts of one key."""
     first, other = maker.name_of(0), maker.name_of(len(maker.config.nodes) - 1)
     app = next((app for app in maker.config.apps if app.group_of(0) is not None and b" " not in app.name), None)
-    count = maker.random.choice((1023, 1024, 1025, 1026))
     if app is None or first == other:
-        return usual(maker)
+        usual(maker)
+        return
     word = spelled(app.name)
     maker.add(b"boot", first, b"0")
     starts = []
@@ -338,14 +304,68 @@ def standing_dots(maker: ScriptMaker) -> None:
     verb = maker.random.choice((b"start", b"stop"))
     maker.add(verb, first, word, first)
     maker.add(b"page", first)
-    return None
+
+
+def edge_of_buffer(maker: ScriptMaker) -> None:
+    """An acknowledgement, then as many deltas as are kept, or one more or less, and a ship."""
+    words = [(app, node) for app in maker.config.apps for node in app.nodes() if b" " not in app.name]
+    app, node = maker.random.choice(words or [(maker.config.apps[0], 0)])
+    first = maker.name_of(node)
+    other = maker.name_of((node + 1) % len(maker.config.nodes))
+    if not words or first == other:
+        usual(maker)
+        return
+    for line in (first, other):
+        maker.add(b"boot", line, b"0")
+    for one, to in ((first, other), (other, first), (first, other), (other, first)):
+        maker.add(b"ship", one, to)
+        maker.add(b"hear", to, b"%d" % len(maker.world.messages))
+    for _ in range(maker.random.choice((254, 255, 256, 257, 258))):
+        maker.add(b"permit", first, spelled(app.name), first, maker.random.choice((b"true", b"false")))
+    maker.add(b"ship", first, other)
+    maker.add(b"hear", other, b"%d" % len(maker.world.messages))
+    maker.add(b"same", first, other)
+
+
+def disputes(maker: ScriptMaker) -> None:
+    """Permits and starts of one key at several nodes that don't hear of each other, and then a share."""
+    maker.open()
+    maker.add(b"share")
+    for _ in range(maker.random.randint(2, 6)):
+        app, word = maker.app()
+        about = maker.about(app)
+        for node in range(len(maker.config.nodes)):
+            verb = maker.random.choice((b"permit", b"permit", b"start", b"stop"))
+            values = [maker.random.choice((b"true", b"false"))] if verb == b"permit" else []
+            maker.add(verb, maker.name_of(node), word, about, *values)
+        maker.add(b"share")
+        maker.add(b"page", maker.on())
+        maker.some(CALM, 4)
+    maker.close()
+
+
+def rebooted_holders(maker: ScriptMaker) -> None:
+    """Applications of tuples are claimed, some holders boot again, and the others are placed anew."""
+    maker.open()
+    for _ in range(maker.random.randint(1, 4)):
+        for node in range(len(maker.config.nodes)):
+            maker.add(b"tick", maker.name_of(node), maker.moment())
+            maker.add(b"share")
+        node = maker.random.randrange(len(maker.config.nodes))
+        maker.add(b"crash", maker.name_of(node))
+        maker.add(b"boot", maker.name_of(node), maker.moment())
+        maker.start_all(node, 0.6)
+        maker.add(b"share")
+        for node in range(len(maker.config.nodes)):
+            maker.add(b"page", maker.name_of(node))
+    maker.close()
 
 
 def quiet(maker: ScriptMaker) -> None:
     """Two nodes exchange all until there is nothing left to say, then go on."""
     maker.open()
     for _ in range(maker.random.randint(2, 6)):
-        maker.share()
+        maker.add(b"share")
     maker.some(CALM, 10)
     maker.exchange(10)
     maker.some(LETTERS, 30)
@@ -368,13 +388,20 @@ def decorated(random: Random, lines: list[bytes]) -> bytes:
     return b"\n".join(found) + random.choice((b"", b"\n", b"\n\n"))
 
 
+def near_word(random: Random, word: bytes) -> bytes:
+    """A word that is nearly the one given."""
+    return random.choice((b"0" + word, b"'%s'" % word, word + b"0", word.upper(), word[:-1] or b"+", b"+" + word, word + b"'"))
+
+
 def with_fault(random: Random, lines: list[bytes]) -> list[bytes]:
     """The lines with one changed so that it has a fault, most likely."""
     at = random.randrange(len(lines))
     words = lines[at].split(b" ")
     place = random.randrange(len(words) + 1)
-    roll = random.randrange(4)
-    if roll == 0:
+    roll = random.randrange(6)
+    if roll >= 4:
+        words[-1] = near_word(random, words[-1])
+    elif roll == 0:
         words = words[:place] + words[place + 1 :]
     elif roll == 1:
         words.insert(place, random.choice(ODD_WORDS))
@@ -417,10 +444,14 @@ def script_config(random: Random, seed: int, number: int) -> bytes:
 
 
 KINDS: tuple[tuple[Callable[[ScriptMaker], None], int], ...] = (
-    (usual, 860),
-    (quiet, 100),
-    (dropped_fronts, 38),
-    (standing_dots, 2),
+    (usual, 6_395),
+    (quiet, 800),
+    (dropped_fronts, 300),
+    (standing_dots, 300),
+    (edge_of_buffer, 400),
+    (disputes, 900),
+    (rebooted_holders, 900),
+    (very_many_standing_dots, 5),
 )
 
 
@@ -433,7 +464,7 @@ def random_script(seed: int, number: int) -> bytes:
     random.choices(kinds, weights)[0](maker)
     lines = maker.lines
     roll = random.random()
-    if roll < 0.08 and lines:
+    if roll < 0.12 and lines:
         lines = with_fault(random, lines)
     script = decorated(random, lines)
     return odd_input(random, text, script) if roll > 0.98 else text + b"--\n" + script

@@ -23,18 +23,9 @@ BAD_STRINGS = (b'"""', b'"\\^a"', b'"', b'"\\"', b'"\\^', b'"a"""', b'""""')
 BAD_ATOMS = (b"fun", b"'a\\'", b"'a\n'", b"'\x7f'", b"'a", b"'\\", b"A", b"_x", b"@a", b"fun a:b/1", b"'\x1f", b"\xe4")
 STRAYS = (b";", b":", b"=", b"<", b"<<", b"#", b"$a", b"+1", b"~", b"|", b"(", b")", b"/", b"\x80", b"\xff", b"\x7f")
 MARKS = (b"[", b"]", b"{", b"}", b",", b".", b". ", b".%", b".a")
-WORDS = (
-    b"kernel",
-    b"'kernel'",
-    b"distributed",
-    b"permissions",
-    b"sync_nodes_mandatory",
-    b"sync_nodes_optional",
-    b"sync_nodes_timeout",
-    b"infinity",
-    b"true",
-    b"false",
-    b"'false'",
+WORDS = tuple(
+    b"kernel 'kernel' distributed permissions sync_nodes_mandatory sync_nodes_optional sync_nodes_timeout infinity true false "
+    b"'false'".split()
 )
 BLANKS = (b" ", b"\n", b"\t", b"\r\n", b"\x00", b"\x20\x20", b"%% note\n", b"% [ { \"\n", b"%\n")
 ANY_TOKEN = NODES + APPS + NUMBERS + BAD_NUMBERS + STRINGS + BAD_STRINGS + BAD_ATOMS + STRAYS + MARKS * 3 + WORDS

@@ -12,36 +12,27 @@ from dataclasses import dataclass
 
 import placement
 from check import MOST_INPUT, Config, ConfigFault, is_bare_atom, read_config, spelled
-from meaning import FAILOVER, NORMAL, TAKEOVER, Claim, ClaimAct, Key, Meaning
+from meaning import FAILOVER, NORMAL, TAKEOVER, ClaimAct, Key, Meaning
 from wire import INTERVAL, NOTHING, WHOLE, WireFault, message_bytes, read_packet, state_bytes
-from world import NoSuch, Refused, Ticked, World
+from world import NoSuch, Refused, World
 
 MOST_NUMBER = 2**62
 SCRIPT_FAULTS = ("BadWord", "BadCount", "BadName", "BadNumber", "UnknownActor", "BadHex")
 HOW_NAMES = {NORMAL: b"normal", FAILOVER: b"failover", TAKEOVER: b"takeover"}
+HEARD = {True: b"heard new", False: b"heard nothing new"}
 BODY_NAMES = {WHOLE: "whole", INTERVAL: "interval", NOTHING: "nothing"}
 
 ACTOR, NODE, APP, NUMBER, TRUTH, HEX = "actor", "node", "app", "number", "truth", "hex"
 
 SHAPES: dict[bytes, tuple[str, ...]] = {
-    b"boot": (ACTOR, NUMBER),
-    b"crash": (ACTOR,),
-    b"down": (ACTOR, NODE),
-    b"permit": (ACTOR, APP, NODE, TRUTH),
-    b"start": (ACTOR, APP, NODE),
-    b"stop": (ACTOR, APP, NODE),
-    b"takeover": (ACTOR, APP),
-    b"tick": (ACTOR, NUMBER),
-    b"ship": (ACTOR, NODE),
-    b"hear": (ACTOR, NUMBER),
-    b"hand": (ACTOR, NUMBER),
-    b"share": (),
-    b"page": (ACTOR,),
-    b"state": (ACTOR,),
-    b"same": (ACTOR, ACTOR),
-    b"bytes": (NUMBER,),
-    b"feed": (HEX,),
+    **dict.fromkeys((b"boot", b"tick", b"hear", b"hand"), (ACTOR, NUMBER)),
+    **dict.fromkeys((b"crash", b"page", b"state"), (ACTOR,)),
+    **dict.fromkeys((b"down", b"ship"), (ACTOR, NODE)),
+    **dict.fromkeys((b"start", b"stop"), (ACTOR, APP, NODE)),
+    **{b"permit": (ACTOR, APP, NODE, TRUTH), b"takeover": (ACTOR, APP), b"same": (ACTOR, ACTOR)},
+    **{b"share": (), b"bytes": (NUMBER,), b"feed": (HEX,)},
 }
+COMMANDS = (b"down", b"permit", b"start", b"stop", b"takeover")
 
 
 class ScriptFault(Exception):
@@ -52,9 +43,9 @@ class ScriptFault(Exception):
         self.number = line
         self.kind = kind
 
-    def line(self) -> str:
+    def line(self) -> bytes:
         """The line that the program prints for it."""
-        return f"script fault {self.number} {SCRIPT_FAULTS.index(self.kind) + 1} {self.kind}"
+        return f"script fault {self.number} {SCRIPT_FAULTS.index(self.kind) + 1} {self.kind}".encode()
 
 
 # Reading
@@ -96,11 +87,6 @@ def bytes_of(word: bytes) -> bytes | None:
     return bytes.fromhex(word.decode())
 
 
-def place_of(name: bytes, names: list[bytes]) -> int:
-    """The place of a name among others, or the number just past them."""
-    return names.index(name) if name in names else len(names)
-
-
 class LineReader:
     """Reads the lines of a script under a configuration."""
 
@@ -131,11 +117,10 @@ class LineReader:
         return "BadHex" if kind == HEX and bytes_of(word) is None else None
 
     def value_of(self, kind: str, word: bytes) -> Value:
-        """The value of a word that is in order."""
-        if kind in (ACTOR, NODE):
-            return place_of(atom_name(word) or b"", self.nodes)
-        if kind == APP:
-            return place_of(atom_name(word) or b"", self.apps)
+        """The value of a word that is in order. A name that isn't there is the number just past the others."""
+        if kind in (ACTOR, NODE, APP):
+            name, names = atom_name(word) or b"", self.apps if kind == APP else self.nodes
+            return names.index(name) if name in names else len(names)
         if kind == NUMBER:
             return number_of(word) or 0
         return word == b"true" if kind == TRUTH else bytes_of(word) or b""
@@ -238,12 +223,11 @@ class Printer:
         claim = state.claims.get(app)
         found = placement.verdict(self.config, state, app)
         at = b"" if found.node is None else b" " + self.node(found.node)
-        holder = b"none" if claim is None else self.holder(claim)
+        holder = b"none"
+        if claim is not None:
+            how = self.how(claim.how, claim.source)
+            holder = b"%s %d term %d %s" % (self.node(claim.node), claim.inc, claim.term, how)
         return b"app %s holder %s verdict %s%s" % (self.app(app), holder, found.what.encode(), at)
-
-    def holder(self, claim: Claim) -> bytes:
-        """The holder of an application."""
-        return b"%s %d term %d %s" % (self.node(claim.node), claim.inc, claim.term, self.how(claim.how, claim.source))
 
     def list_line(self, state: Meaning, app: int) -> bytes:
         """The line of an application's list."""
@@ -270,85 +254,59 @@ class Player:
     def __init__(self, config: Config) -> None:
         self.world = World(config)
         self.text = Printer(self.world)
+        self.replies: dict[bytes, Callable[..., list[bytes]]] = {
+            b"boot": self.boot,
+            b"crash": self.crash,
+            b"tick": self.tick,
+            b"ship": lambda node, to: [self.text.shipped(self.world.ship(node, to))],
+            b"hear": lambda node, number: [HEARD[self.world.hear(node, number)]],
+            b"hand": lambda node, number: [HEARD[self.world.hand(node, number)]],
+            b"share": lambda: [b"shared %d" % self.world.share()],
+            b"page": self.text.page,
+            b"state": self.state,
+            b"same": self.same,
+            b"bytes": self.bytes,
+            b"feed": self.feed,
+        }
 
     def play(self, line: Line) -> list[bytes]:
         """What is printed for a line."""
-        method: Callable[..., list[bytes]] = getattr(self, "play_" + line.word.decode())
         try:
-            return method(*line.values)
+            if line.word in COMMANDS:
+                command: Callable[..., int] = getattr(self.world, line.word.decode())
+                return [self.text.issued(command(*line.values))]
+            return self.replies[line.word](*line.values)
         except Refused as refused:
-            return [refused.line().encode()]
+            return [refused.line()]
+        except NoSuch as none:
+            return [b"no %s %d" % none.args]
+        except WireFault as fault:
+            return [fault.line()]
 
-    def play_boot(self, node: int, now: int) -> list[bytes]:
+    def boot(self, node: int, now: int) -> list[bytes]:
         """A boot."""
         number = self.world.boot(node, now)
         return [b"booted %d op %d" % (self.world.nodes[node].last, number)]
 
-    def play_crash(self, node: int) -> list[bytes]:
+    def crash(self, node: int) -> list[bytes]:
         """A crash."""
         self.world.crash(node)
         return [b"crashed"]
 
-    def play_down(self, node: int, about: int) -> list[bytes]:
-        """The word that a node is down."""
-        return [self.text.issued(self.world.down(node, about))]
-
-    def play_permit(self, node: int, app: int, about: int, value: bool) -> list[bytes]:
-        """A permission."""
-        return [self.text.issued(self.world.permit(node, app, about, value))]
-
-    def play_start(self, node: int, app: int, about: int) -> list[bytes]:
-        """A start wish."""
-        return [self.text.issued(self.world.start(node, app, about))]
-
-    def play_stop(self, node: int, app: int, about: int) -> list[bytes]:
-        """The end of start wishes."""
-        return [self.text.issued(self.world.stop(node, app, about))]
-
-    def play_takeover(self, node: int, app: int) -> list[bytes]:
-        """A takeover by hand."""
-        return [self.text.issued(self.world.takeover(node, app))]
-
-    def play_tick(self, node: int, now: int) -> list[bytes]:
+    def tick(self, node: int, now: int) -> list[bytes]:
         """A tick."""
         found = self.world.tick(node, now)
-        if isinstance(found, Ticked):
-            return [b"ticked", *(self.text.claim(number) for number in found.issued)]
-        return [found.encode()]
+        if isinstance(found, str):
+            return [found.encode()]
+        return [b"ticked", *(self.text.claim(number) for number in found)]
 
-    def play_ship(self, node: int, to: int) -> list[bytes]:
-        """A ship."""
-        return [self.text.shipped(self.world.ship(node, to))]
-
-    def play_hear(self, node: int, number: int) -> list[bytes]:
-        """A delivery."""
-        try:
-            return [b"heard new" if self.world.hear(node, number) else b"heard nothing new"]
-        except NoSuch:
-            return [b"no message %d" % number]
-
-    def play_hand(self, node: int, number: int) -> list[bytes]:
-        """A handing."""
-        try:
-            return [b"heard new" if self.world.hand(node, number) else b"heard nothing new"]
-        except NoSuch:
-            return [b"no operation %d" % number]
-
-    def play_share(self) -> list[bytes]:
-        """A share."""
-        return [b"shared %d" % self.world.share()]
-
-    def play_page(self, node: int) -> list[bytes]:
-        """A page."""
-        return self.text.page(node)
-
-    def play_state(self, node: int) -> list[bytes]:
+    def state(self, node: int) -> list[bytes]:
         """The bytes of a state."""
         if not self.world.is_on(node):
             return [self.text.off(node)]
         return [state_bytes(self.world.state(node)).hex().encode()]
 
-    def play_same(self, node: int, other: int) -> list[bytes]:
+    def same(self, node: int, other: int) -> list[bytes]:
         """Whether two states have the same bytes."""
         for one in (node, other):
             if not self.world.is_on(one):
@@ -356,21 +314,13 @@ class Player:
         is_same = state_bytes(self.world.state(node)) == state_bytes(self.world.state(other))
         return [b"same" if is_same else b"differ"]
 
-    def play_bytes(self, number: int) -> list[bytes]:
+    def bytes(self, number: int) -> list[bytes]:
         """The bytes of a message."""
-        try:
-            return [message_bytes(self.world.config, self.world.message(number)).hex().encode()]
-        except NoSuch:
-            return [b"no message %d" % number]
-        except WireFault as fault:
-            return [fault.line().encode()]
+        return [message_bytes(self.world.config, self.world.message(number)).hex().encode()]
 
-    def play_feed(self, data: bytes) -> list[bytes]:
+    def feed(self, data: bytes) -> list[bytes]:
         """Bytes that are read as a packet."""
-        try:
-            read_packet(self.world.config, data)
-        except WireFault as fault:
-            return [fault.line().encode()]
+        read_packet(self.world.config, data)
         return [b"wire ok"]
 
 
@@ -391,7 +341,7 @@ def simulate(source: bytes) -> tuple[bytes, int]:
         config = read_config(parts[0])
         lines = read_script(config, parts[1])
     except (ConfigFault, ScriptFault) as fault:
-        return fault.line().encode() + b"\n", 1
+        return fault.line() + b"\n", 1
     return play_all(config, lines), 0
 
 

@@ -4,33 +4,24 @@ from __future__ import annotations
 
 from dataclasses import dataclass
 
-from check import Config
-from meaning import NORMAL, Act, Claim, ClaimAct, Dot, Down, Key, Life, Meaning, Operation, Origin, Permit, Start
-from meaning import Stop, Up
+from check import Config, Fault
+from meaning import NORMAL, Act, Claim, ClaimAct, Dot, Down, Key, Life, Meaning, Operation, Origin, Permit, Start, Stop, Up
 
-MOST_NUMBER = 2**62
-MOST_BYTES = 4_194_304
-MOST_OVER = 1_024
-MAGIC = b"DAC"
-VERSION = 1
+MOST_NUMBER, MOST_BYTES, MOST_OVER = 2**62, 4_194_304, 1_024
+MAGIC, VERSION = b"DAC", 1
 WHOLE, INTERVAL, NOTHING, SINGLE = 1, 2, 3, 4
 ACT_CODES = {Up: 1, Down: 2, Permit: 3, Start: 4, Stop: 5, ClaimAct: 6}
 
-STATE_FAULTS = ("Short", "BadNumber", "BadOrder", "BadName", "NotInList", "NotKnown", "Trailing")
-PACKET_FAULTS = ("TooLong", "BadMagic", "BadVersion", "OtherConfig", *STATE_FAULTS)
+PACKET_FAULTS = (
+    "TooLong BadMagic BadVersion OtherConfig Short BadNumber BadOrder BadName NotInList NotKnown Trailing"
+).split()
 
 
-class WireFault(Exception):
-    """The first fault of some bytes: its kind and its place."""
+class WireFault(Fault):
+    """The first fault of the bytes of a packet, or of a state."""
 
-    def __init__(self, kind: str, at: int) -> None:
-        super().__init__(kind, at)
-        self.kind = kind
-        self.at = at
-
-    def line(self) -> str:
-        """The line that the program prints for the fault of a packet."""
-        return f"wire fault {PACKET_FAULTS.index(self.kind) + 1} {self.kind} at {self.at}"
+    word = "wire fault"
+    kinds = PACKET_FAULTS
 
 
 @dataclass(frozen=True)
@@ -156,13 +147,13 @@ class Fields:
         self.data = data
         self.at = at
 
-    def number(self, size: int, least: int, most: int) -> int:
-        """A number of so many bytes, within a range."""
+    def number(self, size: int, least: int, most: int, otherwise: str = "BadNumber") -> int:
+        """A number of so many bytes, within a range; or else the fault of that kind."""
         if self.at + size > len(self.data):
             raise WireFault("Short", self.at)
         found = int.from_bytes(self.data[self.at : self.at + size], "big")
         if not least <= found <= most:
-            raise WireFault("BadNumber", self.at)
+            raise WireFault(otherwise, self.at)
         self.at += size
         return found
 
@@ -172,13 +163,7 @@ class Fields:
 
     def name(self, size: int, past: int) -> int:
         """The number of a node or an application, of which there are so many."""
-        if self.at + size > len(self.data):
-            raise WireFault("Short", self.at)
-        found = int.from_bytes(self.data[self.at : self.at + size], "big")
-        if found >= past:
-            raise WireFault("BadName", self.at)
-        self.at += size
-        return found
+        return self.number(size, 0, past - 1, "BadName")
 
     def node(self) -> int:
         """A node."""
@@ -227,15 +212,18 @@ class Fields:
             raise WireFault("Trailing", self.at)
 
 
+Rows = dict[Origin, tuple[int, list[int]]]
+
+
 def above(found: object, last: object | None, at: int) -> None:
     """Refuses an item that isn't above the one before."""
     if last is not None and not last < found:  # type: ignore[operator]
         raise WireFault("BadOrder", at)
 
 
-def read_context(fields: Fields) -> dict[Origin, tuple[int, list[int]]]:
+def read_context(fields: Fields) -> Rows:
     """A set of dots as it is spelled: for each origin how far it goes unbroken, and its further counters."""
-    rows: dict[Origin, tuple[int, list[int]]] = {}
+    rows: Rows = {}
     last = None
     for _ in range(fields.count(2)):
         at = fields.at
@@ -257,9 +245,6 @@ def read_further(fields: Fields, unbroken: int, count: int) -> list[int]:
         above(counter, further[-1] if further else unbroken + 1, at)
         further.append(counter)
     return further
-
-
-Rows = dict[Origin, tuple[int, list[int]]]
 
 
 def has_dot(rows: Rows, dot: Dot) -> bool:
@@ -437,16 +422,8 @@ def read_operation(fields: Fields) -> Operation:
     return operation
 
 
-@dataclass(frozen=True)
-class ReadMessage:
-    """A message as it is read."""
-
-    message: Message
-    body: ReadState | None
-
-
-def read_message(fields: Fields, kind: int) -> ReadMessage:
-    """A message of a kind."""
+def read_message(fields: Fields, kind: int) -> tuple[Message, ReadState | None]:
+    """A message of a kind without its body, and its body."""
     sender, to = fields.origin(), fields.node()
     only = fields.number(4, 0, 0) if kind == WHOLE else fields.inc()
     up_to = fields.number(8, 0, MOST_NUMBER)
@@ -454,10 +431,10 @@ def read_message(fields: Fields, kind: int) -> ReadMessage:
     if fields.number(1, 0, 1):
         ack = (fields.origin(), fields.number(8, 0, MOST_NUMBER))
     body = read_parts(fields) if kind != NOTHING else None
-    return ReadMessage(Message(kind, sender, to, only, up_to, ack, None), body)
+    return Message(kind, sender, to, only, up_to, ack, None), body
 
 
-def read_packet(config: Config, data: bytes) -> ReadMessage | Operation:
+def read_packet(config: Config, data: bytes) -> tuple[Message, ReadState | None] | Operation:
     """The packet that some bytes are, or the first fault."""
     if len(data) > MOST_BYTES:
         raise WireFault("TooLong", MOST_BYTES)

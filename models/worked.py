@@ -12,18 +12,13 @@ from collections.abc import Callable, Iterator
 from dataclasses import dataclass
 
 from check import Config, check, read_config
-from meaning import NORMAL, ClaimAct, Dot, Down, Key, Meaning, Operation, Start, Up, meaning_of
+from meaning import NORMAL, Claim, ClaimAct, Dot, Down, Key, Meaning, Operation, Start, Up, meaning_of
 from placement import load, verdict
 from sim import LineReader, Player, simulate
-from wire import WireFault, context_bytes, is_operation, read_packet, read_state, state_bytes
+from wire import WireFault, claim_bytes, context_bytes, is_operation, read_packet, read_state, state_bytes
 
-EXAMPLE = b"""[{kernel,
- [{distributed, [{myapp, 5000, [cp1@cave, {cp2@cave, cp3@cave}]}]},
-  {sync_nodes_mandatory, [cp2@cave, cp3@cave]},
-  {sync_nodes_timeout, 5000}
- ]
-}
-].
+EXAMPLE = b"""[{kernel, [{distributed, [{myapp, 5000, [cp1@cave, {cp2@cave, cp3@cave}]}]},
+ {sync_nodes_mandatory, [cp2@cave, cp3@cave]}, {sync_nodes_timeout, 5000}]}].
 """
 TWO_APPLICATIONS = b"[{kernel,[{distributed,[{a,5000,[c1@h,{c2@h,c3@h}]},{b,[c2@h]}]}]}].\n"
 ONE_APPLICATION = b"[{kernel,[{distributed,[{a,[c1@h,{c2@h,c3@h}]}]}]}].\n"
@@ -288,20 +283,14 @@ def fault_of(read: Callable[[], object]) -> tuple[str, int] | None:
     return None
 
 
-PREFIXES = {
-    **dict.fromkeys(range(3), ("BadMagic", 0)),
-    3: ("BadVersion", 3),
-    **dict.fromkeys(range(4, 12), ("Short", 4)),
-    12: ("Short", 12),
-    13: ("Short", 13),
-    **dict.fromkeys(range(14, 18), ("Short", 14)),
-    18: ("Short", 18),
-    **dict.fromkeys(range(19, 23), ("Short", 19)),
-    **dict.fromkeys(range(23, 31), ("Short", 23)),
-    31: ("Short", 31),
-    32: ("Short", 32),
-    33: ("Short", 32),
-}
+SHORT_FIELDS = (4, 12, 13, 14, 18, 19, 23, 31, 32, 34)
+
+
+def fault_of_prefix(length: int) -> tuple[str, int]:
+    """The fault of so many bytes of a message: after its first bytes, a field that isn't whole."""
+    if length < 4:
+        return ("BadMagic", 0) if length < 3 else ("BadVersion", 3)
+    return "Short", max(at for at in SHORT_FIELDS if at <= length)
 
 
 def state_checks(config: Config) -> Iterator[tuple[str, bool]]:
@@ -333,8 +322,8 @@ def packet_checks(config: Config) -> Iterator[tuple[str, bool]]:
     yield "a message, cut", fault(packet[:12]) == ("Short", 12)
     yield "a message with another magic", fault(with_byte(packet, 0, 0x45)) == ("BadMagic", 0)
     yield "a message of another version", fault(with_byte(packet, 3, 2)) == ("BadVersion", 3)
-    for length, expected in PREFIXES.items():
-        yield f"{length} bytes of a message", fault(packet[:length]) == expected
+    for length in range(34):
+        yield f"{length} bytes of a message", fault(packet[:length]) == fault_of_prefix(length)
     yield "longer parts of a message are short", all(
         (found := fault(packet[:length])) is not None and found[0] == "Short" for length in range(34, 87)
     )
@@ -353,7 +342,8 @@ def operation_checks() -> Iterator[tuple[str, bool]]:
     both = meaning_of([Operation(D2, Start(key, ())), Operation(later, Start(key, (D2,)))])
     yield "a start in the place of another", both.starts == {key: {later}} and both.known == {D2, later}
     gap = {D1, D2, Dot(0, 1, 4)}
-    yield "a context with a gap", context_bytes(gap).hex() == "0001" "0000000001" "0000000000000002" "00000001" "0000000000000004"
+    spelled_gap = "0001" "0000000001" "0000000000000002" "00000001" "0000000000000004"
+    yield "a context with a gap", context_bytes(gap).hex() == spelled_gap
     yield "a context without", context_bytes(gap | {later}).hex() == "0001" "0000000001" "0000000000000004" "00000000"
 
 
@@ -386,6 +376,16 @@ def placement_checks() -> Iterator[tuple[str, bool]]:
         yield name, verdicts_of(config, meaning_of(operations)) == expected
 
 
+def two_fault_checks() -> Iterator[tuple[str, bool]]:
+    """Inputs with two faults, of which the one that is looked for first is answered."""
+    source = TWO_APPLICATIONS + b"--\nboot zz@h 01\n"
+    yield "a line with two faults", simulate(source) == (b"script fault 1 4 BadNumber\n", 1)
+    claims = [claim_bytes(1, Claim(1, node, 1, NORMAL, -1)) for node in (1, 0)]
+    state = bytes(13) + b"\0\2" + b"".join(claims)
+    config = read_config(TWO_APPLICATIONS)
+    yield "a claim with two faults", fault_of(lambda: read_state(config, state)) == ("NotInList", 32)
+
+
 def run_all() -> Iterator[tuple[str, bool]]:
     """Each example's name, and whether the models give its answer."""
     for row in ROWS:
@@ -401,6 +401,7 @@ def run_all() -> Iterator[tuple[str, bool]]:
     yield from packet_checks(config)
     yield from operation_checks()
     yield from placement_checks()
+    yield from two_fault_checks()
 
 
 def main() -> int:

@@ -6,37 +6,21 @@ counters or numbers of deltas run out, so no refusal for that is here.
 
 from __future__ import annotations
 
+from contextlib import suppress
 from dataclasses import dataclass, field
 
-from check import Config
-from meaning import FAILOVER, NORMAL, TAKEOVER, Act, Claim, ClaimAct, Dot, Down, Key, Meaning, Operation, Origin
-from meaning import Permit, Start, Stop, Up, meaning_of
 import placement
-from wire import INTERVAL, NOTHING, WHOLE, Message
+from check import Config
+from meaning import FAILOVER, NORMAL, TAKEOVER, Act, Claim, ClaimAct, Dot, Down, Key, Meaning, Operation, Origin, Permit
+from meaning import Start, Stop, Up, meaning_of
+from wire import INTERVAL, MOST_OVER, NOTHING, WHOLE, Message
 
-MOST_DELTAS = 256
-MOST_OVER = 1_024
-MOST_CACHED = 64
+MOST_DELTAS, MOST_CACHED = 256, 64
 
 REFUSALS = (
-    "Off",
-    "AlreadyOn",
-    "DeclaredDown",
-    "UnknownApp",
-    "UnknownNode",
-    "OnSelf",
-    "NotInList",
-    "MomentBack",
-    "NotLive",
-    "NotStarted",
-    "NotEligible",
-    "NotRunning",
-    "AlreadyHolder",
-    "LowerPriority",
-    "NotForMe",
-    "UpToDate",
-    "TooManyDots",
-)
+    "Off AlreadyOn DeclaredDown UnknownApp UnknownNode OnSelf NotInList MomentBack NotLive NotStarted NotEligible NotRunning "
+    "AlreadyHolder LowerPriority NotForMe UpToDate TooManyDots"
+).split()
 
 
 class Refused(Exception):
@@ -46,13 +30,13 @@ class Refused(Exception):
         super().__init__(why)
         self.why = why
 
-    def line(self) -> str:
+    def line(self) -> bytes:
         """The line that the program prints for it."""
-        return f"refused {REFUSALS.index(self.why) + 1} {self.why}"
+        return f"refused {REFUSALS.index(self.why) + 1} {self.why}".encode()
 
 
 class NoSuch(Exception):
-    """A number names no message, or no operation."""
+    """A number names no message, or no operation: the word for it, and the number."""
 
 
 def refuse(why: str, holds: bool) -> None:
@@ -74,14 +58,6 @@ class Shipped:
     body: int
 
 
-@dataclass(frozen=True)
-class Note:
-    """What a tick noted: its moment, and the lost claim of each application that has one."""
-
-    now: int
-    lost: dict[int, Claim]
-
-
 @dataclass
 class Running:
     """A running node: what it heard, the log of what was added, what it keeps of its peers, and its moments and notes."""
@@ -96,7 +72,7 @@ class Running:
     got: dict[int, tuple[int, int]] = field(default_factory=dict)
     owed: set[int] = field(default_factory=set)
     is_open: bool = False
-    notes: list[Note] = field(default_factory=list)
+    notes: list[tuple[int, dict[int, Claim]]] = field(default_factory=list)
 
     @property
     def count(self) -> int:
@@ -126,18 +102,11 @@ class Running:
     def noted_moment(self, app: int, claim: Claim) -> int | None:
         """Since when each note has found the claim lost, if the last one has."""
         moment = None
-        for note in reversed(self.notes):
-            if note.lost.get(app) != claim:
+        for now, lost in reversed(self.notes):
+            if lost.get(app) != claim:
                 break
-            moment = note.now
+            moment = now
         return moment
-
-
-@dataclass(frozen=True)
-class Ticked:
-    """What a tick claimed, by the numbers of the operations."""
-
-    issued: tuple[int, ...]
 
 
 @dataclass
@@ -193,13 +162,13 @@ class World:
     def shipped(self, number: int) -> Shipped:
         """The shipped message of a number."""
         if not 1 <= number <= len(self.messages):
-            raise NoSuch
+            raise NoSuch(b"message", number)
         return self.messages[number - 1]
 
     def issue(self, node: int, act: Act) -> int:
         """Issues an operation at a running node. Its number."""
         running = self.running(node)
-        own = [dot.n for dot in self.state(node).known if dot.origin == (node, running.inc)]
+        own = [dot.n for dot in self.state(node).known if dot[:2] == (node, running.inc)]
         self.operations.append(Operation(Dot(node, running.inc, max(own, default=0) + 1), act))
         running.add(1 << len(self.operations) - 1)
         return len(self.operations)
@@ -220,14 +189,15 @@ class World:
 
     # Commands
 
-    def refuse_declared_down(self, node: int) -> None:
-        """Refuses where the node has heard that it is down."""
-        refuse("DeclaredDown", self.state(node).live(node) != self.running(node).inc)
+    def active(self, node: int) -> Running:
+        """A node that has to run, and not to have heard that it is down."""
+        running = self.running(node)
+        refuse("DeclaredDown", self.state(node).live(node) != running.inc)
+        return running
 
     def down(self, node: int, about: int) -> int:
         """The word that another node is down."""
-        self.running(node)
-        self.refuse_declared_down(node)
+        self.active(node)
         refuse("UnknownNode", about >= len(self.nodes))
         refuse("OnSelf", about == node)
         inc = self.state(node).live(about)
@@ -237,8 +207,7 @@ class World:
 
     def key(self, node: int, app: int, about: int) -> Key:
         """The key of an application at the live incarnation of a node."""
-        self.running(node)
-        self.refuse_declared_down(node)
+        self.active(node)
         refuse("UnknownApp", app >= len(self.config.apps))
         refuse("UnknownNode", about >= len(self.nodes))
         refuse("NotInList", self.config.apps[app].group_of(about) is None)
@@ -248,31 +217,27 @@ class World:
         return Key(app, about, inc)
 
     def permit(self, node: int, app: int, about: int, value: bool) -> int:
-        """A permission."""
+        """A permission, in the place of all that stand at the key."""
         key = self.key(node, app, about)
         over = self.state(node).standing(key, permits=True)
         refuse("TooManyDots", len(over) > MOST_OVER)
         return self.issue(node, Permit(key, value, over))
 
-    def start(self, node: int, app: int, about: int) -> int:
-        """A start wish."""
+    def start(self, node: int, app: int, about: int, is_stop: bool = False) -> int:
+        """A start wish in the place of all that stand at the key, or their end."""
         key = self.key(node, app, about)
         over = self.state(node).standing(key, permits=False)
+        refuse("NotStarted", is_stop and not over)
         refuse("TooManyDots", len(over) > MOST_OVER)
-        return self.issue(node, Start(key, over))
+        return self.issue(node, Stop(key, over) if is_stop else Start(key, over))
 
     def stop(self, node: int, app: int, about: int) -> int:
         """The end of all start wishes that stand at the key."""
-        key = self.key(node, app, about)
-        over = self.state(node).standing(key, permits=False)
-        refuse("NotStarted", not over)
-        refuse("TooManyDots", len(over) > MOST_OVER)
-        return self.issue(node, Stop(key, over))
+        return self.start(node, app, about, is_stop=True)
 
     def takeover(self, node: int, app: int) -> int:
         """The node takes an application over from where it runs."""
-        self.running(node)
-        self.refuse_declared_down(node)
+        self.active(node)
         refuse("UnknownApp", app >= len(self.config.apps))
         state, listed = self.state(node), self.config.apps[app]
         own_group = listed.group_of(node)
@@ -293,10 +258,9 @@ class World:
 
     # Ticks
 
-    def tick(self, node: int, now: int) -> Ticked | str:
-        """A node looks after its applications. What it claims, or `held`, or `gave up`."""
-        running = self.running(node)
-        self.refuse_declared_down(node)
+    def tick(self, node: int, now: int) -> list[int] | str:
+        """A node looks after its applications. The numbers of its claims, or `held`, or `gave up`."""
+        running = self.active(node)
         refuse("MomentBack", now < running.now)
         running.now = now
         opening = "opened" if running.is_open else self.opening(running, node)
@@ -307,7 +271,7 @@ class World:
         running.is_open = True
         self.note(running)
         issued = [self.claim(node, app) for app in range(len(self.config.apps))]
-        return Ticked(tuple(number for number in issued if number is not None))
+        return [number for number in issued if number is not None]
 
     def opening(self, running: Running, node: int) -> str:
         """What the start gate says."""
@@ -320,10 +284,10 @@ class World:
         return "opened" if config.mandatory <= live else "gave up"
 
     def note(self, running: Running) -> None:
-        """Notes which claims are lost."""
+        """Notes the moment, and the lost claim of each application that has one."""
         state = self.meaning(running.heard)
         found = {app: placement.lost_claim(state, app) for app in range(len(self.config.apps))}
-        running.notes.append(Note(running.now, {app: claim for app, claim in found.items() if claim is not None}))
+        running.notes.append((running.now, {app: claim for app, claim in found.items() if claim is not None}))
 
     def claim(self, node: int, app: int) -> int | None:
         """Claims an application that the node is to have. The operation's number, if it does."""
@@ -401,7 +365,7 @@ class World:
     def hand(self, node: int, number: int) -> bool:
         """A single operation is handed to a node. Whether it is new."""
         if not 1 <= number <= len(self.operations):
-            raise NoSuch
+            raise NoSuch(b"operation", number)
         return self.running(node).add(1 << number - 1)
 
     def share(self) -> int:
@@ -420,8 +384,6 @@ class World:
             number = self.ship(node, to)
         except Refused:
             return False
-        try:
+        with suppress(Refused):
             self.hear(to, number)
-        except Refused:
-            pass
         return True
