@@ -25,8 +25,8 @@ class WireFault(Fault):
 
 
 @dataclass(frozen=True)
-class Message:
-    """A message. `only` is 0 for any incarnation; Nothing has no body."""
+class Header:
+    """What a message has beside its body. `only` is 0 for any incarnation."""
 
     kind: int
     sender: Origin
@@ -34,6 +34,12 @@ class Message:
     only: int
     up_to: int
     ack: tuple[Origin, int] | None
+
+
+@dataclass(frozen=True)
+class Message(Header):
+    """A message. Nothing has no body."""
+
     body: Meaning | None
 
 

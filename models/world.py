@@ -13,7 +13,7 @@ import placement
 from check import Config
 from meaning import FAILOVER, NORMAL, TAKEOVER, Act, Claim, ClaimAct, Dot, Down, Key, Meaning, Operation, Origin, Permit
 from meaning import Start, Stop, Up, meaning_of
-from wire import INTERVAL, MOST_OVER, NOTHING, WHOLE, Message
+from wire import INTERVAL, MOST_OVER, NOTHING, WHOLE, Header, Message
 
 MOST_DELTAS, MOST_CACHED = 256, 64
 
@@ -46,15 +46,9 @@ def refuse(why: str, holds: bool) -> None:
 
 
 @dataclass(frozen=True)
-class Shipped:
+class Shipped(Header):
     """A shipped message, its body as a set of operations."""
 
-    kind: int
-    sender: Origin
-    to: int
-    only: int
-    up_to: int
-    ack: tuple[Origin, int] | None
     body: int
 
 
