@@ -1,3 +1,4 @@
+pub mod Behind
 pub mod Journals
 pub mod Limits
 pub mod Seats

@@ -75,6 +75,7 @@ impl Journal {
     pub(crate) fn is_full(&self) -> bool
         ensures full { result ≡ true → length self.now.records ≡ MOST }
         ensures room { result ≡ false → length self.now.records < MOST }
+        ensures history { AreHistory self.now.opening self.now.records }
     {
         self.records.len() >= MAX_RECORDS
     }
@@ -115,6 +116,7 @@ impl Journal {
         ensures ok { IfOk result (λ r. self.new.records ≡ self.old.records ++ record_of seat event r.1 ∷ []) }
         ensures call { IfOk result (λ r. r.0 ≡ call_of (length self.old.records + 1) event r.1) }
         ensures answered { IfOk result (λ r. IfErr r.1 (λ why. why ≢ Refusal.NoMemory)) }
+        ensures history { IfOk result (λ _. AreHistory self.new.opening self.new.records) }
         ensures unchanged { OnErr result (self.new ≡ self.old) }
     {
         let Journal {

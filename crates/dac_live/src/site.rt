@@ -1,8 +1,9 @@
 //! A site: a journal under a lock, and the seats of its callers.
 
-ghost use Rattle.std.specs.Prelude.{◌≡◌, ◌≢◌, ◌↔◌, ◌+◌, ◌<◌, length, Ok, Err, IfOk, IfErr, IfSome, IfNone, All, sum_by, vec_len};
+ghost use Rattle.std.specs.Prelude.{◌≡◌, ◌≢◌, ◌↔◌, ◌+◌, ◌<◌, length, Ok, Err, IfOk, IfErr, MatchOption, All, sum_by, vec_len};
 ghost use Rattle.dac_live.specs.declared.limits.TheConstants.{MAX_RECORDS};
 ghost use Rattle.dac_live.specs.Journals.{calls_of};
+ghost use Rattle.dac_live.specs.Behind.{WentOn, NotTaken, SeatDiffers, StrangerFrom, NotClosed};
 ghost use Rattle.dac_live.specs.Told.{Added, AddedRefused, Told, ToldRefused};
 ghost use Rattle.dac_live.specs.Seats.{IsOneOf, new_seats};
 ghost use Rattle.dac_live.specs.Sites.{IsBlankOf};
@@ -52,6 +53,8 @@ impl<L: SiteName> Locked<L> {
         ensures added { IfOk result (λ r. Added self.old.journal.records self.new.journal.records seat.old.number event r.place (Ok r.reply)) }
         ensures refused { IfErr result (λ e. AddedRefused e self.old.journal.records self.new.journal.records seat.old.number event) }
         ensures full { (length self.old.journal.records ≡ MAX_RECORDS) ↔ (result ≡ Err LiveFault.JournalFull) }
+        ensures taken { IfOk result (λ r. WentOn L.opening seat.old.number event r.place (Ok r.reply)) }
+        ensures not_taken { IfErr result (λ e. NotTaken e L.opening seat.old.number event) }
     {
         if self.journal.is_full() {
             return Err(LiveFault::JournalFull);
@@ -133,9 +136,9 @@ pub fn open_site<L: SiteName, R: Wait>(
     Ok((site, all))
 }
 
-// The place at which a seat's calls and its records differ.
+// The place at which the calls of the first seat that doesn't match its records differ from them.
 fn mismatch<L: SiteName>(records: &[Record], seats: &[Seat<L>]) -> Option<u64>
-    ensures { IfNone result (All (λ s. calls_of s.number records.now ≡ s.calls) seats.now) }
+    ensures { MatchOption result (All (λ s. calls_of s.number records.now ≡ s.calls) seats.now) (λ p. SeatDiffers p records.now seats.now) }
 {
     for seat in seats {
         if let Some(place) = same_calls(records, seat.number(), seat.calls()) {
@@ -147,7 +150,7 @@ fn mismatch<L: SiteName>(records: &[Record], seats: &[Seat<L>]) -> Option<u64>
 
 // Where among the seats the one of this number is.
 fn seat_at<L: SiteName>(seats: &[Seat<L>], number: u16) -> Option<usize>
-    ensures { IfSome result (λ _. IsOneOf number (λ s. s.number) seats.now) }
+    ensures { MatchOption result (All (λ s. s.number ≢ number) seats.now) (λ _. IsOneOf number (λ s. s.number) seats.now) }
 {
     for i in 0..seats.len() {
         let one = &seats[i];
@@ -158,9 +161,9 @@ fn seat_at<L: SiteName>(seats: &[Seat<L>], number: u16) -> Option<usize>
     None
 }
 
-// The place of a record that is none of these seats'.
+// The place of the first record that is none of these seats'.
 fn stranger<L: SiteName>(records: &[Record], seats: &[Seat<L>]) -> Option<u64>
-    ensures { IfNone result (All (λ r. IsOneOf r.seat (λ s. s.number) seats.now) records.now) }
+    ensures { MatchOption result (All (λ r. IsOneOf r.seat (λ s. s.number) seats.now) records.now) (λ p. StrangerFrom p 1 seats.now records.now) }
 {
     for i in 0..records.len() {
         let one = &records[i];
@@ -191,8 +194,9 @@ impl<L: SiteName> Site<L> {
     /// Asks the node. The seat then has one call more: the place of its record, the event and the answer. A refusal of
     /// the node is a record too.
     ///
-    /// `JournalFull` comes where the journal has [`MAX_RECORDS`](crate::MAX_RECORDS) records. `NoMemory` comes after it,
-    /// but before a refusal of the node, since that needs room for its record. At both nothing changes.
+    /// `JournalFull` comes exactly where the journal has [`MAX_RECORDS`](crate::MAX_RECORDS) records. `NoMemory` comes after
+    /// it, but before a refusal of the node, since that needs room for its record. At both nothing changes. The lock hides
+    /// the journal, so the clauses speak of some journal of the site: a history of its node from where the site began.
     pub fn call<R: Wait>(
         &self,
         rt: &R,
@@ -202,6 +206,9 @@ impl<L: SiteName> Site<L> {
         ensures number { seat.new.number ≡ seat.old.number }
         ensures ok { IfOk result (λ r. Told seat.old.calls seat.new.calls r.place event (Ok r.reply)) }
         ensures err { IfErr result (λ e. ToldRefused e seat.old.calls seat.new.calls event) }
+        // The answer is the node's, at the end of the journal that was there, and its record is the next one.
+        ensures taken { IfOk result (λ r. WentOn L.opening seat.old.number event r.place (Ok r.reply)) }
+        ensures not_taken { IfErr result (λ e. NotTaken e L.opening seat.old.number event) }
     {
         let mut guard = self.locked.lock(rt);
         let answer = guard.call(seat, event);
@@ -212,7 +219,7 @@ impl<L: SiteName> Site<L> {
     /// Ends the site: its journal, in which each seat's calls stand once, and nothing else.
     ///
     /// `SeatMissing` comes where fewer seats come back than the site was opened with. `Mismatch` comes where a seat's
-    /// calls aren't its records, or a record is of none of these seats. No clause speaks of `Mismatch`. At both the site
+    /// calls aren't its records, or a record is of none of these seats, and names the first such place. At both the site
     /// and its seats are given up.
     pub fn close<R: Wait>(self, _rt: &R, mut seats: Vec<Seat<L>>) -> Result<Closed, CloseFault>
         requires { L.seats ≡ L.parts }
@@ -223,6 +230,7 @@ impl<L: SiteName> Site<L> {
         ensures others { IfOk result (λ c. All (λ r. IsOneOf r.seat (λ s. s.number) seats.items) c.records) }
         ensures count { IfOk result (λ c. length c.records ≡ sum_by (λ s. length s.calls) seats.items) }
         ensures missing { (vec_len seats ≢ L.seats) ↔ (result ≡ Err CloseFault.SeatMissing) }
+        ensures mismatch { IfErr result (λ why. NotClosed why L.opening seats.items) }
     {
         let Site {
             locked,

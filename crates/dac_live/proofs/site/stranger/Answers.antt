@@ -1,8 +1,12 @@
-use Rattle.std.proofs.Common.{All, subst, take_all}
+use Rattle.std.proofs.Common.{All, refl, subst, take_all}
 use Rattle.std.proofs.lemmas.List.Elements.{All-more}
 use Rattle.dac_live.specs.declared.record.Record.{Record}
 use Rattle.dac_live.specs.Seats.{IsOneOf}
+use Rattle.dac_live.specs.laws.Apart.{stranger_at}
 use Rattle.dac_live.proofs.site.stranger.Goals as goal
+
+pub returns-in-None : goal.returns-in-None
+returns-in-None g c = stranger_at _ 1 _ _ _ c.index-records-i.result c.loop-i-test.true c.index-records-i.is c.loop-i.invariant c.in-None.ensures refl
 
 pub loop-i-preserved : goal.loop-i-preserved
 loop-i-preserved g c =

@@ -1,7 +1,7 @@
 use Rattle.std.proofs.Common.{◌≡◌, ◌<◌, ◌+◌, ◌++◌, ◌∷◌, [], List, length, sym, ap, ◌∙◌, subst, arith, rules, length-append}
 use Rattle.dac_live.specs.declared.record.Record.{Record}
 use Rattle.dac_live.specs.Journals.{JournalValue, EndsAt, opening_of, record_of}
-use Rattle.dac_live.specs.laws.Going.{goes_on}
+use Rattle.dac_live.specs.laws.Going.{goes_on, is_history}
 use Rattle.dac_live.proofs.journal.Journal.ask.Goals as goal
 
 pub invariant_of-self-2 : goal.invariant_of-self-2
@@ -16,3 +16,6 @@ invariant_of-self-2 c =
       subst (λ (rs : List Record). EndsAt o rs c.asked.new.node) (sym now) (goes_on o old.records.items old.node c.asked.new.node c.args.seat c.args.event answer c.self.invariant.0 c.in_ok-answer.ensures.steps),
       omega (arith, len, room),
     )
+
+pub returns-clause-history : goal.returns-clause-history
+returns-clause-history c = is_history _ _ _ (invariant_of-self-2 c).0
