@@ -1,6 +1,6 @@
 -- Gaps between tokens: what is passed over is a gap, and a gap is passed over.
 use Rattle.std.proofs.Common.{◌≡◌, ◌⊎◌, inl, inr, ℕ, ◌≤◌, Bool, true, false, not, cond, eqb, List, [], ◌∷◌, ◌++◌, length, refl, sym, ap, subst, ◌∙◌, arith, append_assoc}
-use Rattle.std.proofs.lemmas.Bool.{eqb-true}
+use Rattle.std.proofs.lemmas.Bool.{eqb-true, eqb-false, ne_eqb}
 use Rattle.std.proofs.lemmas.Bool.Decides.{nat_tests}
 use Rattle.std.proofs.lemmas.List.{append-nil}
 use Rattle.std.proofs.lemmas.List.Elements.{All-nil, All-cons, All-head, All-tail}
@@ -51,13 +51,10 @@ behind_percent : (bs rest : List ℕ) → PassedInLine bs rest → Passed (37 �
 behind_percent bs rest (inl (line, more, parts, is_line, passed)) = behind_comment line more bs rest parts is_line passed
 behind_percent bs rest (inr (is_line, none)) = inr (none, Open [] bs refl Nothing is_line)
 
-no_feed : (b : ℕ) → eqb b 10 ≡ false → b ≡ 10 → ⊥
-no_feed b e is = grind (arith, nat_tests)
-
 in_line : (b : ℕ) (bs : List ℕ) (c : Bool) → eqb b 10 ≡ c → Passed bs (after_gap false bs) → PassedInLine bs (after_gap true bs) → PassedInLine (b ∷ bs) (after_gap (not c) bs)
 in_line b bs true e passed _ = inl ([], bs, ap (λ (k : ℕ). k ∷ bs) (eqb-true b 10 e), All-nil (λ b. b ≡ 10 → ⊥), passed)
-in_line b bs false e _ (inl (line, more, parts, is_line, passed)) = inl (b ∷ line, more, ap (λ (xs : List ℕ). b ∷ xs) parts, All-cons (λ b. b ≡ 10 → ⊥) b line (no_feed b e) is_line, passed)
-in_line b bs false e _ (inr (is_line, none)) = inr (All-cons (λ b. b ≡ 10 → ⊥) b bs (no_feed b e) is_line, none)
+in_line b bs false e _ (inl (line, more, parts, is_line, passed)) = inl (b ∷ line, more, ap (λ (xs : List ℕ). b ∷ xs) parts, All-cons (λ b. b ≡ 10 → ⊥) b line (eqb-false b 10 e) is_line, passed)
+in_line b bs false e _ (inr (is_line, none)) = inr (All-cons (λ b. b ≡ 10 → ⊥) b bs (eqb-false b 10 e) is_line, none)
 
 no_start : (b : ℕ) → eqb b 37 ≡ false → is_blank b ≡ false → StartsGap b → ⊥
 no_start b e f h = grind (arith, nat_tests)
@@ -89,16 +86,13 @@ gap_before bytes b bs e = by (passed_from false bytes)
     by (inl p) = subst (IsPassed bytes) e p
     by (inr (none, last)) = absurd cc
 
-feed_false : (b : ℕ) → (b ≡ 10 → ⊥) → eqb b 10 ≡ false
-feed_false b h = grind (arith, nat_tests)
-
 line_read : (line more : List ℕ) → IsLine line → after_gap true (line ++ 10 ∷ more) ≡ after_gap false more
 line_read [] more h = refl
-line_read (b ∷ line) more h = ap (λ (c : Bool). after_gap (not c) (line ++ 10 ∷ more)) (feed_false b (All-head (λ b. b ≡ 10 → ⊥) b line h)) ∙ line_read line more (All-tail (λ b. b ≡ 10 → ⊥) b line h)
+line_read (b ∷ line) more h = ap (λ (c : Bool). after_gap (not c) (line ++ 10 ∷ more)) (ne_eqb b 10 (All-head (λ b. b ≡ 10 → ⊥) b line h)) ∙ line_read line more (All-tail (λ b. b ≡ 10 → ⊥) b line h)
 
 line_ends : (line : List ℕ) → IsLine line → after_gap true line ≡ []
 line_ends [] h = refl
-line_ends (b ∷ line) h = rw (feed_false b (All-head (λ b. b ≡ 10 → ⊥) b line h)) (line_ends line (All-tail (λ b. b ≡ 10 → ⊥) b line h))
+line_ends (b ∷ line) h = rw (ne_eqb b 10 (All-head (λ b. b ≡ 10 → ⊥) b line h)) (line_ends line (All-tail (λ b. b ≡ 10 → ⊥) b line h))
 
 blank_read : (b : ℕ) (bs : List ℕ) → IsBlank b → after_gap false (b ∷ bs) ≡ after_gap false bs
 blank_read b bs blank =

@@ -1,10 +1,4 @@
 pub mod Bytes
-pub mod Found
 pub mod Gaps
-pub mod Quotes
-pub mod Reading
-pub mod Runs
-pub mod Spelling
-pub mod Stops
-pub mod Strings
 pub mod Texts
+pub mod Word

@@ -1,22 +1,20 @@
 -- Whole texts: what is read is what the grammar and the table of faults have, and the other way round.
-use Rattle.std.proofs.Common.{◌≡◌, inl, inr, ℕ, zero, suc, ◌+◌, ◌-◌, ◌<◌, ◌≤◌, Bool, true, false, cond, leb, List, [], ◌∷◌, ◌++◌, length, Result, Ok, Err, refl, sym, ap, subst, ◌∙◌, arith, length-append}
+use Rattle.std.proofs.Common.{◌≡◌, inl, inr, ℕ, zero, suc, ◌+◌, ◌-◌, ◌<◌, ◌≤◌, true, false, leb, List, [], ◌∷◌, ◌++◌, length, Result, Ok, Err, refl, sym, ap, subst, ◌∙◌, arith, length-append}
 use Rattle.std.specs.Prelude.{IfOk, ◌↔◌}
-use Rattle.std.proofs.lemmas.Bool.{leb-true, leb-false, true≢false}
+use Rattle.std.proofs.lemmas.Bool.{leb-true, leb-false, cond_both, true≢false}
 use Rattle.dac_tokens.specs.declared.fault.FaultKind.TheVariants.{Unsupported}
 use Rattle.dac_tokens.specs.declared.fault.ConfigFault.{ConfigFault}
-use Rattle.dac_tokens.specs.declared.token.Symbol.TheVariants.{OpenList, CloseList, OpenTuple, CloseTuple, Comma, FullStop}
+use Rattle.dac_tokens.specs.declared.token.Symbol.TheVariants.{OpenList, OpenTuple}
 use Rattle.dac_tokens.specs.Faults.{IsTokenFault}
 use Rattle.dac_tokens.specs.Gives.{◌>>=◌}
-use Rattle.dac_tokens.specs.Words.{Word, Mark, Name, Number, Text, End, is_end, Located}
+use Rattle.dac_tokens.specs.Words.{Word, Mark, is_end, Located}
 use Rattle.dac_tokens.specs.Scan.{after_gap, class_of, unsupported, token_of, word_at}
-use Rattle.dac_tokens.specs.Stream.{Stream, depth_after, token_from, and_then, tokens_within, tokens_of, end_at, ended, stopped, taken}
+use Rattle.dac_tokens.specs.Stream.{Stream, opened, depth_after, token_from, and_then, tokens_within, tokens_of, end_at, ended, stopped, taken}
 use Rattle.dac_tokens.specs.TokenGrammar.{Begins, Nothing, IsLastGap, Closed, IsNextToken, AreSpelled, depth_behind, NestWell, AreTokensOf}
 use Rattle.dac_tokens.specs.TokenFaults.{IsOpeningBracket, TooDeep, IsFaultAt, StopAt}
-use Rattle.dac_tokens.proofs.Found.{IsToken, StopsThere, Found}
+use Rattle.dac_tokens.proofs.Bytes.{class_is}
 use Rattle.dac_tokens.proofs.Gaps.{IsPassed, length_after_gap, last_gap, gap_before, gap_read, last_read}
-use Rattle.dac_tokens.proofs.Reading.{token_read, own_some, no_gap, no_end}
-use Rattle.dac_tokens.proofs.Spelling.{word_found}
-use Rattle.dac_tokens.proofs.Stops.{step, stop_read, stop_kind, no_gap_stop}
+use Rattle.dac_tokens.proofs.Word.{IsToken, StopsThere, Found, word_found, token_read, own_some, no_gap, no_end, step, stop_read}
 
 -- what the depth behind a word is: as the grammar has it, or a fault at a 65th open bracket
 data Depth (at depth : ℕ) : Word → Result ℕ ConfigFault → Type 0 where
@@ -24,25 +22,14 @@ data Depth (at depth : ℕ) : Word → Result ℕ ConfigFault → Type 0 where
   List65 : 64 ≤ depth → Depth at depth (Mark OpenList) (Err (record { kind = Unsupported; at = at }))
   Tuple65 : 64 ≤ depth → Depth at depth (Mark OpenTuple) (Err (record { kind = Unsupported; at = at }))
 
+-- `fault` says what a 65th bracket is
+opened_found : (at depth : ℕ) (w : Word) → depth_behind depth w ≡ depth + 1 → (64 ≤ depth → Depth at depth w (unsupported at)) → Depth at depth w (opened at depth)
+opened_found at depth w more fault = cond_both (leb 64 depth) (unsupported at) (Ok (depth + 1)) (Depth at depth w) (λ e. fault (leb-true 64 depth e)) (λ e. let lt : depth < 64 = leb-false 64 depth e in rw (← more) (Within w (omega arith)))
+
 depth_found : (at depth : ℕ) (w : Word) → depth ≤ 64 → Depth at depth w (depth_after at depth w)
-depth_found at depth (Mark OpenList) le = by (leb 64 depth) refl
-  where
-    by : (c : Bool) → leb 64 depth ≡ c → Depth at depth (Mark OpenList) (cond c (unsupported at) (Ok (depth + 1)))
-    by true e = List65 (leb-true 64 depth e)
-    by false e = let lt : depth < 64 = leb-false 64 depth e in Within (Mark OpenList) (omega arith)
-depth_found at depth (Mark OpenTuple) le = by (leb 64 depth) refl
-  where
-    by : (c : Bool) → leb 64 depth ≡ c → Depth at depth (Mark OpenTuple) (cond c (unsupported at) (Ok (depth + 1)))
-    by true e = Tuple65 (leb-true 64 depth e)
-    by false e = let lt : depth < 64 = leb-false 64 depth e in Within (Mark OpenTuple) (omega arith)
-depth_found at depth (Mark CloseList) le = Within (Mark CloseList) (omega arith)
-depth_found at depth (Mark CloseTuple) le = Within (Mark CloseTuple) (omega arith)
-depth_found at depth (Mark Comma) le = Within (Mark Comma) le
-depth_found at depth (Mark FullStop) le = Within (Mark FullStop) le
-depth_found at depth (Name name) le = Within (Name name) le
-depth_found at depth (Number negative digits) le = Within (Number negative digits) le
-depth_found at depth Text le = Within Text le
-depth_found at depth End le = Within End le
+depth_found at depth (Mark OpenList) le = opened_found at depth (Mark OpenList) refl List65
+depth_found at depth (Mark OpenTuple) le = opened_found at depth (Mark OpenTuple) refl Tuple65
+depth_found at depth w le = Within w (omega arith)
 
 depth_read : (at depth : ℕ) (w : Word) → depth ≤ 64 → depth_behind depth w ≤ 64 → depth_after at depth w ≡ Ok (depth_behind depth w)
 depth_read at depth w le within = by w (depth_after at depth w) within (depth_found at depth w le)
@@ -64,7 +51,7 @@ data First (at end depth : ℕ) (bytes : List ℕ) : Result (Located × ℕ × L
 step_found : (at end depth place : ℕ) (bytes rest : List ℕ) → after_gap false bytes ≡ rest → at + length bytes ≡ end → place + length rest ≡ end → depth ≤ 64 → First at end depth bytes (step depth place rest)
 unfolding word_at
 step_found at end depth place bytes [] left whole more le = let same : place ≡ end = omega (arith, more) in rw same (AtEnd (last_gap bytes left))
-step_found at end depth place bytes (b ∷ bs) left whole more le = word (gap_before bytes b bs left) (token_of (class_of b) place b bs) (word_found (class_of b) place b bs refl)
+step_found at end depth place bytes (b ∷ bs) left whole more le = word (gap_before bytes b bs left) (token_of (class_of b) place b bs) (word_found (class_of b) place b bs (class_is b))
   where
     stop : IsPassed bytes (b ∷ bs) → (e : ConfigFault) → StopsThere place depth (b ∷ bs) e → First at end depth bytes (Err e)
     stop passed e h =
@@ -99,10 +86,11 @@ first_read at end depth bytes _ whole le (Next t own rest next within) =
     let place : end - length (own ++ rest) ≡ t.at = omega (arith, size, whole, next.place) in
     rw (left, place, token_read t.word t.at own rest next.spelled, depth_read t.at depth t.word le within) refl
 first_read at end depth bytes _ whole le (Fault e h) =
-    let left : after_gap false bytes ≡ h.rest = rw h.parts (gap_read h.gap h.rest h.is_gap (no_gap_stop depth h.rest h.behind e.kind h.fault)) in
+    let stop = stop_read depth (end - length h.rest) h.rest h.behind e.kind h.fault in
+    let left : after_gap false bytes ≡ h.rest = rw h.parts (gap_read h.gap h.rest h.is_gap stop.no_gap) in
     let size = ap length h.parts ∙ length-append h.gap h.rest in
     let place : end - length h.rest + h.behind ≡ e.at = omega (arith, size, whole, h.place) in
-    rw (left, stop_read (end - length h.rest) depth h.rest h.behind e.kind h.fault, place) refl
+    rw (left, stop.read, place) refl
 
 -- what bytes that begin at the offset `at` are: tokens up to the end, or up to a fault
 abbrev IsText : ℕ → ℕ → ℕ → List ℕ → List Located → Result Located ConfigFault → Type 0
@@ -197,7 +185,7 @@ first_taken at end depth bytes s _ whole le is (Next t own rest next within) =
     rw now (refl, omega arith, λ _. omega arith)
 first_taken at end depth bytes s _ whole le is (Fault e fault) =
     let now : s ≡ stopped [] e = sym is ∙ stream_read at end depth bytes (stopped [] e) whole le fault in
-    (ap taken now, stop_kind depth fault.rest fault.behind e.kind fault.fault)
+    (ap taken now, (stop_read depth 0 fault.rest fault.behind e.kind fault.fault).of_token)
 
 pub next_taken : (end depth : ℕ) (bytes : List ℕ) (s : Stream) (r : Result (Located × ℕ × List ℕ) ConfigFault) → length bytes ≤ end → depth ≤ 64 → tokens_of end depth bytes ≡ s → token_from end depth bytes ≡ r → IsTaken end s r
 next_taken end depth bytes s r no_more le is read =

@@ -50,7 +50,7 @@ pub struct Located<'a> {
 }
 
 /// What may begin with a byte behind a gap.
-#[derive(Clone, Copy, Debug, PartialEq, Eq)]
+#[derive(Clone, Copy)]
 pub enum Class {
     Bracket(Symbol),
     Comma,

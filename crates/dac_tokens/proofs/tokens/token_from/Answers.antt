@@ -1,6 +1,6 @@
 use Rattle.std.proofs.Common.{◌≤◌, length, arith}
 use Rattle.std.proofs.lemmas.Result.{IfOk-at_ok}
-use Rattle.dac_tokens.proofs.Spelling.{word_no_more}
+use Rattle.dac_tokens.proofs.Word.{word_no_more}
 use Rattle.dac_tokens.proofs.tokens.token_from.Goals as goal
 
 pub returns-clause-within : goal.returns-clause-within
