@@ -7,7 +7,7 @@ use Rattle.std.specs.Char.{is_ascii_digit, IsAsciiDigit, IsAsciiLowercase}
 use Rattle.std.proofs.lemmas.Bool.{eqb-true, eqb-false, eq-eqb, ne_eqb, le-leb, and_parts, cond-true, cond-false, cond_both, true≢false}
 use Rattle.std.proofs.lemmas.Bool.Decides.{nat_tests, not_from_Decides}
 use Rattle.std.proofs.lemmas.List.{take-append-drop, append-nil}
-use Rattle.std.proofs.lemmas.List.Elements.{All-nil, All-cons, All-head}
+use Rattle.std.proofs.lemmas.List.Elements.{All-nil, All-head}
 use Rattle.std.proofs.lemmas.Slice.Eq.{bytes_eq-Decides}
 use Rattle.dac_tokens.specs.declared.fault.FaultKind.{FaultKind}
 use Rattle.dac_tokens.specs.declared.fault.FaultKind.TheVariants.{BadToken, Unsupported}
@@ -363,9 +363,7 @@ number_shut false (d ∷ ds) own rest spelled gap =
 number_shut true digits own rest spelled gap = shut 45 refl (rw spelled.0 at gap)
 
 fun_bytes : All IsNameByte (codes "fun")
-fun_bytes =
-    let byte : (b : ℕ) → is_name_byte b ≡ true → IsNameByte b = λ b e. (tells_name_byte b).0 e in
-    All-cons IsNameByte 102 (117 ∷ 110 ∷ []) (byte 102 refl) (All-cons IsNameByte 117 (110 ∷ []) (byte 117 refl) (All-cons IsNameByte 110 [] (byte 110 refl) (All-nil IsNameByte)))
+fun_bytes = run_passes is_name_byte IsNameByte tells_name_byte (codes "fun")
 
 too_deep : (depth at : ℕ) (bytes : List ℕ) → 64 ≤ depth → Begins IsOpeningBracket bytes → IsStop depth at bytes 0 Unsupported
 unfolding word_at

@@ -16,14 +16,13 @@ pub fn fault(kind: FaultKind, at: usize) -> ConfigFault
 }
 
 /// The bytes from the first that is neither blank nor in a comment.
-#[tactic(auto, using(crate::proofs::Gaps::length_after_gap))]
 pub fn after_gap(bytes: &[u8]) -> &[u8]
     ensures rest { result.now ≡ after_gap false bytes.now }
     ensures within { length result.now ≤ length bytes.now }
 {
     let mut rest = bytes;
     let mut comment = false;
-    while let [b, tail @ ..] = rest {
+    while let Some((b, tail)) = rest.split_first() {
         if comment {
             comment = *b != b'\n';
         } else if *b == b'%' {
@@ -176,7 +175,7 @@ fn string_at(at: usize, bytes: &[u8]) -> Result<(Token<'_>, &[u8]), ConfigFault>
     let mut rest = bytes;
     let mut place = at + 1;
     let mut escaped = false;
-    while let [b, tail @ ..] = rest {
+    while let Some((b, tail)) = rest.split_first() {
         if escaped && *b == b'^' {
             return Err(fault(FaultKind::Unsupported, place - 1));
         }
@@ -196,7 +195,7 @@ pub fn token_at(at: usize, bytes: &[u8]) -> Result<(Token<'_>, &[u8]), ConfigFau
     requires { at + length bytes.now < 2 ^ 64 }
     ensures { Reads (λ x. (word_of x.0, x.1.now)) result (word_at at bytes.now) }
 {
-    let [b, rest @ ..] = bytes else {
+    let Some((b, rest)) = bytes.split_first() else {
         return Ok((Token::End, bytes));
     };
     match class_of(*b) {
