@@ -44,7 +44,7 @@ tells_break [] no_digit = (λ e. absurd cc, λ h. absurd h)
 tells_break (b ∷ []) no_digit = (λ e. grind (arith, nat_tests), λ h. grind (arith, nat_tests))
 tells_break (b ∷ c ∷ bs) no_digit = (λ e. grind (arith, nat_tests), λ h. grind (arith, nat_tests))
 
--- the tests of `class_of` behind those for one byte alone
+-- the last test of `class_of`
 abbrev is_refused : ℕ → Bool
 is_refused b =
     eqb b 60 || eqb b 35 || eqb b 36 || eqb b 43 || eqb b 126 || eqb b 124 || leb 128 b
@@ -52,7 +52,7 @@ is_refused b =
 tells_refused : (b : ℕ) → Decides (is_refused b) (IsRefused b)
 tells_refused b = (λ e. grind (arith, nat_tests), λ h. grind (arith, nat_tests))
 
--- a byte that passes a test which none of those passes that are a class alone
+-- the class of a byte that passes a test which no byte passes that is a class alone
 class_by : (p : ℕ → Bool) (b : ℕ) → p b ≡ true → (p 91 ≡ false) × (p 93 ≡ false) × (p 123 ≡ false) × (p 125 ≡ false) × (p 44 ≡ false) × (p 46 ≡ false) × (p 45 ≡ false) × (p 39 ≡ false) × (p 34 ≡ false) → class_of b ≡ cond (is_ascii_lowercase b) class.Letter (cond (is_ascii_digit b) class.Digit (cond (is_refused b) class.Refused class.Unknown))
 class_by p b holds apart = rw (other 91 apart.0, other 93 apart.1, other 123 apart.2, other 125 apart.3, other 44 apart.4, other 46 apart.5, other 45 apart.6, other 39 apart.7, other 34 apart.8) refl
   where

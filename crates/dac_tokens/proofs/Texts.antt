@@ -1,5 +1,5 @@
 -- Whole texts: what is read is what the grammar and the table of faults have, and the other way round.
-use Rattle.std.proofs.Common.{◌≡◌, inl, inr, ℕ, zero, suc, ◌+◌, ◌-◌, ◌<◌, ◌≤◌, true, false, leb, List, [], ◌∷◌, ◌++◌, length, Result, Ok, Err, refl, sym, ap, subst, ◌∙◌, arith, length-append}
+use Rattle.std.proofs.Common.{◌≡◌, inl, inr, ℕ, zero, suc, ◌+◌, ◌-◌, ◌<◌, ◌≤◌, false, leb, List, [], ◌∷◌, ◌++◌, length, Result, Ok, Err, refl, sym, ap, subst, ◌∙◌, arith, length-append}
 use Rattle.std.specs.Prelude.{IfOk, ◌↔◌}
 use Rattle.std.proofs.lemmas.Bool.{leb-true, leb-false, cond_both, true≢false}
 use Rattle.dac_tokens.specs.declared.fault.FaultKind.TheVariants.{Unsupported}

@@ -4,8 +4,8 @@ use Rattle.std.proofs.Common.{◌≡◌, ◌⊎◌, inl, inr, ℕ, zero, suc, �
 use Rattle.std.specs.Prelude.{IfOk, All, codes}
 use Rattle.std.specs.Bool.{Decides}
 use Rattle.std.specs.Char.{is_ascii_digit, IsAsciiDigit, IsAsciiLowercase}
-use Rattle.std.proofs.lemmas.Bool.{eqb-true, eqb-false, eq-eqb, ne_eqb, le-leb, and_parts, cond-true, cond-false, cond_both, true≢false}
-use Rattle.std.proofs.lemmas.Bool.Decides.{nat_tests, not_from_Decides}
+use Rattle.std.proofs.lemmas.Bool.{eqb-true, eqb-false, eq-eqb, ne_eqb, le-leb, and_parts, cond-true, cond-false, cond_both}
+use Rattle.std.proofs.lemmas.Bool.Decides.{nat_tests, not_from_Decides, Decides-eqb}
 use Rattle.std.proofs.lemmas.List.{take-append-drop, append-nil}
 use Rattle.std.proofs.lemmas.List.Elements.{All-nil, All-head}
 use Rattle.std.proofs.lemmas.Slice.Eq.{bytes_eq-Decides}
@@ -14,7 +14,7 @@ use Rattle.dac_tokens.specs.declared.fault.FaultKind.TheVariants.{BadToken, Unsu
 use Rattle.dac_tokens.specs.declared.fault.ConfigFault.{ConfigFault}
 use Rattle.dac_tokens.specs.declared.token.Class.{Class}
 use Rattle.dac_tokens.specs.declared.token.Class.TheVariants as class
-use Rattle.dac_tokens.specs.declared.token.Symbol.TheVariants.{Comma, FullStop}
+use Rattle.dac_tokens.specs.declared.token.Symbol.TheVariants.{FullStop}
 use Rattle.dac_tokens.specs.Faults.{IsTokenFault}
 use Rattle.dac_tokens.specs.Gives.{◌>>=◌}
 use Rattle.dac_tokens.specs.Words.{Word, Mark, Name, Number, Text, End, is_end, Located}
@@ -128,9 +128,9 @@ two_in_row (b ∷ c ∷ bs) e =
     let both = and_parts (eqb b 34) (eqb c 34) e in
     (bs, ap (λ (k : ℕ). k ∷ c ∷ bs) (eqb-true b 34 both.0) ∙ ap (λ (k : ℕ). 34 ∷ k ∷ bs) (eqb-true c 34 both.1))
 
-third_quote : (bs rest : List ℕ) → bs ≡ 34 ∷ rest → Begins (λ b. b ≡ 34) rest → two_quotes bs ≡ true
-third_quote bs [] parts begins = absurd begins
-third_quote bs (c ∷ rest) parts begins = rw (parts, begins) refl
+tells_third : (rest : List ℕ) → Decides (two_quotes (34 ∷ rest)) (Begins (λ b. b ≡ 34) rest)
+tells_third [] = (λ e. absurd cc, λ h. absurd h)
+tells_third (b ∷ bs) = Decides-eqb b 34
 
 -- what stands behind a string's opening quote
 string_found : (at : ℕ) (bs : List ℕ) → Found at (34 ∷ bs) (string_at at bs)
@@ -140,7 +140,7 @@ string_found at bs = by (two_quotes bs) refl
     inside two inner _ parts text _ (Closed more) = record {
       own = 34 ∷ (inner ++ 34 ∷ []);
       parts = ap (λ (xs : List ℕ). 34 ∷ xs) (parts ∙ sym (append_assoc inner (34 ∷ []) more));
-      spelled = record { inner = inner; parts = refl; is_text = text; no_third = λ none third. true≢false (sym (third_quote bs more (parts ∙ ap (λ (xs : List ℕ). xs ++ 34 ∷ more) none) third) ∙ two) };
+      spelled = record { inner = inner; parts = refl; is_text = text; no_third = λ none. not_from_Decides (two_quotes (34 ∷ more)) (tells_third more) (subst (λ (xs : List ℕ). two_quotes xs ≡ false) (parts ∙ ap (λ (xs : List ℕ). xs ++ 34 ∷ more) none) two) };
     }
     inside two inner _ parts text _ (Control more) = λ _ depth. (1 + length inner, omega arith, ControlEscape inner more (ap (λ (xs : List ℕ). 34 ∷ xs) parts) text)
     inside two inner _ parts text _ Cut = here at (34 ∷ bs) BadToken (λ _. NoDoubleQuote inner [] (ap (λ (xs : List ℕ). 34 ∷ xs) parts) text (inl refl))
@@ -164,10 +164,6 @@ other_first : (b : ℕ) (bs : List ℕ) → (b ≡ 34 → ⊥) → two_quotes (b
 other_first b [] h = refl
 other_first b (c ∷ bs) h = ap (λ (t : Bool). t && eqb c 34) (ne_eqb b 34 h)
 
-other_second : (rest : List ℕ) → (Begins (λ b. b ≡ 34) rest → ⊥) → two_quotes (34 ∷ rest) ≡ false
-other_second [] h = refl
-other_second (b ∷ bs) h = ne_eqb b 34 h
-
 -- behind a text no two quotes stand in a row, where none do without it
 no_quotes : (inner more : List ℕ) → IsStringText inner → (inner ≡ [] → two_quotes more ≡ false) → two_quotes (inner ++ more) ≡ false
 no_quotes _ more Empty h = h refl
@@ -178,7 +174,7 @@ string_is : (at : ℕ) (inner more : List ℕ) → IsStringText inner → (inner
 string_is at inner more text h = ap (λ (c : Bool). cond c (unsupported at) (inside_string at (at + 1) false (inner ++ more))) (no_quotes inner more text h) ∙ inside_read at (at + 1) inner more text
 
 string_read : (at : ℕ) (inner rest : List ℕ) → IsStringText inner → (inner ≡ [] → Begins (λ b. b ≡ 34) rest → ⊥) → string_at at (inner ++ 34 ∷ rest) ≡ Ok (Text, rest)
-string_read at inner rest text no_third = string_is at inner (34 ∷ rest) text (λ e. other_second rest (no_third e))
+string_read at inner rest text no_third = string_is at inner (34 ∷ rest) text (λ e. fails (two_quotes (34 ∷ rest)) (tells_third rest) (no_third e))
 
 string_refused : (at : ℕ) (inner rest : List ℕ) → IsStringText inner → string_at at (inner ++ 92 ∷ 94 ∷ rest) ≡ unsupported (at + 1 + length inner)
 string_refused at inner rest text =
