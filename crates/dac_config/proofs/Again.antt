@@ -1,31 +1,158 @@
--- What the canonical text says by names, and that it is the same configuration.
-use Rattle.std.proofs.Common.{◌≡◌, ◌≢◌, ℕ, ◌+◌, ◌<◌, ◌≤◌, Bool, true, false, cond, not, ◌||◌, ◌&&◌, List, [], ◌∷◌, ◌++◌, length, map, get_or, filter, count_by, All, refl, sym, ap, subst, ◌∙◌, arith, append_assoc, append-nil}
+-- What a text says: its parts can be spelled, each of its nodes is named in one of them, and what its canonical text
+-- says is the same configuration.
+use Rattle.std.proofs.Common.{◌≡◌, ◌≢◌, ℕ, ◌+◌, ◌<◌, ◌≤◌, Bool, true, false, cond, not, ◌||◌, ◌&&◌, List, [], ◌∷◌, ◌++◌, length, map, fold, get_or, filter, count_by, All, bytes_eq, ⊎_elim, refl, sym, ap, subst, ◌∙◌, arith, append_assoc, append-nil}
 use Rattle.std.specs.List.{AllByRecursion as Each, AllZip, IsDistinct}
-use Rattle.std.specs.Str.{bytes_eq}
 use Rattle.std.proofs.Math.Bool.{or-true, or-false, and-true, and-or_distrib_right}
-use Rattle.std.proofs.lemmas.Bool.{and_parts, and_from}
+use Rattle.std.proofs.lemmas.Bool.{and_parts, and_from, cond_both, or_cases, or_left, or_right}
 use Rattle.std.proofs.lemmas.List.{length-map, length-append}
 use Rattle.std.proofs.lemmas.List.Elements.{All-head, All-tail, All-append, All-map, All-filter, All-weaker, All-from_recursion, recursion_from_All}
 use Rattle.std.proofs.lemmas.List.Kept.{IsStrictlySortedBy-filter}
+use Rattle.std.proofs.lemmas.List.Sums.{fold-append, sum_by-cons}
 use Rattle.std.proofs.lemmas.Map.Keys.{IsDistinct-from_sorted}
 use Rattle.std.proofs.lemmas.Map.Text.{is_eq-slice_cmp}
+use Rattle.std.proofs.lemmas.Simd.{map-map}
 use Rattle.dac_tokens.specs.TokenGrammar.{IsQuotable}
 use Rattle.dac_shapes.specs.declared.draft.SyncWait.{SyncWait}
 use Rattle.dac_shapes.specs.declared.draft.SyncWait.TheVariants.{NoSync, Forever, Ms}
 use Rattle.dac_shapes.specs.declared.param.ParamName.{ParamName}
 use Rattle.dac_shapes.specs.declared.param.ParamName.TheVariants as named
-use Rattle.dac_shapes.specs.Written.{App, Permission, Param, Distributed, Permissions, Mandatory, Optional, Kernel, Written, name_of, put_all, written}
+use Rattle.dac_shapes.specs.Written.{App, Permission, Param, Distributed, Permissions, Mandatory, Optional, Timeout, Section, Kernel, Written, name_of, put, put_all, put_section, unsaid, written}
 use Rattle.dac_shapes.specs.Limits.{is_among, is_named}
-use Rattle.dac_shapes.specs.Grammar.{IsFile}
-use Rattle.dac_shapes.specs.Within.{joined, names_of_app, names_of_param, names_in, nodes_in, AreAppsWithin, IsValueWithin, AreWithinLimits}
+use Rattle.dac_shapes.specs.Grammar.{IsFile, IsTextOf}
+use Rattle.dac_shapes.specs.Within.{joined, params_in, names_of_app, names_of_param, names_in, nodes_in, AreAppsWithin, IsValueWithin, AreWithinLimits, IsWithinLimits}
 use Rattle.dac_config.specs.Table.{NodeRow, AppRow, Table}
 use Rattle.dac_config.specs.Canonical.{canonical_text}
 use Rattle.dac_config.specs.Numbering.{name_cmp, numbers_from, numbered_node, numbered_nodes, permitted, numbered_app, numbered, in_byte_order}
 use Rattle.dac_config.specs.Says.{IsGroup, IsDefaultPermission, IsApp, IsTableOf, IsConfigOf, IsSaid, By}
 use Rattle.dac_config.proofs.Names.{Within, first_among, later_among, among_append, among_all, all_among, named_in, among_named, all_parts, all_joined, joined_all, all_mapped, among_firsts, few_firsts, Differ, differ_joined, same_name}
-use Rattle.dac_config.proofs.SaysLemmas.{group_numbered, permission_found, names_numbered, sorted_rising, sorted_names, numbered_says, table_same}
-use Rattle.dac_config.proofs.Writes.{CanSpellGroup, CanSpellApp, CanSpell, name_at, written_app, ban, written_bans, wait_params, params_of, file_written}
-use Rattle.dac_config.proofs.Said.{said_names, Known, known}
+use Rattle.dac_config.proofs.Numbers.{group_numbered, permission_found, names_numbered, sorted_rising, sorted_names, numbered_says, table_same}
+use Rattle.dac_config.proofs.Writes.{CanSpellGroup, CanSpellApp, CanSpellWait, CanSpell, name_at, written_app, ban, written_bans, wait_params, params_of, file_written, file_spells}
+
+-- the parameters by which this is said, but for permissions
+abbrev said_params : Written → List Param
+said_params w = Distributed w.apps ∷ Mandatory w.mandatory ∷ Optional w.optional ∷ wait_params w.sync_wait
+
+-- the names of nodes in what is said
+abbrev said_names : Written → List (List ℕ)
+said_names w = joined (map names_of_app w.apps) ++ (w.mandatory ++ w.optional)
+
+record Known (w : Written) : Type 0 where
+  limits : IsWithinLimits w
+  spells : Each CanSpell (said_params w)
+  said : Within w.nodes (said_names w)
+  some : length w.apps ≢ 0
+
+-- ---- sections say what their parameters say
+
+put_params : (w : Written) (sections : List Section) → fold put_section w sections ≡ put_all w (params_in sections)
+put_params w [] = refl
+put_params w (Kernel params ∷ sections) = put_params (put_all w params) sections ∙ sym (fold-append put w params (params_in sections))
+put_params w (Section.Other ∷ sections) = put_params w sections
+
+nodes_stay : (w : Written) (params : List Param) → (put_all w params).nodes ≡ w.nodes
+nodes_stay w [] = refl
+nodes_stay w (param ∷ params) = nodes_stay (put w param) params ∙ one param
+  where
+    one : (p : Param) → (put w p).nodes ≡ w.nodes
+    one (Distributed apps) = refl
+    one _ = refl
+
+-- ---- it can be spelled
+
+wait_spells : (wait : SyncWait) → CanSpellWait wait → Each CanSpell (wait_params wait)
+wait_spells NoSync can = tt
+wait_spells Forever can = (tt, tt)
+wait_spells (Ms n) can = (can, tt)
+
+put_spells : (w : Written) (param : Param) → CanSpell param → Each CanSpell (said_params w) → Each CanSpell (said_params (put w param))
+put_spells w (Distributed apps) can h = (can, h.1)
+put_spells w (Permissions permissions) can h = h
+put_spells w (Mandatory names) can h = (h.0, (can, h.1.1))
+put_spells w (Optional names) can h = (h.0, (h.1.0, (can, h.1.1.1)))
+put_spells w (Timeout wait) can h = (h.0, (h.1.0, (h.1.1.0, wait_spells wait can)))
+put_spells w Param.Other can h = h
+
+all_spell : (w : Written) (params : List Param) → Each CanSpell params → Each CanSpell (said_params w) → Each CanSpell (said_params (put_all w params))
+all_spell w [] can h = h
+all_spell w (param ∷ params) can h = all_spell (put w param) params can.1 (put_spells w param can.0 h)
+
+-- ---- it names each node
+
+-- the value of a parameter of this name names the node
+abbrev Says : List ℕ → ParamName → Written → Type 0
+Says name named.Distributed w = is_among name (joined (map names_of_app w.apps)) ≡ true
+Says name named.Mandatory w = is_among name w.mandatory ≡ true
+Says name named.Optional w = is_among name w.optional ≡ true
+Says name named.Timeout w = ⊥
+Says name named.Permissions w = ⊥
+
+abbrev count_of : ParamName → List Param → ℕ
+count_of n params = count_by (λ param. is_named n (name_of param)) params
+
+param_says : (name : List ℕ) (w : Written) (param : Param) → is_among name (names_of_param param) ≡ true → (n : ParamName) × (is_named n (name_of param) ≡ true) × Says name n (put w param)
+param_says name w (Distributed apps) h = (named.Distributed, refl, h)
+param_says name w (Mandatory names) h = (named.Mandatory, refl, h)
+param_says name w (Optional names) h = (named.Optional, refl, h)
+param_says name w _ h = absurd cc
+
+-- a parameter of another name changes nothing
+still_says : (name : List ℕ) (n : ParamName) (w : Written) (param : Param) → is_named n (name_of param) ≡ false → Says name n w → Says name n (put w param)
+still_says name named.Distributed w (Distributed apps) other h = absurd cc
+still_says name named.Mandatory w (Mandatory names) other h = absurd cc
+still_says name named.Optional w (Optional names) other h = absurd cc
+still_says name _ w _ other h = h
+
+none_left : (b : Bool) (n : ℕ) → cond b 1 0 + n ≡ 0 → (b ≡ false) × (n ≡ 0)
+none_left true n h = absurd (omega (arith, h))
+none_left false n h = (refl, omega (arith, h))
+
+says_on : (name : List ℕ) (n : ParamName) (w : Written) (params : List Param) → count_of n params ≡ 0 → Says name n w → Says name n (put_all w params)
+says_on name n w [] none h = h
+says_on name n w (param ∷ params) none h =
+    let left = none_left (is_named n (name_of param)) (count_of n params) (sym (sum_by-cons (λ (p : Param). cond (is_named n (name_of p)) 1 0) param params) ∙ none) in
+    says_on name n (put w param) params left.1 (still_says name n w param left.0 h)
+
+says_names : (name : List ℕ) (n : ParamName) (w : Written) → Says name n w → is_among name (said_names w) ≡ true
+says_names name n w h =
+    let apps = joined (map names_of_app w.apps) in
+    among_append name apps (w.mandatory ++ w.optional) ∙ ap (λ b. is_among name apps || b) (among_append name w.mandatory w.optional) ∙ by n h
+  where
+    by : (m : ParamName) → Says name m w → (is_among name (joined (map names_of_app w.apps)) || (is_among name w.mandatory || is_among name w.optional)) ≡ true
+    by named.Distributed k = or_left _ _ k
+    by named.Mandatory k = or_right _ _ (or_left _ _ k)
+    by named.Optional k = or_right _ _ (or_right _ _ k)
+    by named.Timeout k = absurd k
+    by named.Permissions k = absurd k
+
+-- where each parameter stands once, all nodes that are named are said
+all_said : (name : List ℕ) (w : Written) (params : List Param) → ((n : ParamName) → count_of n params ≤ 1) → is_among name (joined (map names_of_param params)) ≡ true → is_among name (said_names (put_all w params)) ≡ true
+all_said name w [] once h = absurd cc
+all_said name w (param ∷ params) once h =
+    let rest = joined (map names_of_param params) in
+    let count = λ (n : ParamName). sum_by-cons (λ (p : Param). cond (is_named n (name_of p)) 1 0) param params in
+    ⊎_elim
+    (λ here. (let s = param_says name w param here in
+    let none : count_of s.0 params ≡ 0 = omega (arith, once s.0, count s.0, ap {B = ℕ} (λ b. cond b 1 0) s.1) in
+    says_names name s.0 (put_all w (param ∷ params)) (says_on name s.0 (put w param) params none s.2)))
+    (λ later. all_said name (put w param) params (λ n. omega (arith, once n, count n)) later)
+    (or_cases (is_among name (names_of_param param)) (is_among name rest) (sym (among_append name (names_of_param param) rest) ∙ h))
+
+-- ---- the whole
+
+known : (text : List ℕ) (w : Written) → IsTextOf text w → IsWithinLimits w → Known w
+known text w is limits =
+    let start = unsaid (nodes_in is.sections) in
+    let params = params_in is.sections in
+    let says : w ≡ put_all start params = is.says ∙ put_params start is.sections in
+    let nodes : w.nodes ≡ nodes_in is.sections = ap (λ (v : Written). v.nodes) says ∙ nodes_stay start params in
+    record {
+      limits = limits;
+      spells = subst (λ (v : Written). Each CanSpell (said_params v)) (sym says) (all_spell start params (file_spells text is.tokens is.sections is.spelled.spelled is.file) (tt, (tt, (tt, tt))));
+      said = λ name h. ap (λ (v : Written). is_among name (said_names v)) says ∙ all_said name start params is.within.params (sym (among_firsts name (names_in is.sections)) ∙ ap (is_among name) (sym nodes) ∙ h);
+      some = is.some;
+    }
+
+-- ---- what the canonical text says
 
 -- the nodes in byte order
 abbrev sorted : Written → List (List ℕ)
@@ -57,30 +184,22 @@ names_from before (row ∷ rows) group =
     let later : map (name_at all) next ≡ named_in (row_names rows) group =
     sym (λ i. map (name_at (append_assoc before (row ∷ []) rows i)) (numbers_from (further i) rows group)) ∙ names_from (before ++ row ∷ []) rows group in
     let here = row_here before rows row in
-    elim (is_among row.name group) as (λ b. map (name_at all) (cond b (length before ∷ next) next) ≡ cond b (row.name ∷ named_in (row_names rows) group) (named_in (row_names rows) group)) [
-      | true ↦ λ i. here i ∷ later i
-      | false ↦ later
-    ]
+    cond_both (is_among row.name group) (length before ∷ next) next (λ ns. map (name_at all) ns ≡ named_in (row_names (row ∷ rows)) group) (λ has. rw has (λ i. here i ∷ later i)) (λ lacks. rw lacks later)
 
 groups_named : (w : Written) (groups : List (List (List ℕ))) → map (map (name_at (numbered_nodes w))) (map (numbers_from 0 (numbered_nodes w)) groups) ≡ map (named_in (sorted w)) groups
-groups_named w [] = refl
-groups_named w (group ∷ groups) =
-    let one = names_from [] (numbered_nodes w) group ∙ ap (λ names. named_in names group) (names_numbered w) in
-    λ i. one i ∷ groups_named w groups i
+groups_named w groups =
+    let one : (group : List (List ℕ)) → map (name_at (numbered_nodes w)) (numbers_from 0 (numbered_nodes w) group) ≡ named_in (sorted w) group = λ group. names_from [] (numbered_nodes w) group ∙ ap (λ names. named_in names group) (names_numbered w) in
+    map-map (map (name_at (numbered_nodes w))) (numbers_from 0 (numbered_nodes w)) groups ∙ (λ i. map (λ group. one group i) groups)
 
 apps_named : (w : Written) (apps : List App) → map (written_app (numbered_nodes w)) (map (numbered_app w.permissions (numbered_nodes w)) apps) ≡ map (app_again w) apps
-apps_named w [] = refl
-apps_named w (app ∷ apps) = λ i. record { name = app.name; timeout = app.timeout; groups = groups_named w app.groups i } ∷ apps_named w apps i
+apps_named w apps =
+    map-map (written_app (numbered_nodes w)) (numbered_app w.permissions (numbered_nodes w)) apps ∙ (λ i. map (λ (app : App). record { name = app.name; timeout = app.timeout; groups = groups_named w app.groups i }) apps)
 
 names_kept : (w : Written) (p : NodeRow → Bool) (names : List (List ℕ)) → row_names (filter p (map (numbered_node w) names)) ≡ filter (λ name. p (numbered_node w name)) names
 names_kept w p [] = refl
 names_kept w p (name ∷ names) =
-    let rows = filter p (map (numbered_node w) names) in
-    let later = names_kept w p names in
-    elim (p (numbered_node w name)) as (λ b. row_names (cond b (numbered_node w name ∷ rows) rows) ≡ cond b (name ∷ filter (λ n. p (numbered_node w n)) names) (filter (λ n. p (numbered_node w n)) names)) [
-      | true ↦ λ i. name ∷ later i
-      | false ↦ later
-    ]
+    let rows = filter p (map (numbered_node w) names) in let later = names_kept w p names in
+    cond_both (p (numbered_node w name)) (numbered_node w name ∷ rows) rows (λ rs. row_names rs ≡ filter (λ n. p (numbered_node w n)) (name ∷ names)) (λ has. rw has (λ i. name ∷ later i)) (λ lacks. rw lacks later)
 
 params_named : (w : Written) → params_of (numbered w) ≡ params_again w
 params_named w =
@@ -197,15 +316,11 @@ module _ (w : Written) (know : Known w) where
     λ name h. (and_parts (is_among name group) (is_among name (sorted w)) (sym (among_named (sorted w) group name) ∙ h)).0,
   )
 
-  names_stay : (apps : List App) → map (λ app. app.name) (map (app_again w) apps) ≡ map (λ app. app.name) apps
-  names_stay [] = refl
-  names_stay (app ∷ apps) = ap (λ names. app.name ∷ names) (names_stay apps)
-
   apps_within : AreAppsWithin (map (app_again w) w.apps)
   apps_within = record {
     few = omega (arith, know.limits.apps.few, length-map w.apps (app_again w));
     short = All-map (λ app. length app.name ≤ 255) (app_again w) w.apps know.limits.apps.short;
-    different = subst Differ (sym (names_stay w.apps)) know.limits.apps.different;
+    different = subst Differ (sym (map-map (λ (app : App). app.name) (app_again w) w.apps)) know.limits.apps.different;
     once = All-map (λ app. Differ (names_of_app app)) (app_again w) w.apps
         (All-weaker (λ app. Differ (names_of_app app)) (λ app. Differ (names_of_app (app_again w app))) (λ app differ. (differ_joined (named_in (sorted w)) fits app.groups differ).0) w.apps know.limits.apps.once);
   }

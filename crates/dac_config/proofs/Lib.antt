@@ -1,15 +1,6 @@
 pub mod Names
 pub mod Tables
-pub mod Copies
 pub mod Numbers
-pub mod Apps
-pub mod Numberable
-pub mod Rising
-pub mod SaysLemmas
-pub mod Faults
 pub mod Gaining
-pub mod Words
 pub mod Writes
-pub mod Quotable
-pub mod Said
 pub mod Again

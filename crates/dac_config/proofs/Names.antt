@@ -1,14 +1,13 @@
 -- Lists of names, by their bytes: what is among them, which of them a group has, and how many differ.
-use Rattle.std.proofs.Common.{◌≡◌, ℕ, ◌≤◌, Bool, true, false, cond, ◌||◌, ◌&&◌, List, [], ◌∷◌, ◌++◌, length, map, fold, filter, All, ⊎_elim, refl, sym, ap, ◌∙◌}
-use Rattle.std.specs.Borrow.{Bor}
+use Rattle.std.proofs.Common.{◌≡◌, ℕ, ◌≤◌, Bool, true, false, cond, ◌||◌, ◌&&◌, List, [], ◌∷◌, ◌++◌, length, map, fold, filter, All, Bor, bytes_eq, ⊎_elim, refl, sym, ap, subst, ◌∙◌, arith, append_assoc}
 use Rattle.std.specs.Cmp.{IsEquivalence}
 use Rattle.std.specs.Cmp.Lexicographic.{same_text}
-use Rattle.std.specs.List.{list_any, IsDistinct, AllByRecursion}
-use Rattle.std.specs.Str.{bytes_eq}
+use Rattle.std.specs.List.{list_any, IsDistinct, AllZip, AllByRecursion as Each}
 use Rattle.std.proofs.Math.Bool.{or-true, or-false, or_assoc}
-use Rattle.std.proofs.lemmas.Bool.{both_ways, false_from_ne_true, or_cases, or_parts, or_left, or_right}
+use Rattle.std.proofs.lemmas.Bool.{both_ways, cond_both, false_from_ne_true, or_cases, or_parts, or_left, or_right}
 use Rattle.std.proofs.lemmas.Cmp.{nat_list_eq_equiv}
-use Rattle.std.proofs.lemmas.List.Elements.{All-contains, All-nil, All-cons, All-head, All-tail, All-append}
+use Rattle.std.proofs.lemmas.List.{length-map, get_or-map}
+use Rattle.std.proofs.lemmas.List.Elements.{All-contains, All-nil, All-cons, All-head, All-tail, All-append, All-from_recursion, recursion_from_All}
 use Rattle.std.proofs.lemmas.List.Folds.{list_any-append}
 use Rattle.std.proofs.lemmas.Map.Keys.{IsDistinct-push}
 use Rattle.std.proofs.lemmas.Map.Made.{length-le_from_is_member}
@@ -16,18 +15,13 @@ use Rattle.std.proofs.lemmas.Map.Views.{Contains-from_any, All-from_any, any-fil
 use Rattle.dac_shapes.specs.Limits.{is_among, with_name}
 use Rattle.dac_shapes.specs.Views.{names_of}
 use Rattle.dac_shapes.specs.Within.{joined, firsts}
+use Rattle.dac_config.specs.Numbering.{AllNew}
 
 pub among_names : (name : List ℕ) (names : List (Bor (List ℕ))) → is_among name (names_of names) ≡ list_any (λ other. bytes_eq other.now name) names
 among_names name [] = refl
 among_names name (n ∷ ns) = ap (λ b. bytes_eq n.now name || b) (among_names name ns)
 
 -- ---- the same name
-
-pub itself : (name : List ℕ) → bytes_eq name name ≡ true
-itself name = nat_list_eq_equiv.refl name
-
-pub bytes_eq_sym : (xs ys : List ℕ) → bytes_eq xs ys ≡ bytes_eq ys xs
-bytes_eq_sym xs ys = nat_list_eq_equiv.symm xs ys
 
 pub same_name : (a b : List ℕ) → bytes_eq a b ≡ true → a ≡ b
 same_name a b h = same_text a b (sym h)
@@ -37,7 +31,7 @@ abbrev pub is_name : List ℕ → List ℕ → Bool
 is_name name other = bytes_eq other name
 
 names_equal : IsEquivalence is_name
-names_equal = record { refl = itself; symm = λ x y. bytes_eq_sym y x; congr = λ x y z h. ap (bytes_eq z) (sym (same_name y x h)) }
+names_equal = record { refl = nat_list_eq_equiv.refl; symm = λ x y. nat_list_eq_equiv.symm y x; congr = λ x y z h. ap (bytes_eq z) (sym (same_name y x h)) }
 
 -- ---- names among others
 
@@ -46,7 +40,7 @@ abbrev pub Within : List (List ℕ) → List (List ℕ) → Type 0
 Within names others = (name : List ℕ) → is_among name names ≡ true → is_among name others ≡ true
 
 pub first_among : (name : List ℕ) (names : List (List ℕ)) → is_among name (name ∷ names) ≡ true
-first_among name names = or_left (bytes_eq name name) (is_among name names) (itself name)
+first_among name names = or_left (bytes_eq name name) (is_among name names) (nat_list_eq_equiv.refl name)
 
 pub later_among : (name other : List ℕ) (names : List (List ℕ)) → is_among name names ≡ true → is_among name (other ∷ names) ≡ true
 later_among name other names h = or_right (bytes_eq other name) (is_among name names) h
@@ -71,11 +65,12 @@ among_named names group name = any-filter_same (λ other. bytes_eq other name) (
 
 -- ---- lists one after another
 
+pub each_parts : {X : Type 0} (P : X → Type 0) (xs ys : List X) → Each P (xs ++ ys) → Each P xs × Each P ys
+each_parts P [] ys each = (tt, each)
+each_parts P (x ∷ xs) ys each = let parts = each_parts P xs ys each.1 in ((each.0, parts.0), parts.1)
+
 pub all_parts : {X : Type 0} (P : X → Type 0) (xs ys : List X) → All P (xs ++ ys) → All P xs × All P ys
-all_parts P [] ys all = (All-nil P, all)
-all_parts P (x ∷ xs) ys all =
-    let parts = all_parts P xs ys (All-tail P x (xs ++ ys) all) in
-    (All-cons P x xs (All-head P x (xs ++ ys) all) parts.0, parts.1)
+all_parts P xs ys all = let parts = each_parts P xs ys (recursion_from_All P (xs ++ ys) all) in (All-from_recursion P xs parts.0, All-from_recursion P ys parts.1)
 
 pub all_joined : {X : Type 0} (P : X → Type 0) (lists : List (List X)) → All (All P) lists → All P (joined lists)
 all_joined P [] all = All-nil P
@@ -86,8 +81,14 @@ joined_all P [] all = All-nil (All P)
 joined_all P (xs ∷ lists) all = let parts = all_parts P xs (joined lists) all in All-cons (All P) xs lists parts.0 (joined_all P lists parts.1)
 
 pub all_mapped : {X Y : Type 0} (P : Y → Type 0) (f : X → Y) (xs : List X) → All P (map f xs) → All (λ x. P (f x)) xs
-all_mapped P f [] all = All-nil (λ x. P (f x))
-all_mapped P f (x ∷ xs) all = All-cons (λ x. P (f x)) x xs (All-head P (f x) (map f xs) all) (all_mapped P f xs (All-tail P (f x) (map f xs) all))
+all_mapped P f xs all = λ k d h. subst P (get_or-map f xs k d (f d) h) (all k (f d) (omega (arith, h, length-map xs f)))
+
+-- lists that agree place by place in what is seen of them
+pub maps_from_zip : {A B C : Type 0} (R : A → B → Type 0) (f : A → C) (g : B → C) → ((a : A) (b : B) → R a b → g b ≡ f a) → (xs : List A) (ys : List B) → AllZip R xs ys → map g ys ≡ map f xs
+maps_from_zip R f g same [] [] zip = refl
+maps_from_zip R f g same [] (y ∷ ys) zip = absurd zip
+maps_from_zip R f g same (x ∷ xs) [] zip = absurd zip
+maps_from_zip R f g same (x ∷ xs) (y ∷ ys) zip = λ i. same x y zip.0 i ∷ maps_from_zip R f g same xs ys zip.1 i
 
 -- ---- the different names
 
@@ -96,11 +97,8 @@ among_known name other names known true same = ap (λ n. is_among n names) (sym 
 among_known name other names known false same = sym (or-false (is_among name names))
 
 among_with : (name other : List ℕ) (names : List (List ℕ)) → is_among name (with_name names other) ≡ (is_among name names || bytes_eq other name)
-among_with name other names = by (is_among other names) refl
-  where
-    by : (b : Bool) → is_among other names ≡ b → is_among name (cond b names (names ++ other ∷ [])) ≡ (is_among name names || bytes_eq other name)
-    by true known = among_known name other names known (bytes_eq other name) refl
-    by false new = among_append name names (other ∷ []) ∙ ap (λ b. is_among name names || b) (or-false (bytes_eq other name))
+among_with name other names = cond_both (is_among other names) names (names ++ other ∷ []) (λ ns. is_among name ns ≡ (is_among name names || bytes_eq other name))
+    (λ known. among_known name other names known (bytes_eq other name) refl) (λ new. among_append name names (other ∷ []) ∙ ap (λ b. is_among name names || b) (or-false (bytes_eq other name)))
 
 among_all_firsts : (name : List ℕ) (met names : List (List ℕ)) → is_among name (fold with_name met names) ≡ (is_among name met || is_among name names)
 among_all_firsts name met [] = sym (or-false (is_among name met))
@@ -112,19 +110,12 @@ among_firsts name names = among_all_firsts name [] names
 
 firsts_differ : (met names : List (List ℕ)) → IsDistinct is_name met → IsDistinct is_name (fold with_name met names)
 firsts_differ met [] differ = differ
-firsts_differ met (n ∷ names) differ = firsts_differ (with_name met n) names (by (is_among n met) refl)
-  where
-    by : (b : Bool) → is_among n met ≡ b → IsDistinct is_name (cond b met (met ++ n ∷ []))
-    by true known = differ
-    by false new = IsDistinct-push names_equal met n differ new
-
-none_differ : IsDistinct is_name []
-unfolding IsDistinct
-none_differ = tt
+firsts_differ met (n ∷ names) differ = firsts_differ (with_name met n) names (cond_both (is_among n met) met (met ++ n ∷ []) (IsDistinct is_name) (λ known. differ) (λ new. IsDistinct-push names_equal met n differ new))
 
 -- names that are all among others have no more different ones
 pub few_firsts : (names others : List (List ℕ)) → Within names others → length (firsts names) ≤ length others
-few_firsts names others within = length-le_from_is_member names_equal (firsts names) others (firsts_differ [] names none_differ) (λ name h. within name (sym (among_firsts name names) ∙ h))
+unfolding IsDistinct
+few_firsts names others within = length-le_from_is_member names_equal (firsts names) others (firsts_differ [] names tt) (λ name h. within name (sym (among_firsts name names) ∙ h))
 
 -- ---- names that differ
 
@@ -135,22 +126,21 @@ Differ names = IsDistinct bytes_eq names
 abbrev pub Apart : List (List ℕ) → List (List ℕ) → Type 0
 Apart names others = (name : List ℕ) → is_among name names ≡ true → is_among name others ≡ false
 
-absent : (name : List ℕ) (xs ys : List (List ℕ)) → AllByRecursion (λ y. bytes_eq name y ≡ false) (xs ++ ys) → is_among name ys ≡ false
-absent name (x ∷ xs) ys h = absent name xs ys h.1
-absent name [] [] h = refl
-absent name [] (y ∷ ys) h = ap (λ b. b || is_among name ys) (bytes_eq_sym y name ∙ h.0) ∙ absent name [] ys h.1
+absent : (name : List ℕ) (names : List (List ℕ)) → Each (λ other. bytes_eq name other ≡ false) names → is_among name names ≡ false
+absent name [] off = refl
+absent name (other ∷ names) off = ap (λ b. b || is_among name names) (nat_list_eq_equiv.symm other name ∙ off.0) ∙ absent name names off.1
 
 pub differ_parts : (xs ys : List (List ℕ)) → Differ (xs ++ ys) → Differ ys × Apart xs ys
 unfolding IsDistinct
 differ_parts [] ys h = (h, λ name e. absurd cc)
 differ_parts (x ∷ xs) ys h =
-    let parts = differ_parts xs ys h.1 in
-    (parts.0, λ name e. ⊎_elim (λ same. ap (λ n. is_among n ys) (sym (same_name x name same)) ∙ absent x xs ys h.0) (parts.1 name) (or_cases (bytes_eq x name) (is_among name xs) e))
+    let parts = differ_parts xs ys h.1 in let new = absent x ys (each_parts (λ y. bytes_eq x y ≡ false) xs ys h.0).1 in
+    (parts.0, λ name e. ⊎_elim (λ same. ap (λ n. is_among n ys) (sym (same_name x name same)) ∙ new) (parts.1 name) (or_cases (bytes_eq x name) (is_among name xs) e))
 
-all_differ : (name : List ℕ) (xs ys : List (List ℕ)) → AllByRecursion (λ y. bytes_eq name y ≡ false) xs → is_among name ys ≡ false → AllByRecursion (λ y. bytes_eq name y ≡ false) (xs ++ ys)
+all_differ : (name : List ℕ) (xs ys : List (List ℕ)) → Each (λ y. bytes_eq name y ≡ false) xs → is_among name ys ≡ false → Each (λ y. bytes_eq name y ≡ false) (xs ++ ys)
 all_differ name (x ∷ xs) ys h new = (h.0, all_differ name xs ys h.1 new)
 all_differ name [] [] h new = tt
-all_differ name [] (y ∷ ys) h new = let parts = or_parts (bytes_eq y name) (is_among name ys) new in (bytes_eq_sym name y ∙ parts.0, all_differ name [] ys tt parts.1)
+all_differ name [] (y ∷ ys) h new = let parts = or_parts (bytes_eq y name) (is_among name ys) new in (nat_list_eq_equiv.symm name y ∙ parts.0, all_differ name [] ys tt parts.1)
 
 differ_append : (xs ys : List (List ℕ)) → Differ xs → Differ ys → Apart xs ys → Differ (xs ++ ys)
 unfolding IsDistinct
@@ -169,3 +159,11 @@ differ_joined f fits (names ∷ lists) h =
           ∙ ⊎_elim (λ k. or_left (is_among name names) (is_among name (joined lists)) ((fits names).1 name k)) (λ k. or_right (is_among name names) (is_among name (joined lists)) (later.1 name k))
           (or_cases (is_among name (f names)) (is_among name rest) (sym (among_append name (f names) rest) ∙ e)),
     )
+
+-- names that differ are each new
+pub all_new : (before names : List (List ℕ)) → Differ (before ++ names) → AllNew before names
+all_new before [] differ = tt
+all_new before (name ∷ names) differ = (
+  false_from_ne_true (is_among name before) (λ e. both_ways (is_among name (name ∷ names)) ((differ_parts before (name ∷ names) differ).1 name e) (first_among name names)),
+  all_new (before ++ name ∷ []) names (subst Differ (sym (append_assoc before (name ∷ []) names)) differ),
+)

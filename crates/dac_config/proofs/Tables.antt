@@ -1,94 +1,83 @@
--- What the tables that are kept say at a number and of a name.
-use Rattle.std.proofs.Common.{◌≡◌, ℕ, ◌+◌, ◌<◌, ◌≤◌, drop, Bool, true, false, cond, eqb, not, List, [], ◌∷◌, length, map, Option, Some, None, option_map, slice_get, refl, sym, ap, subst, ◌∙◌, arith}
-use Rattle.std.specs.Prelude.{position, filter, unwrap_or, All}
+-- A configuration as it is kept: what its tables say at a number and of a name, how they are made, and their copies.
+use Rattle.std.proofs.Common.{◌≡◌, ℕ, ◌+◌, ◌<◌, ◌≤◌, drop, get_or, Bool, true, false, cond, eqb, not, List, [], ◌∷◌, ◌++◌, length, map, All, Bor, bytes_eq, position, Option, Some, None, option_map, slice_get, refl, sym, ap, subst, ◌∙◌, arith, append_assoc}
 use Rattle.std.specs.Global.{Vec}
-use Rattle.std.specs.List.{prefix_len, list_any}
-use Rattle.std.specs.Map.{keys_of, values_of}
-use Rattle.std.specs.Str.{bytes_eq}
-use Rattle.std.proofs.lemmas.List.{drop_more, length-map}
+use Rattle.std.specs.List.{prefix_len, list_any, AllZip, each_same}
+use Rattle.std.specs.Map.{keys_of, values_of, lookup}
+use Rattle.std.specs.Map.Iter.{deref_pair}
+use Rattle.std.specs.Vec.{vec_len}
+use Rattle.std.proofs.lemmas.Bool.{or_parts}
+use Rattle.std.proofs.lemmas.Cmp.{nat_list_eq_equiv}
+use Rattle.std.proofs.lemmas.List.{drop_more, length-map, map_push}
 use Rattle.std.proofs.lemmas.List.Elements.{All-weaker}
 use Rattle.std.proofs.lemmas.Option.{slice_get-map, slice_get_within, get_or_from_slice_get}
+use Rattle.indexmap.specs.IndexMap.{IndexMap, insert_entry}
+use Rattle.indexmap.proofs.CallerLemmas.{insert_entry-new}
 use Rattle.dac_base.specs.declared.NodeId.{NodeId}
 use Rattle.dac_base.specs.declared.AppId.{AppId}
+use Rattle.dac_shapes.specs.declared.draft.DraftApp.{DraftApp}
+use Rattle.dac_shapes.specs.Written.{Permission, Written}
+use Rattle.dac_shapes.specs.Limits.{is_among}
+use Rattle.dac_shapes.specs.Views.{app_of, apps_of}
 use Rattle.dac_config.specs.declared.config.App.{App}
 use Rattle.dac_config.specs.declared.config.Node.{Node}
 use Rattle.dac_config.specs.declared.config.Config.TheInside.{Inside}
-use Rattle.dac_config.specs.Table.{AppRow, app_name, node_named, app_named, group_of, timeout_of, default_permission}
+use Rattle.dac_config.specs.Table.{NodeRow, AppRow, Table, node_named, app_named, group_of}
 use Rattle.dac_config.specs.Says.{IsTable}
 use Rattle.dac_config.specs.ConfigView.{node_row, app_row, table_of, HasMembersBelow}
-use Rattle.dac_config.proofs.Names.{all_mapped}
+use Rattle.dac_config.specs.Numbering.{numbered_app, AllNew}
+use Rattle.dac_config.proofs.Names.{all_mapped, maps_from_zip}
 
 prefix_len-map : {A B : Type 0} (f : A → B) (p : B → Bool) (xs : List A) → prefix_len p (map f xs) ≡ prefix_len (λ x. p (f x)) xs
 prefix_len-map f p [] = refl
 prefix_len-map f p (x ∷ xs) = ap (λ n. cond (p (f x)) (1 + n) 0) (prefix_len-map f p xs)
 
 -- the place in a mapped list
-pub position-map : {A B : Type 0} (f : A → B) (p : B → Bool) (xs : List A) → position p (map f xs) ≡ position (λ x. p (f x)) xs
+position-map : {A B : Type 0} (f : A → B) (p : B → Bool) (xs : List A) → position p (map f xs) ≡ position (λ x. p (f x)) xs
 position-map f p xs = rw (prefix_len-map f (λ x. not (p x)) xs, length-map xs f) refl
 
 -- what is true of all is true of the one at a place
-pub all_at : {X : Type 0} (P : X → Type 0) (xs : List X) (i : ℕ) (x : X) → All P xs → slice_get xs i ≡ Some x → P x
+all_at : {X : Type 0} (P : X → Type 0) (xs : List X) (i : ℕ) (x : X) → All P xs → slice_get xs i ≡ Some x → P x
 all_at P xs i x all e = subst P (get_or_from_slice_get xs i x x e) (all i x (slice_get_within xs i x e))
 
--- the node with a name
-pub node_named-kept : (name : List ℕ) (c : Inside) → node_named (table_of c) name ≡ option_map (λ place. record { 0 = place }) (position (λ node. bytes_eq name node.name.items) c.nodes.items)
-node_named-kept name c = ap (option_map (λ place. record { 0 = place })) (position-map node_row (λ row. bytes_eq name row.name) c.nodes.items)
+-- ---- what is kept, in the words of the table
 
--- the application with a name
-pub app_named-kept : (name : List ℕ) (c : Inside) → app_named (table_of c) name ≡ option_map (λ place. record { 0 = place }) (position (λ key. bytes_eq name key.items) (keys_of c.apps.entries))
-app_named-kept name c =
-    ap (option_map (λ place. record { 0 = place }))
-    (position-map app_row (λ row. bytes_eq name row.name) c.apps.entries
-    ∙ sym (position-map (λ entry. entry.0) (λ key. bytes_eq name key.items) c.apps.entries))
-
--- the name of the application at a place
-pub app_name-kept : (c : Inside) (id : AppId) (entry : Vec ℕ × App) → slice_get c.apps.entries id.0 ≡ Some entry → app_name (table_of c) id ≡ entry.0.items
-app_name-kept c id entry e = ap (λ (row : Option AppRow). unwrap_or (option_map (λ r. r.name) row) []) (slice_get-map app_row c.apps.entries id.0 ∙ ap (option_map app_row) e)
-
--- the row of an application, from what the map has at its place
-pub row_at : (es : List (Vec ℕ × App)) (i : ℕ) (app : App) → slice_get (values_of es) i ≡ Some app → (name : Vec ℕ) × (slice_get (map app_row es) i ≡ Some (app_row (name, app)))
-row_at es i app e = rw (slice_get-map app_row es i) (by (slice_get es i) (sym (slice_get-map (λ x. x.1) es i) ∙ e))
+-- an application, from what the map has at its place
+pub app_kept : (c : Inside) (table : Table) → table_of c ≡ table → (i : ℕ) (app : App) → slice_get (values_of c.apps.entries) i ≡ Some app → (name : Vec ℕ) × (slice_get table.apps i ≡ Some (app_row (name, app)))
+app_kept c table is i app e =
+    subst (λ (t : Table). (name : Vec ℕ) × (slice_get t.apps i ≡ Some (app_row (name, app)))) is (rw (slice_get-map app_row c.apps.entries i) (by (slice_get c.apps.entries i) (sym (slice_get-map (λ x. x.1) c.apps.entries i) ∙ e)))
   where
     by : (o : Option (Vec ℕ × App)) → option_map (λ x. x.1) o ≡ Some app → (name : Vec ℕ) × (option_map app_row o ≡ Some (app_row (name, app)))
     by None h = absurd cc
     by (Some x) h = let k : x.1 ≡ app = cc in (x.0, ap (λ (a : App). Some (app_row (x.0, a))) k)
 
--- the wait of the application at a place
-pub timeout_of-kept : (c : Inside) (id : AppId) (app : App) → slice_get (values_of c.apps.entries) id.0 ≡ Some app → timeout_of (table_of c) id ≡ app.timeout
-timeout_of-kept c id app e =
-    let row = row_at c.apps.entries id.0 app e in
-    rw row.1 refl
+-- the node, the application and the group at a place that was found
+pub node_found : (c : Inside) (table : Table) → table_of c ≡ table → (name : List ℕ) (nodes : List Node) (at : Option ℕ) → at ≡ position (λ node. bytes_eq name node.name.items) nodes → nodes ≡ c.nodes.items
+    → node_named table name ≡ option_map (λ place. record { 0 = place }) at
+node_found c table is name nodes at place kept =
+    ap (λ (t : Table). node_named t name) (sym is)
+    ∙ ap (option_map (λ place. record { 0 = place })) (position-map node_row (λ row. bytes_eq name row.name) c.nodes.items ∙ sym (place ∙ ap (position (λ (node : Node). bytes_eq name node.name.items)) kept))
 
--- whether the application at a place is permitted where no one has said
-pub default_permission-kept : (c : Inside) (id : AppId) (app : App) → slice_get (values_of c.apps.entries) id.0 ≡ Some app → default_permission (table_of c) id ≡ app.permission
-default_permission-kept c id app e =
-    let row = row_at c.apps.entries id.0 app e in
-    rw row.1 refl
+pub app_found : (c : Inside) (table : Table) → table_of c ≡ table → (name : List ℕ) (at : Option ℕ) → at ≡ position (λ key. bytes_eq name key.items) (keys_of c.apps.entries) → app_named table name ≡ option_map (λ place. record { 0 = place }) at
+app_found c table is name at place =
+    ap (λ (t : Table). app_named t name) (sym is)
+    ∙ ap (option_map (λ place. record { 0 = place })) (position-map app_row (λ row. bytes_eq name row.name) c.apps.entries ∙ sym (place ∙ position-map (λ entry. entry.0) (λ key. bytes_eq name key.items) c.apps.entries))
 
--- the group of a node in the list of the application at a place
-pub group_of-kept : (c : Inside) (id : AppId) (node : NodeId) (app : App) → slice_get (values_of c.apps.entries) id.0 ≡ Some app
-    → group_of (table_of c) id node ≡ position (λ group. list_any (λ other. eqb other node.0) group.items) app.groups.items
-group_of-kept c id node app e =
-    let row = row_at c.apps.entries id.0 app e in
-    rw row.1 (position-map (λ group. group.items) (λ group. list_any (λ other. eqb other node.0) group) app.groups.items)
+pub group_found : (c : Inside) (table : Table) → table_of c ≡ table → (id : AppId) (node : NodeId) (app : App) → slice_get (values_of c.apps.entries) id.0 ≡ Some app → (groups : List (Vec ℕ)) (at : Option ℕ)
+    → at ≡ position (λ group. list_any (λ other. eqb other node.0) group.items) groups → groups ≡ app.groups.items → at ≡ group_of table id node
+group_found c table is id node app e groups at place kept =
+    rw (app_kept c table is id.0 app e).1 (place ∙ ap (position (λ (group : Vec ℕ). list_any (λ other. eqb other node.0) group.items)) kept ∙ sym (position-map (λ group. group.items) (λ group. list_any (λ other. eqb other node.0) group) app.groups.items))
 
 -- no application has many groups
 pub few_groups : (c : Inside) (i : ℕ) (app : App) → All (λ row. length row.groups ≤ 16) (table_of c).apps → slice_get (values_of c.apps.entries) i ≡ Some app → length app.groups.items ≤ 16
 few_groups c i app small e =
-    let row = row_at c.apps.entries i app e in
-    let few : length (map (λ group. group.items) app.groups.items) ≤ 16 = all_at (λ (r : AppRow). length r.groups ≤ 16) (map app_row c.apps.entries) i (app_row (row.0, app)) small row.1 in
-    omega (arith, few, length-map app.groups.items (λ group. group.items))
+    let row = app_kept c (table_of c) refl i app e in
+    omega (arith, length-map app.groups.items (λ group. group.items), all_at (λ (r : AppRow). length r.groups ≤ 16) (map app_row c.apps.entries) i (app_row (row.0, app)) small row.1)
 
--- what is left of a list from the place of an element
-pub left_from : {X : Type 0} (xs : List X) (i : ℕ) (x : X) → slice_get xs i ≡ Some x → drop i xs ≡ x ∷ drop (i + 1) xs
-left_from xs i x e = drop_more xs i x (slice_get_within xs i x e) ∙ ap (λ y. y ∷ drop (i + 1) xs) (get_or_from_slice_get xs i x x e)
-
--- an element that doesn't pass is left out, and one that passes stays
-pub left_out : {X : Type 0} (p : X → Bool) (x : X) (xs : List X) → p x ≡ false → filter p (x ∷ xs) ≡ filter p xs
-left_out p x xs h = rw h refl
-
-pub stays_in : {X : Type 0} (p : X → Bool) (x : X) (xs : List X) → p x ≡ true → filter p (x ∷ xs) ≡ x ∷ filter p xs
-stays_in p x xs h = rw h refl
+-- what is left of the entries from a place whose entry the map gave
+pub left_at : (es : List (Vec ℕ × App)) (i : ℕ) (got : Option (Bor (Vec ℕ) × Bor App)) (entry : Bor (Vec ℕ) × Bor App) → option_map deref_pair got ≡ slice_get es i → got ≡ Some entry → drop i es ≡ deref_pair entry ∷ drop (i + 1) es
+left_at es i got entry is was =
+    let here : slice_get es i ≡ Some (deref_pair entry) = sym is ∙ ap (option_map deref_pair) was in
+    drop_more es i (deref_pair entry) (slice_get_within es i (deref_pair entry) here) ∙ ap (λ e. e ∷ drop (i + 1) es) (get_or_from_slice_get es i (deref_pair entry) (deref_pair entry) here)
 
 -- the groups that are kept are of nodes that are kept
 pub kept_members : (c : Inside) (nodes : List Node) → nodes ≡ c.nodes.items → IsTable (table_of c) → All (λ entry. HasMembersBelow (length nodes) entry.1) c.apps.entries
@@ -102,3 +91,76 @@ kept_members c nodes same is =
 -- the table of what is kept
 pub kept_table : (c : Inside) (nodes : List Node) → nodes ≡ c.nodes.items → record { nodes = map node_row nodes; apps = map app_row c.apps.entries; sync_wait = c.sync_wait } ≡ table_of c
 kept_table c nodes same = λ i. record { nodes = map node_row (same i); apps = map app_row c.apps.entries; sync_wait = c.sync_wait }
+
+-- ---- what is seen of a copy is what is seen of the original
+
+-- what a copy of bytes, of a node and of an application is
+abbrev IsBytesCopy : Vec ℕ → Vec ℕ → Type 0
+IsBytesCopy x y = AllZip (λ a b. b ≡ a) x.items y.items × (vec_len y ≡ vec_len x)
+
+abbrev IsNodeCopy : Node → Node → Type 0
+IsNodeCopy x y = IsBytesCopy x.name y.name × ((y.mandatory ≡ x.mandatory) × (y.optional ≡ x.optional))
+
+abbrev IsAppCopy : App → App → Type 0
+IsAppCopy x y = (y.timeout ≡ x.timeout) × ((AllZip IsBytesCopy x.groups.items y.groups.items × (vec_len y.groups ≡ vec_len x.groups)) × (y.permission ≡ x.permission))
+
+abbrev IsEntryCopy : Vec ℕ × App → Vec ℕ × App → Type 0
+IsEntryCopy x y = IsBytesCopy x.0 y.0 × IsAppCopy x.1 y.1
+
+node_copied : (x y : Node) → IsNodeCopy x y → node_row y ≡ node_row x
+node_copied x y h = λ i. record { name = each_same x.name.items y.name.items h.0.0 i; mandatory = h.1.0 i; optional = h.1.1 i }
+
+groups_copied : (x y : App) → IsAppCopy x y → map (λ group. group.items) y.groups.items ≡ map (λ group. group.items) x.groups.items
+groups_copied x y h = maps_from_zip IsBytesCopy (λ group. group.items) (λ group. group.items) (λ a b r. each_same a.items b.items r.0) x.groups.items y.groups.items h.1.0.0
+
+entry_copied : (x y : Vec ℕ × App) → IsEntryCopy x y → app_row y ≡ app_row x
+entry_copied x y h = λ i. record { name = each_same x.0.items y.0.items h.0.0 i; timeout = h.1.0 i; groups = groups_copied x.1 y.1 h.1 i; permission = h.1.1.1 i }
+
+-- the tables of copies are equal
+pub table_copied : (c d : Inside) → AllZip IsNodeCopy c.nodes.items d.nodes.items → AllZip IsEntryCopy c.apps.entries d.apps.entries → d.sync_wait ≡ c.sync_wait → table_of d ≡ table_of c
+table_copied c d nodes apps wait = λ i. record {
+  nodes = maps_from_zip IsNodeCopy node_row node_row node_copied c.nodes.items d.nodes.items nodes i;
+  apps = maps_from_zip IsEntryCopy app_row app_row entry_copied c.apps.entries d.apps.entries apps i;
+  sync_wait = wait i;
+}
+
+-- ---- applications are put into the table one after another
+
+abbrev same_name : Vec ℕ → Vec ℕ → Bool
+same_name a b = bytes_eq a.items b.items
+
+abbrev names_in : List (Vec ℕ × App) → List (List ℕ)
+names_in es = map (λ entry. entry.0.items) es
+
+absent : (name : Vec ℕ) (es : List (Vec ℕ × App)) → is_among name.items (names_in es) ≡ false → lookup (same_name name) es ≡ None
+absent name [] h = refl
+absent name (e ∷ es) h = let parts = or_parts (bytes_eq e.0.items name.items) (is_among name.items (names_in es)) h in rw (nat_list_eq_equiv.symm name.items e.0.items, parts.0) (absent name es parts.1)
+
+module _ {S : Type 0} (permissions : List Permission) (nodes : List NodeRow) (m : IndexMap (Vec ℕ) App S) (name : Vec ℕ) (app : App) (apps : List DraftApp) (i : ℕ) (item : DraftApp) (here : item ≡ get_or apps i item) (within : i < length apps)
+    (row : app_row (name, app) ≡ numbered_app permissions nodes (app_of item))
+    (once : AllNew (names_in m.entries) (map (λ a. a.name) (apps_of (drop i apps)))) where
+  left : drop i apps ≡ item ∷ drop (i + 1) apps
+  left = drop_more apps i item within ∙ ap (λ (x : DraftApp). x ∷ drop (i + 1) apps) (sym here)
+
+  same_names : name.items ≡ item.name.now
+  same_names = ap (λ (r : AppRow). r.name) row
+
+  next : AllNew (names_in m.entries) (item.name.now ∷ map (λ a. a.name) (apps_of (drop (i + 1) apps)))
+  next = subst (λ (rest : List DraftApp). AllNew (names_in m.entries) (map (λ a. a.name) (apps_of rest))) left once
+
+  -- a new application goes last
+  goes_last : insert_entry same_name m.entries name app ≡ m.entries ++ (name, app) ∷ []
+  goes_last = insert_entry-new same_name m name app (absent name m.entries (ap (λ n. is_among n (names_in m.entries)) same_names ∙ next.0))
+
+  pub more_rows : (new : List (Vec ℕ × App)) (total : List AppRow) → new ≡ insert_entry same_name m.entries name app → map app_row m.entries ++ map (numbered_app permissions nodes) (apps_of (drop i apps)) ≡ total
+      → map app_row new ++ map (numbered_app permissions nodes) (apps_of (drop (i + 1) apps)) ≡ total
+  more_rows new total is rows =
+      ap (λ l. map app_row l ++ map (numbered_app permissions nodes) (apps_of (drop (i + 1) apps))) (is ∙ goes_last)
+      ∙ ap (λ l. l ++ map (numbered_app permissions nodes) (apps_of (drop (i + 1) apps))) (map_push app_row m.entries (name, app) ∙ ap (λ r. map app_row m.entries ++ r ∷ []) row)
+      ∙ append_assoc (map app_row m.entries) (numbered_app permissions nodes (app_of item) ∷ []) (map (numbered_app permissions nodes) (apps_of (drop (i + 1) apps)))
+      ∙ sym (ap (λ (rest : List DraftApp). map app_row m.entries ++ map (numbered_app permissions nodes) (apps_of rest)) left) ∙ rows
+
+  pub still_once : (new : List (Vec ℕ × App)) → new ≡ insert_entry same_name m.entries name app → AllNew (names_in new) (map (λ a. a.name) (apps_of (drop (i + 1) apps)))
+  still_once new is =
+      subst (λ (names : List (List ℕ)). AllNew names (map (λ a. a.name) (apps_of (drop (i + 1) apps))))
+      (sym (ap names_in (is ∙ goes_last) ∙ map_push (λ entry. entry.0.items) m.entries (name, app) ∙ ap (λ n. names_in m.entries ++ n ∷ []) same_names)) next.1

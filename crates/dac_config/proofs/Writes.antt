@@ -1,23 +1,159 @@
--- The canonical text is written by words of the grammar, which can stand one after another.
-use Rattle.std.proofs.Common.{◌≡◌, inl, inr, ℕ, ◌+◌, ◌-◌, ◌*◌, ◌/◌, ◌%◌, ◌<◌, ◌≤◌, false, List, [], ◌∷◌, ◌++◌, length, map, refl, sym, ap, subst, ◌∙◌, arith, append_assoc, append-nil, not, option_map, slice_get}
-use Rattle.std.specs.Prelude.{All, codes, filter, unwrap_or}
-use Rattle.std.specs.Fmt.{decimal}
-use Rattle.std.specs.List.{AllByRecursion as Each}
-use Rattle.std.specs.Char.{IsAsciiDigit}
+-- The canonical text is written by words of the grammar, which can stand one after another; and what a text says can be
+-- spelled by such words.
+use Rattle.std.proofs.Common.{◌≡◌, ◌⊎◌, inl, inr, ℕ, ◌+◌, ◌-◌, ◌*◌, ◌/◌, ◌%◌, ◌<◌, ◌≤◌, Bool, true, false, cond, not, ◌&&◌, List, [], ◌∷◌, ◌++◌, length, map, filter, All, codes, decimal, unwrap_or, option_map, slice_get, bytes_eq, refl, sym, ap, subst, ◌∙◌, arith, append_assoc, append-nil}
+use Rattle.std.specs.List.{list_all, AllByRecursion as Each}
+use Rattle.std.specs.Char.{IsAsciiDigit, IsAsciiLowercase}
+use Rattle.std.proofs.lemmas.Bool.{and_parts, both_ways, not-true}
+use Rattle.std.proofs.lemmas.Bool.Decides.{nat_tests}
 use Rattle.std.proofs.lemmas.Fmt.{decimal_by_steps}
-use Rattle.std.proofs.lemmas.List.Elements.{All-nil, All-cons, All-push}
 use Rattle.std.proofs.lemmas.List.{length-map}
+use Rattle.std.proofs.lemmas.List.Elements.{All-nil, All-cons, All-head, All-tail, All-push, All-append, All-from_recursion, recursion_from_All}
+use Rattle.std.proofs.lemmas.Slice.Eq.{bytes_eq-Decides}
 use Rattle.dac_tokens.specs.declared.token.Symbol.TheVariants.{OpenList, CloseList, OpenTuple, CloseTuple, Comma, FullStop}
-use Rattle.dac_tokens.specs.Words.{Word, Mark, Name, Number, Located}
-use Rattle.dac_tokens.specs.TokenGrammar.{IsQuotable, IsDigits, AreTokensOf}
+use Rattle.dac_tokens.specs.Digits.{value_from}
+use Rattle.dac_tokens.specs.Words.{Word, Mark, Name, Number, Text, End, Located}
+use Rattle.dac_tokens.specs.TokenGrammar.{Nothing, Blank, Closed, IsNameByte, Begins, IsQuotable, IsDigits, GoesOnAsNumber, IsBareAtom, bytes_of, Spells, AreSpelled, depth_behind, NestWell, AreTokensOf}
 use Rattle.dac_shapes.specs.declared.draft.SyncWait.{SyncWait}
 use Rattle.dac_shapes.specs.declared.draft.SyncWait.TheVariants.{NoSync, Forever, Ms}
-use Rattle.dac_shapes.specs.Written.{App, Permission, Param, Distributed, Permissions, Mandatory, Optional, Timeout, Kernel}
-use Rattle.dac_tokens.specs.Digits.{value_from}
-use Rattle.dac_shapes.specs.Grammar.{Parted, between, IsListOf, IsPair, IsNode, IsItem, IsMs, IsAppValue, IsApp, IsPermission, IsParam, IsFile}
+use Rattle.dac_shapes.specs.declared.param.ParamName.TheVariants as named
+use Rattle.dac_shapes.specs.Written.{App, Permission, Param, Distributed, Permissions, Mandatory, Optional, Timeout, Section, Kernel, spelled}
+use Rattle.dac_shapes.specs.Within.{params_in}
+use Rattle.dac_shapes.specs.Grammar.{Parted, between, IsListOf, IsPair, IsNode, IsItem, IsMs, IsTimeout, IsAppValue, IsApp, IsPermission, IsWait, IsParam, IsSection, IsFile}
 use Rattle.dac_config.specs.Table.{NodeRow, AppRow, Table}
-use Rattle.dac_config.specs.Canonical.{name_text, parted_behind, parted, list_text, pair_text, node_name_text, group_text, app_text, ban_text, wait_texts, param_texts, canonical_text}
-use Rattle.dac_config.proofs.Words.{BeginsApart, Stand, bare_quotable, spelled_words, located, words_located, words_read}
+use Rattle.dac_config.specs.Canonical.{is_name_byte, begins_small, is_bare, name_text, parted_behind, parted, list_text, pair_text, node_name_text, group_text, app_text, ban_text, wait_texts, param_texts, canonical_text}
+use Rattle.dac_config.proofs.Names.{each_parts}
+
+-- ---- spelling
+
+abbrev spelling_of : Word → List ℕ
+spelling_of (Mark symbol) = bytes_of symbol
+spelling_of (Name name) = name_text name
+spelling_of (Number negative digits) = digits
+spelling_of _ = []
+
+abbrev spelled_words : List Word → List ℕ
+spelled_words [] = []
+spelled_words (word ∷ words) = spelling_of word ++ spelled_words words
+
+-- each word with the number of bytes before it
+abbrev located : ℕ → List Word → List Located
+located at [] = []
+located at (word ∷ words) = record { word = word; at = at } ∷ located (at + length (spelling_of word)) words
+
+-- a mark stands first; a full stop ends the words
+abbrev BeginsApart : List Word → Type 0
+BeginsApart (Mark FullStop ∷ words) = words ≡ []
+BeginsApart (Mark _ ∷ words) = Unit {0}
+BeginsApart _ = ⊥
+
+-- a word can be spelled where these words follow
+abbrev CanStand : Word → List Word → Type 0
+CanStand (Mark FullStop) after = after ≡ []
+CanStand (Mark _) after = Unit {0}
+CanStand (Name name) after = All IsQuotable name × BeginsApart after
+CanStand (Number false digits) after = IsDigits digits × BeginsApart after
+CanStand _ after = ⊥
+
+-- each of these words can stand where it stands, so many brackets are open before them, and never more than 64
+abbrev Stand : ℕ → List Word → Type 0
+Stand depth [] = Unit {0}
+Stand depth (word ∷ words) = CanStand word words × (depth_behind depth word ≤ 64) × Stand (depth_behind depth word) words
+
+-- ---- a bare name is a bare atom
+
+small_begins : (name : List ℕ) → begins_small name ≡ true → Begins IsAsciiLowercase name
+small_begins [] h = absurd cc
+small_begins (b ∷ bs) h = grind (arith, nat_tests)
+
+a_name_byte : (b : ℕ) → is_name_byte b ≡ true → IsNameByte b
+a_name_byte b h = grind (arith, nat_tests)
+
+all_name_bytes : (name : List ℕ) → list_all is_name_byte name ≡ true → All IsNameByte name
+all_name_bytes [] h = All-nil IsNameByte
+all_name_bytes (b ∷ bs) h = let parts = and_parts (is_name_byte b) (list_all is_name_byte bs) h in All-cons IsNameByte b bs (a_name_byte b parts.0) (all_name_bytes bs parts.1)
+
+bare_atom : (name : List ℕ) → is_bare name ≡ true → IsBareAtom name
+bare_atom name h =
+    let outer = and_parts (begins_small name && not (bytes_eq name (codes "fun"))) (list_all is_name_byte name) h in
+    let inner = and_parts (begins_small name) (not (bytes_eq name (codes "fun"))) outer.0 in
+    record {
+      begins = small_begins name inner.0;
+      goes_on = all_name_bytes name outer.1;
+      no_fun = λ same. both_ways (bytes_eq name (codes "fun")) (not-true (bytes_eq name (codes "fun")) inner.1) ((bytes_eq-Decides name (codes "fun")).1 same);
+    }
+
+name_bytes_quotable : (bytes : List ℕ) → All IsNameByte bytes → All IsQuotable bytes
+name_bytes_quotable [] all = All-nil IsQuotable
+name_bytes_quotable (b ∷ bs) all = All-cons IsQuotable b bs (quotable b (All-head IsNameByte b bs all)) (name_bytes_quotable bs (All-tail IsNameByte b bs all))
+  where
+    quotable : (b : ℕ) → IsNameByte b → IsQuotable b
+    quotable b h = grind (arith, nat_tests)
+
+bare_quotable : (name : List ℕ) → is_bare name ≡ true → All IsQuotable name
+bare_quotable name h = name_bytes_quotable name (bare_atom name h).goes_on
+
+-- ---- what follows a name or a number
+
+no_name_byte : (words : List Word) → BeginsApart words → Begins IsNameByte (spelled_words words ++ codes "\n") → ⊥
+no_name_byte (Mark FullStop ∷ words) apart h = omega (arith, h)
+no_name_byte (Mark _ ∷ words) apart h = omega (arith, h)
+no_name_byte _ apart h = apart
+
+ends_behind_dot : (words : List Word) → words ≡ [] → (◌≡◌ {A = ℕ} 46 95 ⊎ (◌≡◌ {A = ℕ} 46 46 × Begins IsAsciiDigit (spelled_words words ++ codes "\n"))) → ⊥
+ends_behind_dot [] none (inl h) = omega (arith, h)
+ends_behind_dot [] none (inr h) = omega (arith, h.1)
+ends_behind_dot (word ∷ words) none h = absurd cc
+
+ends_number : (words : List Word) → BeginsApart words → GoesOnAsNumber (spelled_words words ++ codes "\n") → ⊥
+ends_number (Mark FullStop ∷ words) apart (inl h) = omega (arith, h)
+ends_number (Mark FullStop ∷ words) apart (inr (inl h)) = omega (arith, h)
+ends_number (Mark FullStop ∷ words) apart (inr (inr h)) = ends_behind_dot words apart h
+ends_number (Mark _ ∷ words) apart h = omega (arith, h)
+ends_number _ apart h = apart
+
+-- ---- each word is spelled so
+
+name_spelled : (name rest : List ℕ) → All IsQuotable name → (Begins IsNameByte rest → ⊥) → (c : Bool) → is_bare name ≡ c → Spells (Name name) (cond c name (39 ∷ (name ++ 39 ∷ []))) rest
+name_spelled name rest quotable ends true bare = inl (refl, bare_atom name bare, ends)
+name_spelled name rest quotable ends false bare = inr (refl, quotable)
+
+ends_term : (words : List Word) → words ≡ [] → Spells (Mark FullStop) (46 ∷ []) (spelled_words words ++ codes "\n")
+ends_term [] none = (refl, inr (inl (omega arith)))
+ends_term (word ∷ words) none = absurd cc
+
+word_spelled : (word : Word) (after : List Word) → CanStand word after → Spells word (spelling_of word) (spelled_words after ++ codes "\n")
+word_spelled (Mark FullStop) after h = ends_term after h
+word_spelled (Mark _) after h = refl
+word_spelled (Name name) after h = name_spelled name (spelled_words after ++ codes "\n") h.0 (no_name_byte after h.1) (is_bare name) refl
+word_spelled (Number false digits) after h = ((refl, h.0), ends_number after h.1)
+word_spelled _ after h = absurd h
+
+words_spelled : (at depth : ℕ) (words : List Word) → Stand depth words → AreSpelled at (spelled_words words ++ codes "\n") (located at words)
+words_spelled at depth [] h = Closed (Blank 10 [] (omega arith) Nothing)
+words_spelled at depth (word ∷ words) h = (
+  spelling_of word,
+  spelled_words words ++ codes "\n",
+  record {
+    gap = [];
+    parts = append_assoc (spelling_of word) (spelled_words words) (codes "\n");
+    is_gap = Nothing;
+    place = omega arith;
+    spelled = word_spelled word words h.0;
+  },
+  words_spelled (at + length (spelling_of word)) (depth_behind depth word) words h.2,
+)
+
+words_nested : (at depth : ℕ) (words : List Word) → Stand depth words → NestWell depth (located at words)
+words_nested at depth [] h = tt
+words_nested at depth (word ∷ words) h = (h.1, words_nested (at + length (spelling_of word)) (depth_behind depth word) words h.2)
+
+-- words that can stand so are the tokens of their spelling and a line feed
+words_read : (words : List Word) → Stand 0 words → AreTokensOf (spelled_words words ++ codes "\n") (located 0 words)
+words_read words h = record { spelled = words_spelled 0 0 words h; nested = words_nested 0 0 words h }
+
+words_located : (at : ℕ) (words : List Word) → map (λ (t : Located). t.word) (located at words) ≡ words
+words_located at [] = refl
+words_located at (word ∷ words) = ap (λ (ws : List Word). word ∷ ws) (words_located (at + length (spelling_of word)) words)
 
 -- ---- what can be written
 
@@ -240,3 +376,110 @@ file_written table can =
       subst (λ (t : List ℕ). AreTokensOf t (located 0 words)) text (words_read words stands),
       subst (λ (ws : List Word). IsFile ws (Kernel (params_of table) ∷ [])) (sym (words_located 0 words)) (file.words, refl, file.is),
     )
+
+-- ---- what a text says can be spelled: its names by their bytes, and its numbers below 2 ^ 32
+
+abbrev Quotes : Word → Type 0
+Quotes (Name name) = All IsQuotable name
+Quotes _ = Unit {0}
+
+word_quotes : (word : Word) (own rest : List ℕ) → Spells word own rest → Quotes word
+word_quotes (Name name) own rest (inl bare) = name_bytes_quotable name bare.1.goes_on
+word_quotes (Name name) own rest (inr quoted) = quoted.1
+word_quotes _ own rest h = tt
+
+tokens_quote : (at : ℕ) (bytes : List ℕ) (tokens : List Located) → AreSpelled at bytes tokens → Each Quotes (map (λ t. t.word) tokens)
+tokens_quote at bytes [] h = tt
+tokens_quote at bytes (t ∷ tokens) h = (word_quotes t.word h.0 h.1 h.2.spelled, tokens_quote (t.at + length h.0) h.1 tokens h.3)
+
+module _ {A : Type 0} (Is : List Word → A → Type 0) (P : A → Type 0) (one : (words : List Word) (x : A) → Each Quotes words → Is words x → P x) where
+  parted_spells : (words : List Word) (xs : List A) → Each Quotes words → Parted Is words xs → Each P xs
+  parted_spells words [] quotes h = absurd h
+  parted_spells words (x ∷ []) quotes h = (one words x quotes h, tt)
+  parted_spells words (x ∷ y ∷ ys) quotes h =
+      let parts : Each Quotes (h.0 ++ Mark Comma ∷ h.1) = subst (Each Quotes) h.2 quotes in
+      let split = each_parts Quotes h.0 (Mark Comma ∷ h.1) parts in
+      (one h.0 x split.0 h.3, parted_spells h.1 (y ∷ ys) split.1.1 h.4)
+
+  listed_spells : (words : List Word) (xs : List A) → Each Quotes words → IsListOf Is words xs → Each P xs
+  listed_spells words [] quotes h = tt
+  listed_spells words (x ∷ xs) quotes h =
+      let parts : Each Quotes (between OpenList h.0 CloseList) = subst (Each Quotes) h.1 quotes in
+      parted_spells h.0 (x ∷ xs) (each_parts Quotes h.0 (Mark CloseList ∷ []) parts.1).0 h.2
+
+some_of : {A : Type 0} (Is : List Word → A → Type 0) (words : List Word) (xs : List A) → Parted Is words xs → 0 < length xs
+some_of Is words [] h = absurd h
+some_of Is words (x ∷ xs) h = omega arith
+
+-- of a pair, its name and the words of its value
+pair_spells : (name : List ℕ) (IsValue : List Word → Type 0) (words : List Word) → Each Quotes words → (h : IsPair name IsValue words) → All IsQuotable name × Each Quotes h.0
+pair_spells name IsValue words quotes h =
+    let parts : Each Quotes (Mark OpenTuple ∷ Name name ∷ Mark Comma ∷ (h.0 ++ Mark CloseTuple ∷ [])) = subst (Each Quotes) h.1 quotes in
+    (parts.1.0, (each_parts Quotes h.0 (Mark CloseTuple ∷ []) parts.1.1.1).0)
+
+node_spells : (words : List Word) (name : List ℕ) → Each Quotes words → IsNode words name → All IsQuotable name
+node_spells words name quotes is = let parts : Each Quotes (Name name ∷ []) = subst (Each Quotes) is quotes in parts.0
+
+item_spells : (words : List Word) (group : List (List ℕ)) → Each Quotes words → IsItem words group → CanSpellGroup group
+item_spells words group quotes (inl h) =
+    let alone : CanSpellGroup (h.0 ∷ []) = record { some = omega arith; names = (node_spells words h.0 quotes h.1, tt) } in
+    subst CanSpellGroup (sym h.2) alone
+item_spells words group quotes (inr h) =
+    let parts : Each Quotes (between OpenTuple h.0 CloseTuple) = subst (Each Quotes) h.1 quotes in
+    record { some = some_of IsNode h.0 group h.2; names = parted_spells IsNode (All IsQuotable) node_spells h.0 group (each_parts Quotes h.0 (Mark CloseTuple ∷ []) parts.1).0 h.2 }
+
+timeout_spells : (words : List Word) (n : ℕ) → IsTimeout words n → n < 4294967296
+timeout_spells words n (inl h) = omega (arith, h.1)
+timeout_spells words n (inr h) = h.2.4
+
+app_spells : (words : List Word) (app : App) → Each Quotes words → IsApp words app → CanSpellApp app
+app_spells words app quotes h =
+    let pair = pair_spells app.name _ words quotes h in
+    let value = h.2 in
+    let parts : Each Quotes (value.0 ++ value.1) = subst (Each Quotes) value.2 pair.1 in
+    let list = value.4 in
+    let inner : Each Quotes (between OpenList list.0 CloseList) = subst (Each Quotes) list.1 (each_parts Quotes value.0 value.1 parts).1 in
+    record {
+      name = pair.0;
+      timeout = timeout_spells value.0 app.timeout value.3;
+      some = some_of IsItem list.0 app.groups list.2;
+      groups = parted_spells IsItem CanSpellGroup item_spells list.0 app.groups (each_parts Quotes list.0 (Mark CloseList ∷ []) inner.1).0 list.2;
+    }
+
+permission_spells : (words : List Word) (permission : Permission) → Each Quotes words → IsPermission words permission → All IsQuotable permission.name
+permission_spells words permission quotes h = (pair_spells permission.name _ words quotes h).0
+
+wait_spells : (words : List Word) (wait : SyncWait) → IsWait words wait → CanSpellWait wait
+wait_spells words NoSync h = h
+wait_spells words Forever h = tt
+wait_spells words (Ms n) h = h.2.4
+
+param_spells : (words : List Word) (param : Param) → Each Quotes words → IsParam words param → CanSpell param
+param_spells words (Distributed apps) quotes h = listed_spells IsApp CanSpellApp app_spells h.0 apps (pair_spells (spelled named.Distributed) _ words quotes h).1 h.2
+param_spells words (Permissions permissions) quotes h = listed_spells IsPermission (λ permission. All IsQuotable permission.name) permission_spells h.0 permissions (pair_spells (spelled named.Permissions) _ words quotes h).1 h.2
+param_spells words (Mandatory names) quotes h = listed_spells IsNode (All IsQuotable) node_spells h.0 names (pair_spells (spelled named.Mandatory) _ words quotes h).1 h.2
+param_spells words (Optional names) quotes h = listed_spells IsNode (All IsQuotable) node_spells h.0 names (pair_spells (spelled named.Optional) _ words quotes h).1 h.2
+param_spells words (Timeout wait) quotes h = wait_spells h.0 wait h.2
+param_spells words Param.Other quotes h = tt
+
+abbrev CanSpellSection : Section → Type 0
+CanSpellSection (Kernel params) = Each CanSpell params
+CanSpellSection Section.Other = Unit {0}
+
+section_spells : (words : List Word) (section : Section) → Each Quotes words → IsSection words section → CanSpellSection section
+section_spells words (Kernel params) quotes h = listed_spells IsParam CanSpell param_spells h.0 params (pair_spells (codes "kernel") _ words quotes h).1 h.2
+section_spells words Section.Other quotes h = tt
+
+each_append : {A : Type 0} (P : A → Type 0) (xs ys : List A) → Each P xs → Each P ys → Each P (xs ++ ys)
+each_append P xs ys h k = recursion_from_All P (xs ++ ys) (All-append P xs ys (All-from_recursion P xs h) (All-from_recursion P ys k))
+
+params_spell : (sections : List Section) → Each CanSpellSection sections → Each CanSpell (params_in sections)
+params_spell [] h = tt
+params_spell (Kernel params ∷ sections) h = each_append CanSpell params (params_in sections) h.0 (params_spell sections h.1)
+params_spell (Section.Other ∷ sections) h = params_spell sections h.1
+
+-- what the tokens of a file say can be spelled
+pub file_spells : (bytes : List ℕ) (tokens : List Located) (sections : List Section) → AreSpelled 0 bytes tokens → IsFile (map (λ t. t.word) tokens) sections → Each CanSpell (params_in sections)
+file_spells bytes tokens sections spelled h =
+    let parts : Each Quotes (h.0 ++ Mark FullStop ∷ []) = subst (Each Quotes) h.1 (tokens_quote 0 bytes tokens spelled) in
+    params_spell sections (listed_spells IsSection CanSpellSection section_spells h.0 sections (each_parts Quotes h.0 (Mark FullStop ∷ []) parts).0 h.2)

@@ -1,15 +1,9 @@
-use Rattle.std.proofs.Common.{ap, sym, ◌∙◌, option_map}
-use Rattle.dac_config.specs.Table.{Table, app_named}
-use Rattle.dac_config.proofs.Tables.{app_named-kept}
+use Rattle.std.proofs.Common.{sym, Some, None}
+use Rattle.dac_config.proofs.Tables.{app_found}
 use Rattle.dac_config.proofs.config.Config.app_named.Goals as goal
 
 pub returns-in_err-at : goal.returns-in_err-at
-returns-in_err-at c =
-    rw c.from_residual.ensures
-    (ap (option_map (λ place. record { 0 = place })) c.in_err-at.ensures.index
-    ∙ sym (app_named-kept c.args.name.now c.self.inside) ∙ ap (λ (t : Table). app_named t c.args.name.now) c.self.view_is)
+returns-in_err-at c = rw c.from_residual.ensures (sym (app_found c.self.inside c.args.self.now c.self.view_is c.args.name.now None c.in_err-at.ensures.index))
 
 pub returns : goal.returns
-returns c =
-    ap (option_map (λ place. record { 0 = place })) c.in_ok-at.ensures.index
-    ∙ sym (app_named-kept c.args.name.now c.self.inside) ∙ ap (λ (t : Table). app_named t c.args.name.now) c.self.view_is
+returns c = sym (app_found c.self.inside c.args.self.now c.self.view_is c.args.name.now (Some c.in_ok-at.at) c.in_ok-at.ensures.index)

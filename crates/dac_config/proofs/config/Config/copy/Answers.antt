@@ -1,6 +1,6 @@
 use Rattle.std.proofs.Common.{refl, sym, ◌∙◌, subst}
 use Rattle.dac_config.specs.Says.{IsTable}
-use Rattle.dac_config.proofs.Copies.{table_copied}
+use Rattle.dac_config.proofs.Tables.{table_copied}
 use Rattle.dac_config.proofs.config.Config.copy.Goals as goal
 
 pub invariant_of-result : goal.invariant_of-result

@@ -3,8 +3,7 @@ use Rattle.dac_shapes.specs.Views.{draft_of, apps_of, permissions_of}
 use Rattle.dac_config.specs.Says.{IsTable}
 use Rattle.dac_config.specs.ConfigView.{node_row, app_row}
 use Rattle.dac_config.specs.Numbering.{numbered_app}
-use Rattle.dac_config.proofs.Names.{Differ}
-use Rattle.dac_config.proofs.Numberable.{all_new}
+use Rattle.dac_config.proofs.Names.{Differ, all_new}
 use Rattle.dac_config.proofs.Numbers.{few_numbered, small_numbered, table_numbered}
 use Rattle.dac_config.proofs.config.Config.of_draft.Goals as goal
 

@@ -1,7 +1,7 @@
 use Rattle.std.proofs.Common.{map, arith, length, ◌<◌}
 use Rattle.dac_shapes.specs.Views.{permissions_of}
 use Rattle.dac_config.specs.ConfigView.{node_row}
-use Rattle.dac_config.proofs.Apps.{more_rows, still_once}
+use Rattle.dac_config.proofs.Tables.{more_rows, still_once}
 use Rattle.dac_config.proofs.config.number.apps_of.Goals as goal
 
 pub loop-app-preserved : goal.loop-app-preserved

@@ -1,4 +1,4 @@
-use Rattle.std.proofs.Common.{◌≡◌, ap, ◌∙◌, arith}
+use Rattle.std.proofs.Common.{◌≡◌, refl, ap, ◌∙◌, arith}
 use Rattle.std.specs.Vec.{vec_items}
 use Rattle.std.proofs.lemmas.Result.{IfOk-at_ok}
 use Rattle.std.proofs.lemmas.Iterator.{items_from_collect}
@@ -16,3 +16,6 @@ returns c =
     let taken : c.in_ok-sorted.sorted.items ≡ c.loop-name.sorted.keys = IfOk-at_ok (λ w. vec_items w ≡ c.loop-name.sorted.keys) c.in_ok-sorted.was
     (items_from_collect c.collect.result c.collect.ensures.ran (YieldsList-from_copied (YieldsList-at c.copied.ensures.source (YieldsList-from_rest c.loop-name.sorted.keys c.iter.ensures.rest)))) in
     ap names_of taken ∙ all_inserted c.args.names.now c.loop-name.name-index c.loop-name.sorted.keys (omega (arith, c.loop-name-test.false)) c.loop-name.invariant
+
+pub loop-name-init : goal.loop-name-init
+loop-name-init c = rw c.new-sorted.ensures.empty refl

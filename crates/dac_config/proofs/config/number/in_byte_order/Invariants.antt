@@ -1,5 +1,4 @@
-use Rattle.std.proofs.Common.{◌≡◌, drop}
-use Rattle.std.specs.Prelude.{fold}
+use Rattle.std.proofs.Common.{◌≡◌, drop, fold}
 use Rattle.std.specs.BTreeSet.{insert_key}
 use Rattle.dac_shapes.specs.Views.{names_of}
 use Rattle.dac_config.specs.Numbering.{name_cmp, in_byte_order}

@@ -1,26 +1,22 @@
-use Rattle.std.proofs.Common.{◌≡◌, ℕ, ◌+◌, not, List, map, drop, Some, option_map, slice_get, sym, ap, ◌∙◌}
-use Rattle.std.specs.Prelude.{filter}
-use Rattle.std.specs.Map.Iter.{deref_pair}
+use Rattle.std.proofs.Common.{◌≡◌, ℕ, ◌+◌, ◌∷◌, not, List, map, filter, drop, refl, ap}
 use Rattle.dac_config.specs.Table.{AppRow}
 use Rattle.dac_config.specs.Canonical.{ban_text}
 use Rattle.dac_config.specs.ConfigView.{app_row}
-use Rattle.dac_config.proofs.Tables.{left_from, left_out, stays_in}
+use Rattle.dac_config.proofs.Tables.{left_at}
 use Rattle.dac_config.proofs.Gaining.{one_more, same_left}
 use Rattle.dac_config.proofs.config.text.put_bans.Goals as goal
 
+abbrev texts : List AppRow → List (List ℕ)
+texts rows = map (λ row. ban_text row.name) (filter (λ row. not row.permission) rows)
+
 pub loop-at-preserved-then-app : goal.loop-at-preserved-then-app
 loop-at-preserved-then-app g c =
-    let entries = c.args.apps.now.entries in let entry = deref_pair c.unwrap.result in
-    let here : slice_get entries c.loop-at.at ≡ Some entry = sym c.get_index.ensures.entry ∙ ap (option_map deref_pair) c.unwrap.ensures in
-    let texts : List AppRow → List (List ℕ) = map (λ row. ban_text row.name) in
-    same_left c.loop-at.invariant (ap (λ es. texts (filter (λ row. not row.permission) (map app_row es))) (left_from entries c.loop-at.at entry here)
-    ∙ ap texts (left_out (λ row. not row.permission) (app_row entry) (map app_row (drop (c.loop-at.at + 1) entries)) (ap not c.if-app.true)))
+    let entries = c.args.apps.now.entries in let at = c.loop-at.at in
+    let left : texts (map app_row (drop at entries)) ≡ texts (map app_row (drop (at + 1) entries)) = rw (left_at entries at c.get_index.result c.unwrap.result c.get_index.ensures.entry c.unwrap.ensures, ap not c.if-app.true) refl in
+    same_left c.loop-at.invariant left
 
 pub loop-at-preserved : goal.loop-at-preserved
 loop-at-preserved g c =
-    let entries = c.args.apps.now.entries in let entry = deref_pair c.unwrap.result in
-    let here : slice_get entries c.loop-at.at ≡ Some entry = sym c.get_index.ensures.entry ∙ ap (option_map deref_pair) c.unwrap.ensures in
-    let texts : List AppRow → List (List ℕ) = map (λ row. ban_text row.name) in
-    one_more c.loop-at.invariant (ap (λ es. texts (filter (λ row. not row.permission) (map app_row es))) (left_from entries c.loop-at.at entry here)
-    ∙ ap texts (stays_in (λ row. not row.permission) (app_row entry) (map app_row (drop (c.loop-at.at + 1) entries)) (ap not c.if-app.false)))
-    c.in_ok-put.ensures (rw c.deref.ensures.value at c.in_ok-put_ban.ensures) c.as_slice-before-in-loop-at.ensures
+    let entries = c.args.apps.now.entries in let at = c.loop-at.at in
+    let left : texts (map app_row (drop at entries)) ≡ ban_text c.unwrap.result.0.now.items ∷ texts (map app_row (drop (at + 1) entries)) = rw (left_at entries at c.get_index.result c.unwrap.result c.get_index.ensures.entry c.unwrap.ensures, ap not c.if-app.false) refl in
+    one_more c.loop-at.invariant left c.in_ok-put.ensures (rw c.deref.ensures.value at c.in_ok-put_ban.ensures) c.as_slice-before-in-loop-at.ensures

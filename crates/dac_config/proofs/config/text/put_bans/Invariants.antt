@@ -1,5 +1,4 @@
-use Rattle.std.proofs.Common.{not, List, ℕ, map, drop}
-use Rattle.std.specs.Prelude.{filter}
+use Rattle.std.proofs.Common.{not, List, ℕ, map, drop, filter}
 use Rattle.dac_config.specs.Table.{AppRow}
 use Rattle.dac_config.specs.Canonical.{parted, ban_text}
 use Rattle.dac_config.specs.ConfigView.{app_row}

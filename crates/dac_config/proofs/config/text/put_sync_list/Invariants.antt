@@ -1,5 +1,4 @@
-use Rattle.std.proofs.Common.{List, ℕ, map, drop}
-use Rattle.std.specs.Prelude.{filter}
+use Rattle.std.proofs.Common.{List, ℕ, map, drop, filter}
 use Rattle.dac_config.specs.Table.{NodeRow}
 use Rattle.dac_config.specs.Canonical.{parted, name_text}
 use Rattle.dac_config.specs.ConfigView.{node_row, is_in}

@@ -1,5 +1,4 @@
-use Rattle.std.proofs.Common.{◌≡◌, drop}
-use Rattle.std.specs.Prelude.{fold}
+use Rattle.std.proofs.Common.{◌≡◌, drop, fold}
 use Rattle.dac_config.specs.Mark.{mixed}
 use Rattle.dac_config.proofs.mark.MarkSink.put.Given as goal
 

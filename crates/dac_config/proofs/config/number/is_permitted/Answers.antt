@@ -1,0 +1,10 @@
+use Rattle.std.proofs.Common.{sym, ◌∙◌}
+use Rattle.std.proofs.lemmas.Bool.{cond-false}
+use Rattle.std.proofs.lemmas.List.{at_drop_more}
+use Rattle.dac_shapes.specs.Views.{permissions_of}
+use Rattle.dac_config.specs.Numbering.{permitted}
+use Rattle.dac_config.proofs.config.number.is_permitted.Goals as goal
+
+pub loop-permission-preserved : goal.loop-permission-preserved
+loop-permission-preserved c =
+    sym (cond-false _ _ _ (sym c.if-eq.ensures)) ∙ sym (at_drop_more (λ rest. permitted (permissions_of rest) c.args.name.now) c.args.permissions.now c.loop-permission.permission-index _ c.loop-permission-test.true) ∙ c.loop-permission.invariant
