@@ -1,5 +1,5 @@
 -- Lists of names, by their bytes: what is among them, which of them a group has, and how many differ.
-use Rattle.std.proofs.Common.{◌≡◌, ℕ, ◌≤◌, Bool, true, false, cond, ◌||◌, ◌&&◌, List, [], ◌∷◌, ◌++◌, length, map, fold, filter, All, Bor, bytes_eq, ⊎_elim, refl, sym, ap, subst, ◌∙◌, arith, append_assoc}
+use Rattle.std.proofs.Common.{◌≡◌, ℕ, ◌≤◌, Bool, true, false, ◌||◌, ◌&&◌, List, [], ◌∷◌, ◌++◌, length, map, fold, filter, All, Bor, bytes_eq, ⊎_elim, refl, sym, ap, subst, ◌∙◌, arith, append_assoc}
 use Rattle.std.specs.Cmp.{IsEquivalence}
 use Rattle.std.specs.Cmp.Lexicographic.{same_text}
 use Rattle.std.specs.List.{list_any, IsDistinct, AllZip, AllByRecursion as Each}

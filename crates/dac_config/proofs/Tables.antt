@@ -1,5 +1,5 @@
 -- A configuration as it is kept: what its tables say at a number and of a name, how they are made, and their copies.
-use Rattle.std.proofs.Common.{◌≡◌, ℕ, ◌+◌, ◌<◌, ◌≤◌, drop, get_or, Bool, true, false, cond, eqb, not, List, [], ◌∷◌, ◌++◌, length, map, All, Bor, bytes_eq, position, Option, Some, None, option_map, slice_get, refl, sym, ap, subst, ◌∙◌, arith, append_assoc}
+use Rattle.std.proofs.Common.{◌≡◌, ℕ, ◌+◌, ◌<◌, ◌≤◌, drop, get_or, Bool, false, cond, eqb, not, List, [], ◌∷◌, ◌++◌, length, map, All, Bor, bytes_eq, position, Option, Some, None, option_map, slice_get, refl, sym, ap, subst, ◌∙◌, arith, append_assoc}
 use Rattle.std.specs.Global.{Vec}
 use Rattle.std.specs.List.{prefix_len, list_any, AllZip, each_same}
 use Rattle.std.specs.Map.{keys_of, values_of, lookup}
@@ -15,7 +15,7 @@ use Rattle.indexmap.proofs.CallerLemmas.{insert_entry-new}
 use Rattle.dac_base.specs.declared.NodeId.{NodeId}
 use Rattle.dac_base.specs.declared.AppId.{AppId}
 use Rattle.dac_shapes.specs.declared.draft.DraftApp.{DraftApp}
-use Rattle.dac_shapes.specs.Written.{Permission, Written}
+use Rattle.dac_shapes.specs.Written.{Permission}
 use Rattle.dac_shapes.specs.Limits.{is_among}
 use Rattle.dac_shapes.specs.Views.{app_of, apps_of}
 use Rattle.dac_config.specs.declared.config.App.{App}

@@ -1,9 +1,9 @@
 -- The canonical text is written by words of the grammar, which can stand one after another; and what a text says can be
 -- spelled by such words.
-use Rattle.std.proofs.Common.{◌≡◌, ◌⊎◌, inl, inr, ℕ, ◌+◌, ◌-◌, ◌*◌, ◌/◌, ◌%◌, ◌<◌, ◌≤◌, Bool, true, false, cond, not, ◌&&◌, List, [], ◌∷◌, ◌++◌, length, map, filter, All, codes, decimal, unwrap_or, option_map, slice_get, bytes_eq, refl, sym, ap, subst, ◌∙◌, arith, append_assoc, append-nil}
+use Rattle.std.proofs.Common.{◌≡◌, ◌⊎◌, inl, inr, ℕ, ◌+◌, ◌-◌, ◌*◌, ◌/◌, ◌%◌, ◌<◌, ◌≤◌, Bool, true, false, cond, not, leb, ◌&&◌, List, [], ◌∷◌, ◌++◌, length, map, filter, All, codes, decimal, unwrap_or, option_map, slice_get, bytes_eq, refl, sym, ap, subst, ◌∙◌, arith, append_assoc, append-nil}
 use Rattle.std.specs.List.{list_all, AllByRecursion as Each}
 use Rattle.std.specs.Char.{IsAsciiDigit, IsAsciiLowercase}
-use Rattle.std.proofs.lemmas.Bool.{and_parts, both_ways, not-true}
+use Rattle.std.proofs.lemmas.Bool.{and_parts, both_ways, leb-true, not-true}
 use Rattle.std.proofs.lemmas.Bool.Decides.{nat_tests}
 use Rattle.std.proofs.lemmas.Fmt.{decimal_by_steps}
 use Rattle.std.proofs.lemmas.List.{length-map}
@@ -11,7 +11,7 @@ use Rattle.std.proofs.lemmas.List.Elements.{All-nil, All-cons, All-head, All-tai
 use Rattle.std.proofs.lemmas.Slice.Eq.{bytes_eq-Decides}
 use Rattle.dac_tokens.specs.declared.token.Symbol.TheVariants.{OpenList, CloseList, OpenTuple, CloseTuple, Comma, FullStop}
 use Rattle.dac_tokens.specs.Digits.{value_from}
-use Rattle.dac_tokens.specs.Words.{Word, Mark, Name, Number, Text, End, Located}
+use Rattle.dac_tokens.specs.Words.{Word, Mark, Name, Number, Located}
 use Rattle.dac_tokens.specs.TokenGrammar.{Nothing, Blank, Closed, IsNameByte, Begins, IsQuotable, IsDigits, GoesOnAsNumber, IsBareAtom, bytes_of, Spells, AreSpelled, depth_behind, NestWell, AreTokensOf}
 use Rattle.dac_shapes.specs.declared.draft.SyncWait.{SyncWait}
 use Rattle.dac_shapes.specs.declared.draft.SyncWait.TheVariants.{NoSync, Forever, Ms}
@@ -63,7 +63,7 @@ Stand depth (word ∷ words) = CanStand word words × (depth_behind depth word �
 
 small_begins : (name : List ℕ) → begins_small name ≡ true → Begins IsAsciiLowercase name
 small_begins [] h = absurd cc
-small_begins (b ∷ bs) h = grind (arith, nat_tests)
+small_begins (b ∷ bs) h = let parts = and_parts (leb 97 b) (leb b 122) h in (leb-true 97 b parts.0, leb-true b 122 parts.1)
 
 a_name_byte : (b : ℕ) → is_name_byte b ≡ true → IsNameByte b
 a_name_byte b h = grind (arith, nat_tests)
@@ -87,7 +87,7 @@ name_bytes_quotable [] all = All-nil IsQuotable
 name_bytes_quotable (b ∷ bs) all = All-cons IsQuotable b bs (quotable b (All-head IsNameByte b bs all)) (name_bytes_quotable bs (All-tail IsNameByte b bs all))
   where
     quotable : (b : ℕ) → IsNameByte b → IsQuotable b
-    quotable b h = grind (arith, nat_tests)
+    quotable b h = (λ quote. omega (arith, h, quote), λ unquotable. omega (arith, h, unquotable))
 
 bare_quotable : (name : List ℕ) → is_bare name ≡ true → All IsQuotable name
 bare_quotable name h = name_bytes_quotable name (bare_atom name h).goes_on

@@ -12,3 +12,6 @@ loop-number-preserved g c =
 
 pub returns : goal.returns
 returns g c = all_taken c.loop-number.invariant (at_drop_all (map (node_name_text (map node_row c.args.nodes.now))) c.args.group.now c.loop-number.number-index c.loop-number-test.false)
+
+pub put_node-requires : goal.put_node-requires
+put_node-requires g c = c.requires c.loop-number.number-index 0 c.loop-number-test.true
