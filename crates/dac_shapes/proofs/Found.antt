@@ -1,393 +1,494 @@
--- What is read of a file is in the grammar, and its names may stand where they stand.
-use Rattle.std.proofs.Common.{◌≡◌, ℕ, ◌<◌, ◌≤◌, Bool, true, false, not, ◌&&◌, ◌≢◌, cond, eqb, ltb, leb, List, [], ◌∷◌, ◌++◌, length, map, Option, Some, None, Result, Ok, refl, sym, ap, subst, ◌∙◌, arith, inl, inr, codes}
-use Rattle.std.specs.Str.{bytes_eq}
-use Rattle.std.proofs.lemmas.Bool.{ltb-true, ltb-false, leb-false, eqb-true}
+-- Which words were read, and that single tokens leave the names alone.
+use Rattle.std.proofs.Common.{◌≡◌, Bool, true, false, cond, eqb, List, [], ◌∷◌, ◌++◌, map, Result, Ok, Err, refl, sym, ap, subst, ◌∙◌, append_assoc, inl, inr, ℕ, zero, suc, ◌⊎◌, IfOk, All}
 use Rattle.dac_tokens.specs.declared.fault.ConfigFault.{ConfigFault}
-use Rattle.dac_tokens.specs.declared.token.Symbol.TheVariants.{OpenList, CloseList, OpenTuple, CloseTuple, Comma}
-use Rattle.dac_tokens.specs.declared.fault.FaultKind.TheVariants.{BadShape, EmptyTuple, NumberTooLarge, NameTooLong}
+use Rattle.dac_tokens.specs.declared.token.Symbol.{Symbol}
+use Rattle.dac_tokens.specs.declared.token.Symbol.TheVariants.{OpenList, CloseList, OpenTuple, CloseTuple, Comma, FullStop}
+use Rattle.dac_tokens.specs.declared.fault.FaultKind.TheVariants.{BadShape}
 use Rattle.dac_tokens.specs.Gives.{◌>>=◌}
-use Rattle.dac_tokens.specs.Words.{Word, Mark, Name, Number, Located, is_end}
-use Rattle.dac_shapes.specs.declared.draft.SyncWait.{SyncWait}
-use Rattle.dac_shapes.specs.declared.draft.SyncWait.TheVariants.{Ms}
-use Rattle.dac_shapes.specs.declared.param.ParamName.{ParamName}
-use Rattle.dac_shapes.specs.declared.param.ParamName.TheVariants as named
-use Rattle.dac_shapes.specs.Written.{App, Permission, Param, Distributed, Permissions, Mandatory, Optional, Timeout, Section, Kernel, name_of, spelled}
-use Rattle.dac_shapes.specs.Limits.{Seen, AllMay, steps, is_among, has_param, with_node, MayNode, with_nodes, MayNodes, with_groups, MayGroups, listing, with_app, MayApp, with_permission, MayPermission, with_param, MayValue, MayParam, has_kernel, with_section, MaySection}
-use Rattle.dac_tokens.specs.Digits.{value_from}
-use Rattle.dac_shapes.specs.Shape.{State, fails, is_mark, token, atom_of, short_name_of, node_of, names_at, item_at, groups_at, milliseconds_of, timeout_at, wait_of, app_name_of, app_value_at, app_at, flag_of, permission_value_at, permission_at, param_named, first_param, param_name_of, param_value_at, param_rest_at, param_at, names_kernel, kernel_at, section_rest_at, section_at, closed, list_of, room}
-use Rattle.dac_shapes.specs.Grammar.{between, IsListOf, IsNode, IsItem, IsNodeList, IsMs, IsTimeout, IsApp, IsFlag, IsPermission, IsWait, IsParam, IsSection}
-use Rattle.dac_shapes.proofs.Moves.{bind_ok, held, required, passed, ok_same, words_in, EndsWell, Moves, Moves-then, same_last, token_is, token_moves, word_passes, mark_is, symbol_passes, back}
-use Rattle.dac_shapes.specs.laws.Names.{chosen, is_named, same_seen, param_is}
-use Rattle.dac_shapes.proofs.FoundLists.{Reads, Gets, token_then, list_found, bracketed_found, pair_begun, pair_words, closed_found, pair_found}
-use Rattle.dac_shapes.proofs.FoundTerms.{passed_found}
+use Rattle.dac_tokens.specs.Words.{Word, Mark, End, Located, is_end, Name, Number, Text}
+use Rattle.dac_tokens.specs.Stream.{Stream, taken, taken_of}
+use Rattle.dac_shapes.specs.Shape.{State, fails, byte_of, is_mark, token, symbol_at, more_at, comma_list, list_of, pair_at, closed, room, is_text, terms_at, terms_in, texts_at, term_by, term_at, passed_at}
+use Rattle.dac_shapes.specs.laws.Names.{chosen}
+use Rattle.dac_shapes.specs.Limits.{Seen, AllMay, steps}
+use Rattle.dac_shapes.specs.Grammar.{Parted, PartedOrNone, IsListOf, between, AreBrackets, IsTerm, AreTerms, OfList, OfTuple, Atom, Integer, Strings, Empty, Between, One, More}
+use Rattle.std.proofs.lemmas.List.Elements.{All-nil, All-cons}
 
--- ---- nodes
+pub bind_ok : {A B : Type 0} (r : Result A ConfigFault) (f : A → Result B ConfigFault) (y : B) → (r >>= f) ≡ Ok y → (x : A) × (r ≡ Ok x) × (f x ≡ Ok y)
+bind_ok (Ok x) f y e = (x, refl, e)
+bind_ok (Err d) f y e = absurd cc
 
-atom_is : (w : Word) (at : ℕ) (name : List ℕ) → atom_of (record { word = w; at = at }) ≡ Ok name → w ≡ Name name
-unfolding atom_of
-atom_is (Name n) at name e = ap Name (ok_same n name (Ok n) refl e)
-atom_is _ at name e = absurd cc
+-- a test that had to hold, and one that had to fail
+pub held : {A : Type 0} (b : Bool) (x : A) (e : ConfigFault) (y : A) → cond b (Ok x) (Err e) ≡ Ok y → (b ≡ true) × (x ≡ y)
+held true x e y h = (refl, cc)
+held false x e y h = absurd cc
 
-short_name_is : (t : Located) (name : List ℕ) → short_name_of t ≡ Ok name → (t.word ≡ Name name) × (length name ≤ 255)
-unfolding short_name_of
-short_name_is t name e =
-    let b = bind_ok (atom_of t) (λ n. cond (ltb 255 (length n)) (fails NameTooLong t.at) (Ok n)) name e in
-    let p = passed (ltb 255 (length b.0)) _ (Ok b.0) name b.2 in
-    let q = ok_same b.0 name (Ok b.0) refl p.1 in
-    (atom_is t.word t.at b.0 b.1 ∙ ap Name q, omega (arith, ltb-false 255 (length b.0) p.0, ap length q))
+pub required : {A : Type 0} (b : Bool) (r : Result A ConfigFault) (e : ConfigFault) (y : A) → cond b r (Err e) ≡ Ok y → (b ≡ true) × (r ≡ Ok y)
+required true r e y h = (refl, h)
+required false r e y h = absurd cc
 
--- what a test with two parts says where it failed
-unless_first : (a b : Bool) → (not a && b) ≡ false → a ≡ false → b ≡ false
-unless_first true b e f = absurd cc
-unless_first false b e f = e
+pub passed : {A : Type 0} (b : Bool) (e : ConfigFault) (r : Result A ConfigFault) (y : A) → cond b (Err e) r ≡ Ok y → (b ≡ false) × (r ≡ Ok y)
+passed true e r y h = absurd cc
+passed false e r y h = (refl, h)
 
-pub node_found : (repeats : Bool) (before : List (List ℕ)) (t : Located) (s : State) (name : List ℕ) (u : State) → EndsWell s → node_of repeats t s ≡ Ok (name, u) → Reads IsNode with_node (MayNode repeats) t s name u
-unfolding node_of
-node_found repeats before t s name u well e =
-    let b = bind_ok _ _ _ e in
-    let w = short_name_is t b.0 b.1 in
-    let p = passed _ _ _ _ b.2 in
-    let q = passed _ _ _ _ p.1 in
-    subst (λ (y : List ℕ × State). Reads IsNode with_node (MayNode repeats) t s y.0 y.1) (ok_same (b.0, record s { seen = with_node s.seen b.0 }) (name, u) _ refl q.1) (record {
-      ws = Name b.0 ∷ [];
-      is = refl;
-      moves = record { words = ap (λ (v : Word). v ∷ words_in s) w.0; last = refl };
-      begun = ap is_end w.0;
-      may = record {
-        short = w.1;
-        once = unless_first repeats (is_among b.0 s.seen.listed) p.0;
-        few = λ f. leb-false 16 (length s.seen.met) (unless_first (is_among b.0 s.seen.met) (leb 16 (length s.seen.met)) q.0 f);
-      };
-      seen = refl;
-    })
+pub ok_is : {A : Type 0} (x y : A) → ◌≡◌ {A = Result A ConfigFault} (Ok x) (Ok y) → x ≡ y
+ok_is x y e = cc
 
--- ---- node lists
+abbrev pub words_in : State → List Word
+words_in s = map (λ t. t.word) s.left.tokens
 
--- a bracket, and what is read from the token after it on
-opened_by : (x : Located) (w : Word) (s : State) (t1 : Located) (s1 u : State) (ws : List Word) → EndsWell s → x.word ≡ w → token s ≡ Ok (t1, s1) → is_end t1.word ≡ false → Moves (back t1 s1) ws u → Moves (back x s) (w ∷ ws) u
-opened_by x w s t1 s1 u ws well is k begun m =
-    let n = token_then s t1 s1 ws u well k begun m in
-    record { words = rw is (ap (λ (v : List Word). w ∷ v) n.words); last = n.last }
+-- what stands behind the tokens is a fault or the end
+abbrev pub EndsWell : State → Type 0
+EndsWell s = IfOk s.left.last (λ t. t.word ≡ End)
 
-pub item_found : (before : List (List (List ℕ))) (t : Located) (s : State) (group : List (List ℕ)) (u : State) → EndsWell s → item_at t s ≡ Ok (group, u) → Reads IsItem with_nodes (MayNodes false) t s group u
-unfolding item_at
-item_found before t s group u well e =
-    let f1 : Located × State → Result (List (List ℕ) × State) ConfigFault = λ first. cond (is_mark CloseTuple first.0.word) (fails EmptyTuple t.at) (names_at false CloseTuple first.0 first.1) in
-    let alone : Result (List (List ℕ) × State) ConfigFault = node_of false t s >>= λ name. Ok (name.0 ∷ [], name.1) in
-    elim (chosen (is_mark OpenTuple t.word) (token s >>= f1) alone (Ok (group, u)) e) [
-      | inl h ↦
-          let w = mark_is OpenTuple t.word h.0 in
-          let k = bind_ok (token s) f1 (group, u) h.1 in
-          let p = passed (is_mark CloseTuple k.0.0.word) _ (names_at false CloseTuple k.0.0 k.0.1) (group, u) k.2 in
-          let l = list_found IsNode (λ _. node_of false) CloseTuple with_node (λ _. MayNode false) (node_found false) (room k.0.1) [] k.0.0 k.0.1 group u (same_last s k.0.0 k.0.1 well k.1) p.1 in
-          let same : k.0.1.seen ≡ s.seen = (token_is s k.0.0 k.0.1 k.1).1 in
-          subst (λ (g : List (List ℕ)). Reads IsItem with_nodes (MayNodes false) t s g u) (sym l.whole) (record {
-            ws = between OpenTuple l.ws CloseTuple;
-            is = inr (l.ws, refl, l.is);
-            moves = opened_by t (Mark OpenTuple) s k.0.0 k.0.1 u (l.ws ++ Mark CloseTuple ∷ []) well w k.1 l.begun l.moves;
-            begun = ap is_end w;
-            may = subst (λ (q : Seen). MayNodes false q l.xs) same l.may;
-            seen = l.seen ∙ ap (λ (q : Seen). with_nodes q l.xs) same;
-          })
-      | inr h ↦
-          let k = bind_ok (node_of false t s) (λ name. Ok (name.0 ∷ [], name.1)) (group, u) h.1 in
-          let r = node_found false [] t s k.0.0 k.0.1 well k.1 in
-          let q = ok_same (k.0.0 ∷ [], k.0.1) (group, u) _ refl k.2 in
-          subst (λ (p : List (List ℕ) × State). Reads IsItem with_nodes (MayNodes false) t s p.0 p.1) q (record { ws = r.ws; is = inl (k.0.0, r.is, refl); moves = r.moves; begun = r.begun; may = (r.may, tt); seen = r.seen })
-    ]
+-- from s on these words were read, and u is left
+pub record Moves (s : State) (ws : List Word) (u : State) : Type 0 where
+  pub words : words_in s ≡ ws ++ words_in u
+  pub last : u.left.last ≡ s.left.last
 
--- the names of a node list begin anew
-abbrev pub with_list : Seen → List (List (List ℕ)) → Seen
-with_list seen groups = with_groups (listing seen) groups
-
-abbrev pub MayList : Seen → List (List (List ℕ)) → Type 0
-MayList seen groups = MayGroups (listing seen) groups
-
-pub groups_found : (t : Located) (s : State) (groups : List (List (List ℕ))) (u : State) → EndsWell s → groups_at t s ≡ Ok (groups, u) → Reads IsNodeList with_list MayList t s groups u
-unfolding groups_at
-groups_found t s groups u well e =
-    let fresh : State → State = λ v. record v { seen = listing v.seen } in
-    let h = required _ _ _ _ e in
-    let w = mark_is OpenList t.word h.0 in
-    let k = bind_ok _ _ _ h.1 in
-    let p = passed _ _ _ _ k.2 in
-    let l = list_found IsItem (λ _. item_at) CloseList with_nodes (λ _. MayNodes false) item_found (room (fresh k.0.1)) [] k.0.0 (fresh k.0.1) groups u (same_last s k.0.0 k.0.1 well k.1) p.1 in
-    let same : k.0.1.seen ≡ s.seen = (token_is s k.0.0 k.0.1 k.1).1 in
-    subst (λ (g : List (List (List ℕ))). Reads IsNodeList with_list MayList t s g u) (sym l.whole) (record {
-      ws = between OpenList l.ws CloseList;
-      is = (l.ws, refl, l.is);
-      moves = opened_by t (Mark OpenList) s k.0.0 k.0.1 u (l.ws ++ Mark CloseList ∷ []) well w k.1 l.begun (record { words = l.moves.words; last = l.moves.last });
-      begun = ap is_end w;
-      may = subst (λ (q : Seen). MayList q l.xs) same l.may;
-      seen = l.seen ∙ ap (λ (q : Seen). with_list q l.xs) same;
-    })
-
--- ---- applications
-
-ms_is : (at : ℕ) (negative : Bool) (digits : List ℕ) (n : ℕ) → milliseconds_of at negative (value_from 0 digits) ≡ Ok n → IsMs (Number negative digits) n
-ms_is at negative digits n e =
-    let v = value_from 0 digits in
-    let p = passed (negative && not (eqb v 0)) _ (cond (ltb v 4294967296) (Ok v) (fails NumberTooLarge at)) n e in
-    let h = held (ltb v 4294967296) v _ n p.1 in
-    (negative, digits, refl, sym h.1, omega (arith, ltb-true v 4294967296 h.0, h.1), λ neg. sym h.1 ∙ zero_is negative (eqb v 0) v neg p.0 (λ f. eqb-true v 0 f))
-  where
-    zero_is : (b c : Bool) (v : ℕ) → b ≡ true → (b && not c) ≡ false → (c ≡ true → v ≡ 0) → v ≡ 0
-    zero_is true true v neg f z = z refl
-    zero_is true false v neg f z = absurd cc
-    zero_is false c v neg f z = absurd cc
-
--- after the timeout, if any, the token t1 was read
-record Timed (t : Located) (s : State) (n : ℕ) (t1 : Located) (u : State) : Type 0 where
+-- and no name was seen
+pub record Passes (s : State) (ws : List Word) (u : State) : Type 0 where
+  pub moves : Moves s ws u
   pub well : EndsWell u
   pub seen : u.seen ≡ s.seen
-  pub moved : is_end t1.word ≡ false → (ws : List Word) × IsTimeout ws n × Moves (back t s) ws (back t1 u) × (is_end t.word ≡ false)
 
-untimed : (t : Located) (s : State) (n : ℕ) (t1 : Located) (u : State) → EndsWell s → ◌≡◌ {A = Result (ℕ × Located × State) ConfigFault} (Ok (0, t, s)) (Ok (n, t1, u)) → Timed t s n t1 u
-untimed t s n t1 u well e =
-    let q = ok_same (0, t, s) (n, t1, u) _ refl e in
-    subst (λ (p : ℕ × Located × State). Timed t s p.0 p.1 p.2) q (record { well = well; seen = refl; moved = λ begun. ([], inl (refl, refl), record { words = refl; last = refl }, begun) })
+pub Moves-then : (s u v : State) (a b : List Word) → Moves s a u → Moves u b v → Moves s (a ++ b) v
+Moves-then s u v a b m n = record { words = m.words ∙ ap (λ (w : List Word). a ++ w) n.words ∙ sym (append_assoc a b (words_in v)); last = n.last ∙ m.last }
 
-timed : (w : Word) (at : ℕ) (s : State) (n : ℕ) (t1 : Located) (u : State) → EndsWell s → timeout_at (record { word = w; at = at }) s ≡ Ok (n, t1, u) → Timed (record { word = w; at = at }) s n t1 u
-unfolding timeout_at
-timed (Number negative digits) at s n t1 u well e =
-    let a = bind_ok _ _ _ e in
-    let b = bind_ok _ _ _ a.2 in
-    let m = symbol_passes Comma s b.0 well b.1 in
-    let k = bind_ok _ _ _ b.2 in
-    let q = ok_same (a.0, k.0.0, k.0.1) (n, t1, u) _ refl k.2 in
-    subst (λ (p : ℕ × Located × State). Timed (record { word = Number negative digits; at = at }) s p.0 p.1 p.2) q (record {
-      well = same_last b.0 k.0.0 k.0.1 m.well k.1;
-      seen = (token_is b.0 k.0.0 k.0.1 k.1).1 ∙ m.seen;
-      moved = λ begun.
-          let next = token_moves b.0 k.0.0 k.0.1 m.well k.1 begun in
-          (Number negative digits ∷ Mark Comma ∷ [], inr (Number negative digits, refl, ms_is at negative digits a.0 a.1), record { words = ap (λ (v : List Word). Number negative digits ∷ v) (m.moves.words ∙ ap (λ (v : List Word). Mark Comma ∷ v) next.words); last = next.last ∙ m.moves.last }, refl);
-    })
-timed w at s n t1 u well e = untimed (record { word = w; at = at }) s n t1 u well e
+pub still_well : (s u : State) (ws : List Word) → EndsWell s → Moves s ws u → EndsWell u
+still_well s u ws well m = subst (λ r. IfOk r (λ t. t.word ≡ End)) (sym m.last) well
 
--- a name that is short, new, and not the 65th
-record FineApp (before : List App) (name : List ℕ) : Type 0 where
-  pub short : length name ≤ 255
-  pub once : is_among name (map (λ a. a.name) before) ≡ false
-  pub few : length before < 64
+taken_is : (tokens : List Located) (last : Result Located ConfigFault) (t : Located) (r : Stream) → taken_of tokens last ≡ Ok (t, r) → (r.last ≡ last) × ((tokens ≡ t ∷ r.tokens) ⊎ (last ≡ Ok t))
+taken_is [] (Err e) t r h = absurd cc
+taken_is [] (Ok u) t r h = let e = ok_is (u, record { tokens = []; last = Ok u }) (t, r) h in (sym (ap (λ (p : Located × Stream). p.1.last) e), inr (ap (λ (p : Located × Stream). Ok p.0) e))
+taken_is (x ∷ xs) last t r h = let e = ok_is (x, record { tokens = xs; last = last }) (t, r) h in (sym (ap (λ (p : Located × Stream). p.1.last) e), inl (ap (λ (p : Located × Stream). p.0 ∷ p.1.tokens) e))
 
-app_named : (before : List App) (t : Located) (name : List ℕ) → app_name_of before t ≡ Ok name → (t.word ≡ Name name) × FineApp before name
-unfolding app_name_of
-app_named before t name e =
+pub token_is : (s : State) (t : Located) (u : State) → token s ≡ Ok (t, u) → (taken s.left ≡ Ok (t, u.left)) × (u.seen ≡ s.seen)
+token_is s t u e =
     let b = bind_ok _ _ _ e in
-    let p = passed _ _ _ _ b.2 in
-    let q = passed _ _ _ _ p.1 in
-    let w = short_name_is t b.0 b.1 in
-    subst (λ (n : List ℕ). (t.word ≡ Name n) × FineApp before n) (ok_same b.0 name (Ok b.0) refl q.1) (w.0, record { short = w.1; once = p.0; few = leb-false 64 (length before) q.0 })
+    let q = ok_is (b.0.0, record s { left = b.0.1 }) (t, u) b.2 in
+    (b.1 ∙ ap (λ (p : Located × State). Ok (p.0, p.1.left)) q, sym (ap (λ (p : Located × State). p.1.seen) q))
 
-app_valued : (before : List App) (name : List ℕ) (s : State) (app : App) (u : State) → EndsWell s → FineApp before name → app_value_at name s ≡ Ok (app, u) → Gets (λ ws x. IsApp (pair_words name ws) x) with_app (MayApp before) s app u
-unfolding app_value_at
-app_valued before name s app u well fine e =
-    let made : ℕ → List (List (List ℕ)) → App = λ n groups. record { name = name; timeout = n; groups = groups } in
-    let a = bind_ok _ _ _ e in
-    let b = bind_ok _ _ _ a.2 in
-    let time : Timed a.0.0 a.0.1 b.0.0 b.0.1 b.0.2 = timed a.0.0.word a.0.0.at a.0.1 b.0.0 b.0.1 b.0.2 (same_last s a.0.0 a.0.1 well a.1) b.1 in
-    let c = bind_ok _ _ _ b.2 in
-    let list = groups_found b.0.1 b.0.2 c.0.0 c.0.1 time.well c.1 in
-    let moved = time.moved list.begun in
-    let m = token_then s a.0.0 a.0.1 moved.0 (back b.0.1 b.0.2) well a.1 moved.3 moved.2 in
-    let same : b.0.2.seen ≡ s.seen = time.seen ∙ (token_is s a.0.0 a.0.1 a.1).1 in
-    subst (λ (p : App × State). Gets (λ ws x. IsApp (pair_words name ws) x) with_app (MayApp before) s p.0 p.1) (ok_same (made b.0.0 c.0.0, c.0.1) (app, u) _ refl c.2) (record {
-      ws = moved.0 ++ list.ws;
-      is = (moved.0 ++ list.ws, refl, (moved.0, list.ws, refl, moved.1, list.is));
-      moves = Moves-then s (back b.0.1 b.0.2) c.0.1 moved.0 list.ws m list.moves;
-      may = record { short = fine.short; once = fine.once; few = fine.few; nodes = subst (λ (q : Seen). MayList q c.0.0) same list.may };
-      seen = list.seen ∙ ap (λ (q : Seen). with_list q c.0.0) same;
-    })
+-- a token leaves the end as it is
+pub same_last : (s : State) (t : Located) (u : State) → EndsWell s → token s ≡ Ok (t, u) → EndsWell u
+same_last s t u well e = subst (λ r. IfOk r (λ x. x.word ≡ End)) (sym (taken_is s.left.tokens s.left.last t u.left (token_is s t u e).0).0) well
 
-pub app_found : (before : List App) (t : Located) (s : State) (app : App) (u : State) → EndsWell s → app_at before t s ≡ Ok (app, u) → Reads IsApp with_app (MayApp before) t s app u
-app_found before = pair_found IsApp (app_name_of before) (λ k name. (k ≡ name) × FineApp before name) (λ name. closed (app_value_at name)) with_app (MayApp before)
-    (λ t k e. let n = app_named before t k e in (k, n.0, (refl, n.1)))
-    (λ k name s x u well fine e. closed_found (λ ws app. IsApp (pair_begun name ws) app) (app_value_at name) with_app (MayApp before)
-    (λ s x u well e. app_valued before name s x u well fine.1 e) s x u well (subst (λ (n : List ℕ). closed (app_value_at n) s ≡ Ok (x, u)) fine.0 e))
+pub token_moves : (s : State) (t : Located) (u : State) → EndsWell s → token s ≡ Ok (t, u) → is_end t.word ≡ false → Moves s (t.word ∷ []) u
+token_moves s t u well e more =
+    let is = taken_is s.left.tokens s.left.last t u.left (token_is s t u e).0 in
+    elim is.1 [
+      | inl h ↦ record { words = ap (map (λ x. x.word)) h; last = is.0 }
+      | inr h ↦ let ends : t.word ≡ End = subst (λ r. IfOk r (λ x. x.word ≡ End)) h well in absurd (no_end t.word ends more)
+    ]
+  where
+    no_end : (w : Word) → w ≡ End → is_end w ≡ false → ⊥
+    no_end w e f = let g : true ≡ false = ap is_end (sym e) ∙ f in cc
 
--- ---- permissions
+-- this word was read, which is no end
+pub word_passes : (s : State) (t : Located) (u : State) (w : Word) → EndsWell s → token s ≡ Ok (t, u) → t.word ≡ w → is_end w ≡ false → Passes s (w ∷ []) u
+word_passes s t u w well e is more = record {
+  moves = subst (λ (v : Word). Moves s (v ∷ []) u) is (token_moves s t u well e (ap is_end is ∙ more));
+  well = same_last s t u well e;
+  seen = (token_is s t u e).1;
+}
 
-flag_is : (t : Located) (b : Bool) → flag_of t ≡ Ok b → IsFlag (t.word ∷ []) b × (is_end t.word ≡ false)
-unfolding flag_of
-flag_is t b e =
-    let f2 : List ℕ → Result Bool ConfigFault = λ name. cond (bytes_eq name (codes "false")) (Ok false) (fails BadShape t.at) in
-    let a = bind_ok (atom_of t) (λ name. cond (bytes_eq name (codes "true")) (Ok true) (f2 name)) b e in
-    let w = atom_is t.word t.at a.0 a.1 in
-    elim (chosen (bytes_eq a.0 (codes "true")) (Ok true) (f2 a.0) (Ok b) a.2) [
-      | inl h ↦ (subst (IsFlag (t.word ∷ [])) (ok_same true b _ refl h.1) (ap (λ (v : Word). v ∷ []) (w ∙ ap Name (is_named a.0 _ h.0))), ap is_end w)
+same_byte : (x y : Symbol) → eqb (byte_of x) (byte_of y) ≡ true → y ≡ x
+same_byte OpenList OpenList e = refl
+same_byte CloseList CloseList e = refl
+same_byte OpenTuple OpenTuple e = refl
+same_byte CloseTuple CloseTuple e = refl
+same_byte Comma Comma e = refl
+same_byte FullStop FullStop e = refl
+same_byte _ _ e = absurd cc
+
+pub mark_is : (x : Symbol) (w : Word) → is_mark x w ≡ true → w ≡ Mark x
+mark_is x (Mark y) e = ap Mark (same_byte x y e)
+mark_is x _ e = absurd cc
+
+pub symbol_passes : (x : Symbol) (s u : State) → EndsWell s → symbol_at x s ≡ Ok u → Passes s (Mark x ∷ []) u
+unfolding symbol_at
+symbol_passes x s u well e =
+    let b = bind_ok _ _ _ e in
+    let h = held _ _ _ _ b.2 in
+    subst (λ (v : State). Passes s (Mark x ∷ []) v) h.1 (word_passes s b.0.0 b.0.1 (Mark x) well b.1 (mark_is x b.0.0.word h.0) refl)
+
+-- the mark that parts or closes
+abbrev pub part : Bool → Symbol → Symbol
+part more close = cond more Comma close
+
+pub more_passes : (close : Symbol) (s : State) (more : Bool) (u : State) → EndsWell s → more_at close s ≡ Ok (more, u) → Passes s (Mark (part more close) ∷ []) u
+unfolding more_at
+more_passes close s more u well e =
+    let b = bind_ok (token s) (λ t. cond (is_mark Comma t.0.word) (Ok (true, t.1)) (cond (is_mark close t.0.word) (Ok (false, t.1)) (fails BadShape t.0.at))) (more, u) e in
+    elim (chosen (is_mark Comma b.0.0.word) (Ok (true, b.0.1)) (cond (is_mark close b.0.0.word) (Ok (false, b.0.1)) (fails BadShape b.0.0.at)) (Ok (more, u)) b.2) [
+      | inl h ↦ let q = ok_is (true, b.0.1) (more, u) h.1 in subst (λ (p : Bool × State). Passes s (Mark (part p.0 close) ∷ []) p.1) q (word_passes s b.0.0 b.0.1 (Mark Comma) well b.1 (mark_is Comma b.0.0.word h.0) refl)
       | inr h ↦
-          let g = held (bytes_eq a.0 (codes "false")) false _ b h.1 in
-          (subst (IsFlag (t.word ∷ [])) g.1 (ap (λ (v : Word). v ∷ []) (w ∙ ap Name (is_named a.0 _ g.0))), ap is_end w)
+          let g = held (is_mark close b.0.0.word) (false, b.0.1) _ (more, u) h.1 in
+          subst (λ (p : Bool × State). Passes s (Mark (part p.0 close) ∷ []) p.1) g.1 (word_passes s b.0.0 b.0.1 (Mark close) well b.1 (mark_is close b.0.0.word g.0) refl)
     ]
 
-permission_valued : (name : List ℕ) (s : State) (x : Permission) (u : State) → EndsWell s → length name ≤ 255 → permission_value_at name s ≡ Ok (x, u) → Gets (λ ws x. IsPermission (pair_words name ws) x) with_permission (MayPermission []) s x u
-unfolding permission_value_at
-permission_valued name s x u well short e =
-    let made : Bool → Permission = λ value. record { name = name; value = value } in
-    let a = bind_ok _ _ _ e in
-    let b = bind_ok _ _ _ a.2 in
-    let w = flag_is a.0.0 b.0 b.1 in
-    let m = word_passes s a.0.0 a.0.1 a.0.0.word well a.1 refl w.1 in
-    subst (λ (y : Permission × State). Gets (λ ws x. IsPermission (pair_words name ws) x) with_permission (MayPermission []) s y.0 y.1) (ok_same (made b.0, a.0.1) (x, u) _ refl b.2) (record {
-      ws = a.0.0.word ∷ [];
-      is = (a.0.0.word ∷ [], refl, w.0);
-      moves = m.moves;
-      may = short;
-      seen = m.seen;
-    })
+-- s, with the token t before it
+abbrev pub back : Located → State → State
+back t s = record s { left = record { tokens = t ∷ s.left.tokens; last = s.left.last } }
 
-pub permission_found : (before : List Permission) (t : Located) (s : State) (x : Permission) (u : State) → EndsWell s → permission_at t s ≡ Ok (x, u) → Reads IsPermission with_permission (MayPermission before) t s x u
-permission_found before = pair_found IsPermission short_name_of (λ k name. (k ≡ name) × (length name ≤ 255)) (λ name. closed (permission_value_at name)) with_permission (MayPermission before)
-    (λ t k e. let n = short_name_is t k e in (k, n.0, (refl, n.1)))
-    (λ k name s x u well fine e. closed_found (λ ws x. IsPermission (pair_begun name ws) x) (permission_value_at name) with_permission (MayPermission before)
-    (λ s x u well e. permission_valued name s x u well fine.1 e) s x u well (subst (λ (n : List ℕ). closed (permission_value_at n) s ≡ Ok (x, u)) fine.0 e))
+-- from the token t on something was read, which may stand there
+pub record Reads {A : Type 0} (Is : List Word → A → Type 0) (step : Seen → A → Seen) (May : Seen → A → Type 0) (t : Located) (s : State) (x : A) (u : State) : Type 0 where
+  pub ws : List Word
+  pub is : Is ws x
+  pub moves : Moves (back t s) ws u
+  pub begun : is_end t.word ≡ false
+  pub may : May s.seen x
+  pub seen : u.seen ≡ step s.seen x
 
--- ---- parameters and sections
+-- from s on something was read, which may stand there
+pub record Gets {A : Type 0} (Is : List Word → A → Type 0) (step : Seen → A → Seen) (May : Seen → A → Type 0) (s : State) (x : A) (u : State) : Type 0 where
+  pub ws : List Word
+  pub is : Is ws x
+  pub moves : Moves s ws u
+  pub may : May s.seen x
+  pub seen : u.seen ≡ step s.seen x
 
--- what a parameter's name says of it: it is one that is read and new, or another
-data FineParam (before : List Param) (name : List ℕ) : Option ParamName → Type 0 where
-  Known : (p : ParamName) → name ≡ spelled p → has_param p before ≡ false → FineParam before name (Some p)
-  Unknown : param_named name ≡ None → FineParam before name None
+-- a token, and what is read from it on
+pub token_then : (s : State) (t : Located) (u : State) (ws : List Word) (v : State) → EndsWell s → token s ≡ Ok (t, u) → is_end t.word ≡ false → Moves (back t u) ws v → Moves s ws v
+token_then s t u ws v well e begun m =
+    let n = token_moves s t u well e begun in
+    record { words = n.words ∙ m.words; last = m.last ∙ n.last }
 
-first_is : (before : List Param) (at : ℕ) (name : List ℕ) (o : Option ParamName) (k : Option ParamName) → param_named name ≡ o → first_param before at o ≡ Ok k → FineParam before name k
-first_is before at name None k is e = subst (FineParam before name) (ok_same None k _ refl e) (Unknown is)
-first_is before at name (Some p) k is e =
-    let h = passed _ _ _ _ e in
-    subst (FineParam before name) (ok_same (Some p) k _ refl h.1) (Known p (param_is name p is) h.0)
+module _ {A : Type 0} (Is : List Word → A → Type 0) (read : List A → Located → State → Result (A × State) ConfigFault) (close : Symbol) (step : Seen → A → Seen) (May : List A → Seen → A → Type 0)
+    (reads : (before : List A) (t : Located) (s : State) (x : A) (u : State) → EndsWell s → read before t s ≡ Ok (x, u) → Reads Is step (May before) t s x u) where
+  -- what a list of such things is: what came before, and the things that were read up to the closing mark
+  pub record Lists (before : List A) (t : Located) (s : State) (all : List A) (u : State) : Type 0 where
+    pub xs : List A
+    pub whole : all ≡ before ++ xs
+    pub ws : List Word
+    pub is : Parted Is ws xs
+    pub moves : Moves (back t s) (ws ++ Mark close ∷ []) u
+    pub begun : is_end t.word ≡ false
+    pub may : AllMay step May before s.seen xs
+    pub seen : u.seen ≡ steps step s.seen xs
 
-params_named : (before : List Param) (t : Located) (k : Option ParamName) → param_name_of before t ≡ Ok k → (name : List ℕ) × (t.word ≡ Name name) × FineParam before name k
-unfolding param_name_of
-params_named before t k e =
-    let b = bind_ok _ _ _ e in
-    (b.0, atom_is t.word t.at b.0 b.1, first_is before t.at b.0 (param_named b.0) k refl b.2)
+  parted_more : (first rest : List Word) (x : A) (xs : List A) → Is first x → Parted Is rest xs → Parted Is (first ++ Mark Comma ∷ rest) (x ∷ xs)
+  parted_more first rest x [] i p = absurd p
+  parted_more first rest x (y ∷ ys) i p = (first, rest, refl, i, p)
 
-wait_is : (w : Word) (at : ℕ) (wait : SyncWait) → wait_of (record { word = w; at = at }) ≡ Ok wait → IsWait (w ∷ []) wait × (is_end w ≡ false)
-unfolding wait_of
-wait_is (Number negative digits) at wait e =
-    let b = bind_ok _ _ _ e in
-    let q : Ms b.0 ≡ wait = ok_same (Ms b.0) wait _ refl b.2 in
-    (subst (IsWait (Number negative digits ∷ [])) q (Number negative digits, refl, ms_is at negative digits b.0 b.1), refl)
-wait_is (Name name) at wait e =
-    let h = held _ _ _ _ e in
-    (subst (IsWait (Name name ∷ [])) h.1 (ap (λ (n : List ℕ). Name n ∷ []) (is_named name _ h.0)), refl)
-wait_is _ at wait e = absurd cc
+  last_one : (before : List A) (t : Located) (s : State) (x : A) (s1 : State) (u : State) → Reads Is step (May before) t s x s1 → Passes s1 (Mark close ∷ []) u → Lists before t s (before ++ x ∷ []) u
+  last_one before t s x s1 u r m = record {
+    xs = x ∷ [];
+    whole = refl;
+    ws = r.ws;
+    is = r.is;
+    begun = r.begun;
+    moves = Moves-then (back t s) s1 u r.ws (Mark close ∷ []) r.moves m.moves;
+    may = (r.may, tt);
+    seen = m.seen ∙ r.seen;
+  }
 
--- a value of the parameter of this name
-abbrev GetsParam : List Param → ParamName → State → Param → State → Type 0
-GetsParam before name s p u = Gets (λ ws x. IsParam (pair_words (spelled name) ws) x) with_param (MayParam before) s p u
+  -- one more, a comma, the token after it and what is read from that on
+  one_more : (before : List A) (t : Located) (s : State) (x : A) (s1 s2 : State) (t' : Located) (s3 : State) (all : List A) (u : State) → Reads Is step (May before) t s x s1 → Passes s1 (Mark Comma ∷ []) s2 → token s2 ≡ Ok (t', s3)
+      → Lists (before ++ x ∷ []) t' s3 all u → Lists before t s all u
+  one_more before t s x s1 s2 t' s3 all u r m k l =
+      let tail = token_then s2 t' s3 (l.ws ++ Mark close ∷ []) u m.well k l.begun l.moves in
+      let both = Moves-then (back t s) s1 u r.ws (Mark Comma ∷ l.ws ++ Mark close ∷ []) r.moves (Moves-then s1 s2 u (Mark Comma ∷ []) (l.ws ++ Mark close ∷ []) m.moves tail) in
+      let next : s3.seen ≡ step s.seen x = (token_is s2 t' s3 k).1 ∙ m.seen ∙ r.seen in
+      record {
+        xs = x ∷ l.xs;
+        whole = l.whole ∙ append_assoc before (x ∷ []) l.xs;
+        ws = r.ws ++ Mark Comma ∷ l.ws;
+        is = parted_more r.ws l.ws x l.xs r.is l.is;
+        moves = subst (λ (w : List Word). Moves (back t s) w u) (sym (append_assoc r.ws (Mark Comma ∷ l.ws) (Mark close ∷ []))) both;
+        begun = r.begun;
+        may = (r.may, subst (λ (q : Seen). AllMay step May (before ++ x ∷ []) q l.xs) next l.may);
+        seen = l.seen ∙ ap (λ (q : Seen). steps step q l.xs) next;
+      }
 
--- the parameter of this name stands once
-once_as : (before : List Param) (name : ParamName) → has_param name before ≡ false → (other : ParamName) → ◌≡◌ {A = Option ParamName} (Some name) (Some other) → has_param other before ≡ false
-once_as before name once other e = let same : name ≡ other = cc in subst (λ (n : ParamName). has_param n before ≡ false) same once
+  pub list_found : (n : ℕ) (before : List A) (t : Located) (s : State) (all : List A) (u : State) → EndsWell s → comma_list read close n before t s ≡ Ok (all, u) → Lists before t s all u
+  unfolding comma_list
+  list_found zero before t s all u well e = absurd cc
+  list_found (suc n) before t s all u well e =
+      let a = bind_ok (read before t s) (λ one. more_at close one.1 >>= λ more. cond more.0 (token more.1 >>= λ next. comma_list read close n (before ++ one.0 ∷ []) next.0 next.1) (Ok (before ++ one.0 ∷ [], more.1))) (all, u) e in
+      let r = reads before t s a.0.0 a.0.1 well a.1 in
+      let well1 : EndsWell a.0.1 = still_well (back t s) a.0.1 r.ws well r.moves in
+      let b = bind_ok (more_at close a.0.1) (λ more. cond more.0 (token more.1 >>= λ next. comma_list read close n (before ++ a.0.0 ∷ []) next.0 next.1) (Ok (before ++ a.0.0 ∷ [], more.1))) (all, u) a.2 in
+      let m = more_passes close a.0.1 b.0.0 b.0.1 well1 b.1 in
+      elim (chosen b.0.0 (token b.0.1 >>= λ next. comma_list read close n (before ++ a.0.0 ∷ []) next.0 next.1) (Ok (before ++ a.0.0 ∷ [], b.0.1)) (Ok (all, u)) b.2) [
+        | inl h ↦
+            let m1 = subst (λ (c : Bool). Passes a.0.1 (Mark (part c close) ∷ []) b.0.1) h.0 m in
+            let k = bind_ok (token b.0.1) (λ next. comma_list read close n (before ++ a.0.0 ∷ []) next.0 next.1) (all, u) h.1 in
+            let well3 : EndsWell k.0.1 = same_last b.0.1 k.0.0 k.0.1 m1.well k.1 in
+            one_more before t s a.0.0 a.0.1 b.0.1 k.0.0 k.0.1 all u r m1 k.1 (list_found n (before ++ a.0.0 ∷ []) k.0.0 k.0.1 all u well3 k.2)
+        | inr h ↦
+            let m0 = subst (λ (c : Bool). Passes a.0.1 (Mark (part c close) ∷ []) b.0.1) h.0 m in
+            subst (λ (p : List A × State). Lists before t s p.0 p.1) (ok_is (before ++ a.0.0 ∷ [], b.0.1) (all, u) h.1) (last_one before t s a.0.0 a.0.1 b.0.1 r m0)
+      ]
+
+  parted_some : (ws : List Word) (xs : List A) → Parted Is ws xs → PartedOrNone Is ws xs
+  parted_some ws [] p = absurd p
+  parted_some ws (x ∷ xs) p = p
 
 module _ {A : Type 0} (Is : List Word → A → Type 0) (read : List A → Located → State → Result (A × State) ConfigFault) (step : Seen → A → Seen) (May : List A → Seen → A → Type 0)
     (reads : (before : List A) (t : Located) (s : State) (x : A) (u : State) → EndsWell s → read before t s ≡ Ok (x, u) → Reads Is step (May before) t s x u) where
-  -- a list as the value of the parameter of this name
-  list_valued : (before : List Param) (name : ParamName) (made : List A → Param) → ((xs : List A) → name_of (made xs) ≡ Some name) → ((ws : List Word) (xs : List A) → IsListOf Is ws xs → IsParam (pair_words (spelled name) ws) (made xs))
-      → ((seen : Seen) (xs : List A) → AllMay step May [] seen xs → MayValue seen (made xs)) → ((seen : Seen) (xs : List A) → steps step seen xs ≡ with_param seen (made xs))
-      → (s : State) (p : Param) (u : State) → EndsWell s → has_param name before ≡ false → ◌>>=◌ {B = Param × State} (list_of read s) (λ xs. Ok (made xs.0, xs.1)) ≡ Ok (p, u) → GetsParam before name s p u
-  list_valued before name made named_so valued may seen s p u well once e =
-      let b = bind_ok _ _ _ e in
-      let g = bracketed_found Is read step May reads s b.0.0 b.0.1 well b.1 in
-      subst (λ (y : Param × State). GetsParam before name s y.0 y.1) (ok_same (made b.0.0, b.0.1) (p, u) _ refl b.2) (record {
-        ws = g.ws;
-        is = valued g.ws b.0.0 g.is;
-        moves = g.moves;
-        may = record { once = λ other is. once_as before name once other (sym (named_so b.0.0) ∙ is); value = may s.seen b.0.0 g.may };
-        seen = g.seen ∙ seen s.seen b.0.0;
+  -- a list in brackets
+  pub bracketed_found : (s : State) (xs : List A) (u : State) → EndsWell s → list_of read s ≡ Ok (xs, u) → Gets (IsListOf Is) (steps step) (AllMay step May []) s xs u
+  unfolding list_of
+  bracketed_found s xs u well e =
+      let f2 : Located × State → Result (List A × State) ConfigFault = λ first. cond (is_mark CloseList first.0.word) (Ok ([], first.1)) (comma_list read CloseList (room first.1) [] first.0 first.1) in
+      let f1 : State → Result (List A × State) ConfigFault = λ v. token v >>= f2 in
+      let a = bind_ok (symbol_at OpenList s) f1 (xs, u) e in
+      let m = symbol_passes OpenList s a.0 well a.1 in
+      let k = bind_ok (token a.0) f2 (xs, u) a.2 in
+      elim (chosen (is_mark CloseList k.0.0.word) (Ok ([], k.0.1)) (comma_list read CloseList (room k.0.1) [] k.0.0 k.0.1) (Ok (xs, u)) k.2) [
+        | inl h ↦
+            let n = word_passes a.0 k.0.0 k.0.1 (Mark CloseList) m.well k.1 (mark_is CloseList k.0.0.word h.0) refl in
+            subst (λ (p : List A × State). Gets (IsListOf Is) (steps step) (AllMay step May []) s p.0 p.1) (ok_is ([], k.0.1) (xs, u) h.1) (record {
+              ws = between OpenList [] CloseList;
+              is = ([], refl, refl);
+              moves = Moves-then s a.0 k.0.1 (Mark OpenList ∷ []) (Mark CloseList ∷ []) m.moves n.moves;
+              may = tt;
+              seen = n.seen ∙ m.seen;
+            })
+        | inr h ↦
+            let l = list_found Is read CloseList step May reads (room k.0.1) [] k.0.0 k.0.1 xs u (same_last a.0 k.0.0 k.0.1 m.well k.1) h.1 in
+            let tail = token_then a.0 k.0.0 k.0.1 (l.ws ++ Mark CloseList ∷ []) u m.well k.1 l.begun l.moves in
+            let before : k.0.1.seen ≡ s.seen = (token_is a.0 k.0.0 k.0.1 k.1).1 ∙ m.seen in
+            subst (λ (all : List A). Gets (IsListOf Is) (steps step) (AllMay step May []) s all u) (sym l.whole) (record {
+              ws = between OpenList l.ws CloseList;
+              is = (l.ws, refl, parted_some Is read CloseList step May reads l.ws l.xs l.is);
+              moves = Moves-then s a.0 u (Mark OpenList ∷ []) (l.ws ++ Mark CloseList ∷ []) m.moves tail;
+              may = subst (λ (q : Seen). AllMay step May [] q l.xs) before l.may;
+              seen = l.seen ∙ ap (λ (q : Seen). steps step q l.xs) before;
+            })
+      ]
+
+-- the words of a pair up to its comma, and then these
+abbrev pub pair_begun : List ℕ → List Word → List Word
+pair_begun name rest = Mark OpenTuple ∷ Name name ∷ Mark Comma ∷ rest
+
+-- the words of a pair of a name and a value
+abbrev pub pair_words : List ℕ → List Word → List Word
+pair_words name value = Mark OpenTuple ∷ Name name ∷ Mark Comma ∷ value ++ Mark CloseTuple ∷ []
+
+module _ {A : Type 0} (Is : List Word → A → Type 0) (value : State → Result (A × State) ConfigFault) (step : Seen → A → Seen) (May : Seen → A → Type 0)
+    (valued : (s : State) (x : A) (u : State) → EndsWell s → value s ≡ Ok (x, u) → Gets (λ ws x. Is (ws ++ Mark CloseTuple ∷ []) x) step May s x u) where
+  -- a value, and the brace that closes its pair
+  pub closed_found : (s : State) (x : A) (u : State) → EndsWell s → closed value s ≡ Ok (x, u) → Gets Is step May s x u
+  closed_found s x u well e =
+      let a = bind_ok _ _ _ e in
+      let v = valued s a.0.0 a.0.1 well a.1 in
+      let b = bind_ok _ _ _ a.2 in
+      let r = symbol_passes CloseTuple a.0.1 b.0 (still_well s a.0.1 v.ws well v.moves) b.1 in
+      subst (λ (y : A × State). Gets Is step May s y.0 y.1) (ok_is (a.0.0, b.0) (x, u) b.2) (record {
+        ws = v.ws ++ Mark CloseTuple ∷ [];
+        is = v.is;
+        moves = Moves-then s a.0.1 b.0 v.ws (Mark CloseTuple ∷ []) v.moves r.moves;
+        may = v.may;
+        seen = r.seen ∙ v.seen;
       })
 
-param_valued : (before : List Param) (name : ParamName) (s : State) (p : Param) (u : State) → EndsWell s → has_param name before ≡ false → param_value_at name s ≡ Ok (p, u) → GetsParam before name s p u
-unfolding param_value_at
-param_valued before named.Distributed s p u well once e = list_valued IsApp app_at with_app MayApp app_found before named.Distributed Distributed (λ _. refl) (λ ws _ h. (ws, refl, h)) (λ _ _ h. h) (λ _ _. refl) s p u well once e
-param_valued before named.Permissions s p u well once e = list_valued IsPermission (λ _. permission_at) with_permission MayPermission permission_found before named.Permissions Permissions (λ _. refl) (λ ws _ h. (ws, refl, h)) (λ _ _ h. h) same_seen s p u well once e
-param_valued before named.Mandatory s p u well once e = list_valued IsNode (λ _. node_of true) with_node (λ _. MayNode true) (node_found true) before named.Mandatory Mandatory (λ _. refl) (λ ws _ h. (ws, refl, h)) (λ _ _ h. h) (λ _ _. refl) s p u well once e
-param_valued before named.Optional s p u well once e = list_valued IsNode (λ _. node_of true) with_node (λ _. MayNode true) (node_found true) before named.Optional Optional (λ _. refl) (λ ws _ h. (ws, refl, h)) (λ _ _ h. h) (λ _ _. refl) s p u well once e
-param_valued before named.Timeout s p u well once e =
+joined_words : (w0 n : Word) (ws ws0 ws1 ws2 v : List Word) → w0 ≡ Mark OpenTuple → ws ≡ n ∷ ws0 → ws0 ≡ Mark Comma ∷ ws1 → ws1 ≡ v ++ ws2 → w0 ∷ ws ≡ Mark OpenTuple ∷ n ∷ Mark Comma ∷ (v ++ ws2)
+joined_words w0 n ws ws0 ws1 ws2 v e0 e1 e2 e3 = cc
+
+module _ {K A : Type 0} (Is : List Word → A → Type 0) (name_of : Located → Result K ConfigFault) (Fine : K → List ℕ → Type 0) (rest : K → State → Result (A × State) ConfigFault) (step : Seen → A → Seen) (May : Seen → A → Type 0)
+    (named : (t : Located) (k : K) → name_of t ≡ Ok k → (name : List ℕ) × (t.word ≡ Name name) × Fine k name)
+    (rested : (k : K) (name : List ℕ) (s : State) (x : A) (u : State) → EndsWell s → Fine k name → rest k s ≡ Ok (x, u) → Gets (λ ws x. Is (pair_begun name ws) x) step May s x u) where
+  pub pair_found : (t : Located) (s : State) (x : A) (u : State) → EndsWell s → pair_at name_of rest t s ≡ Ok (x, u) → Reads Is step May t s x u
+  unfolding pair_at
+  pair_found t s x u well e =
+      let h = required _ _ _ _ e in
+      let begins = mark_is OpenTuple t.word h.0 in
+      let a = bind_ok _ _ _ h.1 in
+      let b = bind_ok _ _ _ a.2 in
+      let n = named a.0.0 b.0 b.1 in
+      let p = word_passes s a.0.0 a.0.1 (Name n.0) well a.1 n.1 refl in
+      let c = bind_ok _ _ _ b.2 in
+      let q = symbol_passes Comma a.0.1 c.0 p.well c.1 in
+      let v = rested b.0 n.0 c.0 x u q.well n.2 c.2 in
+      let before : c.0.seen ≡ s.seen = q.seen ∙ p.seen in
+      record {
+        ws = pair_begun n.0 v.ws;
+        is = v.is;
+        moves = record {
+          words = joined_words t.word (Name n.0) (words_in s) (words_in a.0.1) (words_in c.0) (words_in u) v.ws begins p.moves.words q.moves.words v.moves.words;
+          last = v.moves.last ∙ q.moves.last ∙ p.moves.last;
+        };
+        begun = ap is_end begins;
+        may = subst (λ (y : Seen). May y x) before v.may;
+        seen = v.seen ∙ ap (λ (y : Seen). step y x) before;
+      }
+
+-- these words were passed over from s on, and behind them the token t was read
+pub record Jumps (Is : List Word → Type 0) (s : State) (t : Located) (u : State) : Type 0 where
+  pub well : EndsWell u
+  pub seen : u.seen ≡ s.seen
+  pub moved : is_end t.word ≡ false → (ws : List Word) × Is ws × Moves s ws (back t u)
+
+-- the same from the token b on, which is not the end
+pub record Skips (Is : List Word → Type 0) (b : Located) (s : State) (t : Located) (u : State) : Type 0 where
+  pub begun : is_end b.word ≡ false
+  pub jumps : Jumps Is (back b s) t u
+
+token_jumps : (Is : List Word → Type 0) → Is [] → (s : State) (t : Located) (u : State) → EndsWell s → token s ≡ Ok (t, u) → Jumps Is s t u
+token_jumps Is none s t u well e = record {
+  well = same_last s t u well e;
+  seen = (token_is s t u e).1;
+  moved = λ begun. ([], none, token_then s t u [] (back t u) well e begun (record { words = refl; last = refl }));
+}
+
+-- a word before
+word_before : (Is IsAll : List Word → Type 0) (w : Word) (s : State) (t : Located) (u : State) → ((ws : List Word) → Is ws → IsAll (w ∷ ws)) → (b : Located) → b.word ≡ w → Jumps Is s t u → Jumps IsAll (back b s) t u
+word_before Is IsAll w s t u more b is j = record {
+  well = j.well;
+  seen = j.seen;
+  moved = λ begun.
+      let m = j.moved begun in
+      (w ∷ m.0, more m.0 m.1, record { words = rw is (ap (λ (v : List Word). w ∷ v) m.2.words); last = m.2.last });
+}
+
+-- a token taken before
+taken_before : (Is : List Word → Type 0) (s : State) (b : Located) (v : State) (t : Located) (u : State) → EndsWell s → token s ≡ Ok (b, v) → Skips Is b v t u → Jumps Is s t u
+taken_before Is s b v t u well e k = record {
+  well = k.jumps.well;
+  seen = k.jumps.seen ∙ (token_is s b v e).1;
+  moved = λ begun. let m = k.jumps.moved begun in (m.0, m.1, token_then s b v m.0 (back t u) well e k.begun m.2);
+}
+
+-- ---- strings
+
+abbrev AreTexts : List Word → Type 0
+AreTexts words = All (λ word. word ≡ Text) words
+
+text_is : (w : Word) → is_text w ≡ true → w ≡ Text
+text_is Text e = refl
+text_is _ e = absurd cc
+
+texts_found : (n : ℕ) (s : State) (t : Located) (u : State) → EndsWell s → texts_at n s ≡ Ok (t, u) → Jumps AreTexts s t u
+unfolding texts_at
+texts_found zero s t u well e = token_jumps AreTexts (All-nil (λ word. word ≡ Text)) s t u well e
+texts_found (suc n) s t u well e =
+    let a = bind_ok (token s) (λ x. cond (is_text x.0.word) (texts_at n x.1) (Ok x)) (t, u) e in
+    elim (chosen (is_text a.0.0.word) (texts_at n a.0.1) (Ok a.0) (Ok (t, u)) a.2) [
+      | inl h ↦
+          let w = text_is a.0.0.word h.0 in
+          let rest = texts_found n a.0.1 t u (same_last s a.0.0 a.0.1 well a.1) h.1 in
+          taken_before AreTexts s a.0.0 a.0.1 t u well a.1 (record { begun = ap is_end w; jumps = word_before AreTexts AreTexts Text a.0.1 t u (λ ws all. All-cons (λ word. word ≡ Text) Text ws refl all) a.0.0 w rest })
+      | inr h ↦ token_jumps AreTexts (All-nil (λ word. word ≡ Text)) s t u well (a.1 ∙ h.1)
+    ]
+
+-- ---- terms between brackets
+
+-- terms parted by commas, and the closing mark
+abbrev AreClosed : Symbol → List Word → Type 0
+AreClosed close words = (inner : List Word) × (words ≡ inner ++ Mark close ∷ []) × AreTerms inner
+
+-- nothing, or terms parted by commas, and the closing mark
+abbrev AreClosedOrNone : Symbol → List Word → Type 0
+AreClosedOrNone close words = (words ≡ Mark close ∷ []) ⊎ AreClosed close words
+
+module _ (pass : Located → State → Result (Located × State) ConfigFault) (close : Symbol)
+    (passes : (b : Located) (s : State) (t : Located) (u : State) → EndsWell s → pass b s ≡ Ok (t, u) → Skips IsTerm b s t u) where
+  -- a term, a mark and what is passed over from the token behind it on
+  after_term : (IsRest IsAll : List Word → Type 0) (x : Symbol) → ((first rest : List Word) → IsTerm first → IsRest rest → IsAll (first ++ Mark x ∷ rest)) → (b : Located) (s : State) (m : Located) (v : State) (t : Located) (u : State)
+      → Skips IsTerm b s m v → m.word ≡ Mark x → Jumps IsRest v t u → Skips IsAll b s t u
+  after_term IsRest IsAll x more b s m v t u k w j = record {
+    begun = k.begun;
+    jumps = record {
+      well = j.well;
+      seen = j.seen ∙ k.jumps.seen;
+      moved = λ begun.
+          let first = k.jumps.moved (ap is_end w) in
+          let rest = (word_before IsRest (λ ws. (tail : List Word) × (ws ≡ Mark x ∷ tail) × IsRest tail) (Mark x) v t u (λ ws is. (ws, refl, is)) m w j).moved begun in
+          (first.0 ++ rest.0, subst (λ (ws : List Word). IsAll (first.0 ++ ws)) (sym rest.1.1) (more first.0 rest.1.0 first.1 rest.1.2), Moves-then (back b s) (back m v) (back t u) first.0 rest.0 first.2 rest.2);
+    };
+  }
+
+  terms_found : (n : ℕ) (b : Located) (s : State) (t : Located) (u : State) → EndsWell s → terms_at pass close n b s ≡ Ok (t, u) → Skips (AreClosed close) b s t u
+  unfolding terms_at
+  terms_found zero b s t u well e = absurd cc
+  terms_found (suc n) b s t u well e =
+      let f2 : Located × State → Result (Located × State) ConfigFault = λ next. terms_at pass close n next.0 next.1 in
+      let f1 : Located × State → Result (Located × State) ConfigFault = λ m. cond (is_mark close m.0.word) (token m.1) (cond (is_mark Comma m.0.word) (token m.1 >>= f2) (fails BadShape m.0.at)) in
+      let a = bind_ok (pass b s) f1 (t, u) e in
+      let k = passes b s a.0.0 a.0.1 well a.1 in
+      elim (chosen (is_mark close a.0.0.word) (token a.0.1) (cond (is_mark Comma a.0.0.word) (token a.0.1 >>= f2) (fails BadShape a.0.0.at)) (Ok (t, u)) a.2) [
+        | inl h ↦
+            after_term (λ ws. ws ≡ []) (AreClosed close) close (λ first rest is none. (first, ap (λ (ws : List Word). first ++ Mark close ∷ ws) none, One first is)) b s a.0.0 a.0.1 t u k (mark_is close a.0.0.word h.0)
+            (token_jumps (λ ws. ws ≡ []) refl a.0.1 t u k.jumps.well h.1)
+        | inr h ↦
+            let g = required (is_mark Comma a.0.0.word) (token a.0.1 >>= f2) _ (t, u) h.1 in
+            let c = bind_ok (token a.0.1) f2 (t, u) g.1 in
+            let rest = terms_found n c.0.0 c.0.1 t u (same_last a.0.1 c.0.0 c.0.1 k.jumps.well c.1) c.2 in
+            after_term (AreClosed close) (AreClosed close) Comma (λ first rest is more. (first ++ Mark Comma ∷ more.0, ap (λ (ws : List Word). first ++ Mark Comma ∷ ws) more.1 ∙ sym (append_assoc first (Mark Comma ∷ more.0) (Mark close ∷ [])), More first more.0 is more.2)) b s a.0.0 a.0.1 t u k
+            (mark_is Comma a.0.0.word g.0) (taken_before (AreClosed close) a.0.1 c.0.0 c.0.1 t u k.jumps.well c.1 rest)
+      ]
+
+  terms_in_found : (n : ℕ) (s : State) (t : Located) (u : State) → EndsWell s → terms_in pass close n s ≡ Ok (t, u) → Jumps (AreClosedOrNone close) s t u
+  unfolding terms_in
+  terms_in_found n s t u well e =
+      let a = bind_ok (token s) (λ first. cond (is_mark close first.0.word) (token first.1) (terms_at pass close n first.0 first.1)) (t, u) e in
+      let well1 = same_last s a.0.0 a.0.1 well a.1 in
+      elim (chosen (is_mark close a.0.0.word) (token a.0.1) (terms_at pass close n a.0.0 a.0.1) (Ok (t, u)) a.2) [
+        | inl h ↦
+            let w = mark_is close a.0.0.word h.0 in
+            taken_before (AreClosedOrNone close) s a.0.0 a.0.1 t u well a.1
+            (record { begun = ap is_end w; jumps = word_before (λ ws. ws ≡ []) (AreClosedOrNone close) (Mark close) a.0.1 t u (λ ws none. inl (ap (λ (l : List Word). Mark close ∷ l) none)) a.0.0 w (token_jumps (λ ws. ws ≡ []) refl a.0.1 t u well1 h.1) })
+        | inr h ↦
+            let k = terms_found n a.0.0 a.0.1 t u well1 h.1 in
+            let j = taken_before (AreClosed close) s a.0.0 a.0.1 t u well a.1 k in
+            record { well = j.well; seen = j.seen; moved = λ begun. let m = j.moved begun in (m.0, inr m.1, m.2) }
+      ]
+
+  -- what stands between brackets is a term with them
+  brackets_found : (n : ℕ) (open_mark : Symbol) (place : ℕ) (s : State) (t : Located) (u : State) → AreBrackets open_mark close → EndsWell s → terms_in pass close n s ≡ Ok (t, u) → Skips IsTerm (record { word = Mark open_mark; at = place }) s t u
+  brackets_found n open_mark place s t u pair well e = record {
+    begun = refl;
+    jumps = word_before (AreClosedOrNone close) IsTerm (Mark open_mark) s t u is (record { word = Mark open_mark; at = place }) refl (terms_in_found n s t u well e);
+  }
+    where
+      is : (ws : List Word) → AreClosedOrNone close ws → IsTerm (Mark open_mark ∷ ws)
+      is ws (inl h) = subst (λ (l : List Word). IsTerm (Mark open_mark ∷ l)) (sym h) (Empty open_mark close pair)
+      is ws (inr h) = subst (λ (l : List Word). IsTerm (Mark open_mark ∷ l)) (sym h.1) (Between open_mark close h.0 pair h.2)
+
+-- ---- terms
+
+one_word : (w : Word) (place : ℕ) (s : State) (t : Located) (u : State) → IsTerm (w ∷ []) → is_end w ≡ false → EndsWell s → token s ≡ Ok (t, u) → Skips IsTerm (record { word = w; at = place }) s t u
+one_word w place s t u is no_end well e = record {
+  begun = no_end;
+  jumps = word_before (λ ws. ws ≡ []) IsTerm w s t u (λ ws none. subst (λ (l : List Word). IsTerm (w ∷ l)) (sym none) is) (record { word = w; at = place }) refl (token_jumps (λ ws. ws ≡ []) refl s t u well e);
+}
+
+module _ (pass : Located → State → Result (Located × State) ConfigFault)
+    (passes : (b : Located) (s : State) (t : Located) (u : State) → EndsWell s → pass b s ≡ Ok (t, u) → Skips IsTerm b s t u) where
+  term_by_found : (w : Word) (place n : ℕ) (s : State) (t : Located) (u : State) → EndsWell s → term_by pass n (record { word = w; at = place }) s ≡ Ok (t, u) → Skips IsTerm (record { word = w; at = place }) s t u
+  unfolding term_by
+  term_by_found (Name name) place n s t u well e = one_word (Name name) place s t u (Atom name) refl well e
+  term_by_found (Number negative digits) place n s t u well e = one_word (Number negative digits) place s t u (Integer negative digits) refl well e
+  term_by_found Text place n s t u well e = record {
+    begun = refl;
+    jumps = word_before AreTexts IsTerm Text s t u (λ ws all. Strings ws all) (record { word = Text; at = place }) refl (texts_found n s t u well e);
+  }
+  term_by_found (Mark OpenList) place n s t u well e = brackets_found pass CloseList passes n OpenList place s t u OfList well e
+  term_by_found (Mark OpenTuple) place n s t u well e = brackets_found pass CloseTuple passes n OpenTuple place s t u OfTuple well e
+  term_by_found _ place n s t u well e = absurd cc
+
+term_found : (n : ℕ) (b : Located) (s : State) (t : Located) (u : State) → EndsWell s → term_at n b s ≡ Ok (t, u) → Skips IsTerm b s t u
+unfolding term_at
+term_found zero b s t u well e = absurd cc
+term_found (suc n) b s t u well e = term_by_found (term_at n) (term_found n) b.word b.at n s t u well e
+
+-- a term was passed over, and the brace behind it
+pub record PassesTerm (s : State) (u : State) : Type 0 where
+  pub ws : List Word
+  pub term : IsTerm ws
+  pub moves : Moves s (ws ++ Mark CloseTuple ∷ []) u
+  pub seen : u.seen ≡ s.seen
+
+pub passed_found : (s : State) (u : State) → EndsWell s → passed_at s ≡ Ok u → PassesTerm s u
+unfolding passed_at
+passed_found s u well e =
     let a = bind_ok _ _ _ e in
     let b = bind_ok _ _ _ a.2 in
-    let w = wait_is a.0.0.word a.0.0.at b.0 b.1 in
-    let m = word_passes s a.0.0 a.0.1 a.0.0.word well a.1 refl w.1 in
-    subst (λ (y : Param × State). GetsParam before named.Timeout s y.0 y.1) (ok_same (Timeout b.0, a.0.1) (p, u) _ refl b.2) (record {
-      ws = a.0.0.word ∷ [];
-      is = (a.0.0.word ∷ [], refl, w.0);
-      moves = m.moves;
-      may = record { once = once_as before named.Timeout once; value = tt };
-      seen = m.seen;
-    })
-
--- another name than those of the parameters that are read
-unknown_is : (name : List ℕ) → param_named name ≡ None → (known : ParamName) → name ≢ spelled known
-unknown_is name e known same = absurd (no_name known (sym (ap param_named same) ∙ e))
-  where
-    no_name : (p : ParamName) → param_named (spelled p) ≡ None → ⊥
-    no_name named.Distributed h = absurd cc
-    no_name _ h = absurd cc
-
-param_rested : (before : List Param) (k : Option ParamName) (name : List ℕ) (s : State) (p : Param) (u : State) → EndsWell s → FineParam before name k → param_rest_at k s ≡ Ok (p, u) → Gets (λ ws x. IsParam (pair_begun name ws) x) with_param (MayParam before) s p u
-unfolding param_rest_at
-param_rested before (Some _) name s p u well (Known known is once) e =
-    let g = closed_found (λ ws x. IsParam (pair_begun (spelled known) ws) x) (param_value_at known) with_param (MayParam before) (λ s x u well e. param_valued before known s x u well once e) s p u well e in
-    subst (λ (n : List ℕ). Gets (λ ws x. IsParam (pair_begun n ws) x) with_param (MayParam before) s p u) (sym is) g
-param_rested before None name s p u well (Unknown other) e =
-    let a = bind_ok _ _ _ e in
-    let m = passed_found s a.0 well a.1 in
-    subst (λ (y : Param × State). Gets (λ ws x. IsParam (pair_begun name ws) x) with_param (MayParam before) s y.0 y.1) (ok_same (Param.Other, a.0) (p, u) _ refl a.2) (record {
-      ws = m.ws ++ Mark CloseTuple ∷ [];
-      is = (name, unknown_is name other, (m.ws, refl, m.term));
-      moves = m.moves;
-      may = record { once = λ known is. absurd (nothing known is); value = tt };
-      seen = m.seen;
-    })
-  where
-    nothing : (known : ParamName) → ◌≡◌ {A = Option ParamName} None (Some known) → ⊥
-    nothing known h = absurd cc
-
-pub param_found : (before : List Param) (t : Located) (s : State) (p : Param) (u : State) → EndsWell s → param_at before t s ≡ Ok (p, u) → Reads IsParam with_param (MayParam before) t s p u
-param_found before = pair_found IsParam (param_name_of before) (λ k name. FineParam before name k) param_rest_at with_param (MayParam before) (params_named before) (param_rested before)
-
--- what a section's name says of it: it is `kernel`, which stands once, or another
-data FineSection (before : List Section) (name : List ℕ) : Bool → Type 0 where
-  IsKernel : name ≡ codes "kernel" → has_kernel before ≡ false → FineSection before name true
-  IsOther : bytes_eq name (codes "kernel") ≡ false → FineSection before name false
-
-section_named : (before : List Section) (t : Located) (k : Bool) → names_kernel before t ≡ Ok k → (name : List ℕ) × (t.word ≡ Name name) × FineSection before name k
-unfolding names_kernel
-section_named before t k e =
-    let first : Result Bool ConfigFault = cond (has_kernel before) (fails BadShape t.at) (Ok true) in
-    let b = bind_ok (atom_of t) (λ name. cond (bytes_eq name (codes "kernel")) first (Ok false)) k e in
-    let fine : FineSection before b.0 k = elim (chosen (bytes_eq b.0 (codes "kernel")) first (Ok false) (Ok k) b.2) [
-      | inl h ↦
-          let g = passed (has_kernel before) _ (Ok true) k h.1 in
-          subst (FineSection before b.0) (ok_same true k _ refl g.1) (IsKernel (is_named b.0 _ h.0) g.0)
-      | inr h ↦ subst (FineSection before b.0) (ok_same false k _ refl h.1) (IsOther h.0)
-    ] in
-    (b.0, atom_is t.word t.at b.0 b.1, fine)
-
-kernel_valued : (before : List Section) (s : State) (x : Section) (u : State) → EndsWell s → has_kernel before ≡ false → kernel_at s ≡ Ok (x, u) → Gets (λ ws x. IsSection (pair_words (codes "kernel") ws) x) with_section (MaySection before) s x u
-unfolding kernel_at
-kernel_valued before s x u well once e =
-    let a = bind_ok _ _ _ e in
-    let g = bracketed_found IsParam param_at with_param MayParam param_found s a.0.0 a.0.1 well a.1 in
-    subst (λ (y : Section × State). Gets (λ ws x. IsSection (pair_words (codes "kernel") ws) x) with_section (MaySection before) s y.0 y.1) (ok_same (Kernel a.0.0, a.0.1) (x, u) _ refl a.2)
-    (record { ws = g.ws; is = (g.ws, refl, g.is); moves = g.moves; may = record { once = once; params = g.may }; seen = g.seen })
-
-section_rested : (before : List Section) (k : Bool) (name : List ℕ) (s : State) (x : Section) (u : State) → EndsWell s → FineSection before name k → section_rest_at k s ≡ Ok (x, u) → Gets (λ ws x. IsSection (pair_begun name ws) x) with_section (MaySection before) s x u
-unfolding section_rest_at
-section_rested before true name s x u well (IsKernel is once) e =
-    let g = closed_found (λ ws x. IsSection (pair_begun (codes "kernel") ws) x) kernel_at with_section (MaySection before) (λ s x u well e. kernel_valued before s x u well once e) s x u well e in
-    subst (λ (n : List ℕ). Gets (λ ws x. IsSection (pair_begun n ws) x) with_section (MaySection before) s x u) (sym is) g
-section_rested before false name s x u well (IsOther other) e =
-    let a = bind_ok _ _ _ e in
-    let m = passed_found s a.0 well a.1 in
-    subst (λ (y : Section × State). Gets (λ ws x. IsSection (pair_begun name ws) x) with_section (MaySection before) s y.0 y.1) (ok_same (Section.Other, a.0) (x, u) _ refl a.2)
-    (record { ws = m.ws ++ Mark CloseTuple ∷ []; is = (name, no_kernel, (m.ws, refl, m.term)); moves = m.moves; may = tt; seen = m.seen })
-  where
-    no_kernel : name ≢ codes "kernel"
-    no_kernel same = let wrong : true ≡ false = ap (λ (n : List ℕ). bytes_eq n (codes "kernel")) (sym same) ∙ other in cc
-
-pub section_found : (before : List Section) (t : Located) (s : State) (x : Section) (u : State) → EndsWell s → section_at before t s ≡ Ok (x, u) → Reads IsSection with_section (MaySection before) t s x u
-unfolding section_at
-section_found before t s x u well e =
-    let p = passed _ _ _ _ e in
-    pair_found IsSection (names_kernel before) (λ k name. FineSection before name k) section_rest_at with_section (MaySection before) (section_named before) (section_rested before) t s x u well p.1
+    let h = held _ _ _ _ b.2 in
+    let w = mark_is CloseTuple b.0.0.word h.0 in
+    let k = term_found (suc (room s)) a.0.0 a.0.1 b.0.0 b.0.1 (same_last s a.0.0 a.0.1 well a.1) b.1 in
+    let j = taken_before IsTerm s a.0.0 a.0.1 b.0.0 b.0.1 well a.1 k in
+    let m = j.moved (ap is_end w) in
+    let close : Moves (back b.0.0 b.0.1) (Mark CloseTuple ∷ []) b.0.1 = record { words = ap (λ (v : Word). v ∷ words_in b.0.1) w; last = refl } in
+    subst (λ (v : State). PassesTerm s v) h.1 (record { ws = m.0; term = m.1; moves = Moves-then s (back b.0.0 b.0.1) b.0.1 m.0 (Mark CloseTuple ∷ []) m.2 close; seen = j.seen })

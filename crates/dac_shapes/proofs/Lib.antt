@@ -1,12 +1,4 @@
-pub mod Faults
-pub mod Lists
-pub mod TermLoops
-pub mod Among
-pub mod Moves
-pub mod FoundLists
-pub mod FoundTerms
+pub mod Loops
 pub mod Found
-pub mod Walk
 pub mod Within
 pub mod Texts
-pub mod DraftLimits

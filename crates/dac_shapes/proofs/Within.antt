@@ -1,26 +1,176 @@
--- Sections may come one after another exactly where they keep the limits in plain words.
-use Rattle.std.proofs.Common.{◌≡◌, ℕ, ◌+◌, ◌<◌, ◌≤◌, Bool, true, false, ◌||◌, cond, eqb, List, [], ◌∷◌, ◌++◌, length, map, Option, None, Some, refl, sym, ap, subst, ◌∙◌, append_assoc, append-nil, length-append, arith}
-use Rattle.std.specs.Prelude.{count_by}
-use Rattle.std.specs.List.{IsDistinct, AllByRecursion as Each, list_any}
-use Rattle.std.specs.Str.{bytes_eq}
+-- Names may come one after another exactly where, all in all, they keep the limits: nodes and lists of things.
+use Rattle.std.proofs.Common.{◌≡◌, ℕ, ◌<◌, ◌≤◌, Bool, true, false, cond, List, [], ◌∷◌, ◌++◌, length, map, fold, refl, sym, ap, subst, ◌∙◌, append_assoc, append-nil, length-append, arith, ◌+◌, ◌||◌, eqb, Option, None, Some, inl, inr, eq-eqb, count_by, All, bytes_eq}
+use Rattle.std.specs.List.{AllByRecursion as Each, IsDistinct, list_any}
+use Rattle.std.proofs.lemmas.Bool.{cond_both, or_parts, or_from, or_left, or_right, or_cases}
+use Rattle.std.proofs.lemmas.List.Sums.{fold-append, sum_by-cons, sum_by-append}
+use Rattle.dac_shapes.specs.Limits.{Seen, AllMay, steps, is_among, with_name, with_node, MayNode, with_nodes, MayNodes, with_groups, nothing, number_of, is_named, has_param, is_kernel, has_kernel, listing, with_app, MayApp, with_permission, MayPermission, with_param, MayValue, MayParam, with_section, MaySection, MaySections}
+use Rattle.dac_shapes.specs.Within.{joined, params_in, names_of_app, names_of_param, names_in, nodes_in, AreAppsWithin, IsValueWithin, AreWithinLimits, ArePermissionsWithin, IsWithinLimits}
 use Rattle.std.proofs.Math.Bool.{or-false}
-use Rattle.std.proofs.lemmas.Bool.{or_parts, or_from}
 use Rattle.std.proofs.lemmas.List.{map_push}
-use Rattle.std.proofs.lemmas.List.Sums.{sum_by-cons, sum_by-append}
-use Rattle.std.proofs.lemmas.List.Elements.{All-from_recursion as each_all, recursion_from_All as all_each}
+use Rattle.std.proofs.lemmas.List.Elements.{All-from_recursion as each_all, recursion_from_All as all_each, All-nil}
 use Rattle.std.proofs.lemmas.List.Folds.{list_any-append}
 use Rattle.dac_shapes.specs.declared.param.ParamName.{ParamName}
 use Rattle.dac_shapes.specs.declared.param.ParamName.TheVariants as named
-use Rattle.dac_shapes.specs.Written.{App, Permission, Param, Distributed, Permissions, Mandatory, Optional, Section, Kernel, name_of}
-use Rattle.dac_shapes.specs.Limits.{Seen, nothing, AllMay, steps, is_among, number_of, is_named, has_param, is_kernel, has_kernel, listing, with_app, MayApp, with_permission, MayPermission, with_param, MayValue, MayParam, with_section, MaySection, MaySections}
-use Rattle.dac_shapes.specs.Within.{joined, params_in, names_of_app, names_of_param, names_in, nodes_in, AreAppsWithin, IsValueWithin, AreWithinLimits}
-use Rattle.dac_shapes.proofs.Walk.{IsShort, IsFew, Fit, with_all, AllNew, nodes_met, nodes_to, nodes_from, groups_met, groups_to, groups_from, AllKeep, IsWalk, all_met, all_to, all_from}
+use Rattle.dac_shapes.specs.Written.{App, Permission, Param, Distributed, Permissions, Mandatory, Optional, Section, Kernel, name_of, Timeout, Written, unsaid, put, put_all, put_section}
+use Rattle.std.specs.Set.{is_member}
+use Rattle.std.specs.Cmp.Lexicographic.{same_text}
+use Rattle.std.proofs.lemmas.Cmp.{nat_list_eq_equiv}
+use Rattle.std.proofs.lemmas.Map.Made.{length-le_from_is_member}
+use Rattle.dac_tokens.specs.Words.{Word}
+use Rattle.dac_shapes.specs.Grammar.{Parted, IsListOf, IsNode, IsItem, IsApp, IsParam, IsSection, IsTextOf}
+
+pub each_append : {A : Type 0} (P : A → Type 0) (xs ys : List A) → Each P xs → Each P ys → Each P (xs ++ ys)
+each_append P [] ys a b = b
+each_append P (x ∷ xs) ys a b = (a.0, each_append P xs ys a.1 b)
+
+pub each_left : {A : Type 0} (P : A → Type 0) (xs ys : List A) → Each P (xs ++ ys) → Each P xs
+each_left P [] ys a = tt
+each_left P (x ∷ xs) ys a = (a.0, each_left P xs ys a.1)
+
+pub each_right : {A : Type 0} (P : A → Type 0) (xs ys : List A) → Each P (xs ++ ys) → Each P ys
+each_right P [] ys a = a
+each_right P (x ∷ xs) ys a = each_right P xs ys a.1
+
+abbrev pub IsShort : List ℕ → Type 0
+IsShort name = length name ≤ 255
+
+abbrev pub IsFew : List (List ℕ) → Type 0
+IsFew names = length names ≤ 16
+
+-- these names and the different ones of those
+abbrev pub with_all : List (List ℕ) → List (List ℕ) → List (List ℕ)
+with_all met names = fold with_name met names
+
+longer : (met names : List (List ℕ)) → length met ≤ length (with_all met names)
+longer met [] = omega arith
+longer met (name ∷ names) =
+    let here = cond_both (is_among name met) met (met ++ name ∷ []) (λ l. length met ≤ length l) (λ _. omega arith) (λ _. omega (arith, length-append met (name ∷ []))) in
+    omega (arith, here, longer (with_name met name) names)
+
+-- names are short, and with those met before they are few different ones
+abbrev pub Fit : List (List ℕ) → List (List ℕ) → Type 0
+Fit met names = Each IsShort names × IsFew (with_all met names)
+
+pub fit_append : (met xs ys : List (List ℕ)) → Fit met xs → Fit (with_all met xs) ys → Fit met (xs ++ ys)
+fit_append met xs ys a b = (each_append IsShort xs ys a.0 b.0, subst IsFew (sym (fold-append with_name met xs ys)) b.1)
+
+pub fit_right : (met xs ys : List (List ℕ)) → Fit met (xs ++ ys) → Fit (with_all met xs) ys
+fit_right met xs ys fit = (each_right IsShort xs ys fit.0, subst IsFew (fold-append with_name met xs ys) fit.1)
+
+pub fit_left : (met xs ys : List (List ℕ)) → Fit met (xs ++ ys) → Fit met xs
+fit_left met xs ys fit = (each_left IsShort xs ys fit.0, omega (arith, (fit_right met xs ys fit).1, longer (with_all met xs) ys))
+
+-- ---- names of which none is among those before it
+
+abbrev pub AllNew : List (List ℕ) → List (List ℕ) → Type 0
+AllNew before [] = Unit {0}
+AllNew before (x ∷ xs) = (is_among x before ≡ false) × AllNew (before ++ x ∷ []) xs
+
+pub new_append : (before xs ys : List (List ℕ)) → AllNew before xs → AllNew (before ++ xs) ys → AllNew before (xs ++ ys)
+new_append before [] ys a b = subst (λ (l : List (List ℕ)). AllNew l ys) (append-nil before) b
+new_append before (x ∷ xs) ys a b = (a.0, new_append (before ++ x ∷ []) xs ys a.1 (subst (λ (l : List (List ℕ)). AllNew l ys) (sym (append_assoc before (x ∷ []) xs)) b))
+
+pub new_left : (before xs ys : List (List ℕ)) → AllNew before (xs ++ ys) → AllNew before xs
+new_left before [] ys a = tt
+new_left before (x ∷ xs) ys a = (a.0, new_left (before ++ x ∷ []) xs ys a.1)
+
+pub new_right : (before xs ys : List (List ℕ)) → AllNew before (xs ++ ys) → AllNew (before ++ xs) ys
+new_right before [] ys a = subst (λ (l : List (List ℕ)). AllNew l ys) (sym (append-nil before)) a
+new_right before (x ∷ xs) ys a = subst (λ (l : List (List ℕ)). AllNew l ys) (append_assoc before (x ∷ []) xs) (new_right (before ++ x ∷ []) xs ys a.1)
+
+-- ---- nodes
+
+pub nodes_met : (seen : Seen) (names : List (List ℕ)) → (with_nodes seen names).met ≡ with_all seen.met names
+nodes_met seen [] = refl
+nodes_met seen (name ∷ names) = nodes_met (with_node seen name) names
+
+nodes_listed : (seen : Seen) (names : List (List ℕ)) → (with_nodes seen names).listed ≡ seen.listed ++ names
+nodes_listed seen [] = sym (append-nil seen.listed)
+nodes_listed seen (name ∷ names) = nodes_listed (with_node seen name) names ∙ append_assoc seen.listed (name ∷ []) names
+
+-- what names that may come keep: each is new where none may repeat, and they fit
+pub nodes_to : (repeats : Bool) (before : List (List ℕ)) (seen : Seen) (names : List (List ℕ)) → IsFew seen.met → AllMay with_node (λ _. MayNode repeats) before seen names → (repeats ≡ false → AllNew seen.listed names) × Fit seen.met names
+nodes_to repeats before seen [] few may = (λ _. tt, (tt, few))
+nodes_to repeats before seen (name ∷ names) few may =
+    let here : IsFew (with_name seen.met name) = cond_both (is_among name seen.met) seen.met (seen.met ++ name ∷ []) IsFew (λ _. few) (λ new. let less = may.0.few new in omega (arith, less, length-append seen.met (name ∷ []))) in
+    let rest = nodes_to repeats (before ++ name ∷ []) (with_node seen name) names here may.1 in
+    (λ r. (may.0.once r, rest.0 r), ((may.0.short, rest.1.0), rest.1.1))
+
+few_before : (b : Bool) (met : List (List ℕ)) (name : List ℕ) → IsFew (cond b met (met ++ name ∷ [])) → b ≡ false → length met < 16
+few_before true met name few e = absurd cc
+few_before false met name few e = omega (arith, few, length-append met (name ∷ []))
+
+pub nodes_from : (repeats : Bool) (before : List (List ℕ)) (seen : Seen) (names : List (List ℕ)) → (repeats ≡ false → AllNew seen.listed names) → Fit seen.met names → AllMay with_node (λ _. MayNode repeats) before seen names
+nodes_from repeats before seen [] new fit = tt
+nodes_from repeats before seen (name ∷ names) new fit =
+    let here : IsFew (with_name seen.met name) = omega (arith, fit.1, longer (with_name seen.met name) names) in (
+      record { short = fit.0.0; once = λ r. (new r).0; few = few_before (is_among name seen.met) seen.met name here },
+      nodes_from repeats (before ++ name ∷ []) (with_node seen name) names (λ r. (new r).1) (fit.0.1, fit.1),
+    )
+
+-- ---- groups of nodes
+
+pub groups_met : (seen : Seen) (groups : List (List (List ℕ))) → (with_groups seen groups).met ≡ with_all seen.met (joined groups)
+groups_met seen [] = refl
+groups_met seen (group ∷ groups) = groups_met (with_nodes seen group) groups ∙ ap (λ met. with_all met (joined groups)) (nodes_met seen group) ∙ sym (fold-append with_name seen.met group (joined groups))
+
+pub groups_to : (before : List (List (List ℕ))) (seen : Seen) (groups : List (List (List ℕ))) → IsFew seen.met → AllMay with_nodes (λ _. MayNodes false) before seen groups → AllNew seen.listed (joined groups) × Fit seen.met (joined groups)
+groups_to before seen [] few may = (tt, (tt, few))
+groups_to before seen (group ∷ groups) few may =
+    let one = nodes_to false [] seen group few may.0 in
+    let rest = groups_to (before ++ group ∷ []) (with_nodes seen group) groups (subst IsFew (sym (nodes_met seen group)) one.1.1) may.1 in
+    let new = subst (λ (l : List (List ℕ)). AllNew l (joined groups)) (nodes_listed seen group) rest.0 in
+    (new_append seen.listed group (joined groups) (one.0 refl) new, fit_append seen.met group (joined groups) one.1 (subst (λ met. Fit met (joined groups)) (nodes_met seen group) rest.1))
+
+pub groups_from : (before : List (List (List ℕ))) (seen : Seen) (groups : List (List (List ℕ))) → AllNew seen.listed (joined groups) → Fit seen.met (joined groups) → AllMay with_nodes (λ _. MayNodes false) before seen groups
+groups_from before seen [] new fit = tt
+groups_from before seen (group ∷ groups) new fit =
+    let rest = subst (λ (l : List (List ℕ)). AllNew l (joined groups)) (sym (nodes_listed seen group)) (new_right seen.listed group (joined groups) new) in (
+      nodes_from false [] seen group (λ _. new_left seen.listed group (joined groups) new) (fit_left seen.met group (joined groups) fit),
+      groups_from (before ++ group ∷ []) (with_nodes seen group) groups rest (subst (λ met. Fit met (joined groups)) (sym (nodes_met seen group)) (fit_right seen.met group (joined groups) fit)),
+    )
+
+-- ---- any things that hold names
+
+-- each thing keeps what can be said of it and those before it
+abbrev pub AllKeep : {A : Type 0} → (List A → A → Type 0) → List A → List A → Type 0
+AllKeep Keeps before [] = Unit {0}
+AllKeep Keeps before (x ∷ xs) = Keeps before x × AllKeep Keeps (before ++ x ∷ []) xs
+
+-- a thing may come exactly if it keeps what can be said of it and those before it, and its names fit
+pub record IsWalk {A : Type 0} (step : Seen → A → Seen) (May : List A → Seen → A → Type 0) (names : A → List (List ℕ)) (Keeps : List A → A → Type 0) : Type 0 where
+  pub met : (seen : Seen) (x : A) → (step seen x).met ≡ with_all seen.met (names x)
+  pub to : (before : List A) (seen : Seen) (x : A) → IsFew seen.met → May before seen x → Keeps before x × Fit seen.met (names x)
+  pub from : (before : List A) (seen : Seen) (x : A) → Keeps before x → Fit seen.met (names x) → May before seen x
+
+module _ {A : Type 0} {step : Seen → A → Seen} {May : List A → Seen → A → Type 0} {names : A → List (List ℕ)} {Keeps : List A → A → Type 0} (walk : IsWalk step May names Keeps) where
+  pub all_met : (seen : Seen) (xs : List A) → (steps step seen xs).met ≡ with_all seen.met (joined (map names xs))
+  all_met seen [] = refl
+  all_met seen (x ∷ xs) = all_met (step seen x) xs ∙ ap (λ m. with_all m (joined (map names xs))) (walk.met seen x) ∙ sym (fold-append with_name seen.met (names x) (joined (map names xs)))
+
+  pub all_to : (before : List A) (seen : Seen) (xs : List A) → IsFew seen.met → AllMay step May before seen xs → AllKeep Keeps before xs × Fit seen.met (joined (map names xs))
+  all_to before seen [] few may = (tt, (tt, few))
+  all_to before seen (x ∷ xs) few may =
+      let one = walk.to before seen x few may.0 in
+      let rest = all_to (before ++ x ∷ []) (step seen x) xs (subst IsFew (sym (walk.met seen x)) one.1.1) may.1 in
+      ((one.0, rest.0), fit_append seen.met (names x) (joined (map names xs)) one.1 (subst (λ met. Fit met (joined (map names xs))) (walk.met seen x) rest.1))
+
+  pub all_from : (before : List A) (seen : Seen) (xs : List A) → AllKeep Keeps before xs → Fit seen.met (joined (map names xs)) → AllMay step May before seen xs
+  all_from before seen [] keep fit = tt
+  all_from before seen (x ∷ xs) keep fit = (
+    walk.from before seen x keep.0 (fit_left seen.met (names x) (joined (map names xs)) fit),
+    all_from (before ++ x ∷ []) (step seen x) xs keep.1 (subst (λ met. Fit met (joined (map names xs))) (sym (walk.met seen x)) (fit_right seen.met (names x) (joined (map names xs)) fit)),
+  )
 
 -- ---- between words
 
 pub each_by : {A : Type 0} (P Q : A → Type 0) → ((x : A) → P x → Q x) → (xs : List A) → Each P xs → Each Q xs
 each_by P Q f [] h = tt
 each_by P Q f (x ∷ xs) h = (f x h.0, each_by P Q f xs h.1)
+
+keep_each : {A : Type 0} (K : List A → A → Type 0) (P : A → Type 0) → ((before : List A) (x : A) → K before x → P x) → (before xs : List A) → AllKeep K before xs → Each P xs
+keep_each K P f before [] h = tt
+keep_each K P f before (x ∷ xs) h = (f before x h.0, keep_each K P f (before ++ x ∷ []) xs h.1)
 
 abbrev pub IsApart : List (List ℕ) → List ℕ → Type 0
 IsApart before x = is_among x before ≡ false
@@ -79,24 +229,15 @@ app_walk = record {
   from = λ before seen app keep fit. record { short = keep.short; once = keep.once; few = keep.few; nodes = groups_from [] (listing seen) app.groups keep.nodes fit };
 }
 
--- what applications one after another keep
-record KeepApps (before apps : List App) : Type 0 where
-  pub few : length before ≤ 64 → length before + length apps ≤ 64
-  pub short : Each (λ app. length app.name ≤ 255) apps
-  pub different : AllNew (map (λ app. app.name) before) (map (λ app. app.name) apps)
-  pub once : Each (λ app. AllNew [] (names_of_app app)) apps
-
-apps_to : (before apps : List App) → AllKeep KeepsApp before apps → KeepApps before apps
-apps_to before [] keep = record { few = λ few. omega arith; short = tt; different = tt; once = tt }
+-- there are few applications, and their names differ
+apps_to : (before apps : List App) → AllKeep KeepsApp before apps → (length before ≤ 64 → length before + length apps ≤ 64) × AllNew (map (λ app. app.name) before) (map (λ app. app.name) apps)
+apps_to before [] keep = (λ few. omega arith, tt)
 apps_to before (app ∷ apps) keep =
     let rest = apps_to (before ++ app ∷ []) apps keep.1 in
-    let one = keep.0 in
-    record {
-      few = λ few. (let all = rest.few (omega (arith, one.few, length-append before (app ∷ []))) in omega (arith, all, length-append before (app ∷ [])));
-      short = (one.short, rest.short);
-      different = (one.once, subst (λ (l : List (List ℕ)). AllNew l (map (λ a. a.name) apps)) (map_push (λ a. a.name) before app) rest.different);
-      once = (one.nodes, rest.once);
-    }
+    let one = keep.0 in (
+      λ few. (let all = rest.0 (omega (arith, one.few, length-append before (app ∷ []))) in omega (arith, all, length-append before (app ∷ []))),
+      (one.once, subst (λ (l : List (List ℕ)). AllNew l (map (λ a. a.name) apps)) (map_push (λ a. a.name) before app) rest.1),
+    )
 
 apps_from : (before apps : List App) → length before + length apps ≤ 64 → Each (λ app. length app.name ≤ 255) apps → AllNew (map (λ app. app.name) before) (map (λ app. app.name) apps) → Each (λ app. AllNew [] (names_of_app app)) apps → AllKeep KeepsApp before apps
 apps_from before [] few short different once = tt
@@ -109,10 +250,10 @@ apps_within : (apps : List App) → AllKeep KeepsApp [] apps → AreAppsWithin a
 apps_within apps keep =
     let k = apps_to [] apps keep in
     record {
-      few = (let sum = k.few (omega arith) in omega (arith, sum));
-      short = each_all (λ app. length app.name ≤ 255) apps k.short;
-      different = new_distinct (map (λ app. app.name) apps) k.different;
-      once = each_all (λ app. IsDistinct bytes_eq (names_of_app app)) apps (each_by (λ app. AllNew [] (names_of_app app)) (λ app. IsDistinct bytes_eq (names_of_app app)) (λ app new. new_distinct (names_of_app app) new) apps k.once);
+      few = (let sum = k.0 (omega arith) in omega (arith, sum));
+      short = each_all (λ app. length app.name ≤ 255) apps (keep_each KeepsApp (λ app. length app.name ≤ 255) (λ _ _ one. one.short) [] apps keep);
+      different = new_distinct (map (λ app. app.name) apps) k.1;
+      once = each_all (λ app. IsDistinct bytes_eq (names_of_app app)) apps (keep_each KeepsApp (λ app. IsDistinct bytes_eq (names_of_app app)) (λ _ app one. new_distinct (names_of_app app) one.nodes) [] apps keep);
     }
 
 within_apps : (apps : List App) → AreAppsWithin apps → AllKeep KeepsApp [] apps
@@ -217,10 +358,6 @@ same_param named.Optional named.Optional e = refl
 same_param named.Timeout named.Timeout e = refl
 same_param _ _ e = absurd cc
 
-is_itself : (name : ParamName) → eqb (number_of name) (number_of name) ≡ true
-is_itself named.Distributed = refl
-is_itself _ = refl
-
 abbrev is_this : ParamName → Param → Bool
 is_this name param = is_named name (name_of param)
 
@@ -247,34 +384,27 @@ params_from before (param ∷ params) few within = (
 )
   where
     none : (name : ParamName) → name_of param ≡ Some name → count_by (is_this name) before ≡ 0
-    none name is = (let c : one (is_this name param) ≡ 1 = ap one (ap (is_named name) is ∙ is_itself name) in omega (arith, few name, c, count_cons (is_this name) param params))
-
-values_of : (before params : List Param) → AllKeep KeepsParam before params → Each IsValueWithin params
-values_of before [] keep = tt
-values_of before (param ∷ params) keep = (keep.0.value, values_of (before ++ param ∷ []) params keep.1)
+    none name is = (let c : one (is_this name param) ≡ 1 = ap one (ap (is_named name) is ∙ eq-eqb (number_of name) (number_of name) refl) in omega (arith, few name, c, count_cons (is_this name) param params))
 
 -- ---- sections
 
-names_of_section : Section → List (List ℕ)
+abbrev names_of_section : Section → List (List ℕ)
 names_of_section (Kernel params) = joined (map names_of_param params)
 names_of_section Section.Other = []
 
-KeepsSection : List Section → Section → Type 0
+abbrev KeepsSection : List Section → Section → Type 0
 KeepsSection before (Kernel params) = (has_kernel before ≡ false) × AllKeep KeepsParam [] params
 KeepsSection before Section.Other = Unit {0}
 
 section_met : (seen : Seen) (section : Section) → (with_section seen section).met ≡ with_all seen.met (names_of_section section)
-unfolding names_of_section
 section_met seen (Kernel params) = all_met param_walk seen params
 section_met seen Section.Other = refl
 
 section_to : (before : List Section) (seen : Seen) (section : Section) → IsFew seen.met → MaySection before seen section → KeepsSection before section × Fit seen.met (names_of_section section)
-unfolding names_of_section KeepsSection
 section_to before seen (Kernel params) few may = let a = all_to param_walk [] seen params few may.params in ((may.once, a.0), a.1)
 section_to before seen Section.Other few may = (tt, (tt, few))
 
 section_from : (before : List Section) (seen : Seen) (section : Section) → KeepsSection before section → Fit seen.met (names_of_section section) → MaySection before seen section
-unfolding names_of_section KeepsSection
 section_from before seen (Kernel params) keep fit = record { once = keep.0; params = all_from param_walk [] seen params keep.1 fit }
 section_from before seen Section.Other keep fit = tt
 
@@ -286,13 +416,11 @@ joined_map f [] ys = refl
 joined_map f (x ∷ xs) ys = ap (λ (l : List (List ℕ)). f x ++ l) (joined_map f xs ys) ∙ sym (append_assoc (f x) (joined (map f xs)) (joined (map f ys)))
 
 section_names : (sections : List Section) → joined (map names_of_section sections) ≡ names_in sections
-unfolding names_of_section
 section_names [] = refl
 section_names (Kernel params ∷ sections) = ap (λ (l : List (List ℕ)). joined (map names_of_param params) ++ l) (section_names sections) ∙ sym (joined_map names_of_param params (params_in sections))
 section_names (Section.Other ∷ sections) = section_names sections
 
 kernels_to : (sections : List Section) → AllKeep KeepsSection [] sections → count_by is_kernel sections ≤ 1
-unfolding KeepsSection
 kernels_to sections keep =
     let all = once_to is_kernel [] sections (keep_by KeepsSection (λ b x. is_kernel x ≡ true → has_kernel b ≡ false) kernel_once [] sections keep) (omega arith) in
     omega (arith, all)
@@ -311,7 +439,6 @@ only_params : (params : List Param) (sections : List Section) → params_in sect
 only_params params sections none = ap (λ (l : List Param). params ++ l) none ∙ append-nil params
 
 params_keep : (before sections : List Section) → AllKeep KeepsSection before sections → count_by is_kernel sections ≤ 1 → AllKeep KeepsParam [] (params_in sections)
-unfolding KeepsSection
 params_keep before [] keep few = tt
 params_keep before (Kernel params ∷ sections) keep few =
     let none = no_kernels sections (omega (arith, few, count_cons is_kernel (Kernel params) sections)) in
@@ -319,7 +446,6 @@ params_keep before (Kernel params ∷ sections) keep few =
 params_keep before (Section.Other ∷ sections) keep few = params_keep (before ++ Section.Other ∷ []) sections keep.1 (omega (arith, few, count_cons is_kernel Section.Other sections))
 
 kernels_from : (before sections : List Section) → count_by is_kernel before + count_by is_kernel sections ≤ 1 → AllKeep KeepsParam [] (params_in sections) → AllKeep KeepsSection before sections
-unfolding KeepsSection
 kernels_from before [] few keep = tt
 kernels_from before (Kernel params ∷ sections) few keep =
     let e = count_push is_kernel before (Kernel params) in
@@ -344,7 +470,7 @@ within_from sections may =
     record {
       kernel = kernel;
       params = λ name. params_to name (params_in sections) keep;
-      values = each_all IsValueWithin (params_in sections) (values_of [] (params_in sections) keep);
+      values = each_all IsValueWithin (params_in sections) (keep_each KeepsParam IsValueWithin (λ _ _ one. one.value) [] (params_in sections) keep);
       short = each_all (λ name. length name ≤ 255) (names_in sections) (subst (Each IsShort) names a.1.0);
       few = subst (λ (l : List (List ℕ)). IsFew (with_all [] l)) names a.1.1;
     }
@@ -360,3 +486,176 @@ may_from sections w =
 -- what was seen after the sections are the different names, where they first stand
 pub seen_is : (sections : List Section) → (steps with_section nothing sections).met ≡ nodes_in sections
 seen_is sections = all_met section_walk nothing sections ∙ ap (λ (l : List (List ℕ)). with_all [] l) (section_names sections)
+
+-- ---- each name where it first stands
+
+all_new : (met names : List (List ℕ)) → AllNew [] met → AllNew [] (with_all met names)
+all_new met [] new = new
+all_new met (name ∷ names) new = all_new (with_name met name) names (cond_both (is_among name met) met (met ++ name ∷ []) (AllNew []) (λ _. new) (λ apart. new_append [] met (name ∷ []) new (apart, tt)))
+
+all_short : (met names : List (List ℕ)) → Each IsShort met → Each IsShort names → Each IsShort (with_all met names)
+all_short met [] met_short short = met_short
+all_short met (name ∷ names) met_short short = all_short (with_name met name) names (cond_both (is_among name met) met (met ++ name ∷ []) (Each IsShort) (λ _. met_short) (λ _. each_append IsShort met (name ∷ []) met_short (short.0, tt))) short.1
+
+-- this name is one of these
+abbrev IsOf : List (List ℕ) → List ℕ → Type 0
+IsOf names name = is_among name names ≡ true
+
+all_kept : (met names : List (List ℕ)) (other : List ℕ) → IsOf met other → IsOf (with_all met names) other
+all_kept met [] other e = e
+all_kept met (name ∷ names) other e =
+    let kept = cond_both (is_among name met) met (met ++ name ∷ []) (λ l. IsOf l other) (λ _. e) (λ _. list_any-append (λ n. bytes_eq n other) met (name ∷ []) ∙ or_left (is_among other met) (is_among other (name ∷ [])) e) in
+    all_kept (with_name met name) names other kept
+
+all_among : (met names : List (List ℕ)) → Each (IsOf (with_all met names)) names
+all_among met [] = tt
+all_among met (name ∷ names) =
+    let last = or_left (bytes_eq name name) false (nat_list_eq_equiv.refl name) in
+    let here = cond_both (is_among name met) met (met ++ name ∷ []) (λ l. IsOf l name) (λ e. e) (λ _. list_any-append (λ n. bytes_eq n name) met (name ∷ []) ∙ or_right (is_among name met) (is_among name (name ∷ [])) last) in
+    (all_kept (with_name met name) names name here, all_among (with_name met name) names)
+
+-- ---- different names that are all among others are no more than those
+
+member_is : (name : List ℕ) (names : List (List ℕ)) → is_member bytes_eq names name ≡ is_among name names
+member_is name [] = refl
+member_is name (n ∷ ns) = rw (nat_list_eq_equiv.symm name n, member_is name ns) refl
+
+one_of : (names nodes : List (List ℕ)) (name : List ℕ) → Each (IsOf nodes) names → IsOf names name → IsOf nodes name
+one_of [] nodes name of e = absurd cc
+one_of (n ∷ ns) nodes name of e = elim (or_cases (bytes_eq n name) (is_among name ns) e) [
+  | inl h ↦ subst (IsOf nodes) (same_text n name (sym h)) of.0
+  | inr h ↦ one_of ns nodes name of.1 h
+]
+
+few_of : (names nodes : List (List ℕ)) → IsDistinct bytes_eq names → Each (IsOf nodes) names → length names ≤ length nodes
+few_of names nodes distinct of = length-le_from_is_member nat_list_eq_equiv names nodes distinct (λ name e. member_is name nodes ∙ one_of names nodes name of (sym (member_is name names) ∙ e))
+
+-- ---- no group is empty
+
+abbrev HasMember : List (List ℕ) → Type 0
+HasMember group = 0 < length group
+
+abbrev HasMembers : App → Type 0
+HasMembers app = Each HasMember app.groups
+
+abbrev ParamHasMembers : Param → Type 0
+ParamHasMembers (Distributed apps) = Each HasMembers apps
+ParamHasMembers _ = Unit {0}
+
+abbrev SectionHasMembers : Section → Type 0
+SectionHasMembers (Kernel params) = Each ParamHasMembers params
+SectionHasMembers Section.Other = Unit {0}
+
+module _ {A : Type 0} (Is : List Word → A → Type 0) (P : A → Type 0) (one : (words : List Word) (x : A) → Is words x → P x) where
+  each_parted : (words : List Word) (xs : List A) → Parted Is words xs → Each P xs
+  each_parted words [] h = absurd h
+  each_parted words (x ∷ []) h = (one words x h, tt)
+  each_parted words (x ∷ y ∷ ys) h = (one h.0 x h.3, each_parted h.1 (y ∷ ys) h.4)
+
+  each_listed : (words : List Word) (xs : List A) → IsListOf Is words xs → Each P xs
+  each_listed words [] h = tt
+  each_listed words (x ∷ xs) h = each_parted h.0 (x ∷ xs) h.2
+
+some_parted : (words : List Word) (group : List (List ℕ)) → Parted IsNode words group → HasMember group
+some_parted words [] h = absurd h
+some_parted words (x ∷ xs) h = omega arith
+
+some_item : (words : List Word) (group : List (List ℕ)) → IsItem words group → HasMember group
+some_item words group (inl h) = subst HasMember (sym h.2) (omega arith)
+some_item words group (inr h) = some_parted h.0 group h.2
+
+some_app : (words : List Word) (app : App) → IsApp words app → HasMembers app
+some_app words app h = let list = h.2.4 in each_parted IsItem HasMember some_item list.0 app.groups list.2
+
+some_param : (words : List Word) (param : Param) → IsParam words param → ParamHasMembers param
+some_param words (Distributed apps) h = each_listed IsApp HasMembers some_app h.0 apps h.2
+some_param words _ h = tt
+
+some_section : (words : List Word) (section : Section) → IsSection words section → SectionHasMembers section
+some_section words (Kernel params) h = each_listed IsParam ParamHasMembers some_param h.0 params h.2
+some_section words Section.Other h = tt
+
+some_params : (sections : List Section) → Each SectionHasMembers sections → Each ParamHasMembers (params_in sections)
+some_params [] h = tt
+some_params (Kernel params ∷ sections) h = each_append ParamHasMembers params (params_in sections) h.0 (some_params sections h.1)
+some_params (Section.Other ∷ sections) h = some_params sections h.1
+
+fewer_groups : (groups : List (List (List ℕ))) → Each HasMember groups → length groups ≤ length (joined groups)
+fewer_groups [] h = omega arith
+fewer_groups (group ∷ groups) h = omega (arith, h.0, fewer_groups groups h.1, length-append group (joined groups))
+
+-- ---- what is written
+
+-- what is written keeps, with these nodes
+record Keeps (nodes : List (List ℕ)) (w : Written) : Type 0 where
+  pub apps : AreAppsWithin w.apps
+  pub some : Each HasMembers w.apps
+  pub permissions : ArePermissionsWithin w.permissions
+  pub listed : Each (IsOf nodes) (joined (map names_of_app w.apps))
+  pub mandatory : Each (IsOf nodes) w.mandatory
+  pub optional : Each (IsOf nodes) w.optional
+
+put_keeps : (nodes : List (List ℕ)) (w : Written) (param : Param) → IsValueWithin param → ParamHasMembers param → Each (IsOf nodes) (names_of_param param) → Keeps nodes w → Keeps nodes (put w param)
+put_keeps nodes w (Distributed apps) within some named k = record { apps = within; some = some; permissions = k.permissions; listed = named; mandatory = k.mandatory; optional = k.optional }
+put_keeps nodes w (Permissions permissions) within some named k = record { apps = k.apps; some = k.some; permissions = within; listed = k.listed; mandatory = k.mandatory; optional = k.optional }
+put_keeps nodes w (Mandatory names) within some named k = record { apps = k.apps; some = k.some; permissions = k.permissions; listed = k.listed; mandatory = named; optional = k.optional }
+put_keeps nodes w (Optional names) within some named k = record { apps = k.apps; some = k.some; permissions = k.permissions; listed = k.listed; mandatory = k.mandatory; optional = named }
+put_keeps nodes w (Timeout wait) within some named k = record { apps = k.apps; some = k.some; permissions = k.permissions; listed = k.listed; mandatory = k.mandatory; optional = k.optional }
+put_keeps nodes w Param.Other within some named k = k
+
+put_all_keeps : (nodes : List (List ℕ)) (w : Written) (params : List Param) → Each IsValueWithin params → Each ParamHasMembers params → Each (IsOf nodes) (joined (map names_of_param params)) → Keeps nodes w → Keeps nodes (put_all w params)
+put_all_keeps nodes w [] within some named k = k
+put_all_keeps nodes w (param ∷ params) within some named k =
+    put_all_keeps nodes (put w param) params within.1 some.1 (each_right (IsOf nodes) (names_of_param param) (joined (map names_of_param params)) named)
+    (put_keeps nodes w param within.0 some.0 (each_left (IsOf nodes) (names_of_param param) (joined (map names_of_param params)) named) k)
+
+-- sections say what their parameters say
+said : (w : Written) (sections : List Section) → fold put_section w sections ≡ put_all w (params_in sections)
+said w [] = refl
+said w (Kernel params ∷ sections) = said (put_all w params) sections ∙ sym (fold-append put w params (params_in sections))
+said w (Section.Other ∷ sections) = said w sections
+
+nodes_stay : (w : Written) (params : List Param) → (put_all w params).nodes ≡ w.nodes
+nodes_stay w [] = refl
+nodes_stay w (param ∷ params) = nodes_stay (put w param) params ∙ by param
+  where
+    by : (p : Param) → (put w p).nodes ≡ w.nodes
+    by (Distributed apps) = refl
+    by _ = refl
+
+no_apps : AreAppsWithin []
+unfolding IsDistinct
+no_apps = record { few = omega arith; short = All-nil (λ app. length app.name ≤ 255); different = tt; once = All-nil (λ app. IsDistinct bytes_eq (names_of_app app)) }
+
+-- each application has few groups
+few_groups : (nodes : List (List ℕ)) (apps : List App) → length nodes ≤ 16 → Each (λ app. IsDistinct bytes_eq (names_of_app app)) apps → Each HasMembers apps → Each (IsOf nodes) (joined (map names_of_app apps)) → Each (λ app. length app.groups ≤ 16) apps
+few_groups nodes [] few once some of = tt
+few_groups nodes (app ∷ apps) few once some of =
+    let here = few_of (names_of_app app) nodes once.0 (each_left (IsOf nodes) (names_of_app app) (joined (map names_of_app apps)) of) in
+    (omega (arith, few, here, fewer_groups app.groups some.0), few_groups nodes apps few once.1 some.1 (each_right (IsOf nodes) (names_of_app app) (joined (map names_of_app apps)) of))
+
+put_within : (sections : List Section) → AreWithinLimits sections → Each ParamHasMembers (params_in sections) → IsWithinLimits (put_all (unsaid (nodes_in sections)) (params_in sections))
+put_within sections within some =
+    let nodes = nodes_in sections in
+    let names = names_in sections in
+    let w = put_all (unsaid nodes) (params_in sections) in
+    let start : Keeps nodes (unsaid nodes) = record { apps = no_apps; some = tt; permissions = All-nil (λ permission. length permission.name ≤ 255); listed = tt; mandatory = tt; optional = tt } in
+    let k = put_all_keeps nodes (unsaid nodes) (params_in sections) (all_each IsValueWithin (params_in sections) within.values) some (all_among [] names) start in
+    let same : w.nodes ≡ nodes = nodes_stay (unsaid nodes) (params_in sections) in
+    let listed = joined (map names_of_app w.apps) in
+    let all = each_append (IsOf nodes) (listed ++ w.mandatory) w.optional (each_append (IsOf nodes) listed w.mandatory k.listed k.mandatory) k.optional in
+    let once = all_each (λ app. IsDistinct bytes_eq (names_of_app app)) w.apps k.apps.once in
+    record {
+      apps = k.apps;
+      permissions = k.permissions;
+      few = subst (λ (l : List (List ℕ)). length l ≤ 16) (sym same) within.few;
+      short = subst (All IsShort) (sym same) (each_all IsShort nodes (all_short [] names tt (all_each IsShort names within.short)));
+      different = subst (IsDistinct bytes_eq) (sym same) (new_distinct nodes (all_new [] names tt));
+      groups = each_all (λ app. length app.groups ≤ 16) w.apps (few_groups nodes w.apps within.few once k.some k.listed);
+      some = each_all (λ app. All HasMember app.groups) w.apps (each_by HasMembers (λ app. All HasMember app.groups) (λ app h. each_all HasMember app.groups h) w.apps k.some);
+      all = subst (λ (l : List (List ℕ)). All (IsOf l) (listed ++ w.mandatory ++ w.optional)) (sym same) (each_all (IsOf nodes) (listed ++ w.mandatory ++ w.optional) all);
+    }
+
+pub text_within : (text : List ℕ) (w : Written) → IsTextOf text w → IsWithinLimits w
+text_within text w is =
+    subst IsWithinLimits (sym (is.says ∙ said (unsaid (nodes_in is.sections)) is.sections)) (put_within is.sections is.within (some_params is.sections (each_listed IsSection SectionHasMembers some_section is.file.0 is.sections is.file.2)))

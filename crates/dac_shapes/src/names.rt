@@ -38,7 +38,6 @@ pub fn is_text(token: Token<'_>) -> bool
     }
 }
 
-#[tactic(auto, using(crate::proofs::Among::among_names))]
 pub fn is_among(name: &[u8], names: &[&[u8]]) -> bool
     ensures { result ≡ is_among name.now (names_of names.now) }
 {
@@ -76,7 +75,7 @@ fn has_app(name: &[u8], apps: &[DraftApp<'_>]) -> bool
 }
 
 /// The name of an application that is not among those before it.
-#[tactic(auto, using(crate::proofs::Among::apps), unfolding(crate::specs::Shape::app_name_of))]
+#[tactic(auto, using(crate::proofs::Loops::apps), unfolding(crate::specs::Shape::app_name_of))]
 pub fn app_name_of<'a>(before: &[DraftApp<'a>], token: Located<'a>) -> Result<&'a [u8], ConfigFault>
     ensures { Gives (λ name. name.now) result (app_name_of (apps_of before.now) (located_of token.entry)) }
 {
@@ -91,7 +90,7 @@ pub fn app_name_of<'a>(before: &[DraftApp<'a>], token: Located<'a>) -> Result<&'
 }
 
 /// Which parameter it is by its name, if it is read; it is then not among those before it.
-#[tactic(auto, using(crate::proofs::Among::has_params), unfolding(crate::specs::Shape::param_name_of))]
+#[tactic(auto, using(crate::proofs::Loops::has_params), unfolding(crate::specs::Shape::param_name_of))]
 pub fn param_name_of(
     before: &[Param<'_>],
     token: Located<'_>,
@@ -109,7 +108,7 @@ pub fn param_name_of(
 }
 
 /// Whether a section is `kernel` by its name; it is then not among those before it.
-#[tactic(auto, using(crate::proofs::Among::has_kernels), unfolding(crate::specs::Shape::names_kernel))]
+#[tactic(auto, using(crate::proofs::Loops::has_kernels), unfolding(crate::specs::Shape::names_kernel))]
 pub fn names_kernel(before: &[Section<'_>], token: Located<'_>) -> Result<bool, ConfigFault>
     ensures { Gives (λ kernel. kernel) result (names_kernel (sections_of before.now) (located_of token.entry)) }
 {

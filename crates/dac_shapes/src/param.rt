@@ -10,7 +10,7 @@ ghost use Rattle.dac_shapes.specs.Views.{param_of, section_of};
 use crate::draft::{DraftApp, Permission, SyncWait};
 
 /// The parameters that are read.
-#[derive(Clone, Copy, Debug, PartialEq, Eq)]
+#[derive(Clone, Copy, PartialEq, Eq)]
 pub enum ParamName {
     Distributed,
     Permissions,

@@ -6,8 +6,8 @@ ghost use Rattle.dac_tokens.specs.Words.{located_of, word_of, is_end};
 ghost use Rattle.dac_shapes.specs.Shape.{token, symbol_at, more_at};
 ghost use Rattle.dac_shapes.specs.Views.{parser_state, tokens_left};
 
-use crate::names::fault;
-use dac_tokens::{ConfigFault, FaultKind, Located, Symbol, Token, Tokens};
+use crate::names::{fault, is_mark};
+use dac_tokens::{ConfigFault, FaultKind, Located, Symbol, Tokens};
 
 /// What is left of the text, the different nodes met so far, and those of the list that is being read.
 #[derive(Drop)]
@@ -35,10 +35,10 @@ impl<'a> Parser<'a> {
         ensures left { tokens_left self.new ≤ tokens_left self.old }
     {
         let next = self.next()?;
-        match next.token {
-            Token::Symbol(other) if other == symbol => Ok(()),
-            _ => Err(fault(FaultKind::BadShape, next.at)),
+        if !is_mark(symbol, next.token) {
+            return Err(fault(FaultKind::BadShape, next.at));
         }
+        Ok(())
     }
 
     /// Whether a comma comes next, or else this symbol.
@@ -49,10 +49,12 @@ impl<'a> Parser<'a> {
         ensures fewer { IfOk result (λ b. b ≡ true → tokens_left self.new < tokens_left self.old) }
     {
         let next = self.next()?;
-        match next.token {
-            Token::Symbol(Symbol::Comma) => Ok(true),
-            Token::Symbol(other) if other == close => Ok(false),
-            _ => Err(fault(FaultKind::BadShape, next.at)),
+        if is_mark(Symbol::Comma, next.token) {
+            return Ok(true);
         }
+        if !is_mark(close, next.token) {
+            return Err(fault(FaultKind::BadShape, next.at));
+        }
+        Ok(false)
     }
 }

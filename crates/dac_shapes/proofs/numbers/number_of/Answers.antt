@@ -5,13 +5,11 @@ use Rattle.dac_shapes.proofs.numbers.number_of.Goals as goal
 
 pub returns-in_err-checked_mul : goal.returns-in_err-checked_mul
 returns-in_err-checked_mul c =
-    let least = not_less c.loop-digit.value c.loop-digit.digit-index (value_from 0 c.args.digits.now) c.args.digits.now c.loop-digit-test.true c.loop-digit.invariant.so_far in
-    c.from_residual.ensures ∙ too_large (value_from 0 c.args.digits.now) 4294967296 (omega (arith, c.in_err-checked_mul.ensures))
+    c.from_residual.ensures ∙ too_large (value_from 0 c.args.digits.now) 4294967296 (omega (arith, not_less c.loop-digit.value c.loop-digit.digit-index (value_from 0 c.args.digits.now) c.args.digits.now c.loop-digit-test.true c.loop-digit.invariant.so_far, c.in_err-checked_mul.ensures))
 
 pub returns-in_err-value : goal.returns-in_err-value
 returns-in_err-value c =
-    let least = not_less c.loop-digit.value c.loop-digit.digit-index (value_from 0 c.args.digits.now) c.args.digits.now c.loop-digit-test.true c.loop-digit.invariant.so_far in
-    c.from_residual-in_err-value.ensures ∙ too_large (value_from 0 c.args.digits.now) 4294967296 (omega (arith, c.in_err-value.ensures, c.in_ok-checked_mul.ensures.1, c.from.ensures, c.saturating_sub.ensures))
+    c.from_residual-in_err-value.ensures ∙ too_large (value_from 0 c.args.digits.now) 4294967296 (omega (arith, not_less c.loop-digit.value c.loop-digit.digit-index (value_from 0 c.args.digits.now) c.args.digits.now c.loop-digit-test.true c.loop-digit.invariant.so_far, c.in_err-value.ensures, c.in_ok-checked_mul.ensures.1, c.from.ensures, c.saturating_sub.ensures))
 
 pub returns : goal.returns
 returns c = small_enough c.loop-digit.value (value_from 0 c.args.digits.now) 4294967296 (is_done c.loop-digit.value c.loop-digit.digit-index _ c.args.digits.now c.loop-digit-test.false c.loop-digit.invariant.so_far) c.loop-digit.invariant.fits

@@ -1,10 +1,11 @@
-use Rattle.std.proofs.Common.{◌≡◌, ◌≤◌, length, arith, ltb, false}
-use Rattle.std.proofs.lemmas.Bool.{le-ltb}
+use Rattle.std.proofs.Common.{◌≡◌, ◌≤◌, length, arith, ltb, false, le-ltb}
+use Rattle.std.proofs.lemmas.Result.{IfOk-weaker}
 use Rattle.dac_tokens.specs.Gives.{Gives}
 use Rattle.dac_shapes.specs.Shape.{file_at, draft_at}
 use Rattle.dac_shapes.specs.Views.{draft_of}
+use Rattle.dac_shapes.specs.Within.{IsWithinLimits}
 use Rattle.dac_shapes.proofs.Texts.{Tokenizes, whole, found_in, only_in, memory_in}
-use Rattle.dac_shapes.proofs.DraftLimits.{limits_in}
+use Rattle.dac_shapes.proofs.Within.{text_within}
 use Rattle.dac_shapes.proofs.reading.parse_draft.Goals as goal
 
 pub returns : goal.returns
@@ -18,7 +19,7 @@ returns c =
     record {
       found = found;
       only = λ draft is. only_in c.args.text.now c.new.result c.file.result known read draft is;
-      limits = limits_in c.args.text.now c.file.result found;
+      limits = IfOk-weaker _ _ (λ draft. IsWithinLimits (draft_of draft)) (λ draft is. text_within c.args.text.now (draft_of draft) is) found;
       exact = rw fits (rw c.new.ensures.read at read);
       memory = memory_in c.new.result c.file.result read;
     }

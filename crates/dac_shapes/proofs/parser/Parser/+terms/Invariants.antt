@@ -2,7 +2,7 @@ use Rattle.std.proofs.Common.{◌≡◌, ℕ, ◌<◌, ◌≤◌, ◌+◌, ◌*�
 use Rattle.dac_tokens.specs.Words.{located_of, word_of, is_end}
 use Rattle.dac_shapes.specs.Shape.{terms_in, term_at}
 use Rattle.dac_shapes.specs.Views.{parser_state, tokens_left}
-use Rattle.dac_shapes.proofs.TermLoops.{GoesTerms}
+use Rattle.dac_shapes.proofs.Loops.{GoesTerms}
 use Rattle.dac_shapes.proofs.parser.Parser.+terms.Given as goal
 
 abbrev pub decreases-behind_term : goal.decreases-behind_term

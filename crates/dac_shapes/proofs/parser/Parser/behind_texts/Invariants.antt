@@ -1,8 +1,8 @@
-use Rattle.std.proofs.Common.{◌≡◌, ℕ, ◌<◌, ◌≤◌, false}
+use Rattle.std.proofs.Common.{◌≡◌, ℕ, ◌<◌, ◌≤◌, false, suc, cond}
 use Rattle.dac_tokens.specs.Words.{located_of, word_of, is_end}
 use Rattle.dac_shapes.specs.Shape.{texts_at}
 use Rattle.dac_shapes.specs.Views.{parser_state, tokens_left}
-use Rattle.dac_shapes.proofs.TermLoops.{GoesTexts, weight}
+use Rattle.dac_shapes.proofs.Loops.{GoesTexts}
 use Rattle.dac_shapes.proofs.parser.Parser.behind_texts.Given as goal
 
 abbrev pub invariant-loop-next : goal.invariant-loop-next
@@ -13,4 +13,4 @@ invariant-loop-next l = record {
 }
 
 abbrev pub decreases-loop-next : goal.decreases-loop-next
-decreases-loop-next l = weight (is_end (word_of l.next.token)) (tokens_left l.self)
+decreases-loop-next l = cond (is_end (word_of l.next.token)) 0 (suc (tokens_left l.self))

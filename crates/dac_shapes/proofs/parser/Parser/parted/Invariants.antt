@@ -2,7 +2,7 @@ use Rattle.std.proofs.Common.{◌≤◌, [], map}
 use Rattle.dac_tokens.specs.Words.{located_of}
 use Rattle.dac_shapes.specs.Shape.{comma_list, room}
 use Rattle.dac_shapes.specs.Views.{parser_state, tokens_left}
-use Rattle.dac_shapes.proofs.Lists.{Goes}
+use Rattle.dac_shapes.proofs.Loops.{Goes}
 use Rattle.dac_shapes.proofs.parser.Parser.parted.Given as goal
 
 abbrev pub invariant-loop-all : goal.invariant-loop-all
