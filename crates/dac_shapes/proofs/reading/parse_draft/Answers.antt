@@ -1,4 +1,4 @@
-use Rattle.std.proofs.Common.{◌≡◌, ◌≤◌, length, arith, ltb, false, le-ltb}
+use Rattle.std.proofs.Common.{◌≡◌, ◌≤◌, length, arith, le-ltb}
 use Rattle.std.proofs.lemmas.Result.{IfOk-weaker}
 use Rattle.dac_tokens.specs.Gives.{Gives}
 use Rattle.dac_shapes.specs.Shape.{file_at, draft_at}
@@ -15,11 +15,10 @@ returns c =
     let read : Gives draft_of c.file.result (file_at (whole c.new.result)) = rw (c.new-2.ensures.items, c.new-3.ensures.items) at c.file.ensures in
     let short : length c.args.text.now ≤ 65536 = omega arith in
     let found = found_in c.args.text.now c.new.result c.file.result known short read in
-    let fits : ltb 65536 (length c.args.text.now) ≡ false = le-ltb 65536 (length c.args.text.now) short in
     record {
       found = found;
       only = λ draft is. only_in c.args.text.now c.new.result c.file.result known read draft is;
       limits = IfOk-weaker _ _ (λ draft. IsWithinLimits (draft_of draft)) (λ draft is. text_within c.args.text.now (draft_of draft) is) found;
-      exact = rw fits (rw c.new.ensures.read at read);
+      exact = rw (le-ltb 65536 (length c.args.text.now) short) (rw c.new.ensures.read at read);
       memory = memory_in c.new.result c.file.result read;
     }
