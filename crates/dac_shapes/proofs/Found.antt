@@ -1,5 +1,6 @@
--- Which words were read, and that single tokens leave the names alone.
+-- What is read of tokens, lists, pairs and terms: its words are in the grammar, and its names may stand where they stand.
 use Rattle.std.proofs.Common.{◌≡◌, Bool, true, false, cond, eqb, List, [], ◌∷◌, ◌++◌, map, Result, Ok, Err, refl, sym, ap, subst, ◌∙◌, append_assoc, inl, inr, ℕ, zero, suc, ◌⊎◌, IfOk, All}
+use Rattle.std.proofs.lemmas.List.Elements.{All-nil, All-cons}
 use Rattle.dac_tokens.specs.declared.fault.ConfigFault.{ConfigFault}
 use Rattle.dac_tokens.specs.declared.token.Symbol.{Symbol}
 use Rattle.dac_tokens.specs.declared.token.Symbol.TheVariants.{OpenList, CloseList, OpenTuple, CloseTuple, Comma, FullStop}
@@ -11,7 +12,6 @@ use Rattle.dac_shapes.specs.Shape.{State, fails, byte_of, is_mark, token, symbol
 use Rattle.dac_shapes.specs.laws.Names.{chosen}
 use Rattle.dac_shapes.specs.Limits.{Seen, AllMay, steps}
 use Rattle.dac_shapes.specs.Grammar.{Parted, PartedOrNone, IsListOf, between, AreBrackets, IsTerm, AreTerms, OfList, OfTuple, Atom, Integer, Strings, Empty, Between, One, More}
-use Rattle.std.proofs.lemmas.List.Elements.{All-nil, All-cons}
 
 pub bind_ok : {A B : Type 0} (r : Result A ConfigFault) (f : A → Result B ConfigFault) (y : B) → (r >>= f) ≡ Ok y → (x : A) × (r ≡ Ok x) × (f x ≡ Ok y)
 bind_ok (Ok x) f y e = (x, refl, e)

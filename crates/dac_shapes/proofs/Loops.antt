@@ -1,18 +1,18 @@
 -- What loops read: faults that are passed on, elements parted by commas, terms that are passed over, names by their bytes.
 use Rattle.std.proofs.Common.{◌≡◌, ℕ, Result, Ok, Err, sym, ap, ◌∙◌, zero, suc, ◌<◌, ◌≤◌, Bool, true, false, cond, List, [], ◌∷◌, ◌++◌, length, refl, arith, subst, ◌||◌, map, bytes_eq, IsErrAnd}
+use Rattle.std.specs.List.{list_any}
+use Rattle.std.proofs.lemmas.List.{length-map}
 use Rattle.dac_tokens.specs.declared.fault.FaultKind.{FaultKind}
 use Rattle.dac_tokens.specs.declared.fault.FaultKind.TheVariants.{BadToken, Unsupported, NoMemory, BadShape}
 use Rattle.dac_tokens.specs.declared.fault.ConfigFault.{ConfigFault}
 use Rattle.dac_tokens.specs.Faults.{IsTokenFault}
 use Rattle.dac_tokens.specs.Gives.{◌>>=◌, OrMemory, Fails}
 use Rattle.dac_tokens.specs.Stream.{taken}
-use Rattle.dac_shapes.specs.Shape.{State, token, more_at, comma_list, fails, is_mark, is_text, terms_at, terms_in, texts_at, term_by, term_at, IsEnough}
 use Rattle.dac_tokens.specs.declared.token.Symbol.{Symbol}
 use Rattle.dac_tokens.specs.Words.{Located, Word, End, is_end}
-use Rattle.dac_shapes.specs.Views.{Reading, app_of, apps_of, param_of, params_of, section_of, sections_of}
 use Rattle.dac_tokens.specs.declared.token.Symbol.TheVariants.{Comma}
-use Rattle.std.specs.List.{list_any}
-use Rattle.std.proofs.lemmas.List.{length-map}
+use Rattle.dac_shapes.specs.Shape.{State, token, more_at, comma_list, fails, is_mark, is_text, terms_at, terms_in, texts_at, term_by, term_at, IsEnough}
+use Rattle.dac_shapes.specs.Views.{Reading, app_of, apps_of, param_of, params_of, section_of, sections_of}
 use Rattle.dac_shapes.specs.declared.draft.DraftApp.{DraftApp}
 use Rattle.dac_shapes.specs.declared.param.Param.{Param}
 use Rattle.dac_shapes.specs.declared.param.Section.{Section}
