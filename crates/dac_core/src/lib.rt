@@ -1,14 +1,14 @@
 //! One controller, and the world of all controllers of a cluster.
 //!
 //! A [`Node`] is one controller: off with the number of its last incarnation, or running with the state that it has
-//! heard and issued. It changes by [`Node::step`] alone, one [`Event`] at a time. A [`World`] has all controllers of
-//! a configuration, every operation that they issued and every message that they shipped. Messages and single
-//! operations may be lost, repeated and reordered, and controllers may crash.
+//! heard and issued. It changes by [`Node::step`], or by the second half of a step, one [`Event`] at a time. A
+//! [`World`] has all controllers of a configuration, every operation that they issued and every message that they
+//! shipped. Messages and single operations may be lost, repeated and reordered, and controllers may crash.
 //!
 //! The promises are convergence and settling, on [`World::run`]. After any list of events each running
 //! controller's state is the meaning of the set of operations that it has heard. So controllers that heard
-//! the same set hold equal states. Where the events end in enough rounds, begun in a ready world, each application
-//! is settled at each running controller.
+//! the same set hold equal states. Merging two states gives their least upper bound. Where the events end in enough
+//! rounds, begun in a ready world, each application is settled at each running controller.
 #![tactic(auto)]
 
 pub use dac_events::{Command, What, WorldEvent};

@@ -75,9 +75,9 @@ impl World {
         })
     }
 
-    /// A whole run: these events, one after another, in a new world, with the answer to each. `NoMemory` is
-    /// answered only for the world and the list of answers, before any event; an event that is answered so
-    /// is no event.
+    /// A whole run: these events, one after another, in a new world, with the answer to each. An event that is
+    /// answered by `NoMemory` is no event. The run itself is answered so where memory is refused for the world or for
+    /// the list of answers, before any event; no clause speaks of that.
     pub fn run(
         alloc: Global,
         config: &Config,

@@ -1,4 +1,4 @@
-//! A site: one controller under a lock, with a journal of all that was asked of it.
+//! A site: one controller under a lock, with a journal of all that it answered.
 #![tactic(auto)]
 
 pub use blank::{SiteBlank, SiteName, blank_site};

@@ -194,9 +194,10 @@ impl<L: SiteName> Site<L> {
     /// Asks the node. The seat then has one call more: the place of its record, the event and the answer. A refusal of
     /// the node is a record too.
     ///
-    /// `JournalFull` comes exactly where the journal has [`MAX_RECORDS`](crate::MAX_RECORDS) records. `NoMemory` comes after
-    /// it, but before a refusal of the node, since that needs room for its record. At both nothing changes. The lock hides
-    /// the journal, so the clauses speak of some journal of the site: a history of its node from where the site began.
+    /// `JournalFull` is for a journal with [`MAX_RECORDS`](crate::MAX_RECORDS) records. `NoMemory` comes after it, but before
+    /// a refusal of the node, since that needs room for its record. At both the seat stays as it was. The lock hides the
+    /// journal, so the clauses speak of some history of the node from where the site began. One of each length exists:
+    /// what promises that `JournalFull` comes of a full journal is [`add_record`](crate::laws::add_record).
     pub fn call<R: Wait>(
         &self,
         rt: &R,
@@ -206,7 +207,7 @@ impl<L: SiteName> Site<L> {
         ensures number { seat.new.number ≡ seat.old.number }
         ensures ok { IfOk result (λ r. Told seat.old.calls seat.new.calls r.place event (Ok r.reply)) }
         ensures err { IfErr result (λ e. ToldRefused e seat.old.calls seat.new.calls event) }
-        // The answer is the node's, at the end of the journal that was there, and its record is the next one.
+        // The answer is the model node's after some history of the site's node, and its record is the next one.
         ensures taken { IfOk result (λ r. WentOn L.opening seat.old.number event r.place (Ok r.reply)) }
         ensures not_taken { IfErr result (λ e. NotTaken e L.opening seat.old.number event) }
     {
@@ -219,8 +220,8 @@ impl<L: SiteName> Site<L> {
     /// Ends the site: its journal, in which each seat's calls stand once, and nothing else.
     ///
     /// `SeatMissing` comes where fewer seats come back than the site was opened with. `Mismatch` comes where a seat's
-    /// calls aren't its records, or a record is of none of these seats, and names the first such place. At both the site
-    /// and its seats are given up.
+    /// calls aren't its records, or a record is of none of these seats. It names the place where the first such seat
+    /// differs, or, where no seat does, that of the first such record. At both the site and its seats are given up.
     pub fn close<R: Wait>(self, _rt: &R, mut seats: Vec<Seat<L>>) -> Result<Closed, CloseFault>
         requires { L.seats ≡ L.parts }
         ensures opening { IfOk result (λ c. c.opening ≡ L.opening) }

@@ -56,8 +56,8 @@ pub record IsState (s : StateValue) : Type 0 where
   pub permits : ArePermissions (permissions_of s)
   pub starts : AreWishes (wishes_of s)
 
--- x is below y: y has heard all that x has, and no life and no claim is greater in x. What stands in y and is known
--- to x stands in x too, with a value that isn't above. This is written without join.
+-- x is below y: y has heard all that x has and knows all that x knows, and no life and no claim is greater in x. What
+-- stands in y and is known to x stands in x too, with a value that isn't above. This is written without join.
 pub record IsBelow (x y : StateValue) : Type 0 where
   pub heard : IsSubset x.heard y.heard
   pub permits : IsPermissionsBelow (permissions_of x) (permissions_of y)

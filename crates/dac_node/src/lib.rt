@@ -1,9 +1,9 @@
 //! One controller: a node that is off or runs with a state.
 //!
-//! A [`Node`] changes by [`Node::step`] alone, one event at a time. A step has two halves. [`Node::prepare`] finds why
-//! the event is refused, or makes what it does, as a [`Change`]. [`Node::apply`] does the change: it first adds to the
-//! newest deltas those that come, which takes memory, and nothing else of it does. So a caller that keeps more than a
-//! node can make room for all of it before anything changes.
+//! A [`Node`] changes by [`Node::step`], or by the second half of a step, one event at a time. [`Node::prepare`], the
+//! first half, finds why the event is refused, or makes what it does, as a [`Change`]. [`Node::apply`], the second,
+//! does the change: it first adds to the newest deltas those that come, which takes memory, and nothing else of it
+//! does. So a caller that keeps more than a node can make room for all of it before anything changes.
 //!
 //! At a tick a node looks after the applications. Once its start gate is open it notes which claims are lost, and
 //! claims what it is to run now. A ship sends another node what it hasn't acknowledged, as an interval of the newest

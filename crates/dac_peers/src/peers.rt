@@ -29,7 +29,7 @@ fn lesser(least: Option<u64>, number: u64) -> u64
 }
 
 /// What a controller keeps of its peers: how many of its own deltas each of their incarnations acknowledged. It also
-/// keeps up to which place in the deltas of each node it got something last, and which nodes it owes an answer.
+/// keeps the latest place in the deltas of each node up to which it got something, and which nodes it owes an answer.
 pub struct Peers {
     acks: Acks,
     got: Places,
@@ -101,8 +101,8 @@ impl Peers {
         }
     }
 
-    /// What was got from a node last, as it is acknowledged. It is which of its incarnations it came from, and how
-    /// many deltas that one had then.
+    /// The latest place up to which something was got from a node, as it is acknowledged. It is which of its
+    /// incarnations it came from, and how many deltas that one had then.
     pub fn receipt(&self, node: NodeId) -> Option<(Origin, u64)>
         ensures { result ≡ receipt self.now node }
     {

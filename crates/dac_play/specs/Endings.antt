@@ -27,7 +27,7 @@ Ends Well Fails (ending.Refused why) old new = Fails why × Appends old new (fai
 Ends Well Fails ending.Stopped old new = Unit {0}
 
 -- How a command that ended so leaves its source. It is read to its end where all was done, and as the failure tells
--- where it was refused. So `Read` is the failure exactly where the source is given up
+-- where it was refused. So `Read` is the failure only where the source is given up
 abbrev pub IsLeftAt : Ending → Sourced → Type 0
 IsLeftAt ending.Done source = source.progress ≡ Ended
 IsLeftAt (ending.Refused why) source = IsLeftBy why source

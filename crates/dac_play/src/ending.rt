@@ -14,7 +14,8 @@ use std::io::Write;
 pub enum Ending {
     /// It did what it is for, and all that it prints was printed.
     Done,
-    /// Nothing was done, since the input has this failure, and the failure's line was printed.
+    /// Nothing was done, since the input has this failure, or memory was refused before it was read. The failure's line
+    /// was printed.
     Refused(Failure),
     /// Memory was refused, or the output took no more. Nothing is said then of what was printed.
     Stopped,

@@ -3,9 +3,9 @@
 //!
 //! The promises are on [`check_source`] and [`simulate_source`]. Where [`simulate_source`] is done, what it wrote is,
 //! line by line, what the script that the input says does in the model world. Each printed line is the text that its
-//! contract names. A failed read is the failure exactly where the source shows one. However they end, an input is
-//! read no further than its bound and one byte. Where memory or a write fails, nothing else is promised but the
-//! status 1.
+//! contract names. An input is refused for a failed read where the source shows one, or as many reads as there may be.
+//! However they end, an input is read no further than its bound and one byte. Where memory or a write fails, nothing
+//! else is promised but the status 1.
 #![tactic(auto)]
 
 mod answers;

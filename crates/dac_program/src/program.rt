@@ -30,12 +30,13 @@ fn refuse<T: Print + Eprint, W: Write>(rt: &T, error: &Error, output: &mut W) ->
     if error.use_stderr() { 2 } else { 0 }
 }
 
-/// Runs the program on the words of a command line, the program's name first, and answers its status. It is 2 where
-/// the words are no command line. It is 1 where an input has a fault, memory was refused or a write failed. Else it
-/// is 0.
+/// Runs the program on the words of a command line, the program's name first, and answers its status. Of `distac check`
+/// and `distac sim` it is 0 where all was done. It is 1 where an input has a fault, memory was refused or a write
+/// failed. Both write to the output alone.
 ///
-/// `distac check` and `distac sim` write to the output alone. Help goes to the standard output. The text about words
-/// that are no command line goes to the standard error.
+/// Other words are for `clap`, and the clauses say of them only that the status is at most 2. Help goes to the standard
+/// output with status 0. The text about words that are no command line goes to the standard error with status 2, or 1
+/// where it can't be written.
 #[tactic(auto, using(crate::proofs::Reading::nothing_read))]
 pub fn run<'a, T: Print + Eprint, R: Read, W: Write>(
     rt: &T,

@@ -31,7 +31,7 @@ IsOpen source = (source.progress ≡ Open) × (source.reads < max_reads)
 abbrev pub IsGivenUp : Sourced → Type 0
 IsGivenUp source = (source.progress ≡ Failed) ⊎ ((source.progress ≡ Open) × (source.reads ≡ max_reads))
 
--- How a source is left where this is answered of its input: `Read` exactly where it is given up. An input that is too
+-- How a source is left where this is answered of its input: `Read` only where it is given up. An input that is too
 -- long isn't read to its end. What it says is looked at behind its end. Running out of memory hides no failed read.
 abbrev pub IsLeftBy : Failure → Sourced → Type 0
 IsLeftBy (failure.Input TooLong) source = source.progress ≡ Open

@@ -22,7 +22,8 @@ use std::sync::Arc;
 /// the other side knows its dot and has it no more. Contracts see a state as a record of finite sets and maps, so
 /// states with equal parts are equal.
 ///
-/// Copies of a state share its parts, since no part ever changes: a copy costs as much as a pointer.
+/// Copies of a state share its parts, since no part ever changes: a copy costs as much as a pointer. A copy of the
+/// least state has parts of its own.
 pub struct State {
     kept: Kept,
 }

@@ -28,7 +28,7 @@ pub enum WireFaultKind {
     BadName,
     /// A node isn't in the list of the application.
     NotInList,
-    /// A dot that stands isn't among those that are known.
+    /// A dot that is heard, or that stands, isn't among those that are known.
     NotKnown,
     /// Bytes come after the last field.
     Trailing,

@@ -2,6 +2,8 @@
 use Rattle.std.specs.Prelude.{List, Result}
 use Rattle.dac_config.specs.Table.{Table}
 use Rattle.dac_events.specs.declared.WorldEvent.{WorldEvent}
+use Rattle.dac_lattice.specs.Lattices.{IsLattice}
+use Rattle.dac_meaning.specs.StateValue.{IsState, IsBelow, join}
 use Rattle.dac_messages.specs.declared.reply.Reply.{Reply}
 use Rattle.dac_worlds.specs.declared.fault.WorldFault.{WorldFault}
 use Rattle.dac_worlds.specs.WorldValue.{WorldValue}
@@ -20,6 +22,8 @@ pub record Converges (t : Table) (events : List WorldEvent) (answers : List (Res
   pub headline : EachIsMeaning v
   -- controllers that heard the same set hold equal states and bytes, and name the same holder and the same next candidate
   pub agree : Agrees v
+  -- merging two states gives their least upper bound, whatever states they are
+  pub merging : IsLattice IsState IsBelow join
   -- no two issued operations have one dot
   pub distinct : DistinctDots v.operations
   -- each controller holds the set that the world of sets has at its node, as the incarnation that the set is of

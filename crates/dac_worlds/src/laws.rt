@@ -8,7 +8,7 @@ ghost use Rattle.dac_worlds.specs.EveryList.{IsEnough, OfEachList, RunsEachList}
 
 /// What every run from the start leaves. Each running controller's state is the meaning of the issued operations
 /// whose dots it has heard. So controllers that heard the same set hold equal states and bytes, and name the same
-/// holder and the same next candidate. No two issued operations have one dot. Each controller holds the set that the
+/// holder and the same next candidate. Merging two states gives their least upper bound. No two issued operations have one dot. Each controller holds the set that the
 /// world of sets has at its node. Each shipped message carries the meaning of a set of issued operations. Each
 /// delivery that is heard unites the receiver's set with the whole set that the sender had when it shipped. So does
 /// one of an interval or of nothing. Each answer to what was heard tells whether it brought a dot that the controller hadn't

@@ -8,6 +8,7 @@ use Rattle.dac_operations.specs.Operations.{Operation}
 use Rattle.dac_config.specs.Table.{Table}
 use Rattle.dac_meaning.specs.StateValue.{StateValue}
 use Rattle.dac_meaning.specs.Meaning.{meaning_of, In}
+use Rattle.dac_meaning.specs.laws.StateLaws.{state_laws}
 use Rattle.dac_events.specs.declared.WorldEvent.{WorldEvent}
 use Rattle.dac_messages.specs.StateSpelling.{spelling_of}
 use Rattle.dac_decide.specs.Placement.{holder_of, verdict_of, candidate_of}
@@ -118,6 +119,7 @@ converged t events answers v r =
     record {
       headline = meanings;
       agree = agrees v meanings;
+      merging = state_laws;
       distinct = subst DistinctDots (sym r.shows.operations) h.distinct;
       sets = sets;
       listed = lists_all t r.final v all r.shows h;
