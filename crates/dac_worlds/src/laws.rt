@@ -8,15 +8,16 @@ ghost use Rattle.dac_worlds.specs.EveryList.{IsEnough, OfEachList, RunsEachList}
 
 /// What every run from the start leaves. Each running controller's state is the meaning of the issued operations
 /// whose dots it has heard. So controllers that heard the same set hold equal states and bytes, and name the same
-/// holder and the same next candidate. Merging two states gives their least upper bound. No two issued operations have one dot. Each controller holds the set that the
-/// world of sets has at its node. Each shipped message carries the meaning of a set of issued operations. Each
-/// delivery that is heard unites the receiver's set with the whole set that the sender had when it shipped. So does
-/// one of an interval or of nothing. Each answer to what was heard tells whether it brought a dot that the controller hadn't
-/// heard. What comes to a running controller is heard, unless memory is refused or its numbers of deltas are used up.
-/// That is a message that was shipped to it from another node, to no other incarnation alone, or an operation that
-/// was issued. Where no single operation is handed, each controller has with each operation all that were causally
-/// before it. What stands in its state are then exactly the maximal writes. What happened at each controller, its own
-/// events with their answers, is a history of it. The history goes from never booted to where the run leaves it.
+/// holder and the same next candidate. Merging two states gives their least upper bound. No two issued operations
+/// have one dot. Each controller holds the set that the world of sets has at its node. Each shipped message carries
+/// the meaning of a set of issued operations. Each delivery that is heard unites the receiver's set with the whole
+/// set that the sender had when it shipped. So does one of an interval or of nothing. Each answer to what was heard
+/// tells whether it brought a dot that the controller hadn't heard. What comes to a running controller is heard,
+/// unless memory is refused or its numbers of deltas are used up. That is a message that was shipped to it from
+/// another node, to no other incarnation alone, or an operation that was issued. Where no single operation is handed,
+/// each controller has with each operation all that were causally before it. What stands in its state are then
+/// exactly the maximal writes. What happened at each controller, its own events with their answers, is a history of
+/// it. The history goes from never booted to where the run leaves it.
 pub fn runs_converge()
     ensures converges { InEachRun Converges }
     // The same of the model nodes, wherever the run goes.
