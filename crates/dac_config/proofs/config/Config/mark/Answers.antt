@@ -10,5 +10,5 @@ put_config-requires c = kept_members c.self.inside c.deref.result.now c.deref.en
 
 pub returns : goal.returns
 returns c =
-    c.in-Ok.ensures.held [] c.new-mark.ensures
+    c.put_config.ensures.held [] c.new-mark.ensures
     ∙ ap (λ (t : Table). fnv1a (canonical_text t)) (kept_table c.self.inside c.deref.result.now c.deref.ensures.value ∙ c.self.view_is)

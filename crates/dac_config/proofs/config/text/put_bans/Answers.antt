@@ -19,4 +19,4 @@ pub loop-at-preserved : goal.loop-at-preserved
 loop-at-preserved g c =
     let entries = c.args.apps.now.entries in let at = c.loop-at.at in
     let left : texts (map app_row (drop at entries)) ≡ ban_text c.unwrap.result.0.now.items ∷ texts (map app_row (drop (at + 1) entries)) = rw (left_at entries at c.get_index.result c.unwrap.result c.get_index.ensures.entry c.unwrap.ensures, ap not c.if-app.false) refl in
-    one_more c.loop-at.invariant left c.in_ok-put.ensures (rw c.deref.ensures.value at c.in_ok-put_ban.ensures) c.as_slice-before-in-loop-at.ensures
+    one_more c.loop-at.invariant left c.put.ensures (rw c.deref.ensures.value at c.put_ban.ensures) c.as_slice-before-in-loop-at.ensures

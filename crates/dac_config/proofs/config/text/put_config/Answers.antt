@@ -9,5 +9,5 @@ in_file params = simp (append_assoc, append-nil)
 
 pub returns : goal.returns
 returns g c =
-    as_text (then c.in_ok-put.ensures (then c.in_ok-put_params.ensures c.in_ok-put-2.ensures))
+    as_text (then c.put.ensures (then c.put_params.ensures c.put-2.ensures))
     (in_file (parted (param_texts (record { nodes = map node_row c.args.nodes.now; apps = map app_row c.args.apps.now.entries; sync_wait = c.args.wait }))))

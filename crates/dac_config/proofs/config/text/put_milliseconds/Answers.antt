@@ -5,4 +5,4 @@ use Rattle.dac_config.proofs.config.text.put_milliseconds.Goals as goal
 
 pub returns : goal.returns
 returns g c =
-    as_text (then c.in_ok-put.ensures (then c.in_ok-put_number.ensures c.in_ok-put-2.ensures)) (ap (λ text. codes "," ++ text) (sym (append-nil (pair_text (codes "sync_nodes_timeout") (decimal c.args.milliseconds)))))
+    as_text (then c.put.ensures (then c.put_number.ensures c.put-2.ensures)) (ap (λ text. codes "," ++ text) (sym (append-nil (pair_text (codes "sync_nodes_timeout") (decimal c.args.milliseconds)))))

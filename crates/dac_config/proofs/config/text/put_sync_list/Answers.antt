@@ -15,7 +15,7 @@ loop-node-preserved g c =
     let nodes = c.args.nodes.now in let at = c.loop-node.node-index in let node = c.node-item.result in
     let passes : is_in c.args.list (node_row node) ≡ true = sym c.is_in.ensures ∙ c.if-not-is_in.false in
     let left : texts c.args.list (drop at nodes) ≡ name_text node.name.items ∷ texts c.args.list (drop (at + 1) nodes) = rw (drop_more nodes at node c.loop-node-test.true, ← c.node-item.is, passes) refl in
-    one_more c.loop-node.invariant left c.in_ok-put.ensures (rw c.deref.ensures.value at c.in_ok-put_name.ensures) c.as_slice-before-in-loop-node.ensures
+    one_more c.loop-node.invariant left c.put.ensures (rw c.deref.ensures.value at c.put_name.ensures) c.as_slice-before-in-loop-node.ensures
 
 pub returns : goal.returns
 returns g c = all_taken c.loop-node.invariant (at_drop_all (texts c.args.list) c.args.nodes.now c.loop-node.node-index c.loop-node-test.false)
