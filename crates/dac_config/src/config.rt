@@ -14,7 +14,6 @@ use dac_base::{AppId, MAX_APPS, MAX_NODES, NoMemory, NodeId};
 use dac_shapes::MAX_TEXT;
 use indexmap::IndexMap;
 use std::marker::Model;
-use text::put_config;
 
 #[derive(Clone, Drop)]
 struct Node {
@@ -200,7 +199,7 @@ impl Config {
         ensures read_again { IfOk result (λ text. length text.items ≤ MAX_TEXT → IsConfigOf text.items self.now) }
     {
         let mut text = Text::new(*self.nodes.allocator());
-        put_config(&mut text, &self.nodes, &self.apps, self.sync_wait);
+        self.put(&mut text);
         text.finish()
     }
 
@@ -210,7 +209,7 @@ impl Config {
         ensures { result ≡ fnv1a (canonical_text self.now) }
     {
         let mut mark = Mark::new();
-        put_config(&mut mark, &self.nodes, &self.apps, self.sync_wait);
+        self.put(&mut mark);
         mark.value
     }
 

@@ -2,12 +2,11 @@
 
 ghost use Rattle.std.specs.Prelude.{◌≡◌, ◌<◌, ◌≤◌, not, codes, length, map, filter, All};
 ghost use Rattle.std.specs.Fmt.{decimal};
-ghost use Rattle.dac_shapes.specs.declared.draft.SyncWait.TheVariants.{Ms};
 ghost use Rattle.dac_config.specs.Sinks.{Gains};
-ghost use Rattle.dac_config.specs.Canonical.{name_text, parted_behind, parted, node_name_text, tuple_text, group_text, app_text, ban_text, wait_texts, param_texts, canonical_text};
+ghost use Rattle.dac_config.specs.Canonical.{name_text, parted_behind, parted, node_name_text, tuple_text, group_text, app_text, ban_text, wait_texts, param_texts};
 ghost use Rattle.dac_config.specs.ConfigView.{node_row, named_row, app_row, HasMembersBelow, is_in};
 
-use super::{App, Node};
+use super::{App, Config, Node};
 use crate::SyncWait;
 use crate::naming::put_name;
 use crate::sink::Sink;
@@ -166,21 +165,17 @@ fn put_sync_list<S: Sink>(sink: &mut S, nodes: &[Node], list: SyncList)
     }
 }
 
-fn put_milliseconds<S: Sink>(sink: &mut S, milliseconds: u32)
-    ensures { Gains S.holds sink.old sink.new (parted_behind (codes ",") (wait_texts (Ms milliseconds))) }
-{
-    sink.put(b",{sync_nodes_timeout,");
-    put_number(sink, milliseconds);
-    sink.put(b"}");
-}
-
 fn put_wait<S: Sink>(sink: &mut S, wait: SyncWait)
     ensures { Gains S.holds sink.old sink.new (parted_behind (codes ",") (wait_texts wait)) }
 {
     match wait {
         SyncWait::NoSync => {}
         SyncWait::Forever => sink.put(b",{sync_nodes_timeout,infinity}"),
-        SyncWait::Ms(milliseconds) => put_milliseconds(sink, milliseconds),
+        SyncWait::Ms(milliseconds) => {
+            sink.put(b",{sync_nodes_timeout,");
+            put_number(sink, milliseconds);
+            sink.put(b"}");
+        }
     }
 }
 
@@ -201,17 +196,15 @@ fn put_params<S: Sink>(sink: &mut S, nodes: &[Node], apps: &IndexMap<Vec<u8>, Ap
     put_wait(sink, wait);
 }
 
-/// The canonical text of a configuration with these parts.
-pub(crate) fn put_config<S: Sink>(
-    sink: &mut S,
-    nodes: &[Node],
-    apps: &IndexMap<Vec<u8>, App>,
-    wait: SyncWait,
-)
-    requires { All (λ entry. HasMembersBelow (length nodes.now) entry.1) apps.now.entries }
-    ensures { Gains S.holds sink.old sink.new (canonical_text (record { nodes = map node_row nodes.now; apps = map app_row apps.now.entries; sync_wait = wait })) }
-{
-    sink.put(b"[{kernel,[");
-    put_params(sink, nodes, apps, wait);
-    sink.put(b"]}].\n");
+impl Config {
+    ghost use Rattle.dac_config.specs.Canonical.{canonical_text};
+
+    /// The canonical text.
+    pub(super) fn put<S: Sink>(&self, sink: &mut S)
+        ensures { Gains S.holds sink.old sink.new (canonical_text self.now) }
+    {
+        sink.put(b"[{kernel,[");
+        put_params(sink, &self.nodes, &self.apps, self.sync_wait);
+        sink.put(b"]}].\n");
+    }
 }
