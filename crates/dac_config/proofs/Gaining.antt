@@ -1,6 +1,10 @@
 -- Texts that are taken piece by piece.
-use Rattle.std.proofs.Common.{◌≡◌, ℕ, List, [], ◌∷◌, ◌++◌, sym, subst, append_assoc, append-nil}
-use Rattle.dac_config.specs.Sinks.{Gains}
+use Rattle.std.proofs.Common.{◌≡◌, ℕ, List, [], ◌∷◌, ◌++◌, sym, subst, append_assoc, append-nil, Result, IfOk}
+use Rattle.std.specs.Global.{Vec}
+use Rattle.std.proofs.lemmas.Result.{IfOk-weaker}
+use Rattle.dac_base.specs.declared.NoMemory.{NoMemory}
+use Rattle.dac_config.specs.declared.sink.Text.{Text}
+use Rattle.dac_config.specs.Sinks.{Gains, IsWritten, HasText}
 use Rattle.dac_config.specs.Canonical.{parted_behind, parted}
 
 -- once these texts are taken, the first behind `before`, the total is taken since the start
@@ -32,3 +36,7 @@ module _ {S : Type 0} {H : S → List ℕ → Type 0} where
   -- what is left may be said in other words
   pub same_left : {start now : S} {before total : List ℕ} {left rest : List (List ℕ)} → Goes H start now before left total → left ≡ rest → Goes H start now before rest total
   same_left {start} {now} {before} {total} so_far is = subst (λ (l : List (List ℕ)). Goes H start now before l total) is so_far
+
+-- what is given at the end is what was written
+pub finished : (result : Result (Vec ℕ) NoMemory) (written : Text) (text : List ℕ) → IfOk result (HasText written) → IsWritten written text → IfOk result (λ bytes. bytes.items ≡ text)
+finished result written text has is = IfOk-weaker result (HasText written) (λ bytes. bytes.items ≡ text) (λ bytes h. h text is) has

@@ -1,5 +1,5 @@
 -- A configuration as it is kept: what its tables say at a number and of a name, how they are made, and their copies.
-use Rattle.std.proofs.Common.{◌≡◌, ℕ, ◌+◌, ◌<◌, ◌≤◌, drop, get_or, Bool, false, cond, eqb, not, List, [], ◌∷◌, ◌++◌, length, map, All, Bor, bytes_eq, position, Option, Some, None, option_map, slice_get, refl, sym, ap, subst, ◌∙◌, arith, append_assoc}
+use Rattle.std.proofs.Common.{◌≡◌, ℕ, ◌+◌, ◌<◌, ◌≤◌, drop, get_or, Bool, false, cond, eqb, not, List, [], ◌∷◌, ◌++◌, length, map, All, Bor, bytes_eq, position, Option, Some, None, option_map, slice_get, refl, sym, ap, subst, ◌∙◌, arith, append_assoc, append-nil}
 use Rattle.std.specs.Global.{Vec}
 use Rattle.std.specs.List.{prefix_len, list_any, AllZip, each_same}
 use Rattle.std.specs.Map.{keys_of, values_of, lookup}
@@ -9,7 +9,7 @@ use Rattle.std.proofs.lemmas.Bool.{or_parts}
 use Rattle.std.proofs.lemmas.Cmp.{nat_list_eq_equiv}
 use Rattle.std.proofs.lemmas.List.{drop_more, length-map, map_push}
 use Rattle.std.proofs.lemmas.List.Elements.{All-weaker}
-use Rattle.std.proofs.lemmas.Option.{slice_get-map, slice_get_within, get_or_from_slice_get}
+use Rattle.std.proofs.lemmas.Option.{slice_get-map, slice_get-get_or, slice_get_within, get_or_from_slice_get}
 use Rattle.indexmap.specs.IndexMap.{IndexMap, insert_entry}
 use Rattle.indexmap.proofs.CallerLemmas.{insert_entry-new}
 use Rattle.dac_base.specs.declared.NodeId.{NodeId}
@@ -36,7 +36,7 @@ position-map : {A B : Type 0} (f : A → B) (p : B → Bool) (xs : List A) → p
 position-map f p xs = rw (prefix_len-map f (λ x. not (p x)) xs, length-map xs f) refl
 
 -- what is true of all is true of the one at a place
-all_at : {X : Type 0} (P : X → Type 0) (xs : List X) (i : ℕ) (x : X) → All P xs → slice_get xs i ≡ Some x → P x
+pub all_at : {X : Type 0} (P : X → Type 0) (xs : List X) (i : ℕ) (x : X) → All P xs → slice_get xs i ≡ Some x → P x
 all_at P xs i x all e = subst P (get_or_from_slice_get xs i x x e) (all i x (slice_get_within xs i x e))
 
 -- ---- what is kept, in the words of the table
@@ -49,6 +49,18 @@ app_kept c table is i app e =
     by : (o : Option (Vec ℕ × App)) → option_map (λ x. x.1) o ≡ Some app → (name : Vec ℕ) × (option_map app_row o ≡ Some (app_row (name, app)))
     by None h = absurd cc
     by (Some x) h = let k : x.1 ≡ app = cc in (x.0, ap (λ (a : App). Some (app_row (x.0, a))) k)
+
+-- a node, from what the list has at its place
+node_within : (c : Inside) (table : Table) → table_of c ≡ table → (i : ℕ) → i < length table.nodes → i < length c.nodes.items
+node_within c table is i within = subst (λ n. i < n) (ap (λ (t : Table). length t.nodes) (sym is) ∙ length-map c.nodes.items node_row) within
+
+pub node_indexed : (c : Inside) (table : Table) → table_of c ≡ table → (i : ℕ) → i < length table.nodes → i < vec_len c.nodes
+node_indexed c table is i within = omega (arith, node_within c table is i within, c.nodes.ok.0)
+
+pub node_kept : (c : Inside) (table : Table) → table_of c ≡ table → (i : ℕ) (node : Node) → node ≡ get_or c.nodes.items i node → i < length table.nodes → slice_get table.nodes i ≡ Some (node_row node)
+node_kept c table is i node here within =
+    subst (λ (t : Table). slice_get t.nodes i ≡ Some (node_row node)) is
+    (slice_get-map node_row c.nodes.items i ∙ ap (option_map node_row) (slice_get-get_or c.nodes.items i node (node_within c table is i within)) ∙ ap (λ n. Some (node_row n)) (sym here))
 
 -- the node, the application and the group at a place that was found
 pub node_found : (c : Inside) (table : Table) → table_of c ≡ table → (name : List ℕ) (nodes : List Node) (at : Option ℕ) → at ≡ position (λ node. bytes_eq name node.name.items) nodes → nodes ≡ c.nodes.items
@@ -73,10 +85,14 @@ few_groups c i app small e =
     let row = app_kept c (table_of c) refl i app e in
     omega (arith, length-map app.groups.items (λ group. group.items), all_at (λ (r : AppRow). length r.groups ≤ 16) (map app_row c.apps.entries) i (app_row (row.0, app)) small row.1)
 
--- what is left of the entries from a place whose entry the map gave
+-- the entry at a place, as the map gave it
+pub entry_at : (es : List (Vec ℕ × App)) (i : ℕ) (got : Option (Bor (Vec ℕ) × Bor App)) (entry : Bor (Vec ℕ) × Bor App) → option_map deref_pair got ≡ slice_get es i → got ≡ Some entry → slice_get es i ≡ Some (deref_pair entry)
+entry_at es i got entry is was = sym is ∙ ap (option_map deref_pair) was
+
+-- what is left of the entries from there
 pub left_at : (es : List (Vec ℕ × App)) (i : ℕ) (got : Option (Bor (Vec ℕ) × Bor App)) (entry : Bor (Vec ℕ) × Bor App) → option_map deref_pair got ≡ slice_get es i → got ≡ Some entry → drop i es ≡ deref_pair entry ∷ drop (i + 1) es
 left_at es i got entry is was =
-    let here : slice_get es i ≡ Some (deref_pair entry) = sym is ∙ ap (option_map deref_pair) was in
+    let here = entry_at es i got entry is was in
     drop_more es i (deref_pair entry) (slice_get_within es i (deref_pair entry) here) ∙ ap (λ e. e ∷ drop (i + 1) es) (get_or_from_slice_get es i (deref_pair entry) (deref_pair entry) here)
 
 -- the groups that are kept are of nodes that are kept
@@ -124,6 +140,15 @@ table_copied c d nodes apps wait = λ i. record {
   sync_wait = wait i;
 }
 
+-- ---- rows are put into a list one after another
+
+pub one_pushed : {A B : Type 0} (f : A → B) (xs : List A) (x : A) (new : List A) (row : B) (left rest total : List B) → new ≡ xs ++ x ∷ [] → f x ≡ row → left ≡ row ∷ rest → map f xs ++ left ≡ total → map f new ++ rest ≡ total
+one_pushed f xs x new row left rest total is same next so_far =
+    ap (λ ys. map f ys ++ rest) is ∙ ap (λ ys. ys ++ rest) (map_push f xs x) ∙ append_assoc (map f xs) (f x ∷ []) rest ∙ ap (λ r. map f xs ++ r ∷ rest) same ∙ ap (λ ys. map f xs ++ ys) (sym next) ∙ so_far
+
+pub all_pushed : {B : Type 0} (rows left total : List B) → left ≡ [] → rows ++ left ≡ total → rows ≡ total
+all_pushed rows left total none all = sym (append-nil rows) ∙ ap (λ ys. rows ++ ys) (sym none) ∙ all
+
 -- ---- applications are put into the table one after another
 
 abbrev same_name : Vec ℕ → Vec ℕ → Bool
@@ -155,10 +180,8 @@ module _ {S : Type 0} (permissions : List Permission) (nodes : List NodeRow) (m 
   pub more_rows : (new : List (Vec ℕ × App)) (total : List AppRow) → new ≡ insert_entry same_name m.entries name app → map app_row m.entries ++ map (numbered_app permissions nodes) (apps_of (drop i apps)) ≡ total
       → map app_row new ++ map (numbered_app permissions nodes) (apps_of (drop (i + 1) apps)) ≡ total
   more_rows new total is rows =
-      ap (λ l. map app_row l ++ map (numbered_app permissions nodes) (apps_of (drop (i + 1) apps))) (is ∙ goes_last)
-      ∙ ap (λ l. l ++ map (numbered_app permissions nodes) (apps_of (drop (i + 1) apps))) (map_push app_row m.entries (name, app) ∙ ap (λ r. map app_row m.entries ++ r ∷ []) row)
-      ∙ append_assoc (map app_row m.entries) (numbered_app permissions nodes (app_of item) ∷ []) (map (numbered_app permissions nodes) (apps_of (drop (i + 1) apps)))
-      ∙ sym (ap (λ (rest : List DraftApp). map app_row m.entries ++ map (numbered_app permissions nodes) (apps_of rest)) left) ∙ rows
+      one_pushed app_row m.entries (name, app) new (numbered_app permissions nodes (app_of item)) (map (numbered_app permissions nodes) (apps_of (drop i apps))) (map (numbered_app permissions nodes) (apps_of (drop (i + 1) apps))) total (is ∙ goes_last) row
+      (ap (λ (rest : List DraftApp). map (numbered_app permissions nodes) (apps_of rest)) left) rows
 
   pub still_once : (new : List (Vec ℕ × App)) → new ≡ insert_entry same_name m.entries name app → AllNew (names_in new) (map (λ a. a.name) (apps_of (drop (i + 1) apps)))
   still_once new is =

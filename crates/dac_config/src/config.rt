@@ -9,11 +9,11 @@ mod text;
 
 use crate::SyncWait;
 use crate::mark::Mark;
+use crate::sink::Text;
 use dac_base::{AppId, MAX_APPS, MAX_NODES, NoMemory, NodeId};
 use dac_shapes::MAX_TEXT;
 use indexmap::IndexMap;
 use std::marker::Model;
-use text::put_config;
 
 #[derive(Clone, Drop)]
 struct Node {
@@ -198,9 +198,9 @@ impl Config {
         // What is written is read again as an equal configuration, where it isn't too long to be read.
         ensures read_again { IfOk result (λ text. length text.items ≤ MAX_TEXT → IsConfigOf text.items self.now) }
     {
-        let mut text = Vec::new(*self.nodes.allocator());
-        put_config(&mut text, &self.nodes, &self.apps, self.sync_wait)?;
-        Ok(text)
+        let mut text = Text::new(*self.nodes.allocator());
+        self.put(&mut text);
+        text.finish()
     }
 
     /// A number that stands for the configuration: the 64-bit FNV-1a value of its canonical text. Two
@@ -209,10 +209,8 @@ impl Config {
         ensures { result ≡ fnv1a (canonical_text self.now) }
     {
         let mut mark = Mark::new();
-        match put_config(&mut mark, &self.nodes, &self.apps, self.sync_wait) {
-            Ok(()) => mark.value,
-            Err(never) => match never {},
-        }
+        self.put(&mut mark);
+        mark.value
     }
 
     /// An equal configuration.

@@ -4,7 +4,6 @@ ghost use Rattle.std.specs.Prelude.{◌≡◌, []};
 ghost use Rattle.dac_config.specs.Mark.{mixed, fnv1a};
 
 use crate::sink::Sink;
-use std::convert::Infallible;
 
 const NO_BYTES: u64 = 14695981039346656037;
 
@@ -32,14 +31,11 @@ impl Mark {
 }
 
 impl Sink for Mark {
-    type Fault = Infallible;
-
     ghost holds = { λ mark text. mark.value ≡ fnv1a text };
 
-    fn put(&mut self, bytes: &[u8]) -> Result<(), Infallible> {
+    fn put(&mut self, bytes: &[u8]) {
         for byte in bytes {
             self.value = mixed(self.value, *byte);
         }
-        Ok(())
     }
 }

@@ -1,11 +1,11 @@
 //! Names of nodes and applications, as Erlang writes atoms.
 
-ghost use Rattle.std.specs.Prelude.{◌≡◌, IfOk, OnOk};
+ghost use Rattle.std.specs.Prelude.{◌≡◌, IfOk};
 ghost use Rattle.std.specs.List.{list_all};
 ghost use Rattle.dac_config.specs.Sinks.{Gains};
 ghost use Rattle.dac_config.specs.Canonical.{is_name_byte, begins_small, is_bare, name_text};
 
-use crate::sink::Sink;
+use crate::sink::{Sink, Text};
 use dac_base::NoMemory;
 use std::alloc::Global;
 
@@ -43,19 +43,19 @@ pub fn is_bare(name: &[u8]) -> bool
 pub fn printed_name(alloc: Global, name: &[u8]) -> Result<Vec<u8>, NoMemory>
     ensures { IfOk result (λ text. text.items ≡ name_text name.now) }
 {
-    let mut text = Vec::new(alloc);
-    put_name(&mut text, name)?;
-    Ok(text)
+    let mut text = Text::new(alloc);
+    put_name(&mut text, name);
+    text.finish()
 }
 
-pub(crate) fn put_name<S: Sink>(sink: &mut S, name: &[u8]) -> Result<(), S::Fault>
-    ensures { OnOk result (Gains S.holds sink.old sink.new (name_text name.now)) }
+pub(crate) fn put_name<S: Sink>(sink: &mut S, name: &[u8])
+    ensures { Gains S.holds sink.old sink.new (name_text name.now) }
 {
     if is_bare(name) {
-        return sink.put(name);
+        sink.put(name);
+    } else {
+        sink.put(b"'");
+        sink.put(name);
+        sink.put(b"'");
     }
-    sink.put(b"'")?;
-    sink.put(name)?;
-    sink.put(b"'")?;
-    Ok(())
 }

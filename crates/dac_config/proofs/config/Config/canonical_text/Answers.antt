@@ -1,21 +1,15 @@
-use Rattle.std.proofs.Common.{ℕ, ◌≤◌, List, [], length, sym, ap, subst, ◌∙◌}
-use Rattle.dac_config.specs.Table.{Table}
+use Rattle.std.proofs.Common.{◌≡◌, ℕ, ◌≤◌, List, [], length, sym, subst}
+use Rattle.std.proofs.lemmas.Result.{IfOk-weaker}
 use Rattle.dac_config.specs.Canonical.{canonical_text}
 use Rattle.dac_config.specs.Says.{IsConfigOf, IsSaid}
-use Rattle.dac_config.proofs.Tables.{kept_members, kept_table}
+use Rattle.dac_config.proofs.Gaining.{finished}
 use Rattle.dac_config.proofs.Again.{canonical_says}
 use Rattle.dac_config.proofs.config.Config.canonical_text.Goals as goal
 
-pub put_config-requires : goal.put_config-requires
-put_config-requires c = kept_members c.self.inside c.deref.result.now c.deref.ensures.value c.self.invariant
-
 pub returns-clause-bytes : goal.returns-clause-bytes
-returns-clause-bytes c =
-    c.in_ok-put_config.ensures.held [] c.new-text.ensures.items
-    ∙ ap (λ (t : Table). canonical_text t) (kept_table c.self.inside c.deref.result.now c.deref.ensures.value ∙ c.self.view_is)
+returns-clause-bytes c = finished c.finish.result c.put.new.sink (canonical_text c.args.self.now) c.finish.ensures (c.put.ensures.held [] c.new-text.ensures)
 
 pub returns-clause-read_again : goal.returns-clause-read_again
 returns-clause-read_again c =
-    let bytes = returns-clause-bytes c in
     let said = subst IsSaid c.self.view_is c.self.invariant.said in
-    subst (λ (text : List ℕ). length text ≤ 65536 → IsConfigOf text c.args.self.now) (sym bytes) (canonical_says c.args.self.now said)
+    IfOk-weaker c.finish.result (λ text. text.items ≡ canonical_text c.args.self.now) _ (λ text bytes. subst (λ (text : List ℕ). length text ≤ 65536 → IsConfigOf text c.args.self.now) (sym bytes) (canonical_says c.args.self.now said)) (returns-clause-bytes c)

@@ -4,5 +4,5 @@ use Rattle.dac_config.proofs.config.text.put_app.Goals as goal
 
 pub returns : goal.returns
 returns g c =
-    let groups = rw c.deref.ensures.value at c.in_ok-put_groups.ensures in
-    simp append_assoc (then c.in_ok-put.ensures (then c.in_ok-put_name.ensures (then c.in_ok-put-2.ensures (then c.in_ok-put_number.ensures (then c.in_ok-put-3.ensures (then groups c.in_ok-put-4.ensures))))))
+    let groups = rw c.deref.ensures.value at c.put_groups.ensures in
+    simp append_assoc (then c.put.ensures (then c.put_name.ensures (then c.put-2.ensures (then c.put_number.ensures (then c.put-3.ensures (then groups c.put-4.ensures))))))

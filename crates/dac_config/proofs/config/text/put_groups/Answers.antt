@@ -10,7 +10,7 @@ pub loop-group-preserved : goal.loop-group-preserved
 loop-group-preserved g c =
     let left = at_drop_more (λ (groups : List (Vec ℕ)). map (group_text (map node_row c.args.nodes.now)) (map (λ group. group.items) groups)) c.args.groups.now c.loop-group.group-index c.group-item.result c.loop-group-test.true in
     let same = c.deref.ensures.value ∙ ap (λ (group : Vec ℕ). group.items) c.group-item.is in
-    one_more c.loop-group.invariant left c.in_ok-put.ensures (rw same at c.in_ok-put_group.ensures) c.as_slice-before-in-loop-group.ensures
+    one_more c.loop-group.invariant left c.put.ensures (rw same at c.put_group.ensures) c.as_slice-before-in-loop-group.ensures
 
 pub returns : goal.returns
 returns g c =

@@ -8,7 +8,7 @@ use Rattle.dac_config.proofs.config.text.put_members.Goals as goal
 pub loop-number-preserved : goal.loop-number-preserved
 loop-number-preserved g c =
     let left = at_drop_more (map (node_name_text (map node_row c.args.nodes.now))) c.args.group.now c.loop-number.number-index 0 c.loop-number-test.true in
-    one_more c.loop-number.invariant left c.in_ok-put.ensures c.in_ok-put_node.ensures c.as_slice-before-in-loop-number.ensures
+    one_more c.loop-number.invariant left c.put.ensures c.put_node.ensures c.as_slice-before-in-loop-number.ensures
 
 pub returns : goal.returns
 returns g c = all_taken c.loop-number.invariant (at_drop_all (map (node_name_text (map node_row c.args.nodes.now))) c.args.group.now c.loop-number.number-index c.loop-number-test.false)

@@ -15,7 +15,7 @@ returns g c =
     let nodes : List NodeRow = map node_row c.args.nodes.now in
     let apps : List AppRow = map app_row c.args.apps.now.entries in
     as_text
-    (then c.in_ok-put.ensures (then c.in_ok-put_apps.ensures (then c.in_ok-put-2.ensures (then c.in_ok-put_bans.ensures (then c.in_ok-put-3.ensures (then c.in_ok-put_sync_list.ensures
-    (then c.in_ok-put-4.ensures (then c.in_ok-put_sync_list-2.ensures (then c.in_ok-put-5.ensures c.in_ok-put_wait.ensures)))))))))
+    (then c.put.ensures (then c.put_apps.ensures (then c.put-2.ensures (then c.put_bans.ensures (then c.put-3.ensures (then c.put_sync_list.ensures
+    (then c.put-4.ensures (then c.put_sync_list-2.ensures (then c.put-5.ensures c.put_wait.ensures)))))))))
     (in_row (parted (map (app_text nodes) apps)) (parted (map (λ row. ban_text row.name) (filter (λ row. not row.permission) apps))) (parted (map (λ row. name_text row.name) (filter (λ row. row.mandatory) nodes)))
     (parted (map (λ row. name_text row.name) (filter (λ row. row.optional) nodes))) (parted_behind (codes ",") (wait_texts c.args.wait)))
