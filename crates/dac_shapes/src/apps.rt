@@ -28,8 +28,7 @@ impl<'a> Parser<'a> {
             return Ok((0, token));
         };
         let timeout = milliseconds_of(token.at, negative, digits)?;
-        self.symbol(Symbol::Comma)?;
-        let next = self.next()?;
+        let next = self.behind(Symbol::Comma)?;
         Ok((timeout, next))
     }
 

@@ -10,7 +10,7 @@ ghost use Rattle.dac_shapes.specs.Written.{Permission as WrittenPermission};
 
 use crate::draft::Permission;
 use crate::list::Elements;
-use crate::names::{atom_of, fault, short_name_of};
+use crate::names::{atom_of, fault, short_name_of, spells};
 use crate::pairs::Pair;
 use crate::parser::Parser;
 use dac_tokens::{ConfigFault, FaultKind, Located};
@@ -22,10 +22,10 @@ fn flag_of(token: Located<'_>) -> Result<bool, ConfigFault>
     ensures { Gives (λ flag. flag) result (flag_of (located_of token.entry)) }
 {
     let name = atom_of(token)?;
-    if name == b"true".as_slice() {
+    if spells(b"true", name) {
         return Ok(true);
     }
-    if name == b"false".as_slice() {
+    if spells(b"false", name) {
         return Ok(false);
     }
     Err(fault(FaultKind::BadShape, token.at))

@@ -51,8 +51,7 @@ impl<'a> Parser<'a> {
     fn end(&mut self) -> Result<usize, ConfigFault>
         ensures { Gives (λ at. (at, parser_state self.new)) result (end_at (parser_state self.old)) }
     {
-        self.symbol(Symbol::FullStop)?;
-        let end = self.next()?;
+        let end = self.behind(Symbol::FullStop)?;
         match end.token {
             Token::End => Ok(end.at),
             _ => Err(fault(FaultKind::BadShape, end.at)),
