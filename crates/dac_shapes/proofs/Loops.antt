@@ -1,13 +1,13 @@
 -- What loops read: faults that are passed on, elements parted by commas, terms that are passed over, names by their bytes.
-use Rattle.std.proofs.Common.{◌≡◌, ℕ, Result, Ok, Err, sym, ap, ◌∙◌, zero, suc, ◌<◌, ◌≤◌, Bool, true, false, cond, List, [], ◌∷◌, ◌++◌, length, refl, arith, subst, ◌||◌, map, bytes_eq, IsErrAnd}
+use Rattle.std.proofs.Common.{◌≡◌, ℕ, Result, Ok, Err, sym, ap, ◌∙◌, zero, suc, ◌<◌, ◌≤◌, Bool, true, false, cond, List, [], ◌∷◌, ◌++◌, length, refl, arith, subst, ◌||◌, map, bytes_eq, IsErrAnd, IfErr}
 use Rattle.std.specs.List.{list_any}
 use Rattle.std.proofs.lemmas.List.{length-map}
 use Rattle.dac_tokens.specs.declared.fault.FaultKind.{FaultKind}
 use Rattle.dac_tokens.specs.declared.fault.FaultKind.TheVariants.{BadToken, Unsupported, NoMemory, BadShape}
 use Rattle.dac_tokens.specs.declared.fault.ConfigFault.{ConfigFault}
 use Rattle.dac_tokens.specs.Faults.{IsTokenFault}
-use Rattle.dac_tokens.specs.Gives.{◌>>=◌, OrMemory, Fails}
-use Rattle.dac_tokens.specs.Stream.{taken}
+use Rattle.dac_tokens.specs.Gives.{◌>>=◌, OrMemory, Fails, Reads, Gives}
+use Rattle.dac_tokens.specs.Stream.{Stream, taken}
 use Rattle.dac_tokens.specs.declared.token.Symbol.{Symbol}
 use Rattle.dac_tokens.specs.Words.{Located, Word, End, is_end}
 use Rattle.dac_tokens.specs.declared.token.Symbol.TheVariants.{Comma}
@@ -32,6 +32,9 @@ fails_too e r q f h = or_memory e.kind e.at _ _ f h
 pub fails_then : {A B : Type 0} (e : ConfigFault) (r : Result A ConfigFault) (f : A → Result B ConfigFault) (total : Result B ConfigFault) → (r >>= f) ≡ total → Fails e r → Fails e total
 fails_then e r f total whole h = fails_too e r total (λ q. sym whole ∙ ap (λ x. x >>= f) q) h
 
+pub fails_first : {A B : Type 0} (e : ConfigFault) (r : Result A ConfigFault) (f : A → Result B ConfigFault) → Fails e r → Fails e (r >>= f)
+fails_first e r f h = fails_then e r f (r >>= f) refl h
+
 -- where it gives something, the second step is left
 pub then_is : {A B : Type 0} (r : Result A ConfigFault) (f : A → Result B ConfigFault) (x : A) (total : Result B ConfigFault) → (r >>= f) ≡ total → r ≡ Ok x → f x ≡ total
 then_is r f x total whole is = sym (ap (λ q. q >>= f) is) ∙ whole
@@ -52,8 +55,10 @@ of_token BadToken at P is h = h
 of_token Unsupported at P is h = h
 of_token _ at P is h = absurd is
 
-pub token_fails : (e : ConfigFault) (s : State) → IsTokenFault e.kind → taken s.left ≡ Err e → Fails e (token s)
-token_fails e s is h = of_token e.kind e.at _ is (ap (λ r. r >>= λ t. Ok (t.0, record s { left = t.1 })) h)
+-- the next token, as the reader of tokens gives it
+pub token_gives : {X : Type 0} (view : X → Located) (r : Result X ConfigFault) (s : State) (left : Stream) → Reads (λ x. (view x, left)) r (taken s.left) → IfErr r (λ e. IsTokenFault e.kind) → Gives (λ x. (view x, record s { left = left })) r (token s)
+token_gives view (Ok x) s left h fault = ap (λ r. r >>= λ t. Ok (t.0, record s { left = t.1 })) h
+token_gives view (Err e) s left h fault = of_token e.kind e.at _ fault (ap (λ r. r >>= λ t. Ok (t.0, record s { left = t.1 })) h)
 
 module _ {A : Type 0} (read : Reading A) (close : Symbol) where
   -- what is read on from a token, from a comma or the closing symbol, and from behind an element

@@ -63,6 +63,10 @@ symbol_at symbol s = do
   t ← token s
   if is_mark symbol t.0.word then Ok t.1 else fails BadShape t.0.at
 
+-- the token behind this symbol, which comes next
+abbrev pub behind_at : Symbol → State → Result (Located × State) ConfigFault
+behind_at symbol s = symbol_at symbol s >>= token
+
 -- whether a comma comes next, or else this symbol
 unfoldable pub more_at : Symbol → State → Result (Bool × State) ConfigFault
 more_at close s = do

@@ -3,16 +3,18 @@
 ghost use Rattle.std.specs.Prelude.{◌≡◌, ◌≤◌};
 ghost use Rattle.dac_tokens.specs.Gives.{Gives};
 ghost use Rattle.dac_tokens.specs.Words.{located_of};
-ghost use Rattle.dac_shapes.specs.Shape.{timeout_at, app_value_at, app_at};
+ghost use Rattle.std.specs.Prelude.{List, ℕ};
+ghost use Rattle.dac_shapes.specs.Shape.{timeout_at, app_name_of, app_value_at, app_at, closed};
 ghost use Rattle.dac_shapes.specs.Views.{app_of, parser_state, tokens_left};
 ghost use Rattle.dac_shapes.specs.Written.{App};
 
 use crate::draft::DraftApp;
 use crate::list::Elements;
-use crate::names::{app_name_of, fault, is_mark};
+use crate::names::app_name_of;
 use crate::numbers::milliseconds_of;
+use crate::pairs::Pair;
 use crate::parser::Parser;
-use dac_tokens::{ConfigFault, FaultKind, Located, Symbol, Token};
+use dac_tokens::{ConfigFault, Located, Symbol, Token};
 use std::alloc::Global;
 
 impl<'a> Parser<'a> {
@@ -26,8 +28,7 @@ impl<'a> Parser<'a> {
             return Ok((0, token));
         };
         let timeout = milliseconds_of(token.at, negative, digits)?;
-        self.symbol(Symbol::Comma)?;
-        let next = self.next()?;
+        let next = self.behind(Symbol::Comma)?;
         Ok((timeout, next))
     }
 
@@ -60,7 +61,6 @@ impl<'a> Elements<'a> for Apps {
 
     ghost read_at = { λ _. app_at };
 
-    #[tactic(auto, unfolding(crate::specs::Shape::pair_at))]
     fn read(
         &self,
         parser: &mut Parser<'a>,
@@ -68,14 +68,37 @@ impl<'a> Elements<'a> for Apps {
         before: &[DraftApp<'a>],
         token: Located<'a>,
     ) -> Result<DraftApp<'a>, ConfigFault> {
-        if !is_mark(Symbol::OpenTuple, token.token) {
-            return Err(fault(FaultKind::BadShape, token.at));
-        }
-        let first = parser.next()?;
-        let name = app_name_of(before, first)?;
-        parser.symbol(Symbol::Comma)?;
+        parser.pair::<Apps>(alloc, before, token)
+    }
+}
+
+impl<'a> Pair<'a> for Apps {
+    type Name = &'a [u8];
+
+    type Element = DraftApp<'a>;
+
+    ghost Named = { List ℕ };
+
+    ghost named = { λ name. name.now };
+
+    ghost Said = { App };
+
+    ghost said = { app_of };
+
+    ghost name_at = { app_name_of };
+
+    ghost rest_at = { λ name. closed (app_value_at name) };
+
+    fn name(before: &[DraftApp<'a>], token: Located<'a>) -> Result<&'a [u8], ConfigFault> {
+        app_name_of(before, token)
+    }
+
+    fn rest(
+        parser: &mut Parser<'a>,
+        alloc: Global,
+        name: &'a [u8],
+    ) -> Result<DraftApp<'a>, ConfigFault> {
         let app = parser.app_value(alloc, name)?;
-        parser.symbol(Symbol::CloseTuple)?;
-        Ok(app)
+        parser.closed(app)
     }
 }

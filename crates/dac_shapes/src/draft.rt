@@ -29,7 +29,7 @@ pub struct DraftApp<'a> {
 }
 
 /// Whether an application may run at a start (OTP's kernel parameter `permissions`).
-#[derive(Clone, Copy, Debug, PartialEq, Eq)]
+#[derive(Clone, Copy)]
 pub struct Permission<'a> {
     /// The application's name; it may be one that the text doesn't distribute.
     pub name: &'a [u8],

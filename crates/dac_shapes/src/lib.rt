@@ -21,6 +21,7 @@ mod list;
 mod names;
 mod nodes;
 mod numbers;
+mod pairs;
 mod param;
 mod parser;
 mod permissions;

@@ -71,8 +71,7 @@ impl<'a> Parser<'a> {
         ensures read { Gives (λ all. (map E.said all.items, parser_state self.new)) result (list_of (E.read_at elements.now) (parser_state self.old)) }
         ensures left { tokens_left self.new ≤ tokens_left self.old }
     {
-        self.symbol(Symbol::OpenList)?;
-        let first = self.next()?;
+        let first = self.behind(Symbol::OpenList)?;
         if is_mark(Symbol::CloseList, first.token) {
             return Ok(Vec::new(alloc));
         }

@@ -44,6 +44,13 @@ pub fn is_among(name: &[u8], names: &[&[u8]]) -> bool
     names.contains(&name)
 }
 
+/// Whether a name has these bytes.
+pub fn spells(word: &[u8], name: &[u8]) -> bool
+    ensures { result ≡ bytes_eq name.now word.now }
+{
+    name == word
+}
+
 /// The name that a token is.
 #[tactic(auto, unfolding(crate::specs::Shape::atom_of))]
 pub fn atom_of<'a>(token: Located<'a>) -> Result<&'a [u8], ConfigFault>
@@ -113,7 +120,7 @@ pub fn names_kernel(before: &[Section<'_>], token: Located<'_>) -> Result<bool, 
     ensures { Gives (λ kernel. kernel) result (names_kernel (sections_of before.now) (located_of token.entry)) }
 {
     let name = atom_of(token)?;
-    if name != b"kernel".as_slice() {
+    if !spells(b"kernel", name) {
         return Ok(false);
     }
     if has_kernel(before) {

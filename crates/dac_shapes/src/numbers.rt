@@ -7,7 +7,7 @@ ghost use Rattle.dac_tokens.specs.Digits.{value_from};
 ghost use Rattle.dac_shapes.specs.Shape.{milliseconds_of, wait_of};
 
 use crate::draft::SyncWait;
-use crate::names::fault;
+use crate::names::{fault, spells};
 use dac_tokens::{ConfigFault, FaultKind, Located, Token};
 
 /// The number that the digits are, if it fits.
@@ -55,7 +55,7 @@ pub fn wait_of(token: Located<'_>) -> Result<SyncWait, ConfigFault>
             let ms = milliseconds_of(token.at, negative, digits)?;
             Ok(SyncWait::Ms(ms))
         }
-        Token::Atom(name) if name == b"infinity".as_slice() => Ok(SyncWait::Forever),
+        Token::Atom(name) if spells(b"infinity", name) => Ok(SyncWait::Forever),
         _ => Err(fault(FaultKind::BadShape, token.at)),
     }
 }

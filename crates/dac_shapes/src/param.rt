@@ -8,6 +8,7 @@ ghost use Rattle.dac_shapes.specs.Shape.{param_named};
 ghost use Rattle.dac_shapes.specs.Views.{param_of, section_of};
 
 use crate::draft::{DraftApp, Permission, SyncWait};
+use crate::names::spells;
 
 /// The parameters that are read.
 #[derive(Clone, Copy, PartialEq, Eq)]
@@ -42,19 +43,19 @@ impl ParamName {
     pub fn named(name: &[u8]) -> Option<Self>
         ensures { result ≡ param_named name.now }
     {
-        if name == b"distributed".as_slice() {
+        if spells(b"distributed", name) {
             return Some(ParamName::Distributed);
         }
-        if name == b"permissions".as_slice() {
+        if spells(b"permissions", name) {
             return Some(ParamName::Permissions);
         }
-        if name == b"sync_nodes_mandatory".as_slice() {
+        if spells(b"sync_nodes_mandatory", name) {
             return Some(ParamName::Mandatory);
         }
-        if name == b"sync_nodes_optional".as_slice() {
+        if spells(b"sync_nodes_optional", name) {
             return Some(ParamName::Optional);
         }
-        if name == b"sync_nodes_timeout".as_slice() {
+        if spells(b"sync_nodes_timeout", name) {
             return Some(ParamName::Timeout);
         }
         None
@@ -108,5 +109,5 @@ pub fn has_param(name: ParamName, params: &[Param<'_>]) -> bool
 pub fn has_kernel(sections: &[Section<'_>]) -> bool
     ensures { result ≡ list_any (λ section. is_kernel (section_of section)) sections.now }
 {
-    sections.iter().any(|section| section.is_kernel())
+    sections.iter().any(Section::is_kernel)
 }

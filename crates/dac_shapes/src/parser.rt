@@ -3,7 +3,7 @@
 ghost use Rattle.std.specs.Prelude.{◌≡◌, ◌<◌, ◌≤◌, IfOk, true, false};
 ghost use Rattle.dac_tokens.specs.Gives.{Gives};
 ghost use Rattle.dac_tokens.specs.Words.{located_of, word_of, is_end};
-ghost use Rattle.dac_shapes.specs.Shape.{token, symbol_at, more_at};
+ghost use Rattle.dac_shapes.specs.Shape.{token, symbol_at, behind_at, more_at};
 ghost use Rattle.dac_shapes.specs.Views.{parser_state, tokens_left};
 
 use crate::names::{fault, is_mark};
@@ -24,8 +24,7 @@ impl<'a> Parser<'a> {
         ensures left { tokens_left self.new ≤ tokens_left self.old }
         ensures fewer { IfOk result (λ t. is_end (word_of t.token) ≡ false → tokens_left self.new < tokens_left self.old) }
     {
-        let next = self.tokens.next()?;
-        Ok(next)
+        self.tokens.next()
     }
 
     /// Passes over this symbol, which comes next.
@@ -39,6 +38,16 @@ impl<'a> Parser<'a> {
             return Err(fault(FaultKind::BadShape, next.at));
         }
         Ok(())
+    }
+
+    /// The token behind this symbol, which comes next.
+    #[tactic(auto)]
+    pub fn behind(&mut self, symbol: Symbol) -> Result<Located<'a>, ConfigFault>
+        ensures read { Gives (λ t. (located_of t, parser_state self.new)) result (behind_at symbol (parser_state self.old)) }
+        ensures left { tokens_left self.new ≤ tokens_left self.old }
+    {
+        self.symbol(symbol)?;
+        self.next()
     }
 
     /// Whether a comma comes next, or else this symbol.

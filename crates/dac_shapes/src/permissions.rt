@@ -3,15 +3,17 @@
 ghost use Rattle.std.specs.Prelude.{◌≡◌, ◌≤◌};
 ghost use Rattle.dac_tokens.specs.Words.{located_of};
 ghost use Rattle.dac_tokens.specs.Gives.{Gives};
-ghost use Rattle.dac_shapes.specs.Shape.{flag_of, permission_value_at, permission_at};
+ghost use Rattle.std.specs.Prelude.{List, ℕ};
+ghost use Rattle.dac_shapes.specs.Shape.{flag_of, short_name_of, permission_value_at, permission_at, closed};
 ghost use Rattle.dac_shapes.specs.Views.{permission_of, parser_state, tokens_left};
 ghost use Rattle.dac_shapes.specs.Written.{Permission as WrittenPermission};
 
 use crate::draft::Permission;
 use crate::list::Elements;
-use crate::names::{atom_of, fault, is_mark, short_name_of};
+use crate::names::{atom_of, fault, short_name_of, spells};
+use crate::pairs::Pair;
 use crate::parser::Parser;
-use dac_tokens::{ConfigFault, FaultKind, Located, Symbol};
+use dac_tokens::{ConfigFault, FaultKind, Located};
 use std::alloc::Global;
 
 /// `true` or `false`.
@@ -20,10 +22,10 @@ fn flag_of(token: Located<'_>) -> Result<bool, ConfigFault>
     ensures { Gives (λ flag. flag) result (flag_of (located_of token.entry)) }
 {
     let name = atom_of(token)?;
-    if name == b"true".as_slice() {
+    if spells(b"true", name) {
         return Ok(true);
     }
-    if name == b"false".as_slice() {
+    if spells(b"false", name) {
         return Ok(false);
     }
     Err(fault(FaultKind::BadShape, token.at))
@@ -54,22 +56,44 @@ impl<'a> Elements<'a> for Permissions {
 
     ghost read_at = { λ _ _. permission_at };
 
-    #[tactic(auto, unfolding(crate::specs::Shape::pair_at))]
     fn read(
         &self,
         parser: &mut Parser<'a>,
-        _alloc: Global,
-        _before: &[Permission<'a>],
+        alloc: Global,
+        before: &[Permission<'a>],
         token: Located<'a>,
     ) -> Result<Permission<'a>, ConfigFault> {
-        if !is_mark(Symbol::OpenTuple, token.token) {
-            return Err(fault(FaultKind::BadShape, token.at));
-        }
-        let first = parser.next()?;
-        let name = short_name_of(first)?;
-        parser.symbol(Symbol::Comma)?;
+        parser.pair::<Permissions>(alloc, before, token)
+    }
+}
+
+impl<'a> Pair<'a> for Permissions {
+    type Name = &'a [u8];
+
+    type Element = Permission<'a>;
+
+    ghost Named = { List ℕ };
+
+    ghost named = { λ name. name.now };
+
+    ghost Said = { WrittenPermission };
+
+    ghost said = { permission_of };
+
+    ghost name_at = { λ _. short_name_of };
+
+    ghost rest_at = { λ name. closed (permission_value_at name) };
+
+    fn name(_before: &[Permission<'a>], token: Located<'a>) -> Result<&'a [u8], ConfigFault> {
+        short_name_of(token)
+    }
+
+    fn rest(
+        parser: &mut Parser<'a>,
+        _alloc: Global,
+        name: &'a [u8],
+    ) -> Result<Permission<'a>, ConfigFault> {
         let permission = parser.permission_value(name)?;
-        parser.symbol(Symbol::CloseTuple)?;
-        Ok(permission)
+        parser.closed(permission)
     }
 }

@@ -3,16 +3,19 @@
 ghost use Rattle.std.specs.Prelude.{◌≡◌, ◌≤◌, true};
 ghost use Rattle.dac_tokens.specs.Gives.{Gives};
 ghost use Rattle.dac_tokens.specs.Words.{located_of};
-ghost use Rattle.dac_shapes.specs.Shape.{param_value_at, param_rest_at, param_at, kernel_at, section_rest_at, section_at, end_at, file_at};
+ghost use Rattle.std.specs.Prelude.{Option, Bool};
+ghost use Rattle.dac_shapes.specs.declared.param.ParamName.{ParamName as Known};
+ghost use Rattle.dac_shapes.specs.Shape.{param_name_of, names_kernel, param_value_at, param_rest_at, param_at, kernel_at, section_rest_at, section_at, end_at, file_at};
 ghost use Rattle.dac_shapes.specs.Views.{param_of, section_of, draft_of, parser_state, tokens_left};
 ghost use Rattle.dac_shapes.specs.Written.{Param as WrittenParam, Section as WrittenSection};
 
 use crate::apps::Apps;
 use crate::draft::Draft;
 use crate::list::Elements;
-use crate::names::{fault, is_mark, is_text, names_kernel, param_name_of};
+use crate::names::{fault, is_text, names_kernel, param_name_of};
 use crate::nodes::Nodes;
 use crate::numbers::wait_of;
+use crate::pairs::Pair;
 use crate::param::{Param, ParamName, Section};
 use crate::parser::Parser;
 use crate::permissions::Permissions;
@@ -27,22 +30,14 @@ impl<'a> Parser<'a> {
         ensures left { tokens_left self.new ≤ tokens_left self.old }
     {
         match name {
-            ParamName::Distributed => {
-                let apps = self.list(alloc, &Apps)?;
-                Ok(Param::Distributed(apps))
-            }
-            ParamName::Permissions => {
-                let permissions = self.list(alloc, &Permissions)?;
-                Ok(Param::Permissions(permissions))
-            }
-            ParamName::Mandatory => {
-                let names = self.list(alloc, &Nodes { repeats: true })?;
-                Ok(Param::Mandatory(names))
-            }
-            ParamName::Optional => {
-                let names = self.list(alloc, &Nodes { repeats: true })?;
-                Ok(Param::Optional(names))
-            }
+            ParamName::Distributed => self.list(alloc, &Apps).map(Param::Distributed),
+            ParamName::Permissions => self.list(alloc, &Permissions).map(Param::Permissions),
+            ParamName::Mandatory => self
+                .list(alloc, &Nodes { repeats: true })
+                .map(Param::Mandatory),
+            ParamName::Optional => self
+                .list(alloc, &Nodes { repeats: true })
+                .map(Param::Optional),
             ParamName::Timeout => {
                 let next = self.next()?;
                 let wait = wait_of(next)?;
@@ -51,47 +46,12 @@ impl<'a> Parser<'a> {
         }
     }
 
-    /// What stands behind the name of a parameter, with the brace that closes it.
-    #[tactic(auto, unfolding(crate::specs::Shape::param_rest_at))]
-    fn param_rest(
-        &mut self,
-        alloc: Global,
-        name: Option<ParamName>,
-    ) -> Result<Param<'a>, ConfigFault>
-        ensures read { Gives (λ param. (param_of param, parser_state self.new)) result (param_rest_at name (parser_state self.old)) }
-        ensures left { tokens_left self.new ≤ tokens_left self.old }
-    {
-        let Some(name) = name else {
-            self.pass()?;
-            return Ok(Param::Other);
-        };
-        let param = self.param_value(alloc, name)?;
-        self.symbol(Symbol::CloseTuple)?;
-        Ok(param)
-    }
-
-    /// What stands behind the name of a section, with the brace that closes it.
-    #[tactic(auto, unfolding(crate::specs::Shape::kernel_at, crate::specs::Shape::section_rest_at))]
-    fn section_rest(&mut self, alloc: Global, kernel: bool) -> Result<Section<'a>, ConfigFault>
-        ensures read { Gives (λ section. (section_of section, parser_state self.new)) result (section_rest_at kernel (parser_state self.old)) }
-        ensures left { tokens_left self.new ≤ tokens_left self.old }
-    {
-        if !kernel {
-            self.pass()?;
-            return Ok(Section::Other);
-        }
-        let params = self.list(alloc, &Params)?;
-        self.symbol(Symbol::CloseTuple)?;
-        Ok(Section::Kernel(params))
-    }
-
     /// The full stop and the end behind it, and the place of the end.
     #[tactic(auto, unfolding(crate::specs::Shape::end_at))]
     fn end(&mut self) -> Result<usize, ConfigFault>
         ensures { Gives (λ at. (at, parser_state self.new)) result (end_at (parser_state self.old)) }
     {
-        self.symbol(Symbol::FullStop)?;
-        let end = self.next()?;
+        let end = self.behind(Symbol::FullStop)?;
         match end.token {
             Token::End => Ok(end.at),
             _ => Err(fault(FaultKind::BadShape, end.at)),
@@ -125,7 +85,6 @@ impl<'a> Elements<'a> for Params {
 
     ghost read_at = { λ _. param_at };
 
-    #[tactic(auto, unfolding(crate::specs::Shape::pair_at))]
     fn read(
         &self,
         parser: &mut Parser<'a>,
@@ -133,13 +92,43 @@ impl<'a> Elements<'a> for Params {
         before: &[Param<'a>],
         token: Located<'a>,
     ) -> Result<Param<'a>, ConfigFault> {
-        if !is_mark(Symbol::OpenTuple, token.token) {
-            return Err(fault(FaultKind::BadShape, token.at));
-        }
-        let first = parser.next()?;
-        let name = param_name_of(before, first)?;
-        parser.symbol(Symbol::Comma)?;
-        parser.param_rest(alloc, name)
+        parser.pair::<Params>(alloc, before, token)
+    }
+}
+
+impl<'a> Pair<'a> for Params {
+    type Name = Option<ParamName>;
+
+    type Element = Param<'a>;
+
+    ghost Named = { Option Known };
+
+    ghost named = { λ name. name };
+
+    ghost Said = { WrittenParam };
+
+    ghost said = { param_of };
+
+    ghost name_at = { param_name_of };
+
+    ghost rest_at = { param_rest_at };
+
+    fn name(before: &[Param<'a>], token: Located<'a>) -> Result<Option<ParamName>, ConfigFault> {
+        param_name_of(before, token)
+    }
+
+    #[tactic(auto, unfolding(crate::specs::Shape::param_rest_at))]
+    fn rest(
+        parser: &mut Parser<'a>,
+        alloc: Global,
+        name: Option<ParamName>,
+    ) -> Result<Param<'a>, ConfigFault> {
+        let Some(name) = name else {
+            parser.pass()?;
+            return Ok(Param::Other);
+        };
+        let param = parser.param_value(alloc, name)?;
+        parser.closed(param)
     }
 }
 
@@ -155,7 +144,7 @@ impl<'a> Elements<'a> for Sections {
 
     ghost read_at = { λ _. section_at };
 
-    #[tactic(auto, unfolding(crate::specs::Shape::pair_at, crate::specs::Shape::section_at))]
+    #[tactic(auto, unfolding(crate::specs::Shape::section_at))]
     fn read(
         &self,
         parser: &mut Parser<'a>,
@@ -166,12 +155,42 @@ impl<'a> Elements<'a> for Sections {
         if is_text(token.token) {
             return Err(fault(FaultKind::Unsupported, token.at));
         }
-        if !is_mark(Symbol::OpenTuple, token.token) {
-            return Err(fault(FaultKind::BadShape, token.at));
+        parser.pair::<Sections>(alloc, before, token)
+    }
+}
+
+impl<'a> Pair<'a> for Sections {
+    type Name = bool;
+
+    type Element = Section<'a>;
+
+    ghost Named = { Bool };
+
+    ghost named = { λ kernel. kernel };
+
+    ghost Said = { WrittenSection };
+
+    ghost said = { section_of };
+
+    ghost name_at = { names_kernel };
+
+    ghost rest_at = { section_rest_at };
+
+    fn name(before: &[Section<'a>], token: Located<'a>) -> Result<bool, ConfigFault> {
+        names_kernel(before, token)
+    }
+
+    #[tactic(auto, unfolding(crate::specs::Shape::kernel_at, crate::specs::Shape::section_rest_at))]
+    fn rest(
+        parser: &mut Parser<'a>,
+        alloc: Global,
+        kernel: bool,
+    ) -> Result<Section<'a>, ConfigFault> {
+        if !kernel {
+            parser.pass()?;
+            return Ok(Section::Other);
         }
-        let first = parser.next()?;
-        let kernel = names_kernel(before, first)?;
-        parser.symbol(Symbol::Comma)?;
-        parser.section_rest(alloc, kernel)
+        let params = parser.list(alloc, &Params)?;
+        parser.closed(Section::Kernel(params))
     }
 }

@@ -1,0 +1,82 @@
+//! Pairs of a name and a value, in braces.
+
+ghost use Rattle.std.specs.Prelude.{◌≡◌, ◌≤◌, IfOk, List, Result, map};
+ghost use Rattle.dac_tokens.specs.declared.token.Symbol.TheVariants.{CloseTuple};
+ghost use Rattle.dac_tokens.specs.declared.fault.ConfigFault.{ConfigFault as Fault};
+ghost use Rattle.dac_tokens.specs.Gives.{Gives};
+ghost use Rattle.dac_tokens.specs.Words.{Located as Place, located_of};
+ghost use Rattle.dac_shapes.specs.Shape.{State, pair_at, symbol_at};
+ghost use Rattle.dac_shapes.specs.Views.{parser_state, tokens_left};
+
+use crate::names::{fault, is_mark};
+use crate::parser::Parser;
+use dac_tokens::{ConfigFault, FaultKind, Located, Symbol};
+use std::alloc::Global;
+
+/// A kind of pair: how its name is read, after the pairs before it, and what stands behind the name.
+pub trait Pair<'a> {
+    /// What the name says.
+    type Name: Drop;
+
+    /// What the pair says.
+    type Element: Drop;
+
+    // both without where names lie
+    ghost Named: { Type 0 };
+
+    ghost named: { Self.Name → Named };
+
+    ghost Said: { Type 0 };
+
+    ghost said: { Self.Element → Said };
+
+    // what the definition of the shapes reads
+    ghost name_at: { List Said → Place → Result Named Fault };
+
+    ghost rest_at: { Named → State → Result (Said × State) Fault };
+
+    /// The name that the token is.
+    fn name(before: &[Self::Element], token: Located<'a>) -> Result<Self::Name, ConfigFault>
+        ensures { Gives named result (name_at (map said before.now) (located_of token.entry)) };
+
+    /// What stands behind the comma, with the brace that closes the pair.
+    fn rest(
+        parser: &mut Parser<'a>,
+        alloc: Global,
+        name: Self::Name,
+    ) -> Result<Self::Element, ConfigFault>
+        ensures read { Gives (λ x. (said x, parser_state parser.new)) result (rest_at (named name) (parser_state parser.old)) }
+        ensures left { tokens_left parser.new ≤ tokens_left parser.old };
+}
+
+impl<'a> Parser<'a> {
+    /// A pair, whose opening brace is the token.
+    #[tactic(auto, unfolding(crate::specs::Shape::pair_at))]
+    pub fn pair<P: Pair<'a>>(
+        &mut self,
+        alloc: Global,
+        before: &[P::Element],
+        token: Located<'a>,
+    ) -> Result<P::Element, ConfigFault>
+        ensures read { Gives (λ x. (P.said x, parser_state self.new)) result (pair_at (P.name_at (map P.said before.now)) P.rest_at (located_of token.entry) (parser_state self.old)) }
+        ensures left { tokens_left self.new ≤ tokens_left self.old }
+    {
+        if !is_mark(Symbol::OpenTuple, token.token) {
+            return Err(fault(FaultKind::BadShape, token.at));
+        }
+        let first = self.next()?;
+        let name = P::name(before, first)?;
+        self.symbol(Symbol::Comma)?;
+        P::rest(self, alloc, name)
+    }
+
+    /// This value, if the brace that closes its pair comes next.
+    pub fn closed<T: Drop>(&mut self, value: T) -> Result<T, ConfigFault>
+        ensures read { Gives (λ _. parser_state self.new) result (symbol_at CloseTuple (parser_state self.old)) }
+        ensures same { IfOk result (λ x. x ≡ value) }
+        ensures left { tokens_left self.new ≤ tokens_left self.old }
+    {
+        self.symbol(Symbol::CloseTuple)?;
+        Ok(value)
+    }
+}
