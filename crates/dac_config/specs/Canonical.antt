@@ -1,4 +1,4 @@
--- The one text of a configuration: without spaces, ended by a line feed.
+-- The one text of a configuration: without spaces outside of names, ended by a line feed.
 use Rattle.std.specs.Prelude.{ℕ, Bool, false, not, ◌&&◌, ◌||◌, List, [], ◌∷◌, ◌++◌, map, filter, ◌==◌, unwrap_or, option_map, slice_get, if◌then◌else◌, codes}
 use Rattle.std.specs.Fmt.{decimal}
 use Rattle.std.specs.Str.{bytes_eq}

@@ -190,8 +190,8 @@ impl Config {
         self.apps[app.0 as usize].permission
     }
 
-    /// The one text of this configuration: a line without spaces that reads as this configuration, with every
-    /// timeout. The nodes of a tuple and those to wait for stand in the order of their names. It can have more bytes
+    /// The one text of this configuration: a line that reads as this configuration, with every timeout. It has no spaces
+    /// outside of names. The nodes of a tuple and those to wait for stand in the order of their names. It can have more bytes
     /// than the text that was read, and then be too long to be read itself.
     pub fn canonical_text(&self) -> Result<Vec<u8>, NoMemory>
         ensures bytes { IfOk result (λ text. text.items ≡ canonical_text self.now) }
