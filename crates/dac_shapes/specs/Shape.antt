@@ -283,6 +283,12 @@ passed_at s = do
 abbrev pub names_at : Bool → Symbol → Located → State → Result (List (List ℕ) × State) ConfigFault
 names_at repeats close t s = comma_list (λ _. node_of repeats) close (room s) [] t s
 
+-- the nodes of a tuple, whose opening brace stands at this place
+abbrev pub tuple_at : ℕ → State → Result (List (List ℕ) × State) ConfigFault
+tuple_at place s = do
+  first ← token s
+  if is_mark CloseTuple first.0.word then fails EmptyTuple place else names_at false CloseTuple first.0 first.1
+
 -- a node, or a tuple of nodes, from the token t on
 unfoldable pub item_at : Located → State → Result (List (List ℕ) × State) ConfigFault
 item_at t s =
