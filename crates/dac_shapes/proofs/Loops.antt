@@ -32,9 +32,6 @@ fails_too e r q f h = or_memory e.kind e.at _ _ f h
 pub fails_then : {A B : Type 0} (e : ConfigFault) (r : Result A ConfigFault) (f : A → Result B ConfigFault) (total : Result B ConfigFault) → (r >>= f) ≡ total → Fails e r → Fails e total
 fails_then e r f total whole h = fails_too e r total (λ q. sym whole ∙ ap (λ x. x >>= f) q) h
 
-pub fails_first : {A B : Type 0} (e : ConfigFault) (r : Result A ConfigFault) (f : A → Result B ConfigFault) → Fails e r → Fails e (r >>= f)
-fails_first e r f h = fails_then e r f (r >>= f) refl h
-
 -- where it gives something, the second step is left
 pub then_is : {A B : Type 0} (r : Result A ConfigFault) (f : A → Result B ConfigFault) (x : A) (total : Result B ConfigFault) → (r >>= f) ≡ total → r ≡ Ok x → f x ≡ total
 then_is r f x total whole is = sym (ap (λ q. q >>= f) is) ∙ whole

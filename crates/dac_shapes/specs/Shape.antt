@@ -1,5 +1,5 @@
 -- The shapes of a configuration, read from left to right with the first fault that is met.
-use Rattle.std.specs.Prelude.{◌≡◌, ◌<◌, ℕ, zero, suc, ◌+◌, ◌-◌, ◌*◌, Bool, true, false, not, ◌&&◌, List, [], ◌∷◌, ◌++◌, length, map, fold, Option, None, Some, Result, Ok, Err, nat_lt, nat_le, ◌==◌, if◌then◌else◌, codes}
+use Rattle.std.specs.Prelude.{◌≡◌, ◌<◌, ℕ, zero, suc, ◌+◌, Bool, true, false, not, ◌&&◌, List, [], ◌∷◌, ◌++◌, length, map, Option, None, Some, Result, Ok, Err, nat_lt, nat_le, ◌==◌, if◌then◌else◌, codes}
 use Rattle.std.specs.Str.{bytes_eq}
 use Rattle.dac_base.specs.declared.limits.TheConstants.{MAX_APPS, MAX_NODES}
 use Rattle.dac_tokens.specs.Digits.{value_from}
@@ -282,6 +282,12 @@ passed_at s = do
 -- nodes from the token t on
 abbrev pub names_at : Bool → Symbol → Located → State → Result (List (List ℕ) × State) ConfigFault
 names_at repeats close t s = comma_list (λ _. node_of repeats) close (room s) [] t s
+
+-- the nodes of a tuple, whose opening brace stands at this place
+abbrev pub tuple_at : ℕ → State → Result (List (List ℕ) × State) ConfigFault
+tuple_at place s = do
+  first ← token s
+  if is_mark CloseTuple first.0.word then fails EmptyTuple place else names_at false CloseTuple first.0 first.1
 
 -- a node, or a tuple of nodes, from the token t on
 unfoldable pub item_at : Located → State → Result (List (List ℕ) × State) ConfigFault

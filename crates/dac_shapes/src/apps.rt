@@ -1,20 +1,22 @@
 //! The applications of the parameter `distributed`.
 
-ghost use Rattle.std.specs.Prelude.{◌≡◌, ◌≤◌};
+ghost use Rattle.std.specs.Prelude.{◌≡◌, ◌≤◌, List, ℕ};
+ghost use Rattle.std.specs.List.{list_any};
+ghost use Rattle.std.specs.Str.{bytes_eq};
 ghost use Rattle.dac_tokens.specs.Gives.{Gives};
 ghost use Rattle.dac_tokens.specs.Words.{located_of};
-ghost use Rattle.std.specs.Prelude.{List, ℕ};
 ghost use Rattle.dac_shapes.specs.Shape.{timeout_at, app_name_of, app_value_at, app_at, closed};
 ghost use Rattle.dac_shapes.specs.Views.{app_of, parser_state, tokens_left};
 ghost use Rattle.dac_shapes.specs.Written.{App};
 
 use crate::draft::DraftApp;
+use crate::limits::MAX_APPS;
 use crate::list::Elements;
-use crate::names::app_name_of;
+use crate::names::{fault, short_name_of};
 use crate::numbers::milliseconds_of;
 use crate::pairs::Pair;
 use crate::parser::Parser;
-use dac_tokens::{ConfigFault, Located, Symbol, Token};
+use dac_tokens::{ConfigFault, FaultKind, Located, Symbol, Token};
 use std::alloc::Global;
 
 impl<'a> Parser<'a> {
@@ -31,22 +33,13 @@ impl<'a> Parser<'a> {
         let next = self.behind(Symbol::Comma)?;
         Ok((timeout, next))
     }
+}
 
-    /// What stands behind the name of an application.
-    #[tactic(auto, unfolding(crate::specs::Shape::app_value_at))]
-    fn app_value(&mut self, alloc: Global, name: &'a [u8]) -> Result<DraftApp<'a>, ConfigFault>
-        ensures read { Gives (λ app. (app_of app, parser_state self.new)) result (app_value_at name.now (parser_state self.old)) }
-        ensures left { tokens_left self.new ≤ tokens_left self.old }
-    {
-        let first = self.next()?;
-        let (timeout, bracket) = self.timeout(first)?;
-        let groups = self.groups(alloc, bracket)?;
-        Ok(DraftApp {
-            name,
-            timeout,
-            groups,
-        })
-    }
+/// Whether one of the applications has this name.
+fn has_app(name: &[u8], apps: &[DraftApp<'_>]) -> bool
+    ensures { result ≡ list_any (λ app. bytes_eq app.name.now name.now) apps.now }
+{
+    apps.iter().any(|app| app.name == name)
 }
 
 /// Applications, each with another name.
@@ -89,16 +82,31 @@ impl<'a> Pair<'a> for Apps {
 
     ghost rest_at = { λ name. closed (app_value_at name) };
 
+    #[tactic(auto, using(crate::proofs::Loops::apps), unfolding(crate::specs::Shape::app_name_of))]
     fn name(before: &[DraftApp<'a>], token: Located<'a>) -> Result<&'a [u8], ConfigFault> {
-        app_name_of(before, token)
+        let name = short_name_of(token)?;
+        if has_app(name, before) {
+            return Err(fault(FaultKind::TwiceApp, token.at));
+        }
+        if before.len() >= MAX_APPS {
+            return Err(fault(FaultKind::TooManyApps, token.at));
+        }
+        Ok(name)
     }
 
+    #[tactic(auto, unfolding(crate::specs::Shape::app_value_at))]
     fn rest(
         parser: &mut Parser<'a>,
         alloc: Global,
         name: &'a [u8],
     ) -> Result<DraftApp<'a>, ConfigFault> {
-        let app = parser.app_value(alloc, name)?;
-        parser.closed(app)
+        let first = parser.next()?;
+        let (timeout, bracket) = parser.timeout(first)?;
+        let groups = parser.groups(alloc, bracket)?;
+        parser.closed(DraftApp {
+            name,
+            timeout,
+            groups,
+        })
     }
 }

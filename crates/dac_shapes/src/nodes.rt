@@ -3,7 +3,7 @@
 ghost use Rattle.std.specs.Prelude.{◌≡◌, ◌≤◌, ℕ, List, false};
 ghost use Rattle.dac_tokens.specs.Gives.{Gives};
 ghost use Rattle.dac_tokens.specs.Words.{located_of};
-ghost use Rattle.dac_shapes.specs.Shape.{node_of, item_at, groups_at};
+ghost use Rattle.dac_shapes.specs.Shape.{node_of, tuple_at, item_at, groups_at};
 ghost use Rattle.dac_shapes.specs.Views.{names_of, groups_of, parser_state, tokens_left};
 
 use crate::limits::MAX_NODES;
@@ -60,11 +60,7 @@ impl<'a> Elements<'a> for Groups {
         token: Located<'a>,
     ) -> Result<Vec<&'a [u8]>, ConfigFault> {
         if is_mark(Symbol::OpenTuple, token.token) {
-            let first = parser.next()?;
-            if is_mark(Symbol::CloseTuple, first.token) {
-                return Err(fault(FaultKind::EmptyTuple, token.at));
-            }
-            return parser.parted(alloc, &Nodes { repeats: false }, Symbol::CloseTuple, first);
+            return parser.tuple(alloc, token.at);
         }
         let name = parser.node(false, token)?;
         let mut group = Vec::new(alloc);
@@ -92,6 +88,18 @@ impl<'a> Parser<'a> {
         }
         self.listed.push(name)?;
         Ok(name)
+    }
+
+    /// The nodes of a tuple, whose opening brace stands at this place.
+    fn tuple(&mut self, alloc: Global, at: usize) -> Result<Vec<&'a [u8]>, ConfigFault>
+        ensures read { Gives (λ group. (names_of group.items, parser_state self.new)) result (tuple_at at (parser_state self.old)) }
+        ensures left { tokens_left self.new ≤ tokens_left self.old }
+    {
+        let first = self.next()?;
+        if is_mark(Symbol::CloseTuple, first.token) {
+            return Err(fault(FaultKind::EmptyTuple, at));
+        }
+        self.parted(alloc, &Nodes { repeats: false }, Symbol::CloseTuple, first)
     }
 
     /// A node list, whose opening bracket is the token.

@@ -1,11 +1,10 @@
 //! The permissions of the parameter `permissions`.
 
-ghost use Rattle.std.specs.Prelude.{◌≡◌, ◌≤◌};
+ghost use Rattle.std.specs.Prelude.{◌≡◌, List, ℕ};
 ghost use Rattle.dac_tokens.specs.Words.{located_of};
 ghost use Rattle.dac_tokens.specs.Gives.{Gives};
-ghost use Rattle.std.specs.Prelude.{List, ℕ};
 ghost use Rattle.dac_shapes.specs.Shape.{flag_of, short_name_of, permission_value_at, permission_at, closed};
-ghost use Rattle.dac_shapes.specs.Views.{permission_of, parser_state, tokens_left};
+ghost use Rattle.dac_shapes.specs.Views.{permission_of};
 ghost use Rattle.dac_shapes.specs.Written.{Permission as WrittenPermission};
 
 use crate::draft::Permission;
@@ -29,19 +28,6 @@ fn flag_of(token: Located<'_>) -> Result<bool, ConfigFault>
         return Ok(false);
     }
     Err(fault(FaultKind::BadShape, token.at))
-}
-
-impl<'a> Parser<'a> {
-    /// What stands behind the name of a permission.
-    #[tactic(auto, unfolding(crate::specs::Shape::permission_value_at))]
-    fn permission_value(&mut self, name: &'a [u8]) -> Result<Permission<'a>, ConfigFault>
-        ensures read { Gives (λ permission. (permission_of permission, parser_state self.new)) result (permission_value_at name.now (parser_state self.old)) }
-        ensures left { tokens_left self.new ≤ tokens_left self.old }
-    {
-        let next = self.next()?;
-        let value = flag_of(next)?;
-        Ok(Permission { name, value })
-    }
 }
 
 /// Permissions, also several of one application.
@@ -88,12 +74,14 @@ impl<'a> Pair<'a> for Permissions {
         short_name_of(token)
     }
 
+    #[tactic(auto, unfolding(crate::specs::Shape::permission_value_at))]
     fn rest(
         parser: &mut Parser<'a>,
         _alloc: Global,
         name: &'a [u8],
     ) -> Result<Permission<'a>, ConfigFault> {
-        let permission = parser.permission_value(name)?;
-        parser.closed(permission)
+        let next = parser.next()?;
+        let value = flag_of(next)?;
+        parser.closed(Permission { name, value })
     }
 }

@@ -1,9 +1,8 @@
 //! The sections of a text and their parameters.
 
-ghost use Rattle.std.specs.Prelude.{◌≡◌, ◌≤◌, true};
+ghost use Rattle.std.specs.Prelude.{◌≡◌, ◌≤◌, true, Bool, Option};
 ghost use Rattle.dac_tokens.specs.Gives.{Gives};
 ghost use Rattle.dac_tokens.specs.Words.{located_of};
-ghost use Rattle.std.specs.Prelude.{Option, Bool};
 ghost use Rattle.dac_shapes.specs.declared.param.ParamName.{ParamName as Known};
 ghost use Rattle.dac_shapes.specs.Shape.{param_name_of, names_kernel, param_value_at, param_rest_at, param_at, kernel_at, section_rest_at, section_at, end_at, file_at};
 ghost use Rattle.dac_shapes.specs.Views.{param_of, section_of, draft_of, parser_state, tokens_left};
@@ -12,11 +11,11 @@ ghost use Rattle.dac_shapes.specs.Written.{Param as WrittenParam, Section as Wri
 use crate::apps::Apps;
 use crate::draft::Draft;
 use crate::list::Elements;
-use crate::names::{fault, is_text, names_kernel, param_name_of};
+use crate::names::{atom_of, fault, is_text, spells};
 use crate::nodes::Nodes;
 use crate::numbers::wait_of;
 use crate::pairs::Pair;
-use crate::param::{Param, ParamName, Section};
+use crate::param::{Param, ParamName, Section, has_kernel, has_param};
 use crate::parser::Parser;
 use crate::permissions::Permissions;
 use dac_tokens::{ConfigFault, FaultKind, Located, Symbol, Token};
@@ -113,8 +112,16 @@ impl<'a> Pair<'a> for Params {
 
     ghost rest_at = { param_rest_at };
 
+    #[tactic(auto, using(crate::proofs::Loops::has_params), unfolding(crate::specs::Shape::param_name_of))]
     fn name(before: &[Param<'a>], token: Located<'a>) -> Result<Option<ParamName>, ConfigFault> {
-        param_name_of(before, token)
+        let name = atom_of(token)?;
+        let Some(param) = ParamName::named(name) else {
+            return Ok(None);
+        };
+        if has_param(param, before) {
+            return Err(fault(FaultKind::BadShape, token.at));
+        }
+        Ok(Some(param))
     }
 
     #[tactic(auto, unfolding(crate::specs::Shape::param_rest_at))]
@@ -176,8 +183,16 @@ impl<'a> Pair<'a> for Sections {
 
     ghost rest_at = { section_rest_at };
 
+    #[tactic(auto, using(crate::proofs::Loops::has_kernels), unfolding(crate::specs::Shape::names_kernel))]
     fn name(before: &[Section<'a>], token: Located<'a>) -> Result<bool, ConfigFault> {
-        names_kernel(before, token)
+        let name = atom_of(token)?;
+        if !spells(b"kernel", name) {
+            return Ok(false);
+        }
+        if has_kernel(before) {
+            return Err(fault(FaultKind::BadShape, token.at));
+        }
+        Ok(true)
     }
 
     #[tactic(auto, unfolding(crate::specs::Shape::kernel_at, crate::specs::Shape::section_rest_at))]

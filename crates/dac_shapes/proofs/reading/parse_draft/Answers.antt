@@ -1,4 +1,4 @@
-use Rattle.std.proofs.Common.{◌≡◌, ◌≤◌, length, arith, le-ltb}
+use Rattle.std.proofs.Common.{◌≤◌, length, arith, le-ltb}
 use Rattle.std.proofs.lemmas.Result.{IfOk-weaker}
 use Rattle.dac_tokens.specs.Gives.{Gives}
 use Rattle.dac_shapes.specs.Shape.{file_at, draft_at}
