@@ -33,6 +33,6 @@ pub fn read_config(alloc: Global, text: &[u8]) -> Result<Config, ConfigFault>
     ensures memory { IfErr result (λ fault. fault.kind ≡ NoMemory → fault.at ≡ 0) }
 {
     let draft = read_draft(alloc, text)?;
-    let config = Config::of_draft(alloc, draft)?;
+    let config = Config::of_draft(alloc, &draft)?;
     Ok(config)
 }

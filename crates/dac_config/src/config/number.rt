@@ -22,23 +22,15 @@ fn is_among(name: &[u8], names: &[&[u8]]) -> bool
     names.contains(&name)
 }
 
-/// The names as a set.
-fn set_of<'a>(alloc: Global, names: &[&'a [u8]]) -> Result<BTreeSet<&'a [u8]>, NoMemory>
-    ensures { IfOk result (λ set. names_of set.keys ≡ in_byte_order (names_of names.now)) }
-{
-    let mut set = BTreeSet::new(alloc);
-    for name in names {
-        set.insert(*name)?;
-    }
-    Ok(set)
-}
-
 /// The names in byte order, each once.
 fn in_byte_order<'a>(alloc: Global, names: &[&'a [u8]]) -> Result<Vec<&'a [u8]>, NoMemory>
     ensures { IfOk result (λ sorted. names_of sorted.items ≡ in_byte_order (names_of names.now)) }
 {
-    let set = set_of(alloc, names)?;
-    let sorted = set.iter().copied().collect(alloc)?;
+    let mut sorted = BTreeSet::new(alloc);
+    for name in names {
+        sorted.insert(*name)?;
+    }
+    let sorted = sorted.iter().copied().collect(alloc)?;
     Ok(sorted)
 }
 
@@ -56,23 +48,16 @@ fn node_of(alloc: Global, draft: &Draft<'_>, name: &[u8]) -> Result<Node, NoMemo
     })
 }
 
-/// The nodes with these names.
-fn nodes_named(alloc: Global, draft: &Draft<'_>, names: &[&[u8]]) -> Result<Vec<Node>, NoMemory>
-    ensures { IfOk result (λ nodes. map node_row nodes.items ≡ map (numbered_node (draft_of draft.now)) (names_of names.now)) }
-{
-    let mut nodes = Vec::new(alloc);
-    for name in names {
-        nodes.push(node_of(alloc, draft, name)?)?;
-    }
-    Ok(nodes)
-}
-
 /// The nodes by their numbers.
 fn nodes_of(alloc: Global, draft: &Draft<'_>) -> Result<Vec<Node>, NoMemory>
     ensures { IfOk result (λ nodes. map node_row nodes.items ≡ numbered_nodes (draft_of draft.now)) }
 {
     let names = in_byte_order(alloc, &draft.nodes)?;
-    nodes_named(alloc, draft, &names)
+    let mut nodes = Vec::new(alloc);
+    for name in &names {
+        nodes.push(node_of(alloc, draft, name)?)?;
+    }
+    Ok(nodes)
 }
 
 /// The numbers of the nodes that the group names.
@@ -159,7 +144,7 @@ fn apps_of(
 
 impl Config {
     /// What a text says, with numbers in place of names.
-    fn numbered(alloc: Global, draft: &Draft<'_>) -> Result<Config, NoMemory>
+    pub(crate) fn of_draft(alloc: Global, draft: &Draft<'_>) -> Result<Config, NoMemory>
         requires limits { IsWithinLimits (draft_of draft.now) }
         requires said { (text : List ℕ) × IsTextOf text (draft_of draft.now) }
         ensures { IfOk result (λ config. config ≡ numbered (draft_of draft.now)) }
@@ -171,14 +156,5 @@ impl Config {
             apps,
             sync_wait: draft.sync_wait,
         })
-    }
-
-    /// The configuration of a draft. It takes the draft, so that one place drops it.
-    pub(crate) fn of_draft(alloc: Global, draft: Draft<'_>) -> Result<Config, NoMemory>
-        requires limits { IsWithinLimits (draft_of draft) }
-        requires said { (text : List ℕ) × IsTextOf text (draft_of draft) }
-        ensures { IfOk result (λ config. config ≡ numbered (draft_of draft.entry)) }
-    {
-        Config::numbered(alloc, &draft)
     }
 }

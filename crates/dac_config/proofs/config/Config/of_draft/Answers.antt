@@ -5,7 +5,7 @@ use Rattle.dac_config.specs.ConfigView.{node_row, app_row}
 use Rattle.dac_config.specs.Numbering.{numbered_app}
 use Rattle.dac_config.proofs.Names.{Differ, all_new}
 use Rattle.dac_config.proofs.Numbers.{few_numbered, small_numbered, table_numbered}
-use Rattle.dac_config.proofs.config.Config.numbered.Goals as goal
+use Rattle.dac_config.proofs.config.Config.of_draft.Goals as goal
 
 pub apps_of-requires-clause-few : goal.apps_of-requires-clause-few
 apps_of-requires-clause-few c =

@@ -2,7 +2,7 @@ use Rattle.std.proofs.Common.{◌≡◌, ◌++◌, map, drop}
 use Rattle.dac_shapes.specs.Views.{names_of, draft_of}
 use Rattle.dac_config.specs.Numbering.{numbered_node}
 use Rattle.dac_config.specs.ConfigView.{node_row}
-use Rattle.dac_config.proofs.config.number.nodes_named.Given as goal
+use Rattle.dac_config.proofs.config.number.nodes_of.Given as goal
 
 abbrev pub invariant-loop-name : goal.invariant-loop-name
-invariant-loop-name l = map node_row l.nodes.items ++ map (numbered_node (draft_of l.draft)) (names_of (drop l.name-index l.names)) ≡ map (numbered_node (draft_of l.draft)) (names_of l.names)
+invariant-loop-name l = map node_row l.nodes.items ++ map (numbered_node (draft_of l.fn.draft)) (names_of (drop l.name-index l.name-items)) ≡ map (numbered_node (draft_of l.fn.draft)) (names_of l.name-items)
