@@ -1,7 +1,6 @@
 use Rattle.std.proofs.Common.{◌≡◌, ℕ, List, [], ◌∷◌, ◌++◌, codes, append_assoc, append-nil, ap, ◌∙◌}
 use Rattle.dac_config.specs.Table.{Table}
-use Rattle.dac_config.specs.Canonical.{canonical_text, parted, list_text, pair_text, param_texts}
-use Rattle.dac_config.specs.ConfigView.{table_of}
+use Rattle.dac_config.specs.Canonical.{parted, list_text, pair_text, param_texts}
 use Rattle.dac_config.proofs.Tables.{kept_members, kept_table}
 use Rattle.dac_config.proofs.Gaining.{then, as_text}
 use Rattle.dac_config.proofs.config.Config.put.Goals as goal
