@@ -72,7 +72,7 @@ impl<'a> Parser<'a> {
         ensures left { tokens_left self.new ≤ tokens_left self.old }
     {
         let first = self.behind(Symbol::OpenList)?;
-        if is_mark(Symbol::CloseList, &first.token) {
+        if is_mark(Symbol::CloseList, first.token) {
             return Ok(Vec::new(alloc));
         }
         self.parted(alloc, elements, Symbol::CloseList, first)

@@ -17,17 +17,17 @@ pub fn fault(kind: FaultKind, at: usize) -> ConfigFault
     ConfigFault { kind, at }
 }
 
-pub fn is_mark(symbol: Symbol, token: &Token<'_>) -> bool
-    ensures { result ≡ is_mark symbol (word_of token.now) }
+pub fn is_mark(symbol: Symbol, token: Token<'_>) -> bool
+    ensures { result ≡ is_mark symbol (word_of token.entry) }
 {
     match token {
-        Token::Symbol(other) => *other == symbol,
+        Token::Symbol(other) => other == symbol,
         _ => false,
     }
 }
 
-pub fn is_text(token: &Token<'_>) -> bool
-    ensures { result ≡ is_text (word_of token.now) }
+pub fn is_text(token: Token<'_>) -> bool
+    ensures { result ≡ is_text (word_of token.entry) }
 {
     match token {
         Token::Text => true,

@@ -59,7 +59,7 @@ impl<'a> Elements<'a> for Groups {
         _before: &[Vec<&'a [u8]>],
         token: Located<'a>,
     ) -> Result<Vec<&'a [u8]>, ConfigFault> {
-        if is_mark(Symbol::OpenTuple, &token.token) {
+        if is_mark(Symbol::OpenTuple, token.token) {
             return parser.tuple(alloc, token.at);
         }
         let name = parser.node(false, token)?;
@@ -96,7 +96,7 @@ impl<'a> Parser<'a> {
         ensures left { tokens_left self.new ≤ tokens_left self.old }
     {
         let first = self.next()?;
-        if is_mark(Symbol::CloseTuple, &first.token) {
+        if is_mark(Symbol::CloseTuple, first.token) {
             return Err(fault(FaultKind::EmptyTuple, at));
         }
         self.parted(alloc, &Nodes { repeats: false }, Symbol::CloseTuple, first)
@@ -112,11 +112,11 @@ impl<'a> Parser<'a> {
         ensures read { Gives (λ groups. (groups_of groups.items, parser_state self.new)) result (groups_at (located_of token.entry) (parser_state self.old)) }
         ensures left { tokens_left self.new ≤ tokens_left self.old }
     {
-        if !is_mark(Symbol::OpenList, &token.token) {
+        if !is_mark(Symbol::OpenList, token.token) {
             return Err(fault(FaultKind::BadShape, token.at));
         }
         let first = self.next()?;
-        if is_mark(Symbol::CloseList, &first.token) {
+        if is_mark(Symbol::CloseList, first.token) {
             return Err(fault(FaultKind::EmptyList, token.at));
         }
         self.listed.clear();

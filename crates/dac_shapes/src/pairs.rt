@@ -61,7 +61,7 @@ impl<'a> Parser<'a> {
         ensures read { Gives (λ x. (P.said x, parser_state self.new)) result (pair_at (P.name_at (map P.said before.now)) P.rest_at (located_of token.entry) (parser_state self.old)) }
         ensures left { tokens_left self.new ≤ tokens_left self.old }
     {
-        if !is_mark(Symbol::OpenTuple, &token.token) {
+        if !is_mark(Symbol::OpenTuple, token.token) {
             return Err(fault(FaultKind::BadShape, token.at));
         }
         let first = self.next()?;

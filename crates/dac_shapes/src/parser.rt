@@ -34,7 +34,7 @@ impl<'a> Parser<'a> {
         ensures left { tokens_left self.new ≤ tokens_left self.old }
     {
         let next = self.next()?;
-        if !is_mark(symbol, &next.token) {
+        if !is_mark(symbol, next.token) {
             return Err(fault(FaultKind::BadShape, next.at));
         }
         Ok(())
@@ -58,10 +58,10 @@ impl<'a> Parser<'a> {
         ensures fewer { IfOk result (λ b. b ≡ true → tokens_left self.new < tokens_left self.old) }
     {
         let next = self.next()?;
-        if is_mark(Symbol::Comma, &next.token) {
+        if is_mark(Symbol::Comma, next.token) {
             return Ok(true);
         }
-        if !is_mark(close, &next.token) {
+        if !is_mark(close, next.token) {
             return Err(fault(FaultKind::BadShape, next.at));
         }
         Ok(false)

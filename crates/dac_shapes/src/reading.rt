@@ -39,7 +39,7 @@ pub fn parse_draft(alloc: Global, text: &[u8]) -> Result<Draft<'_>, ConfigFault>
     if text.len() > MAX_TEXT {
         return Err(fault(FaultKind::TooLong, MAX_TEXT));
     }
-    let mut parser = Parser {
+    let parser = Parser {
         tokens: Tokens::new(text),
         met: Vec::new(alloc),
         listed: Vec::new(alloc),

@@ -1,11 +1,10 @@
 //! The sections of a text and their parameters.
 
-ghost use Rattle.std.specs.Prelude.{◌≡◌, ◌≤◌, ◌==◌, if◌then◌else◌, length, true, Bool, Ok, Option};
-ghost use Rattle.dac_tokens.specs.declared.fault.FaultKind.TheVariants.{NoDistributed};
+ghost use Rattle.std.specs.Prelude.{◌≡◌, ◌≤◌, true, Bool, Option};
 ghost use Rattle.dac_tokens.specs.Gives.{Gives};
 ghost use Rattle.dac_tokens.specs.Words.{located_of};
 ghost use Rattle.dac_shapes.specs.declared.param.ParamName.{ParamName as Known};
-ghost use Rattle.dac_shapes.specs.Shape.{fails, param_name_of, names_kernel, param_value_at, param_rest_at, param_at, kernel_at, section_rest_at, section_at, end_at, file_at};
+ghost use Rattle.dac_shapes.specs.Shape.{param_name_of, names_kernel, param_value_at, param_rest_at, param_at, kernel_at, section_rest_at, section_at, end_at, file_at};
 ghost use Rattle.dac_shapes.specs.Views.{param_of, section_of, draft_of, parser_state, tokens_left};
 ghost use Rattle.dac_shapes.specs.Written.{Param as WrittenParam, Section as WrittenSection};
 
@@ -21,19 +20,6 @@ use crate::parser::Parser;
 use crate::permissions::Permissions;
 use dac_tokens::{ConfigFault, FaultKind, Located, Symbol, Token};
 use std::alloc::Global;
-use std::mem::replace;
-
-impl<'a> Draft<'a> {
-    /// This draft, if it lists an application, or else the fault at the end of the text.
-    fn listing_apps(self, end: usize) -> Result<Self, ConfigFault>
-        ensures { Gives draft_of result (if length (draft_of self.entry).apps == 0 then fails NoDistributed end else Ok (draft_of self.entry)) }
-    {
-        if self.apps.is_empty() {
-            return Err(fault(FaultKind::NoDistributed, end));
-        }
-        Ok(self)
-    }
-}
 
 impl<'a> Parser<'a> {
     /// The value of the parameter of this name.
@@ -73,13 +59,16 @@ impl<'a> Parser<'a> {
 
     /// A whole file.
     #[tactic(auto, unfolding(crate::specs::Shape::file_at))]
-    pub fn file(&mut self, alloc: Global) -> Result<Draft<'a>, ConfigFault>
-        ensures { Gives draft_of result (file_at (parser_state self.old)) }
+    pub fn file(mut self, alloc: Global) -> Result<Draft<'a>, ConfigFault>
+        ensures { Gives draft_of result (file_at (parser_state self.entry)) }
     {
         let sections = self.list(alloc, &Sections)?;
         let end = self.end()?;
-        let nodes = replace(&mut self.met, Vec::new(alloc));
-        Draft::of_sections(alloc, sections, nodes).listing_apps(end)
+        let draft = Draft::of_sections(alloc, sections, self.met);
+        if draft.apps.is_empty() {
+            return Err(fault(FaultKind::NoDistributed, end));
+        }
+        Ok(draft)
     }
 }
 
@@ -170,7 +159,7 @@ impl<'a> Elements<'a> for Sections {
         before: &[Section<'a>],
         token: Located<'a>,
     ) -> Result<Section<'a>, ConfigFault> {
-        if is_text(&token.token) {
+        if is_text(token.token) {
             return Err(fault(FaultKind::Unsupported, token.at));
         }
         parser.pair::<Sections>(alloc, before, token)

@@ -28,12 +28,11 @@ impl<'a> Parser<'a> {
         ensures left { tokens_left self.new ≤ tokens_left self.old }
         ensures fewer { IfOk result (λ t. is_end (word_of t.token) ≡ false → tokens_left self.new < tokens_left self.old) }
     {
-        loop {
-            let next = self.next()?;
-            if !is_text(&next.token) {
-                return Ok(next);
-            }
+        let mut next = self.next()?;
+        while is_text(next.token) {
+            next = self.next()?;
         }
+        Ok(next)
     }
 
     /// The token behind the closing symbol, up to which terms parted by commas, or nothing, stand.
@@ -44,15 +43,15 @@ impl<'a> Parser<'a> {
         ensures fewer { IfOk result (λ t. is_end (word_of t.token) ≡ false → tokens_left self.new < tokens_left self.old) }
     {
         let mut token = self.next()?;
-        if is_mark(close, &token.token) {
+        if is_mark(close, token.token) {
             return self.next();
         }
         loop {
             let behind = self.behind_term(token)?;
-            if is_mark(close, &behind.token) {
+            if is_mark(close, behind.token) {
                 return self.next();
             }
-            if !is_mark(Symbol::Comma, &behind.token) {
+            if !is_mark(Symbol::Comma, behind.token) {
                 return Err(fault(FaultKind::BadShape, behind.at));
             }
             token = self.next()?;
@@ -85,7 +84,7 @@ impl<'a> Parser<'a> {
     {
         let first = self.next()?;
         let behind = self.behind_term(first)?;
-        if !is_mark(Symbol::CloseTuple, &behind.token) {
+        if !is_mark(Symbol::CloseTuple, behind.token) {
             return Err(fault(FaultKind::BadShape, behind.at));
         }
         Ok(())
