@@ -2,7 +2,7 @@
 ghost use Rattle.std.specs.Prelude.{◌≡◌, ◌↔◌, ◌<◌, ◌∷◌, [], List, length, IsTrue, IfOk};
 ghost use Rattle.dac_config.specs.Table.{app_count};
 ghost use Rattle.dac_decide.specs.FailoverWait.{Note, waits_of, IsDue, is_due, is_due_with, is_due_by, noted_at};
-ghost use Rattle.dac_decide.specs.FailoverWait.{lost_in, noted_next, is_held_at, is_wait_over};
+ghost use Rattle.dac_decide.specs.FailoverWait.{lost_in, noted_next, since_of, is_held_at, is_over_at, is_wait_over};
 
 use dac_base::{AppId, NoMemory, NodeId};
 use dac_chains::Claim;
@@ -18,6 +18,25 @@ pub(crate) struct Noted {
     pub claim: Claim,
     /// The moment of the first note of the row in which each found it lost.
     pub since: u64,
+}
+
+impl Noted {
+    ghost use Rattle.std.specs.Prelude.{◌+◌, nat_le};
+    ghost use Rattle.dac_decide.specs.FailoverWait.{is_same};
+
+    /// Whether this claim is the one that is noted.
+    fn is_of(self, claim: Claim) -> bool
+        ensures { result ≡ is_same self.claim claim }
+    {
+        self.claim == claim
+    }
+
+    /// Whether so many milliseconds have passed by this moment since the claim was first found lost.
+    fn has_waited(self, wait: u64, now: u64) -> bool
+        ensures { result ≡ nat_le (self.since + wait) now }
+    {
+        now >= self.since && now - self.since >= wait
+    }
 }
 
 /// How long each application's failover has been waiting at this controller.
@@ -152,10 +171,19 @@ fn lost_claim(state: &State, app: AppId) -> Option<Claim>
 fn noted_next(before: Option<Noted>, lost: Option<Claim>, now: u64) -> Option<Noted>
     ensures { result ≡ noted_next before lost now }
 {
-    match (lost, before) {
-        (None, _) => None,
-        (Some(claim), Some(noted)) if noted.claim == claim => Some(noted),
-        (Some(claim), _) => Some(Noted { claim, since: now }),
+    match lost {
+        Some(claim) => Some(since_of(before, now, claim)),
+        None => None,
+    }
+}
+
+/// What is noted of a lost claim, after so much was noted before.
+fn since_of(before: Option<Noted>, now: u64, claim: Claim) -> Noted
+    ensures { result ≡ since_of before now claim }
+{
+    match before {
+        Some(noted) if noted.is_of(claim) => noted,
+        _ => Noted { claim, since: now },
     }
 }
 
@@ -174,11 +202,16 @@ fn is_wait_over(config: &Config, state: &State, app: AppId, noted: Option<Noted>
     requires { app.0 < app_count config.now }
     ensures { result ≡ is_wait_over config.now state.now app noted now }
 {
-    match (lost_claim(state, app), noted) {
-        (Some(claim), Some(noted)) if noted.claim == claim => {
-            let wait = u64::from(config.timeout(app));
-            now >= noted.since && now - noted.since >= wait
-        }
+    let wait = u64::from(config.timeout(app));
+    is_over_at(wait, now, lost_claim(state, app), noted)
+}
+
+/// Whether this lost claim is the one that is noted, and has waited so long.
+fn is_over_at(wait: u64, now: u64, lost: Option<Claim>, noted: Option<Noted>) -> bool
+    ensures { result ≡ is_over_at wait now lost noted }
+{
+    match (lost, noted) {
+        (Some(claim), Some(noted)) => noted.is_of(claim) && noted.has_waited(wait, now),
         _ => false,
     }
 }
