@@ -4,13 +4,13 @@ use Rattle.std.specs.Prelude.{◌≡◌, ◌≢◌, ◌⊎◌, ◌+◌, ◌<◌,
 use Rattle.dac_messages.specs.declared.event.Event.{Event}
 use Rattle.dac_messages.specs.declared.reply.Reply.{Reply}
 use Rattle.dac_commands.specs.declared.refusal.Refusal.{Refusal}
-use Rattle.dac_live.specs.declared.limits.TheConstants.{MAX_RECORDS}
-use Rattle.dac_live.specs.declared.record.Record.{Record}
+use Rattle.dac_journal.specs.declared.limits.TheConstants.{MAX_RECORDS}
+use Rattle.dac_journal.specs.declared.record.Record.{Record}
 use Rattle.dac_live.specs.declared.faults.LiveFault.{LiveFault}
 use Rattle.dac_live.specs.declared.faults.LiveFault.TheVariants.{JournalFull, Refused, NoMemory}
 use Rattle.dac_live.specs.declared.faults.CloseFault.{CloseFault}
 use Rattle.dac_live.specs.declared.faults.CloseFault.TheVariants.{SeatMissing, Mismatch}
-use Rattle.dac_live.specs.Journals.{Opening, AreHistory, record_of, calls_of, DifferAt}
+use Rattle.dac_journal.specs.Journals.{Opening, AreHistory, record_of, calls_of, DifferAt}
 use Rattle.dac_live.specs.Seats.{SeatValue, IsOneOf}
 
 -- ---- at a call

@@ -1,6 +1,4 @@
 pub mod Behind
-pub mod Journals
-pub mod Limits
 pub mod Seats
 pub mod Sites
 pub mod Told

@@ -1,7 +1,7 @@
 -- Seats by their numbers, with the calls that they made.
 use Rattle.std.specs.Prelude.{◌≡◌, ℕ, zero, suc, List, [], ◌∷◌, ◌++◌, ◌⊎◌, refl}
 use Rattle.std.specs.Coded.{Coded, code_by, coded×, coded_ℕ, coded_list}
-use Rattle.dac_live.specs.declared.record.Call.{Call}
+use Rattle.dac_journal.specs.declared.record.Call.{Call}
 
 -- its number, and its calls, the oldest first
 pub record SeatValue : Type 0 where

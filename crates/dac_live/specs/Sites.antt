@@ -1,6 +1,6 @@
 -- Sites under their names.
 use Rattle.std.specs.Prelude.{◌≡◌, ℕ}
-use Rattle.dac_live.specs.Journals.{Opening}
+use Rattle.dac_journal.specs.Journals.{Opening}
 use Rattle.dac_live.specs.declared.blank.SiteBlank.{SiteBlank}
 
 -- The name stands for this blank. Its ledger is the blank's, with a part for each seat, and its journal begins where

@@ -4,11 +4,11 @@ use Rattle.dac_messages.specs.declared.event.Event.{Event}
 use Rattle.dac_messages.specs.declared.reply.Reply.{Reply}
 use Rattle.dac_commands.specs.declared.refusal.Refusal.{Refusal}
 use Rattle.dac_commands.specs.declared.refusal.Refusal.TheVariants.{NoMemory as WantOfMemory}
-use Rattle.dac_live.specs.declared.record.Record.{Record}
-use Rattle.dac_live.specs.declared.record.Call.{Call}
+use Rattle.dac_journal.specs.declared.record.Record.{Record}
+use Rattle.dac_journal.specs.declared.record.Call.{Call}
 use Rattle.dac_live.specs.declared.faults.LiveFault.{LiveFault}
 use Rattle.dac_live.specs.declared.faults.LiveFault.TheVariants.{JournalFull, Refused, NoMemory}
-use Rattle.dac_live.specs.Journals.{record_of, call_of}
+use Rattle.dac_journal.specs.Journals.{record_of, call_of}
 
 -- the record of this answer, at this place, is all that was added
 abbrev pub Added : List Record → List Record → ℕ → Event → ℕ → Result Reply Refusal → Type 0

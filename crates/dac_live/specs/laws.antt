@@ -1,4 +1,3 @@
 pub mod Apart
 pub mod Calls
-pub mod Going
 pub mod Seats

@@ -1,12 +1,12 @@
 //! Names of sites, and sites that have none yet.
 
 ghost use Rattle.std.specs.Prelude.{◌≡◌, ◌↔◌, ◌<◌, [], length, Err, IfOk};
-ghost use Rattle.dac_live.specs.Journals.{opening_of};
+ghost use Rattle.dac_journal.specs.Journals.{opening_of};
 
 use crate::faults::OpenFault;
-use crate::journal::Journal;
 use dac_base::NodeId;
 use dac_config::Config;
+use dac_journal::Journal;
 use std::alloc::Global;
 use std::marker::Brand;
 use std::sync::Wait;
@@ -15,7 +15,7 @@ use std::sync::ledger::{Blank, Ledger};
 /// The name of a site. Seats and receipts carry it, so that those of another site are of another type.
 pub trait SiteName: Ledger {
     ghost use Rattle.std.specs.Prelude.{ℕ};
-    ghost use Rattle.dac_live.specs.Journals.{Opening};
+    ghost use Rattle.dac_journal.specs.Journals.{Opening};
 
     /// How many seats it has.
     ghost seats: { ℕ };
@@ -25,7 +25,7 @@ pub trait SiteName: Ledger {
 }
 
 impl SiteName for Brand {
-    ghost use Rattle.dac_live.specs.Journals.{nowhere};
+    ghost use Rattle.dac_journal.specs.Journals.{nowhere};
 
     ghost seats = { 0 };
 

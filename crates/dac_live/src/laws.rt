@@ -1,21 +1,20 @@
 //! What the calls of a site rest on.
 
 ghost use Rattle.std.specs.Prelude.{◌≡◌, ◌↔◌, length, IfOk, IfErr, Ok, Err, MatchOption};
-ghost use Rattle.dac_live.specs.declared.limits.TheConstants.{MAX_RECORDS};
-ghost use Rattle.dac_live.specs.Journals.{calls_of, DifferAt};
+ghost use Rattle.dac_journal.specs.declared.limits.TheConstants.{MAX_RECORDS};
+ghost use Rattle.dac_journal.specs.Journals.{calls_of, DifferAt};
 ghost use Rattle.dac_live.specs.Told.{Added, AddedRefused};
 
 use crate::faults::LiveFault;
-use crate::journal::Journal;
-use crate::record::{Call, Record};
 use crate::same::is_record;
+use dac_journal::{Call, Journal, Record};
 use dac_messages::{Event, Reply};
 use std::sync::Wait;
 
 /// Asks the node of a locked journal for this seat and adds the record, if any. It answers what a call of the site
 /// answers: the place of the record, from 1, and the reply.
 ///
-/// `JournalFull` comes exactly where the journal has [`MAX_RECORDS`](crate::MAX_RECORDS) records; a refusal of the node
+/// `JournalFull` comes exactly where the journal has [`MAX_RECORDS`](dac_journal::MAX_RECORDS) records; a refusal of the node
 /// is a record too. `NoMemory` comes after the one and before the other. At `JournalFull` and `NoMemory` nothing changes.
 pub fn add_record<R: Wait>(
     _rt: &R,

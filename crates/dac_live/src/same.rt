@@ -1,9 +1,9 @@
 //! Whether a call is a record of a journal.
 
 ghost use Rattle.std.specs.Prelude.{◌≡◌, ◌↔◌, IsTrue};
-ghost use Rattle.dac_live.specs.Journals.{call_of};
+ghost use Rattle.dac_journal.specs.Journals.{call_of};
 
-use crate::record::{Answer, Call, Record};
+use dac_journal::{Answer, Call, Record};
 
 /// Whether the call is this record at this place.
 pub(crate) fn is_record(call: &Call, place: u64, one: &Record) -> bool

@@ -3,7 +3,7 @@
 ghost use Rattle.std.specs.Prelude.{◌≡◌, [], length};
 
 use crate::blank::SiteName;
-use crate::record::Call;
+use dac_journal::Call;
 use std::alloc::Global;
 use std::marker::Model;
 use std::sync::ledger::Share;
@@ -19,7 +19,7 @@ pub struct Seat<L: SiteName> {
 }
 
 impl<L: SiteName> Model for Seat<L> {
-    ghost use Rattle.dac_live.specs.contracts.record.Call as call_row;
+    ghost use Rattle.dac_journal.specs.contracts.record.Call as call_row;
     ghost use Rattle.dac_live.specs.Seats.{SeatValue, coded_seat};
 
     ghost Value = { SeatValue };

@@ -1,21 +1,19 @@
 //! A site: a journal under a lock, and the seats of its callers.
 
 ghost use Rattle.std.specs.Prelude.{◌≡◌, ◌≢◌, ◌↔◌, ◌+◌, ◌<◌, length, Ok, Err, IfOk, IfErr, MatchOption, All, sum_by, vec_len};
-ghost use Rattle.dac_live.specs.declared.limits.TheConstants.{MAX_RECORDS};
-ghost use Rattle.dac_live.specs.Journals.{calls_of};
+ghost use Rattle.dac_journal.specs.declared.limits.TheConstants.{MAX_RECORDS};
+ghost use Rattle.dac_journal.specs.Journals.{calls_of};
 ghost use Rattle.dac_live.specs.Behind.{WentOn, NotTaken, SeatDiffers, StrangerFrom, NotClosed};
 ghost use Rattle.dac_live.specs.Told.{Added, AddedRefused, Told, ToldRefused};
 ghost use Rattle.dac_live.specs.Seats.{IsOneOf, new_seats};
 ghost use Rattle.dac_live.specs.Sites.{IsBlankOf};
 
 use crate::blank::{SiteBlank, SiteName};
-use crate::closed::Closed;
 use crate::faults::{CloseFault, LiveFault};
-use crate::journal::Journal;
 use crate::laws::same_calls;
-use crate::record::Record;
 use crate::seat::Seat;
 use dac_base::NoMemory;
+use dac_journal::{Closed, Journal, Record};
 use dac_messages::{Event, Reply};
 use std::alloc::Global;
 use std::marker::PhantomData;
@@ -194,7 +192,7 @@ impl<L: SiteName> Site<L> {
     /// Asks the node. The seat then has one call more: the place of its record, the event and the answer. A refusal of
     /// the node is a record too.
     ///
-    /// `JournalFull` is for a journal with [`MAX_RECORDS`](crate::MAX_RECORDS) records. `NoMemory` comes after it, but before
+    /// `JournalFull` is for a journal with [`MAX_RECORDS`](dac_journal::MAX_RECORDS) records. `NoMemory` comes after it, but before
     /// a refusal of the node, since that needs room for its record. At both the seat stays as it was. The lock hides the
     /// journal, so the clauses speak of some history of the node from where the site began. One of each length exists:
     /// what promises that `JournalFull` comes of a full journal is [`add_record`](crate::laws::add_record).

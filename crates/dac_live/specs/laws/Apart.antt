@@ -1,7 +1,7 @@
 -- Where a journal and the seats first don't match, found one by one.
 use Rattle.std.proofs.Common.{◌≡◌, ◌≢◌, ℕ, zero, suc, ◌+◌, ◌<◌, List, [], ◌∷◌, length, take, get_or, All, inl, inr, subst, arith}
-use Rattle.dac_live.specs.declared.record.Record.{Record}
-use Rattle.dac_live.specs.Journals.{calls_of, DifferAt}
+use Rattle.dac_journal.specs.declared.record.Record.{Record}
+use Rattle.dac_journal.specs.Journals.{calls_of, DifferAt}
 use Rattle.dac_live.specs.Seats.{SeatValue, IsOneOf}
 use Rattle.dac_live.specs.Behind.{SeatDiffers, StrangerFrom}
 

@@ -3,9 +3,9 @@ use Rattle.std.proofs.Common.{◌≡◌, ◌≢◌, ℕ, suc, ◌+◌, ◌<◌, 
 use Rattle.std.specs.Prelude.{◌==◌, if◌then◌else◌}
 use Rattle.std.proofs.lemmas.List.{take-append-drop, take_more, length-take-le}
 use Rattle.std.proofs.Math.Seq.{take-length}
-use Rattle.dac_live.specs.declared.record.Record.{Record}
-use Rattle.dac_live.specs.declared.record.Call.{Call}
-use Rattle.dac_live.specs.Journals.{call_of, calls_from, calls_of, DifferAt}
+use Rattle.dac_journal.specs.declared.record.Record.{Record}
+use Rattle.dac_journal.specs.declared.record.Call.{Call}
+use Rattle.dac_journal.specs.Journals.{call_of, calls_from, calls_of, DifferAt}
 
 cond_push : (b : Bool) (c : Call) (us vs ws : List Call) → us ≡ vs ++ ws → (if b then c ∷ us else us) ≡ (if b then c ∷ vs else vs) ++ ws
 cond_push true c us vs ws e = ap (λ l. c ∷ l) e

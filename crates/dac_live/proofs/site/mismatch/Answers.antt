@@ -1,5 +1,5 @@
 use Rattle.std.proofs.Common.{◌≡◌, All, subst, take_all}
-use Rattle.dac_live.specs.Journals.{calls_of, DifferAt}
+use Rattle.dac_journal.specs.Journals.{calls_of, DifferAt}
 use Rattle.dac_live.specs.Seats.{SeatValue}
 use Rattle.dac_live.specs.laws.Apart.{seat_differs}
 use Rattle.dac_live.proofs.site.mismatch.Goals as goal

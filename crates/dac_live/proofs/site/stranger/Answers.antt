@@ -1,6 +1,6 @@
 use Rattle.std.proofs.Common.{All, refl, subst, take_all}
 use Rattle.std.proofs.lemmas.List.Elements.{All-more}
-use Rattle.dac_live.specs.declared.record.Record.{Record}
+use Rattle.dac_journal.specs.declared.record.Record.{Record}
 use Rattle.dac_live.specs.Seats.{IsOneOf}
 use Rattle.dac_live.specs.laws.Apart.{stranger_at}
 use Rattle.dac_live.proofs.site.stranger.Goals as goal

@@ -1,5 +1,5 @@
 use Rattle.std.proofs.Common.{◌≡◌, sym, ap, ◌∙◌}
-use Rattle.dac_live.specs.Journals.{JournalValue}
+use Rattle.dac_journal.specs.Journals.{JournalValue}
 use Rattle.dac_live.proofs.site.Site.close.Goals as goal
 
 pub returns-clause-others : goal.returns-clause-others

@@ -7,8 +7,8 @@ use Rattle.dac_worlds.specs.NodeValue.{NodeValue}
 use Rattle.dac_worlds.specs.Step.{Steps, model_step}
 use Rattle.dac_worlds.specs.Histories.{Entry, IsHistory, off_after}
 use Rattle.dac_worlds.specs.laws.Histories.{IsHistory-push}
-use Rattle.dac_live.specs.declared.record.Record.{Record}
-use Rattle.dac_live.specs.Journals.{Opening, entry_of, record_of, EndsAt, AreHistory}
+use Rattle.dac_journal.specs.declared.record.Record.{Record}
+use Rattle.dac_journal.specs.Journals.{Opening, entry_of, record_of, EndsAt, AreHistory}
 
 entries_push : (rs : List Record) (r : Record) → map entry_of (rs ++ r ∷ []) ≡ map entry_of rs ++ entry_of r ∷ []
 entries_push [] r = refl

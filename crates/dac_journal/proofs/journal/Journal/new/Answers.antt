@@ -1,9 +1,9 @@
 use Rattle.std.proofs.Common.{◌≡◌, List, length, refl, sym, ap, subst, arith}
 use Rattle.dac_worlds.specs.NodeValue.{NodeValue}
 use Rattle.dac_worlds.specs.Histories.{off_after}
-use Rattle.dac_live.specs.declared.record.Record.{Record}
-use Rattle.dac_live.specs.Journals.{EndsAt, opening_of}
-use Rattle.dac_live.proofs.journal.Journal.new.Goals as goal
+use Rattle.dac_journal.specs.declared.record.Record.{Record}
+use Rattle.dac_journal.specs.Journals.{EndsAt, opening_of}
+use Rattle.dac_journal.proofs.journal.Journal.new.Goals as goal
 
 pub invariant_of-result : goal.invariant_of-result
 invariant_of-result c =

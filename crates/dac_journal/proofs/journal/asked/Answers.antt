@@ -4,7 +4,7 @@ use Rattle.dac_worlds.specs.NodeValue.{NodeValue}
 use Rattle.dac_worlds.specs.Step.{Steps}
 use Rattle.dac_worlds.specs.laws.Steps.{steps, answered_steps}
 use Rattle.dac_node.specs.Changes.{changed}
-use Rattle.dac_live.proofs.journal.asked.Goals as goal
+use Rattle.dac_journal.proofs.journal.asked.Goals as goal
 
 pub returns-in_ok-reply-in-Ok-clause-steps : goal.returns-in_ok-reply-in-Ok-clause-steps
 returns-in_ok-reply-in-Ok-clause-steps c =

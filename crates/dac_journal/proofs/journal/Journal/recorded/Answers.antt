@@ -1,8 +1,8 @@
 use Rattle.std.proofs.Common.{◌≡◌, ◌<◌, ◌+◌, ◌++◌, ◌∷◌, [], List, length, sym, ap, ◌∙◌, subst, arith, rules, length-append}
-use Rattle.dac_live.specs.declared.record.Record.{Record}
-use Rattle.dac_live.specs.Journals.{JournalValue, EndsAt, opening_of, record_of}
-use Rattle.dac_live.specs.laws.Going.{goes_on, is_history}
-use Rattle.dac_live.proofs.journal.Journal.ask.Goals as goal
+use Rattle.dac_journal.specs.declared.record.Record.{Record}
+use Rattle.dac_journal.specs.Journals.{JournalValue, EndsAt, opening_of, record_of}
+use Rattle.dac_journal.specs.laws.Going.{goes_on, is_history}
+use Rattle.dac_journal.proofs.journal.Journal.recorded.Goals as goal
 
 pub invariant_of-self-2 : goal.invariant_of-self-2
 invariant_of-self-2 c =

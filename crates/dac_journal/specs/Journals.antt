@@ -11,8 +11,8 @@ use Rattle.dac_commands.specs.declared.refusal.Refusal.{Refusal}
 use Rattle.dac_worlds.specs.NodeValue.{NodeValue}
 use Rattle.dac_worlds.specs.ModelNode.{ModelNode, shown}
 use Rattle.dac_worlds.specs.Histories.{Entry, IsHistory, off_after}
-use Rattle.dac_live.specs.declared.record.Record.{Record}
-use Rattle.dac_live.specs.declared.record.Call.{Call}
+use Rattle.dac_journal.specs.declared.record.Record.{Record}
+use Rattle.dac_journal.specs.declared.record.Call.{Call}
 
 -- where a journal begins: the configuration, the node, and how many incarnations it had
 pub record Opening : Type 0 where

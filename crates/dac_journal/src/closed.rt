@@ -29,8 +29,8 @@ impl Drop for Closed {
 
 impl Model for Closed {
     ghost use Rattle.dac_config.specs.contracts.config.Config as config_row;
-    ghost use Rattle.dac_live.specs.contracts.record.Record as record_row;
-    ghost use Rattle.dac_live.specs.Journals.{JournalValue, coded_journal, AreHistory, opening_of};
+    ghost use Rattle.dac_journal.specs.contracts.record.Record as record_row;
+    ghost use Rattle.dac_journal.specs.Journals.{JournalValue, coded_journal, AreHistory, opening_of};
 
     ghost Value = { JournalValue };
 
@@ -42,7 +42,7 @@ impl Model for Closed {
 }
 
 impl Closed {
-    ghost use Rattle.dac_live.specs.Journals.{AreHistory};
+    ghost use Rattle.dac_journal.specs.Journals.{AreHistory};
 
     /// The node.
     pub fn node(&self) -> NodeId

@@ -1,6 +1,6 @@
 -- What the limit is, so that it can't change unseen.
 use Rattle.std.specs.Prelude.{◌≡◌, refl}
-use Rattle.dac_live.specs.declared.limits.TheConstants.{MAX_RECORDS}
+use Rattle.dac_journal.specs.declared.limits.TheConstants.{MAX_RECORDS}
 
 pub the_limit : MAX_RECORDS ≡ 65536
 the_limit = refl

@@ -2,8 +2,9 @@
 
 ghost use Rattle.std.specs.Prelude.{◌≡◌, ◌≢◌, ◌≤◌, ◌<◌, ◌+◌, ◌++◌, ◌∷◌, [], length, true, false, IfOk, IfErr, OnErr};
 ghost use Rattle.dac_worlds.specs.Step.{Steps};
-ghost use Rattle.dac_live.specs.declared.limits.TheConstants.{MAX_RECORDS as MOST};
-ghost use Rattle.dac_live.specs.Journals.{call_of, record_of, opening_of};
+ghost use Rattle.dac_journal.specs.declared.limits.TheConstants.{MAX_RECORDS as MOST};
+ghost use Rattle.dac_node.specs.Changes.{changed, Fits};
+ghost use Rattle.dac_journal.specs.Journals.{call_of, record_of, opening_of};
 
 use crate::closed::Closed;
 use crate::limits::MAX_RECORDS;
@@ -11,8 +12,8 @@ use crate::record::{Answer, Call, Record};
 use dac_base::{NoMemory, NodeId};
 use dac_commands::Refusal;
 use dac_config::Config;
-use dac_messages::Event;
-use dac_node::Node;
+use dac_messages::{Event, Reply};
+use dac_node::{Change, Node};
 use std::alloc::Global;
 use std::marker::Model;
 
@@ -41,9 +42,9 @@ impl Drop for Journal {
 impl Model for Journal {
     ghost use Rattle.std.specs.Prelude.{length, ◌≤◌};
     ghost use Rattle.dac_config.specs.contracts.config.Config as config_row;
-    ghost use Rattle.dac_live.specs.contracts.record.Record as record_row;
-    ghost use Rattle.dac_live.specs.declared.limits.TheConstants.{MAX_RECORDS as MOST};
-    ghost use Rattle.dac_live.specs.Journals.{JournalValue, coded_journal, EndsAt, opening_of};
+    ghost use Rattle.dac_journal.specs.contracts.record.Record as record_row;
+    ghost use Rattle.dac_journal.specs.declared.limits.TheConstants.{MAX_RECORDS as MOST};
+    ghost use Rattle.dac_journal.specs.Journals.{JournalValue, coded_journal, EndsAt, opening_of};
 
     ghost Value = { JournalValue };
 
@@ -55,10 +56,10 @@ impl Model for Journal {
 }
 
 impl Journal {
-    ghost use Rattle.dac_live.specs.Journals.{AreHistory};
+    ghost use Rattle.dac_journal.specs.Journals.{AreHistory};
 
     /// A journal with no records, of a node that is off.
-    pub(crate) fn new(alloc: Global, config: Config, me: NodeId, last: u32) -> Self
+    pub fn new(alloc: Global, config: Config, me: NodeId, last: u32) -> Self
         ensures opening { result.opening ≡ opening_of config me last }
         ensures records { result.records ≡ [] }
     {
@@ -72,7 +73,7 @@ impl Journal {
     }
 
     /// Whether no record more fits.
-    pub(crate) fn is_full(&self) -> bool
+    pub fn is_full(&self) -> bool
         ensures full { result ≡ true → length self.now.records ≡ MOST }
         ensures room { result ≡ false → length self.now.records < MOST }
         ensures history { AreHistory self.now.opening self.now.records }
@@ -91,7 +92,7 @@ impl Journal {
     }
 
     /// The journal, when nothing more is asked.
-    pub(crate) fn close(self) -> Closed
+    pub fn close(self) -> Closed
         ensures { result ≡ self }
     {
         let Journal {
@@ -109,13 +110,35 @@ impl Journal {
         }
     }
 
-    /// Asks the node, and adds the record of it. It gives what a seat keeps of it, and the answer.
-    pub(crate) fn ask(&mut self, seat: u16, event: Event) -> Result<(Call, Answer), NoMemory>
+    /// Asks the node for this seat, and adds the record of it. It gives what the seat keeps of it, and the answer.
+    /// [`NoMemory`] is the only error, and leaves all as it was.
+    pub fn ask(&mut self, seat: u16, event: Event) -> Result<(Call, Answer), NoMemory>
         requires { length self.old.records < MOST }
         ensures opening { self.new.opening ≡ self.old.opening }
         ensures ok { IfOk result (λ r. self.new.records ≡ self.old.records ++ record_of seat event r.1 ∷ []) }
         ensures call { IfOk result (λ r. r.0 ≡ call_of (length self.old.records + 1) event r.1) }
         ensures answered { IfOk result (λ r. IfErr r.1 (λ why. why ≢ Refusal.NoMemory)) }
+        ensures history { IfOk result (λ _. AreHistory self.new.opening self.new.records) }
+        ensures unchanged { OnErr result (self.new ≡ self.old) }
+    {
+        let place = self.records.len() as u64 + 1;
+        let kept = event.copy()?;
+        let (answer, other) = self.recorded(seat, event)?;
+        let call = Call {
+            place,
+            event: kept,
+            answer,
+        };
+        Ok((call, other))
+    }
+
+    // Asks the node, and adds the record of it. It gives the answer twice.
+    fn recorded(&mut self, seat: u16, event: Event) -> Result<(Answer, Answer), NoMemory>
+        requires { length self.old.records < MOST }
+        ensures opening { self.new.opening ≡ self.old.opening }
+        ensures ok { IfOk result (λ a. self.new.records ≡ self.old.records ++ record_of seat event a.1 ∷ []) }
+        ensures same { IfOk result (λ a. a.0 ≡ a.1) }
+        ensures answered { IfOk result (λ a. IfErr a.1 (λ why. why ≢ Refusal.NoMemory)) }
         ensures history { IfOk result (λ _. AreHistory self.new.opening self.new.records) }
         ensures unchanged { OnErr result (self.new ≡ self.old) }
     {
@@ -127,20 +150,13 @@ impl Journal {
             node,
         } = self;
         records.reserve(1)?;
-        let kept = event.copy()?;
-        let place = records.len() as u64 + 1;
         let (answer, second, third) = asked(config, *me, node, &event)?;
         records.push_reserved(Record {
             seat,
             event,
             answer,
         });
-        let call = Call {
-            place,
-            event: kept,
-            answer: second,
-        };
-        Ok((call, third))
+        Ok((second, third))
     }
 }
 
@@ -158,9 +174,7 @@ fn asked(
 {
     match node.prepare(config, me, event) {
         Ok(change) => {
-            let second = change.reply().copy()?;
-            let third = change.reply().copy()?;
-            let reply = node.apply(change)?;
+            let (reply, second, third) = done(node, change)?;
             Ok((Ok(reply), Ok(second), Ok(third)))
         }
         Err(why) => {
@@ -170,6 +184,28 @@ fn asked(
             Ok((Err(why), Err(why), Err(why)))
         }
     }
+}
+
+// Does what was prepared. It gives the reply, three times. At `Err` the node is as before.
+fn done(node: &mut Node, change: Change) -> Result<(Reply, Reply, Reply), NoMemory>
+    requires { Fits node.old change }
+    ensures new { IfOk result (λ _. node.new ≡ changed node.old change) }
+    ensures reply { IfOk result (λ r. r.0 ≡ change.reply) }
+    ensures same { IfOk result (λ r. (r.1 ≡ change.reply) × (r.2 ≡ change.reply)) }
+    ensures unchanged { OnErr result (node.new ≡ node.old) }
+{
+    let (second, third) = two_copies(change.reply())?;
+    let reply = node.apply(change)?;
+    Ok((reply, second, third))
+}
+
+// Two copies of a reply.
+fn two_copies(reply: &Reply) -> Result<(Reply, Reply), NoMemory>
+    ensures { IfOk result (λ r. (r.0 ≡ reply.now) × (r.1 ≡ reply.now)) }
+{
+    let one = reply.copy()?;
+    let other = reply.copy()?;
+    Ok((one, other))
 }
 
 // Whether memory was refused, so that nothing was answered.

@@ -1,0 +1,3 @@
+pub mod Journals
+pub mod Limits
+pub mod laws

@@ -1,0 +1,14 @@
+//! Journals: a node with all that it was asked and answered.
+//!
+//! A [`Journal`] has the node itself, so each of its records is a step of that node. It ends as a [`Closed`] one.
+#![tactic(auto)]
+
+pub use closed::Closed;
+pub use journal::Journal;
+pub use limits::MAX_RECORDS;
+pub use record::{Answer, Call, Record};
+
+mod closed;
+mod journal;
+mod limits;
+mod record;

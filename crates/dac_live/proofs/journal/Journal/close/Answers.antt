@@ -1,5 +1,0 @@
-use Rattle.dac_live.specs.laws.Going.{is_history}
-use Rattle.dac_live.proofs.journal.Journal.close.Goals as goal
-
-pub invariant_of-result : goal.invariant_of-result
-invariant_of-result c = is_history _ _ _ c.self.invariant.0
