@@ -248,10 +248,18 @@ impl Running {
         let known = &self.knowledge;
         known.known();
         let operation = operation_of(known.alloc, config, known.origin, &known.state, command)?;
-        let delta = State::delta_of(known.alloc, &operation)?;
-        let peers = known.peers.copy()?;
-        let next = known.added(delta, peers)?;
+        let next = self.issued(&operation)?;
         Ok((next, operation))
+    }
+
+    /// What goes on after an operation of its own.
+    fn issued(&self, operation: &Op) -> Result<Next, NoMemory>
+        ensures { IfOk result (λ next. next ≡ adding (knowledge_of self.now) (meaning_of (operation.now ∷ []) ∷ []) self.now.peers) }
+    {
+        let known = &self.knowledge;
+        let delta = State::delta_of(known.alloc, operation)?;
+        let peers = known.peers.copy()?;
+        known.added(delta, peers)
     }
 }
 

@@ -52,10 +52,19 @@ impl Running {
         ensures next { IfOk result (λ both. both.0 ≡ adding (knowledge_of self.now) [] (shipped_to self.now.peers to)) }
         ensures message { IfOk result (λ both. both.1 ≡ message_of self.now to) }
     {
+        let message = self.message_to(to)?;
+        let next = self.shipped_to(to)?;
+        Ok((next, message))
+    }
+
+    /// The message that is shipped to a node.
+    fn message_to(&self, to: NodeId) -> Result<Message, NoMemory>
+        ensures { IfOk result (λ message. message ≡ message_of self.now to) }
+    {
         let known = &self.knowledge;
         let from = known.peers.begins(&known.state, self.buffer.base(), to);
         let body = self.body_from(from)?;
-        let message = Message {
+        Ok(Message {
             from: known.origin,
             to,
             only: match from {
@@ -65,15 +74,21 @@ impl Running {
             up_to: self.buffer.count(),
             body,
             ack: known.peers.receipt(to),
-        };
+        })
+    }
+
+    /// What goes on once a node was shipped to.
+    fn shipped_to(&self, to: NodeId) -> Result<Next, NoMemory>
+        ensures { IfOk result (λ next. next ≡ adding (knowledge_of self.now) [] (shipped_to self.now.peers to)) }
+    {
+        let known = &self.knowledge;
         let peers = known.peers.shipped_to(to)?;
         let knowledge = known.with_peers(peers)?;
-        let next = Next {
+        Ok(Next {
             knowledge,
             deltas: Vec::new(known.alloc),
             trim: 0,
-        };
-        Ok((next, message))
+        })
     }
 
     /// What goes on after a message is heard. What all other nodes have acknowledged by then is kept no longer.

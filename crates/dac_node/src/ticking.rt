@@ -1,6 +1,6 @@
 //! What an accepted tick does.
 
-ghost use Rattle.std.specs.Prelude.{◌≡◌, ◌≤◌, ◌∷◌, List, IfOk, false, fold, unwrap_or};
+ghost use Rattle.std.specs.Prelude.{◌≡◌, ◌≤◌, ◌∷◌, [], List, IfOk, false, fold, unwrap_or};
 ghost use Rattle.dac_meaning.specs.StateValue.{join};
 ghost use Rattle.dac_messages.specs.declared.event.Event.TheVariants.{Tick};
 ghost use Rattle.dac_decide.specs.FailoverWait.{Note, waits_of};
@@ -32,10 +32,7 @@ pub(crate) fn tick(config: &Config, last: u32, run: &Running, now: u64) -> Resul
 {
     match run.opening(config, now) {
         Opening::Shut => {
-            let known = &run.knowledge;
-            let waits = known.waits.copy()?;
-            let state = known.state.copy()?;
-            let next = known.ticked(now, false, waits, state, Vec::new(known.alloc))?;
+            let next = run.knowledge.held(now)?;
             Ok(Change::going_on(last, next, Reply::Held))
         }
         Opening::GiveUp => Ok(Change {
@@ -100,6 +97,16 @@ impl Knowledge {
         waits.note(config, &self.state, now);
         let turn = turn(self.alloc, config, self.origin, &self.state, &waits, now)?;
         Ok((waits, turn))
+    }
+
+    /// What goes on after a tick at this moment that finds the gate shut.
+    fn held(&self, now: u64) -> Result<Next, NoMemory>
+        requires { self.now.moments.last ≤ now }
+        ensures { IfOk result (λ next. next ≡ ticking self.now now false self.now.waits []) }
+    {
+        let waits = self.waits.copy()?;
+        let state = self.state.copy()?;
+        self.ticked(now, false, waits, state, Vec::new(self.alloc))
     }
 
     /// The state after claims that left this one, where there were any.
