@@ -534,6 +534,32 @@ or_turn true false c = refl
 or_turn false true c = refl
 or_turn false false c = refl
 
+-- ---- the counters of a run, one by one
+
+pub none_listed : (f : ℕ) (old : List ℕ) (n : ℕ) → has_key nat_cmp old n ≡ ((nat_le f n && nat_lt n f) || has_key nat_cmp old n)
+none_listed f old n = ap (λ b. b || has_key nat_cmp old n) (none f n)
+  where
+    none : (f n : ℕ) → false ≡ (nat_le f n && nat_lt n f)
+    none f n = grind (arith, nat_tests)
+
+pub one_listed : (f l : ℕ) → f ≤ l → (old mid new : List ℕ) → ((n : ℕ) → has_key nat_cmp mid n ≡ ((nat_le f n && nat_lt n l) || has_key nat_cmp old n)) → ((n : ℕ) → has_key nat_cmp new n ≡ (eq_by_cmp nat_cmp n l || has_key nat_cmp mid n))
+    → (n : ℕ) → has_key nat_cmp new n ≡ ((nat_le f n && nat_lt n (l + 1)) || has_key nat_cmp old n)
+one_listed f l p old mid new so_far one n =
+    one n ∙ ap (λ b. eq_by_cmp nat_cmp n l || b) (so_far n) ∙ sym (or_assoc (eq_by_cmp nat_cmp n l) (nat_le f n && nat_lt n l) (has_key nat_cmp old n))
+    ∙ ap (λ b. b || has_key nat_cmp old n) (more f l n p)
+  where
+    more : (f l n : ℕ) → f ≤ l → (eq_by_cmp nat_cmp n l || (nat_le f n && nat_lt n l)) ≡ (nat_le f n && nat_lt n (l + 1))
+    more f l n p = grind (arith, nat_tests)
+
+pub all_listed : (f l k : ℕ) → f ≤ k → k ≡ l → (old mid new : List ℕ) → ((n : ℕ) → has_key nat_cmp mid n ≡ ((nat_le f n && nat_lt n k) || has_key nat_cmp old n)) → ((n : ℕ) → has_key nat_cmp new n ≡ (eq_by_cmp nat_cmp n l || has_key nat_cmp mid n))
+    → (n : ℕ) → has_key nat_cmp new n ≡ ((nat_le f n && nat_le n l) || has_key nat_cmp old n)
+all_listed f l k p e old mid new so_far one n =
+    one_listed f l (omega arith) old mid new (λ m. so_far m ∙ ap (λ (k : ℕ). (nat_le f m && nat_lt m k) || has_key nat_cmp old m) e) one n
+    ∙ ap (λ b. (nat_le f n && b) || has_key nat_cmp old n) (before_next n l)
+  where
+    before_next : (n l : ℕ) → nat_lt n (l + 1) ≡ nat_le n l
+    before_next n l = grind (arith, nat_tests)
+
 pub any_more : (runs : List Run) (i : ℕ) (d : Run) → i < length runs → (n : ℕ) → any_run (take (i + 1) runs) n ≡ (any_run (take i runs) n || run_has n (get_or runs i d))
 any_more runs i d p n = list_any_more (run_has n) runs i d p
 
@@ -613,6 +639,28 @@ regroup false false true tx = refl
 regroup false false false true = refl
 regroup false false false false = refl
 
+-- a run of the first list is put in
+pub merged_first : (xs ys : List Run) (i j : ℕ) (d : Run) → i < length xs → (mid new : List ℕ) → ((n : ℕ) → has_key nat_cmp mid n ≡ (any_run (take j ys) n || any_run (take i xs) n)) → ((n : ℕ) → has_key nat_cmp new n ≡ (run_has n (get_or xs i d) || has_key nat_cmp mid n))
+    → (n : ℕ) → has_key nat_cmp new n ≡ (any_run (take j ys) n || any_run (take (i + 1) xs) n)
+merged_first xs ys i j d p mid new so_far one n =
+    one n ∙ ap (λ b. run_has n (get_or xs i d) || b) (so_far n) ∙ or_last (run_has n (get_or xs i d)) (any_run (take j ys) n) (any_run (take i xs) n)
+    ∙ ap (λ b. any_run (take j ys) n || b) (sym (any_more xs i d p n))
+  where
+    or_last : (a b c : Bool) → (a || (b || c)) ≡ (b || (c || a))
+    or_last true true c = refl
+    or_last true false true = refl
+    or_last true false false = refl
+    or_last false true c = refl
+    or_last false false true = refl
+    or_last false false false = refl
+
+-- a run of the second is
+pub merged_second : (xs ys : List Run) (i j : ℕ) (d : Run) → j < length ys → (mid new : List ℕ) → ((n : ℕ) → has_key nat_cmp mid n ≡ (any_run (take j ys) n || any_run (take i xs) n)) → ((n : ℕ) → has_key nat_cmp new n ≡ (run_has n (get_or ys j d) || has_key nat_cmp mid n))
+    → (n : ℕ) → has_key nat_cmp new n ≡ (any_run (take (j + 1) ys) n || any_run (take i xs) n)
+merged_second xs ys i j d p mid new so_far one n =
+    one n ∙ ap (λ b. run_has n (get_or ys j d) || b) (so_far n) ∙ or_turn (run_has n (get_or ys j d)) (any_run (take j ys) n) (any_run (take i xs) n)
+    ∙ ap (λ b. b || any_run (take i xs) n) (sym (any_more ys j d p n))
+
 pub merged_both : (xs ys : List Run) (i j : ℕ) (both mid new : List ℕ) → ((n : ℕ) → has_key nat_cmp both n ≡ (any_run (take j ys) n || any_run (take i xs) n)) → ((n : ℕ) → has_key nat_cmp mid n ≡ (any_run (drop i xs) n || has_key nat_cmp both n)) → ((n : ℕ) → has_key nat_cmp new n ≡ (any_run (drop j ys) n || has_key nat_cmp mid n))
     → (n : ℕ) → has_key nat_cmp new n ≡ (any_run ys n || any_run xs n)
 merged_both xs ys i j both mid new so_far first second n =
@@ -620,12 +668,26 @@ merged_both xs ys i j both mid new so_far first second n =
     ∙ regroup (any_run (drop j ys) n) (any_run (drop i xs) n) (any_run (take j ys) n) (any_run (take i xs) n)
     ∙ (λ k. sym (any_parts ys j n) k || sym (any_parts xs i n) k)
 
+pub list_more : (runs : List Run) (i : ℕ) (d : Run) → i < length runs → (mid new : List ℕ) → ((n : ℕ) → has_key nat_cmp mid n ≡ any_run (take i runs) n) → ((n : ℕ) → has_key nat_cmp new n ≡ (run_has n (get_or runs i d) || has_key nat_cmp mid n))
+    → (n : ℕ) → has_key nat_cmp new n ≡ any_run (take (i + 1) runs) n
+list_more runs i d p mid new so_far one n =
+    one n ∙ ap (λ b. run_has n (get_or runs i d) || b) (so_far n) ∙ turn (run_has n (get_or runs i d)) (any_run (take i runs) n) ∙ sym (any_more runs i d p n)
+  where
+    turn : (a b : Bool) → (a || b) ≡ (b || a)
+    turn true true = refl
+    turn true false = refl
+    turn false true = refl
+    turn false false = refl
+
 -- a list that rises and has the counters of all runs is that of the set
 pub listed : (runs : List Run) → are_apart 0 runs ≡ true → (now : List ℕ) → counters_in runs ≡ now → (i : ℕ) → length runs ≤ i → (ns : List ℕ) → IsRising nat_cmp ns → ((n : ℕ) → has_key nat_cmp ns n ≡ any_run (take i runs) n) → ns ≡ now
 listed runs h now view i end ns rising so_far = same_rising nat_cmp_total exact_unsigned ns now rising (rising_now runs h now view) (λ n. so_far n ∙ ap (λ l. any_run l n) (take_all i runs end) ∙ sym (has_now runs h now view n))
 
 take_rest : (runs : List Run) (i : ℕ) → take (length runs - i) (drop i runs) ≡ drop i runs
 take_rest runs i = take_all (length runs - i) (drop i runs) (let left = length-drop i runs in omega arith)
+
+pub valid_rest : (runs : List Run) → AreRuns runs → (i : ℕ) → AreRuns (take (length runs - i) (drop i runs))
+valid_rest runs all i = subst AreRuns (sym (take_rest runs i)) (valid_drop runs all i)
 
 pub merged_rest : (xs ys : List Run) (i j : ℕ) (both mid new : List ℕ) → ((n : ℕ) → has_key nat_cmp both n ≡ (any_run (take j ys) n || any_run (take i xs) n))
     → ((n : ℕ) → has_key nat_cmp mid n ≡ (any_run (take (length xs - i) (drop i xs)) n || has_key nat_cmp both n)) → ((n : ℕ) → has_key nat_cmp new n ≡ (any_run (take (length ys - j) (drop j ys)) n || has_key nat_cmp mid n))

@@ -2,6 +2,7 @@ pub mod Lattices
 pub mod Chains
 pub mod Flags
 pub mod Entries
+pub mod Merges
 pub mod Search
 pub mod Maps
 pub mod Pieces

@@ -1,8 +1,9 @@
 //! The merge of two maps that are kept as lists of entries in the order of their keys.
-ghost use Rattle.std.specs.Prelude.{◌≡◌, ◌++◌, [], None, Some, Option, IfOk, OnOk};
+ghost use Rattle.std.specs.Prelude.{◌≡◌, ◌++◌, [], None, Some, Option, IfOk, IsOkAnd, OnOk};
 ghost use Rattle.std.specs.Option.{option_copied};
 ghost use Rattle.std.specs.FinMap.{find};
 ghost use Rattle.dac_lattice.specs.Entries.{merge_entries, keep};
+ghost use Rattle.dac_lattice.specs.Merges.{lowest_of, keep_lowest};
 ghost use Rattle.dac_lattice.specs.Search.{IsInOrder, IsPlaceOf};
 
 use dac_dots::{MapKey, NoMemory};
@@ -33,14 +34,50 @@ pub trait Combine<K, X> {
 fn push_kept<K: MapKey, X: Drop>(
     merged: &mut Vec<(K, X)>,
     key: K,
-    value: Option<X>,
+    value: Result<Option<X>, NoMemory>,
 ) -> Result<(), NoMemory>
-    ensures { OnOk result (merged.new.items ≡ merged.old.items ++ keep key value []) }
+    ensures { OnOk result (IsOkAnd value (λ value. merged.new.items ≡ merged.old.items ++ keep key value [])) }
 {
-    if let Some(value) = value {
+    if let Some(value) = value? {
         merged.push((key, value))?;
     }
     Ok(())
+}
+
+/// Of the next entries of two maps those at the lowest key: one of them, or both where the keys are equal.
+fn lowest<'a, K: MapKey, X>(
+    mine: Option<&'a (K, X)>,
+    theirs: Option<&'a (K, X)>,
+) -> (Option<&'a (K, X)>, Option<&'a (K, X)>)
+    ensures { (option_copied result.0, option_copied result.1) ≡ lowest_of K.cmp (option_copied mine.entry) (option_copied theirs.entry) }
+{
+    let (Some(x), Some(y)) = (mine, theirs) else {
+        return (mine, theirs);
+    };
+    match x.0.cmp(&y.0) {
+        Ordering::Less => (mine, None),
+        Ordering::Equal => (mine, theirs),
+        Ordering::Greater => (None, theirs),
+    }
+}
+
+/// Puts what is kept of the entries at one key at the end.
+fn push_lowest<K: MapKey, X: Drop, C: Combine<K, X>>(
+    merged: &mut Vec<(K, X)>,
+    how: &C,
+    mine: Option<&(K, X)>,
+    theirs: Option<&(K, X)>,
+) -> Result<(), NoMemory>
+    ensures { OnOk result (merged.new.items ≡ merged.old.items ++ keep_lowest (C.combined how.now) (option_copied mine.entry) (option_copied theirs.entry) []) }
+{
+    match (mine, theirs) {
+        (Some((key, mine)), Some((_, theirs))) => {
+            push_kept(merged, *key, how.both(*key, mine, theirs))
+        }
+        (Some((key, mine)), None) => push_kept(merged, *key, how.left(*key, mine)),
+        (None, Some((key, theirs))) => push_kept(merged, *key, how.right(*key, theirs)),
+        (None, None) => Ok(()),
+    }
 }
 
 /// The entries of both maps as `how` combines them, in the order of the keys, in one pass. Both lists are
@@ -56,34 +93,11 @@ pub fn merge<K: MapKey, X: Drop, C: Combine<K, X>>(
     let mut merged = Vec::with_capacity(alloc, mine.len().max(theirs.len()))?;
     let mut i = 0;
     let mut j = 0;
-    'both: while i < mine.len() && j < theirs.len() {
-        let (x, a) = &mine[i];
-        let (y, b) = &theirs[j];
-        match x.cmp(y) {
-            Ordering::Less => {
-                push_kept(&mut merged, *x, how.left(*x, a)?)?;
-                i += 1;
-            }
-            Ordering::Equal => {
-                push_kept(&mut merged, *x, how.both(*x, a, b)?)?;
-                i += 1;
-                j += 1;
-            }
-            Ordering::Greater => {
-                push_kept(&mut merged, *y, how.right(*y, b)?)?;
-                j += 1;
-            }
-        }
-    }
-    'mine: while i < mine.len() {
-        let (x, a) = &mine[i];
-        push_kept(&mut merged, *x, how.left(*x, a)?)?;
-        i += 1;
-    }
-    'theirs: while j < theirs.len() {
-        let (y, b) = &theirs[j];
-        push_kept(&mut merged, *y, how.right(*y, b)?)?;
-        j += 1;
+    'both: while i < mine.len() || j < theirs.len() {
+        let (first, second) = lowest(mine.get(i), theirs.get(j));
+        push_lowest(&mut merged, how, first, second)?;
+        i += usize::from(first.is_some());
+        j += usize::from(second.is_some());
     }
     Ok(merged)
 }

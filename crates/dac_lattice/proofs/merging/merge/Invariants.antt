@@ -1,4 +1,4 @@
-use Rattle.std.proofs.Common.{length, drop, ◌-◌, ◌+◌, ◌≡◌, ◌≤◌, ◌<◌, ◌++◌}
+use Rattle.std.proofs.Common.{length, drop, ◌+◌, ◌-◌, ◌≡◌, ◌≤◌, ◌++◌}
 use Rattle.dac_lattice.specs.Entries.{merge_entries}
 use Rattle.dac_lattice.proofs.merging.merge.Given as goal
 
@@ -6,29 +6,11 @@ use Rattle.dac_lattice.proofs.merging.merge.Given as goal
 abbrev pub invariant-both : goal.invariant-both
 invariant-both g l =
     let merge = merge_entries g.K.Ord.cmp (g.C.Combine.combined l.how) in
-    l.merged.items ++ merge (drop l.i l.mine) (drop l.j l.theirs) ≡ merge l.mine l.theirs
+    record {
+      so_far : l.merged.items ++ merge (drop l.i l.mine) (drop l.j l.theirs) ≡ merge l.mine l.theirs;
+      first : l.i ≤ length l.mine;
+      second : l.j ≤ length l.theirs;
+    }
 
 abbrev pub decreases-both : goal.decreases-both
 decreases-both g l = (length l.mine - l.i) + (length l.theirs - l.j)
-
-abbrev pub invariant-mine : goal.invariant-mine
-invariant-mine g l =
-    let merge = merge_entries g.K.Ord.cmp (g.C.Combine.combined l.how) in
-    record {
-      so_far : l.merged.items ++ merge (drop l.i l.mine) (drop l.j l.theirs) ≡ merge l.mine l.theirs;
-      one_left : l.i < length l.mine → length l.theirs ≤ l.j;
-    }
-
-abbrev pub decreases-mine : goal.decreases-mine
-decreases-mine g l = length l.mine - l.i
-
-abbrev pub invariant-theirs : goal.invariant-theirs
-invariant-theirs g l =
-    let merge = merge_entries g.K.Ord.cmp (g.C.Combine.combined l.how) in
-    record {
-      so_far : l.merged.items ++ merge (drop l.i l.mine) (drop l.j l.theirs) ≡ merge l.mine l.theirs;
-      mine_done : length l.mine ≤ l.i;
-    }
-
-abbrev pub decreases-theirs : goal.decreases-theirs
-decreases-theirs g l = length l.theirs - l.j
