@@ -1,6 +1,6 @@
 -- Sets that grow by those dots of a list that pass a test, and sets that lose those that another lacks. And the dots
 -- of stores in a list.
-use Rattle.std.proofs.Common.{◌≡◌, ℕ, ◌+◌, ◌<◌, ◌≤◌, zero, suc, Bool, true, false, not, ◌&&◌, ◌||◌, inl, inr, List, [], ◌∷◌, ◌++◌, length, get_or, take, refl, sym, ap, subst, ◌∙◌, arith}
+use Rattle.std.proofs.Common.{◌≡◌, ℕ, ◌+◌, ◌<◌, ◌≤◌, zero, suc, Bool, true, false, not, ◌&&◌, ◌||◌, inl, inr, List, [], ◌∷◌, ◌++◌, Result, Ok, Err, OnErr, length, get_or, take, refl, sym, ap, subst, ◌∙◌, arith}
 use Rattle.std.specs.Ordering.{eq_by_cmp}
 use Rattle.std.specs.List.{All}
 use Rattle.std.specs.Cmp.{Equal-is}
@@ -116,6 +116,12 @@ loses_nothing t ks had q = sym (and_all (set.contains had q) (set.contains t q))
     and_all true true = refl
     and_all true false = refl
     and_all false t = refl
+
+-- ---- calls that fail
+
+pub fails_so : {T E P : Type 0} (r : Result T E) → P → OnErr r P
+fails_so (Ok x) p = tt
+fails_so (Err e) p = p
 
 -- ---- stores in a list
 
