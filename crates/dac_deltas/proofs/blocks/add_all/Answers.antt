@@ -1,7 +1,9 @@
-use Rattle.std.proofs.Common.{length, take, ap, sym, subst, ◌∙◌, arith}
+use Rattle.std.proofs.Common.{◌≡◌, ◌++◌, length, take, ap, sym, subst, ◌∙◌, arith}
 use Rattle.std.proofs.lemmas.Result.{IfOk-from_err}
-use Rattle.dac_deltas.specs.Endings.{AreJoined}
+use Rattle.std.specs.Vec.Iter.{into_iter_items}
+use Rattle.dac_deltas.specs.Endings.{AreJoined, deltas_of}
 use Rattle.dac_deltas.proofs.Joining.{added_one}
+use Rattle.dac_deltas.proofs.Copying.{copied_whole}
 use Rattle.dac_deltas.proofs.blocks.add_all.Goals as goal
 
 pub loop-delta-preserved : goal.loop-delta-preserved
@@ -39,3 +41,10 @@ returns-clause-joined g c = c.loop-delta.invariant.joined
 
 pub returns-clause-before : goal.returns-clause-before
 returns-clause-before g c = c.loop-delta.invariant.before
+
+pub returns-clause-added : goal.returns-clause-added
+returns-clause-added g c =
+    let left = into_iter_items c.loop-delta.delta-iterator in
+    let many = c.loop-delta.delta-iterator.rest.ok.0 in
+    let none : length left ≡ 0 = let gone = c.in-None.ensures.steps.0 in omega arith in
+    copied_whole (deltas_of c.loop-delta.kept.items) left (deltas_of c.args.kept.now.items ++ c.args.deltas.items) none c.loop-delta.invariant.added
