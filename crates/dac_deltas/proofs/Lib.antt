@@ -4,3 +4,4 @@ mod Few
 mod Joining
 mod Listing
 mod Tables
+mod Copying

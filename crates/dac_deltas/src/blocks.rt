@@ -53,6 +53,39 @@ fn longest<'a, L>(delta: &'a L, joins: &'a [L]) -> &'a L
     }
 }
 
+/// The joins of all blocks of 2 deltas and more that end with a delta, where it comes next after those that are kept.
+fn joins_after<L: Lattice>(
+    alloc: Global,
+    kept: &VecDeque<Ending<L>>,
+    base: u64,
+    delta: &L,
+) -> Result<Vec<L>, NoMemory>
+    requires joined { AreJoined L.is_value L.join base kept.now.items }
+    requires room { base + length kept.now.items < MAX_COUNTER }
+    ensures { IfOk result (λ joins. HasJoins L.is_value L.join (base + (length kept.now.items + 1)) (deltas_of kept.now.items ++ delta.now ∷ []) (delta.now, joins.items)) }
+{
+    delta.known();
+    let most = kept.len() as u64 + 1;
+    let mut joins = Vec::new(alloc);
+    for level in 0..level_at(base + most, most) {
+        let before = kept[kept.len() - (1 << level)].block(level);
+        let joined = before.join(longest(delta, &joins))?;
+        joins.push(joined)?;
+    }
+    Ok(joins)
+}
+
+/// Copies of some values, in their order.
+fn copy_all<L: Lattice>(alloc: Global, values: &[L]) -> Result<Vec<L>, NoMemory>
+    ensures { IfOk result (λ copied. copied.items ≡ values.now) }
+{
+    let mut copied = Vec::new(alloc);
+    for value in values {
+        copied.push(value.copy()?)?;
+    }
+    Ok(copied)
+}
+
 impl<L: Lattice> Ending<L> {
     /// The join of the block of 2^level deltas that ends with this one.
     pub(crate) fn block(&self, level: usize) -> &L
@@ -78,14 +111,7 @@ impl<L: Lattice> Ending<L> {
         ensures delta { IfOk result (λ e. e.0 ≡ delta) }
         ensures joins { IfOk result (HasJoins L.is_value L.join (base + (length kept.now.items + 1)) (deltas_of kept.now.items ++ delta ∷ [])) }
     {
-        delta.known();
-        let most = kept.len() as u64 + 1;
-        let mut joins = Vec::new(alloc);
-        for level in 0..level_at(base + most, most) {
-            let before = kept[kept.len() - (1 << level)].block(level);
-            let joined = before.join(longest(&delta, &joins))?;
-            joins.push(joined)?;
-        }
+        let joins = joins_after(alloc, kept, base, &delta)?;
         Ok(Ending { delta, joins })
     }
 
@@ -93,13 +119,9 @@ impl<L: Lattice> Ending<L> {
     pub(crate) fn copy(&self) -> Result<Self, NoMemory>
         ensures { IfOk result (λ copied. copied ≡ self.now) }
     {
-        let mut joins = Vec::new(*self.joins.allocator());
-        for join in &self.joins {
-            joins.push(join.copy()?)?;
-        }
         Ok(Ending {
             delta: self.delta.copy()?,
-            joins,
+            joins: copy_all(*self.joins.allocator(), &self.joins)?,
         })
     }
 }

@@ -1,12 +1,12 @@
 -- Sets that grow by those dots of a list that pass a test, and sets that lose those that another lacks. And the dots
 -- of stores in a list.
-use Rattle.std.proofs.Common.{◌≡◌, ℕ, ◌+◌, ◌<◌, ◌≤◌, zero, suc, Bool, true, false, not, ◌&&◌, ◌||◌, inl, inr, List, [], ◌∷◌, length, get_or, take, refl, sym, ap, subst, ◌∙◌, arith}
+use Rattle.std.proofs.Common.{◌≡◌, ℕ, ◌+◌, ◌<◌, ◌≤◌, zero, suc, Bool, true, false, not, ◌&&◌, ◌||◌, inl, inr, List, [], ◌∷◌, ◌++◌, Result, Ok, Err, OnErr, length, get_or, take, refl, sym, ap, subst, ◌∙◌, arith}
 use Rattle.std.specs.Ordering.{eq_by_cmp}
 use Rattle.std.specs.List.{All}
 use Rattle.std.specs.Cmp.{Equal-is}
 use Rattle.std.specs.FinSet as set
 use Rattle.std.proofs.lemmas.Bool.{false≢true, or_cases, or_left, or_right}
-use Rattle.std.proofs.lemmas.List.{take_all}
+use Rattle.std.proofs.lemmas.List.{take_all, take_more}
 use Rattle.std.proofs.lemmas.List.Folds.{list_any_more}
 use Rattle.dac_dots.specs.Keys.{has_key}
 use Rattle.dac_dots.specs.laws.KeyLaws.{has_is}
@@ -117,6 +117,12 @@ loses_nothing t ks had q = sym (and_all (set.contains had q) (set.contains t q))
     and_all true false = refl
     and_all false t = refl
 
+-- ---- calls that fail
+
+pub fails_so : {T E P : Type 0} (r : Result T E) → P → OnErr r P
+fails_so (Ok x) p = tt
+fails_so (Err e) p = p
+
 -- ---- stores in a list
 
 -- the map holds the dots of each of its stores
@@ -124,6 +130,14 @@ pub has_at : {K S : Type 0} (has : S → Dot → Bool) (m : List (K × S)) (i : 
 has_at has [] i d x p e = absurd (omega arith)
 has_at has (f ∷ m) zero d x p e = or_left (has f.1 x) (has_in has m x) e
 has_at has (f ∷ m) (suc i) d x p e = or_right (has f.1 x) (has_in has m x) (has_at has m i d x (omega arith) e)
+
+-- one more entry is copied
+pub copied_more : {K S : Type 0} (xs : List (K × S)) (i : ℕ) (done new : List (K × S)) (e : K × S) (s : S) → i < length xs → e ≡ get_or xs i e → done ≡ take i xs → s ≡ e.1 → new ≡ done ++ (e.0, s) ∷ [] → new ≡ take (i + 1) xs
+copied_more {K} {S} xs i done new e s h is so_far same pushed =
+    pushed
+    ∙ ap (λ es. es ++ (e.0, s) ∷ []) so_far
+    ∙ ap (λ (f : K × S). take i xs ++ f ∷ []) (ap (λ (t : S). (e.0, t)) same ∙ is)
+    ∙ sym (take_more xs i e h)
 
 -- where the dots of each store are in a set, the map's are
 held_each : {K S : Type 0} (has : S → Dot → Bool) (c : Dots) (m : List (K × S)) → All (λ e. IsHeld (has e.1) c) m → IsHeld (has_in has m) c

@@ -40,10 +40,9 @@ impl<V: Lattice> DotFun<V> {
     pub fn one(alloc: Global, dot: Dot, value: V) -> Result<Self, NoMemory>
         ensures { IfOk result (λ store. store ≡ (dot, value) ∷ []) }
     {
-        value.known();
-        let mut entries = Vec::new(alloc);
-        entries.push((dot, value))?;
-        Ok(DotFun { entries })
+        let mut store = Self::empty(alloc);
+        store.push(dot, value)?;
+        Ok(store)
     }
 
     /// Appends a dot with its value, if it is above each dot of the store, and says whether it was. Where

@@ -43,12 +43,9 @@ impl<K: MapKey, S: DotStore> DotMap<K, S> {
     pub fn one(alloc: Global, key: K, store: S) -> Result<Self, NoMemory>
         ensures { IfOk result (λ map. map ≡ (if S.is_empty store then [] else (key, store) ∷ [])) }
     {
-        store.known();
-        let mut entries = Vec::new(alloc);
-        if !store.is_empty() {
-            entries.push((key, store))?;
-        }
-        Ok(DotMap { entries })
+        let mut map = Self::empty(alloc);
+        map.push(key, store)?;
+        Ok(map)
     }
 
     /// Appends a key with its store, if the key is above each key of the map and the store holds dots. Says whether

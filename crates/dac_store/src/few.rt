@@ -8,6 +8,7 @@ ghost use Rattle.dac_store.specs.Few.{dots_of};
 use dac_dots::keys::{insert_key, remove_key};
 use dac_dots::{Dot, NoMemory};
 use std::alloc::Global;
+use std::cmp::Ordering;
 use std::slice::from_ref;
 
 /// The dots of a set in rising order. A single one takes no memory.
@@ -110,11 +111,17 @@ fn one_or_two(alloc: Global, single: Dot, dot: Dot) -> Result<FewDots, NoMemory>
     ensures rising { IfOk result (λ both. IsRising dot_cmp (dots_of both)) }
     ensures ok { IfOk result (λ both. (q : _) → has_key dot_cmp (dots_of both) q ≡ (eq_by_cmp dot_cmp q dot || has_key dot_cmp (single ∷ []) q)) }
 {
-    if single.cmp(&dot).is_eq() {
-        return Ok(FewDots::One(dot));
+    match single.cmp(&dot) {
+        Ordering::Less => two(alloc, single, dot),
+        Ordering::Equal => Ok(FewDots::One(dot)),
+        Ordering::Greater => two(alloc, dot, single),
     }
-    let mut both = Vec::with_capacity(alloc, 2)?;
-    both.push(single)?;
-    insert_key(&mut both, dot)?;
+}
+
+/// Two dots, the lower one first.
+fn two(alloc: Global, lower: Dot, upper: Dot) -> Result<FewDots, NoMemory>
+    ensures { IfOk result (λ both. dots_of both ≡ lower ∷ upper ∷ []) }
+{
+    let both = Vec::from_slice(alloc, &[lower, upper])?;
     Ok(FewDots::Sorted(both))
 }

@@ -1,8 +1,8 @@
-use Rattle.std.proofs.Common.{◌≡◌, ◌+◌, ◌≤◌, fold, length, sym, ap, subst, ◌∙◌, arith}
+use Rattle.std.proofs.Common.{◌≡◌, ◌+◌, ◌≤◌, fold, length, take, sym, ap, subst, ◌∙◌, arith}
 use Rattle.dac_base.specs.declared.limits.TheConstants.{MAX_COUNTER}
 use Rattle.dac_deltas.specs.Kept.{Kept, newest, pushed}
 use Rattle.dac_deltas.specs.Endings.{AreJoined, IsKept, deltas_of}
-use Rattle.dac_deltas.proofs.Keeping.{kept_added, shown_added, base_is}
+use Rattle.dac_deltas.proofs.Keeping.{kept_added, shown_added, whole, base_is}
 use Rattle.dac_deltas.proofs.buffer.Buffer.push_all.Goals as goal
 
 pub add_all-requires-clause-joined : goal.add_all-requires-clause-joined
@@ -39,3 +39,30 @@ returns-clause-ok g c =
     ap (λ n. newest (count + n) (deltas_of new)) long
     ∙ (shown_added is_value join count es c.self.invariant c.add_all.new.kept.items new ds c.in_default.ensures.added c.keep_newest.ensures
     ∙ ap (λ k. fold pushed k ds) c.self.view_is)
+
+pub add_all-requires-clause-room : goal.add_all-requires-clause-room
+add_all-requires-clause-room g c =
+    let is_value = g.L.Lattice.is_value in
+    let join = g.L.Lattice.join in
+    let count = c.self.inside.count in
+    let es = c.self.inside.kept.items in
+    let base = base_is is_value join count es c.self.invariant c.args.self.now c.base-base.result c.self.view_is c.base-base.ensures in
+    let all = whole is_value join count es c.self.invariant in
+    let shown = ap (λ (k : Kept g.row.L.Denot). k.count) c.self.view_is in
+    omega arith
+
+pub invariant_of-self : goal.invariant_of-self
+invariant_of-self g c =
+    let back : c.truncate.new.self.items ≡ c.self.inside.kept.items = c.truncate.ensures.items ∙ (ap (λ n. take n c.add_all.new.kept.items) (c.len-before.ensures ∙ c.self.inside.kept.ok.0) ∙ c.in-Err.ensures.before) in
+    subst (IsKept g.L.Lattice.is_value g.L.Lattice.join c.self.inside.count) (sym back) c.self.invariant
+
+pub returns-in-Err-clause-err : goal.returns-in-Err-clause-err
+returns-in-Err-clause-err g c =
+    let back : c.truncate.new.self.items ≡ c.self.inside.kept.items = c.truncate.ensures.items ∙ (ap (λ n. take n c.add_all.new.kept.items) (c.len-before.ensures ∙ c.self.inside.kept.ok.0) ∙ c.in-Err.ensures.before) in
+    ap (λ es. newest c.self.inside.count (deltas_of es)) back ∙ c.self.view_is
+
+pub overflow_add-self : goal.overflow_add-self
+overflow_add-self g c =
+    let long = c.args.deltas.ok.0 in
+    let shown = ap (λ (k : Kept g.row.L.Denot). k.count) c.self.view_is in
+    omega arith

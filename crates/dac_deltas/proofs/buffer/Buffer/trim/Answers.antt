@@ -22,3 +22,14 @@ returns g c =
     let base = base_is is_value join count es c.self.invariant c.args.self.now c.base.result c.self.view_is c.base.ensures in
     shown_dropped is_value join count es c.self.invariant c.drop-drain.new.self.0.items c.args.n c.saturating_sub-dropped.result (omega arith) (c.drop-drain.ensures.items ∙ c.drain.ensures.kept)
     ∙ ap (λ k. trimmed k c.args.n) c.self.view_is
+
+pub drain-requires-clause-in_bounds : goal.drain-requires-clause-in_bounds
+drain-requires-clause-in_bounds g c =
+    let is_value = g.L.Lattice.is_value in
+    let join = g.L.Lattice.join in
+    let count = c.self.inside.count in
+    let es = c.self.inside.kept.items in
+    let base = base_is is_value join count es c.self.invariant c.args.self.now c.base.result c.self.view_is c.base.ensures in
+    let all = whole is_value join count es c.self.invariant in
+    let long = c.self.inside.kept.ok.0 in
+    omega arith

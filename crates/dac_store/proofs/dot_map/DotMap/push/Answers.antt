@@ -1,6 +1,9 @@
-use Rattle.std.proofs.Common.{◌∙◌, sym}
-use Rattle.dac_store.specs.DotMaps.{IsKept}
-use Rattle.dac_store.specs.Appending.{sorted_appended, find_appended}
+use Rattle.std.proofs.Common.{◌∙◌, ◌++◌, [], ◌∷◌, not, ap, sym, subst}
+use Rattle.std.proofs.lemmas.Bool.{and_from}
+use Rattle.std.proofs.lemmas.Result.{IfOk-from_err}
+use Rattle.dac_store.specs.DotMaps.{IsKept, IsKeyed}
+use Rattle.dac_store.specs.Appending.{is_above_entries, sorted_appended, find_appended}
+use Rattle.dac_store.proofs.Passing.{fails_so}
 use Rattle.dac_store.proofs.dot_map.DotMap.push.Goals as goal
 
 pub invariant_of-self-2 : goal.invariant_of-self-2
@@ -11,3 +14,30 @@ invariant_of-self-2 g c =
       in_order = sorted_appended g.met.K.Ord.total es e c.self.invariant.in_order (sym (rw c.deref.ensures.value at c.ends_below.ensures) ∙ c.if-not-ends_below.false);
       stores = λ q. find_appended g.met.K.Ord.total (IsKept g.S.DotStore.is_store g.S.DotStore.is_empty) es e q (c.self.invariant.stores q) (c.known.ensures, sym c.is_empty.ensures ∙ c.if-is_empty.false);
     })
+
+pub invariant_of-self : goal.invariant_of-self
+invariant_of-self g c = subst (IsKeyed g.K.Ord.cmp g.S.DotStore.is_store g.S.DotStore.is_empty) (sym c.in_err-push.ensures.items) c.self.invariant
+
+pub returns-in_err-push-clause-ok : goal.returns-in_err-push-clause-ok
+returns-in_err-push-clause-ok g c = IfOk-from_err c.from_residual.result _ c.from_residual.ensures.0
+
+pub returns-in_err-push-clause-new : goal.returns-in_err-push-clause-new
+returns-in_err-push-clause-new g c = IfOk-from_err c.from_residual.result _ c.from_residual.ensures.0
+
+pub returns-in_err-push-clause-err : goal.returns-in_err-push-clause-err
+returns-in_err-push-clause-err g c = fails_so c.from_residual.result (c.in_err-push.ensures.items ∙ c.self.view_is)
+
+pub returns-in_err-push-clause-last : goal.returns-in_err-push-clause-last
+returns-in_err-push-clause-last g c =
+    let above = sym (c.ends_below.ensures ∙ ap (λ es. is_above_entries g.K.Ord.cmp es c.args.key) (c.deref.ensures.value ∙ c.self.view_is)) ∙ c.if-not-ends_below.false in
+    let dots = ap not (sym c.is_empty.ensures ∙ c.if-is_empty.false) in
+    fails_so c.from_residual.result (and_from _ _ above dots)
+
+pub returns-clause-ok : goal.returns-clause-ok
+returns-clause-ok g c =
+    let above = sym (c.ends_below.ensures ∙ ap (λ es. is_above_entries g.K.Ord.cmp es c.args.key) (c.deref.ensures.value ∙ c.self.view_is)) ∙ c.if-not-ends_below.false in
+    let dots = ap not (sym c.is_empty.ensures ∙ c.if-is_empty.false) in
+    sym (and_from _ _ above dots)
+
+pub returns-clause-new : goal.returns-clause-new
+returns-clause-new g c = c.in_ok-push.ensures.items ∙ ap (λ es. es ++ (c.args.key, c.args.store) ∷ []) c.self.view_is
