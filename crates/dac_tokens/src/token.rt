@@ -4,7 +4,7 @@
 pub const MAX_DEPTH: usize = 64;
 
 /// A token that is one byte.
-#[derive(Clone, Copy, Debug, PartialEq, Eq, Hash)]
+#[derive(Clone, Copy, Debug, PartialEq, Eq)]
 pub enum Symbol {
     /// `[`
     OpenList,
@@ -62,4 +62,15 @@ pub enum Class {
     DoubleQuote,
     Refused,
     Unknown,
+}
+
+/// Bytes in a row of which a token is made.
+#[derive(Clone, Copy)]
+pub enum Run {
+    /// The digits of a number.
+    Digits,
+    /// A bare atom.
+    Name,
+    /// What stands between the quotes of an atom.
+    Quoted,
 }
