@@ -27,7 +27,12 @@ fn begins_small(name: &[u8]) -> bool
 fn all_name_bytes(name: &[u8]) -> bool
     ensures { result ≡ list_all is_name_byte name.now }
 {
-    name.iter().all(|byte| is_name_byte(*byte))
+    for byte in name {
+        if !is_name_byte(*byte) {
+            return false;
+        }
+    }
+    true
 }
 
 /// Whether the name is an atom without quotes: a small letter and further letters, digits, `_` and `@`, and

@@ -39,7 +39,12 @@ impl<'a> Parser<'a> {
 fn has_app(name: &[u8], apps: &[DraftApp<'_>]) -> bool
     ensures { result ≡ list_any (λ app. bytes_eq app.name.now name.now) apps.now }
 {
-    apps.iter().any(|app| app.name == name)
+    for app in apps {
+        if app.name == name {
+            return true;
+        }
+    }
+    false
 }
 
 /// Applications, each with another name.

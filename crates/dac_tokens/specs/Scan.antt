@@ -8,6 +8,8 @@ use Rattle.dac_tokens.specs.declared.fault.ConfigFault.{ConfigFault}
 use Rattle.dac_tokens.specs.declared.token.Symbol.TheVariants.{OpenList, CloseList, OpenTuple, CloseTuple, Comma, FullStop}
 use Rattle.dac_tokens.specs.declared.token.Class.{Class}
 use Rattle.dac_tokens.specs.declared.token.Class.TheVariants as class
+use Rattle.dac_tokens.specs.declared.token.Run.{Run}
+use Rattle.dac_tokens.specs.declared.token.Run.TheVariants as kind
 use Rattle.dac_tokens.specs.Words.{Word, Mark, Name, Number, Text, End}
 
 -- how many bytes at the front pass
@@ -51,6 +53,12 @@ is_name_byte b = is_ascii_alphanumeric b || b == 95 || b == 64
 -- what a quoted atom may hold
 abbrev pub is_quotable : ℕ → Bool
 is_quotable b = nat_le 32 b && not (b == 127) && not (b == 39) && not (b == 92)
+
+-- what each kind of run is made of
+abbrev pub goes_on : Run → ℕ → Bool
+goes_on kind.Digits = is_ascii_digit
+goes_on kind.Name = is_name_byte
+goes_on kind.Quoted = is_quotable
 
 -- a full stop's dot has a blank, a comment or the end behind it
 abbrev pub ends_stop : List ℕ → Bool

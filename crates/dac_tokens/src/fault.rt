@@ -9,7 +9,7 @@ use std::fmt;
 
 /// What is wrong at a place of the text. The number of each kind is its place in this list, from 1, and
 /// its name and number are part of the program's output.
-#[derive(Clone, Copy, Debug, PartialEq, Eq, Hash)]
+#[derive(Clone, Copy, Debug, PartialEq, Eq)]
 pub enum FaultKind {
     /// The text has more than 65,536 bytes.
     TooLong = 1,
@@ -83,7 +83,7 @@ impl fmt::Display for FaultKind {
 impl Error for FaultKind {}
 
 /// The first fault of a text, in text order.
-#[derive(Clone, Copy, Debug, PartialEq, Eq, Hash, thiserror::Error)]
+#[derive(Clone, Copy, Debug, PartialEq, Eq, thiserror::Error)]
 #[error("{kind} at {at}")]
 pub struct ConfigFault {
     /// What is wrong.

@@ -1,13 +1,12 @@
 //! One token, from the bytes that begin with it.
 
 ghost use Rattle.std.specs.Prelude.{◌≡◌, ◌+◌, ◌^◌, ◌<◌, ◌≤◌, false, length, take, drop};
-ghost use Rattle.std.specs.Char.{is_ascii_digit};
 ghost use Rattle.dac_tokens.specs.Gives.{Reads};
-ghost use Rattle.dac_tokens.specs.Scan.{after_gap, class_of, is_name_byte, is_quotable, run, ends_stop, breaks_number, atom_at, number_at, negative_at, quoted_at, two_quotes, string_at, word_at};
+ghost use Rattle.dac_tokens.specs.Scan.{after_gap, class_of, is_name_byte, is_quotable, goes_on, run, ends_stop, breaks_number, atom_at, number_at, negative_at, quoted_at, two_quotes, string_at, word_at};
 ghost use Rattle.dac_tokens.specs.Words.{word_of};
 
 use crate::fault::{ConfigFault, FaultKind};
-use crate::token::{Class, Symbol, Token};
+use crate::token::{Class, Run, Symbol, Token};
 
 pub fn fault(kind: FaultKind, at: usize) -> ConfigFault
     ensures { result ≡ record { kind = kind; at = at } }
@@ -69,25 +68,28 @@ fn is_quotable(b: u8) -> bool
     b >= b' ' && b != 0x7f && b != b'\'' && b != b'\\'
 }
 
-fn name_len(bytes: &[u8]) -> usize
-    ensures length { result ≡ run is_name_byte bytes.now }
-    ensures within { result ≤ length bytes.now }
+/// Whether the byte may stand in such a run.
+fn goes_on(run: Run, b: u8) -> bool
+    ensures { result ≡ goes_on run b }
 {
-    bytes.iter().take_while(|b| is_name_byte(**b)).count()
+    match run {
+        Run::Digits => b.is_ascii_digit(),
+        Run::Name => is_name_byte(b),
+        Run::Quoted => is_quotable(b),
+    }
 }
 
-fn quotable_len(bytes: &[u8]) -> usize
-    ensures length { result ≡ run is_quotable bytes.now }
+/// How many bytes at the front are such a run.
+fn run_len(kind: Run, bytes: &[u8]) -> usize
+    ensures length { result ≡ run (goes_on kind) bytes.now }
     ensures within { result ≤ length bytes.now }
 {
-    bytes.iter().take_while(|b| is_quotable(**b)).count()
-}
-
-fn digits_len(bytes: &[u8]) -> usize
-    ensures length { result ≡ run is_ascii_digit bytes.now }
-    ensures within { result ≤ length bytes.now }
-{
-    bytes.iter().take_while(|b| b.is_ascii_digit()).count()
+    for (len, b) in bytes.iter().enumerate() {
+        if !goes_on(kind, *b) {
+            return len;
+        }
+    }
+    bytes.len()
 }
 
 /// Whether a dot with these bytes behind it is a full stop.
@@ -114,7 +116,7 @@ fn breaks_number(bytes: &[u8]) -> bool
 fn atom_at(at: usize, bytes: &[u8]) -> Result<(Token<'_>, &[u8]), ConfigFault>
     ensures { Reads (λ x. (word_of x.0, x.1.now)) result (atom_at at bytes.now) }
 {
-    let (name, rest) = bytes.split_at(name_len(bytes));
+    let (name, rest) = bytes.split_at(run_len(Run::Name, bytes));
     if name == b"fun".as_slice() {
         return Err(fault(FaultKind::Unsupported, at));
     }
@@ -126,7 +128,7 @@ fn quoted_at(at: usize, bytes: &[u8]) -> Result<(Token<'_>, &[u8]), ConfigFault>
     requires { at + 1 + length bytes.now < 2 ^ 64 }
     ensures { Reads (λ x. (word_of x.0, x.1.now)) result (quoted_at at bytes.now) }
 {
-    let (name, rest) = bytes.split_at(quotable_len(bytes));
+    let (name, rest) = bytes.split_at(run_len(Run::Quoted, bytes));
     match rest {
         [] => Err(fault(FaultKind::BadToken, at)),
         [b'\'', rest @ ..] => Ok((Token::Atom(name), rest)),
@@ -137,7 +139,7 @@ fn quoted_at(at: usize, bytes: &[u8]) -> Result<(Token<'_>, &[u8]), ConfigFault>
 fn number_at(at: usize, negative: bool, bytes: &[u8]) -> Result<(Token<'_>, &[u8]), ConfigFault>
     ensures { Reads (λ x. (word_of x.0, x.1.now)) result (number_at at negative bytes.now) }
 {
-    let (digits, rest) = bytes.split_at(digits_len(bytes));
+    let (digits, rest) = bytes.split_at(run_len(Run::Digits, bytes));
     if breaks_number(rest) {
         return Err(fault(FaultKind::Unsupported, at));
     }
@@ -148,7 +150,7 @@ fn number_at(at: usize, negative: bool, bytes: &[u8]) -> Result<(Token<'_>, &[u8
 fn negative_at(at: usize, bytes: &[u8]) -> Result<(Token<'_>, &[u8]), ConfigFault>
     ensures { Reads (λ x. (word_of x.0, x.1.now)) result (negative_at at bytes.now) }
 {
-    if digits_len(bytes) == 0 {
+    if run_len(Run::Digits, bytes) == 0 {
         return Err(fault(FaultKind::BadToken, at));
     }
     number_at(at, true, bytes)
