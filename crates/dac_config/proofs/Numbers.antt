@@ -1,5 +1,5 @@
 -- From names to numbers: names in byte order, and that what is numbered is what is written, and nothing else is.
-use Rattle.std.proofs.Common.{◌≡◌, ℕ, zero, suc, ◌+◌, ◌<◌, ◌≤◌, Bool, true, false, ◌||◌, eqb, List, [], ◌∷◌, ◌++◌, length, map, map-id, drop, get_or, fold, slice_get, All, Bor, Ordering, Less, Equal, Greater, nat_cmp, bytes_eq, refl, sym, ap, subst, ◌∙◌, inl, inr, arith}
+use Rattle.std.proofs.Common.{◌≡◌, ℕ, zero, suc, ◌+◌, ◌<◌, ◌≤◌, Bool, true, false, ◌||◌, cond, eqb, List, [], ◌∷◌, ◌++◌, length, map, map-id, drop, get_or, fold, slice_get, All, Bor, Ordering, Less, Equal, Greater, nat_cmp, bytes_eq, refl, sym, ap, subst, ◌∙◌, inl, inr, arith, append_assoc}
 use Rattle.std.specs.Ordering.{match_ordering, ordering_reverse, eq_by_cmp}
 use Rattle.std.specs.Cmp.{IsTotalOrder, unsigned_ties}
 use Rattle.std.specs.Cmp.Lexicographic.{texts_ties}
@@ -233,6 +233,18 @@ small_numbered w limits spelled = record {
       All-map (All below) (numbers_from 0 (numbered_nodes w)) (get_or w.apps i d).groups (λ j e _. numbers_below 0 (length (numbered_nodes w)) (numbered_nodes w) (get_or (get_or w.apps i d).groups j e) (omega arith))));
   said = By spelled.0 (record { written = w; spelled = spelled.1; numbers = numbered_says w }) limits;
 }
+
+-- one node more, whose number is given where the group names it
+pub numbers_more : (ns new : List ℕ) (i : ℕ) (nodes : List Node) (node : Node) (group : List (List ℕ)) (total : List ℕ) (named : Bool) → node ≡ get_or nodes i node → i < length nodes → named ≡ is_among node.name.items group → new ≡ cond named (ns ++ i ∷ []) ns
+    → ns ++ numbers_from i (map node_row (drop i nodes)) group ≡ total → new ++ numbers_from (i + 1) (map node_row (drop (i + 1) nodes)) group ≡ total
+numbers_more ns new i nodes node group total named here within tells is h =
+    let next = numbers_from (i + 1) (map node_row (drop (i + 1) nodes)) group in
+    let left : numbers_from i (map node_row (drop i nodes)) group ≡ cond named (i ∷ next) next = rw (drop_more nodes i node within, ← here, tells) refl in
+    ap (λ l. l ++ next) is ∙ by named next ∙ ap (λ l. ns ++ l) (sym left) ∙ h
+  where
+    by : (b : Bool) (next : List ℕ) → cond b (ns ++ i ∷ []) ns ++ next ≡ ns ++ cond b (i ∷ next) next
+    by true next = append_assoc ns (i ∷ []) next
+    by false next = refl
 
 -- tables whose nodes and applications are numbered are the configuration that the text says
 pub table_numbered : (w : Written) (c : Inside) (nodes : List Node) → map node_row c.nodes.items ≡ numbered_nodes w → nodes ≡ c.nodes.items

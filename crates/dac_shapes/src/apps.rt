@@ -39,12 +39,7 @@ impl<'a> Parser<'a> {
 fn has_app(name: &[u8], apps: &[DraftApp<'_>]) -> bool
     ensures { result ≡ list_any (λ app. bytes_eq app.name.now name.now) apps.now }
 {
-    for app in apps {
-        if app.name == name {
-            return true;
-        }
-    }
-    false
+    apps.iter().any(|app| app.name == name)
 }
 
 /// Applications, each with another name.

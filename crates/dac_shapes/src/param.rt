@@ -102,22 +102,12 @@ impl Section<'_> {
 pub fn has_param(name: ParamName, params: &[Param<'_>]) -> bool
     ensures { result ≡ list_any (λ param. is_named name (name_of (param_of param))) params.now }
 {
-    for param in params {
-        if param.is(name) {
-            return true;
-        }
-    }
-    false
+    params.iter().any(|param| param.is(name))
 }
 
 /// Whether one of the sections is `kernel`.
 pub fn has_kernel(sections: &[Section<'_>]) -> bool
     ensures { result ≡ list_any (λ section. is_kernel (section_of section)) sections.now }
 {
-    for section in sections {
-        if section.is_kernel() {
-            return true;
-        }
-    }
-    false
+    sections.iter().any(Section::is_kernel)
 }
