@@ -67,12 +67,7 @@ fn place_of_node(nodes: &[Node], name: &[u8]) -> Option<usize>
     ensures place { result ≡ position (λ node. bytes_eq name.now node.name.items) nodes.now }
     ensures within { IfSome result (λ at. at < length nodes.now) }
 {
-    for (at, node) in nodes.iter().enumerate() {
-        if name == node.name.as_slice() {
-            return Some(at);
-        }
-    }
-    None
+    nodes.iter().position(|node| name == node.name.as_slice())
 }
 
 /// The place of the first group that has the node.
@@ -80,12 +75,7 @@ fn place_of_group(groups: &[Vec<u8>], node: u8) -> Option<usize>
     ensures place { result ≡ position (λ group. list_any (λ other. other == node) group.items) groups.now }
     ensures within { IfSome result (λ at. at < length groups.now) }
 {
-    for (at, group) in groups.iter().enumerate() {
-        if group.contains(&node) {
-            return Some(at);
-        }
-    }
-    None
+    groups.iter().position(|group| group.contains(&node))
 }
 
 impl Config {

@@ -27,12 +27,7 @@ fn begins_small(name: &[u8]) -> bool
 fn all_name_bytes(name: &[u8]) -> bool
     ensures { result ≡ list_all is_name_byte name.now }
 {
-    for byte in name {
-        if !is_name_byte(*byte) {
-            return false;
-        }
-    }
-    true
+    name.iter().all(|byte| is_name_byte(*byte))
 }
 
 /// Whether the name is an atom without quotes: a small letter and further letters, digits, `_` and `@`, and
