@@ -4,7 +4,7 @@
 pub const MAX_DEPTH: usize = 64;
 
 /// A token that is one byte.
-#[derive(Clone, Copy, PartialEq, Eq)]
+#[derive(Clone, Copy, Debug, PartialEq, Eq)]
 pub enum Symbol {
     /// `[`
     OpenList,
@@ -21,7 +21,7 @@ pub enum Symbol {
 }
 
 /// A token, by the bytes of the text that it was read from.
-#[derive(Clone, Copy, PartialEq, Eq)]
+#[derive(Clone, Copy, Debug, PartialEq, Eq)]
 pub enum Token<'a> {
     /// A bracket, a comma or the full stop.
     Symbol(Symbol),
@@ -41,7 +41,7 @@ pub enum Token<'a> {
 }
 
 /// A token, and where it stands.
-#[derive(Clone, Copy, PartialEq, Eq)]
+#[derive(Clone, Copy, Debug, PartialEq, Eq)]
 pub struct Located<'a> {
     /// The token.
     pub token: Token<'a>,
