@@ -84,12 +84,7 @@ fn run_len(kind: Run, bytes: &[u8]) -> usize
     ensures length { result ≡ run (goes_on kind) bytes.now }
     ensures within { result ≤ length bytes.now }
 {
-    for (len, b) in bytes.iter().enumerate() {
-        if !goes_on(kind, *b) {
-            return len;
-        }
-    }
-    bytes.len()
+    bytes.iter().take_while(|b| goes_on(kind, **b)).count()
 }
 
 /// Whether a dot with these bytes behind it is a full stop.
