@@ -1,9 +1,10 @@
-use Rattle.std.proofs.Common.{◌∙◌, ◌||◌, refl, ap, sym, rules}
+use Rattle.std.proofs.Common.{◌∙◌, ◌||◌, refl, ap, sym}
 use Rattle.std.specs.Ordering.{nat_cmp}
 use Rattle.std.proofs.lemmas.Bool.{lt-ltb, le-ltb}
 use Rattle.std.proofs.lemmas.List.{take_all}
 use Rattle.dac_dots.specs.Keys.{has_key}
 use Rattle.dac_dots.specs.Runs.{any_past}
+use Rattle.dac_dots.proofs.Failures.{no_success}
 use Rattle.dac_dots.proofs.RunLemmas.{valid_at, past_more, past_same}
 use Rattle.dac_dots.proofs.counters.list_past.Goals as goal
 use Rattle.dac_dots.proofs.counters.list_past.Goals.{then-upto-run+in_ok-list_run, else-upto-run}
@@ -30,7 +31,7 @@ pub list_run-requires-clause-rising : goal.list_run-requires-clause-rising
 list_run-requires-clause-rising c = c.loop-run.invariant.rising
 
 pub returns-in_err-list_run : goal.returns-in_err-list_run
-returns-in_err-list_run c = record { rising = c.list_run.ensures.rising; ok = search rules }
+returns-in_err-list_run c = record { rising = c.list_run.ensures.rising; ok = no_success _ c.from_residual.result c.from_residual.ensures.0 }
 
 pub returns : goal.returns
 returns c = record {
