@@ -1,4 +1,5 @@
-use Rattle.std.proofs.Common.{arith, rules}
+use Rattle.std.proofs.Common.{arith}
+use Rattle.dac_dots.proofs.Failures.{no_success}
 use Rattle.dac_dots.proofs.RunLemmas.{none_listed, one_listed, all_listed}
 use Rattle.dac_dots.proofs.counters.list_run.Goals as goal
 
@@ -21,10 +22,10 @@ loop-n-preserved c = record {
 }
 
 pub returns-in_err-insert_key : goal.returns-in_err-insert_key
-returns-in_err-insert_key c = record { rising = c.insert_key.ensures.rising; ok = search rules }
+returns-in_err-insert_key c = record { rising = c.insert_key.ensures.rising; ok = no_success _ c.from_residual.result c.from_residual.ensures.0 }
 
 pub returns-in_err-insert_key-2 : goal.returns-in_err-insert_key-2
-returns-in_err-insert_key-2 c = record { rising = c.insert_key-2.ensures.rising; ok = search rules }
+returns-in_err-insert_key-2 c = record { rising = c.insert_key-2.ensures.rising; ok = no_success _ c.from_residual-in_err-insert_key-2.result c.from_residual-in_err-insert_key-2.ensures.0 }
 
 pub returns : goal.returns
 returns c =

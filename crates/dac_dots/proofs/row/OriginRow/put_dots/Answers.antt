@@ -1,4 +1,5 @@
-use Rattle.std.proofs.Common.{◌∙◌, rules}
+use Rattle.std.proofs.Common.{◌∙◌}
+use Rattle.dac_dots.proofs.Failures.{no_success}
 use Rattle.dac_dots.proofs.LenLemmas.{none_put, further_more, row_put}
 use Rattle.dac_dots.proofs.row.OriginRow.put_dots.Goals as goal
 
@@ -15,10 +16,10 @@ pub insert_key-requires : goal.insert_key-requires
 insert_key-requires c = c.loop-n.invariant.rising
 
 pub returns-in_err-insert_key : goal.returns-in_err-insert_key
-returns-in_err-insert_key c = record { rising = c.insert_key.ensures.rising; ok = search rules }
+returns-in_err-insert_key c = record { rising = c.insert_key.ensures.rising; ok = no_success _ c.from_residual-in_err-insert_key.result c.from_residual-in_err-insert_key.ensures.0 }
 
 pub returns-in_err-counters : goal.returns-in_err-counters
-returns-in_err-counters c = record { rising = c.requires; ok = search rules }
+returns-in_err-counters c = record { rising = c.requires; ok = no_success _ c.from_residual.result c.from_residual.ensures.0 }
 
 pub returns-clause-rising : goal.returns-clause-rising
 returns-clause-rising c = c.loop-n.invariant.rising
