@@ -1,8 +1,5 @@
 //! What a journal and a seat keep of a call.
 
-ghost use Rattle.std.specs.Prelude.{◌≡◌, IfOk};
-
-use dac_base::NoMemory;
 use dac_commands::Refusal;
 use dac_messages::{Event, Reply};
 
