@@ -3,7 +3,7 @@ use Rattle.std.specs.Prelude.{ℕ, List, map, length, Result}
 use Rattle.std.specs.Borrow.{Bor}
 use Rattle.std.specs.Global.{Vec}
 use Rattle.dac_tokens.specs.declared.fault.ConfigFault.{ConfigFault}
-use Rattle.dac_tokens.specs.Words.{Located}
+use Rattle.dac_tokens.specs.Words.{Located, located_of}
 use Rattle.dac_shapes.specs.declared.parser.Parser.{Parser}
 use Rattle.dac_shapes.specs.declared.draft.DraftApp.{DraftApp}
 use Rattle.dac_shapes.specs.declared.draft.Draft.{Draft}
@@ -58,6 +58,10 @@ draft_of d = record { apps = apps_of d.apps.items; permissions = permissions_of 
 
 abbrev pub parser_state : Parser → State
 parser_state p = record { left = p.tokens; seen = record { met = names_of p.met.items; listed = names_of p.listed.items } }
+
+-- the token that was read last, and what is left behind it
+abbrev pub here : Parser → Located × State
+here p = (located_of p.token, parser_state p)
 
 abbrev pub tokens_left : Parser → ℕ
 tokens_left p = length p.tokens.tokens

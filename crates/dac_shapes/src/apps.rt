@@ -12,26 +12,26 @@ ghost use Rattle.dac_shapes.specs.Written.{App};
 use crate::draft::DraftApp;
 use crate::limits::MAX_APPS;
 use crate::list::Elements;
-use crate::names::{fault, short_name_of};
 use crate::numbers::milliseconds_of;
 use crate::pairs::Pair;
 use crate::parser::Parser;
-use dac_tokens::{ConfigFault, FaultKind, Located, Symbol, Token};
+use dac_tokens::{ConfigFault, FaultKind, Symbol, Token};
 use std::alloc::Global;
 
-impl<'a> Parser<'a> {
-    /// The timeout of an application, if the token is a number, and the token after it and its comma.
+impl Parser<'_> {
+    /// The timeout of an application, if the token is a number, and 0 if not. Behind a timeout and its comma the next
+    /// token is read.
     #[tactic(auto, unfolding(crate::specs::Shape::timeout_at))]
-    fn timeout(&mut self, token: Located<'a>) -> Result<(u32, Located<'a>), ConfigFault>
-        ensures read { Gives (λ x. (x.0, located_of x.1, parser_state self.new)) result (timeout_at (located_of token.entry) (parser_state self.old)) }
+    fn timeout(&mut self) -> Result<u32, ConfigFault>
+        ensures read { Gives (λ ms. (ms, located_of self.new.token, parser_state self.new)) result (timeout_at (located_of self.old.token) (parser_state self.old)) }
         ensures left { tokens_left self.new ≤ tokens_left self.old }
     {
-        let Token::Number { negative, digits } = token.token else {
-            return Ok((0, token));
+        let Token::Number { negative, digits } = self.token.token else {
+            return Ok(0);
         };
-        let timeout = milliseconds_of(token.at, negative, digits)?;
-        let next = self.behind(Symbol::Comma)?;
-        Ok((timeout, next))
+        let timeout = milliseconds_of(self.token.at, negative, digits)?;
+        self.behind(Symbol::Comma)?;
+        Ok(timeout)
     }
 }
 
@@ -59,9 +59,8 @@ impl<'a> Elements<'a> for Apps {
         parser: &mut Parser<'a>,
         alloc: Global,
         before: &[DraftApp<'a>],
-        token: Located<'a>,
     ) -> Result<DraftApp<'a>, ConfigFault> {
-        parser.pair::<Apps>(alloc, before, token)
+        parser.pair::<Apps>(alloc, before)
     }
 }
 
@@ -83,13 +82,13 @@ impl<'a> Pair<'a> for Apps {
     ghost rest_at = { λ name. closed (app_value_at name) };
 
     #[tactic(auto, using(crate::proofs::Loops::apps), unfolding(crate::specs::Shape::app_name_of))]
-    fn name(before: &[DraftApp<'a>], token: Located<'a>) -> Result<&'a [u8], ConfigFault> {
-        let name = short_name_of(token)?;
+    fn name(parser: &Parser<'a>, before: &[DraftApp<'a>]) -> Result<&'a [u8], ConfigFault> {
+        let name = parser.short_name()?;
         if has_app(name, before) {
-            return Err(fault(FaultKind::TwiceApp, token.at));
+            return Err(parser.fault(FaultKind::TwiceApp));
         }
         if before.len() >= MAX_APPS {
-            return Err(fault(FaultKind::TooManyApps, token.at));
+            return Err(parser.fault(FaultKind::TooManyApps));
         }
         Ok(name)
     }
@@ -100,9 +99,9 @@ impl<'a> Pair<'a> for Apps {
         alloc: Global,
         name: &'a [u8],
     ) -> Result<DraftApp<'a>, ConfigFault> {
-        let first = parser.next()?;
-        let (timeout, bracket) = parser.timeout(first)?;
-        let groups = parser.groups(alloc, bracket)?;
+        parser.advance()?;
+        let timeout = parser.timeout()?;
+        let groups = parser.groups(alloc)?;
         parser.closed(DraftApp {
             name,
             timeout,

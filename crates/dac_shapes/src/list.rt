@@ -7,9 +7,8 @@ ghost use Rattle.dac_tokens.specs.Gives.{Gives};
 ghost use Rattle.dac_shapes.specs.Shape.{comma_list, list_of, room};
 ghost use Rattle.dac_shapes.specs.Views.{Reading, parser_state, tokens_left};
 
-use crate::names::is_mark;
 use crate::parser::Parser;
-use dac_tokens::{ConfigFault, Located, Symbol};
+use dac_tokens::{ConfigFault, Symbol};
 use std::alloc::Global;
 
 /// A kind of thing that may stand in a list: how one element is read, after those before it.
@@ -25,39 +24,36 @@ pub trait Elements<'a> {
     // what the definition of the shapes reads
     ghost read_at: { Self → Reading Said };
 
-    /// The element that begins with this token.
+    /// The element that begins with the parser's token.
     fn read(
         &self,
         parser: &mut Parser<'a>,
         alloc: Global,
         before: &[Self::Element],
-        token: Located<'a>,
     ) -> Result<Self::Element, ConfigFault>
-        ensures read { Gives (λ x. (said x, parser_state parser.new)) result (read_at self.now (map said before.now) (located_of token.entry) (parser_state parser.old)) }
+        ensures read { Gives (λ x. (said x, parser_state parser.new)) result (read_at self.now (map said before.now) (located_of parser.old.token) (parser_state parser.old)) }
         ensures left { tokens_left parser.new ≤ tokens_left parser.old };
 }
 
 impl<'a> Parser<'a> {
-    /// Elements parted by commas, from the first one's first token on up to the closing symbol.
+    /// Elements parted by commas, of which the first begins with the token, up to the closing symbol.
     pub fn parted<E: Elements<'a>>(
         &mut self,
         alloc: Global,
         elements: &E,
         close: Symbol,
-        first: Located<'a>,
     ) -> Result<Vec<E::Element>, ConfigFault>
-        ensures read { Gives (λ all. (map E.said all.items, parser_state self.new)) result (comma_list (E.read_at elements.now) close (room (parser_state self.old)) [] (located_of first.entry) (parser_state self.old)) }
+        ensures read { Gives (λ all. (map E.said all.items, parser_state self.new)) result (comma_list (E.read_at elements.now) close (room (parser_state self.old)) [] (located_of self.old.token) (parser_state self.old)) }
         ensures left { tokens_left self.new ≤ tokens_left self.old }
     {
         let mut all = Vec::new(alloc);
-        let mut token = first;
         loop {
-            let element = elements.read(self, alloc, &all, token)?;
+            let element = elements.read(self, alloc, &all)?;
             all.push(element)?;
             if !self.more(close)? {
                 return Ok(all);
             }
-            token = self.next()?;
+            self.advance()?;
         }
     }
 
@@ -71,10 +67,10 @@ impl<'a> Parser<'a> {
         ensures read { Gives (λ all. (map E.said all.items, parser_state self.new)) result (list_of (E.read_at elements.now) (parser_state self.old)) }
         ensures left { tokens_left self.new ≤ tokens_left self.old }
     {
-        let first = self.behind(Symbol::OpenList)?;
-        if is_mark(Symbol::CloseList, first.token) {
+        self.behind(Symbol::OpenList)?;
+        if self.is(Symbol::CloseList) {
             return Ok(Vec::new(alloc));
         }
-        self.parted(alloc, elements, Symbol::CloseList, first)
+        self.parted(alloc, elements, Symbol::CloseList)
     }
 }

@@ -8,9 +8,9 @@ ghost use Rattle.dac_shapes.specs.Views.{names_of, groups_of, parser_state, toke
 
 use crate::limits::MAX_NODES;
 use crate::list::Elements;
-use crate::names::{fault, is_among, is_mark, short_name_of};
-use crate::parser::Parser;
-use dac_tokens::{ConfigFault, FaultKind, Located, Symbol};
+use crate::names::is_among;
+use crate::parser::{Parser, fault};
+use dac_tokens::{ConfigFault, FaultKind, Symbol};
 use std::alloc::Global;
 
 /// Nodes by their names.
@@ -33,9 +33,8 @@ impl<'a> Elements<'a> for Nodes {
         parser: &mut Parser<'a>,
         _alloc: Global,
         _before: &[&'a [u8]],
-        token: Located<'a>,
     ) -> Result<&'a [u8], ConfigFault> {
-        parser.node(self.repeats, token)
+        parser.node(self.repeats)
     }
 }
 
@@ -57,12 +56,11 @@ impl<'a> Elements<'a> for Groups {
         parser: &mut Parser<'a>,
         alloc: Global,
         _before: &[Vec<&'a [u8]>],
-        token: Located<'a>,
     ) -> Result<Vec<&'a [u8]>, ConfigFault> {
-        if is_mark(Symbol::OpenTuple, token.token) {
-            return parser.tuple(alloc, token.at);
+        if parser.is(Symbol::OpenTuple) {
+            return parser.tuple(alloc);
         }
-        let name = parser.node(false, token)?;
+        let name = parser.node(false)?;
         let mut group = Vec::new(alloc);
         group.push(name)?;
         Ok(group)
@@ -70,19 +68,19 @@ impl<'a> Elements<'a> for Groups {
 }
 
 impl<'a> Parser<'a> {
-    /// The node that a token is, in the list that is being read.
+    /// The node that the token is, in the list that is being read.
     #[tactic(auto, unfolding(crate::specs::Shape::node_of))]
-    fn node(&mut self, repeats: bool, token: Located<'a>) -> Result<&'a [u8], ConfigFault>
-        ensures read { Gives (λ name. (name.now, parser_state self.new)) result (node_of repeats (located_of token.entry) (parser_state self.old)) }
+    fn node(&mut self, repeats: bool) -> Result<&'a [u8], ConfigFault>
+        ensures read { Gives (λ name. (name.now, parser_state self.new)) result (node_of repeats (located_of self.old.token) (parser_state self.old)) }
         ensures left { tokens_left self.new ≤ tokens_left self.old }
     {
-        let name = short_name_of(token)?;
+        let name = self.short_name()?;
         if !repeats && is_among(name, &self.listed) {
-            return Err(fault(FaultKind::TwiceInList, token.at));
+            return Err(self.fault(FaultKind::TwiceInList));
         }
         if !is_among(name, &self.met) {
             if self.met.len() >= MAX_NODES {
-                return Err(fault(FaultKind::TooManyNodes, token.at));
+                return Err(self.fault(FaultKind::TooManyNodes));
             }
             self.met.push(name)?;
         }
@@ -90,36 +88,34 @@ impl<'a> Parser<'a> {
         Ok(name)
     }
 
-    /// The nodes of a tuple, whose opening brace stands at this place.
-    fn tuple(&mut self, alloc: Global, at: usize) -> Result<Vec<&'a [u8]>, ConfigFault>
-        ensures read { Gives (λ group. (names_of group.items, parser_state self.new)) result (tuple_at at (parser_state self.old)) }
+    /// The nodes of a tuple, whose opening brace is the token.
+    fn tuple(&mut self, alloc: Global) -> Result<Vec<&'a [u8]>, ConfigFault>
+        ensures read { Gives (λ group. (names_of group.items, parser_state self.new)) result (tuple_at self.old.token.at (parser_state self.old)) }
         ensures left { tokens_left self.new ≤ tokens_left self.old }
     {
-        let first = self.next()?;
-        if is_mark(Symbol::CloseTuple, first.token) {
-            return Err(fault(FaultKind::EmptyTuple, at));
+        let brace = self.token.at;
+        self.advance()?;
+        if self.is(Symbol::CloseTuple) {
+            return Err(fault(FaultKind::EmptyTuple, brace));
         }
-        self.parted(alloc, &Nodes { repeats: false }, Symbol::CloseTuple, first)
+        self.parted(alloc, &Nodes { repeats: false }, Symbol::CloseTuple)
     }
 
     /// A node list, whose opening bracket is the token.
     #[tactic(auto, unfolding(crate::specs::Shape::groups_at))]
-    pub fn groups(
-        &mut self,
-        alloc: Global,
-        token: Located<'a>,
-    ) -> Result<Vec<Vec<&'a [u8]>>, ConfigFault>
-        ensures read { Gives (λ groups. (groups_of groups.items, parser_state self.new)) result (groups_at (located_of token.entry) (parser_state self.old)) }
+    pub fn groups(&mut self, alloc: Global) -> Result<Vec<Vec<&'a [u8]>>, ConfigFault>
+        ensures read { Gives (λ groups. (groups_of groups.items, parser_state self.new)) result (groups_at (located_of self.old.token) (parser_state self.old)) }
         ensures left { tokens_left self.new ≤ tokens_left self.old }
     {
-        if !is_mark(Symbol::OpenList, token.token) {
-            return Err(fault(FaultKind::BadShape, token.at));
+        if !self.is(Symbol::OpenList) {
+            return Err(self.fault(FaultKind::BadShape));
         }
-        let first = self.next()?;
-        if is_mark(Symbol::CloseList, first.token) {
-            return Err(fault(FaultKind::EmptyList, token.at));
+        let bracket = self.token.at;
+        self.advance()?;
+        if self.is(Symbol::CloseList) {
+            return Err(fault(FaultKind::EmptyList, bracket));
         }
         self.listed.clear();
-        self.parted(alloc, &Groups, Symbol::CloseList, first)
+        self.parted(alloc, &Groups, Symbol::CloseList)
     }
 }

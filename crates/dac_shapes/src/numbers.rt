@@ -7,8 +7,9 @@ ghost use Rattle.dac_tokens.specs.Digits.{value_from};
 ghost use Rattle.dac_shapes.specs.Shape.{milliseconds_of, wait_of};
 
 use crate::draft::SyncWait;
-use crate::names::{fault, spells};
-use dac_tokens::{ConfigFault, FaultKind, Located, Token};
+use crate::names::spells;
+use crate::parser::{Parser, fault};
+use dac_tokens::{ConfigFault, FaultKind, Token};
 
 /// The number that the digits are, if it fits.
 fn number_of(digits: &[u8]) -> Option<u32>
@@ -45,17 +46,19 @@ pub fn milliseconds_of(at: usize, negative: bool, digits: &[u8]) -> Result<u32, 
     }
 }
 
-/// How long to wait at the start: a number, or `infinity`.
-#[tactic(auto, unfolding(crate::specs::Shape::wait_of))]
-pub fn wait_of(token: Located<'_>) -> Result<SyncWait, ConfigFault>
-    ensures { Gives (λ wait. wait) result (wait_of (located_of token.entry)) }
-{
-    match token.token {
-        Token::Number { negative, digits } => {
-            let ms = milliseconds_of(token.at, negative, digits)?;
-            Ok(SyncWait::Ms(ms))
+impl Parser<'_> {
+    /// How long to wait at the start: the token is a number, or `infinity`.
+    #[tactic(auto, unfolding(crate::specs::Shape::wait_of))]
+    pub fn wait(&self) -> Result<SyncWait, ConfigFault>
+        ensures { Gives (λ wait. wait) result (wait_of (located_of self.now.token)) }
+    {
+        match self.token.token {
+            Token::Number { negative, digits } => {
+                let ms = milliseconds_of(self.token.at, negative, digits)?;
+                Ok(SyncWait::Ms(ms))
+            }
+            Token::Atom(name) if spells(b"infinity", name) => Ok(SyncWait::Forever),
+            _ => Err(self.fault(FaultKind::BadShape)),
         }
-        Token::Atom(name) if spells(b"infinity", name) => Ok(SyncWait::Forever),
-        _ => Err(fault(FaultKind::BadShape, token.at)),
     }
 }

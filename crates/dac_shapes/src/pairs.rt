@@ -8,9 +8,8 @@ ghost use Rattle.dac_tokens.specs.Words.{Located as Place, located_of};
 ghost use Rattle.dac_shapes.specs.Shape.{State, pair_at, symbol_at};
 ghost use Rattle.dac_shapes.specs.Views.{parser_state, tokens_left};
 
-use crate::names::{fault, is_mark};
 use crate::parser::Parser;
-use dac_tokens::{ConfigFault, FaultKind, Located, Symbol};
+use dac_tokens::{ConfigFault, FaultKind, Symbol};
 use std::alloc::Global;
 
 /// A kind of pair: how its name is read, after the pairs before it, and what stands behind the name.
@@ -35,9 +34,9 @@ pub trait Pair<'a> {
 
     ghost rest_at: { Named → State → Result (Said × State) Fault };
 
-    /// The name that the token is.
-    fn name(before: &[Self::Element], token: Located<'a>) -> Result<Self::Name, ConfigFault>
-        ensures { Gives named result (name_at (map said before.now) (located_of token.entry)) };
+    /// The name that the parser's token is.
+    fn name(parser: &Parser<'a>, before: &[Self::Element]) -> Result<Self::Name, ConfigFault>
+        ensures { Gives named result (name_at (map said before.now) (located_of parser.now.token)) };
 
     /// What stands behind the comma, with the brace that closes the pair.
     fn rest(
@@ -56,16 +55,15 @@ impl<'a> Parser<'a> {
         &mut self,
         alloc: Global,
         before: &[P::Element],
-        token: Located<'a>,
     ) -> Result<P::Element, ConfigFault>
-        ensures read { Gives (λ x. (P.said x, parser_state self.new)) result (pair_at (P.name_at (map P.said before.now)) P.rest_at (located_of token.entry) (parser_state self.old)) }
+        ensures read { Gives (λ x. (P.said x, parser_state self.new)) result (pair_at (P.name_at (map P.said before.now)) P.rest_at (located_of self.old.token) (parser_state self.old)) }
         ensures left { tokens_left self.new ≤ tokens_left self.old }
     {
-        if !is_mark(Symbol::OpenTuple, token.token) {
-            return Err(fault(FaultKind::BadShape, token.at));
+        if !self.is(Symbol::OpenTuple) {
+            return Err(self.fault(FaultKind::BadShape));
         }
-        let first = self.next()?;
-        let name = P::name(before, first)?;
+        self.advance()?;
+        let name = P::name(self, before)?;
         self.symbol(Symbol::Comma)?;
         P::rest(self, alloc, name)
     }

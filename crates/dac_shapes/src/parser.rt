@@ -1,30 +1,73 @@
-//! What is left of a text.
+//! What is left of a text, and the token that was read last.
 
 ghost use Rattle.std.specs.Prelude.{◌≡◌, ◌<◌, ◌≤◌, IfOk, true, false};
 ghost use Rattle.dac_tokens.specs.Gives.{Gives};
 ghost use Rattle.dac_tokens.specs.Words.{located_of, word_of, is_end};
-ghost use Rattle.dac_shapes.specs.Shape.{token, symbol_at, behind_at, more_at};
-ghost use Rattle.dac_shapes.specs.Views.{parser_state, tokens_left};
+ghost use Rattle.dac_shapes.specs.Shape.{token, is_mark, is_text, symbol_at, behind_at, more_at};
+ghost use Rattle.dac_shapes.specs.Views.{here, parser_state, tokens_left};
 
-use crate::names::{fault, is_mark};
-use dac_tokens::{ConfigFault, FaultKind, Located, Symbol, Tokens};
+use dac_tokens::{ConfigFault, FaultKind, Located, Symbol, Token, Tokens};
 
-/// What is left of the text, the different nodes met so far, and those of the list that is being read.
+/// What is left of the text behind the token that was read last, the different nodes met so far, and those of the list
+/// that is being read.
 #[derive(Drop)]
 pub struct Parser<'a> {
     pub tokens: Tokens<'a>,
+    pub token: Located<'a>,
     pub met: Vec<&'a [u8]>,
     pub listed: Vec<&'a [u8]>,
 }
 
+pub fn fault(kind: FaultKind, at: usize) -> ConfigFault
+    ensures { result ≡ record { kind = kind; at = at } }
+{
+    ConfigFault { kind, at }
+}
+
 impl<'a> Parser<'a> {
-    /// The next token; behind the end stands the end again.
-    pub fn next(&mut self) -> Result<Located<'a>, ConfigFault>
+    fn next(&mut self) -> Result<Located<'a>, ConfigFault>
         ensures read { Gives (λ t. (located_of t, parser_state self.new)) result (token (parser_state self.old)) }
         ensures left { tokens_left self.new ≤ tokens_left self.old }
         ensures fewer { IfOk result (λ t. is_end (word_of t.token) ≡ false → tokens_left self.new < tokens_left self.old) }
     {
         self.tokens.next()
+    }
+
+    /// Reads the next token; behind the end stands the end again.
+    pub fn advance(&mut self) -> Result<(), ConfigFault>
+        ensures read { Gives (λ _. here self.new) result (token (parser_state self.old)) }
+        ensures left { tokens_left self.new ≤ tokens_left self.old }
+        ensures fewer { IfOk result (λ _. is_end (word_of self.new.token.token) ≡ false → tokens_left self.new < tokens_left self.old) }
+    {
+        self.token = self.next()?;
+        Ok(())
+    }
+
+    /// Whether the token is this symbol.
+    pub fn is(&self, symbol: Symbol) -> bool
+        ensures { result ≡ is_mark symbol (word_of self.now.token.token) }
+    {
+        match self.token.token {
+            Token::Symbol(other) => other == symbol,
+            _ => false,
+        }
+    }
+
+    /// Whether the token is a string.
+    pub fn is_text(&self) -> bool
+        ensures { result ≡ is_text (word_of self.now.token.token) }
+    {
+        match self.token.token {
+            Token::Text => true,
+            _ => false,
+        }
+    }
+
+    /// A fault at the token.
+    pub fn fault(&self, kind: FaultKind) -> ConfigFault
+        ensures { result ≡ record { kind = kind; at = self.now.token.at } }
+    {
+        fault(kind, self.token.at)
     }
 
     /// Passes over this symbol, which comes next.
@@ -33,21 +76,21 @@ impl<'a> Parser<'a> {
         ensures read { Gives (λ _. parser_state self.new) result (symbol_at symbol (parser_state self.old)) }
         ensures left { tokens_left self.new ≤ tokens_left self.old }
     {
-        let next = self.next()?;
-        if !is_mark(symbol, next.token) {
-            return Err(fault(FaultKind::BadShape, next.at));
+        self.advance()?;
+        if !self.is(symbol) {
+            return Err(self.fault(FaultKind::BadShape));
         }
         Ok(())
     }
 
-    /// The token behind this symbol, which comes next.
+    /// Reads the token behind this symbol, which comes next.
     #[tactic(auto)]
-    pub fn behind(&mut self, symbol: Symbol) -> Result<Located<'a>, ConfigFault>
-        ensures read { Gives (λ t. (located_of t, parser_state self.new)) result (behind_at symbol (parser_state self.old)) }
+    pub fn behind(&mut self, symbol: Symbol) -> Result<(), ConfigFault>
+        ensures read { Gives (λ _. here self.new) result (behind_at symbol (parser_state self.old)) }
         ensures left { tokens_left self.new ≤ tokens_left self.old }
     {
         self.symbol(symbol)?;
-        self.next()
+        self.advance()
     }
 
     /// Whether a comma comes next, or else this symbol.
@@ -57,12 +100,12 @@ impl<'a> Parser<'a> {
         ensures left { tokens_left self.new ≤ tokens_left self.old }
         ensures fewer { IfOk result (λ b. b ≡ true → tokens_left self.new < tokens_left self.old) }
     {
-        let next = self.next()?;
-        if is_mark(Symbol::Comma, next.token) {
+        self.advance()?;
+        if self.is(Symbol::Comma) {
             return Ok(true);
         }
-        if !is_mark(close, next.token) {
-            return Err(fault(FaultKind::BadShape, next.at));
+        if !self.is(close) {
+            return Err(self.fault(FaultKind::BadShape));
         }
         Ok(false)
     }

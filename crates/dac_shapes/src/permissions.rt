@@ -9,25 +9,27 @@ ghost use Rattle.dac_shapes.specs.Written.{Permission as WrittenPermission};
 
 use crate::draft::Permission;
 use crate::list::Elements;
-use crate::names::{atom_of, fault, short_name_of, spells};
+use crate::names::spells;
 use crate::pairs::Pair;
 use crate::parser::Parser;
-use dac_tokens::{ConfigFault, FaultKind, Located};
+use dac_tokens::{ConfigFault, FaultKind};
 use std::alloc::Global;
 
-/// `true` or `false`.
-#[tactic(auto, unfolding(crate::specs::Shape::flag_of))]
-fn flag_of(token: Located<'_>) -> Result<bool, ConfigFault>
-    ensures { Gives (λ flag. flag) result (flag_of (located_of token.entry)) }
-{
-    let name = atom_of(token)?;
-    if spells(b"true", name) {
-        return Ok(true);
+impl Parser<'_> {
+    /// The flag that the token is: `true` or `false`.
+    #[tactic(auto, unfolding(crate::specs::Shape::flag_of))]
+    fn flag(&self) -> Result<bool, ConfigFault>
+        ensures { Gives (λ flag. flag) result (flag_of (located_of self.now.token)) }
+    {
+        let name = self.atom()?;
+        if spells(b"true", name) {
+            return Ok(true);
+        }
+        if spells(b"false", name) {
+            return Ok(false);
+        }
+        Err(self.fault(FaultKind::BadShape))
     }
-    if spells(b"false", name) {
-        return Ok(false);
-    }
-    Err(fault(FaultKind::BadShape, token.at))
 }
 
 /// Permissions, also several of one application.
@@ -47,9 +49,8 @@ impl<'a> Elements<'a> for Permissions {
         parser: &mut Parser<'a>,
         alloc: Global,
         before: &[Permission<'a>],
-        token: Located<'a>,
     ) -> Result<Permission<'a>, ConfigFault> {
-        parser.pair::<Permissions>(alloc, before, token)
+        parser.pair::<Permissions>(alloc, before)
     }
 }
 
@@ -70,8 +71,8 @@ impl<'a> Pair<'a> for Permissions {
 
     ghost rest_at = { λ name. closed (permission_value_at name) };
 
-    fn name(_before: &[Permission<'a>], token: Located<'a>) -> Result<&'a [u8], ConfigFault> {
-        short_name_of(token)
+    fn name(parser: &Parser<'a>, _before: &[Permission<'a>]) -> Result<&'a [u8], ConfigFault> {
+        parser.short_name()
     }
 
     #[tactic(auto, unfolding(crate::specs::Shape::permission_value_at))]
@@ -80,8 +81,8 @@ impl<'a> Pair<'a> for Permissions {
         _alloc: Global,
         name: &'a [u8],
     ) -> Result<Permission<'a>, ConfigFault> {
-        let next = parser.next()?;
-        let value = flag_of(next)?;
+        parser.advance()?;
+        let value = parser.flag()?;
         parser.closed(Permission { name, value })
     }
 }

@@ -11,9 +11,8 @@ ghost use Rattle.dac_shapes.specs.Within.{IsWithinLimits};
 
 use crate::draft::Draft;
 use crate::limits::MAX_TEXT;
-use crate::names::fault;
-use crate::parser::Parser;
-use dac_tokens::{ConfigFault, FaultKind, Tokens};
+use crate::parser::{Parser, fault};
+use dac_tokens::{ConfigFault, FaultKind, Located, Token, Tokens};
 use std::alloc::Global;
 
 /// The parser of configuration texts: what a text says, by names and numbers as they are written, or its first fault in
@@ -41,6 +40,10 @@ pub fn parse_draft(alloc: Global, text: &[u8]) -> Result<Draft<'_>, ConfigFault>
     }
     let parser = Parser {
         tokens: Tokens::new(text),
+        token: Located {
+            token: Token::End,
+            at: 0,
+        },
         met: Vec::new(alloc),
         listed: Vec::new(alloc),
     };

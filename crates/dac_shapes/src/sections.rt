@@ -11,14 +11,13 @@ ghost use Rattle.dac_shapes.specs.Written.{Param as WrittenParam, Section as Wri
 use crate::apps::Apps;
 use crate::draft::Draft;
 use crate::list::Elements;
-use crate::names::{atom_of, fault, is_text, spells};
+use crate::names::spells;
 use crate::nodes::Nodes;
-use crate::numbers::wait_of;
 use crate::pairs::Pair;
 use crate::param::{Param, ParamName, Section, has_kernel, has_param};
-use crate::parser::Parser;
+use crate::parser::{Parser, fault};
 use crate::permissions::Permissions;
-use dac_tokens::{ConfigFault, FaultKind, Located, Symbol, Token};
+use dac_tokens::{ConfigFault, FaultKind, Symbol, Token};
 use std::alloc::Global;
 
 impl<'a> Parser<'a> {
@@ -38,8 +37,8 @@ impl<'a> Parser<'a> {
                 .list(alloc, &Nodes { repeats: true })
                 .map(Param::Optional),
             ParamName::Timeout => {
-                let next = self.next()?;
-                let wait = wait_of(next)?;
+                self.advance()?;
+                let wait = self.wait()?;
                 Ok(Param::Timeout(wait))
             }
         }
@@ -50,10 +49,10 @@ impl<'a> Parser<'a> {
     fn end(&mut self) -> Result<usize, ConfigFault>
         ensures { Gives (λ at. (at, parser_state self.new)) result (end_at (parser_state self.old)) }
     {
-        let end = self.behind(Symbol::FullStop)?;
-        match end.token {
-            Token::End => Ok(end.at),
-            _ => Err(fault(FaultKind::BadShape, end.at)),
+        self.behind(Symbol::FullStop)?;
+        match self.token.token {
+            Token::End => Ok(self.token.at),
+            _ => Err(self.fault(FaultKind::BadShape)),
         }
     }
 
@@ -89,9 +88,8 @@ impl<'a> Elements<'a> for Params {
         parser: &mut Parser<'a>,
         alloc: Global,
         before: &[Param<'a>],
-        token: Located<'a>,
     ) -> Result<Param<'a>, ConfigFault> {
-        parser.pair::<Params>(alloc, before, token)
+        parser.pair::<Params>(alloc, before)
     }
 }
 
@@ -113,13 +111,13 @@ impl<'a> Pair<'a> for Params {
     ghost rest_at = { param_rest_at };
 
     #[tactic(auto, using(crate::proofs::Loops::has_params), unfolding(crate::specs::Shape::param_name_of))]
-    fn name(before: &[Param<'a>], token: Located<'a>) -> Result<Option<ParamName>, ConfigFault> {
-        let name = atom_of(token)?;
+    fn name(parser: &Parser<'a>, before: &[Param<'a>]) -> Result<Option<ParamName>, ConfigFault> {
+        let name = parser.atom()?;
         let Some(param) = ParamName::named(name) else {
             return Ok(None);
         };
         if has_param(param, before) {
-            return Err(fault(FaultKind::BadShape, token.at));
+            return Err(parser.fault(FaultKind::BadShape));
         }
         Ok(Some(param))
     }
@@ -157,12 +155,11 @@ impl<'a> Elements<'a> for Sections {
         parser: &mut Parser<'a>,
         alloc: Global,
         before: &[Section<'a>],
-        token: Located<'a>,
     ) -> Result<Section<'a>, ConfigFault> {
-        if is_text(token.token) {
-            return Err(fault(FaultKind::Unsupported, token.at));
+        if parser.is_text() {
+            return Err(parser.fault(FaultKind::Unsupported));
         }
-        parser.pair::<Sections>(alloc, before, token)
+        parser.pair::<Sections>(alloc, before)
     }
 }
 
@@ -184,13 +181,13 @@ impl<'a> Pair<'a> for Sections {
     ghost rest_at = { section_rest_at };
 
     #[tactic(auto, using(crate::proofs::Loops::has_kernels), unfolding(crate::specs::Shape::names_kernel))]
-    fn name(before: &[Section<'a>], token: Located<'a>) -> Result<bool, ConfigFault> {
-        let name = atom_of(token)?;
+    fn name(parser: &Parser<'a>, before: &[Section<'a>]) -> Result<bool, ConfigFault> {
+        let name = parser.atom()?;
         if !spells(b"kernel", name) {
             return Ok(false);
         }
         if has_kernel(before) {
-            return Err(fault(FaultKind::BadShape, token.at));
+            return Err(parser.fault(FaultKind::BadShape));
         }
         Ok(true)
     }

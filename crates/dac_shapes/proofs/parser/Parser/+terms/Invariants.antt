@@ -6,17 +6,17 @@ use Rattle.dac_shapes.proofs.Loops.{GoesTerms}
 use Rattle.dac_shapes.proofs.parser.Parser.+terms.Given as goal
 
 abbrev pub decreases-behind_term : goal.decreases-behind_term
-decreases-behind_term l = cond (is_end (word_of l.token.token)) 0 (2 * tokens_left l.self.now + 2)
+decreases-behind_term l = cond (is_end (word_of l.self.now.token.token)) 0 (2 * tokens_left l.self.now + 2)
 
 abbrev pub decreases-behind_terms : goal.decreases-behind_terms
 decreases-behind_terms l = 2 * tokens_left l.self.now + 1
 
-abbrev pub invariant-behind_terms-loop-behind : goal.invariant-behind_terms-loop-behind
-invariant-behind_terms-loop-behind l = record {
-  goes : (n : ℕ) → tokens_left l.fn.self < n → GoesTerms (term_at n) l.fn.close (terms_in (term_at n) l.fn.close n (parser_state l.fn.self)) (located_of l.token) (parser_state l.self);
+abbrev pub invariant-behind_terms-loop-self : goal.invariant-behind_terms-loop-self
+invariant-behind_terms-loop-self l = record {
+  goes : (n : ℕ) → tokens_left l.fn.self < n → GoesTerms (term_at n) l.fn.close (terms_in (term_at n) l.fn.close n (parser_state l.fn.self)) (located_of l.self.token) (parser_state l.self);
   left : tokens_left l.self ≤ tokens_left l.fn.self;
-  fewer : is_end (word_of l.token.token) ≡ false → tokens_left l.self < tokens_left l.fn.self;
+  fewer : is_end (word_of l.self.token.token) ≡ false → tokens_left l.self < tokens_left l.fn.self;
 }
 
-abbrev pub decreases-behind_terms-loop-behind : goal.decreases-behind_terms-loop-behind
-decreases-behind_terms-loop-behind l = tokens_left l.self
+abbrev pub decreases-behind_terms-loop-self : goal.decreases-behind_terms-loop-self
+decreases-behind_terms-loop-self l = tokens_left l.self

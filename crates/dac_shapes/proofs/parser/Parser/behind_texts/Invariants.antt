@@ -5,12 +5,12 @@ use Rattle.dac_shapes.specs.Views.{parser_state, tokens_left}
 use Rattle.dac_shapes.proofs.Loops.{GoesTexts}
 use Rattle.dac_shapes.proofs.parser.Parser.behind_texts.Given as goal
 
-abbrev pub invariant-loop-next : goal.invariant-loop-next
-invariant-loop-next l = record {
-  goes : (n : ℕ) → tokens_left l.fn.self < n → GoesTexts (texts_at n (parser_state l.fn.self)) (located_of l.next) (parser_state l.self);
+abbrev pub invariant-loop-self : goal.invariant-loop-self
+invariant-loop-self l = record {
+  goes : (n : ℕ) → tokens_left l.fn.self < n → GoesTexts (texts_at n (parser_state l.fn.self)) (located_of l.self.token) (parser_state l.self);
   left : tokens_left l.self ≤ tokens_left l.fn.self;
-  fewer : is_end (word_of l.next.token) ≡ false → tokens_left l.self < tokens_left l.fn.self;
+  fewer : is_end (word_of l.self.token.token) ≡ false → tokens_left l.self < tokens_left l.fn.self;
 }
 
-abbrev pub decreases-loop-next : goal.decreases-loop-next
-decreases-loop-next l = cond (is_end (word_of l.next.token)) 0 (suc (tokens_left l.self))
+abbrev pub decreases-loop-self : goal.decreases-loop-self
+decreases-loop-self l = cond (is_end (word_of l.self.token.token)) 0 (suc (tokens_left l.self))
