@@ -1,8 +1,8 @@
 //! What a configuration text says, as it is written.
 
 ghost use Rattle.std.specs.Prelude.{◌≡◌, fold};
-ghost use Rattle.dac_shapes.specs.Written.{put, put_all, put_section, unsaid, written};
-ghost use Rattle.dac_shapes.specs.Views.{draft_of, names_of, param_of, params_of, section_of, sections_of};
+ghost use Rattle.dac_shapes.specs.Written.{put, put_section, unsaid, written};
+ghost use Rattle.dac_shapes.specs.Views.{draft_of, names_of, param_of, section_of, sections_of};
 
 use crate::param::{Param, Section};
 use std::alloc::Global;
@@ -66,20 +66,14 @@ impl<'a> Draft<'a> {
         }
     }
 
-    fn put_all(&mut self, params: Vec<Param<'a>>)
-        ensures { draft_of self.new ≡ put_all (draft_of self.old) (params_of params.entry.items) }
-    {
-        for param in params {
-            self.put(param);
-        }
-    }
-
     fn put_section(&mut self, section: Section<'a>)
         ensures { draft_of self.new ≡ put_section (draft_of self.old) (section_of section.entry) }
     {
-        match section {
-            Section::Kernel(params) => self.put_all(params),
-            Section::Other => {}
+        let Section::Kernel(params) = section else {
+            return;
+        };
+        for param in params {
+            self.put(param);
         }
     }
 

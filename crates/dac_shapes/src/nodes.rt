@@ -61,8 +61,7 @@ impl<'a> Elements<'a> for Groups {
             return parser.tuple(alloc);
         }
         let name = parser.node(false)?;
-        let mut group = Vec::new(alloc);
-        group.push(name)?;
+        let group = [name].to_vec(alloc)?;
         Ok(group)
     }
 }

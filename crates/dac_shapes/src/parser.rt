@@ -25,21 +25,13 @@ pub fn fault(kind: FaultKind, at: usize) -> ConfigFault
 }
 
 impl<'a> Parser<'a> {
-    fn next(&mut self) -> Result<Located<'a>, ConfigFault>
-        ensures read { Gives (λ t. (located_of t, parser_state self.new)) result (token (parser_state self.old)) }
-        ensures left { tokens_left self.new ≤ tokens_left self.old }
-        ensures fewer { IfOk result (λ t. is_end (word_of t.token) ≡ false → tokens_left self.new < tokens_left self.old) }
-    {
-        self.tokens.next()
-    }
-
     /// Reads the next token; behind the end stands the end again.
     pub fn advance(&mut self) -> Result<(), ConfigFault>
         ensures read { Gives (λ _. here self.new) result (token (parser_state self.old)) }
         ensures left { tokens_left self.new ≤ tokens_left self.old }
         ensures fewer { IfOk result (λ _. is_end (word_of self.new.token.token) ≡ false → tokens_left self.new < tokens_left self.old) }
     {
-        self.token = self.next()?;
+        self.token = self.tokens.next()?;
         Ok(())
     }
 

@@ -40,6 +40,7 @@ pub fn parse_draft(alloc: Global, text: &[u8]) -> Result<Draft<'_>, ConfigFault>
     }
     let parser = Parser {
         tokens: Tokens::new(text),
+        // No token is read yet: the end stands in its place.
         token: Located {
             token: Token::End,
             at: 0,

@@ -1,7 +1,7 @@
 use Rattle.std.proofs.Common.{◌≡◌}
 use Rattle.dac_shapes.specs.Written.{put_all}
 use Rattle.dac_shapes.specs.Views.{draft_of, params_of}
-use Rattle.dac_shapes.proofs.draft.Draft.put_all.Given as goal
+use Rattle.dac_shapes.proofs.draft.Draft.put_section.Given as goal
 
 abbrev pub invariant-loop-param : goal.invariant-loop-param
 invariant-loop-param l = draft_of l.self ≡ put_all (draft_of l.fn.self) (params_of l.yielded)
