@@ -3,15 +3,28 @@
 ghost use Rattle.std.specs.Prelude.{◌≡◌, ◌+◌, ◌^◌, ◌<◌, ◌≤◌, false, length, take, drop};
 ghost use Rattle.dac_tokens.specs.Gives.{Reads};
 ghost use Rattle.dac_tokens.specs.Scan.{after_gap, class_of, is_name_byte, is_quotable, goes_on, run, ends_stop, breaks_number, atom_at, number_at, negative_at, quoted_at, two_quotes, string_at, word_at};
+ghost use Rattle.dac_tokens.specs.declared.fault.FaultKind.TheVariants.{BadToken, Unsupported};
 ghost use Rattle.dac_tokens.specs.Words.{word_of};
 
 use crate::fault::{ConfigFault, FaultKind};
 use crate::token::{Class, Run, Symbol, Token};
 
-pub fn fault(kind: FaultKind, at: usize) -> ConfigFault
-    ensures { result ≡ record { kind = kind; at = at } }
+pub fn unsupported(at: usize) -> ConfigFault
+    ensures { result ≡ record { kind = Unsupported; at = at } }
 {
-    ConfigFault { kind, at }
+    ConfigFault {
+        kind: FaultKind::Unsupported,
+        at,
+    }
+}
+
+fn bad_token(at: usize) -> ConfigFault
+    ensures { result ≡ record { kind = BadToken; at = at } }
+{
+    ConfigFault {
+        kind: FaultKind::BadToken,
+        at,
+    }
 }
 
 /// The bytes from the first that is neither blank nor in a comment.
@@ -113,7 +126,7 @@ fn atom_at(at: usize, bytes: &[u8]) -> Result<(Token<'_>, &[u8]), ConfigFault>
 {
     let (name, rest) = bytes.split_at(run_len(Run::Name, bytes));
     if name == b"fun".as_slice() {
-        return Err(fault(FaultKind::Unsupported, at));
+        return Err(unsupported(at));
     }
     Ok((Token::Atom(name), rest))
 }
@@ -125,9 +138,9 @@ fn quoted_at(at: usize, bytes: &[u8]) -> Result<(Token<'_>, &[u8]), ConfigFault>
 {
     let (name, rest) = bytes.split_at(run_len(Run::Quoted, bytes));
     match rest {
-        [] => Err(fault(FaultKind::BadToken, at)),
+        [] => Err(bad_token(at)),
         [b'\'', rest @ ..] => Ok((Token::Atom(name), rest)),
-        [_, ..] => Err(fault(FaultKind::Unsupported, at + 1 + name.len())),
+        [_, ..] => Err(unsupported(at + 1 + name.len())),
     }
 }
 
@@ -136,7 +149,7 @@ fn number_at(at: usize, negative: bool, bytes: &[u8]) -> Result<(Token<'_>, &[u8
 {
     let (digits, rest) = bytes.split_at(run_len(Run::Digits, bytes));
     if breaks_number(rest) {
-        return Err(fault(FaultKind::Unsupported, at));
+        return Err(unsupported(at));
     }
     Ok((Token::Number { negative, digits }, rest))
 }
@@ -146,7 +159,7 @@ fn negative_at(at: usize, bytes: &[u8]) -> Result<(Token<'_>, &[u8]), ConfigFaul
     ensures { Reads (λ x. (word_of x.0, x.1.now)) result (negative_at at bytes.now) }
 {
     if run_len(Run::Digits, bytes) == 0 {
-        return Err(fault(FaultKind::BadToken, at));
+        return Err(bad_token(at));
     }
     number_at(at, true, bytes)
 }
@@ -167,14 +180,14 @@ fn string_at(at: usize, bytes: &[u8]) -> Result<(Token<'_>, &[u8]), ConfigFault>
     ensures { Reads (λ x. (word_of x.0, x.1.now)) result (string_at at bytes.now) }
 {
     if two_quotes(bytes) {
-        return Err(fault(FaultKind::Unsupported, at));
+        return Err(unsupported(at));
     }
     let mut rest = bytes;
     let mut place = at + 1;
     let mut escaped = false;
     while let Some((b, tail)) = rest.split_first() {
         if escaped && *b == b'^' {
-            return Err(fault(FaultKind::Unsupported, place - 1));
+            return Err(unsupported(place - 1));
         }
         if !escaped && *b == b'"' {
             return Ok((Token::Text, tail));
@@ -183,7 +196,7 @@ fn string_at(at: usize, bytes: &[u8]) -> Result<(Token<'_>, &[u8]), ConfigFault>
         place += 1;
         rest = tail;
     }
-    Err(fault(FaultKind::BadToken, at))
+    Err(bad_token(at))
 }
 
 /// The token at the front of bytes that begin at `at` with no gap before it, and the bytes behind it.
@@ -200,7 +213,7 @@ pub fn token_at(at: usize, bytes: &[u8]) -> Result<(Token<'_>, &[u8]), ConfigFau
         Class::Comma => Ok((Token::Symbol(Symbol::Comma), rest)),
         Class::Dot => {
             if !ends_stop(rest) {
-                return Err(fault(FaultKind::BadToken, at));
+                return Err(bad_token(at));
             }
             Ok((Token::Symbol(Symbol::FullStop), rest))
         }
@@ -209,7 +222,7 @@ pub fn token_at(at: usize, bytes: &[u8]) -> Result<(Token<'_>, &[u8]), ConfigFau
         Class::Minus => negative_at(at, rest),
         Class::Quote => quoted_at(at, rest),
         Class::DoubleQuote => string_at(at, rest),
-        Class::Refused => Err(fault(FaultKind::Unsupported, at)),
-        Class::Unknown => Err(fault(FaultKind::BadToken, at)),
+        Class::Refused => Err(unsupported(at)),
+        Class::Unknown => Err(bad_token(at)),
     }
 }

@@ -8,8 +8,8 @@ ghost use Rattle.dac_tokens.specs.TokenFaults.{StopAt};
 ghost use Rattle.dac_tokens.specs.TokenGrammar.{AreTokensOf};
 ghost use Rattle.dac_tokens.specs.Words.{Located as LocatedWord, is_end, located_of, word_of};
 
-use crate::fault::{ConfigFault, FaultKind};
-use crate::scan::{after_gap, fault, token_at};
+use crate::fault::ConfigFault;
+use crate::scan::{after_gap, token_at, unsupported};
 use crate::token::{Located, MAX_DEPTH, Symbol, Token};
 use std::marker::Model;
 
@@ -22,7 +22,7 @@ fn depth_after(at: usize, depth: usize, token: &Token<'_>) -> Result<usize, Conf
     match token {
         Token::Symbol(Symbol::OpenList | Symbol::OpenTuple) => {
             if depth >= MAX_DEPTH {
-                return Err(fault(FaultKind::Unsupported, at));
+                return Err(unsupported(at));
             }
             Ok(depth + 1)
         }
