@@ -115,9 +115,9 @@ fn breaks_number(bytes: &[u8]) -> bool
     ensures { result ≡ breaks_number bytes.now }
 {
     match bytes {
-        [] => false,
-        [b] => *b == b'#' || *b == b'_',
-        [b, c, ..] => *b == b'#' || *b == b'_' || *b == b'.' && c.is_ascii_digit(),
+        [b'#' | b'_', ..] => true,
+        [b'.', c, ..] => c.is_ascii_digit(),
+        _ => false,
     }
 }
 
@@ -137,10 +137,10 @@ fn quoted_at(at: usize, bytes: &[u8]) -> Result<(Token<'_>, &[u8]), ConfigFault>
     ensures { Reads (λ x. (word_of x.0, x.1.now)) result (quoted_at at bytes.now) }
 {
     let (name, rest) = bytes.split_at(run_len(Run::Quoted, bytes));
-    match rest {
-        [] => Err(bad_token(at)),
-        [b'\'', rest @ ..] => Ok((Token::Atom(name), rest)),
-        [_, ..] => Err(unsupported(at + 1 + name.len())),
+    match rest.split_first() {
+        Some((b'\'', rest)) => Ok((Token::Atom(name), rest)),
+        Some(_) => Err(unsupported(at + 1 + name.len())),
+        None => Err(bad_token(at)),
     }
 }
 
@@ -168,10 +168,7 @@ fn negative_at(at: usize, bytes: &[u8]) -> Result<(Token<'_>, &[u8]), ConfigFaul
 fn two_quotes(bytes: &[u8]) -> bool
     ensures { result ≡ two_quotes bytes.now }
 {
-    match bytes {
-        [b, c, ..] => *b == b'"' && *c == b'"',
-        _ => false,
-    }
+    matches!(bytes, [b'"', b'"', ..])
 }
 
 /// The string at `at` whose opening quote stands before the bytes.
@@ -186,13 +183,11 @@ fn string_at(at: usize, bytes: &[u8]) -> Result<(Token<'_>, &[u8]), ConfigFault>
     let mut place = at + 1;
     let mut escaped = false;
     while let Some((b, tail)) = rest.split_first() {
-        if escaped && *b == b'^' {
-            return Err(unsupported(place - 1));
+        match *b {
+            b'^' if escaped => return Err(unsupported(place - 1)),
+            b'"' if !escaped => return Ok((Token::Text, tail)),
+            b => escaped = !escaped && b == b'\\',
         }
-        if !escaped && *b == b'"' {
-            return Ok((Token::Text, tail));
-        }
-        escaped = !escaped && *b == b'\\';
         place += 1;
         rest = tail;
     }
@@ -211,18 +206,13 @@ pub fn token_at(at: usize, bytes: &[u8]) -> Result<(Token<'_>, &[u8]), ConfigFau
     match class_of(*b) {
         Class::Bracket(symbol) => Ok((Token::Symbol(symbol), rest)),
         Class::Comma => Ok((Token::Symbol(Symbol::Comma), rest)),
-        Class::Dot => {
-            if !ends_stop(rest) {
-                return Err(bad_token(at));
-            }
-            Ok((Token::Symbol(Symbol::FullStop), rest))
-        }
+        Class::Dot if ends_stop(rest) => Ok((Token::Symbol(Symbol::FullStop), rest)),
         Class::Letter => atom_at(at, bytes),
         Class::Digit => number_at(at, false, bytes),
         Class::Minus => negative_at(at, rest),
         Class::Quote => quoted_at(at, rest),
         Class::DoubleQuote => string_at(at, rest),
         Class::Refused => Err(unsupported(at)),
-        Class::Unknown => Err(bad_token(at)),
+        Class::Dot | Class::Unknown => Err(bad_token(at)),
     }
 }
