@@ -2,7 +2,7 @@
 
 ghost use Rattle.std.specs.Prelude.{◌≡◌, ◌+◌, ◌^◌, ◌<◌, ◌≤◌, false, length, take, drop};
 ghost use Rattle.dac_tokens.specs.Gives.{Reads};
-ghost use Rattle.dac_tokens.specs.Scan.{after_gap, class_of, is_name_byte, is_quotable, goes_on, run, ends_stop, breaks_number, atom_at, number_at, negative_at, quoted_at, two_quotes, string_at, word_at};
+ghost use Rattle.dac_tokens.specs.Scan.{after_gap, class_of, goes_on, run, ends_stop, breaks_number, atom_at, number_at, negative_at, quoted_at, two_quotes, string_at, word_at};
 ghost use Rattle.dac_tokens.specs.declared.fault.FaultKind.TheVariants.{BadToken, Unsupported};
 ghost use Rattle.dac_tokens.specs.Words.{word_of};
 
@@ -68,27 +68,14 @@ fn class_of(b: u8) -> Class
     }
 }
 
-fn is_name_byte(b: u8) -> bool
-    ensures { result ≡ is_name_byte b }
-{
-    b.is_ascii_alphanumeric() || b == b'_' || b == b'@'
-}
-
-/// Whether a quoted atom may hold the byte.
-fn is_quotable(b: u8) -> bool
-    ensures { result ≡ is_quotable b }
-{
-    b >= b' ' && b != 0x7f && b != b'\'' && b != b'\\'
-}
-
 /// Whether the byte may stand in such a run.
 fn goes_on(run: Run, b: u8) -> bool
     ensures { result ≡ goes_on run b }
 {
     match run {
         Run::Digits => b.is_ascii_digit(),
-        Run::Name => is_name_byte(b),
-        Run::Quoted => is_quotable(b),
+        Run::Name => b.is_ascii_alphanumeric() || b == b'_' || b == b'@',
+        Run::Quoted => !matches!(b, ..b' ' | 0x7f | b'\'' | b'\\'),
     }
 }
 
@@ -97,7 +84,11 @@ fn run_len(kind: Run, bytes: &[u8]) -> usize
     ensures length { result ≡ run (goes_on kind) bytes.now }
     ensures within { result ≤ length bytes.now }
 {
-    bytes.iter().take_while(|b| goes_on(kind, **b)).count()
+    let mut len = 0;
+    while len < bytes.len() && goes_on(kind, bytes[len]) {
+        len += 1;
+    }
+    len
 }
 
 /// Whether a dot with these bytes behind it is a full stop.
