@@ -171,15 +171,16 @@ fn string_at(at: usize, bytes: &[u8]) -> Result<(Token<'_>, &[u8]), ConfigFault>
         return Err(unsupported(at));
     }
     let mut rest = bytes;
-    let mut place = at + 1;
+    // where the byte before the rest stands
+    let mut before = at;
     let mut escaped = false;
     while let Some((b, tail)) = rest.split_first() {
         match *b {
-            b'^' if escaped => return Err(unsupported(place - 1)),
+            b'^' if escaped => return Err(unsupported(before)),
             b'"' if !escaped => return Ok((Token::Text, tail)),
             b => escaped = !escaped && b == b'\\',
         }
-        place += 1;
+        before += 1;
         rest = tail;
     }
     Err(bad_token(at))
