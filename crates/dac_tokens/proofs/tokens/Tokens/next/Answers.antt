@@ -8,13 +8,13 @@ pub returns-in_err-token : goal.returns-in_err-token
 returns-in_err-token c =
     let p = err_from_is_err_and c.from_residual.result c.from_residual.ensures.1 in
     let t = next_taken c.self.inside.end c.self.inside.depth c.self.inside.rest.now c.after_gap-bytes.result.now c.args.self.now _ c.self.invariant.0 c.self.invariant.1 c.self.view_is c.after_gap-bytes.ensures.rest c.after_gap-bytes.ensures.within c.in_err-token.ensures in
-    record { taken = rw (p.1, p.2) t.0; fault = rw (p.1, p.2) t.1; left = search rules; fewer = search rules; err = search rules }
+    record { taken = rw (p.1, p.2) t.0; fault = rw (p.1, p.2) t.1; left = search rules; fewer = rw p.1 tt; err = search rules }
 
 pub returns-in_err-self-inside : goal.returns-in_err-self-inside
 returns-in_err-self-inside c =
     let p = err_from_is_err_and c.from_residual-in_err-self-inside.result c.from_residual-in_err-self-inside.ensures.1 in
     let t = rw c.in_err-self-inside.ensures.after at (next_taken c.self.inside.end c.self.inside.depth c.self.inside.rest.now c.after_gap-bytes.result.now c.args.self.now _ c.self.invariant.0 c.self.invariant.1 c.self.view_is c.after_gap-bytes.ensures.rest c.after_gap-bytes.ensures.within c.in_ok-token.ensures) in
-    record { taken = rw (p.1, p.2) t.0; fault = rw (p.1, p.2) t.1; left = search rules; fewer = search rules; err = search rules }
+    record { taken = rw (p.1, p.2) t.0; fault = rw (p.1, p.2) t.1; left = search rules; fewer = rw p.1 tt; err = search rules }
 
 -- what is left is no longer than the bytes behind the gap
 pub invariant_of-self : goal.invariant_of-self
@@ -25,4 +25,4 @@ invariant_of-self c =
 pub returns : goal.returns
 returns c =
     let t = rw c.in_ok-self-inside.ensures.after at (next_taken c.self.inside.end c.self.inside.depth c.self.inside.rest.now c.after_gap-bytes.result.now c.args.self.now _ c.self.invariant.0 c.self.invariant.1 c.self.view_is c.after_gap-bytes.ensures.rest c.after_gap-bytes.ensures.within c.in_ok-token.ensures) in
-    record { taken = t.0; fault = search rules; left = t.1; fewer = t.2; err = search rules }
+    record { taken = t.0; fault = tt; left = t.1; fewer = t.2; err = tt }
