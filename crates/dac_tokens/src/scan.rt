@@ -2,7 +2,7 @@
 
 ghost use Rattle.std.specs.Prelude.{◌≡◌, ◌+◌, ◌^◌, ◌<◌, ◌≤◌, false, length, take, drop};
 ghost use Rattle.dac_tokens.specs.Gives.{Reads};
-ghost use Rattle.dac_tokens.specs.Scan.{after_gap, class_of, goes_on, run, ends_stop, breaks_number, atom_at, number_at, negative_at, quoted_at, two_quotes, string_at, word_at};
+ghost use Rattle.dac_tokens.specs.Scan.{after_gap, class_of, goes_on, run, ends_stop, breaks_number, atom_at, number_at, negative_at, quoted_at, string_at, word_at};
 ghost use Rattle.dac_tokens.specs.declared.fault.FaultKind.TheVariants.{BadToken, Unsupported};
 ghost use Rattle.dac_tokens.specs.Words.{word_of};
 
@@ -155,19 +155,13 @@ fn negative_at(at: usize, bytes: &[u8]) -> Result<(Token<'_>, &[u8]), ConfigFaul
     number_at(at, true, bytes)
 }
 
-/// Whether the bytes behind a double quote begin with two more.
-fn two_quotes(bytes: &[u8]) -> bool
-    ensures { result ≡ two_quotes bytes.now }
-{
-    matches!(bytes, [b'"', b'"', ..])
-}
-
 /// The string at `at` whose opening quote stands before the bytes.
 fn string_at(at: usize, bytes: &[u8]) -> Result<(Token<'_>, &[u8]), ConfigFault>
     requires { at + 1 + length bytes.now < 2 ^ 64 }
     ensures { Reads (λ x. (word_of x.0, x.1.now)) result (string_at at bytes.now) }
 {
-    if two_quotes(bytes) {
+    // with the opening quote, three in a row
+    if bytes.starts_with(b"\"\"".as_slice()) {
         return Err(unsupported(at));
     }
     let mut rest = bytes;
