@@ -125,16 +125,13 @@ class_is b =
     alone : (n : ℕ) (c d : Class) → IsOf c n → (b ≢ n → IsOf d b) → IsOf (cond (eqb b n) c d) b
     alone n c d is other = tested (eqb b n) c d (λ e. subst (IsOf c) (sym (eqb-true b n e)) is) (λ e. other (eqb-false b n e))
 
-    head : (n : ℕ) → b ∷ [] ≡ n ∷ [] → b ≡ n
-    head n same = cc
-
     no_mark : b ≢ 91 → b ≢ 93 → b ≢ 123 → b ≢ 125 → b ≢ 44 → b ≢ 46 → (symbol : Symbol) → b ∷ [] ≢ bytes_of symbol
-    no_mark n91 n93 n123 n125 n44 n46 OpenList same = n91 (head 91 same)
-    no_mark n91 n93 n123 n125 n44 n46 CloseList same = n93 (head 93 same)
-    no_mark n91 n93 n123 n125 n44 n46 OpenTuple same = n123 (head 123 same)
-    no_mark n91 n93 n123 n125 n44 n46 CloseTuple same = n125 (head 125 same)
-    no_mark n91 n93 n123 n125 n44 n46 Comma same = n44 (head 44 same)
-    no_mark n91 n93 n123 n125 n44 n46 FullStop same = n46 (head 46 same)
+    no_mark n91 n93 n123 n125 n44 n46 OpenList same = n91 cc
+    no_mark n91 n93 n123 n125 n44 n46 CloseList same = n93 cc
+    no_mark n91 n93 n123 n125 n44 n46 OpenTuple same = n123 cc
+    no_mark n91 n93 n123 n125 n44 n46 CloseTuple same = n125 cc
+    no_mark n91 n93 n123 n125 n44 n46 Comma same = n44 cc
+    no_mark n91 n93 n123 n125 n44 n46 FullStop same = n46 cc
 
 pub run-first : (p : ℕ → Bool) (b : ℕ) (bs : List ℕ) → p b ≡ true → 0 < run p (b ∷ bs)
 run-first p b bs e = rw (take_while-cons p b bs, e) (omega arith)

@@ -56,13 +56,10 @@ in_line b bs true e passed _ = inl ([], bs, ap (λ (k : ℕ). k ∷ bs) (eqb-tru
 in_line b bs false e _ (inl (line, more, parts, is_line, passed)) = inl (b ∷ line, more, ap (λ (xs : List ℕ). b ∷ xs) parts, All-cons (λ b. b ≡ 10 → ⊥) b line (eqb-false b 10 e) is_line, passed)
 in_line b bs false e _ (inr (is_line, none)) = inr (All-cons (λ b. b ≡ 10 → ⊥) b bs (eqb-false b 10 e) is_line, none)
 
-no_start : (b : ℕ) → eqb b 37 ≡ false → is_blank b ≡ false → StartsGap b → ⊥
-no_start b e f h = grind (arith, nat_tests)
-
 between_tokens : (b : ℕ) (bs : List ℕ) (c d : Bool) → eqb b 37 ≡ c → is_blank b ≡ d → Passed bs (after_gap false bs) → PassedInLine bs (after_gap true bs) → Passed (b ∷ bs) (cond c (after_gap true bs) (cond d (after_gap false bs) (b ∷ bs)))
 between_tokens b bs true d e f _ in_line = let is : b ≡ 37 = eqb-true b 37 e in rw is (behind_percent bs (after_gap true bs) in_line)
 between_tokens b bs false true e f passed _ = behind_blank b bs (after_gap false bs) ((tells_blank b).0 f) passed
-between_tokens b bs false false e f _ _ = inl (record { gap = []; parts = refl; is_gap = Nothing; stops = no_start b e f })
+between_tokens b bs false false e f _ _ = inl (record { gap = []; parts = refl; is_gap = Nothing; stops = λ h. grind (arith, nat_tests) })
 
 passed_from : (comment : Bool) (bs : List ℕ) → PassedFrom comment bs (after_gap comment bs)
 passed_from false [] = inr (refl, Closed Nothing)

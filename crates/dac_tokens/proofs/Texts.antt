@@ -69,12 +69,6 @@ step_found at end depth place bytes (b ∷ bs) left whole more le = word (gap_be
     word passed (Ok x) t = deep passed x.0 x.1 t (depth_after place depth x.0) (depth_found place depth x.0 le)
     word passed (Err e) h = stop passed e (h passed.stops depth)
 
-first_found : (at end depth : ℕ) (bytes : List ℕ) → at + length bytes ≡ end → depth ≤ 64 → First at end depth bytes (token_from end depth bytes)
-unfolding token_from
-first_found at end depth bytes whole le =
-    let no_more = length_after_gap false bytes in
-    step_found at end depth (end - length (after_gap false bytes)) bytes (after_gap false bytes) refl whole (omega (arith, no_more, whole)) le
-
 first_read : (at end depth : ℕ) (bytes : List ℕ) (r : Result (Located × ℕ × List ℕ) ConfigFault) → at + length bytes ≡ end → depth ≤ 64 → First at end depth bytes r → token_from end depth bytes ≡ r
 unfolding token_from word_at
 first_read at end depth bytes _ whole le (AtEnd gap) =
@@ -127,10 +121,11 @@ then_found at end depth bytes f _ whole more (Next t own rest next within) =
 then_found at end depth bytes f _ whole more (Fault e fault) = fault
 
 within_found : (n at end depth : ℕ) (bytes : List ℕ) → length bytes < n → at + length bytes ≡ end → depth ≤ 64 → IsStream at end depth bytes (tokens_within n end depth bytes)
-unfolding tokens_within
+unfolding tokens_within token_from
 within_found zero at end depth bytes lt whole le = absurd (omega arith)
 within_found (suc n) at end depth bytes lt whole le =
-    then_found at end depth bytes (tokens_within n end) (token_from end depth bytes) whole (λ at' depth' rest less whole' le'. within_found n at' end depth' rest (omega arith) whole' le') (first_found at end depth bytes whole le)
+    let first = step_found at end depth (end - length (after_gap false bytes)) bytes (after_gap false bytes) refl whole (omega (arith, length_after_gap false bytes, whole)) le in
+    then_found at end depth bytes (tokens_within n end) _ whole (λ at' depth' rest less whole' le'. within_found n at' end depth' rest (omega arith) whole' le') first
 
 within_read : (ts : List Located) (last : Result Located ConfigFault) (n at end depth : ℕ) (bytes : List ℕ) → length bytes < n → at + length bytes ≡ end → depth ≤ 64 → IsText at end depth bytes ts last → tokens_within n end depth bytes ≡ record { tokens = ts; last = last }
 unfolding tokens_within
@@ -187,7 +182,8 @@ first_taken at end depth bytes s _ whole le is (Fault e fault) =
     let now : s ≡ stopped [] e = sym is ∙ stream_read at end depth bytes (stopped [] e) whole le fault in
     (ap taken now, (stop_read depth 0 fault.rest fault.behind e.kind fault.fault).of_token)
 
-pub next_taken : (end depth : ℕ) (bytes : List ℕ) (s : Stream) (r : Result (Located × ℕ × List ℕ) ConfigFault) → length bytes ≤ end → depth ≤ 64 → tokens_of end depth bytes ≡ s → token_from end depth bytes ≡ r → IsTaken end s r
-next_taken end depth bytes s r no_more le is read =
+-- the same by what its parts read: the gap, and then the token
+pub next_taken : (end depth : ℕ) (bytes rest : List ℕ) (s : Stream) (w : Result (Word × List ℕ) ConfigFault) → length bytes ≤ end → depth ≤ 64 → tokens_of end depth bytes ≡ s → rest ≡ after_gap false bytes → length rest ≤ length bytes → word_at (end - length rest) rest ≡ w → IsTaken end s (w >>= λ x. depth_after (end - length rest) depth x.0 >>= λ after. Ok (record { word = x.0; at = end - length rest }, after, x.1))
+next_taken end depth bytes rest s w no_more le is gap within read =
     let whole : end - length bytes + length bytes ≡ end = omega arith in
-    first_taken (end - length bytes) end depth bytes s r whole le is (subst (First (end - length bytes) end depth bytes) read (first_found (end - length bytes) end depth bytes whole le))
+    rw (← read) (first_taken (end - length bytes) end depth bytes s (step depth (end - length rest) rest) whole le is (step_found (end - length bytes) end depth (end - length rest) bytes rest (sym gap) whole (omega arith) le))

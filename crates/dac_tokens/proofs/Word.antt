@@ -358,9 +358,6 @@ number_shut false (d ∷ ds) own rest spelled gap =
     grind arith
 number_shut true digits own rest spelled gap = shut 45 refl (rw spelled.0 at gap)
 
-fun_bytes : All IsNameByte (codes "fun")
-fun_bytes = run_passes is_name_byte IsNameByte tells_name_byte (codes "fun")
-
 too_deep : (depth at : ℕ) (bytes : List ℕ) → 64 ≤ depth → Begins IsOpeningBracket bytes → IsStop depth at bytes 0 Unsupported
 unfolding word_at
 too_deep depth at [] le h = absurd h
@@ -373,7 +370,7 @@ unfolding word_at
 stop_read depth at bytes _ kind (LoneDot rest parts h) = rw parts (stopped depth at (46 ∷ rest) 0 at BadToken tt (shut 46 refl) (omega arith) (cond-false _ _ _ (fails (ends_stop rest) (tells_stop rest) h)))
 stop_read depth at bytes _ kind (LoneMinus rest parts h) = rw parts (stopped depth at (45 ∷ rest) 0 at BadToken tt (shut 45 refl) (omega arith) (cond-true _ _ _ (eq-eqb (run is_ascii_digit rest) 0 (run_of is_ascii_digit IsAsciiDigit tells_digit [] rest (All-nil IsAsciiDigit) h))))
 stop_read depth at bytes _ kind (Unknown h) = of_class class.Unknown IsUnknown depth at bytes BadToken tt (λ b un start. un.no_gap start) unknown_class (λ b bs. refl) h
-stop_read depth at bytes _ kind (Function rest parts h) = rw parts (stopped depth at (codes "fun" ++ rest) 0 at Unsupported tt (shut 102 refl) (omega arith) (atom_is at (codes "fun") rest fun_bytes h))
+stop_read depth at bytes _ kind (Function rest parts h) = rw parts (stopped depth at (codes "fun" ++ rest) 0 at Unsupported tt (shut 102 refl) (omega arith) (atom_is at (codes "fun") rest (run_passes is_name_byte IsNameByte tells_name_byte (codes "fun")) h))
 stop_read depth at bytes _ kind (OtherNumber negative digits own rest parts spelled h goes) = rw parts (stopped depth at (own ++ rest) 0 at Unsupported tt (number_shut negative digits own rest spelled) (omega arith) (numbers_are negative at digits own rest spelled h ∙ cond-true _ _ _ ((tells_break rest h).1 goes)))
 stop_read depth at bytes _ kind (InQuotes name rest parts all refused) = rw parts (stopped depth at (39 ∷ (name ++ rest)) (1 + length name) (at + 1 + length name) Unsupported tt (shut 39 refl) (omega arith) (quoted_refused at name rest all refused))
 stop_read depth at bytes _ kind (NoQuote name parts all) = rw parts (stopped depth at (39 ∷ name) 0 at BadToken tt (shut 39 refl) (omega arith) (quoted_open at name all))

@@ -2,16 +2,29 @@
 
 ghost use Rattle.std.specs.Prelude.{◌≡◌, ◌+◌, ◌^◌, ◌<◌, ◌≤◌, false, length, take, drop};
 ghost use Rattle.dac_tokens.specs.Gives.{Reads};
-ghost use Rattle.dac_tokens.specs.Scan.{after_gap, class_of, is_name_byte, is_quotable, goes_on, run, ends_stop, breaks_number, atom_at, number_at, negative_at, quoted_at, two_quotes, string_at, word_at};
+ghost use Rattle.dac_tokens.specs.Scan.{after_gap, class_of, goes_on, run, ends_stop, breaks_number, atom_at, number_at, negative_at, quoted_at, string_at, word_at};
+ghost use Rattle.dac_tokens.specs.declared.fault.FaultKind.TheVariants.{BadToken, Unsupported};
 ghost use Rattle.dac_tokens.specs.Words.{word_of};
 
 use crate::fault::{ConfigFault, FaultKind};
 use crate::token::{Class, Run, Symbol, Token};
 
-pub fn fault(kind: FaultKind, at: usize) -> ConfigFault
-    ensures { result ≡ record { kind = kind; at = at } }
+pub fn unsupported(at: usize) -> ConfigFault
+    ensures { result ≡ record { kind = Unsupported; at = at } }
 {
-    ConfigFault { kind, at }
+    ConfigFault {
+        kind: FaultKind::Unsupported,
+        at,
+    }
+}
+
+fn bad_token(at: usize) -> ConfigFault
+    ensures { result ≡ record { kind = BadToken; at = at } }
+{
+    ConfigFault {
+        kind: FaultKind::BadToken,
+        at,
+    }
 }
 
 /// The bytes from the first that is neither blank nor in a comment.
@@ -55,27 +68,14 @@ fn class_of(b: u8) -> Class
     }
 }
 
-fn is_name_byte(b: u8) -> bool
-    ensures { result ≡ is_name_byte b }
-{
-    b.is_ascii_alphanumeric() || b == b'_' || b == b'@'
-}
-
-/// Whether a quoted atom may hold the byte.
-fn is_quotable(b: u8) -> bool
-    ensures { result ≡ is_quotable b }
-{
-    b >= b' ' && b != 0x7f && b != b'\'' && b != b'\\'
-}
-
 /// Whether the byte may stand in such a run.
 fn goes_on(run: Run, b: u8) -> bool
     ensures { result ≡ goes_on run b }
 {
     match run {
         Run::Digits => b.is_ascii_digit(),
-        Run::Name => is_name_byte(b),
-        Run::Quoted => is_quotable(b),
+        Run::Name => b.is_ascii_alphanumeric() || b == b'_' || b == b'@',
+        Run::Quoted => !matches!(b, ..b' ' | 0x7f | b'\'' | b'\\'),
     }
 }
 
@@ -84,7 +84,11 @@ fn run_len(kind: Run, bytes: &[u8]) -> usize
     ensures length { result ≡ run (goes_on kind) bytes.now }
     ensures within { result ≤ length bytes.now }
 {
-    bytes.iter().take_while(|b| goes_on(kind, **b)).count()
+    let mut len = 0;
+    while len < bytes.len() && goes_on(kind, bytes[len]) {
+        len += 1;
+    }
+    len
 }
 
 /// Whether a dot with these bytes behind it is a full stop.
@@ -102,9 +106,9 @@ fn breaks_number(bytes: &[u8]) -> bool
     ensures { result ≡ breaks_number bytes.now }
 {
     match bytes {
-        [] => false,
-        [b] => *b == b'#' || *b == b'_',
-        [b, c, ..] => *b == b'#' || *b == b'_' || *b == b'.' && c.is_ascii_digit(),
+        [b'#' | b'_', ..] => true,
+        [b'.', c, ..] => c.is_ascii_digit(),
+        _ => false,
     }
 }
 
@@ -113,7 +117,7 @@ fn atom_at(at: usize, bytes: &[u8]) -> Result<(Token<'_>, &[u8]), ConfigFault>
 {
     let (name, rest) = bytes.split_at(run_len(Run::Name, bytes));
     if name == b"fun".as_slice() {
-        return Err(fault(FaultKind::Unsupported, at));
+        return Err(unsupported(at));
     }
     Ok((Token::Atom(name), rest))
 }
@@ -124,10 +128,10 @@ fn quoted_at(at: usize, bytes: &[u8]) -> Result<(Token<'_>, &[u8]), ConfigFault>
     ensures { Reads (λ x. (word_of x.0, x.1.now)) result (quoted_at at bytes.now) }
 {
     let (name, rest) = bytes.split_at(run_len(Run::Quoted, bytes));
-    match rest {
-        [] => Err(fault(FaultKind::BadToken, at)),
-        [b'\'', rest @ ..] => Ok((Token::Atom(name), rest)),
-        [_, ..] => Err(fault(FaultKind::Unsupported, at + 1 + name.len())),
+    match rest.split_first() {
+        Some((b'\'', rest)) => Ok((Token::Atom(name), rest)),
+        Some(_) => Err(unsupported(at + 1 + name.len())),
+        None => Err(bad_token(at)),
     }
 }
 
@@ -136,7 +140,7 @@ fn number_at(at: usize, negative: bool, bytes: &[u8]) -> Result<(Token<'_>, &[u8
 {
     let (digits, rest) = bytes.split_at(run_len(Run::Digits, bytes));
     if breaks_number(rest) {
-        return Err(fault(FaultKind::Unsupported, at));
+        return Err(unsupported(at));
     }
     Ok((Token::Number { negative, digits }, rest))
 }
@@ -146,19 +150,9 @@ fn negative_at(at: usize, bytes: &[u8]) -> Result<(Token<'_>, &[u8]), ConfigFaul
     ensures { Reads (λ x. (word_of x.0, x.1.now)) result (negative_at at bytes.now) }
 {
     if run_len(Run::Digits, bytes) == 0 {
-        return Err(fault(FaultKind::BadToken, at));
+        return Err(bad_token(at));
     }
     number_at(at, true, bytes)
-}
-
-/// Whether the bytes behind a double quote begin with two more.
-fn two_quotes(bytes: &[u8]) -> bool
-    ensures { result ≡ two_quotes bytes.now }
-{
-    match bytes {
-        [b, c, ..] => *b == b'"' && *c == b'"',
-        _ => false,
-    }
 }
 
 /// The string at `at` whose opening quote stands before the bytes.
@@ -166,24 +160,24 @@ fn string_at(at: usize, bytes: &[u8]) -> Result<(Token<'_>, &[u8]), ConfigFault>
     requires { at + 1 + length bytes.now < 2 ^ 64 }
     ensures { Reads (λ x. (word_of x.0, x.1.now)) result (string_at at bytes.now) }
 {
-    if two_quotes(bytes) {
-        return Err(fault(FaultKind::Unsupported, at));
+    // with the opening quote, three in a row
+    if bytes.starts_with(b"\"\"".as_slice()) {
+        return Err(unsupported(at));
     }
     let mut rest = bytes;
-    let mut place = at + 1;
+    // where the byte before the rest stands
+    let mut before = at;
     let mut escaped = false;
     while let Some((b, tail)) = rest.split_first() {
-        if escaped && *b == b'^' {
-            return Err(fault(FaultKind::Unsupported, place - 1));
+        match *b {
+            b'^' if escaped => return Err(unsupported(before)),
+            b'"' if !escaped => return Ok((Token::Text, tail)),
+            b => escaped = !escaped && b == b'\\',
         }
-        if !escaped && *b == b'"' {
-            return Ok((Token::Text, tail));
-        }
-        escaped = !escaped && *b == b'\\';
-        place += 1;
+        before += 1;
         rest = tail;
     }
-    Err(fault(FaultKind::BadToken, at))
+    Err(bad_token(at))
 }
 
 /// The token at the front of bytes that begin at `at` with no gap before it, and the bytes behind it.
@@ -198,18 +192,13 @@ pub fn token_at(at: usize, bytes: &[u8]) -> Result<(Token<'_>, &[u8]), ConfigFau
     match class_of(*b) {
         Class::Bracket(symbol) => Ok((Token::Symbol(symbol), rest)),
         Class::Comma => Ok((Token::Symbol(Symbol::Comma), rest)),
-        Class::Dot => {
-            if !ends_stop(rest) {
-                return Err(fault(FaultKind::BadToken, at));
-            }
-            Ok((Token::Symbol(Symbol::FullStop), rest))
-        }
+        Class::Dot if ends_stop(rest) => Ok((Token::Symbol(Symbol::FullStop), rest)),
         Class::Letter => atom_at(at, bytes),
         Class::Digit => number_at(at, false, bytes),
         Class::Minus => negative_at(at, rest),
         Class::Quote => quoted_at(at, rest),
         Class::DoubleQuote => string_at(at, rest),
-        Class::Refused => Err(fault(FaultKind::Unsupported, at)),
-        Class::Unknown => Err(fault(FaultKind::BadToken, at)),
+        Class::Refused => Err(unsupported(at)),
+        Class::Dot | Class::Unknown => Err(bad_token(at)),
     }
 }

@@ -3,52 +3,33 @@
 ghost use Rattle.std.specs.Prelude.{◌≡◌, ◌↔◌, ◌≤◌, List, length, false, ◌<◌, IfOk, IfErr, OnErr};
 ghost use Rattle.dac_tokens.specs.Gives.{Reads};
 ghost use Rattle.dac_tokens.specs.Faults.{IsTokenFault};
-ghost use Rattle.dac_tokens.specs.Stream.{depth_after, end_at, ended, stopped, token_from, taken, tokens_of};
+ghost use Rattle.dac_tokens.specs.Stream.{depth_after, end_at, ended, stopped, taken, tokens_of};
 ghost use Rattle.dac_tokens.specs.TokenFaults.{StopAt};
 ghost use Rattle.dac_tokens.specs.TokenGrammar.{AreTokensOf};
 ghost use Rattle.dac_tokens.specs.Words.{Located as LocatedWord, is_end, located_of, word_of};
 
-use crate::fault::{ConfigFault, FaultKind};
-use crate::scan::{after_gap, fault, token_at};
+use crate::fault::ConfigFault;
+use crate::scan::{after_gap, token_at, unsupported};
 use crate::token::{Located, MAX_DEPTH, Symbol, Token};
 use std::marker::Model;
 
 /// How many brackets are open behind a token at `at`, with `depth` open before it.
-fn depth_after(at: usize, depth: usize, token: &Token<'_>) -> Result<usize, ConfigFault>
+fn depth_after(at: usize, depth: usize, token: Token<'_>) -> Result<usize, ConfigFault>
     requires { depth ≤ MAX_DEPTH }
-    ensures after { Reads (λ x. x) result (depth_after at depth (word_of token.now)) }
+    ensures after { Reads (λ x. x) result (depth_after at depth (word_of token.entry)) }
     ensures within { IfOk result (λ x. x ≤ MAX_DEPTH) }
 {
     match token {
         Token::Symbol(Symbol::OpenList | Symbol::OpenTuple) => {
-            if depth >= MAX_DEPTH {
-                return Err(fault(FaultKind::Unsupported, at));
+            if depth < MAX_DEPTH {
+                Ok(depth + 1)
+            } else {
+                Err(unsupported(at))
             }
-            Ok(depth + 1)
         }
         Token::Symbol(Symbol::CloseList | Symbol::CloseTuple) => Ok(depth.saturating_sub(1)),
         _ => Ok(depth),
     }
-}
-
-/// The first token of the bytes, which stand before the offset `end`; the depth and the bytes behind it.
-#[tactic(auto, unfolding(crate::specs::Stream::token_from))]
-fn token_from(
-    end: usize,
-    depth: usize,
-    bytes: &[u8],
-) -> Result<(Located<'_>, usize, &[u8]), ConfigFault>
-    requires depth { depth ≤ MAX_DEPTH }
-    requires within { length bytes.now ≤ end }
-    ensures first { Reads (λ x. (located_of x.0, x.1, x.2.now)) result (token_from end depth bytes.now) }
-    ensures depth { IfOk result (λ x. x.1 ≤ MAX_DEPTH) }
-    ensures within { IfOk result (λ x. length x.2.now ≤ end) }
-{
-    let bytes = after_gap(bytes);
-    let at = end - bytes.len();
-    let (token, rest) = token_at(at, bytes)?;
-    let depth = depth_after(at, depth, &token)?;
-    Ok((Located { token, at }, depth, rest))
 }
 
 /// The tokens that are left of a text, after Erlang's scanner of terms. Contracts see their list, up to the end or
@@ -114,9 +95,11 @@ impl<'a> Tokens<'a> {
             is_end (word_of x.token) ≡ false → length self.new.tokens < length self.old.tokens) }
         ensures err { OnErr result (self.new ≡ self.old) }
     {
-        let (token, depth, rest) = token_from(self.end, self.depth, self.rest)?;
+        let bytes = after_gap(self.rest);
+        let at = self.end - bytes.len();
+        let (token, rest) = token_at(at, bytes)?;
+        self.depth = depth_after(at, self.depth, token)?;
         self.rest = rest;
-        self.depth = depth;
-        Ok(token)
+        Ok(Located { token, at })
     }
 }
