@@ -1,7 +1,7 @@
 -- A configuration as it is kept: what its tables say at a number and of a name, how they are made, and their copies.
 use Rattle.std.proofs.Common.{◌≡◌, ℕ, ◌+◌, ◌<◌, ◌≤◌, drop, get_or, Bool, false, cond, eqb, not, List, [], ◌∷◌, ◌++◌, length, map, All, Bor, bytes_eq, position, Option, Some, None, option_map, slice_get, refl, sym, ap, subst, ◌∙◌, arith, append_assoc, append-nil}
 use Rattle.std.specs.Global.{Vec}
-use Rattle.std.specs.List.{prefix_len, list_any, AllZip, each_same}
+use Rattle.std.specs.List.{prefix_len, position_from, list_any, AllZip, each_same}
 use Rattle.std.specs.Map.{keys_of, lookup}
 use Rattle.std.specs.Map.Iter.{deref_pair}
 use Rattle.std.specs.Vec.{vec_len}
@@ -20,7 +20,7 @@ use Rattle.dac_shapes.specs.Views.{app_of, apps_of}
 use Rattle.dac_config.specs.declared.config.App.{App}
 use Rattle.dac_config.specs.declared.config.Node.{Node}
 use Rattle.dac_config.specs.declared.config.Config.TheInside.{Inside}
-use Rattle.dac_config.specs.Table.{NodeRow, AppRow, Table, node_named, app_named, group_of}
+use Rattle.dac_config.specs.Table.{NodeRow, AppRow, Table, node_name, app_named, group_of}
 use Rattle.dac_config.specs.ConfigView.{node_row, named_row, app_row, table_of, HasMembersBelow}
 use Rattle.dac_config.specs.Numbering.{numbered_app, AllNew}
 use Rattle.dac_config.proofs.Names.{all_mapped, maps_from_zip}
@@ -56,13 +56,14 @@ entry_kept c table is i got entry same was =
 pub left_at : {X : Type 0} (xs : List X) (i : ℕ) (x : X) → slice_get xs i ≡ Some x → drop i xs ≡ x ∷ drop (i + 1) xs
 left_at xs i x here = drop_more xs i x (slice_get_within xs i x here) ∙ ap (λ y. y ∷ drop (i + 1) xs) (get_or_from_slice_get xs i x x here)
 
--- the node, the application and the group at a place that was found
-pub node_found : (c : Inside) (table : Table) → table_of c ≡ table → (name : List ℕ) (nodes : List Node) (at : Option ℕ) → at ≡ position (λ node. bytes_eq name node.name.items) nodes → nodes ≡ c.nodes.items
-    → node_named table name ≡ option_map (λ place. record { 0 = place }) at
-node_found c table is name nodes at place kept =
-    ap (λ (t : Table). node_named t name) (sym is)
-    ∙ ap (option_map (λ place. record { 0 = place })) (position-map node_row (λ row. bytes_eq name row.name) c.nodes.items ∙ sym (place ∙ ap (position (λ (node : Node). bytes_eq name node.name.items)) kept))
+-- the first node of a name, from a place whose node has this name
+pub node_from : (name : List ℕ) (table : Table) (i : ℕ) (here : List ℕ) → i < length table.nodes → here ≡ node_name table (record { 0 = i })
+    → position_from (λ row. bytes_eq name row.name) i (drop i table.nodes) ≡ cond (bytes_eq name here) (Some i) (position_from (λ row. bytes_eq name row.name) (i + 1) (drop (i + 1) table.nodes))
+node_from name table i here within is =
+    let row : NodeRow = record { name = []; mandatory = false; optional = false } in
+    rw (is, drop_more table.nodes i row within, slice_get-get_or table.nodes i row within) refl
 
+-- the application and the group at a place that was found
 pub app_found : (c : Inside) (table : Table) → table_of c ≡ table → (name : List ℕ) (at : Option ℕ) → at ≡ position (λ key. bytes_eq name key.items) (keys_of c.apps.entries) → app_named table name ≡ option_map (λ place. record { 0 = place }) at
 app_found c table is name at place =
     ap (λ (t : Table). app_named t name) (sym is)

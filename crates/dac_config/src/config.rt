@@ -1,6 +1,5 @@
 //! The tables of a configuration and its readers.
 ghost use Rattle.std.specs.Prelude.{◌≡◌, ◌<◌, ◌≤◌, ◌==◌, Some, slice_get, length, position, All, IfOk, IfSome};
-ghost use Rattle.std.specs.Str.{bytes_eq};
 ghost use Rattle.std.specs.List.{list_any};
 ghost use Rattle.dac_config.specs.Table.{node_count, app_count, group_among};
 
@@ -60,14 +59,6 @@ impl Model for Config {
     ghost view = { table_of };
 
     ghost invariant = { IsKeptTable };
-}
-
-/// The place of the first node with this name.
-fn place_of_node(nodes: &[Node], name: &[u8]) -> Option<usize>
-    ensures place { result ≡ position (λ node. bytes_eq name.now node.name.items) nodes.now }
-    ensures within { IfSome result (λ at. at < length nodes.now) }
-{
-    nodes.iter().position(|node| name == node.name.as_slice())
 }
 
 /// The place of the first group that has the node.
@@ -142,8 +133,13 @@ impl Config {
     pub fn node_named(&self, name: &[u8]) -> Option<NodeId>
         ensures { result ≡ node_named self.now name.now }
     {
-        let at = place_of_node(&self.nodes, name)?;
-        Some(NodeId(at as u8))
+        for at in 0..self.nodes() {
+            let node = NodeId(at);
+            if name == self.node_name(node) {
+                return Some(node);
+            }
+        }
+        None
     }
 
     /// The application with this name, if there is one.
