@@ -111,7 +111,7 @@ impl Config {
         &self.node(node).name
     }
 
-    /// What is kept of an application, behind its name.
+    /// The name of an application, and what is kept of it.
     fn entry(&self, app: AppId) -> (&[u8], &App)
         requires { app.0 < app_count self.now }
         ensures row { slice_get self.now.apps app.0 ≡ Some (named_row result.0.now result.1.now) }
