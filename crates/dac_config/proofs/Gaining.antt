@@ -5,7 +5,7 @@ use Rattle.std.proofs.lemmas.Result.{IfOk-weaker}
 use Rattle.dac_base.specs.declared.NoMemory.{NoMemory}
 use Rattle.dac_config.specs.declared.sink.Text.{Text}
 use Rattle.dac_config.specs.Sinks.{Gains, IsWritten, HasText}
-use Rattle.dac_config.specs.Canonical.{parted_behind, parted}
+use Rattle.dac_config.specs.Canonical.{parted_behind}
 
 -- once these texts are taken, the first behind `before`, the total is taken since the start
 pub record Goes {S : Type 0} (H : S → List ℕ → Type 0) (start now : S) (before : List ℕ) (left : List (List ℕ)) (total : List ℕ) : Type 0 where
@@ -21,9 +21,6 @@ module _ {S : Type 0} {H : S → List ℕ → Type 0} where
 
   pub nothing_more : {a : S} → Gains H a a []
   nothing_more {a} = record { held = λ text h. subst (H a) (sym (append-nil text)) h }
-
-  pub begun : {a : S} (texts : List (List ℕ)) → Goes H a a [] texts (parted texts)
-  begun texts = record { on = λ end h. h }
 
   pub one_more : {start a b c : S} {before text total behind : List ℕ} {left rest : List (List ℕ)} → Goes H start a before left total → left ≡ text ∷ rest → Gains H a b before → Gains H b c text → behind ≡ 44 ∷ [] → Goes H start c behind rest total
   one_more {a = a} {c = c} {before = before} {left = left} {rest = rest} so_far is p q comma = record {

@@ -5,13 +5,17 @@ use Rattle.std.specs.Cmp.{IsTotalOrder, unsigned_ties}
 use Rattle.std.specs.Cmp.Lexicographic.{texts_ties}
 use Rattle.std.specs.BTreeSet.{insert_key}
 use Rattle.std.specs.FinMap.{IsAntisymmetric, nat_cmp-IsAntisymmetric, slice_cmp-IsAntisymmetric}
-use Rattle.std.specs.List.{list_any, AllZip, AllByRecursion}
-use Rattle.std.specs.List.Sorted.{IsStrictlySortedBy}
+use Rattle.std.specs.List.{list_any, AllZip, AllByRecursion, dedup, dedup_from}
+use Rattle.std.specs.List.Retain.{IsFiltered, DiffersFromLast}
+use Rattle.std.specs.List.Sorted.{IsStrictlySortedBy, IsPermutation, IsSorted}
 use Rattle.std.proofs.Math.Bool.{or-false, or_assoc, or_comm, or_self}
 use Rattle.std.proofs.lemmas.Bool.{cond_both, lt-ltb, ne_eqb, eq-eqb, or_parts}
-use Rattle.std.proofs.lemmas.Cmp.{eq_by_cmp_equiv, nat_cmp_total, nat_list_cmp_total, nat_list_eq_equiv}
-use Rattle.std.proofs.lemmas.List.{drop_more, drop_all, length-map}
+use Rattle.std.proofs.lemmas.Cmp.{eq_by_cmp_equiv, nat_cmp_total, nat_list_cmp_total, nat_list_eq_equiv, on_total}
+use Rattle.std.proofs.lemmas.List.{drop_more, length-map}
 use Rattle.std.proofs.lemmas.List.Elements.{All-map, All-nil, All-cons, All-head, All-tail, All-weaker, All-from_recursion, recursion_from_All}
+use Rattle.std.proofs.lemmas.List.Filters.{dedup_is}
+use Rattle.std.proofs.lemmas.List.Kept.{IsStrictlySortedBy-dedup}
+use Rattle.std.proofs.lemmas.List.Sorted.{list_any-IsPermutation}
 use Rattle.std.proofs.lemmas.Map.Lookups.{btree_set_from_contains}
 use Rattle.std.proofs.lemmas.Map.Views.{All-insert_key}
 use Rattle.std.proofs.lemmas.Simd.{map-map}
@@ -26,7 +30,7 @@ use Rattle.dac_config.specs.ConfigView.{node_row, app_row, table_of}
 use Rattle.dac_config.specs.Table.{NodeRow, AppRow, Table}
 use Rattle.dac_config.specs.Numbering.{name_cmp, in_byte_order, numbers_from, numbered_node, numbered_nodes, permitted, numbered_app, numbered}
 use Rattle.dac_config.specs.Says.{is_named, IsGroup, IsUnmentioned, IsDefaultPermission, IsApp, IsTableOf, By, IsTable}
-use Rattle.dac_config.proofs.Names.{same_name, maps_from_zip}
+use Rattle.dac_config.proofs.Names.{among_names, same_name, maps_from_zip}
 
 -- ---- lists in which each key is below those after it
 
@@ -253,28 +257,37 @@ table_numbered w c nodes rows same apps wait =
     let through : map app_row c.apps.entries ≡ map (numbered_app w.permissions (numbered_nodes w)) w.apps = apps ∙ ap (λ rs. map (numbered_app w.permissions rs) w.apps) (ap (map node_row) same ∙ rows) in
     λ i. record { nodes = rows i; apps = through i; sync_wait = wait i }
 
--- ---- names are put in their places one after another
+-- ---- names are sorted, and each is kept once
+
+module _ (test : Bor (List ℕ) → Bool) (alike : (x y : Bor (List ℕ)) → bytes_eq x.now y.now ≡ true → test x ≡ test y) where
+  any_deduped_from : (k : Bor (List ℕ)) (xs : List (Bor (List ℕ))) → list_any test (dedup_from (λ a b. bytes_eq a.now b.now) k xs) ≡ (test k || list_any test xs)
+  any_deduped_from k [] = refl
+  any_deduped_from k (x ∷ xs) =
+      let rest = list_any test xs in
+      cond_both (bytes_eq x.now k.now) (dedup_from (λ a b. bytes_eq a.now b.now) k xs) (k ∷ dedup_from (λ a b. bytes_eq a.now b.now) x xs) (λ ys. list_any test ys ≡ (test k || (test x || rest)))
+      (λ same. any_deduped_from k xs ∙ ap (λ b. b || rest) (sym (or_self (test k))) ∙ or_assoc (test k) (test k) rest ∙ ap (λ b. test k || (b || rest)) (sym (alike x k same)))
+      (λ new. ap (λ b. test k || b) (any_deduped_from x xs))
+
+  any_deduped : (xs : List (Bor (List ℕ))) → list_any test (dedup (λ a b. bytes_eq a.now b.now) xs) ≡ list_any test xs
+  any_deduped [] = refl
+  any_deduped (x ∷ xs) = any_deduped_from x xs
 
 -- where the bytes of a name lie doesn't matter for its place
-names_of-insert_key : (ks : List (Bor (List ℕ))) (k : Bor (List ℕ)) → names_of (insert_key (λ a b. name_cmp a.now b.now) ks k) ≡ insert_key name_cmp (names_of ks) k.now
-names_of-insert_key [] k = refl
-names_of-insert_key (x ∷ xs) k =
-    elim (name_cmp k.now x.now) as (λ r. names_of (match_ordering r (k ∷ x ∷ xs) (x ∷ xs) (x ∷ insert_key (λ a b. name_cmp a.now b.now) xs k)) ≡ match_ordering r (k.now ∷ x.now ∷ names_of xs) (x.now ∷ names_of xs) (x.now ∷ insert_key name_cmp (names_of xs) k.now)) [
-      | Less ↦ refl
-      | Equal ↦ refl
-      | Greater ↦ ap (λ (l : List (List ℕ)). x.now ∷ l) (names_of-insert_key xs k)
-    ]
+rising_names : (names : List (Bor (List ℕ))) → IsStrictlySortedBy (λ a b. name_cmp a.now b.now) names → IsStrictlySortedBy name_cmp (names_of names)
+unfolding IsStrictlySortedBy
+rising_names [] h = tt
+rising_names (k ∷ ks) h = (all ks h.0, rising_names ks h.1)
+  where
+    all : (xs : List (Bor (List ℕ))) → AllByRecursion (λ x. name_cmp k.now x.now ≡ Less) xs → AllByRecursion (λ x. name_cmp k.now x ≡ Less) (names_of xs)
+    all [] g = tt
+    all (x ∷ xs) g = (g.0, all xs g.1)
 
--- the next name has gone to its place
-pub one_inserted : (names : List (Bor (List ℕ))) (i : ℕ) (d : Bor (List ℕ)) (ks new : List (Bor (List ℕ))) → new ≡ insert_key (λ a b. name_cmp a.now b.now) ks (get_or names i d) → i < length names
-    → fold (insert_key name_cmp) (names_of ks) (names_of (drop i names)) ≡ in_byte_order (names_of names)
-    → fold (insert_key name_cmp) (names_of new) (names_of (drop (i + 1) names)) ≡ in_byte_order (names_of names)
-one_inserted names i d ks new is within h =
-    ap (λ l. fold (insert_key name_cmp) l (names_of (drop (i + 1) names))) (ap names_of is ∙ names_of-insert_key ks (get_or names i d))
-    ∙ sym (ap (λ l. fold (insert_key name_cmp) (names_of ks) (names_of l)) (drop_more names i d within)) ∙ h
-
--- all names are in their places
-pub all_inserted : (names : List (Bor (List ℕ))) (i : ℕ) (ks : List (Bor (List ℕ))) → length names ≤ i
-    → fold (insert_key name_cmp) (names_of ks) (names_of (drop i names)) ≡ in_byte_order (names_of names)
-    → names_of ks ≡ in_byte_order (names_of names)
-all_inserted names i ks past h = sym (ap (λ l. fold (insert_key name_cmp) (names_of ks) (names_of l)) (drop_all i names past)) ∙ h
+pub sorted_once : (names sorted kept : List (Bor (List ℕ))) → IsPermutation names sorted → IsSorted (λ a b. name_cmp a.now b.now) sorted → IsFiltered (DiffersFromLast (λ a b. bytes_eq a.now b.now)) [] sorted kept
+    → names_of kept ≡ in_byte_order (names_of names)
+sorted_once names sorted kept same order filtered =
+    let once = dedup_is (λ a b. bytes_eq a.now b.now) sorted kept filtered in
+    let rising = rising_names kept (subst (IsStrictlySortedBy (λ a b. name_cmp a.now b.now)) (sym once) (IsStrictlySortedBy-dedup (on_total (λ name. name.now) nat_list_cmp_total) (λ a b. texts_ties a.now b.now) sorted order)) in
+    let members : (name : List ℕ) → is_among name (names_of kept) ≡ is_among name (names_of names) = λ name.
+    among_names name kept ∙ ap (list_any (λ other. bytes_eq other.now name)) once ∙ any_deduped (λ other. bytes_eq other.now name) (λ x y e. ap (λ n. bytes_eq n name) (same_name x.now y.now e)) sorted
+    ∙ sym (among_names name names ∙ list_any-IsPermutation (λ other. bytes_eq other.now name) names sorted same) in
+    same_rising nat_list_cmp_total (slice_cmp-IsAntisymmetric nat_cmp-IsAntisymmetric) bytes_eq texts_ties (names_of kept) (in_byte_order (names_of names)) rising (sorted_rising (names_of names)) (λ name. members name ∙ sym (sorted_names (names_of names) name))

@@ -1,14 +1,13 @@
 -- A configuration as it is kept: what its tables say at a number and of a name, how they are made, and their copies.
 use Rattle.std.proofs.Common.{◌≡◌, ℕ, ◌+◌, ◌<◌, ◌≤◌, drop, get_or, Bool, false, cond, eqb, not, List, [], ◌∷◌, ◌++◌, length, map, All, Bor, bytes_eq, position, Option, Some, None, option_map, slice_get, refl, sym, ap, subst, ◌∙◌, arith, append_assoc, append-nil}
 use Rattle.std.specs.Global.{Vec}
-use Rattle.std.specs.List.{prefix_len, list_any, AllZip, each_same}
-use Rattle.std.specs.Map.{keys_of, values_of, lookup}
+use Rattle.std.specs.List.{prefix_len, position_from, list_any, AllZip, each_same}
+use Rattle.std.specs.Map.{keys_of, lookup}
 use Rattle.std.specs.Map.Iter.{deref_pair}
 use Rattle.std.specs.Vec.{vec_len}
 use Rattle.std.proofs.lemmas.Bool.{or_parts}
 use Rattle.std.proofs.lemmas.Cmp.{nat_list_eq_equiv}
 use Rattle.std.proofs.lemmas.List.{drop_more, length-map, map_push}
-use Rattle.std.proofs.lemmas.List.Elements.{All-weaker}
 use Rattle.std.proofs.lemmas.Option.{slice_get-map, slice_get-get_or, slice_get_within, get_or_from_slice_get}
 use Rattle.indexmap.specs.IndexMap.{IndexMap, insert_entry}
 use Rattle.indexmap.proofs.CallerLemmas.{insert_entry-new}
@@ -21,9 +20,8 @@ use Rattle.dac_shapes.specs.Views.{app_of, apps_of}
 use Rattle.dac_config.specs.declared.config.App.{App}
 use Rattle.dac_config.specs.declared.config.Node.{Node}
 use Rattle.dac_config.specs.declared.config.Config.TheInside.{Inside}
-use Rattle.dac_config.specs.Table.{NodeRow, AppRow, Table, node_named, app_named, group_of}
-use Rattle.dac_config.specs.Says.{IsTable}
-use Rattle.dac_config.specs.ConfigView.{node_row, app_row, table_of, HasMembersBelow}
+use Rattle.dac_config.specs.Table.{NodeRow, AppRow, Table, node_name, app_named, group_of}
+use Rattle.dac_config.specs.ConfigView.{node_row, named_row, app_row, table_of, HasMembersBelow}
 use Rattle.dac_config.specs.Numbering.{numbered_app, AllNew}
 use Rattle.dac_config.proofs.Names.{all_mapped, maps_from_zip}
 
@@ -41,72 +39,50 @@ all_at P xs i x all e = subst P (get_or_from_slice_get xs i x x e) (all i x (sli
 
 -- ---- what is kept, in the words of the table
 
--- an application, from what the map has at its place
-pub app_kept : (c : Inside) (table : Table) → table_of c ≡ table → (i : ℕ) (app : App) → slice_get (values_of c.apps.entries) i ≡ Some app → (name : Vec ℕ) × (slice_get table.apps i ≡ Some (app_row (name, app)))
-app_kept c table is i app e =
-    subst (λ (t : Table). (name : Vec ℕ) × (slice_get t.apps i ≡ Some (app_row (name, app)))) is (rw (slice_get-map app_row c.apps.entries i) (by (slice_get c.apps.entries i) (sym (slice_get-map (λ x. x.1) c.apps.entries i) ∙ e)))
-  where
-    by : (o : Option (Vec ℕ × App)) → option_map (λ x. x.1) o ≡ Some app → (name : Vec ℕ) × (option_map app_row o ≡ Some (app_row (name, app)))
-    by None h = absurd cc
-    by (Some x) h = let k : x.1 ≡ app = cc in (x.0, ap (λ (a : App). Some (app_row (x.0, a))) k)
-
--- a node, from what the list has at its place
-node_within : (c : Inside) (table : Table) → table_of c ≡ table → (i : ℕ) → i < length table.nodes → i < length c.nodes.items
+-- the node and the application at a place
+pub node_within : (c : Inside) (table : Table) → table_of c ≡ table → (i : ℕ) → i < length table.nodes → i < length c.nodes.items
 node_within c table is i within = subst (λ n. i < n) (ap (λ (t : Table). length t.nodes) (sym is) ∙ length-map c.nodes.items node_row) within
-
-pub node_indexed : (c : Inside) (table : Table) → table_of c ≡ table → (i : ℕ) → i < length table.nodes → i < vec_len c.nodes
-node_indexed c table is i within = omega (arith, node_within c table is i within, c.nodes.ok.0)
 
 pub node_kept : (c : Inside) (table : Table) → table_of c ≡ table → (i : ℕ) (node : Node) → node ≡ get_or c.nodes.items i node → i < length table.nodes → slice_get table.nodes i ≡ Some (node_row node)
 node_kept c table is i node here within =
     subst (λ (t : Table). slice_get t.nodes i ≡ Some (node_row node)) is
     (slice_get-map node_row c.nodes.items i ∙ ap (option_map node_row) (slice_get-get_or c.nodes.items i node (node_within c table is i within)) ∙ ap (λ n. Some (node_row n)) (sym here))
 
--- the node, the application and the group at a place that was found
-pub node_found : (c : Inside) (table : Table) → table_of c ≡ table → (name : List ℕ) (nodes : List Node) (at : Option ℕ) → at ≡ position (λ node. bytes_eq name node.name.items) nodes → nodes ≡ c.nodes.items
-    → node_named table name ≡ option_map (λ place. record { 0 = place }) at
-node_found c table is name nodes at place kept =
-    ap (λ (t : Table). node_named t name) (sym is)
-    ∙ ap (option_map (λ place. record { 0 = place })) (position-map node_row (λ row. bytes_eq name row.name) c.nodes.items ∙ sym (place ∙ ap (position (λ (node : Node). bytes_eq name node.name.items)) kept))
+pub entry_kept : (c : Inside) (table : Table) → table_of c ≡ table → (i : ℕ) (got : Option (Bor (Vec ℕ) × Bor App)) (entry : Bor (Vec ℕ) × Bor App) → option_map deref_pair got ≡ slice_get c.apps.entries i → got ≡ Some entry → slice_get table.apps i ≡ Some (app_row (deref_pair entry))
+entry_kept c table is i got entry same was =
+    subst (λ (t : Table). slice_get t.apps i ≡ Some (app_row (deref_pair entry))) is (slice_get-map app_row c.apps.entries i ∙ ap (option_map app_row) (sym same ∙ ap (option_map deref_pair) was))
 
+-- what is left from a place
+pub left_at : {X : Type 0} (xs : List X) (i : ℕ) (x : X) → slice_get xs i ≡ Some x → drop i xs ≡ x ∷ drop (i + 1) xs
+left_at xs i x here = drop_more xs i x (slice_get_within xs i x here) ∙ ap (λ y. y ∷ drop (i + 1) xs) (get_or_from_slice_get xs i x x here)
+
+-- the first node of a name, from a place whose node has this name
+pub node_from : (name : List ℕ) (table : Table) (i : ℕ) (here : List ℕ) → i < length table.nodes → here ≡ node_name table (record { 0 = i })
+    → position_from (λ row. bytes_eq name row.name) i (drop i table.nodes) ≡ cond (bytes_eq name here) (Some i) (position_from (λ row. bytes_eq name row.name) (i + 1) (drop (i + 1) table.nodes))
+node_from name table i here within is =
+    let row : NodeRow = record { name = []; mandatory = false; optional = false } in
+    rw (is, drop_more table.nodes i row within, slice_get-get_or table.nodes i row within) refl
+
+-- the application and the group at a place that was found
 pub app_found : (c : Inside) (table : Table) → table_of c ≡ table → (name : List ℕ) (at : Option ℕ) → at ≡ position (λ key. bytes_eq name key.items) (keys_of c.apps.entries) → app_named table name ≡ option_map (λ place. record { 0 = place }) at
 app_found c table is name at place =
     ap (λ (t : Table). app_named t name) (sym is)
     ∙ ap (option_map (λ place. record { 0 = place })) (position-map app_row (λ row. bytes_eq name row.name) c.apps.entries ∙ sym (place ∙ position-map (λ entry. entry.0) (λ key. bytes_eq name key.items) c.apps.entries))
 
-pub group_found : (c : Inside) (table : Table) → table_of c ≡ table → (id : AppId) (node : NodeId) (app : App) → slice_get (values_of c.apps.entries) id.0 ≡ Some app → (groups : List (Vec ℕ)) (at : Option ℕ)
+pub group_found : (table : Table) (id : AppId) (node : NodeId) (name : List ℕ) (app : App) → slice_get table.apps id.0 ≡ Some (named_row name app) → (groups : List (Vec ℕ)) (at : Option ℕ)
     → at ≡ position (λ group. list_any (λ other. eqb other node.0) group.items) groups → groups ≡ app.groups.items → at ≡ group_of table id node
-group_found c table is id node app e groups at place kept =
-    rw (app_kept c table is id.0 app e).1 (place ∙ ap (position (λ (group : Vec ℕ). list_any (λ other. eqb other node.0) group.items)) kept ∙ sym (position-map (λ group. group.items) (λ group. list_any (λ other. eqb other node.0) group) app.groups.items))
+group_found table id node name app e groups at place kept =
+    rw e (place ∙ ap (position (λ (group : Vec ℕ). list_any (λ other. eqb other node.0) group.items)) kept ∙ sym (position-map (λ group. group.items) (λ group. list_any (λ other. eqb other node.0) group) app.groups.items))
 
 -- no application has many groups
-pub few_groups : (c : Inside) (i : ℕ) (app : App) → All (λ row. length row.groups ≤ 16) (table_of c).apps → slice_get (values_of c.apps.entries) i ≡ Some app → length app.groups.items ≤ 16
-few_groups c i app small e =
-    let row = app_kept c (table_of c) refl i app e in
-    omega (arith, length-map app.groups.items (λ group. group.items), all_at (λ (r : AppRow). length r.groups ≤ 16) (map app_row c.apps.entries) i (app_row (row.0, app)) small row.1)
+pub few_groups : (apps : List AppRow) (i : ℕ) (name : List ℕ) (app : App) → All (λ row. length row.groups ≤ 16) apps → slice_get apps i ≡ Some (named_row name app) → length app.groups.items ≤ 16
+few_groups apps i name app small e = omega (arith, length-map app.groups.items (λ group. group.items), all_at (λ (row : AppRow). length row.groups ≤ 16) apps i (named_row name app) small e)
 
--- the entry at a place, as the map gave it
-pub entry_at : (es : List (Vec ℕ × App)) (i : ℕ) (got : Option (Bor (Vec ℕ) × Bor App)) (entry : Bor (Vec ℕ) × Bor App) → option_map deref_pair got ≡ slice_get es i → got ≡ Some entry → slice_get es i ≡ Some (deref_pair entry)
-entry_at es i got entry is was = sym is ∙ ap (option_map deref_pair) was
-
--- what is left of the entries from there
-pub left_at : (es : List (Vec ℕ × App)) (i : ℕ) (got : Option (Bor (Vec ℕ) × Bor App)) (entry : Bor (Vec ℕ) × Bor App) → option_map deref_pair got ≡ slice_get es i → got ≡ Some entry → drop i es ≡ deref_pair entry ∷ drop (i + 1) es
-left_at es i got entry is was =
-    let here = entry_at es i got entry is was in
-    drop_more es i (deref_pair entry) (slice_get_within es i (deref_pair entry) here) ∙ ap (λ e. e ∷ drop (i + 1) es) (get_or_from_slice_get es i (deref_pair entry) (deref_pair entry) here)
-
--- the groups that are kept are of nodes that are kept
-pub kept_members : (c : Inside) (nodes : List Node) → nodes ≡ c.nodes.items → IsTable (table_of c) → All (λ entry. HasMembersBelow (length nodes) entry.1) c.apps.entries
-kept_members c nodes same is =
-    let Below : List ℕ → Type 0 = All (λ number. number < length nodes) in
-    let count : length (map node_row c.nodes.items) ≡ length nodes = length-map c.nodes.items node_row ∙ ap length (sym same) in
-    let members : All (λ app. All Below app.groups) (map app_row c.apps.entries) = subst (λ n. All (λ app. All (λ group. All (λ number. number < n) group) app.groups) (map app_row c.apps.entries)) count is.members in
-    All-weaker (λ entry. All Below (app_row entry).groups) (λ entry. HasMembersBelow (length nodes) entry.1) (λ entry h. all_mapped Below (λ group. group.items) entry.1.groups.items h)
-    c.apps.entries (all_mapped (λ app. All Below app.groups) app_row c.apps.entries members)
-
--- the table of what is kept
-pub kept_table : (c : Inside) (nodes : List Node) → nodes ≡ c.nodes.items → record { nodes = map node_row nodes; apps = map app_row c.apps.entries; sync_wait = c.sync_wait } ≡ table_of c
-kept_table c nodes same = λ i. record { nodes = map node_row (same i); apps = map app_row c.apps.entries; sync_wait = c.sync_wait }
+-- the groups of an application are of nodes that there are
+pub kept_members : (count : ℕ) (apps : List AppRow) (i : ℕ) (name : List ℕ) (app : App) → All (λ row. All (λ group. All (λ node. node < count) group) row.groups) apps → slice_get apps i ≡ Some (named_row name app) → HasMembersBelow count app
+kept_members count apps i name app members e =
+    let Below : List ℕ → Type 0 = All (λ node. node < count) in
+    all_mapped Below (λ group. group.items) app.groups.items (all_at (λ (row : AppRow). All Below row.groups) apps i (named_row name app) members e)
 
 -- ---- what is seen of a copy is what is seen of the original
 

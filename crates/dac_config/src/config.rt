@@ -1,6 +1,5 @@
 //! The tables of a configuration and its readers.
-ghost use Rattle.std.specs.Prelude.{◌≡◌, ◌<◌, ◌≤◌, ◌==◌, length, position, All, IfOk, IfSome};
-ghost use Rattle.std.specs.Str.{bytes_eq};
+ghost use Rattle.std.specs.Prelude.{◌≡◌, ◌<◌, ◌≤◌, ◌==◌, Some, slice_get, length, position, All, IfOk, IfSome};
 ghost use Rattle.std.specs.List.{list_any};
 ghost use Rattle.dac_config.specs.Table.{node_count, app_count, group_among};
 
@@ -62,14 +61,6 @@ impl Model for Config {
     ghost invariant = { IsKeptTable };
 }
 
-/// The place of the first node with this name.
-fn place_of_node(nodes: &[Node], name: &[u8]) -> Option<usize>
-    ensures place { result ≡ position (λ node. bytes_eq name.now node.name.items) nodes.now }
-    ensures within { IfSome result (λ at. at < length nodes.now) }
-{
-    nodes.iter().position(|node| name == node.name.as_slice())
-}
-
 /// The place of the first group that has the node.
 fn place_of_group(groups: &[Vec<u8>], node: u8) -> Option<usize>
     ensures place { result ≡ position (λ group. list_any (λ other. other == node) group.items) groups.now }
@@ -80,6 +71,7 @@ fn place_of_group(groups: &[Vec<u8>], node: u8) -> Option<usize>
 
 impl Config {
     ghost use Rattle.dac_config.specs.Table.{node_name, app_name, node_named, app_named, group_of, timeout_of, default_permission, is_mandatory, is_optional};
+    ghost use Rattle.dac_config.specs.ConfigView.{node_row, named_row};
     ghost use Rattle.dac_config.specs.Canonical.{canonical_text};
     ghost use Rattle.dac_config.specs.Says.{IsConfigOf};
     ghost use Rattle.dac_config.specs.Mark.{fnv1a};
@@ -103,12 +95,30 @@ impl Config {
         self.apps.len() as u16
     }
 
+    /// What is kept of a node.
+    fn node(&self, node: NodeId) -> &Node
+        requires { node.0 < node_count self.now }
+        ensures { slice_get self.now.nodes node.0 ≡ Some (node_row result.now) }
+    {
+        &self.nodes[node.0 as usize]
+    }
+
     /// The name of a node, without quotes.
     pub fn node_name(&self, node: NodeId) -> &[u8]
         requires { node.0 < node_count self.now }
         ensures { result.now ≡ node_name self.now node }
     {
-        &self.nodes[node.0 as usize].name
+        &self.node(node).name
+    }
+
+    /// The name of an application, and what is kept of it.
+    fn entry(&self, app: AppId) -> (&[u8], &App)
+        requires { app.0 < app_count self.now }
+        ensures row { slice_get self.now.apps app.0 ≡ Some (named_row result.0.now result.1.now) }
+        ensures few { length result.1.now.groups.items ≤ MAX_NODES }
+    {
+        let (name, row) = self.apps.get_index(app.0 as usize).unwrap();
+        (name, row)
     }
 
     /// The name of an application, without quotes.
@@ -116,16 +126,20 @@ impl Config {
         requires { app.0 < app_count self.now }
         ensures { result.now ≡ app_name self.now app }
     {
-        let (name, _) = self.apps.get_index(app.0 as usize).unwrap();
-        name
+        self.entry(app).0
     }
 
     /// The node with this name, if there is one.
     pub fn node_named(&self, name: &[u8]) -> Option<NodeId>
         ensures { result ≡ node_named self.now name.now }
     {
-        let at = place_of_node(&self.nodes, name)?;
-        Some(NodeId(at as u8))
+        for at in 0..self.nodes() {
+            let node = NodeId(at);
+            if name == self.node_name(node) {
+                return Some(node);
+            }
+        }
+        None
     }
 
     /// The application with this name, if there is one.
@@ -143,7 +157,7 @@ impl Config {
         requires { app.0 < app_count self.now }
         ensures { result ≡ group_of self.now app node }
     {
-        let row = &self.apps[app.0 as usize];
+        let (_, row) = self.entry(app);
         let at = place_of_group(&row.groups, node.0)?;
         Some(at as u16)
     }
@@ -153,7 +167,7 @@ impl Config {
         requires { app.0 < app_count self.now }
         ensures { result ≡ timeout_of self.now app }
     {
-        self.apps[app.0 as usize].timeout
+        self.entry(app).1.timeout
     }
 
     /// Whether a starting node waits for this node and gives up without it, after OTP's kernel manual,
@@ -162,7 +176,7 @@ impl Config {
         requires { node.0 < node_count self.now }
         ensures { result ≡ is_mandatory self.now node }
     {
-        self.nodes[node.0 as usize].mandatory
+        self.node(node).mandatory
     }
 
     /// Whether a starting node waits for this node and goes on without it, after OTP's kernel manual,
@@ -171,7 +185,7 @@ impl Config {
         requires { node.0 < node_count self.now }
         ensures { result ≡ is_optional self.now node }
     {
-        self.nodes[node.0 as usize].optional
+        self.node(node).optional
     }
 
     /// How long a starting node waits for its mandatory and optional nodes.
@@ -187,7 +201,7 @@ impl Config {
         requires { app.0 < app_count self.now }
         ensures { result ≡ default_permission self.now app }
     {
-        self.apps[app.0 as usize].permission
+        self.entry(app).1.permission
     }
 
     /// The one text of this configuration: a line that reads as this configuration, with every timeout. It has no spaces

@@ -12,7 +12,6 @@ use dac_base::{MAX_NODES, NoMemory};
 use dac_shapes::{Draft, DraftApp, Permission};
 use indexmap::IndexMap;
 use std::alloc::Global;
-use std::collections::BTreeSet;
 
 /// Whether the name is one of these.
 #[tactic(auto, using(crate::proofs::Names::among_names))]
@@ -26,11 +25,9 @@ fn is_among(name: &[u8], names: &[&[u8]]) -> bool
 fn in_byte_order<'a>(alloc: Global, names: &[&'a [u8]]) -> Result<Vec<&'a [u8]>, NoMemory>
     ensures { IfOk result (λ sorted. names_of sorted.items ≡ in_byte_order (names_of names.now)) }
 {
-    let mut sorted = BTreeSet::new(alloc);
-    for name in names {
-        sorted.insert(*name)?;
-    }
-    let sorted = sorted.iter().copied().collect(alloc)?;
+    let mut sorted = names.to_vec(alloc)?;
+    sorted.sort_unstable();
+    sorted.dedup();
     Ok(sorted)
 }
 

@@ -4,13 +4,14 @@ ghost use Rattle.std.specs.Prelude.{◌≡◌, ◌<◌, ◌≤◌, not, codes, l
 ghost use Rattle.std.specs.Fmt.{decimal};
 ghost use Rattle.dac_config.specs.Sinks.{Gains};
 ghost use Rattle.dac_config.specs.Canonical.{name_text, parted_behind, parted, node_name_text, tuple_text, group_text, app_text, ban_text, wait_texts, param_texts};
-ghost use Rattle.dac_config.specs.ConfigView.{node_row, named_row, app_row, HasMembersBelow, is_in};
+ghost use Rattle.dac_config.specs.Table.{node_count};
+ghost use Rattle.dac_config.specs.ConfigView.{node_row, named_row, HasMembersBelow, is_in};
 
 use super::{App, Config, Node};
 use crate::SyncWait;
 use crate::naming::put_name;
 use crate::sink::Sink;
-use indexmap::IndexMap;
+use dac_base::{AppId, NodeId};
 
 /// One decimal digit.
 fn put_digit<S: Sink>(sink: &mut S, digit: u8)
@@ -31,82 +32,81 @@ fn put_number<S: Sink>(sink: &mut S, number: u32)
     }
 }
 
-fn put_node<S: Sink>(sink: &mut S, nodes: &[Node], number: u8)
-    requires { number < length nodes.now }
-    ensures { Gains S.holds sink.old sink.new (node_name_text (map node_row nodes.now) number) }
+fn put_node<S: Sink>(sink: &mut S, config: &Config, node: NodeId)
+    requires { node.0 < node_count config.now }
+    ensures { Gains S.holds sink.old sink.new (node_name_text config.now.nodes node.0) }
 {
-    put_name(sink, &nodes[number as usize].name);
+    put_name(sink, config.node_name(node));
 }
 
 /// Nodes by their names, with a comma between any two.
-fn put_members<S: Sink>(sink: &mut S, nodes: &[Node], group: &[u8])
-    requires { All (λ number. number < length nodes.now) group.now }
-    ensures { Gains S.holds sink.old sink.new (parted (map (node_name_text (map node_row nodes.now)) group.now)) }
+fn put_members<S: Sink>(sink: &mut S, config: &Config, group: &[u8])
+    requires { All (λ number. number < node_count config.now) group.now }
+    ensures { Gains S.holds sink.old sink.new (parted (map (node_name_text config.now.nodes) group.now)) }
 {
-    let mut before = b"".as_slice();
+    let mut before: &[u8] = b"";
     for number in group {
         sink.put(before);
-        put_node(sink, nodes, *number);
-        before = b",".as_slice();
+        put_node(sink, config, NodeId(*number));
+        before = b",";
     }
 }
 
-fn put_group<S: Sink>(sink: &mut S, nodes: &[Node], group: &[u8])
-    requires { All (λ number. number < length nodes.now) group.now }
-    ensures { Gains S.holds sink.old sink.new (group_text (map node_row nodes.now) group.now) }
+fn put_group<S: Sink>(sink: &mut S, config: &Config, group: &[u8])
+    requires { All (λ number. number < node_count config.now) group.now }
+    ensures { Gains S.holds sink.old sink.new (group_text config.now.nodes group.now) }
 {
     match group {
-        [number] => put_node(sink, nodes, *number),
-        _ => put_tuple(sink, nodes, group),
+        [number] => put_node(sink, config, NodeId(*number)),
+        _ => put_tuple(sink, config, group),
     }
 }
 
-fn put_tuple<S: Sink>(sink: &mut S, nodes: &[Node], group: &[u8])
-    requires { All (λ number. number < length nodes.now) group.now }
-    ensures { Gains S.holds sink.old sink.new (tuple_text (map (node_name_text (map node_row nodes.now)) group.now)) }
+fn put_tuple<S: Sink>(sink: &mut S, config: &Config, group: &[u8])
+    requires { All (λ number. number < node_count config.now) group.now }
+    ensures { Gains S.holds sink.old sink.new (tuple_text (map (node_name_text config.now.nodes) group.now)) }
 {
     sink.put(b"{");
-    put_members(sink, nodes, group);
+    put_members(sink, config, group);
     sink.put(b"}");
 }
 
 /// The groups of an application, with a comma between any two.
-fn put_groups<S: Sink>(sink: &mut S, nodes: &[Node], groups: &[Vec<u8>])
-    requires { All (λ group. All (λ number. number < length nodes.now) group.items) groups.now }
-    ensures { Gains S.holds sink.old sink.new (parted (map (group_text (map node_row nodes.now)) (map (λ group. group.items) groups.now))) }
+fn put_groups<S: Sink>(sink: &mut S, config: &Config, groups: &[Vec<u8>])
+    requires { All (λ group. All (λ number. number < node_count config.now) group.items) groups.now }
+    ensures { Gains S.holds sink.old sink.new (parted (map (group_text config.now.nodes) (map (λ group. group.items) groups.now))) }
 {
-    let mut before = b"".as_slice();
+    let mut before: &[u8] = b"";
     for group in groups {
         sink.put(before);
-        put_group(sink, nodes, group);
-        before = b",".as_slice();
+        put_group(sink, config, group);
+        before = b",";
     }
 }
 
-fn put_app<S: Sink>(sink: &mut S, nodes: &[Node], name: &[u8], app: &App)
-    requires { HasMembersBelow (length nodes.now) app.now }
-    ensures { Gains S.holds sink.old sink.new (app_text (map node_row nodes.now) (named_row name.now app.now)) }
+fn put_app<S: Sink>(sink: &mut S, config: &Config, name: &[u8], app: &App)
+    requires { HasMembersBelow (node_count config.now) app.now }
+    ensures { Gains S.holds sink.old sink.new (app_text config.now.nodes (named_row name.now app.now)) }
 {
     sink.put(b"{");
     put_name(sink, name);
     sink.put(b",");
     put_number(sink, app.timeout);
     sink.put(b",[");
-    put_groups(sink, nodes, &app.groups);
+    put_groups(sink, config, &app.groups);
     sink.put(b"]}");
 }
 
 /// The applications with their groups, with a comma between any two.
-fn put_apps<S: Sink>(sink: &mut S, nodes: &[Node], apps: &IndexMap<Vec<u8>, App>)
-    requires { All (λ entry. HasMembersBelow (length nodes.now) entry.1) apps.now.entries }
-    ensures { Gains S.holds sink.old sink.new (parted (map (app_text (map node_row nodes.now)) (map app_row apps.now.entries))) }
+fn put_apps<S: Sink>(sink: &mut S, config: &Config)
+    ensures { Gains S.holds sink.old sink.new (parted (map (app_text config.now.nodes) config.now.apps)) }
 {
-    let mut before = b"".as_slice();
-    for at in 0..apps.len() {
-        let (name, app) = apps.get_index(at).unwrap();
+    let mut before: &[u8] = b"";
+    for at in 0..config.apps() {
+        let (name, app) = config.entry(AppId(at));
         sink.put(before);
-        put_app(sink, nodes, name, app);
-        before = b",".as_slice();
+        put_app(sink, config, name, app);
+        before = b",";
     }
 }
 
@@ -119,18 +119,18 @@ fn put_ban<S: Sink>(sink: &mut S, name: &[u8])
 }
 
 /// The applications that aren't permitted where no one has said, with a comma between any two.
-fn put_bans<S: Sink>(sink: &mut S, apps: &IndexMap<Vec<u8>, App>)
-    ensures { Gains S.holds sink.old sink.new (parted (map (λ row. ban_text row.name) (filter (λ row. not row.permission) (map app_row apps.now.entries)))) }
+fn put_bans<S: Sink>(sink: &mut S, config: &Config)
+    ensures { Gains S.holds sink.old sink.new (parted (map (λ row. ban_text row.name) (filter (λ row. not row.permission) config.now.apps))) }
 {
-    let mut before = b"".as_slice();
-    for at in 0..apps.len() {
-        let (name, app) = apps.get_index(at).unwrap();
+    let mut before: &[u8] = b"";
+    for at in 0..config.apps() {
+        let (name, app) = config.entry(AppId(at));
         if app.permission {
             continue;
         }
         sink.put(before);
         put_ban(sink, name);
-        before = b",".as_slice();
+        before = b",";
     }
 }
 
@@ -151,17 +151,18 @@ fn is_in(list: SyncList, node: &Node) -> bool
 }
 
 /// The nodes in this list by their names, with a comma between any two.
-fn put_sync_list<S: Sink>(sink: &mut S, nodes: &[Node], list: SyncList)
-    ensures { Gains S.holds sink.old sink.new (parted (map (λ row. name_text row.name) (filter (is_in list) (map node_row nodes.now)))) }
+fn put_sync_list<S: Sink>(sink: &mut S, config: &Config, list: SyncList)
+    ensures { Gains S.holds sink.old sink.new (parted (map (λ row. name_text row.name) (filter (is_in list) config.now.nodes))) }
 {
-    let mut before = b"".as_slice();
-    for node in nodes {
+    let mut before: &[u8] = b"";
+    for at in 0..config.nodes() {
+        let node = config.node(NodeId(at));
         if !is_in(list, node) {
             continue;
         }
         sink.put(before);
         put_name(sink, &node.name);
-        before = b",".as_slice();
+        before = b",";
     }
 }
 
@@ -180,20 +181,19 @@ fn put_wait<S: Sink>(sink: &mut S, wait: SyncWait)
 }
 
 /// The parameters, with a comma between any two.
-fn put_params<S: Sink>(sink: &mut S, nodes: &[Node], apps: &IndexMap<Vec<u8>, App>, wait: SyncWait)
-    requires { All (λ entry. HasMembersBelow (length nodes.now) entry.1) apps.now.entries }
-    ensures { Gains S.holds sink.old sink.new (parted (param_texts (record { nodes = map node_row nodes.now; apps = map app_row apps.now.entries; sync_wait = wait }))) }
+fn put_params<S: Sink>(sink: &mut S, config: &Config)
+    ensures { Gains S.holds sink.old sink.new (parted (param_texts config.now)) }
 {
     sink.put(b"{distributed,[");
-    put_apps(sink, nodes, apps);
+    put_apps(sink, config);
     sink.put(b"]},{permissions,[");
-    put_bans(sink, apps);
+    put_bans(sink, config);
     sink.put(b"]},{sync_nodes_mandatory,[");
-    put_sync_list(sink, nodes, SyncList::Mandatory);
+    put_sync_list(sink, config, SyncList::Mandatory);
     sink.put(b"]},{sync_nodes_optional,[");
-    put_sync_list(sink, nodes, SyncList::Optional);
+    put_sync_list(sink, config, SyncList::Optional);
     sink.put(b"]}");
-    put_wait(sink, wait);
+    put_wait(sink, config.sync_wait());
 }
 
 impl Config {
@@ -204,7 +204,7 @@ impl Config {
         ensures { Gains S.holds sink.old sink.new (canonical_text self.now) }
     {
         sink.put(b"[{kernel,[");
-        put_params(sink, &self.nodes, &self.apps, self.sync_wait);
+        put_params(sink, self);
         sink.put(b"]}].\n");
     }
 }

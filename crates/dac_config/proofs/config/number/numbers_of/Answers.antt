@@ -1,7 +1,11 @@
-use Rattle.std.proofs.Common.{sym, ap, ◌∙◌}
+use Rattle.std.proofs.Common.{map, sym, ap, ◌∙◌, arith}
 use Rattle.std.proofs.lemmas.Bool.{cond-true, cond-false}
+use Rattle.std.proofs.lemmas.List.{at_drop_all}
 use Rattle.dac_shapes.specs.Limits.{is_among}
 use Rattle.dac_shapes.specs.Views.{names_of}
+use Rattle.dac_config.specs.Numbering.{numbers_from}
+use Rattle.dac_config.specs.ConfigView.{node_row}
+use Rattle.dac_config.proofs.Tables.{all_pushed}
 use Rattle.dac_config.proofs.Numbers.{numbers_more}
 use Rattle.dac_config.proofs.config.number.numbers_of.Goals.{then-is_among+in_ok-push, else-is_among}
 use Rattle.dac_config.proofs.config.number.numbers_of.Goals as goal
@@ -15,3 +19,9 @@ loop-number-preserved c =
       | else-is_among w ↦ ap (λ numbers. numbers.items) w.numbers-is ∙ sym (cond-false _ _ _ w.if-is_among.false)
     ])
     c.loop-number.invariant
+
+pub overflow_cast-number : goal.overflow_cast-number
+overflow_cast-number c = omega (arith, c.requires, c.loop-number-test.true)
+
+pub returns : goal.returns
+returns c = all_pushed _ _ _ (at_drop_all (λ nodes. numbers_from c.loop-number.number (map node_row nodes) (names_of c.args.group.now)) c.args.nodes.now c.loop-number.number c.loop-number-test.false) c.loop-number.invariant

@@ -1,17 +1,16 @@
-use Rattle.std.proofs.Common.{List, ℕ, map, ap, ◌∙◌}
+use Rattle.std.proofs.Common.{List, ℕ, map, ap, refl, ◌∙◌}
 use Rattle.std.specs.Global.{Vec}
 use Rattle.std.proofs.lemmas.List.{at_drop_more, at_drop_all}
 use Rattle.dac_config.specs.Canonical.{group_text}
-use Rattle.dac_config.specs.ConfigView.{node_row}
 use Rattle.dac_config.proofs.Gaining.{one_more, all_taken}
 use Rattle.dac_config.proofs.config.text.put_groups.Goals as goal
 
 pub loop-group-preserved : goal.loop-group-preserved
 loop-group-preserved g c =
-    let left = at_drop_more (λ (groups : List (Vec ℕ)). map (group_text (map node_row c.args.nodes.now)) (map (λ group. group.items) groups)) c.args.groups.now c.loop-group.group-index c.group-item.result c.loop-group-test.true in
+    let left = at_drop_more (λ (groups : List (Vec ℕ)). map (group_text c.args.config.now.nodes) (map (λ group. group.items) groups)) c.args.groups.now c.loop-group.group-index c.group-item.result c.loop-group-test.true in
     let same = c.deref.ensures.value ∙ ap (λ (group : Vec ℕ). group.items) c.group-item.is in
-    one_more c.loop-group.invariant left c.put.ensures (rw same at c.put_group.ensures) c.as_slice-before-in-loop-group.ensures
+    one_more c.loop-group.invariant left c.put.ensures (rw same at c.put_group.ensures) refl
 
 pub returns : goal.returns
 returns g c =
-    all_taken c.loop-group.invariant (at_drop_all (λ (groups : List (Vec ℕ)). map (group_text (map node_row c.args.nodes.now)) (map (λ group. group.items) groups)) c.args.groups.now c.loop-group.group-index c.loop-group-test.false)
+    all_taken c.loop-group.invariant (at_drop_all (λ (groups : List (Vec ℕ)). map (group_text c.args.config.now.nodes) (map (λ group. group.items) groups)) c.args.groups.now c.loop-group.group-index c.loop-group-test.false)

@@ -1,7 +1,5 @@
 use Rattle.std.proofs.Common.{◌≡◌, ℕ, List, ◌++◌, map, filter, not, codes, append_assoc}
-use Rattle.dac_config.specs.Table.{NodeRow, AppRow}
 use Rattle.dac_config.specs.Canonical.{name_text, parted_behind, parted, pair_text, app_text, ban_text, wait_texts}
-use Rattle.dac_config.specs.ConfigView.{node_row, app_row}
 use Rattle.dac_config.proofs.Gaining.{then, as_text}
 use Rattle.dac_config.proofs.config.text.put_params.Goals as goal
 
@@ -12,10 +10,10 @@ in_row apps bans mandatory optional wait = simp append_assoc
 
 pub returns : goal.returns
 returns g c =
-    let nodes : List NodeRow = map node_row c.args.nodes.now in
-    let apps : List AppRow = map app_row c.args.apps.now.entries in
+    let config = c.args.config.now in
+    let wait = rw c.sync_wait.ensures at c.put_wait.ensures in
     as_text
     (then c.put.ensures (then c.put_apps.ensures (then c.put-2.ensures (then c.put_bans.ensures (then c.put-3.ensures (then c.put_sync_list.ensures
-    (then c.put-4.ensures (then c.put_sync_list-2.ensures (then c.put-5.ensures c.put_wait.ensures)))))))))
-    (in_row (parted (map (app_text nodes) apps)) (parted (map (λ row. ban_text row.name) (filter (λ row. not row.permission) apps))) (parted (map (λ row. name_text row.name) (filter (λ row. row.mandatory) nodes)))
-    (parted (map (λ row. name_text row.name) (filter (λ row. row.optional) nodes))) (parted_behind (codes ",") (wait_texts c.args.wait)))
+    (then c.put-4.ensures (then c.put_sync_list-2.ensures (then c.put-5.ensures wait)))))))))
+    (in_row (parted (map (app_text config.nodes) config.apps)) (parted (map (λ row. ban_text row.name) (filter (λ row. not row.permission) config.apps))) (parted (map (λ row. name_text row.name) (filter (λ row. row.mandatory) config.nodes)))
+    (parted (map (λ row. name_text row.name) (filter (λ row. row.optional) config.nodes))) (parted_behind (codes ",") (wait_texts config.sync_wait)))

@@ -1,28 +1,32 @@
-use Rattle.std.proofs.Common.{◌≡◌, ℕ, ◌+◌, ◌∷◌, true, false, List, map, filter, drop, refl, sym, ◌∙◌}
-use Rattle.std.proofs.lemmas.List.{drop_more, at_drop_all}
+use Rattle.std.proofs.Common.{◌≡◌, ℕ, ◌+◌, ◌∷◌, true, false, List, map, filter, drop, refl}
+use Rattle.std.proofs.lemmas.List.{at_drop_all}
+use Rattle.dac_config.specs.Table.{NodeRow}
 use Rattle.dac_config.specs.Canonical.{name_text}
 use Rattle.dac_config.specs.ConfigView.{node_row, is_in}
-use Rattle.dac_config.specs.declared.config.Node.{Node}
 use Rattle.dac_config.specs.declared.config.text.SyncList.{SyncList}
+use Rattle.dac_config.proofs.Tables.{left_at}
 use Rattle.dac_config.proofs.Gaining.{one_more, same_left, all_taken}
 use Rattle.dac_config.proofs.config.text.put_sync_list.Goals as goal
 
-abbrev texts : SyncList → List Node → List (List ℕ)
-texts list nodes = map (λ row. name_text row.name) (filter (is_in list) (map node_row nodes))
+abbrev texts : SyncList → List NodeRow → List (List ℕ)
+texts list rows = map (λ row. name_text row.name) (filter (is_in list) rows)
 
-pub loop-node-preserved-then-not-is_in : goal.loop-node-preserved-then-not-is_in
-loop-node-preserved-then-not-is_in g c =
-    let nodes = c.args.nodes.now in let at = c.loop-node.node-index in let node = c.node-item.result in
-    let fails : is_in c.args.list (node_row node) ≡ false = sym c.is_in.ensures ∙ c.if-not-is_in.true in
-    let left : texts c.args.list (drop at nodes) ≡ texts c.args.list (drop (at + 1) nodes) = rw (drop_more nodes at node c.loop-node-test.true, ← c.node-item.is, fails) refl in
-    same_left c.loop-node.invariant left
+pub node-node-requires : goal.node-node-requires
+node-node-requires g c = rw c.nodes-at-end.ensures.count at c.loop-at-test.true
 
-pub loop-node-preserved : goal.loop-node-preserved
-loop-node-preserved g c =
-    let nodes = c.args.nodes.now in let at = c.loop-node.node-index in let node = c.node-item.result in
-    let passes : is_in c.args.list (node_row node) ≡ true = sym c.is_in.ensures ∙ c.if-not-is_in.false in
-    let left : texts c.args.list (drop at nodes) ≡ name_text node.name.items ∷ texts c.args.list (drop (at + 1) nodes) = rw (drop_more nodes at node c.loop-node-test.true, ← c.node-item.is, passes) refl in
-    one_more c.loop-node.invariant left c.put.ensures (rw c.deref.ensures.value at c.put_name.ensures) c.as_slice-before-in-loop-node.ensures
+pub loop-at-preserved-then-not-is_in : goal.loop-at-preserved-then-not-is_in
+loop-at-preserved-then-not-is_in g c =
+    let nodes = c.args.config.now.nodes in let at = c.loop-at.at in
+    let fails : is_in c.args.list (node_row c.node-node.result.now) ≡ false = rw c.is_in.ensures at c.if-not-is_in.true in
+    let left : texts c.args.list (drop at nodes) ≡ texts c.args.list (drop (at + 1) nodes) = rw (left_at nodes at _ c.node-node.ensures, fails) refl in
+    same_left c.loop-at.invariant left
+
+pub loop-at-preserved : goal.loop-at-preserved
+loop-at-preserved g c =
+    let nodes = c.args.config.now.nodes in let at = c.loop-at.at in let node = c.node-node.result.now in
+    let passes : is_in c.args.list (node_row node) ≡ true = rw c.is_in.ensures at c.if-not-is_in.false in
+    let left : texts c.args.list (drop at nodes) ≡ name_text node.name.items ∷ texts c.args.list (drop (at + 1) nodes) = rw (left_at nodes at _ c.node-node.ensures, passes) refl in
+    one_more c.loop-at.invariant left c.put.ensures (rw c.deref.ensures.value at c.put_name.ensures) refl
 
 pub returns : goal.returns
-returns g c = all_taken c.loop-node.invariant (at_drop_all (texts c.args.list) c.args.nodes.now c.loop-node.node-index c.loop-node-test.false)
+returns g c = all_taken c.loop-at.invariant (at_drop_all (texts c.args.list) c.args.config.now.nodes c.loop-at.at (rw c.nodes-at-end.ensures.count at c.loop-at-test.false))
