@@ -11,7 +11,6 @@ ghost use Rattle.dac_shapes.specs.Written.{App};
 
 use crate::draft::DraftApp;
 use crate::limits::MAX_APPS;
-use crate::list::Elements;
 use crate::numbers::milliseconds_of;
 use crate::pairs::Pair;
 use crate::parser::Parser;
@@ -42,32 +41,8 @@ fn has_app(name: &[u8], apps: &[DraftApp<'_>]) -> bool
     apps.iter().any(|app| app.name == name)
 }
 
-/// Applications, each with another name.
-pub struct Apps;
-
-impl<'a> Elements<'a> for Apps {
-    type Element = DraftApp<'a>;
-
-    ghost Said = { App };
-
-    ghost said = { app_of };
-
-    ghost read_at = { λ _. app_at };
-
-    fn read(
-        &self,
-        parser: &mut Parser<'a>,
-        alloc: Global,
-        before: &[DraftApp<'a>],
-    ) -> Result<DraftApp<'a>, ConfigFault> {
-        parser.pair::<Apps>(alloc, before)
-    }
-}
-
-impl<'a> Pair<'a> for Apps {
+impl<'a> Pair<'a> for DraftApp<'a> {
     type Name = &'a [u8];
-
-    type Element = DraftApp<'a>;
 
     ghost Named = { List ℕ };
 

@@ -22,16 +22,15 @@ pub trait Elements<'a> {
     ghost said: { Self.Element → Said };
 
     // what the definition of the shapes reads
-    ghost read_at: { Self → Reading Said };
+    ghost read_at: { Reading Said };
 
     /// The element that begins with the parser's token.
     fn read(
-        &self,
         parser: &mut Parser<'a>,
         alloc: Global,
         before: &[Self::Element],
     ) -> Result<Self::Element, ConfigFault>
-        ensures read { Gives (λ x. (said x, parser_state parser.new)) result (read_at self.now (map said before.now) (located_of parser.old.token) (parser_state parser.old)) }
+        ensures read { Gives (λ x. (said x, parser_state parser.new)) result (read_at (map said before.now) (located_of parser.old.token) (parser_state parser.old)) }
         ensures left { tokens_left parser.new ≤ tokens_left parser.old };
 }
 
@@ -40,15 +39,14 @@ impl<'a> Parser<'a> {
     pub fn parted<E: Elements<'a>>(
         &mut self,
         alloc: Global,
-        elements: &E,
         close: Symbol,
     ) -> Result<Vec<E::Element>, ConfigFault>
-        ensures read { Gives (λ all. (map E.said all.items, parser_state self.new)) result (comma_list (E.read_at elements.now) close (room (parser_state self.old)) [] (located_of self.old.token) (parser_state self.old)) }
+        ensures read { Gives (λ all. (map E.said all.items, parser_state self.new)) result (comma_list E.read_at close (room (parser_state self.old)) [] (located_of self.old.token) (parser_state self.old)) }
         ensures left { tokens_left self.new ≤ tokens_left self.old }
     {
         let mut all = Vec::new(alloc);
         loop {
-            let element = elements.read(self, alloc, &all)?;
+            let element = E::read(self, alloc, &all)?;
             all.push(element)?;
             if !self.more(close)? {
                 return Ok(all);
@@ -59,18 +57,14 @@ impl<'a> Parser<'a> {
 
     /// A list in brackets, which may be empty.
     #[tactic(auto, unfolding(crate::specs::Shape::list_of))]
-    pub fn list<E: Elements<'a>>(
-        &mut self,
-        alloc: Global,
-        elements: &E,
-    ) -> Result<Vec<E::Element>, ConfigFault>
-        ensures read { Gives (λ all. (map E.said all.items, parser_state self.new)) result (list_of (E.read_at elements.now) (parser_state self.old)) }
+    pub fn list<E: Elements<'a>>(&mut self, alloc: Global) -> Result<Vec<E::Element>, ConfigFault>
+        ensures read { Gives (λ all. (map E.said all.items, parser_state self.new)) result (list_of E.read_at (parser_state self.old)) }
         ensures left { tokens_left self.new ≤ tokens_left self.old }
     {
         self.behind(Symbol::OpenList)?;
         if self.is(Symbol::CloseList) {
             return Ok(Vec::new(alloc));
         }
-        self.parted(alloc, elements, Symbol::CloseList)
+        self.parted::<E>(alloc, Symbol::CloseList)
     }
 }

@@ -1,6 +1,6 @@
 //! Nodes, and an application's node list.
 
-ghost use Rattle.std.specs.Prelude.{◌≡◌, ◌≤◌, ℕ, List, false};
+ghost use Rattle.std.specs.Prelude.{◌≡◌, ◌≤◌, ℕ, List, true, false};
 ghost use Rattle.dac_tokens.specs.Gives.{Gives};
 ghost use Rattle.dac_tokens.specs.Words.{located_of};
 ghost use Rattle.dac_shapes.specs.Shape.{node_of, tuple_at, item_at, groups_at};
@@ -13,11 +13,8 @@ use crate::parser::{Parser, fault};
 use dac_tokens::{ConfigFault, FaultKind, Symbol};
 use std::alloc::Global;
 
-/// Nodes by their names.
-pub struct Nodes {
-    /// Whether a node may stand twice.
-    pub repeats: bool,
-}
+/// Nodes by their names, of which each stands once in its list.
+pub struct Nodes;
 
 impl<'a> Elements<'a> for Nodes {
     type Element = &'a [u8];
@@ -26,15 +23,35 @@ impl<'a> Elements<'a> for Nodes {
 
     ghost said = { λ name. name.now };
 
-    ghost read_at = { λ nodes _. node_of nodes.repeats };
+    ghost read_at = { λ _. node_of false };
 
     fn read(
-        &self,
         parser: &mut Parser<'a>,
         _alloc: Global,
         _before: &[&'a [u8]],
     ) -> Result<&'a [u8], ConfigFault> {
-        parser.node(self.repeats)
+        parser.node(false)
+    }
+}
+
+/// Nodes that a start waits for, of which each may stand several times.
+pub struct SyncNodes;
+
+impl<'a> Elements<'a> for SyncNodes {
+    type Element = &'a [u8];
+
+    ghost Said = { List ℕ };
+
+    ghost said = { λ name. name.now };
+
+    ghost read_at = { λ _. node_of true };
+
+    fn read(
+        parser: &mut Parser<'a>,
+        _alloc: Global,
+        _before: &[&'a [u8]],
+    ) -> Result<&'a [u8], ConfigFault> {
+        parser.node(true)
     }
 }
 
@@ -48,11 +65,10 @@ impl<'a> Elements<'a> for Groups {
 
     ghost said = { λ group. names_of group.items };
 
-    ghost read_at = { λ _ _. item_at };
+    ghost read_at = { λ _. item_at };
 
     #[tactic(auto, unfolding(crate::specs::Shape::item_at))]
     fn read(
-        &self,
         parser: &mut Parser<'a>,
         alloc: Global,
         _before: &[Vec<&'a [u8]>],
@@ -97,7 +113,7 @@ impl<'a> Parser<'a> {
         if self.is(Symbol::CloseTuple) {
             return Err(fault(FaultKind::EmptyTuple, brace));
         }
-        self.parted(alloc, &Nodes { repeats: false }, Symbol::CloseTuple)
+        self.parted::<Nodes>(alloc, Symbol::CloseTuple)
     }
 
     /// A node list, whose opening bracket is the token.
@@ -115,6 +131,6 @@ impl<'a> Parser<'a> {
             return Err(fault(FaultKind::EmptyList, bracket));
         }
         self.listed.clear();
-        self.parted(alloc, &Groups, Symbol::CloseList)
+        self.parted::<Groups>(alloc, Symbol::CloseList)
     }
 }

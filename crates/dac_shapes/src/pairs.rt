@@ -8,26 +8,25 @@ ghost use Rattle.dac_tokens.specs.Words.{Located as Place, located_of};
 ghost use Rattle.dac_shapes.specs.Shape.{State, pair_at, symbol_at};
 ghost use Rattle.dac_shapes.specs.Views.{parser_state, tokens_left};
 
+use crate::list::Elements;
 use crate::parser::Parser;
 use dac_tokens::{ConfigFault, FaultKind, Symbol};
 use std::alloc::Global;
+use std::marker::PhantomData;
 
-/// A kind of pair: how its name is read, after the pairs before it, and what stands behind the name.
-pub trait Pair<'a> {
+/// What is written as a pair: how its name is read, after the pairs before it, and what stands behind the name.
+pub trait Pair<'a>: Drop {
     /// What the name says.
     type Name: Drop;
 
-    /// What the pair says.
-    type Element: Drop;
-
-    // both without where names lie
+    // what name and pair say, without where names lie
     ghost Named: { Type 0 };
 
     ghost named: { Self.Name → Named };
 
     ghost Said: { Type 0 };
 
-    ghost said: { Self.Element → Said };
+    ghost said: { Self → Said };
 
     // what the definition of the shapes reads
     ghost name_at: { List Said → Place → Result Named Fault };
@@ -35,27 +34,38 @@ pub trait Pair<'a> {
     ghost rest_at: { Named → State → Result (Said × State) Fault };
 
     /// The name that the parser's token is.
-    fn name(parser: &Parser<'a>, before: &[Self::Element]) -> Result<Self::Name, ConfigFault>
+    fn name(parser: &Parser<'a>, before: &[Self]) -> Result<Self::Name, ConfigFault>
         ensures { Gives named result (name_at (map said before.now) (located_of parser.now.token)) };
 
     /// What stands behind the comma, with the brace that closes the pair.
-    fn rest(
-        parser: &mut Parser<'a>,
-        alloc: Global,
-        name: Self::Name,
-    ) -> Result<Self::Element, ConfigFault>
+    fn rest(parser: &mut Parser<'a>, alloc: Global, name: Self::Name) -> Result<Self, ConfigFault>
         ensures read { Gives (λ x. (said x, parser_state parser.new)) result (rest_at (named name) (parser_state parser.old)) }
         ensures left { tokens_left parser.new ≤ tokens_left parser.old };
+}
+
+/// Pairs of one kind, as elements of a list.
+pub struct Pairs<'a, P> {
+    kind: PhantomData<(&'a [u8], P)>,
+}
+
+impl<'a, P: Pair<'a>> Elements<'a> for Pairs<'a, P> {
+    type Element = P;
+
+    ghost Said = { P.Said };
+
+    ghost said = { P.said };
+
+    ghost read_at = { λ before. pair_at (P.name_at before) P.rest_at };
+
+    fn read(parser: &mut Parser<'a>, alloc: Global, before: &[P]) -> Result<P, ConfigFault> {
+        parser.pair(alloc, before)
+    }
 }
 
 impl<'a> Parser<'a> {
     /// A pair, whose opening brace is the token.
     #[tactic(auto, unfolding(crate::specs::Shape::pair_at))]
-    pub fn pair<P: Pair<'a>>(
-        &mut self,
-        alloc: Global,
-        before: &[P::Element],
-    ) -> Result<P::Element, ConfigFault>
+    pub fn pair<P: Pair<'a>>(&mut self, alloc: Global, before: &[P]) -> Result<P, ConfigFault>
         ensures read { Gives (λ x. (P.said x, parser_state self.new)) result (pair_at (P.name_at (map P.said before.now)) P.rest_at (located_of self.old.token) (parser_state self.old)) }
         ensures left { tokens_left self.new ≤ tokens_left self.old }
     {

@@ -8,7 +8,6 @@ ghost use Rattle.dac_shapes.specs.Views.{permission_of};
 ghost use Rattle.dac_shapes.specs.Written.{Permission as WrittenPermission};
 
 use crate::draft::Permission;
-use crate::list::Elements;
 use crate::names::spells;
 use crate::pairs::Pair;
 use crate::parser::Parser;
@@ -32,32 +31,8 @@ impl Parser<'_> {
     }
 }
 
-/// Permissions, also several of one application.
-pub struct Permissions;
-
-impl<'a> Elements<'a> for Permissions {
-    type Element = Permission<'a>;
-
-    ghost Said = { WrittenPermission };
-
-    ghost said = { permission_of };
-
-    ghost read_at = { λ _ _. permission_at };
-
-    fn read(
-        &self,
-        parser: &mut Parser<'a>,
-        alloc: Global,
-        before: &[Permission<'a>],
-    ) -> Result<Permission<'a>, ConfigFault> {
-        parser.pair::<Permissions>(alloc, before)
-    }
-}
-
-impl<'a> Pair<'a> for Permissions {
+impl<'a> Pair<'a> for Permission<'a> {
     type Name = &'a [u8];
-
-    type Element = Permission<'a>;
 
     ghost Named = { List ℕ };
 

@@ -8,15 +8,13 @@ ghost use Rattle.dac_shapes.specs.Shape.{param_name_of, names_kernel, param_valu
 ghost use Rattle.dac_shapes.specs.Views.{param_of, section_of, draft_of, parser_state, tokens_left};
 ghost use Rattle.dac_shapes.specs.Written.{Param as WrittenParam, Section as WrittenSection};
 
-use crate::apps::Apps;
-use crate::draft::Draft;
+use crate::draft::{Draft, DraftApp, Permission};
 use crate::list::Elements;
 use crate::names::spells;
-use crate::nodes::Nodes;
-use crate::pairs::Pair;
+use crate::nodes::SyncNodes;
+use crate::pairs::{Pair, Pairs};
 use crate::param::{Param, ParamName, Section, has_kernel, has_param};
 use crate::parser::{Parser, fault};
-use crate::permissions::Permissions;
 use dac_tokens::{ConfigFault, FaultKind, Symbol, Token};
 use std::alloc::Global;
 
@@ -28,14 +26,14 @@ impl<'a> Parser<'a> {
         ensures left { tokens_left self.new ≤ tokens_left self.old }
     {
         match name {
-            ParamName::Distributed => self.list(alloc, &Apps).map(Param::Distributed),
-            ParamName::Permissions => self.list(alloc, &Permissions).map(Param::Permissions),
-            ParamName::Mandatory => self
-                .list(alloc, &Nodes { repeats: true })
-                .map(Param::Mandatory),
-            ParamName::Optional => self
-                .list(alloc, &Nodes { repeats: true })
-                .map(Param::Optional),
+            ParamName::Distributed => self
+                .list::<Pairs<DraftApp<'a>>>(alloc)
+                .map(Param::Distributed),
+            ParamName::Permissions => self
+                .list::<Pairs<Permission<'a>>>(alloc)
+                .map(Param::Permissions),
+            ParamName::Mandatory => self.list::<SyncNodes>(alloc).map(Param::Mandatory),
+            ParamName::Optional => self.list::<SyncNodes>(alloc).map(Param::Optional),
             ParamName::Timeout => {
                 self.advance()?;
                 let wait = self.wait()?;
@@ -61,7 +59,7 @@ impl<'a> Parser<'a> {
     pub fn file(mut self, alloc: Global) -> Result<Draft<'a>, ConfigFault>
         ensures { Gives draft_of result (file_at (parser_state self.entry)) }
     {
-        let sections = self.list(alloc, &Sections)?;
+        let sections = self.list::<Sections>(alloc)?;
         let end = self.end()?;
         let draft = Draft::of_sections(alloc, sections, self.met);
         if draft.apps.is_empty() {
@@ -71,32 +69,8 @@ impl<'a> Parser<'a> {
     }
 }
 
-/// Parameters, of which each that is read stands once.
-pub struct Params;
-
-impl<'a> Elements<'a> for Params {
-    type Element = Param<'a>;
-
-    ghost Said = { WrittenParam };
-
-    ghost said = { param_of };
-
-    ghost read_at = { λ _. param_at };
-
-    fn read(
-        &self,
-        parser: &mut Parser<'a>,
-        alloc: Global,
-        before: &[Param<'a>],
-    ) -> Result<Param<'a>, ConfigFault> {
-        parser.pair::<Params>(alloc, before)
-    }
-}
-
-impl<'a> Pair<'a> for Params {
+impl<'a> Pair<'a> for Param<'a> {
     type Name = Option<ParamName>;
-
-    type Element = Param<'a>;
 
     ghost Named = { Option Known };
 
@@ -147,11 +121,10 @@ impl<'a> Elements<'a> for Sections {
 
     ghost said = { section_of };
 
-    ghost read_at = { λ _. section_at };
+    ghost read_at = { section_at };
 
     #[tactic(auto, unfolding(crate::specs::Shape::section_at))]
     fn read(
-        &self,
         parser: &mut Parser<'a>,
         alloc: Global,
         before: &[Section<'a>],
@@ -159,14 +132,12 @@ impl<'a> Elements<'a> for Sections {
         if parser.is_text() {
             return Err(parser.fault(FaultKind::Unsupported));
         }
-        parser.pair::<Sections>(alloc, before)
+        parser.pair(alloc, before)
     }
 }
 
-impl<'a> Pair<'a> for Sections {
+impl<'a> Pair<'a> for Section<'a> {
     type Name = bool;
-
-    type Element = Section<'a>;
 
     ghost Named = { Bool };
 
@@ -202,7 +173,7 @@ impl<'a> Pair<'a> for Sections {
             parser.pass()?;
             return Ok(Section::Other);
         }
-        let params = parser.list(alloc, &Params)?;
+        let params = parser.list::<Pairs<Param<'a>>>(alloc)?;
         parser.closed(Section::Kernel(params))
     }
 }

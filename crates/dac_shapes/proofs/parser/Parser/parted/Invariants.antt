@@ -7,7 +7,7 @@ use Rattle.dac_shapes.proofs.parser.Parser.parted.Given as goal
 
 abbrev pub invariant-loop-all : goal.invariant-loop-all
 invariant-loop-all g l =
-    let read = g.E.Elements.read_at l.fn.elements in
+    let read = g.E.Elements.read_at in
     record {
       goes : Goes read l.fn.close (comma_list read l.fn.close (room (parser_state l.fn.self)) [] (located_of l.fn.self.token) (parser_state l.fn.self)) (map g.E.Elements.said l.all.items) (located_of l.self.token) (parser_state l.self);
       left : tokens_left l.self ≤ tokens_left l.fn.self;
