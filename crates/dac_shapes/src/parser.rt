@@ -24,7 +24,7 @@ pub fn fault(kind: FaultKind, at: usize) -> ConfigFault
     ConfigFault { kind, at }
 }
 
-impl<'a> Parser<'a> {
+impl Parser<'_> {
     /// Reads the next token; behind the end stands the end again.
     pub fn advance(&mut self) -> Result<(), ConfigFault>
         ensures read { Gives (λ _. here self.new) result (token (parser_state self.old)) }
