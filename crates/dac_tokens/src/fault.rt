@@ -9,7 +9,7 @@ use std::fmt;
 
 /// What is wrong at a place of the text. The number of each kind is its place in this list, from 1, and
 /// its name and number are part of the program's output.
-#[derive(Clone, Copy, PartialEq, Eq)]
+#[derive(Clone, Copy, Debug, PartialEq, Eq)]
 pub enum FaultKind {
     /// The text has more than 65,536 bytes.
     TooLong = 1,
@@ -75,12 +75,6 @@ impl FaultKind {
 }
 
 impl fmt::Display for FaultKind {
-    fn fmt<W: fmt::Write>(&self, f: &mut fmt::Formatter<W>) -> fmt::Result {
-        f.write_str(self.name())
-    }
-}
-
-impl fmt::Debug for FaultKind {
     fn fmt<W: fmt::Write>(&self, f: &mut fmt::Formatter<W>) -> fmt::Result {
         f.write_str(self.name())
     }
