@@ -75,6 +75,11 @@ impl FaultKind {
 }
 
 impl fmt::Display for FaultKind {
+    ghost use Rattle.std.specs.Prelude.{Some};
+    ghost use Rattle.dac_tokens.specs.Faults.{name_of};
+
+    ghost output = { λ kind. Some (name_of kind) };
+
     fn fmt<W: fmt::Write>(&self, f: &mut fmt::Formatter<W>) -> fmt::Result {
         f.write_str(self.name())
     }
@@ -82,15 +87,28 @@ impl fmt::Display for FaultKind {
 
 impl Error for FaultKind {}
 
-/// The first fault of a text, in text order.
-#[derive(Clone, Copy, Debug, PartialEq, Eq, thiserror::Error)]
-#[error("{kind} at {at}")]
+/// The first fault of a text, in text order. `Display` prints it as `NAME at P`.
+#[derive(Clone, Copy, Debug, PartialEq, Eq)]
 pub struct ConfigFault {
     /// What is wrong.
     pub kind: FaultKind,
     /// Where: a number of bytes from the start of the text; 0 for `NoMemory`.
     pub at: usize,
 }
+
+impl fmt::Display for ConfigFault {
+    ghost use Rattle.std.specs.Prelude.{◌++◌, Some, codes};
+    ghost use Rattle.std.specs.Fmt.{decimal};
+    ghost use Rattle.dac_tokens.specs.Faults.{name_of};
+
+    ghost output = { λ fault. Some (name_of fault.kind ++ (codes " at " ++ decimal fault.at)) };
+
+    fn fmt<W: fmt::Write>(&self, f: &mut fmt::Formatter<W>) -> fmt::Result {
+        write!(f, "{} at {}", self.kind, self.at)
+    }
+}
+
+impl Error for ConfigFault {}
 
 fn no_memory() -> ConfigFault
     ensures { (result.kind ≡ NoMemory) × (result.at ≡ 0) }
