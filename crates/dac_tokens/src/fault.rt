@@ -9,7 +9,7 @@ use std::fmt;
 
 /// What is wrong at a place of the text. The number of each kind is its place in this list, from 1, and
 /// its name and number are part of the program's output.
-#[derive(Clone, Copy, PartialEq, Eq)]
+#[derive(Clone, Copy, Debug, PartialEq, Eq)]
 pub enum FaultKind {
     /// The text has more than 65,536 bytes.
     TooLong = 1,
@@ -75,12 +75,11 @@ impl FaultKind {
 }
 
 impl fmt::Display for FaultKind {
-    fn fmt<W: fmt::Write>(&self, f: &mut fmt::Formatter<W>) -> fmt::Result {
-        f.write_str(self.name())
-    }
-}
+    ghost use Rattle.std.specs.Prelude.{Some};
+    ghost use Rattle.dac_tokens.specs.Faults.{name_of};
 
-impl fmt::Debug for FaultKind {
+    ghost output = { λ kind. Some (name_of kind) };
+
     fn fmt<W: fmt::Write>(&self, f: &mut fmt::Formatter<W>) -> fmt::Result {
         f.write_str(self.name())
     }
@@ -88,15 +87,28 @@ impl fmt::Debug for FaultKind {
 
 impl Error for FaultKind {}
 
-/// The first fault of a text, in text order.
-#[derive(Clone, Copy, Debug, PartialEq, Eq, thiserror::Error)]
-#[error("{kind} at {at}")]
+/// The first fault of a text, in text order. `Display` prints it as `NAME at P`.
+#[derive(Clone, Copy, Debug, PartialEq, Eq)]
 pub struct ConfigFault {
     /// What is wrong.
     pub kind: FaultKind,
     /// Where: a number of bytes from the start of the text; 0 for `NoMemory`.
     pub at: usize,
 }
+
+impl fmt::Display for ConfigFault {
+    ghost use Rattle.std.specs.Prelude.{◌++◌, Some, codes};
+    ghost use Rattle.std.specs.Fmt.{decimal};
+    ghost use Rattle.dac_tokens.specs.Faults.{name_of};
+
+    ghost output = { λ fault. Some (name_of fault.kind ++ (codes " at " ++ decimal fault.at)) };
+
+    fn fmt<W: fmt::Write>(&self, f: &mut fmt::Formatter<W>) -> fmt::Result {
+        write!(f, "{} at {}", self.kind, self.at)
+    }
+}
+
+impl Error for ConfigFault {}
 
 fn no_memory() -> ConfigFault
     ensures { (result.kind ≡ NoMemory) × (result.at ≡ 0) }

@@ -84,11 +84,7 @@ fn run_len(kind: Run, bytes: &[u8]) -> usize
     ensures length { result ≡ run (goes_on kind) bytes.now }
     ensures within { result ≤ length bytes.now }
 {
-    let mut len = 0;
-    while len < bytes.len() && goes_on(kind, bytes[len]) {
-        len += 1;
-    }
-    len
+    bytes.iter().take_while(|b| goes_on(kind, **b)).count()
 }
 
 /// Whether a dot with these bytes behind it is a full stop.
