@@ -2,7 +2,7 @@
 use Rattle.std.proofs.Common.{◌≡◌, ℕ, ◌≤◌, Bool, true, false, ◌||◌, ◌&&◌, List, [], ◌∷◌, ◌++◌, length, map, fold, filter, All, Bor, bytes_eq, ⊎_elim, refl, sym, ap, subst, ◌∙◌, arith, append_assoc}
 use Rattle.std.specs.Cmp.{IsEquivalence}
 use Rattle.std.specs.Cmp.Lexicographic.{same_text}
-use Rattle.std.specs.List.{list_any, IsDistinct, AllZip, AllByRecursion as Each}
+use Rattle.std.specs.List.{Contains, list_any, IsDistinct, AllZip, AllByRecursion as Each}
 use Rattle.std.proofs.Math.Bool.{or-true, or-false, or_assoc}
 use Rattle.std.proofs.lemmas.Bool.{both_ways, cond_both, false_from_ne_true, or_cases, or_parts, or_left, or_right}
 use Rattle.std.proofs.lemmas.Cmp.{nat_list_eq_equiv}
@@ -30,7 +30,7 @@ same_name a b h = same_text a b (sym h)
 abbrev pub is_name : List ℕ → List ℕ → Bool
 is_name name other = bytes_eq other name
 
-names_equal : IsEquivalence is_name
+pub names_equal : IsEquivalence is_name
 names_equal = record { refl = nat_list_eq_equiv.refl; symm = λ x y. nat_list_eq_equiv.symm y x; congr = λ x y z h. ap (bytes_eq z) (sym (same_name y x h)) }
 
 -- ---- names among others
@@ -48,9 +48,12 @@ later_among name other names h = or_right (bytes_eq other name) (is_among name n
 pub among_append : (name : List ℕ) (xs ys : List (List ℕ)) → is_among name (xs ++ ys) ≡ (is_among name xs || is_among name ys)
 among_append name xs ys = list_any-append (λ other. bytes_eq other name) xs ys
 
+pub contained : (name : List ℕ) (names : List (List ℕ)) → is_among name names ≡ true → Contains names name
+contained name names h = Contains-from_any {eq = is_name} (λ x y e. sym (same_name y x e)) name names h
+
 -- what holds of all names holds of each that is among them
 pub among_all : (P : List ℕ → Type 0) (names : List (List ℕ)) (name : List ℕ) → All P names → is_among name names ≡ true → P name
-among_all P names name all h = All-contains P names name all (Contains-from_any {eq = is_name} (λ x y e. sym (same_name y x e)) name names h)
+among_all P names name all h = All-contains P names name all (contained name names h)
 
 pub all_among : (P : List ℕ → Type 0) (names : List (List ℕ)) → ((name : List ℕ) → is_among name names ≡ true → P name) → All P names
 all_among P names each = All-from_any names_equal P names each

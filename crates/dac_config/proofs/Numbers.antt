@@ -1,7 +1,7 @@
 -- From names to numbers: names in byte order, and that what is numbered is what is written, and nothing else is.
 use Rattle.std.proofs.Common.{◌≡◌, ℕ, zero, suc, ◌+◌, ◌<◌, ◌≤◌, Bool, true, false, ◌||◌, cond, eqb, List, [], ◌∷◌, ◌++◌, length, map, map-id, drop, get_or, fold, slice_get, All, Bor, Ordering, Less, Equal, Greater, nat_cmp, bytes_eq, refl, sym, ap, subst, ◌∙◌, inl, inr, arith, append_assoc}
 use Rattle.std.specs.Ordering.{match_ordering, ordering_reverse, eq_by_cmp}
-use Rattle.std.specs.Cmp.{IsTotalOrder, unsigned_ties}
+use Rattle.std.specs.Cmp.{IsTotalOrder, unsigned_ties, both_ways}
 use Rattle.std.specs.Cmp.Lexicographic.{texts_ties}
 use Rattle.std.specs.BTreeSet.{insert_key}
 use Rattle.std.specs.FinMap.{IsAntisymmetric, nat_cmp-IsAntisymmetric, slice_cmp-IsAntisymmetric}
@@ -10,14 +10,14 @@ use Rattle.std.specs.List.Retain.{IsFiltered, DiffersFromLast}
 use Rattle.std.specs.List.Sorted.{IsStrictlySortedBy, IsPermutation, IsSorted}
 use Rattle.std.proofs.Math.Bool.{or-false, or_assoc, or_comm, or_self}
 use Rattle.std.proofs.lemmas.Bool.{cond_both, lt-ltb, ne_eqb, eq-eqb, or_parts}
-use Rattle.std.proofs.lemmas.Cmp.{eq_by_cmp_equiv, nat_cmp_total, nat_list_cmp_total, nat_list_eq_equiv, on_total}
-use Rattle.std.proofs.lemmas.List.{drop_more, length-map}
+use Rattle.std.proofs.lemmas.Cmp.{eq_by_cmp_equiv, nat_cmp_total, nat_list_cmp_total, nat_list_eq_equiv}
+use Rattle.std.proofs.lemmas.List.{drop_more, length-map, get_or-map}
 use Rattle.std.proofs.lemmas.List.Elements.{All-map, All-nil, All-cons, All-head, All-tail, All-weaker, All-from_recursion, recursion_from_All}
 use Rattle.std.proofs.lemmas.List.Filters.{dedup_is}
-use Rattle.std.proofs.lemmas.List.Kept.{IsStrictlySortedBy-dedup}
+use Rattle.std.proofs.lemmas.List.Kept.{Contains-dedup, Contains-from_dedup, IsStrictlySortedBy-dedup}
 use Rattle.std.proofs.lemmas.List.Sorted.{list_any-IsPermutation}
 use Rattle.std.proofs.lemmas.Map.Lookups.{btree_set_from_contains}
-use Rattle.std.proofs.lemmas.Map.Views.{All-insert_key}
+use Rattle.std.proofs.lemmas.Map.Views.{All-insert_key, list_any-from_Contains}
 use Rattle.std.proofs.lemmas.Simd.{map-map}
 use Rattle.dac_shapes.specs.Written.{App, Permission, Written}
 use Rattle.dac_shapes.specs.Limits.{is_among}
@@ -30,7 +30,7 @@ use Rattle.dac_config.specs.ConfigView.{node_row, app_row, table_of}
 use Rattle.dac_config.specs.Table.{NodeRow, AppRow, Table}
 use Rattle.dac_config.specs.Numbering.{name_cmp, in_byte_order, numbers_from, numbered_node, numbered_nodes, permitted, numbered_app, numbered}
 use Rattle.dac_config.specs.Says.{is_named, IsGroup, IsUnmentioned, IsDefaultPermission, IsApp, IsTableOf, By, IsTable}
-use Rattle.dac_config.proofs.Names.{among_names, same_name, maps_from_zip}
+use Rattle.dac_config.proofs.Names.{among_names, same_name, names_equal, contained, maps_from_zip}
 
 -- ---- lists in which each key is below those after it
 
@@ -251,43 +251,33 @@ numbers_more ns new i nodes node group total named here within tells is h =
     by false next = refl
 
 -- tables whose nodes and applications are numbered are the configuration that the text says
-pub table_numbered : (w : Written) (c : Inside) (nodes : List Node) → map node_row c.nodes.items ≡ numbered_nodes w → nodes ≡ c.nodes.items
-    → map app_row c.apps.entries ≡ map (numbered_app w.permissions (map node_row nodes)) w.apps → c.sync_wait ≡ w.sync_wait → table_of c ≡ numbered w
-table_numbered w c nodes rows same apps wait =
-    let through : map app_row c.apps.entries ≡ map (numbered_app w.permissions (numbered_nodes w)) w.apps = apps ∙ ap (λ rs. map (numbered_app w.permissions rs) w.apps) (ap (map node_row) same ∙ rows) in
+pub table_numbered : (w : Written) (c : Inside) → map node_row c.nodes.items ≡ numbered_nodes w → map app_row c.apps.entries ≡ map (numbered_app w.permissions (map node_row c.nodes.items)) w.apps → c.sync_wait ≡ w.sync_wait → table_of c ≡ numbered w
+table_numbered w c rows apps wait =
+    let through : map app_row c.apps.entries ≡ map (numbered_app w.permissions (numbered_nodes w)) w.apps = apps ∙ ap (λ rs. map (numbered_app w.permissions rs) w.apps) rows in
     λ i. record { nodes = rows i; apps = through i; sync_wait = wait i }
 
 -- ---- names are sorted, and each is kept once
 
-module _ (test : Bor (List ℕ) → Bool) (alike : (x y : Bor (List ℕ)) → bytes_eq x.now y.now ≡ true → test x ≡ test y) where
-  any_deduped_from : (k : Bor (List ℕ)) (xs : List (Bor (List ℕ))) → list_any test (dedup_from (λ a b. bytes_eq a.now b.now) k xs) ≡ (test k || list_any test xs)
-  any_deduped_from k [] = refl
-  any_deduped_from k (x ∷ xs) =
-      let rest = list_any test xs in
-      cond_both (bytes_eq x.now k.now) (dedup_from (λ a b. bytes_eq a.now b.now) k xs) (k ∷ dedup_from (λ a b. bytes_eq a.now b.now) x xs) (λ ys. list_any test ys ≡ (test k || (test x || rest)))
-      (λ same. any_deduped_from k xs ∙ ap (λ b. b || rest) (sym (or_self (test k))) ∙ or_assoc (test k) (test k) rest ∙ ap (λ b. test k || (b || rest)) (sym (alike x k same)))
-      (λ new. ap (λ b. test k || b) (any_deduped_from x xs))
-
-  any_deduped : (xs : List (Bor (List ℕ))) → list_any test (dedup (λ a b. bytes_eq a.now b.now) xs) ≡ list_any test xs
-  any_deduped [] = refl
-  any_deduped (x ∷ xs) = any_deduped_from x xs
-
 -- where the bytes of a name lie doesn't matter for its place
-rising_names : (names : List (Bor (List ℕ))) → IsStrictlySortedBy (λ a b. name_cmp a.now b.now) names → IsStrictlySortedBy name_cmp (names_of names)
-unfolding IsStrictlySortedBy
-rising_names [] h = tt
-rising_names (k ∷ ks) h = (all ks h.0, rising_names ks h.1)
-  where
-    all : (xs : List (Bor (List ℕ))) → AllByRecursion (λ x. name_cmp k.now x.now ≡ Less) xs → AllByRecursion (λ x. name_cmp k.now x ≡ Less) (names_of xs)
-    all [] g = tt
-    all (x ∷ xs) g = (g.0, all xs g.1)
+names_deduped : (names : List (Bor (List ℕ))) → names_of (dedup (λ a b. bytes_eq a.now b.now) names) ≡ dedup bytes_eq (names_of names)
+names_deduped [] = refl
+names_deduped (k ∷ []) = refl
+names_deduped (k ∷ x ∷ xs) =
+    cond_both (bytes_eq x.now k.now) (dedup_from (λ a b. bytes_eq a.now b.now) k xs) (k ∷ dedup_from (λ a b. bytes_eq a.now b.now) x xs) (λ ys. names_of ys ≡ dedup_from bytes_eq k.now (x.now ∷ names_of xs))
+    (λ same. rw same (names_deduped (k ∷ xs))) (λ new. rw new (ap (λ ys. k.now ∷ ys) (names_deduped (x ∷ xs))))
+
+names_sorted : (xs : List (Bor (List ℕ))) → IsSorted (λ a b. name_cmp a.now b.now) xs → IsSorted name_cmp (names_of xs)
+names_sorted xs up = λ k d low within.
+    let inside : k + 1 < length xs = omega (arith, within, length-map xs (λ name. name.now)) in let one : Bor (List ℕ) = record { ref_ptr = (0, 0); now = d } in
+    rw (get_or-map (λ name. name.now) xs (k + 1) one d inside, get_or-map (λ name. name.now) xs k one d (omega (arith, inside))) (up k one low inside)
 
 pub sorted_once : (names sorted kept : List (Bor (List ℕ))) → IsPermutation names sorted → IsSorted (λ a b. name_cmp a.now b.now) sorted → IsFiltered (DiffersFromLast (λ a b. bytes_eq a.now b.now)) [] sorted kept
     → names_of kept ≡ in_byte_order (names_of names)
 sorted_once names sorted kept same order filtered =
-    let once = dedup_is (λ a b. bytes_eq a.now b.now) sorted kept filtered in
-    let rising = rising_names kept (subst (IsStrictlySortedBy (λ a b. name_cmp a.now b.now)) (sym once) (IsStrictlySortedBy-dedup (on_total (λ name. name.now) nat_list_cmp_total) (λ a b. texts_ties a.now b.now) sorted order)) in
-    let members : (name : List ℕ) → is_among name (names_of kept) ≡ is_among name (names_of names) = λ name.
-    among_names name kept ∙ ap (list_any (λ other. bytes_eq other.now name)) once ∙ any_deduped (λ other. bytes_eq other.now name) (λ x y e. ap (λ n. bytes_eq n name) (same_name x.now y.now e)) sorted
-    ∙ sym (among_names name names ∙ list_any-IsPermutation (λ other. bytes_eq other.now name) names sorted same) in
-    same_rising nat_list_cmp_total (slice_cmp-IsAntisymmetric nat_cmp-IsAntisymmetric) bytes_eq texts_ties (names_of kept) (in_byte_order (names_of names)) rising (sorted_rising (names_of names)) (λ name. members name ∙ sym (sorted_names (names_of names) name))
+    let ns = names_of sorted in let rising = IsStrictlySortedBy-dedup nat_list_cmp_total texts_ties ns (names_sorted sorted order) in
+    let members : (name : List ℕ) → is_among name (dedup bytes_eq ns) ≡ is_among name (names_of names) = λ name.
+    both_ways (is_among name (dedup bytes_eq ns)) (is_among name ns) (λ h. list_any-from_Contains names_equal name ns (Contains-from_dedup bytes_eq ns name (contained name (dedup bytes_eq ns) h)))
+    (λ h. list_any-from_Contains names_equal name (dedup bytes_eq ns) (Contains-dedup nat_list_eq_equiv same_name ns name (contained name ns h)))
+    ∙ sym (among_names name names ∙ list_any-IsPermutation (λ other. bytes_eq other.now name) names sorted same ∙ sym (among_names name sorted)) in
+    ap names_of (dedup_is (λ a b. bytes_eq a.now b.now) sorted kept filtered) ∙ names_deduped sorted
+    ∙ same_rising nat_list_cmp_total (slice_cmp-IsAntisymmetric nat_cmp-IsAntisymmetric) bytes_eq texts_ties (dedup bytes_eq ns) (in_byte_order (names_of names)) rising (sorted_rising (names_of names)) (λ name. members name ∙ sym (sorted_names (names_of names) name))

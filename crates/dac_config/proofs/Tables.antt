@@ -13,16 +13,13 @@ use Rattle.indexmap.specs.IndexMap.{IndexMap, insert_entry}
 use Rattle.indexmap.proofs.CallerLemmas.{insert_entry-new}
 use Rattle.dac_base.specs.declared.NodeId.{NodeId}
 use Rattle.dac_base.specs.declared.AppId.{AppId}
-use Rattle.dac_shapes.specs.declared.draft.DraftApp.{DraftApp}
-use Rattle.dac_shapes.specs.Written.{Permission}
 use Rattle.dac_shapes.specs.Limits.{is_among}
-use Rattle.dac_shapes.specs.Views.{app_of, apps_of}
 use Rattle.dac_config.specs.declared.config.App.{App}
 use Rattle.dac_config.specs.declared.config.Node.{Node}
 use Rattle.dac_config.specs.declared.config.Config.TheInside.{Inside}
 use Rattle.dac_config.specs.Table.{NodeRow, AppRow, Table, node_name, app_named, group_of}
 use Rattle.dac_config.specs.ConfigView.{node_row, named_row, app_row, table_of, HasMembersBelow}
-use Rattle.dac_config.specs.Numbering.{numbered_app, AllNew}
+use Rattle.dac_config.specs.Numbering.{AllNew}
 use Rattle.dac_config.proofs.Names.{all_mapped, maps_from_zip}
 
 prefix_len-map : {A B : Type 0} (f : A → B) (p : B → Bool) (xs : List A) → prefix_len p (map f xs) ≡ prefix_len (λ x. p (f x)) xs
@@ -53,8 +50,11 @@ entry_kept c table is i got entry same was =
     subst (λ (t : Table). slice_get t.apps i ≡ Some (app_row (deref_pair entry))) is (slice_get-map app_row c.apps.entries i ∙ ap (option_map app_row) (sym same ∙ ap (option_map deref_pair) was))
 
 -- what is left from a place
+pub left_from : {X : Type 0} (xs : List X) (i : ℕ) (x : X) → x ≡ get_or xs i x → i < length xs → drop i xs ≡ x ∷ drop (i + 1) xs
+left_from xs i x here within = drop_more xs i x within ∙ ap (λ y. y ∷ drop (i + 1) xs) (sym here)
+
 pub left_at : {X : Type 0} (xs : List X) (i : ℕ) (x : X) → slice_get xs i ≡ Some x → drop i xs ≡ x ∷ drop (i + 1) xs
-left_at xs i x here = drop_more xs i x (slice_get_within xs i x here) ∙ ap (λ y. y ∷ drop (i + 1) xs) (get_or_from_slice_get xs i x x here)
+left_at xs i x here = left_from xs i x (sym (get_or_from_slice_get xs i x x here)) (slice_get_within xs i x here)
 
 -- the first node of a name, from a place whose node has this name
 pub node_from : (name : List ℕ) (table : Table) (i : ℕ) (here : List ℕ) → i < length table.nodes → here ≡ node_name table (record { 0 = i })
@@ -118,9 +118,11 @@ table_copied c d nodes apps wait = λ i. record {
 
 -- ---- rows are put into a list one after another
 
+pub row_pushed : {B : Type 0} (rows : List B) (row : B) (new left rest total : List B) → new ≡ rows ++ row ∷ [] → left ≡ row ∷ rest → rows ++ left ≡ total → new ++ rest ≡ total
+row_pushed rows row new left rest total is next so_far = ap (λ ys. ys ++ rest) is ∙ append_assoc rows (row ∷ []) rest ∙ ap (λ ys. rows ++ ys) (sym next) ∙ so_far
+
 pub one_pushed : {A B : Type 0} (f : A → B) (xs : List A) (x : A) (new : List A) (row : B) (left rest total : List B) → new ≡ xs ++ x ∷ [] → f x ≡ row → left ≡ row ∷ rest → map f xs ++ left ≡ total → map f new ++ rest ≡ total
-one_pushed f xs x new row left rest total is same next so_far =
-    ap (λ ys. map f ys ++ rest) is ∙ ap (λ ys. ys ++ rest) (map_push f xs x) ∙ append_assoc (map f xs) (f x ∷ []) rest ∙ ap (λ r. map f xs ++ r ∷ rest) same ∙ ap (λ ys. map f xs ++ ys) (sym next) ∙ so_far
+one_pushed f xs x new row left rest total is same next so_far = row_pushed (map f xs) row (map f new) left rest total (ap (map f) is ∙ map_push f xs x ∙ ap (λ r. map f xs ++ r ∷ []) same) next so_far
 
 pub all_pushed : {B : Type 0} (rows left total : List B) → left ≡ [] → rows ++ left ≡ total → rows ≡ total
 all_pushed rows left total none all = sym (append-nil rows) ∙ ap (λ ys. rows ++ ys) (sym none) ∙ all
@@ -130,36 +132,17 @@ all_pushed rows left total none all = sym (append-nil rows) ∙ ap (λ ys. rows 
 abbrev same_name : Vec ℕ → Vec ℕ → Bool
 same_name a b = bytes_eq a.items b.items
 
-abbrev names_in : List (Vec ℕ × App) → List (List ℕ)
-names_in es = map (λ entry. entry.0.items) es
-
-absent : (name : Vec ℕ) (es : List (Vec ℕ × App)) → is_among name.items (names_in es) ≡ false → lookup (same_name name) es ≡ None
+absent : (name : Vec ℕ) (es : List (Vec ℕ × App)) → is_among name.items (map (λ row. row.name) (map app_row es)) ≡ false → lookup (same_name name) es ≡ None
 absent name [] h = refl
-absent name (e ∷ es) h = let parts = or_parts (bytes_eq e.0.items name.items) (is_among name.items (names_in es)) h in rw (nat_list_eq_equiv.symm name.items e.0.items, parts.0) (absent name es parts.1)
+absent name (e ∷ es) h = let parts = or_parts (bytes_eq e.0.items name.items) (is_among name.items (map (λ row. row.name) (map app_row es))) h in rw (nat_list_eq_equiv.symm name.items e.0.items, parts.0) (absent name es parts.1)
 
-module _ {S : Type 0} (permissions : List Permission) (nodes : List NodeRow) (m : IndexMap (Vec ℕ) App S) (name : Vec ℕ) (app : App) (apps : List DraftApp) (i : ℕ) (item : DraftApp) (here : item ≡ get_or apps i item) (within : i < length apps)
-    (row : app_row (name, app) ≡ numbered_app permissions nodes (app_of item))
-    (once : AllNew (names_in m.entries) (map (λ a. a.name) (apps_of (drop i apps)))) where
-  left : drop i apps ≡ item ∷ drop (i + 1) apps
-  left = drop_more apps i item within ∙ ap (λ (x : DraftApp). x ∷ drop (i + 1) apps) (sym here)
+-- a new application goes last
+pub app_added : {S : Type 0} (m : IndexMap (Vec ℕ) App S) (name : Vec ℕ) (app : App) (new : List (Vec ℕ × App)) (row : AppRow) → is_among row.name (map (λ row. row.name) (map app_row m.entries)) ≡ false → app_row (name, app) ≡ row
+    → new ≡ insert_entry same_name m.entries name app → map app_row new ≡ map app_row m.entries ++ row ∷ []
+app_added m name app new row none same is =
+    ap (map app_row) (is ∙ insert_entry-new same_name m name app (absent name m.entries (ap (λ (r : AppRow). is_among r.name (map (λ row. row.name) (map app_row m.entries))) same ∙ none)))
+    ∙ map_push app_row m.entries (name, app) ∙ ap (λ r. map app_row m.entries ++ r ∷ []) same
 
-  same_names : name.items ≡ item.name.now
-  same_names = ap (λ (r : AppRow). r.name) row
-
-  next : AllNew (names_in m.entries) (item.name.now ∷ map (λ a. a.name) (apps_of (drop (i + 1) apps)))
-  next = subst (λ (rest : List DraftApp). AllNew (names_in m.entries) (map (λ a. a.name) (apps_of rest))) left once
-
-  -- a new application goes last
-  goes_last : insert_entry same_name m.entries name app ≡ m.entries ++ (name, app) ∷ []
-  goes_last = insert_entry-new same_name m name app (absent name m.entries (ap (λ n. is_among n (names_in m.entries)) same_names ∙ next.0))
-
-  pub more_rows : (new : List (Vec ℕ × App)) (total : List AppRow) → new ≡ insert_entry same_name m.entries name app → map app_row m.entries ++ map (numbered_app permissions nodes) (apps_of (drop i apps)) ≡ total
-      → map app_row new ++ map (numbered_app permissions nodes) (apps_of (drop (i + 1) apps)) ≡ total
-  more_rows new total is rows =
-      one_pushed app_row m.entries (name, app) new (numbered_app permissions nodes (app_of item)) (map (numbered_app permissions nodes) (apps_of (drop i apps))) (map (numbered_app permissions nodes) (apps_of (drop (i + 1) apps))) total (is ∙ goes_last) row
-      (ap (λ (rest : List DraftApp). map (numbered_app permissions nodes) (apps_of rest)) left) rows
-
-  pub still_once : (new : List (Vec ℕ × App)) → new ≡ insert_entry same_name m.entries name app → AllNew (names_in new) (map (λ a. a.name) (apps_of (drop (i + 1) apps)))
-  still_once new is =
-      subst (λ (names : List (List ℕ)). AllNew names (map (λ a. a.name) (apps_of (drop (i + 1) apps))))
-      (sym (ap names_in (is ∙ goes_last) ∙ map_push (λ entry. entry.0.items) m.entries (name, app) ∙ ap (λ n. names_in m.entries ++ n ∷ []) same_names)) next.1
+-- and the names of those to come are still new
+pub still_new : (rows new : List AppRow) (row : AppRow) (names : List (List ℕ)) → new ≡ rows ++ row ∷ [] → AllNew (map (λ row. row.name) rows) (row.name ∷ names) → AllNew (map (λ row. row.name) new) names
+still_new rows new row names is once = subst (λ met. AllNew met names) (sym (ap (map (λ row. row.name)) is ∙ map_push (λ row. row.name) rows row)) once.1

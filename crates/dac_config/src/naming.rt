@@ -9,10 +9,10 @@ use crate::sink::{Sink, Text};
 use dac_base::NoMemory;
 use std::alloc::Global;
 
-fn is_name_byte(byte: u8) -> bool
-    ensures { result ≡ is_name_byte byte }
+fn is_name_byte(byte: &u8) -> bool
+    ensures { result ≡ is_name_byte byte.now }
 {
-    byte.is_ascii_alphanumeric() || byte == b'_' || byte == b'@'
+    byte.is_ascii_alphanumeric() || *byte == b'_' || *byte == b'@'
 }
 
 fn begins_small(name: &[u8]) -> bool
@@ -27,7 +27,7 @@ fn begins_small(name: &[u8]) -> bool
 fn all_name_bytes(name: &[u8]) -> bool
     ensures { result ≡ list_all is_name_byte name.now }
 {
-    name.iter().all(|byte| is_name_byte(*byte))
+    name.iter().all(is_name_byte)
 }
 
 /// Whether the name is an atom without quotes: a small letter and further letters, digits, `_` and `@`, and

@@ -32,7 +32,7 @@ pub fn read_config(alloc: Global, text: &[u8]) -> Result<Config, ConfigFault>
     ensures first { IfErr result (λ fault. fault.kind ≢ NoMemory → IsFaultOf text.now fault) }
     ensures memory { IfErr result (λ fault. fault.kind ≡ NoMemory → fault.at ≡ 0) }
 {
-    let draft = read_draft(alloc, text)?;
-    let config = Config::of_draft(alloc, &draft)?;
+    let mut draft = read_draft(alloc, text)?;
+    let config = Config::of_draft(alloc, &mut draft)?;
     Ok(config)
 }

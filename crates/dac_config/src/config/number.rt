@@ -1,10 +1,10 @@
 //! Numbers in place of names.
-ghost use Rattle.std.specs.Prelude.{◌≡◌, ◌≤◌, ℕ, List, [], map, length, IfOk};
-ghost use Rattle.dac_shapes.specs.Views.{names_of, groups_of, app_of, apps_of, permissions_of, draft_of};
+ghost use Rattle.std.specs.Prelude.{◌≡◌, ◌≤◌, ℕ, false, List, [], ◌∷◌, ◌++◌, map, length, IfOk, OnOk};
+ghost use Rattle.dac_shapes.specs.Views.{names_of, groups_of, app_of, permissions_of, draft_of};
 ghost use Rattle.dac_shapes.specs.Limits.{is_among};
 ghost use Rattle.dac_shapes.specs.Grammar.{IsTextOf};
 ghost use Rattle.dac_shapes.specs.Within.{IsWithinLimits};
-ghost use Rattle.dac_config.specs.Numbering.{in_byte_order, numbers_from, numbered_node, numbered_nodes, permitted, numbered_app, numbered, AllNew};
+ghost use Rattle.dac_config.specs.Numbering.{in_byte_order, numbers_from, numbered_node, permitted, numbered_app, numbered};
 ghost use Rattle.dac_config.specs.ConfigView.{node_row, app_row};
 
 use super::{App, Config, Node};
@@ -21,14 +21,12 @@ fn is_among(name: &[u8], names: &[&[u8]]) -> bool
     names.contains(&name)
 }
 
-/// The names in byte order, each once.
-fn in_byte_order<'a>(alloc: Global, names: &[&'a [u8]]) -> Result<Vec<&'a [u8]>, NoMemory>
-    ensures { IfOk result (λ sorted. names_of sorted.items ≡ in_byte_order (names_of names.now)) }
+/// Puts the names in byte order, each once.
+fn in_byte_order(names: &mut Vec<&[u8]>)
+    ensures { names_of names.new.items ≡ in_byte_order (names_of names.old.items) }
 {
-    let mut sorted = names.to_vec(alloc)?;
-    sorted.sort_unstable();
-    sorted.dedup();
-    Ok(sorted)
+    names.sort_unstable();
+    names.dedup();
 }
 
 /// The node with this name.
@@ -45,13 +43,12 @@ fn node_of(alloc: Global, draft: &Draft<'_>, name: &[u8]) -> Result<Node, NoMemo
     })
 }
 
-/// The nodes by their numbers.
+/// The nodes, in the order of their names in the draft.
 fn nodes_of(alloc: Global, draft: &Draft<'_>) -> Result<Vec<Node>, NoMemory>
-    ensures { IfOk result (λ nodes. map node_row nodes.items ≡ numbered_nodes (draft_of draft.now)) }
+    ensures { IfOk result (λ nodes. map node_row nodes.items ≡ map (numbered_node (draft_of draft.now)) (draft_of draft.now).nodes) }
 {
-    let names = in_byte_order(alloc, &draft.nodes)?;
     let mut nodes = Vec::new(alloc);
-    for name in &names {
+    for name in &draft.nodes {
         nodes.push(node_of(alloc, draft, name)?)?;
     }
     Ok(nodes)
@@ -96,58 +93,45 @@ fn is_permitted(permissions: &[Permission<'_>], name: &[u8]) -> bool
     true
 }
 
-/// The application with its name.
-fn app_of(
+/// Gives the application the next number.
+fn add_app(
     alloc: Global,
-    permissions: &[Permission<'_>],
+    draft: &Draft<'_>,
     nodes: &[Node],
     app: &DraftApp<'_>,
-) -> Result<(Vec<u8>, App), NoMemory>
-    requires { length nodes.now ≤ MAX_NODES }
-    ensures { IfOk result (λ entry. app_row entry ≡ numbered_app (permissions_of permissions.now) (map node_row nodes.now) (app_of app.now)) }
+    numbered: &mut IndexMap<Vec<u8>, App>,
+) -> Result<(), NoMemory>
+    requires few { length nodes.now ≤ MAX_NODES }
+    requires new { is_among app.now.name.now (map (λ row. row.name) (map app_row numbered.old.entries)) ≡ false }
+    ensures { OnOk result (map app_row numbered.new.entries ≡ map app_row numbered.old.entries ++ numbered_app (draft_of draft.now).permissions (map node_row nodes.now) (app_of app.now) ∷ []) }
 {
-    let permission = is_permitted(permissions, app.name);
-    let name = app.name.to_vec(alloc)?;
     let groups = groups_of(alloc, nodes, &app.groups)?;
-    let timeout = app.timeout;
-    Ok((
+    let name = app.name.to_vec(alloc)?;
+    let permission = is_permitted(&draft.permissions, app.name);
+    numbered.insert(
         name,
         App {
-            timeout,
+            timeout: app.timeout,
             groups,
             permission,
         },
-    ))
-}
-
-/// The applications by their numbers.
-fn apps_of(
-    alloc: Global,
-    permissions: &[Permission<'_>],
-    nodes: &[Node],
-    apps: &[DraftApp<'_>],
-) -> Result<IndexMap<Vec<u8>, App>, NoMemory>
-    requires few { length nodes.now ≤ MAX_NODES }
-    requires once { AllNew [] (map (λ app. app.name) (apps_of apps.now)) }
-    ensures { IfOk result (λ numbered. map app_row numbered.entries ≡ map (numbered_app (permissions_of permissions.now) (map node_row nodes.now)) (apps_of apps.now)) }
-{
-    let mut numbered = IndexMap::new(alloc);
-    for app in apps {
-        let (name, app) = app_of(alloc, permissions, nodes, app)?;
-        numbered.insert(name, app)?;
-    }
-    Ok(numbered)
+    )?;
+    Ok(())
 }
 
 impl Config {
-    /// What a text says, with numbers in place of names.
-    pub(crate) fn of_draft(alloc: Global, draft: &Draft<'_>) -> Result<Config, NoMemory>
-        requires limits { IsWithinLimits (draft_of draft.now) }
-        requires said { (text : List ℕ) × IsTextOf text (draft_of draft.now) }
-        ensures { IfOk result (λ config. config ≡ numbered (draft_of draft.now)) }
+    /// What a text says, with numbers in place of names. It puts the nodes of the draft in order where they lie.
+    pub(crate) fn of_draft(alloc: Global, draft: &mut Draft<'_>) -> Result<Config, NoMemory>
+        requires limits { IsWithinLimits (draft_of draft.old) }
+        requires said { (text : List ℕ) × IsTextOf text (draft_of draft.old) }
+        ensures { IfOk result (λ config. config ≡ numbered (draft_of draft.old)) }
     {
+        in_byte_order(&mut draft.nodes);
         let nodes = nodes_of(alloc, draft)?;
-        let apps = apps_of(alloc, &draft.permissions, &nodes, &draft.apps)?;
+        let mut apps = IndexMap::new(alloc);
+        for app in &draft.apps {
+            add_app(alloc, draft, &nodes, app, &mut apps)?;
+        }
         Ok(Config {
             nodes,
             apps,

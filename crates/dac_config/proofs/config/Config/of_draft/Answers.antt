@@ -1,24 +1,39 @@
-use Rattle.std.proofs.Common.{◌≡◌, ◌≤◌, sym, ◌∙◌, length, subst, refl, ap, map, []}
+use Rattle.std.proofs.Common.{[], map, refl, sym, ap, subst, ◌∙◌}
+use Rattle.std.proofs.lemmas.List.{at_drop_all}
 use Rattle.dac_shapes.specs.Views.{draft_of, apps_of, permissions_of}
 use Rattle.dac_config.specs.Says.{IsTable}
 use Rattle.dac_config.specs.ConfigView.{node_row, app_row}
-use Rattle.dac_config.specs.Numbering.{numbered_app}
-use Rattle.dac_config.proofs.Names.{Differ, all_new}
+use Rattle.dac_config.specs.Numbering.{numbered_node, numbered_app, AllNew}
+use Rattle.dac_config.proofs.Names.{all_new}
 use Rattle.dac_config.proofs.Numbers.{few_numbered, small_numbered, table_numbered}
+use Rattle.dac_config.proofs.Tables.{left_from, row_pushed, still_new, all_pushed}
 use Rattle.dac_config.proofs.config.Config.of_draft.Goals as goal
 
-pub apps_of-requires-clause-few : goal.apps_of-requires-clause-few
-apps_of-requires-clause-few c =
-    subst (λ nodes. length nodes ≤ 16) (sym c.deref-2.ensures.value) (few_numbered (draft_of c.args.draft.now) c.in_ok-nodes.nodes.items c.requires.limits.few c.in_ok-nodes.ensures)
+pub loop-app-init : goal.loop-app-init
+loop-app-init c = rw c.new-apps.ensures.empty (record { rows = refl; once = rw c.deref-app-items.ensures.value (all_new [] _ c.requires.limits.apps.different) })
 
-pub apps_of-requires-clause-once : goal.apps_of-requires-clause-once
-apps_of-requires-clause-once c = all_new [] (map (λ app. app.name) (apps_of c.deref-3.result.now)) (subst (λ apps. Differ (map (λ app. app.name) (apps_of apps))) (sym c.deref-3.ensures.value) c.requires.limits.apps.different)
+pub add_app-requires-clause-few : goal.add_app-requires-clause-few
+add_app-requires-clause-few c =
+    rw c.deref.ensures.value (few_numbered (draft_of c.args.draft.now) c.in_ok-nodes.nodes.items c.requires.limits.few (c.in_ok-nodes.ensures ∙ ap (map (numbered_node (draft_of c.args.draft.now))) c.in_byte_order.ensures))
+
+pub add_app-requires-clause-new : goal.add_app-requires-clause-new
+add_app-requires-clause-new c =
+    (subst (λ apps. AllNew (map (λ row. row.name) (map app_row c.loop-app.apps.entries)) (map (λ app. app.name) (apps_of apps))) (left_from c.deref-app-items.result.now c.loop-app.app-index c.app-item.result c.app-item.is c.loop-app-test.true) c.loop-app.invariant.once).0
+
+pub loop-app-preserved : goal.loop-app-preserved
+loop-app-preserved c =
+    let left = left_from c.deref-app-items.result.now c.loop-app.app-index c.app-item.result c.app-item.is c.loop-app-test.true in
+    let added = rw c.deref.ensures.value at c.in_ok-add_app.ensures in
+    record {
+      rows = row_pushed _ _ _ _ _ _ added (ap (λ apps. map (numbered_app (permissions_of c.args.draft.now.permissions.items) (map node_row c.in_ok-nodes.nodes.items)) (apps_of apps)) left) c.loop-app.invariant.rows;
+      once = still_new _ _ _ _ added (subst (λ apps. AllNew (map (λ row. row.name) (map app_row c.loop-app.apps.entries)) (map (λ app. app.name) (apps_of apps))) left c.loop-app.invariant.once);
+    }
+
+pub returns : goal.returns
+returns c =
+    let w = draft_of c.args.draft.now in let rows = c.in_ok-nodes.ensures ∙ ap (map (numbered_node w)) c.in_byte_order.ensures in let row = numbered_app w.permissions (map node_row c.in_ok-nodes.nodes.items) in
+    let apps = all_pushed _ _ _ (at_drop_all (λ apps. map row (apps_of apps)) c.deref-app-items.result.now c.loop-app.app-index c.loop-app-test.false) c.loop-app.invariant.rows ∙ ap (λ apps. map row (apps_of apps)) c.deref-app-items.ensures.value in
+    table_numbered w (record { nodes = c.in_ok-nodes.nodes; apps = c.loop-app.apps; sync_wait = c.args.draft.now.sync_wait }) rows apps refl
 
 pub invariant_of-result : goal.invariant_of-result
-invariant_of-result c =
-    let apps : map app_row c.in_ok-apps.apps.entries ≡ map (numbered_app (permissions_of c.args.draft.now.permissions.items) (map node_row c.deref-2.result.now)) (apps_of c.args.draft.now.apps.items) =
-    c.in_ok-apps.ensures
-    ∙ ap (λ permissions. map (numbered_app (permissions_of permissions) (map node_row c.deref-2.result.now)) (apps_of c.deref-3.result.now)) c.deref.ensures.value
-    ∙ ap (λ apps. map (numbered_app (permissions_of c.args.draft.now.permissions.items) (map node_row c.deref-2.result.now)) (apps_of apps)) c.deref-3.ensures.value in
-    subst IsTable (sym (table_numbered (draft_of c.args.draft.now) (record { nodes = c.in_ok-nodes.nodes; apps = c.in_ok-apps.apps; sync_wait = c.args.draft.now.sync_wait }) c.deref-2.result.now c.in_ok-nodes.ensures c.deref-2.ensures.value apps refl))
-    (small_numbered (draft_of c.args.draft.now) c.requires.limits c.requires.said)
+invariant_of-result c = subst IsTable (sym (returns c)) (small_numbered (draft_of c.args.draft.now) c.requires.limits c.requires.said)

@@ -1,7 +1,7 @@
 use Rattle.std.proofs.Common.{ap, map, ◌∙◌}
 use Rattle.std.proofs.lemmas.List.{at_drop_more, at_drop_all}
 use Rattle.dac_shapes.specs.Views.{names_of, draft_of}
-use Rattle.dac_config.specs.Numbering.{numbered_node, in_byte_order}
+use Rattle.dac_config.specs.Numbering.{numbered_node}
 use Rattle.dac_config.specs.ConfigView.{node_row}
 use Rattle.dac_config.proofs.Tables.{one_pushed, all_pushed}
 use Rattle.dac_config.proofs.config.number.nodes_of.Goals as goal
@@ -13,4 +13,4 @@ loop-name-preserved c =
 pub returns : goal.returns
 returns c =
     all_pushed _ _ _ (at_drop_all (λ names. map (numbered_node (draft_of c.args.draft.now)) (names_of names)) c.deref-name-items.result.now c.loop-name.name-index c.loop-name-test.false) c.loop-name.invariant
-    ∙ ap (map (numbered_node (draft_of c.args.draft.now))) (ap names_of c.deref-name-items.ensures.value ∙ c.in_ok-names.ensures ∙ ap (λ names. in_byte_order (names_of names)) c.deref.ensures.value)
+    ∙ ap (λ names. map (numbered_node (draft_of c.args.draft.now)) (names_of names)) c.deref-name-items.ensures.value
