@@ -1,5 +1,5 @@
 -- Lists of names, by their bytes: what is among them, which of them a group has, and how many differ.
-use Rattle.std.proofs.Common.{◌≡◌, ℕ, ◌≤◌, Bool, true, false, ◌||◌, ◌&&◌, List, [], ◌∷◌, ◌++◌, length, map, fold, filter, All, Bor, bytes_eq, ⊎_elim, refl, sym, ap, subst, ◌∙◌, arith, append_assoc}
+use Rattle.std.proofs.Common.{◌≡◌, ℕ, ◌≤◌, Bool, true, false, ◌||◌, ◌&&◌, List, [], ◌∷◌, ◌++◌, length, map, fold, filter, All, Bor, bytes_eq, ⊎_elim, refl, sym, ap, subst, ◌∙◌, arith}
 use Rattle.std.specs.Cmp.{IsEquivalence}
 use Rattle.std.specs.Cmp.Lexicographic.{same_text}
 use Rattle.std.specs.List.{Contains, list_any, IsDistinct, AllZip, AllByRecursion as Each}
@@ -15,7 +15,6 @@ use Rattle.std.proofs.lemmas.Map.Views.{Contains-from_any, All-from_any, any-fil
 use Rattle.dac_shapes.specs.Limits.{is_among, with_name}
 use Rattle.dac_shapes.specs.Views.{names_of}
 use Rattle.dac_shapes.specs.Within.{joined, firsts}
-use Rattle.dac_config.specs.Numbering.{AllNew}
 
 pub among_names : (name : List ℕ) (names : List (Bor (List ℕ))) → is_among name (names_of names) ≡ list_any (λ other. bytes_eq other.now name) names
 among_names name [] = refl
@@ -163,10 +162,7 @@ differ_joined f fits (names ∷ lists) h =
           (or_cases (is_among name (f names)) (is_among name rest) (sym (among_append name (f names) rest) ∙ e)),
     )
 
--- names that differ are each new
-pub all_new : (before names : List (List ℕ)) → Differ (before ++ names) → AllNew before names
-all_new before [] differ = tt
-all_new before (name ∷ names) differ = (
-  false_from_ne_true (is_among name before) (λ e. both_ways (is_among name (name ∷ names)) ((differ_parts before (name ∷ names) differ).1 name e) (first_among name names)),
-  all_new (before ++ name ∷ []) names (subst Differ (sym (append_assoc before (name ∷ []) names)) differ),
-)
+-- of names that differ none is among those before it
+pub first_new : (before : List (List ℕ)) (name : List ℕ) (names : List (List ℕ)) → Differ (before ++ name ∷ names) → is_among name before ≡ false
+first_new before name names differ =
+    false_from_ne_true (is_among name before) (λ e. both_ways (is_among name (name ∷ names)) ((differ_parts before (name ∷ names) differ).1 name e) (first_among name names))

@@ -19,8 +19,7 @@ use Rattle.dac_config.specs.declared.config.Node.{Node}
 use Rattle.dac_config.specs.declared.config.Config.TheInside.{Inside}
 use Rattle.dac_config.specs.Table.{NodeRow, AppRow, Table, node_name, app_named, group_of}
 use Rattle.dac_config.specs.ConfigView.{node_row, named_row, app_row, table_of, HasMembersBelow}
-use Rattle.dac_config.specs.Numbering.{AllNew}
-use Rattle.dac_config.proofs.Names.{all_mapped, maps_from_zip}
+use Rattle.dac_config.proofs.Names.{Differ, all_mapped, maps_from_zip}
 
 prefix_len-map : {A B : Type 0} (f : A → B) (p : B → Bool) (xs : List A) → prefix_len p (map f xs) ≡ prefix_len (λ x. p (f x)) xs
 prefix_len-map f p [] = refl
@@ -144,5 +143,5 @@ app_added m name app new row none same is =
     ∙ map_push app_row m.entries (name, app) ∙ ap (λ r. map app_row m.entries ++ r ∷ []) same
 
 -- and the names of those to come are still new
-pub still_new : (rows new : List AppRow) (row : AppRow) (names : List (List ℕ)) → new ≡ rows ++ row ∷ [] → AllNew (map (λ row. row.name) rows) (row.name ∷ names) → AllNew (map (λ row. row.name) new) names
-still_new rows new row names is once = subst (λ met. AllNew met names) (sym (ap (map (λ row. row.name)) is ∙ map_push (λ row. row.name) rows row)) once.1
+pub still_new : (rows new : List AppRow) (row : AppRow) (names : List (List ℕ)) → new ≡ rows ++ row ∷ [] → Differ (map (λ row. row.name) rows ++ row.name ∷ names) → Differ (map (λ row. row.name) new ++ names)
+still_new rows new row names is once = subst Differ (sym (ap (λ (met : List (List ℕ)). met ++ names) (ap (map (λ row. row.name)) is ∙ map_push (λ row. row.name) rows row) ∙ append_assoc (map (λ row. row.name) rows) (row.name ∷ []) names)) once

@@ -1,5 +1,5 @@
 -- From what a text says, by names, to the tables of a configuration, by numbers.
-use Rattle.std.specs.Prelude.{◌≡◌, ℕ, ◌+◌, Bool, true, false, List, [], ◌∷◌, ◌++◌, map, fold, if◌then◌else◌}
+use Rattle.std.specs.Prelude.{ℕ, ◌+◌, Bool, true, List, [], ◌∷◌, map, fold, if◌then◌else◌}
 use Rattle.std.specs.declared.cmp.Ordering.{Ordering}
 use Rattle.std.specs.Ordering.{nat_cmp}
 use Rattle.std.specs.Cmp.Lexicographic.{slice_cmp}
@@ -43,8 +43,3 @@ numbered_nodes w = map (numbered_node w) (in_byte_order w.nodes)
 -- the configuration that a text says
 abbrev pub numbered : Written → Table
 numbered w = record { nodes = numbered_nodes w; apps = map (numbered_app w.permissions (numbered_nodes w)) w.apps; sync_wait = w.sync_wait }
-
--- each name is none of those before it
-abbrev pub AllNew : List (List ℕ) → List (List ℕ) → Type 0
-AllNew before [] = Unit {0}
-AllNew before (name ∷ names) = (is_among name before ≡ false) × AllNew (before ++ name ∷ []) names

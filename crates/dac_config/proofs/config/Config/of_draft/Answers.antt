@@ -1,16 +1,16 @@
-use Rattle.std.proofs.Common.{[], map, refl, sym, ap, subst, ◌∙◌}
+use Rattle.std.proofs.Common.{◌++◌, map, refl, sym, ap, subst, ◌∙◌}
 use Rattle.std.proofs.lemmas.List.{at_drop_all}
 use Rattle.dac_shapes.specs.Views.{draft_of, apps_of, permissions_of}
 use Rattle.dac_config.specs.Says.{IsTable}
 use Rattle.dac_config.specs.ConfigView.{node_row, app_row}
-use Rattle.dac_config.specs.Numbering.{numbered_node, numbered_app, AllNew}
-use Rattle.dac_config.proofs.Names.{all_new}
+use Rattle.dac_config.specs.Numbering.{numbered_node, numbered_app}
+use Rattle.dac_config.proofs.Names.{Differ, first_new}
 use Rattle.dac_config.proofs.Numbers.{few_numbered, small_numbered, table_numbered}
 use Rattle.dac_config.proofs.Tables.{left_from, row_pushed, still_new, all_pushed}
 use Rattle.dac_config.proofs.config.Config.of_draft.Goals as goal
 
 pub loop-app-init : goal.loop-app-init
-loop-app-init c = rw c.new-apps.ensures.empty (record { rows = refl; once = rw c.deref-app-items.ensures.value (all_new [] _ c.requires.limits.apps.different) })
+loop-app-init c = rw c.new-apps.ensures.empty (record { rows = refl; once = rw c.deref-app-items.ensures.value c.requires.limits.apps.different })
 
 pub add_app-requires-clause-few : goal.add_app-requires-clause-few
 add_app-requires-clause-few c =
@@ -18,7 +18,7 @@ add_app-requires-clause-few c =
 
 pub add_app-requires-clause-new : goal.add_app-requires-clause-new
 add_app-requires-clause-new c =
-    (subst (λ apps. AllNew (map (λ row. row.name) (map app_row c.loop-app.apps.entries)) (map (λ app. app.name) (apps_of apps))) (left_from c.deref-app-items.result.now c.loop-app.app-index c.app-item.result c.app-item.is c.loop-app-test.true) c.loop-app.invariant.once).0
+    first_new _ _ _ (subst (λ apps. Differ (map (λ row. row.name) (map app_row c.loop-app.apps.entries) ++ map (λ app. app.name) (apps_of apps))) (left_from c.deref-app-items.result.now c.loop-app.app-index c.app-item.result c.app-item.is c.loop-app-test.true) c.loop-app.invariant.once)
 
 pub loop-app-preserved : goal.loop-app-preserved
 loop-app-preserved c =
@@ -26,7 +26,7 @@ loop-app-preserved c =
     let added = rw c.deref.ensures.value at c.in_ok-add_app.ensures in
     record {
       rows = row_pushed _ _ _ _ _ _ added (ap (λ apps. map (numbered_app (permissions_of c.args.draft.now.permissions.items) (map node_row c.in_ok-nodes.nodes.items)) (apps_of apps)) left) c.loop-app.invariant.rows;
-      once = still_new _ _ _ _ added (subst (λ apps. AllNew (map (λ row. row.name) (map app_row c.loop-app.apps.entries)) (map (λ app. app.name) (apps_of apps))) left c.loop-app.invariant.once);
+      once = still_new _ _ _ _ added (subst (λ apps. Differ (map (λ row. row.name) (map app_row c.loop-app.apps.entries) ++ map (λ app. app.name) (apps_of apps))) left c.loop-app.invariant.once);
     }
 
 pub returns : goal.returns

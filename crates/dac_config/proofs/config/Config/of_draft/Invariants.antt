@@ -1,7 +1,8 @@
 use Rattle.std.proofs.Common.{◌≡◌, ◌++◌, map, drop}
 use Rattle.dac_shapes.specs.Views.{apps_of, permissions_of}
-use Rattle.dac_config.specs.Numbering.{numbered_app, AllNew}
+use Rattle.dac_config.specs.Numbering.{numbered_app}
 use Rattle.dac_config.specs.ConfigView.{node_row, app_row}
+use Rattle.dac_config.proofs.Names.{Differ}
 use Rattle.dac_config.proofs.config.Config.of_draft.Given as goal
 
 abbrev pub invariant-loop-app : goal.invariant-loop-app
@@ -9,5 +10,5 @@ invariant-loop-app l =
     let row = numbered_app (permissions_of l.fn.draft.permissions.items) (map node_row l.nodes.items) in
     record {
       rows : map app_row l.apps.entries ++ map row (apps_of (drop l.app-index l.app-items)) ≡ map row (apps_of l.app-items);
-      once : AllNew (map (λ row. row.name) (map app_row l.apps.entries)) (map (λ app. app.name) (apps_of (drop l.app-index l.app-items)));
+      once : Differ (map (λ row. row.name) (map app_row l.apps.entries) ++ map (λ app. app.name) (apps_of (drop l.app-index l.app-items)));
     }
