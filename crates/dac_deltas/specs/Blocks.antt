@@ -1,13 +1,14 @@
 -- Aligned blocks of deltas: 2^level of them, at most 256, where the first number is a multiple of 2^level. (That
 -- intervals are joined by blocks is this project's own.)
 use Rattle.std.specs.Prelude.{◌≡◌, ℕ, ◌+◌, ◌-◌, ◌%◌, ◌≤◌, ◌^◌, List, [], ◌∷◌}
+use Rattle.dac_deltas.specs.declared.blocks.TheConstants.{MOST_LEVEL}
 
 -- of the blocks that begin at a place, or that end there, and have at most so many deltas, the longest has 2^level
 pub record IsLongest (place most level : ℕ) : Type 0 where
-  pub small : level ≤ 8
+  pub small : level ≤ MOST_LEVEL
   pub aligned : place % 2 ^ level ≡ 0
   pub fits : 2 ^ level ≤ most
-  pub longest : (k : ℕ) → k ≤ 8 → place % 2 ^ k ≡ 0 → 2 ^ k ≤ most → k ≤ level
+  pub longest : (k : ℕ) → k ≤ MOST_LEVEL → place % 2 ^ k ≡ 0 → 2 ^ k ≤ most → k ≤ level
 
 -- from the first number on, up to the second, it is the longest block that ends at or before the count
 abbrev pub IsLongestBlock : ℕ → ℕ → ℕ × ℕ → Type 0

@@ -1,5 +1,6 @@
 -- What is kept of each delta: the delta itself, and the joins of the blocks that end with it. A pair of the two is called an ending.
 use Rattle.std.specs.Prelude.{◌≡◌, ℕ, ◌+◌, ◌-◌, ◌%◌, ◌≤◌, ◌<◌, ◌^◌, List, ◌∷◌, length, map, fold, take, drop, slice_index_or}
+use Rattle.dac_deltas.specs.declared.blocks.TheConstants.{MOST_LEVEL}
 use Rattle.dac_deltas.specs.Kept.{IsBuffer, newest}
 
 -- the deltas of some endings
@@ -19,7 +20,7 @@ module _ {L : Type 0} (is_value : L → Type 0) (join : L → L → L) where
   -- an ending has the joins of all blocks that end at a place and are wholly kept. Here these are the deltas kept
   -- before the place
   abbrev pub HasJoins : ℕ → List L → L × List L → Type 0
-  HasJoins place ds e = (k : ℕ) → k ≤ 8 → place % 2 ^ k ≡ 0 → 2 ^ k ≤ length ds → (k ≤ length e.1) × StandsFor (join_at e k) (drop (length ds - 2 ^ k) ds)
+  HasJoins place ds e = (k : ℕ) → k ≤ MOST_LEVEL → place % 2 ^ k ≡ 0 → 2 ^ k ≤ length ds → (k ≤ length e.1) × StandsFor (join_at e k) (drop (length ds - 2 ^ k) ds)
 
   -- each ending has them, where the first delta's number is the base
   abbrev pub AreJoined : ℕ → List (L × List L) → Type 0

@@ -3,11 +3,12 @@
 use Rattle.std.specs.Prelude.{◌≡◌, ℕ, ◌+◌, ◌-◌, ◌≤◌, List, [], ◌∷◌, ◌++◌, length, drop, fold, min, cond, nat_lt, Option, Some, None, refl}
 use Rattle.std.specs.List.{All}
 use Rattle.dac_base.specs.declared.limits.TheConstants.{MAX_COUNTER}
+use Rattle.dac_deltas.specs.declared.blocks.TheConstants.{MOST_LEVEL}
 use Rattle.dac_deltas.specs.declared.buffer.TheConstants.{MAX_DELTAS}
 
--- how many are kept at most
-pub the_limit : MAX_DELTAS ≡ 256
-the_limit = refl
+-- how many are kept at most, and the level of the longest blocks, which have as many
+pub the_limit : (MAX_DELTAS ≡ 256) × (MOST_LEVEL ≡ 8)
+the_limit = (refl, refl)
 
 -- how many deltas there were ever, the least number that is kept, and the deltas kept, the oldest first
 pub record Kept (L : Type 0) : Type 0 where

@@ -198,7 +198,7 @@ impl<L: Bottom> Buffer<L> {
         Ok(Some(blocks))
     }
 
-    /// An equal buffer, with memory of its own. [`NoMemory`] is the only error.
+    /// An equal buffer. Its deltas may share memory that never changes. [`NoMemory`] is the only error.
     pub fn copy(&self) -> Result<Self, NoMemory>
         ensures { IfOk result (λ copied. copied ≡ self.now) }
     {

@@ -35,7 +35,7 @@ pub trait Lattice: Drop {
     fn equal(&self, other: &Self) -> bool
         ensures { IsTrue result ↔ (self.now ≡ other.now) };
 
-    /// An equal value, with memory of its own. [`NoMemory`] is the only error.
+    /// An equal value. It may share memory that never changes. [`NoMemory`] is the only error.
     fn copy(&self) -> Result<Self, NoMemory>
         ensures { IfOk result (λ copied. copied ≡ self.now) };
 

@@ -80,8 +80,8 @@ fn push_lowest<K: MapKey, X: Drop, C: Combine<K, X>>(
     }
 }
 
-/// The entries of both maps as `how` combines them, in the order of the keys, in one pass. Both lists are
-/// sorted by key, without repeats. [`NoMemory`] is the only error.
+/// The entries of both lists as `how` combines them, in one pass. Where both are in the order of the keys, so is what
+/// is merged. [`NoMemory`] is the only error.
 pub fn merge<K: MapKey, X: Drop, C: Combine<K, X>>(
     alloc: Global,
     how: &C,

@@ -1,6 +1,10 @@
 -- Meanings in terms of the operations.
-use Rattle.std.proofs.Common.{◌≡◌, Bool, true, false, not, cond, List, Option, Some, None, is_some, unwrap_or, refl, sym, ap, subst, ◌∙◌, inl, inr}
+use Rattle.std.proofs.Common.{◌≡◌, ◌≤◌, ◌<◌, ℕ, Bool, true, false, not, cond, List, Option, Some, None, is_some, unwrap_or, refl, sym, ap, subst, ◌∙◌, inl, inr, arith}
 use Rattle.std.specs.List.{list_any}
+use Rattle.std.specs.declared.cmp.Ordering.{Ordering}
+use Rattle.std.specs.declared.cmp.Ordering.TheVariants.{Less, Equal, Greater}
+use Rattle.std.specs.Ordering.{MatchOrdering, is_le, nat_cmp, ordering_then}
+use Rattle.std.specs.Cmp.{ranks}
 use Rattle.std.specs.FinMap as map
 use Rattle.std.proofs.lemmas.Bool.{false≢true, or_cases, or_left, or_right, and_parts, and_from, not-true, not_from_false, false_from_ne_true}
 use Rattle.dac_base.specs.declared.NodeId.{NodeId}
@@ -11,6 +15,7 @@ use Rattle.dac_lattice.specs.declared.flags.Flag.TheVariants.{Up as IsUp, Down a
 use Rattle.dac_chains.specs.declared.lives.Life.{Life}
 use Rattle.dac_chains.specs.declared.claims.Claim.{Claim as ClaimValue}
 use Rattle.dac_lattice.specs.Flags.{flag_cmp, flags_exact}
+use Rattle.dac_lattice.specs.Chains.{IsAtMost}
 use Rattle.dac_chains.specs.Greatest.{IsGreatest, greatest_same, IsSaid}
 use Rattle.dac_chains.specs.Lives.{life_cmp, lives_total, exact_lives}
 use Rattle.dac_chains.specs.Claims.{claim_cmp, claims_total, exact_claims, exact_hows, how_cmp}
@@ -22,7 +27,7 @@ use Rattle.dac_operations.specs.declared.act.Act.{Act}
 use Rattle.dac_operations.specs.declared.act.Act.TheVariants.{Up, Down, Permit, Start, Stop, Claim}
 use Rattle.dac_operations.specs.Operations.{Operation}
 use Rattle.dac_meaning.specs.Meaning.{meaning_of, has_dot, replaces, is_replaced, names, wishes, is_start, says, is_same, is_permit, flag_said, said, pairs, life_said, claim_said, In, Agree, Stands}
-use Rattle.dac_meaning.specs.MeaningLaws.{HeardAreDots, KnownAreNamed, Names, IsStart, StartsAreUnreplaced, IsPermit, PermitsAreUnreplaced, SaysLife, LivesAreGreatest, IsClaim, ClaimsAreGreatest}
+use Rattle.dac_meaning.specs.MeaningLaws.{HeardAreDots, KnownAreNamed, Names, IsStart, StartsAreUnreplaced, IsPermit, PermitsAreUnreplaced, SaysLife, LivesAreGreatest, DownStaysDown, IsClaim, ClaimsAreGreatest}
 use Rattle.dac_meaning.specs.laws.Members.{found, finds}
 use Rattle.dac_meaning.specs.Chained.{of_said, is_said}
 use Rattle.dac_meaning.specs.laws.Readers.{heard-meaning, known-meaning, starts-meaning, permits-meaning, lives-meaning, claims-meaning, lives_are, claims_are}
@@ -184,6 +189,22 @@ lives_are_greatest os n =
     (λ l s. let o = of_said life_said os n l s in (o.0, (o.1.0, life_of n l o.0 o.1.1)))
     (λ l s. is_said life_said os n l (s.0, (s.1.0, of_life n l s.0 s.1.1)))
     (subst (λ m. IsGreatest life_cmp (IsSaid life_said (pairs os) n) (map.get m n)) (sym (lives-meaning os)) (lives_are os n))
+
+-- a Down at an incarnation is above an Up at that one or an earlier one
+down_is_above : (i j : ℕ) → j ≤ i → ¬ (IsAtMost life_cmp (record { inc = i; flag = IsDown }) (record { inc = j; flag = IsUp }))
+down_is_above i j le h = by_rank (nat_cmp i j) (ranks i j) h
+  where
+    by_rank : (r : Ordering) → MatchOrdering r (i < j) (i ≡ j) (j < i) → ¬ (is_le (ordering_then r Greater) ≡ true)
+    by_rank Less below t = absurd (omega arith)
+    by_rank Equal same t = false≢true t
+    by_rank Greater above t = false≢true t
+
+pub down_stays_down : DownStaysDown
+down_stays_down os n i j o le live =
+    let up : Life = record { inc = j; flag = IsUp } in
+    let down : Life = record { inc = i; flag = IsDown } in
+    let greatest = subst (IsGreatest life_cmp (λ l. (o : Operation) × (In o os × SaysLife n l o))) live (lives_are_greatest os n) in
+    down_is_above i j le (greatest.1 down (o.0, (o.1.0, inr (refl, o.1.1))))
 
 -- ---- claims
 

@@ -1,5 +1,5 @@
 -- The laws of meanings, in terms of the operations.
-use Rattle.std.specs.Prelude.{Bool, false, ◌≡◌, ◌↔◌, ℕ, true, Some, List, [], ◌++◌, ◌⊎◌}
+use Rattle.std.specs.Prelude.{Bool, false, ◌≡◌, ◌≤◌, ◌↔◌, ℕ, true, Some, List, [], ◌++◌, ◌⊎◌}
 use Rattle.std.specs.FinSet as set
 use Rattle.std.specs.FinMap as map
 use Rattle.dac_base.specs.declared.NodeId.{NodeId}
@@ -10,7 +10,7 @@ use Rattle.dac_lattice.specs.declared.flags.Flag.TheVariants.{Up as IsUp, Down a
 use Rattle.dac_chains.specs.declared.lives.Life.{Life}
 use Rattle.dac_chains.specs.declared.claims.Claim.{Claim as ClaimValue}
 use Rattle.dac_chains.specs.Greatest.{IsGreatest}
-use Rattle.dac_chains.specs.Lives.{life_cmp}
+use Rattle.dac_chains.specs.Lives.{life_cmp, IsLive}
 use Rattle.dac_chains.specs.Claims.{claim_cmp}
 use Rattle.dac_wishes.specs.declared.key.Key.{Key}
 use Rattle.dac_wishes.specs.Writes.{Write}
@@ -69,6 +69,10 @@ SaysLife n l o = ((l.flag ≡ IsUp) × IsUpOf n l.inc o) ⊎ ((l.flag ≡ IsDown
 -- the life of a node is the greatest that the operations say of it
 abbrev pub LivesAreGreatest : Type 0
 LivesAreGreatest = (os : List Operation) (n : NodeId) → IsGreatest life_cmp (λ l. (o : Operation) × (In o os × SaysLife n l o)) (map.get (meaning_of os).lives n)
+
+-- an incarnation that a Down names isn't live, and no earlier one of the node is, whatever else the operations say
+abbrev pub DownStaysDown : Type 0
+DownStaysDown = (os : List Operation) (n : NodeId) (i j : ℕ) → ((o : Operation) × (In o os × (o.act ≡ Down n i))) → j ≤ i → ¬ (IsLive (meaning_of os).lives n j)
 
 -- the operation is this claim of the application
 abbrev pub IsClaim : AppId → ClaimValue → Operation → Type 0

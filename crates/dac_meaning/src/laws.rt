@@ -3,20 +3,22 @@
 //! A proof that needs a law calls its function. The functions take nothing and answer nothing.
 ghost use Rattle.dac_lattice.specs.Lattices.{IsLattice};
 ghost use Rattle.dac_meaning.specs.StateValue.{StateValue, IsState, IsBelow, bottom, join};
-ghost use Rattle.dac_meaning.specs.MeaningLaws.{HeardAreDots, KnownAreNamed, PermitsAreUnreplaced, StartsAreUnreplaced, LivesAreGreatest, ClaimsAreGreatest, WishedHaveStarts, PermittedAreSaid, MeaningsAreStates, NothingMeansBottom, OrderAndRepeatsAreNothing, JoinsAreTogether};
+ghost use Rattle.dac_meaning.specs.MeaningLaws.{HeardAreDots, KnownAreNamed, PermitsAreUnreplaced, StartsAreUnreplaced, LivesAreGreatest, DownStaysDown, ClaimsAreGreatest, WishedHaveStarts, PermittedAreSaid, MeaningsAreStates, NothingMeansBottom, OrderAndRepeatsAreNothing, JoinsAreTogether};
 ghost use Rattle.dac_meaning.specs.PieceParts.{PermitsAreJoined, WishesAreJoined, LivesAreJoined, ClaimsAreJoined};
 ghost use Rattle.dac_meaning.specs.DeltaLaws.{OneIsHeard, PermitDeltaIsMeaning, WishDeltaIsMeaning, LifeDeltaIsMeaning, ClaimDeltaIsMeaning};
 
 /// What the parts of a meaning are, in terms of its operations. Heard are their dots, known these and the dots that
 /// they replace. Standing are the permits and start wishes that none of them replaces. The life of a node is the
-/// greatest that an Up of the node or a Down about it says. The claim of an application is the greatest of its
-/// claims. So a meaning is always a state, and nothing means the least one.
+/// greatest that an Up of the node or a Down about it says. Who went down stays down: the incarnation that a Down
+/// names isn't live, and no earlier one is. The claim of an application is the greatest of its claims. So a meaning is
+/// always a state, and nothing means the least one.
 pub fn parts_of_meaning()
     ensures heard { HeardAreDots }
     ensures known { KnownAreNamed }
     ensures permits { PermitsAreUnreplaced }
     ensures starts { StartsAreUnreplaced }
     ensures lives { LivesAreGreatest }
+    ensures down { DownStaysDown }
     ensures claims { ClaimsAreGreatest }
     ensures state { MeaningsAreStates }
     ensures nothing { NothingMeansBottom }

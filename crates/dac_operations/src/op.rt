@@ -1,5 +1,5 @@
 //! Operations.
-ghost use Rattle.std.specs.Prelude.{◌≡◌, ◌↔◌, IfOk, IsTrue, MatchOption, Ok, Err};
+ghost use Rattle.std.specs.Prelude.{◌≡◌, ◌↔◌, IfOk, IsOk, IsTrue, MatchOption, Ok, Err};
 ghost use Rattle.std.specs.Ordering.{is_lt};
 ghost use Rattle.dac_dots.specs.Dots.{dot_cmp};
 ghost use Rattle.dac_dots.specs.Keys.{is_rising, has_key};
@@ -59,12 +59,13 @@ impl Model for Op {
 }
 
 impl Op {
-    /// The operation of a dot and an act.
+    /// The operation of a dot and an act, made exactly where they keep what each operation keeps.
     ///
     /// The refusals are looked for in the order of [`OpFault`], and the first that holds is answered.
     /// What was handed in is given up then. It takes no memory.
     pub fn new(dot: Dot, act: Act) -> Result<Self, OpFault>
-        ensures { MatchOption (fault_of dot act) (result ≡ Ok (operation dot act)) (λ why. result ≡ Err why) }
+        ensures value { MatchOption (fault_of dot act) (result ≡ Ok (operation dot act)) (λ why. result ≡ Err why) }
+        ensures sound { IsOk result ↔ IsSound (operation dot act) }
     {
         match fault_in(dot, &act) {
             Some(why) => Err(why),

@@ -140,7 +140,7 @@ impl Parts {
         self.lives.leq(&other.lives) && self.claims.leq(&other.claims)
     }
 
-    /// Equal parts, with memory of their own.
+    /// Equal parts. They may share memory that never changes.
     pub(crate) fn copy(&self) -> Result<Self, NoMemory>
         ensures { IfOk result (λ copied. copied ≡ self.now) }
     {

@@ -40,12 +40,12 @@ impl Model for DotSet {
 }
 
 impl DotSet {
-    /// The set of one dot. It takes no memory, and answers as the other stores do.
-    pub fn one(alloc: Global, dot: Dot) -> Result<Self, NoMemory>
-        ensures { IfOk result (λ one. one ≡ set.insert set.empty dot) }
+    /// The set of one dot. It takes no memory.
+    pub fn one(alloc: Global, dot: Dot) -> Self
+        ensures { result ≡ set.insert set.empty dot }
     {
         let few = FewDots::One(dot);
-        Ok(DotSet { alloc, few })
+        DotSet { alloc, few }
     }
 
     /// The dots in rising order, each once. It takes no memory.

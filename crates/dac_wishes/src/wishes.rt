@@ -93,8 +93,8 @@ fn start_in(alloc: Global, dot: Dot, act: &WishAct) -> Result<DotMap<Key, DotSet
 {
     match act {
         WishAct::Start { key, over: _ } => {
-            let one = DotSet::one(alloc, dot)?;
-            let store = DotMap::one(alloc, *key, one)?;
+            let dots = DotSet::one(alloc, dot);
+            let store = DotMap::one(alloc, *key, dots)?;
             Ok(store)
         }
         WishAct::Other { over: _ } => Ok(DotMap::empty(alloc)),

@@ -1,5 +1,5 @@
 use Rattle.dac_meaning.specs.laws.Joins.{meaning-state}
-use Rattle.dac_meaning.proofs.Membership.{heard_are_dots, known_are_named, permits_are_unreplaced, starts_are_unreplaced, lives_are_greatest, claims_are_greatest}
+use Rattle.dac_meaning.proofs.Membership.{heard_are_dots, known_are_named, permits_are_unreplaced, starts_are_unreplaced, lives_are_greatest, down_stays_down, claims_are_greatest}
 use Rattle.dac_meaning.proofs.Nothing.{nothing_means_bottom}
 use Rattle.dac_meaning.proofs.laws.parts_of_meaning.Goals as goal
 
@@ -17,6 +17,9 @@ returns-clause-starts c = starts_are_unreplaced
 
 pub returns-clause-lives : goal.returns-clause-lives
 returns-clause-lives c = lives_are_greatest
+
+pub returns-clause-down : goal.returns-clause-down
+returns-clause-down c = down_stays_down
 
 pub returns-clause-claims : goal.returns-clause-claims
 returns-clause-claims c = claims_are_greatest
