@@ -1,17 +1,18 @@
 -- The canonical text is written by words of the grammar, which can stand one after another; and what a text says can be
 -- spelled by such words.
-use Rattle.std.proofs.Common.{◌≡◌, ◌⊎◌, inl, inr, ℕ, ◌+◌, ◌-◌, ◌*◌, ◌/◌, ◌%◌, ◌<◌, ◌≤◌, Bool, true, false, cond, not, leb, ◌&&◌, List, [], ◌∷◌, ◌++◌, length, map, filter, All, codes, decimal, unwrap_or, option_map, slice_get, bytes_eq, refl, sym, ap, subst, ◌∙◌, arith, append_assoc, append-nil}
+use Rattle.std.proofs.Common.{◌≡◌, ◌⊎◌, inl, inr, ℕ, ◌+◌, ◌-◌, ◌*◌, ◌/◌, ◌%◌, ◌<◌, ◌≤◌, Bool, true, false, cond, not, ◌&&◌, List, [], ◌∷◌, ◌++◌, length, map, filter, All, codes, decimal, unwrap_or, option_map, slice_get, bytes_eq, refl, sym, ap, subst, ◌∙◌, arith, append_assoc, append-nil}
 use Rattle.std.specs.Bool.{Decides}
 use Rattle.std.specs.List.{list_all, AllByRecursion as Each}
 use Rattle.std.specs.Char.{IsAsciiDigit, IsAsciiLowercase}
-use Rattle.std.proofs.lemmas.Bool.{leb-true, le-leb}
-use Rattle.std.proofs.lemmas.Bool.Decides.{nat_tests, Decides-and, Decides-by_and, Decides-not}
+use Rattle.std.proofs.lemmas.Bool.Decides.{Decides-and, Decides-by_and, Decides-not}
 use Rattle.std.proofs.lemmas.Fmt.{decimal_by_steps}
 use Rattle.std.proofs.lemmas.List.{length-map}
 use Rattle.std.proofs.lemmas.List.Elements.{All-nil, All-cons, All-head, All-tail, All-push, All-append, All-from_recursion, recursion_from_All}
 use Rattle.std.proofs.lemmas.Slice.Eq.{bytes_eq-Decides}
 use Rattle.dac_tokens.specs.declared.token.Symbol.TheVariants.{OpenList, CloseList, OpenTuple, CloseTuple, Comma, FullStop}
 use Rattle.dac_tokens.specs.Digits.{value_from}
+use Rattle.dac_tokens.specs.Scan.{is_name_byte}
+use Rattle.dac_tokens.specs.laws.NameBytes.{tells_letter, tells_name_byte}
 use Rattle.dac_tokens.specs.Words.{Word, Mark, Name, Number, Located}
 use Rattle.dac_tokens.specs.TokenGrammar.{Nothing, Blank, Closed, IsNameByte, Begins, IsQuotable, IsDigits, GoesOnAsNumber, IsBareAtom, bytes_of, Spells, AreSpelled, depth_behind, NestWell, AreTokensOf}
 use Rattle.dac_shapes.specs.declared.draft.SyncWait.{SyncWait}
@@ -21,7 +22,7 @@ use Rattle.dac_shapes.specs.Written.{App, Permission, Param, Distributed, Permis
 use Rattle.dac_shapes.specs.Within.{params_in}
 use Rattle.dac_shapes.specs.Grammar.{Parted, between, IsListOf, IsPair, IsNode, IsItem, IsMs, IsTimeout, IsAppValue, IsApp, IsPermission, IsWait, IsParam, IsSection, IsFile}
 use Rattle.dac_config.specs.Table.{NodeRow, AppRow, Table}
-use Rattle.dac_config.specs.Canonical.{is_name_byte, begins_small, is_bare, name_text, parted_behind, parted, list_text, pair_text, node_name_text, group_text, app_text, ban_text, wait_texts, param_texts, canonical_text}
+use Rattle.dac_config.specs.Canonical.{begins_small, is_bare, name_text, parted_behind, parted, list_text, pair_text, node_name_text, group_text, app_text, ban_text, wait_texts, param_texts, canonical_text}
 use Rattle.dac_config.proofs.Names.{each_parts}
 
 -- ---- spelling
@@ -64,10 +65,7 @@ Stand depth (word ∷ words) = CanStand word words × (depth_behind depth word �
 
 tells_begin : (name : List ℕ) → Decides (begins_small name) (Begins IsAsciiLowercase name)
 tells_begin [] = (λ e. absurd cc, λ h. absurd h)
-tells_begin (b ∷ bs) = Decides-and (leb 97 b) (leb b 122) (leb-true 97 b, le-leb 97 b) (leb-true b 122, le-leb b 122)
-
-tells_name_byte : (b : ℕ) → Decides (is_name_byte b) (IsNameByte b)
-tells_name_byte b = (λ e. grind (arith, nat_tests), λ h. grind (arith, nat_tests))
+tells_begin (b ∷ bs) = tells_letter b
 
 pub tells_bare : (name : List ℕ) → Decides (is_bare name) (IsBareAtom name)
 tells_bare name =

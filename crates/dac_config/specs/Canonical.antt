@@ -1,18 +1,15 @@
 -- The one text of a configuration: without spaces outside of names, ended by a line feed.
-use Rattle.std.specs.Prelude.{ℕ, Bool, false, not, ◌&&◌, ◌||◌, List, [], ◌∷◌, ◌++◌, map, filter, ◌==◌, unwrap_or, option_map, slice_get, if◌then◌else◌, codes}
+use Rattle.std.specs.Prelude.{ℕ, Bool, false, not, ◌&&◌, List, [], ◌∷◌, ◌++◌, map, filter, unwrap_or, option_map, slice_get, if◌then◌else◌, codes}
 use Rattle.std.specs.Fmt.{decimal}
 use Rattle.std.specs.Str.{bytes_eq}
 use Rattle.std.specs.List.{list_all}
-use Rattle.std.specs.Char.{is_ascii_lowercase, is_ascii_alphanumeric}
+use Rattle.std.specs.Char.{is_ascii_lowercase}
+use Rattle.dac_tokens.specs.Scan.{is_name_byte}
 use Rattle.dac_shapes.specs.declared.draft.SyncWait.{SyncWait}
 use Rattle.dac_shapes.specs.declared.draft.SyncWait.TheVariants.{NoSync, Forever, Ms}
 use Rattle.dac_config.specs.Table.{NodeRow, AppRow, Table}
 
 -- ---- names
-
--- an ASCII letter, a digit, an underscore or an at sign
-abbrev pub is_name_byte : ℕ → Bool
-is_name_byte b = is_ascii_alphanumeric b || b == 95 || b == 64
 
 abbrev pub begins_small : List ℕ → Bool
 begins_small [] = false

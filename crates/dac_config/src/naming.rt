@@ -2,9 +2,10 @@
 
 ghost use Rattle.std.specs.Prelude.{◌≡◌, ◌↔◌, IfOk, IsTrue};
 ghost use Rattle.std.specs.List.{list_all};
+ghost use Rattle.dac_tokens.specs.Scan.{is_name_byte};
 ghost use Rattle.dac_tokens.specs.TokenGrammar.{IsBareAtom};
 ghost use Rattle.dac_config.specs.Sinks.{Gains};
-ghost use Rattle.dac_config.specs.Canonical.{is_name_byte, begins_small, is_bare, name_text};
+ghost use Rattle.dac_config.specs.Canonical.{begins_small, is_bare, name_text};
 
 use crate::sink::{Sink, Text};
 use dac_base::NoMemory;
