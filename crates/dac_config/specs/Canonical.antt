@@ -11,6 +11,7 @@ use Rattle.dac_config.specs.Table.{NodeRow, AppRow, Table}
 
 -- ---- names
 
+-- there is a first byte, and it is a small letter
 abbrev pub begins_small : List ℕ → Bool
 begins_small [] = false
 begins_small (b ∷ bs) = is_ascii_lowercase b
@@ -34,12 +35,15 @@ parted_behind before (text ∷ texts) = before ++ (text ++ parted_behind (codes 
 abbrev pub parted : List (List ℕ) → List ℕ
 parted texts = parted_behind [] texts
 
+-- a list of these texts
 abbrev pub list_text : List (List ℕ) → List ℕ
 list_text texts = codes "[" ++ (parted texts ++ codes "]")
 
+-- a tuple of these texts
 abbrev pub tuple_text : List (List ℕ) → List ℕ
 tuple_text texts = codes "{" ++ (parted texts ++ codes "}")
 
+-- a pair of two texts
 abbrev pub pair_text : List ℕ → List ℕ → List ℕ
 pair_text name value = codes "{" ++ (name ++ (codes "," ++ (value ++ codes "}")))
 
