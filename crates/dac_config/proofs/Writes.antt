@@ -1,16 +1,18 @@
 -- The canonical text is written by words of the grammar, which can stand one after another; and what a text says can be
 -- spelled by such words.
-use Rattle.std.proofs.Common.{◌≡◌, ◌⊎◌, inl, inr, ℕ, ◌+◌, ◌-◌, ◌*◌, ◌/◌, ◌%◌, ◌<◌, ◌≤◌, Bool, true, false, cond, not, leb, ◌&&◌, List, [], ◌∷◌, ◌++◌, length, map, filter, All, codes, decimal, unwrap_or, option_map, slice_get, bytes_eq, refl, sym, ap, subst, ◌∙◌, arith, append_assoc, append-nil}
+use Rattle.std.proofs.Common.{◌≡◌, ◌⊎◌, inl, inr, ℕ, ◌+◌, ◌-◌, ◌*◌, ◌/◌, ◌%◌, ◌<◌, ◌≤◌, Bool, true, false, cond, not, ◌&&◌, List, [], ◌∷◌, ◌++◌, length, map, filter, All, codes, decimal, unwrap_or, option_map, slice_get, bytes_eq, refl, sym, ap, subst, ◌∙◌, arith, append_assoc, append-nil}
+use Rattle.std.specs.Bool.{Decides}
 use Rattle.std.specs.List.{list_all, AllByRecursion as Each}
 use Rattle.std.specs.Char.{IsAsciiDigit, IsAsciiLowercase}
-use Rattle.std.proofs.lemmas.Bool.{and_parts, both_ways, leb-true, not-true}
-use Rattle.std.proofs.lemmas.Bool.Decides.{nat_tests}
+use Rattle.std.proofs.lemmas.Bool.Decides.{Decides-and, Decides-by_and, Decides-not}
 use Rattle.std.proofs.lemmas.Fmt.{decimal_by_steps}
 use Rattle.std.proofs.lemmas.List.{length-map}
 use Rattle.std.proofs.lemmas.List.Elements.{All-nil, All-cons, All-head, All-tail, All-push, All-append, All-from_recursion, recursion_from_All}
 use Rattle.std.proofs.lemmas.Slice.Eq.{bytes_eq-Decides}
 use Rattle.dac_tokens.specs.declared.token.Symbol.TheVariants.{OpenList, CloseList, OpenTuple, CloseTuple, Comma, FullStop}
 use Rattle.dac_tokens.specs.Digits.{value_from}
+use Rattle.dac_tokens.specs.Scan.{is_name_byte}
+use Rattle.dac_tokens.specs.laws.NameBytes.{tells_letter, tells_name_byte}
 use Rattle.dac_tokens.specs.Words.{Word, Mark, Name, Number, Located}
 use Rattle.dac_tokens.specs.TokenGrammar.{Nothing, Blank, Closed, IsNameByte, Begins, IsQuotable, IsDigits, GoesOnAsNumber, IsBareAtom, bytes_of, Spells, AreSpelled, depth_behind, NestWell, AreTokensOf}
 use Rattle.dac_shapes.specs.declared.draft.SyncWait.{SyncWait}
@@ -20,7 +22,7 @@ use Rattle.dac_shapes.specs.Written.{App, Permission, Param, Distributed, Permis
 use Rattle.dac_shapes.specs.Within.{params_in}
 use Rattle.dac_shapes.specs.Grammar.{Parted, between, IsListOf, IsPair, IsNode, IsItem, IsMs, IsTimeout, IsAppValue, IsApp, IsPermission, IsWait, IsParam, IsSection, IsFile}
 use Rattle.dac_config.specs.Table.{NodeRow, AppRow, Table}
-use Rattle.dac_config.specs.Canonical.{is_name_byte, begins_small, is_bare, name_text, parted_behind, parted, list_text, pair_text, node_name_text, group_text, app_text, ban_text, wait_texts, param_texts, canonical_text}
+use Rattle.dac_config.specs.Canonical.{begins_small, is_bare, name_text, parted_behind, parted, list_text, pair_text, node_name_text, group_text, app_text, ban_text, wait_texts, param_texts, canonical_text}
 use Rattle.dac_config.proofs.Names.{each_parts}
 
 -- ---- spelling
@@ -59,28 +61,19 @@ abbrev Stand : ℕ → List Word → Type 0
 Stand depth [] = Unit {0}
 Stand depth (word ∷ words) = CanStand word words × (depth_behind depth word ≤ 64) × Stand (depth_behind depth word) words
 
--- ---- a bare name is a bare atom
+-- ---- a name is bare exactly if it is a bare atom
 
-small_begins : (name : List ℕ) → begins_small name ≡ true → Begins IsAsciiLowercase name
-small_begins [] h = absurd cc
-small_begins (b ∷ bs) h = let parts = and_parts (leb 97 b) (leb b 122) h in (leb-true 97 b parts.0, leb-true b 122 parts.1)
+tells_begin : (name : List ℕ) → Decides (begins_small name) (Begins IsAsciiLowercase name)
+tells_begin [] = (λ e. absurd cc, λ h. absurd h)
+tells_begin (b ∷ bs) = tells_letter b
 
-a_name_byte : (b : ℕ) → is_name_byte b ≡ true → IsNameByte b
-a_name_byte b h = grind (arith, nat_tests)
-
-all_name_bytes : (name : List ℕ) → list_all is_name_byte name ≡ true → All IsNameByte name
-all_name_bytes [] h = All-nil IsNameByte
-all_name_bytes (b ∷ bs) h = let parts = and_parts (is_name_byte b) (list_all is_name_byte bs) h in All-cons IsNameByte b bs (a_name_byte b parts.0) (all_name_bytes bs parts.1)
-
-bare_atom : (name : List ℕ) → is_bare name ≡ true → IsBareAtom name
-bare_atom name h =
-    let outer = and_parts (begins_small name && not (bytes_eq name (codes "fun"))) (list_all is_name_byte name) h in
-    let inner = and_parts (begins_small name) (not (bytes_eq name (codes "fun"))) outer.0 in
-    record {
-      begins = small_begins name inner.0;
-      goes_on = all_name_bytes name outer.1;
-      no_fun = λ same. both_ways (bytes_eq name (codes "fun")) (not-true (bytes_eq name (codes "fun")) inner.1) ((bytes_eq-Decides name (codes "fun")).1 same);
-    }
+pub tells_bare : (name : List ℕ) → Decides (is_bare name) (IsBareAtom name)
+tells_bare name =
+    let fun = bytes_eq name (codes "fun") in
+    let all = Decides-by_and is_name_byte IsNameByte (list_all is_name_byte) tells_name_byte refl (λ _ _. refl) name in
+    let front = Decides-and (begins_small name) (not fun) (tells_begin name) (Decides-not fun (bytes_eq-Decides name (codes "fun"))) in
+    let each = Decides-and (begins_small name && not fun) (list_all is_name_byte name) front all in
+    (λ e. record { begins = (each.0 e).0.0; goes_on = (each.0 e).1; no_fun = (each.0 e).0.1 }, λ h. each.1 ((h.begins, h.no_fun), h.goes_on))
 
 name_bytes_quotable : (bytes : List ℕ) → All IsNameByte bytes → All IsQuotable bytes
 name_bytes_quotable [] all = All-nil IsQuotable
@@ -90,7 +83,7 @@ name_bytes_quotable (b ∷ bs) all = All-cons IsQuotable b bs (quotable b (All-h
     quotable b h = (λ quote. omega (arith, h, quote), λ unquotable. omega (arith, h, unquotable))
 
 bare_quotable : (name : List ℕ) → is_bare name ≡ true → All IsQuotable name
-bare_quotable name h = name_bytes_quotable name (bare_atom name h).goes_on
+bare_quotable name h = name_bytes_quotable name ((tells_bare name).0 h).goes_on
 
 -- ---- what follows a name or a number
 
@@ -114,7 +107,7 @@ ends_number _ apart h = apart
 -- ---- each word is spelled so
 
 name_spelled : (name rest : List ℕ) → All IsQuotable name → (Begins IsNameByte rest → ⊥) → (c : Bool) → is_bare name ≡ c → Spells (Name name) (cond c name (39 ∷ (name ++ 39 ∷ []))) rest
-name_spelled name rest quotable ends true bare = inl (refl, bare_atom name bare, ends)
+name_spelled name rest quotable ends true bare = inl (refl, (tells_bare name).0 bare, ends)
 name_spelled name rest quotable ends false bare = inr (refl, quotable)
 
 ends_term : (words : List Word) → words ≡ [] → Spells (Mark FullStop) (46 ∷ []) (spelled_words words ++ codes "\n")

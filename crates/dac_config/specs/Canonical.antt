@@ -1,19 +1,17 @@
 -- The one text of a configuration: without spaces outside of names, ended by a line feed.
-use Rattle.std.specs.Prelude.{ℕ, Bool, false, not, ◌&&◌, ◌||◌, List, [], ◌∷◌, ◌++◌, map, filter, ◌==◌, unwrap_or, option_map, slice_get, if◌then◌else◌, codes}
+use Rattle.std.specs.Prelude.{ℕ, Bool, false, not, ◌&&◌, List, [], ◌∷◌, ◌++◌, map, filter, unwrap_or, option_map, slice_get, if◌then◌else◌, codes}
 use Rattle.std.specs.Fmt.{decimal}
 use Rattle.std.specs.Str.{bytes_eq}
 use Rattle.std.specs.List.{list_all}
-use Rattle.std.specs.Char.{is_ascii_lowercase, is_ascii_alphanumeric}
+use Rattle.std.specs.Char.{is_ascii_lowercase}
+use Rattle.dac_tokens.specs.Scan.{is_name_byte}
 use Rattle.dac_shapes.specs.declared.draft.SyncWait.{SyncWait}
 use Rattle.dac_shapes.specs.declared.draft.SyncWait.TheVariants.{NoSync, Forever, Ms}
 use Rattle.dac_config.specs.Table.{NodeRow, AppRow, Table}
 
 -- ---- names
 
--- an ASCII letter, a digit, an underscore or an at sign
-abbrev pub is_name_byte : ℕ → Bool
-is_name_byte b = is_ascii_alphanumeric b || b == 95 || b == 64
-
+-- there is a first byte, and it is a small letter
 abbrev pub begins_small : List ℕ → Bool
 begins_small [] = false
 begins_small (b ∷ bs) = is_ascii_lowercase b
@@ -37,12 +35,15 @@ parted_behind before (text ∷ texts) = before ++ (text ++ parted_behind (codes 
 abbrev pub parted : List (List ℕ) → List ℕ
 parted texts = parted_behind [] texts
 
+-- a list of these texts
 abbrev pub list_text : List (List ℕ) → List ℕ
 list_text texts = codes "[" ++ (parted texts ++ codes "]")
 
+-- a tuple of these texts
 abbrev pub tuple_text : List (List ℕ) → List ℕ
 tuple_text texts = codes "{" ++ (parted texts ++ codes "}")
 
+-- a pair of two texts
 abbrev pub pair_text : List ℕ → List ℕ → List ℕ
 pair_text name value = codes "{" ++ (name ++ (codes "," ++ (value ++ codes "}")))
 

@@ -37,6 +37,7 @@ permitted (permission ∷ permissions) name = if bytes_eq permission.name name t
 abbrev pub numbered_app : List Permission → List NodeRow → App → AppRow
 numbered_app permissions nodes app = record { name = app.name; timeout = app.timeout; groups = map (numbers_from 0 nodes) app.groups; permission = permitted permissions app.name }
 
+-- the nodes of a text, in the byte order of their names
 abbrev pub numbered_nodes : Written → List NodeRow
 numbered_nodes w = map (numbered_node w) (in_byte_order w.nodes)
 

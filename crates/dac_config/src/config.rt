@@ -1,7 +1,7 @@
 //! The tables of a configuration and its readers.
 ghost use Rattle.std.specs.Prelude.{◌≡◌, ◌<◌, ◌≤◌, ◌==◌, Some, slice_get, length, position, All, IfOk, IfSome};
 ghost use Rattle.std.specs.List.{list_any};
-ghost use Rattle.dac_config.specs.Table.{node_count, app_count, group_among};
+ghost use Rattle.dac_config.specs.Table.{node_count, app_count};
 
 mod number;
 mod text;
@@ -206,7 +206,7 @@ impl Config {
 
     /// The one text of this configuration: a line that reads as this configuration, with every timeout. It has no spaces
     /// outside of names. The nodes of a tuple and those to wait for stand in the order of their names. It can have more bytes
-    /// than the text that was read, and then be too long to be read itself.
+    /// than the text that was read, and then be too long to be read itself. [`NoMemory`] is the only error.
     pub fn canonical_text(&self) -> Result<Vec<u8>, NoMemory>
         ensures bytes { IfOk result (λ text. text.items ≡ canonical_text self.now) }
         // What is written is read again as an equal configuration, where it isn't too long to be read.
@@ -227,7 +227,7 @@ impl Config {
         mark.value
     }
 
-    /// An equal configuration.
+    /// An equal configuration. [`NoMemory`] is the only error.
     pub fn copy(&self) -> Result<Config, NoMemory>
         ensures { IfOk result (λ copy. copy ≡ self.now) }
     {

@@ -5,8 +5,10 @@ ghost use Rattle.dac_config.specs.Mark.{mixed, fnv1a};
 
 use crate::sink::Sink;
 
+/// The offset basis of 64-bit FNV-1a: the value of no bytes.
 const NO_BYTES: u64 = 14695981039346656037;
 
+/// The prime of 64-bit FNV-1a.
 const FACTOR: u64 = 1099511628211;
 
 /// One more byte.

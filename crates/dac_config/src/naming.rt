@@ -1,9 +1,11 @@
 //! Names of nodes and applications, as Erlang writes atoms.
 
-ghost use Rattle.std.specs.Prelude.{◌≡◌, IfOk};
+ghost use Rattle.std.specs.Prelude.{◌≡◌, ◌↔◌, IfOk, IsTrue};
 ghost use Rattle.std.specs.List.{list_all};
+ghost use Rattle.dac_tokens.specs.Scan.{is_name_byte};
+ghost use Rattle.dac_tokens.specs.TokenGrammar.{IsBareAtom};
 ghost use Rattle.dac_config.specs.Sinks.{Gains};
-ghost use Rattle.dac_config.specs.Canonical.{is_name_byte, begins_small, is_bare, name_text};
+ghost use Rattle.dac_config.specs.Canonical.{begins_small, is_bare, name_text};
 
 use crate::sink::{Sink, Text};
 use dac_base::NoMemory;
@@ -32,8 +34,11 @@ fn all_name_bytes(name: &[u8]) -> bool
 
 /// Whether the name is an atom without quotes: a small letter and further letters, digits, `_` and `@`, and
 /// not the word `fun`.
+#[tactic(auto, using(crate::proofs::Writes::tells_bare))]
 pub fn is_bare(name: &[u8]) -> bool
-    ensures { result ≡ is_bare name.now }
+    ensures value { result ≡ is_bare name.now }
+    // by the grammar of tokens too
+    ensures atom { IsTrue result ↔ IsBareAtom name.now }
 {
     begins_small(name) && name != b"fun".as_slice() && all_name_bytes(name)
 }

@@ -19,6 +19,7 @@ Parted Is words [] = ⊥
 Parted Is words (x ∷ []) = Is words x
 Parted Is words (x ∷ y ∷ ys) = (first rest : List Word) × (words ≡ first ++ Mark Comma ∷ rest) × Is first x × Parted Is rest (y ∷ ys)
 
+-- words between two marks
 abbrev pub between : Symbol → List Word → Symbol → List Word
 between left words right = Mark left ∷ words ++ Mark right ∷ []
 
@@ -55,6 +56,7 @@ mutual
     One : (words : List Word) → IsTerm words → AreTerms words
     More : (first rest : List Word) → IsTerm first → AreTerms rest → AreTerms (first ++ Mark Comma ∷ rest)
 
+-- a node, which is its name
 abbrev pub IsNode : List Word → List ℕ → Type 0
 IsNode words name = words ≡ Name name ∷ []
 
@@ -78,9 +80,11 @@ IsTimeout words n =
     ((words ≡ []) × (n ≡ 0))
     ⊎ ((word : Word) × (words ≡ word ∷ Mark Comma ∷ []) × IsMs word n)
 
+-- the value of an application: its timeout, if it is written, and its node list
 abbrev pub IsAppValue : List Word → App → Type 0
 IsAppValue words app = (timeout list : List Word) × (words ≡ timeout ++ list) × IsTimeout timeout app.timeout × IsNodeList list app.groups
 
+-- an application, as a pair of its name and its value
 abbrev pub IsApp : List Word → App → Type 0
 IsApp words app = IsPair app.name (λ value. IsAppValue value app) words
 
@@ -89,6 +93,7 @@ abbrev pub IsFlag : List Word → Bool → Type 0
 IsFlag words true = words ≡ Name (codes "true") ∷ []
 IsFlag words false = words ≡ Name (codes "false") ∷ []
 
+-- a permission, as a pair of the name of an application and a flag
 abbrev pub IsPermission : List Word → Permission → Type 0
 IsPermission words permission = IsPair permission.name (λ value. IsFlag value permission.value) words
 
@@ -112,6 +117,7 @@ abbrev pub IsSection : List Word → Section → Type 0
 IsSection words (Kernel params) = IsPair (codes "kernel") (λ value. IsListOf IsParam value params) words
 IsSection words Section.Other = (name : List ℕ) × (name ≢ codes "kernel") × IsPair name IsTerm words
 
+-- a file: a list of sections, and the full stop
 abbrev pub IsFile : List Word → List Section → Type 0
 IsFile words sections = (list : List Word) × (words ≡ list ++ Mark FullStop ∷ []) × IsListOf IsSection list sections
 

@@ -1,24 +1,31 @@
 -- Which names may stand where: each thing may come after those before it.
-use Rattle.std.specs.Prelude.{◌≡◌, ℕ, ◌<◌, ◌≤◌, ◌==◌, Bool, true, false, List, [], ◌∷◌, ◌++◌, length, map, Option, None, Some, if◌then◌else◌}
+use Rattle.std.specs.Prelude.{◌≡◌, ℕ, ◌<◌, ◌≤◌, ◌==◌, Bool, true, false, List, [], ◌∷◌, ◌++◌, length, map, Option, None, Some, if◌then◌else◌, refl}
 use Rattle.std.specs.Str.{bytes_eq}
 use Rattle.std.specs.List.{list_any}
 use Rattle.dac_base.specs.declared.limits.TheConstants.{MAX_APPS, MAX_NODES}
-use Rattle.dac_shapes.specs.declared.limits.TheConstants.{MAX_NAME}
+use Rattle.dac_shapes.specs.declared.limits.TheConstants.{MAX_NAME, MAX_TEXT}
 use Rattle.dac_shapes.specs.declared.param.ParamName.{ParamName}
 use Rattle.dac_shapes.specs.declared.param.ParamName.TheVariants as named
 use Rattle.dac_shapes.specs.Written.{App, Permission, Param, Distributed, Permissions, Mandatory, Optional, Timeout, Section, Kernel, name_of}
+
+-- what the limits of this crate are, so that neither can change unseen
+pub the_limits : (MAX_NAME ≡ 255) × (MAX_TEXT ≡ 65536)
+the_limits = (refl, refl)
 
 -- the different names of nodes met so far, and the names of the node list that is being read
 pub record Seen : Type 0 where
   pub met : List (List ℕ)
   pub listed : List (List ℕ)
 
+-- no name was seen yet
 abbrev pub nothing : Seen
 nothing = record { met = []; listed = [] }
 
+-- whether the name is one of these
 abbrev pub is_among : List ℕ → List (List ℕ) → Bool
 is_among name names = list_any (λ other. bytes_eq other name) names
 
+-- numbers that tell the parameters apart
 abbrev pub number_of : ParamName → ℕ
 number_of named.Distributed = 0
 number_of named.Mandatory = 1
@@ -35,6 +42,7 @@ is_named name (Some other) = number_of other == number_of name
 abbrev pub has_param : ParamName → List Param → Bool
 has_param name params = list_any (λ param. is_named name (name_of param)) params
 
+-- whether a section is `kernel`
 abbrev pub is_kernel : Section → Bool
 is_kernel (Kernel params) = true
 is_kernel Section.Other = false
@@ -56,9 +64,11 @@ steps step seen (x ∷ xs) = steps step (step seen x) xs
 
 -- ---- nodes
 
+-- these names, and this one behind them if it is new
 abbrev pub with_name : List (List ℕ) → List ℕ → List (List ℕ)
 with_name names name = if is_among name names then names else names ++ name ∷ []
 
+-- what was seen after one more node
 abbrev pub with_node : Seen → List ℕ → Seen
 with_node seen name = record { met = with_name seen.met name; listed = seen.listed ++ name ∷ [] }
 
@@ -69,15 +79,19 @@ pub record MayNode (repeats : Bool) (seen : Seen) (name : List ℕ) : Type 0 whe
   pub once : repeats ≡ false → is_among name seen.listed ≡ false
   pub few : is_among name seen.met ≡ false → length seen.met < MAX_NODES
 
+-- what was seen after these nodes
 abbrev pub with_nodes : Seen → List (List ℕ) → Seen
 with_nodes seen names = steps with_node seen names
 
+-- these nodes may come, one after another
 abbrev pub MayNodes : Bool → Seen → List (List ℕ) → Type 0
 MayNodes repeats seen names = AllMay with_node (λ _. MayNode repeats) [] seen names
 
+-- what was seen after these groups
 abbrev pub with_groups : Seen → List (List (List ℕ)) → Seen
 with_groups seen groups = steps with_nodes seen groups
 
+-- these groups may come, and no node stands twice in them
 abbrev pub MayGroups : Seen → List (List (List ℕ)) → Type 0
 MayGroups seen groups = AllMay with_nodes (λ _. MayNodes false) [] seen groups
 
@@ -87,6 +101,7 @@ MayGroups seen groups = AllMay with_nodes (λ _. MayNodes false) [] seen groups
 abbrev pub listing : Seen → Seen
 listing seen = record seen { listed = [] }
 
+-- what was seen after one more application
 abbrev pub with_app : Seen → App → Seen
 with_app seen app = with_groups (listing seen) app.groups
 
@@ -98,6 +113,7 @@ pub record MayApp (before : List App) (seen : Seen) (app : App) : Type 0 where
   pub few : length before < MAX_APPS
   pub nodes : MayGroups (listing seen) app.groups
 
+-- what was seen after these applications
 abbrev pub with_apps : Seen → List App → Seen
 with_apps seen apps = steps with_app seen apps
 
@@ -113,6 +129,7 @@ MayPermission before seen permission = length permission.name ≤ MAX_NAME
 
 -- ---- parameters and sections
 
+-- what was seen after one more parameter
 abbrev pub with_param : Seen → Param → Seen
 with_param seen (Distributed apps) = with_apps seen apps
 with_param seen (Permissions permissions) = seen
@@ -121,6 +138,7 @@ with_param seen (Optional names) = with_nodes seen names
 with_param seen (Timeout wait) = seen
 with_param seen Param.Other = seen
 
+-- the value of a parameter may come
 abbrev pub MayValue : Seen → Param → Type 0
 MayValue seen (Distributed apps) = AllMay with_app MayApp [] seen apps
 MayValue seen (Permissions permissions) = AllMay with_permission MayPermission [] seen permissions
@@ -134,6 +152,7 @@ pub record MayParam (before : List Param) (seen : Seen) (param : Param) : Type 0
   pub once : (name : ParamName) → name_of param ≡ Some name → has_param name before ≡ false
   pub value : MayValue seen param
 
+-- what was seen after one more section
 abbrev pub with_section : Seen → Section → Seen
 with_section seen (Kernel params) = steps with_param seen params
 with_section seen Section.Other = seen
@@ -143,9 +162,11 @@ pub record MayKernel (before : List Section) (seen : Seen) (kernel : List Param)
   pub once : has_kernel before ≡ false
   pub params : AllMay with_param MayParam [] seen kernel
 
+-- a section may come after these: one that is not `kernel` always may
 abbrev pub MaySection : List Section → Seen → Section → Type 0
 MaySection before seen (Kernel params) = MayKernel before seen params
 MaySection before seen Section.Other = Unit {0}
 
+-- all sections of a text may come, in order
 abbrev pub MaySections : List Section → Type 0
 MaySections sections = AllMay with_section MaySection [] nothing sections

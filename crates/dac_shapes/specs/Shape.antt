@@ -24,9 +24,11 @@ pub record State : Type 0 where
   pub left : Stream
   pub seen : Seen
 
+-- a fault of this kind at this place
 abbrev pub fails : {A : Type 0} → FaultKind → ℕ → Result A ConfigFault
 fails kind at = Err (record { kind = kind; at = at })
 
+-- the byte that a mark is
 abbrev pub byte_of : Symbol → ℕ
 byte_of OpenList = 91
 byte_of CloseList = 93
@@ -35,6 +37,7 @@ byte_of CloseTuple = 125
 byte_of Comma = 44
 byte_of FullStop = 46
 
+-- whether a token is this mark
 abbrev pub is_mark : Symbol → Word → Bool
 is_mark symbol (Mark other) = byte_of symbol == byte_of other
 is_mark symbol (Name name) = false
@@ -42,6 +45,7 @@ is_mark symbol (Number negative digits) = false
 is_mark symbol Text = false
 is_mark symbol End = false
 
+-- whether a token is a string
 abbrev pub is_text : Word → Bool
 is_text Text = true
 is_text (Mark symbol) = false

@@ -15,7 +15,8 @@ use Rattle.dac_shapes.specs.declared.param.Section.TheVariants as section
 use Rattle.dac_shapes.specs.Written.{App, Permission, Param, Distributed, Permissions, Mandatory, Optional, Timeout, Section, Kernel, Written}
 use Rattle.dac_shapes.specs.Shape.{State}
 
--- names without where they lie in memory
+-- ---- what is read, without where its names lie in memory
+
 abbrev pub names_of : List (Bor (List ℕ)) → List (List ℕ)
 names_of names = map (λ name. name.now) names
 
@@ -52,10 +53,12 @@ section_of section.Other = Section.Other
 abbrev pub sections_of : List ReadSection → List Section
 sections_of sections = map section_of sections
 
--- a draft without where its names lie in memory
 abbrev pub draft_of : Draft → Written
 draft_of d = record { apps = apps_of d.apps.items; permissions = permissions_of d.permissions.items; mandatory = names_of d.mandatory.items; optional = names_of d.optional.items; sync_wait = d.sync_wait; nodes = names_of d.nodes.items }
 
+-- ---- how far a parser is
+
+-- what is left to read, and the names seen so far
 abbrev pub parser_state : Parser → State
 parser_state p = record { left = p.tokens; seen = record { met = names_of p.met.items; listed = names_of p.listed.items } }
 
@@ -63,6 +66,7 @@ parser_state p = record { left = p.tokens; seen = record { met = names_of p.met.
 abbrev pub here : Parser → Located × State
 here p = (located_of p.token, parser_state p)
 
+-- how many tokens are left
 abbrev pub tokens_left : Parser → ℕ
 tokens_left p = length p.tokens.tokens
 

@@ -23,6 +23,7 @@ params_in (Section.Other ∷ sections) = params_in sections
 abbrev pub names_of_app : App → List (List ℕ)
 names_of_app app = joined app.groups
 
+-- the names of nodes in a parameter, in order
 abbrev pub names_of_param : Param → List (List ℕ)
 names_of_param (Distributed apps) = joined (map names_of_app apps)
 names_of_param (Permissions permissions) = []
@@ -50,9 +51,11 @@ pub record AreAppsWithin (apps : List App) : Type 0 where
   pub different : IsDistinct bytes_eq (map (λ app. app.name) apps)
   pub once : All (λ app. IsDistinct bytes_eq (names_of_app app)) apps
 
+-- names of at most MAX_NAME bytes
 abbrev pub ArePermissionsWithin : List Permission → Type 0
 ArePermissionsWithin permissions = All (λ permission. length permission.name ≤ MAX_NAME) permissions
 
+-- the value of a parameter keeps the limits of applications and permissions
 abbrev pub IsValueWithin : Param → Type 0
 IsValueWithin (Distributed apps) = AreAppsWithin apps
 IsValueWithin (Permissions permissions) = ArePermissionsWithin permissions

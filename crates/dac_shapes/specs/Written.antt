@@ -70,9 +70,11 @@ put w (Optional names) = record w { optional = names }
 put w (Timeout wait) = record w { sync_wait = wait }
 put w Param.Other = w
 
+-- each of these parameters says its part, in order
 abbrev pub put_all : Written → List Param → Written
 put_all w params = fold put w params
 
+-- a section says what its parameters say, and nothing if it isn't read
 abbrev pub put_section : Written → Section → Written
 put_section w (Kernel params) = put_all w params
 put_section w Section.Other = w

@@ -5,7 +5,7 @@ ghost use Rattle.std.specs.List.{list_any};
 ghost use Rattle.std.specs.Str.{bytes_eq};
 ghost use Rattle.dac_tokens.specs.Gives.{Gives};
 ghost use Rattle.dac_tokens.specs.Words.{located_of};
-ghost use Rattle.dac_shapes.specs.Shape.{timeout_at, app_name_of, app_value_at, app_at, closed};
+ghost use Rattle.dac_shapes.specs.Shape.{timeout_at, app_name_of, app_value_at, closed};
 ghost use Rattle.dac_shapes.specs.Views.{app_of, parser_state, tokens_left};
 ghost use Rattle.dac_shapes.specs.Written.{App};
 

@@ -1,7 +1,7 @@
 //! What a configuration text says, as it is written.
 
-ghost use Rattle.std.specs.Prelude.{◌≡◌, fold};
-ghost use Rattle.dac_shapes.specs.Written.{put, put_section, unsaid, written};
+ghost use Rattle.std.specs.Prelude.{◌≡◌};
+ghost use Rattle.dac_shapes.specs.Written.{put, put_section, written};
 ghost use Rattle.dac_shapes.specs.Views.{draft_of, names_of, param_of, section_of, sections_of};
 
 use crate::param::{Param, Section};
@@ -21,6 +21,7 @@ pub enum SyncWait {
 /// An application as the text lists it (OTP's kernel parameter `distributed`).
 #[derive(Drop)]
 pub struct DraftApp<'a> {
+    /// The application's name, without quotes.
     pub name: &'a [u8],
     /// How long a failover waits, in milliseconds; 0 if it isn't written.
     pub timeout: u32,
@@ -33,6 +34,7 @@ pub struct DraftApp<'a> {
 pub struct Permission<'a> {
     /// The application's name; it may be one that the text doesn't distribute.
     pub name: &'a [u8],
+    /// Whether it may run.
     pub value: bool,
 }
 
@@ -47,6 +49,7 @@ pub struct Draft<'a> {
     pub mandatory: Vec<&'a [u8]>,
     /// The nodes that may be there at a start, as written.
     pub optional: Vec<&'a [u8]>,
+    /// How long a node waits for them at its start.
     pub sync_wait: SyncWait,
     /// The names of all nodes, each once, in the order in which they first stand.
     pub nodes: Vec<&'a [u8]>,

@@ -31,4 +31,5 @@ mod terms;
 
 pub use draft::{Draft, DraftApp, Permission, SyncWait};
 pub use limits::{MAX_APPS, MAX_NAME, MAX_NODES, MAX_TEXT};
+pub use names::is_among;
 pub use reading::parse_draft;

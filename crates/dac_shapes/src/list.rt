@@ -1,7 +1,6 @@
 //! Lists of any elements, parted by commas.
 
-ghost use Rattle.std.specs.Prelude.{◌≡◌, ◌≤◌, [], List, map};
-ghost use Rattle.dac_tokens.specs.declared.token.Symbol.TheVariants.{CloseList};
+ghost use Rattle.std.specs.Prelude.{◌≤◌, [], map};
 ghost use Rattle.dac_tokens.specs.Words.{located_of};
 ghost use Rattle.dac_tokens.specs.Gives.{Gives};
 ghost use Rattle.dac_shapes.specs.Shape.{comma_list, list_of, room};

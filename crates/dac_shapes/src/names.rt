@@ -12,6 +12,7 @@ use crate::limits::MAX_NAME;
 use crate::parser::Parser;
 use dac_tokens::{ConfigFault, FaultKind, Token};
 
+/// Whether the name is one of these.
 pub fn is_among(name: &[u8], names: &[&[u8]]) -> bool
     ensures { result ≡ is_among name.now (names_of names.now) }
 {

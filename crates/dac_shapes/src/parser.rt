@@ -2,7 +2,7 @@
 
 ghost use Rattle.std.specs.Prelude.{◌≡◌, ◌<◌, ◌≤◌, IfOk, true, false};
 ghost use Rattle.dac_tokens.specs.Gives.{Gives};
-ghost use Rattle.dac_tokens.specs.Words.{located_of, word_of, is_end};
+ghost use Rattle.dac_tokens.specs.Words.{word_of, is_end};
 ghost use Rattle.dac_shapes.specs.Shape.{token, is_mark, is_text, symbol_at, behind_at, more_at};
 ghost use Rattle.dac_shapes.specs.Views.{here, parser_state, tokens_left};
 

@@ -1,9 +1,9 @@
 //! The permissions of the parameter `permissions`.
 
-ghost use Rattle.std.specs.Prelude.{◌≡◌, List, ℕ};
+ghost use Rattle.std.specs.Prelude.{List, ℕ};
 ghost use Rattle.dac_tokens.specs.Words.{located_of};
 ghost use Rattle.dac_tokens.specs.Gives.{Gives};
-ghost use Rattle.dac_shapes.specs.Shape.{flag_of, short_name_of, permission_value_at, permission_at, closed};
+ghost use Rattle.dac_shapes.specs.Shape.{flag_of, short_name_of, permission_value_at, closed};
 ghost use Rattle.dac_shapes.specs.Views.{permission_of};
 ghost use Rattle.dac_shapes.specs.Written.{Permission as WrittenPermission};
 

@@ -1,10 +1,9 @@
 //! The sections of a text and their parameters.
 
-ghost use Rattle.std.specs.Prelude.{◌≡◌, ◌≤◌, true, Bool, Option};
+ghost use Rattle.std.specs.Prelude.{◌≤◌, Bool, Option};
 ghost use Rattle.dac_tokens.specs.Gives.{Gives};
-ghost use Rattle.dac_tokens.specs.Words.{located_of};
 ghost use Rattle.dac_shapes.specs.declared.param.ParamName.{ParamName as Known};
-ghost use Rattle.dac_shapes.specs.Shape.{param_name_of, names_kernel, param_value_at, param_rest_at, param_at, kernel_at, section_rest_at, section_at, end_at, file_at};
+ghost use Rattle.dac_shapes.specs.Shape.{param_name_of, names_kernel, param_value_at, param_rest_at, section_rest_at, section_at, end_at, file_at};
 ghost use Rattle.dac_shapes.specs.Views.{param_of, section_of, draft_of, parser_state, tokens_left};
 ghost use Rattle.dac_shapes.specs.Written.{Param as WrittenParam, Section as WrittenSection};
 

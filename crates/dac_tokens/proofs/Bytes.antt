@@ -15,9 +15,10 @@ use Rattle.dac_tokens.specs.declared.token.Class.{Class}
 use Rattle.dac_tokens.specs.declared.token.Class.TheVariants as class
 use Rattle.dac_tokens.specs.declared.token.Symbol.{Symbol}
 use Rattle.dac_tokens.specs.declared.token.Symbol.TheVariants.{OpenList, CloseList, OpenTuple, CloseTuple, Comma, FullStop}
-use Rattle.dac_tokens.specs.Scan.{is_blank, class_of, is_name_byte, ends_stop, breaks_number, run}
-use Rattle.dac_tokens.specs.TokenGrammar.{IsBlank, StartsGap, IsNameByte, Begins, GoesOnAsNumber, EndsTerm, bytes_of}
+use Rattle.dac_tokens.specs.Scan.{is_blank, class_of, ends_stop, breaks_number, run}
+use Rattle.dac_tokens.specs.TokenGrammar.{IsBlank, StartsGap, Begins, GoesOnAsNumber, EndsTerm, bytes_of}
 use Rattle.dac_tokens.specs.TokenFaults.{IsRefused, IsUnknown}
+use Rattle.dac_tokens.specs.laws.NameBytes.{tells_letter}
 
 -- a test fails where the fact that it decides does
 pub fails : {P : Type 0} (r : Bool) → Decides r P → (P → ⊥) → r ≡ false
@@ -26,14 +27,8 @@ fails r tells other = false_from_ne_true r (λ e. other (tells.0 e))
 pub tells_blank : (b : ℕ) → Decides (is_blank b) (IsBlank b)
 tells_blank b = (leb-true b 32, le-leb b 32)
 
-tells_letter : (b : ℕ) → Decides (is_ascii_lowercase b) (IsAsciiLowercase b)
-tells_letter b = Decides-and (leb 97 b) (leb b 122) (leb-true 97 b, le-leb 97 b) (leb-true b 122, le-leb b 122)
-
 pub tells_digit : (b : ℕ) → Decides (is_ascii_digit b) (IsAsciiDigit b)
 tells_digit b = Decides-and (leb 48 b) (leb b 57) (leb-true 48 b, le-leb 48 b) (leb-true b 57, le-leb b 57)
-
-pub tells_name_byte : (b : ℕ) → Decides (is_name_byte b) (IsNameByte b)
-tells_name_byte b = (λ e. grind (arith, nat_tests), λ h. grind (arith, nat_tests))
 
 pub tells_stop : (rest : List ℕ) → Decides (ends_stop rest) (EndsTerm rest)
 tells_stop [] = (λ e. inl refl, λ h. refl)

@@ -22,7 +22,8 @@ use Rattle.dac_tokens.specs.Scan.{class_of, is_name_byte, is_quotable, is_fun, r
 use Rattle.dac_tokens.specs.Stream.{depth_after}
 use Rattle.dac_tokens.specs.TokenGrammar.{StartsGap, Begins, IsNameByte, IsQuotable, IsUnquotable, IsDigits, IsNumber, GoesOnAsNumber, IsStringText, Empty, Plain, Escape, Spells}
 use Rattle.dac_tokens.specs.TokenFaults.{IsOpeningBracket, IsRefused, IsUnknown, NoToken, LoneDot, LoneMinus, Unknown, Function, OtherNumber, InQuotes, NoQuote, ThreeQuotes, ControlEscape, NoDoubleQuote, Refused, TooDeep}
-use Rattle.dac_tokens.proofs.Bytes.{fails, tells_digit, tells_name_byte, tells_stop, tells_break, letter_class, digit_class, refused_class, gap_class, unknown_class, IsOf, class_is, run-first, taken_length, run_passes, run_stops, run_of, taken_run, dropped_run}
+use Rattle.dac_tokens.specs.laws.NameBytes.{tells_name_byte}
+use Rattle.dac_tokens.proofs.Bytes.{fails, tells_digit, tells_stop, tells_break, letter_class, digit_class, refused_class, gap_class, unknown_class, IsOf, class_is, run-first, taken_length, run_passes, run_stops, run_of, taken_run, dropped_run}
 
 -- bytes without a gap before them: those of a token, and the rest behind it
 pub record IsToken (bytes : List ℕ) (w : Word) (rest : List ℕ) : Type 0 where

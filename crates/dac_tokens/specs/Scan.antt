@@ -65,7 +65,7 @@ abbrev pub ends_stop : List ℕ → Bool
 ends_stop [] = true
 ends_stop (b ∷ bs) = nat_le b 32 || b == 37
 
--- a number has no base, underscore or fraction behind it
+-- whether a base, an underscore or a fraction stands behind the digits of a number
 abbrev pub breaks_number : List ℕ → Bool
 breaks_number [] = false
 breaks_number (b ∷ []) = b == 35 || b == 95

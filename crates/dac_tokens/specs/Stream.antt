@@ -7,10 +7,11 @@ use Rattle.dac_tokens.specs.Words.{Word, Mark, Name, Number, Text, End, is_end, 
 use Rattle.dac_tokens.specs.Gives.{◌>>=◌}
 use Rattle.dac_tokens.specs.Scan.{after_gap, word_at, unsupported}
 
--- how many brackets are open after a token at `at`, where `depth` were before it: at most MAX_DEPTH
+-- one more open bracket, which stands at `at`, where `depth` were open: at most MAX_DEPTH
 abbrev pub opened : ℕ → ℕ → Result ℕ ConfigFault
 opened at depth = if nat_le MAX_DEPTH depth then unsupported at else Ok (depth + 1)
 
+-- how many brackets are open after a token at `at`, where `depth` were before it
 abbrev pub depth_after : ℕ → ℕ → Word → Result ℕ ConfigFault
 depth_after at depth (Mark OpenList) = opened at depth
 depth_after at depth (Mark OpenTuple) = opened at depth

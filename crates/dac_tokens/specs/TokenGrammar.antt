@@ -1,5 +1,5 @@
 -- How the bytes of a text spell its tokens: a relation, whatever a reader does.
-use Rattle.std.specs.Prelude.{◌≡◌, ◌≢◌, ◌⊎◌, ℕ, ◌+◌, ◌-◌, ◌<◌, ◌≤◌, Bool, true, false, List, [], ◌∷◌, ◌++◌, length, All, codes}
+use Rattle.std.specs.Prelude.{◌≡◌, ◌≢◌, ◌⊎◌, ℕ, ◌+◌, ◌-◌, ◌<◌, ◌≤◌, Bool, true, false, List, [], ◌∷◌, ◌++◌, length, All, codes, refl}
 use Rattle.std.specs.Char.{IsAsciiDigit, IsAsciiLowercase, IsAsciiAlphanumeric}
 use Rattle.dac_tokens.specs.declared.token.Symbol.{Symbol}
 use Rattle.dac_tokens.specs.declared.token.Symbol.TheVariants.{OpenList, CloseList, OpenTuple, CloseTuple, Comma, FullStop}
@@ -123,6 +123,10 @@ pub record IsNextToken (at : ℕ) (bytes : List ℕ) (t : Located) (own rest : L
 abbrev pub AreSpelled : ℕ → List ℕ → List Located → Type 0
 AreSpelled at bytes [] = IsLastGap bytes
 AreSpelled at bytes (t ∷ ts) = (own rest : List ℕ) × IsNextToken at bytes t own rest × AreSpelled (t.at + length own) rest ts
+
+-- how many brackets may be open, so that it can't change unseen
+pub the_limit : MAX_DEPTH ≡ 64
+the_limit = refl
 
 -- how many brackets are open behind a token, where so many were before it
 abbrev pub depth_behind : ℕ → Word → ℕ

@@ -1,6 +1,6 @@
 //! One token, from the bytes that begin with it.
 
-ghost use Rattle.std.specs.Prelude.{◌≡◌, ◌+◌, ◌^◌, ◌<◌, ◌≤◌, false, length, take, drop};
+ghost use Rattle.std.specs.Prelude.{◌≡◌, ◌+◌, ◌^◌, ◌<◌, ◌≤◌, false, length};
 ghost use Rattle.dac_tokens.specs.Gives.{Reads};
 ghost use Rattle.dac_tokens.specs.Scan.{after_gap, class_of, goes_on, run, ends_stop, breaks_number, atom_at, number_at, negative_at, quoted_at, string_at, word_at};
 ghost use Rattle.dac_tokens.specs.declared.fault.FaultKind.TheVariants.{BadToken, Unsupported};

@@ -9,17 +9,9 @@ ghost use Rattle.dac_config.specs.ConfigView.{node_row, app_row};
 
 use super::{App, Config, Node};
 use dac_base::{MAX_NODES, NoMemory};
-use dac_shapes::{Draft, DraftApp, Permission};
+use dac_shapes::{Draft, DraftApp, Permission, is_among};
 use indexmap::IndexMap;
 use std::alloc::Global;
-
-/// Whether the name is one of these.
-#[tactic(auto, using(crate::proofs::Names::among_names))]
-fn is_among(name: &[u8], names: &[&[u8]]) -> bool
-    ensures { result ≡ is_among name.now (names_of names.now) }
-{
-    names.contains(&name)
-}
 
 /// Puts the names in byte order, each once.
 fn in_byte_order(names: &mut Vec<&[u8]>)

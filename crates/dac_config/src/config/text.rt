@@ -1,6 +1,6 @@
 //! The canonical text, piece by piece.
 
-ghost use Rattle.std.specs.Prelude.{◌≡◌, ◌<◌, ◌≤◌, not, codes, length, map, filter, All};
+ghost use Rattle.std.specs.Prelude.{◌≡◌, ◌<◌, not, codes, map, filter, All};
 ghost use Rattle.std.specs.Fmt.{decimal};
 ghost use Rattle.dac_config.specs.Sinks.{Gains};
 ghost use Rattle.dac_config.specs.Canonical.{name_text, parted_behind, parted, node_name_text, tuple_text, group_text, app_text, ban_text, wait_texts, param_texts};
