@@ -204,7 +204,7 @@ fn every_operation(rt: HostRuntime) {
     }
 }
 
-/// Why the bytes are refused under the example, if they are.
+/// Why the bytes are refused under this configuration, if they are.
 fn refused(alloc: Global, config: &Config, bytes: &[u8]) -> Option<WireFault> {
     decode(alloc, config, bytes).err()
 }

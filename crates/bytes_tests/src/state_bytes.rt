@@ -158,7 +158,7 @@ fn every_part_is_read(rt: HostRuntime) {
     }
 }
 
-/// Why the bytes are refused under the example, if they are.
+/// Why the bytes are refused under this configuration, if they are.
 fn refused(alloc: Global, config: &Config, bytes: &[u8]) -> Option<StateFault> {
     State::decode(alloc, config, bytes).err()
 }

@@ -1,7 +1,7 @@
 //! Why a running controller refuses a command.
 
 ghost use Rattle.std.specs.Prelude.{◌≡◌};
-ghost use Rattle.dac_commands.specs.Causes.{first, causes_of, causes_to_permit, causes_to_issue, too_many, declared_down, refusal_of_command};
+ghost use Rattle.dac_commands.specs.Causes.{first, causes_of, causes_to_permit, causes_to_issue, too_many, refusal_of_command};
 
 use crate::counters::dots_used_up;
 use crate::keys::{key_of, refusal_to_name};

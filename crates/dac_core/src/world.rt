@@ -60,7 +60,7 @@ impl World {
     ghost use Rattle.dac_worlds.specs.AtNode.{HearsIn, HappensAt};
     ghost use Rattle.dac_worlds.specs.WorldChanges.{Goes};
 
-    /// All controllers of the configuration, off and never booted.
+    /// All controllers of the configuration, off and never booted. [`NoMemory`] is the only error.
     pub fn new(alloc: Global, config: &Config) -> Result<Self, NoMemory>
         ensures { IfOk result (Shows config.now (start config.now)) }
     {

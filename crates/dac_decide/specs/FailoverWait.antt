@@ -75,10 +75,11 @@ IsDue table notes s app now = IsDueBy table notes s app now (verdict_of table s 
 
 -- ---- as functions
 
--- the lost claim of the application, if any
+-- the claim, where the incarnation that made it isn't live
 abbrev pub lost_if : StateValue → Claim → Option Claim
 lost_if s claim = if is_up s claim.origin then None else Some claim
 
+-- the lost claim of the application, if any
 abbrev pub lost_in : StateValue → AppId → Option Claim
 lost_in s app = option_and_then (lost_if s) (map.get s.claims app)
 
@@ -91,6 +92,7 @@ abbrev pub since_of : Option Noted → ℕ → Claim → Noted
 since_of None now claim = record { claim = claim; since = now }
 since_of (Some before) now claim = if is_same before.claim claim then before else record { claim = claim; since = now }
 
+-- what is noted of an application, after so much before and with this lost claim, if any
 abbrev pub noted_next : Option Noted → Option Claim → ℕ → Option Noted
 noted_next before lost now = option_map (since_of before now) lost
 
@@ -107,6 +109,7 @@ waits_of table notes = list_map (λ app. noted_of app notes) (apps_of table)
 abbrev pub noted_at : List (Option Noted) → AppId → Option Noted
 noted_at waits app = get_or waits app.0 None
 
+-- the greatest claim of the application is of this node, as a test
 abbrev pub is_held_at : StateValue → AppId → NodeId → Bool
 is_held_at s app node = option_map_or (λ (claim : Claim). claim.origin.node.0 == node.0) (map.get s.claims app) false
 
@@ -116,6 +119,7 @@ is_over_at wait now None noted = false
 is_over_at wait now (Some claim) None = false
 is_over_at wait now (Some claim) (Some noted) = is_same noted.claim claim && nat_le (noted.since + wait) now
 
+-- the lost claim of the application is the one that is noted, and it has waited its time since
 abbrev pub is_wait_over : Table → StateValue → AppId → Option Noted → ℕ → Bool
 is_wait_over table s app noted now = is_over_at (timeout_of table app) now (lost_in s app) noted
 
@@ -129,9 +133,11 @@ is_due_by table noted s app now (Takeover n) = true
 is_due_by table noted s app now (Kept n) = false
 is_due_by table noted s app now Nobody = false
 
+-- where so much is noted of the application, its verdict is to be carried out now
 abbrev pub is_due_with : Table → Option Noted → StateValue → AppId → ℕ → Bool
 is_due_with table noted s app now = is_due_by table noted s app now (verdict_of table s app)
 
+-- the same, by these notes
 abbrev pub is_due : Table → List Note → StateValue → AppId → ℕ → Bool
 is_due table notes s app now = is_due_with table (noted_of app notes) s app now
 

@@ -8,15 +8,19 @@ use Rattle.dac_placement.specs.StateValue.{StateValue}
 use Rattle.dac_decide.specs.FailoverWait.{Note, IsLost, lost_in, IsNotedSince, noted_of, noted_at, waits_of, IsDue, is_due}
 use Rattle.dac_decide.specs.StartGate.{IsOpening, opening_of}
 
+-- which claim of an application is lost
 abbrev pub LostInWords : Type 0
 LostInWords = (s : StateValue) (app : AppId) (claim : Claim) → (lost_in s app ≡ Some claim) ↔ IsLost s app claim
 
+-- which lost claim is noted, and since when
 abbrev pub RowsInWords : Type 0
 RowsInWords = (app : AppId) (notes : List Note) (claim : Claim) (since : ℕ) → (noted_of app notes ≡ Some (record { claim = claim; since = since })) ↔ IsNotedSince notes app claim since
 
+-- whether an application's verdict is to be carried out now
 abbrev pub DueInWords : Type 0
 DueInWords = (table : Table) (notes : List Note) (s : StateValue) (app : AppId) (now : ℕ) → (is_due table notes s app now ≡ true) ↔ IsDue table notes s app now
 
+-- what becomes of a starting node
 abbrev pub OpeningInWords : Type 0
 OpeningInWords = (table : Table) (s : StateValue) (elapsed : ℕ) → IsOpening table s elapsed (opening_of table s elapsed)
 

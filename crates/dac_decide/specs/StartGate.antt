@@ -47,6 +47,7 @@ IsOpening table s elapsed GiveUp = ¬ (table.sync_wait ≡ NoSync) × ¬ IsTimeL
 abbrev pub is_live_if : StateValue → NodeId → Bool → Bool
 is_live_if s node awaited = is_some (live_at s.lives node) || not awaited
 
+-- each node of the configuration with this mark is live, as a test
 abbrev pub all_up : Table → StateValue → (NodeId → Bool) → Bool
 all_up table s marked = list_all (λ node. is_live_if s node (marked node)) (nodes_of table)
 
@@ -71,5 +72,6 @@ opening_by (Ms wait) present elapsed =
     else if present.mandatory then Opened
     else GiveUp
 
+-- what becomes of the node, so many milliseconds after its boot
 abbrev pub opening_of : Table → StateValue → ℕ → Opening
 opening_of table s elapsed = opening_by table.sync_wait (present_of table s) elapsed

@@ -81,8 +81,8 @@ impl Waits {
         Ok(Waits { noted })
     }
 
-    /// Notes which claims are lost at this moment. Where the configuration isn't the one that the waits were made for,
-    /// their number stays. It takes no memory.
+    /// Notes which claims are lost at this moment, in milliseconds. Where the configuration isn't the one that the waits
+    /// were made for, their number stays. It takes no memory.
     pub fn note(&mut self, config: &Config, state: &State, now: u64)
         ensures value { (notes : List Note) → self.old ≡ waits_of config.now notes
             → self.new ≡ waits_of config.now (record { state = state.now; moment = now } ∷ notes) }
@@ -95,9 +95,9 @@ impl Waits {
         }
     }
 
-    /// Whether an application's verdict is to be carried out at this moment. After OTP's kernel manual, parameter
-    /// `distributed`, a failover waits for the application's time. It doesn't where the node that was lost is back
-    /// and is to have it again. Whatever else there is to do isn't put off. It takes no memory.
+    /// Whether an application's verdict is to be carried out at this moment, in milliseconds. After OTP's kernel manual,
+    /// parameter `distributed`, a failover waits for the application's time. It doesn't where the node that was lost is
+    /// back and is to have it again. Whatever else there is to do isn't put off. It takes no memory.
     pub fn due(&self, config: &Config, state: &State, app: AppId, now: u64) -> bool
         requires { app.0 < app_count config.now }
         ensures kept { result ≡ is_due_with config.now (noted_at self.now app) state.now app now }

@@ -1,4 +1,8 @@
-//! What the calls of a site rest on.
+//! What a call of a site and its end do to a journal, said without the lock.
+//!
+//! No call of a site goes through [`add_record`]. What a site calls under its lock is `Locked::call`, whose clause `full`
+//! promises that `JournalFull` comes exactly of a full journal. [`add_record`] is the same call of a journal without a
+//! lock and without a seat's list. [`same_calls`] is what [`Site::close`](crate::Site::close) compares each seat by.
 
 ghost use Rattle.std.specs.Prelude.{◌≡◌, ◌↔◌, length, IfOk, IfErr, Ok, Err, MatchOption};
 ghost use Rattle.dac_journal.specs.declared.limits.TheConstants.{MAX_RECORDS};
@@ -11,8 +15,8 @@ use dac_journal::{Call, Journal, Record};
 use dac_messages::{Event, Reply};
 use std::sync::Wait;
 
-/// Asks the node of a locked journal for this seat and adds the record, if any. It answers what a call of the site
-/// answers: the place of the record, from 1, and the reply.
+/// Asks the node of a journal for this seat and adds the record, if any. It answers what a call of a site answers: the
+/// place of the record, from 1, and the reply.
 ///
 /// `JournalFull` comes exactly where the journal has [`MAX_RECORDS`](dac_journal::MAX_RECORDS) records; a refusal of the node
 /// is a record too. `NoMemory` comes after the one and before the other. At `JournalFull` and `NoMemory` nothing changes.

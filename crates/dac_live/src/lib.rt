@@ -1,4 +1,13 @@
-//! A site: one controller under a lock, with a journal of all that it answered.
+//! Sites: one controller, which any thread that has a seat may call.
+//!
+//! A [`Site`] is a node under a lock, with a journal of all that it answered. [`blank_site`] makes one without a name,
+//! and [`open_site`] opens it under its name, with a [`Seat`] for each caller. [`Site::call`] asks the node for a seat,
+//! which keeps the place, the event and the answer. [`Site::close`] takes all seats back and gives the journal.
+//!
+//! The lock hides the journal while the site is open. So a call promises its answer after some history of the node,
+//! whose next record is that of the call. Closing shows the journal itself. It is a history of the node in which each
+//! seat's calls stand once, at their places, and nothing else stands. Where the calls don't match it, a
+//! [`CloseFault`] is the answer. Nothing promises that a call gets the lock.
 #![tactic(auto)]
 
 pub use blank::{SiteBlank, SiteName, blank_site};

@@ -111,7 +111,7 @@ fn deal<L: SiteName>(
 }
 
 /// The site under its name, with its seats: numbered from 1, without calls. It is called in a function over the name,
-/// whose caller sees to it that the name stands for this blank. At `Err` the blank is given up.
+/// whose caller sees to it that the name stands for this blank. [`NoMemory`] is the only error; the blank is given up then.
 pub fn open_site<L: SiteName, R: Wait>(
     _rt: &R,
     blank: SiteBlank,
@@ -194,8 +194,10 @@ impl<L: SiteName> Site<L> {
     ///
     /// `JournalFull` is for a journal with [`MAX_RECORDS`](dac_journal::MAX_RECORDS) records. `NoMemory` comes after it, but before
     /// a refusal of the node, since that needs room for its record. At both the seat stays as it was. The lock hides the
-    /// journal, so the clauses speak of some history of the node from where the site began. One of each length exists:
-    /// what promises that `JournalFull` comes of a full journal is [`add_record`](crate::laws::add_record).
+    /// journal, so the clauses speak of some history of the node from where the site began. One of each length exists, so
+    /// they leave open when `JournalFull` comes. That it comes exactly of a full journal is promised under the lock, by
+    /// the clause `full` of `Locked::call`. [`add_record`](crate::laws::add_record) is the same call of a journal without a
+    /// lock, and promises the same.
     pub fn call<R: Wait>(
         &self,
         rt: &R,
@@ -217,7 +219,7 @@ impl<L: SiteName> Site<L> {
 
     /// Ends the site: its journal, in which each seat's calls stand once, and nothing else.
     ///
-    /// `SeatMissing` comes where fewer seats come back than the site was opened with. `Mismatch` comes where a seat's
+    /// `SeatMissing` comes where not as many seats come back as the site was opened with. `Mismatch` comes where a seat's
     /// calls aren't its records, or a record is of none of these seats. It names the place where the first such seat
     /// differs, or, where no seat does, that of the first such record. At both the site and its seats are given up.
     pub fn close<R: Wait>(self, _rt: &R, mut seats: Vec<Seat<L>>) -> Result<Closed, CloseFault>

@@ -54,7 +54,7 @@ impl Event {
         }
     }
 
-    /// An equal event.
+    /// An equal event. [`NoMemory`] is the only error.
     pub fn copy(&self) -> Result<Self, NoMemory>
         ensures { IfOk result (λ event. event ≡ self.now) }
     {

@@ -70,7 +70,7 @@ impl OpList {
         true
     }
 
-    /// An equal list.
+    /// An equal list. [`NoMemory`] is the only error.
     pub fn copy(&self) -> Result<Self, NoMemory>
         ensures { IfOk result (λ copied. copied ≡ self.now) }
     {
@@ -128,7 +128,7 @@ impl AppList {
         self.apps.as_slice() == other.apps.as_slice()
     }
 
-    /// An equal list.
+    /// An equal list. [`NoMemory`] is the only error.
     pub fn copy(&self) -> Result<Self, NoMemory>
         ensures { IfOk result (λ copied. copied ≡ self.now) }
     {

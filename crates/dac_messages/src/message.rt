@@ -44,7 +44,7 @@ impl Body {
         }
     }
 
-    /// A copy.
+    /// An equal body. [`NoMemory`] is the only error.
     pub fn copy(&self) -> Result<Self, NoMemory>
         ensures { IfOk result (λ body. body ≡ self.now) }
     {
@@ -94,7 +94,7 @@ impl Message {
             && self.body.equal(&other.body)
     }
 
-    /// An equal message.
+    /// An equal message. [`NoMemory`] is the only error.
     pub fn copy(&self) -> Result<Self, NoMemory>
         ensures { IfOk result (λ message. message ≡ self.now) }
     {

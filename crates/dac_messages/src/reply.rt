@@ -61,7 +61,7 @@ impl Reply {
         }
     }
 
-    /// An equal reply.
+    /// An equal reply. [`NoMemory`] is the only error.
     pub fn copy(&self) -> Result<Self, NoMemory>
         ensures { IfOk result (λ reply. reply ≡ self.now) }
     {

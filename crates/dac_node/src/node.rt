@@ -94,7 +94,7 @@ impl Node {
         }
     }
 
-    /// An equal controller.
+    /// An equal controller. [`NoMemory`] is the only error.
     pub fn copy(&self) -> Result<Self, NoMemory>
         ensures { IfOk result (λ copied. copied ≡ self.now) }
     {
@@ -183,7 +183,8 @@ impl Node {
         }
     }
 
-    /// What a message that comes would do, as [`Node::prepare`] of that event, without a copy of the message.
+    /// What a message that comes would do, as [`Node::prepare`] of that event, without a copy of the message. The error is
+    /// the refusal of the event, or `NoMemory` where it has none.
     pub fn prepare_hear(&self, config: &Config, message: &Message) -> Result<Change, Refusal>
         ensures ok { IfOk result (λ change. (me : NodeId) → Prepared config.now me self.now (Event.Hear message.now) change) }
         ensures fits { IfOk result (λ change. Fits self.now change) }
@@ -200,7 +201,7 @@ impl Node {
     }
 
     /// What an operation that comes by itself would do, as [`Node::prepare`] of that event, without a copy of the
-    /// operation.
+    /// operation. The error is the refusal of the event, or `NoMemory` where it has none.
     pub fn prepare_hear_op(&self, operation: &Op) -> Result<Change, Refusal>
         ensures ok { IfOk result (λ change. (t : Table) (me : NodeId) → Prepared t me self.now (Event.HearOp operation.now) change) }
         ensures fits { IfOk result (λ change. Fits self.now change) }

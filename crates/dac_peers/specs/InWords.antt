@@ -44,12 +44,14 @@ BeginsWhereAcked = (p : PeersValue) (s : StateValue) (base : ℕ) (to : NodeId) 
 
 -- what is acknowledged is what was got last
 abbrev pub ReceiptsAreGot : Type 0
-ReceiptsAreGot = (p : PeersValue) (node : NodeId) (origin : Origin) (n : ℕ) → (receipt p node ≡ Some (origin, n)) ↔ ((origin.node ≡ node) × (map.get p.got node ≡ Some (record { inc = origin.inc; number = n })))
+ReceiptsAreGot = (p : PeersValue) (node : NodeId) (origin : Origin) (n : ℕ)
+    → (receipt p node ≡ Some (origin, n)) ↔ ((origin.node ≡ node) × (map.get p.got node ≡ Some (record { inc = origin.inc; number = n })))
 
 -- Nothing is to be shipped to a node exactly where three things hold. Its present incarnation acknowledged all, from
 -- there on all is kept, and it is owed nothing
 abbrev pub UpToDateHaveAll : Type 0
-UpToDateHaveAll = (p : PeersValue) (s : StateValue) (base count : ℕ) (to : NodeId) → (is_up_to_date p s base count to ≡ true) ↔ ((n : ℕ) × (HasAcked p s to n × (count ≤ n) × (base ≤ n) × ¬ (IsOwed p to)))
+UpToDateHaveAll = (p : PeersValue) (s : StateValue) (base count : ℕ) (to : NodeId)
+    → (is_up_to_date p s base count to ≡ true) ↔ ((n : ℕ) × (HasAcked p s to n × (count ≤ n) × (base ≤ n) × ¬ (IsOwed p to)))
 
 -- ---- what all have
 -- it acknowledged so many, or it is 0 and the node acknowledged none

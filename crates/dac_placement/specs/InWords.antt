@@ -7,28 +7,35 @@ use Rattle.dac_state.specs.StateValue.{StateValue}
 use Rattle.dac_placement.specs.Placement.{IsEligible, is_eligible, EachEligible, RunsAt, runs_at, runner_of, IsFirst, first_choice, IsStanding, standing_of, IsVerdict, verdict_of, candidate_of}
 use Rattle.dac_placement.specs.laws.Rests.{Rests}
 
+-- which nodes may run an application
 abbrev pub EligibleInWords : Type 0
 EligibleInWords = (table : Table) (s : StateValue) (app : AppId) (node : NodeId) → (is_eligible table s app node ≡ true) ↔ IsEligible table s app node
 
+-- whether it runs at a node
 abbrev pub RunsInWords : Type 0
 RunsInWords = (table : Table) (s : StateValue) (app : AppId) (node : NodeId) → (runs_at table s app node ≡ true) ↔ RunsAt table s app node
 
+-- the node where it runs
 abbrev pub RunnerInWords : Type 0
 RunnerInWords = (table : Table) (s : StateValue) (app : AppId) (node : NodeId) → (runner_of table s app ≡ Some node) ↔ RunsAt table s app node
 
+-- the first choice; there is none only where no node is eligible
 abbrev pub FirstInWords : Type 0
 FirstInWords = (table : Table) (s : StateValue) (app : AppId) → MatchOption (first_choice table s app) (EachEligible table s app (λ _. ⊥)) (λ node. IsFirst table s app node)
 
+-- how an application stands
 abbrev pub StandingInWords : Type 0
 StandingInWords = (table : Table) (s : StateValue) (app : AppId) → IsStanding table s app (standing_of table s app)
 
+-- what is to become of it
 abbrev pub VerdictInWords : Type 0
 VerdictInWords = (table : Table) (s : StateValue) (app : AppId) → IsVerdict table s app (verdict_of table s app)
 
--- Who is to claim an application is its first choice. Nobody is exactly where it is left alone by how it stands and
--- by who is eligible, and by no load
+-- who is to claim an application is its first choice
 abbrev pub CandidateInWords : Type 0
 CandidateInWords = (table : Table) (s : StateValue) (app : AppId) (node : NodeId) → candidate_of (verdict_of table s app) ≡ Some node → IsFirst table s app node
 
+-- Nobody is to claim an application exactly where it is left alone. How it stands and who is eligible say that, and no
+-- load does.
 abbrev pub RestsInWords : Type 0
 RestsInWords = (table : Table) (s : StateValue) (app : AppId) → (candidate_of (verdict_of table s app) ≡ None) ↔ Rests table s app (standing_of table s app)

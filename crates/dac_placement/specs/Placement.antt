@@ -34,6 +34,7 @@ key_at app node inc = record { app = app; node = node; inc = inc }
 abbrev pub IsPermittedAt : Table → StateValue → Key → Type 0
 IsPermittedAt table s key = IsPermitted key (default_permission table key.app) (permissions_of s)
 
+-- the same, as a test
 abbrev pub is_permitted_at : Table → StateValue → Key → Bool
 is_permitted_at table s key = is_permitted key (default_permission table key.app) (permissions_of s)
 
@@ -41,6 +42,7 @@ is_permitted_at table s key = is_permitted key (default_permission table key.app
 abbrev pub IsStartedAt : StateValue → Key → Type 0
 IsStartedAt s key = SomeStands key (wishes_of s)
 
+-- the same, as a test
 abbrev pub is_started_at : StateValue → Key → Bool
 is_started_at s key = is_wished key (wishes_of s)
 
@@ -53,6 +55,7 @@ pub record IsEligible (table : Table) (s : StateValue) (app : AppId) (node : Nod
   pub permitted : IsPermittedAt table s (key_at app node inc)
   pub started : IsStartedAt s (key_at app node inc)
 
+-- the same, as a test
 abbrev pub is_eligible : Table → StateValue → AppId → NodeId → Bool
 is_eligible table s app node =
     is_some (group_of table app node)
@@ -72,6 +75,7 @@ holder_of s app = option_map (λ (claim : Claim). claim.origin) (map.get s.claim
 abbrev pub IsUp : StateValue → Origin → Type 0
 IsUp s o = IsLive s.lives o.node o.inc
 
+-- the same, as a test
 abbrev pub is_up : StateValue → Origin → Bool
 is_up s o = option_map_or (λ inc. inc == o.inc) (live_at s.lives o.node) false
 
@@ -82,6 +86,7 @@ pub record RunsAt (table : Table) (s : StateValue) (app : AppId) (node : NodeId)
   pub up : IsLive s.lives node inc
   pub eligible : IsEligible table s app node
 
+-- the same, as a test
 abbrev pub runs_at : Table → StateValue → AppId → NodeId → Bool
 runs_at table s app node = option_map_or (λ (o : Origin). (o.node.0 == node.0) && is_up s o) (holder_of s app) false && is_eligible table s app node
 
@@ -113,6 +118,7 @@ is_less (Some early) (Some late) = nat_lt early late
 is_less None late = false
 is_less (Some early) None = false
 
+-- m's group is earlier in the application's list than n's, as a test
 abbrev pub is_earlier : Table → AppId → NodeId → NodeId → Bool
 is_earlier table app m n = is_less (group_of table app m) (group_of table app n)
 
@@ -182,6 +188,7 @@ standing_at table s app o =
     else if not (is_permitted_at table s (key_of app o)) then Barred
     else Upheld o.node
 
+-- how the application stands, by its holder if it has one
 abbrev pub standing_of : Table → StateValue → AppId → Standing
 standing_of table s app = option_map_or (standing_at table s app) (holder_of s app) Unclaimed
 
@@ -197,6 +204,7 @@ verdict_by table app Unclaimed None = Nobody
 verdict_by table app Lost None = Nobody
 verdict_by table app Barred None = Nobody
 
+-- what is to become of the application
 abbrev pub verdict_of : Table → StateValue → AppId → Verdict
 verdict_of table s app = verdict_by table app (standing_of table s app) (first_choice table s app)
 

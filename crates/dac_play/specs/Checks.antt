@@ -8,7 +8,8 @@ use Rattle.dac_config.specs.Canonical.{canonical_text}
 use Rattle.dac_script.specs.declared.failure.Failure.{Failure}
 use Rattle.dac_script.specs.declared.failure.Failure.TheVariants as failure
 use Rattle.dac_script.specs.declared.fault.InputFault.TheVariants.{TooLong, NoScript, Read}
-use Rattle.dac_script.specs.Input.{max_input, IsTaken}
+use Rattle.dac_script.specs.Input.{IsTaken}
+use Rattle.dac_script.specs.declared.input.TheConstants.{MAX_INPUT}
 use Rattle.dac_play.specs.declared.ending.Ending.{Ending}
 use Rattle.dac_play.specs.Endings.{Ends}
 
@@ -22,7 +23,7 @@ pub record IsCanonicalOf (bytes text : List ℕ) : Type 0 where
 -- Why an input isn't checked. What it says is looked at only where it isn't too long. Of a failed read, and where
 -- memory is refused, the input says nothing.
 abbrev pub IsUnchecked : List ℕ → Failure → Type 0
-IsUnchecked bytes (failure.Input TooLong) = max_input < length bytes
+IsUnchecked bytes (failure.Input TooLong) = MAX_INPUT < length bytes
 IsUnchecked bytes (failure.Input NoScript) = ⊥
 IsUnchecked bytes (failure.Input Read) = Unit {0}
 IsUnchecked bytes (failure.Config fault) = IsTaken bytes × (config_at bytes ≡ Err fault)
@@ -35,5 +36,6 @@ pub record IsChecked (bytes : List ℕ) (old new : Option (List ℕ)) : Type 0 w
   pub canonical : IsCanonicalOf bytes text
   pub printed : Appends old new text
 
+-- how `distac check` ends, where these are the bytes of its input
 abbrev pub EndsCheck : List ℕ → Ending → Option (List ℕ) → Option (List ℕ) → Type 0
 EndsCheck bytes = Ends (IsChecked bytes) (IsUnchecked bytes)

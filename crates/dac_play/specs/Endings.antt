@@ -8,6 +8,7 @@ use Rattle.dac_play.specs.declared.ending.Ending.{Ending}
 use Rattle.dac_play.specs.declared.ending.Ending.TheVariants as ending
 use Rattle.dac_play.specs.Texts.{failure_text}
 
+-- the exit status of an ending
 abbrev pub status_of : Ending → ℕ
 status_of ending.Done = 0
 status_of (ending.Refused why) = 1

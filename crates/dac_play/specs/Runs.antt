@@ -1,5 +1,5 @@
 -- A script in the words of runs: the events that its lines are.
-use Rattle.std.specs.Prelude.{◌≡◌, ℕ, take, List, [], ◌∷◌, ◌++◌, Result, length, if◌then◌else◌}
+use Rattle.std.specs.Prelude.{ℕ, take, List, [], ◌∷◌, ◌++◌, Result, length, if◌then◌else◌}
 use Rattle.std.specs.Result.{is_ok}
 use Rattle.dac_base.specs.declared.NodeId.{NodeId}
 use Rattle.dac_config.specs.Table.{Table}

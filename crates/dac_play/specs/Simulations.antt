@@ -18,5 +18,6 @@ pub record IsSimulated (bytes : List ℕ) (old new : Option (List ℕ)) : Type 0
   pub printed : Appends old new (script_text table (start table) lines)
   pub runs : PlaysRuns table lines
 
+-- how `distac sim` ends, where these are the bytes of its input
 abbrev pub EndsSim : List ℕ → Ending → Option (List ℕ) → Option (List ℕ) → Type 0
 EndsSim bytes = Ends (IsSimulated bytes) (IsFailureOf bytes)

@@ -33,6 +33,7 @@ shipped_text message Nothing = codes "shipped " ++ (decimal message ++ codes " n
 abbrev pub shared_text : ℕ → List ℕ
 shared_text messages = codes "shared " ++ (decimal messages ++ codes "\n")
 
+-- a crash
 abbrev pub crashed_text : List ℕ
 crashed_text = codes "crashed\n"
 
@@ -44,13 +45,16 @@ held_text = codes "held\n"
 abbrev pub gave_up_text : List ℕ
 gave_up_text = codes "gave up\n"
 
+-- a message or an operation that was heard: whether it said anything new
 abbrev pub heard_text : Bool → List ℕ
 heard_text true = codes "heard new\n"
 heard_text false = codes "heard nothing new\n"
 
+-- no message has this number
 abbrev pub no_message_text : ℕ → List ℕ
 no_message_text message = codes "no message " ++ (decimal message ++ codes "\n")
 
+-- no operation has this number
 abbrev pub no_operation_text : ℕ → List ℕ
 no_operation_text operation = codes "no operation " ++ (decimal operation ++ codes "\n")
 
@@ -58,6 +62,7 @@ no_operation_text operation = codes "no operation " ++ (decimal operation ++ cod
 abbrev pub refused_text : ℕ → List ℕ → List ℕ
 refused_text number name = codes "refused " ++ (decimal number ++ (codes " " ++ (name ++ codes "\n")))
 
+-- whether the bytes of two states are the same
 abbrev pub same_text : Bool → List ℕ
 same_text true = codes "same\n"
 same_text false = codes "differ\n"
@@ -66,13 +71,16 @@ same_text false = codes "differ\n"
 abbrev pub hex_text : List ℕ → List ℕ
 hex_text bytes = encode_lower bytes ++ codes "\n"
 
+-- a fault of the input as a whole: its number and its name
 abbrev pub input_fault_text : InputFault → List ℕ
 input_fault_text fault = codes "input fault " ++ (decimal (input_number fault) ++ (codes " " ++ (input_name fault ++ codes "\n")))
 
+-- a fault of the configuration: its number, its name and its byte
 abbrev pub config_fault_text : ConfigFault → List ℕ
 config_fault_text fault =
     codes "config fault " ++ (decimal (number_of fault.kind) ++ (codes " " ++ (name_of fault.kind ++ (codes " at " ++ (decimal fault.at ++ codes "\n")))))
 
+-- a fault of the script: its line, its number and its name
 abbrev pub script_fault_text : ScriptFault → List ℕ
 script_fault_text fault =
     codes "script fault " ++ (decimal fault.line ++ (codes " " ++ (decimal (script_number fault.kind) ++ (codes " " ++ (script_name fault.kind ++ codes "\n")))))

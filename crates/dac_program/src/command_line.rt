@@ -74,7 +74,7 @@ const AFTER_SIM: &str =
   state NODE              The bytes of NODE's state
   same NODE NODE          Whether two nodes' states have the same bytes
   bytes K                 The bytes of message K
-  feed HEX                Whether bytes are those of a message
+  feed HEX                Whether bytes are those of a message or an operation
 Lines that begin with % and empty lines are skipped.
 
 Exit status:

@@ -20,7 +20,15 @@ use Rattle.dac_deltas.specs.declared.buffer.TheConstants.{MAX_DELTAS}
 
 -- what runs after a boot at this moment
 abbrev pub booted : Table → Origin → ℕ → RunValue
-booted t own now = record { origin = own; moments = record { booted = now; last = now }; is_open = false; waits = waits_of t []; state = join bottom (meaning_of (up own ∷ [])); kept = pushed empty (meaning_of (up own ∷ [])); peers = no_peers }
+booted t own now = record {
+  origin = own;
+  moments = record { booted = now; last = now };
+  is_open = false;
+  waits = waits_of t [];
+  state = join bottom (meaning_of (up own ∷ []));
+  kept = pushed empty (meaning_of (up own ∷ []));
+  peers = no_peers;
+}
 
 -- what runs after a deed, where so much is noted by then
 abbrev pub run_by : RunValue → List (Option Noted) → Deed → Option RunValue
@@ -48,6 +56,7 @@ left_by t me last (Some r) noted e = record { last = last; run = run_by r noted 
 abbrev pub IsNoting : Table → RunValue → List (Option Noted) → Event → Type 0
 IsNoting t r noted e = (deed_of t r noted e).notes ≡ true → (notes : List Note) → r.waits ≡ waits_of t notes → noted ≡ waits_of t (note_of r.state e ∷ notes)
 
+-- the same of a node that may be off; one that is off notes nothing
 abbrev pub IsNotingBy : Table → Option RunValue → List (Option Noted) → Event → Type 0
 IsNotingBy t None noted e = Unit {0}
 IsNotingBy t (Some r) noted e = IsNoting t r noted e

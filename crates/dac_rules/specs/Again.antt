@@ -25,5 +25,6 @@ ClaimsNothing passed answer = (answer ≡ Err DotsUsedUp) ⊎ ((later : List App
 
 -- After a tick by which a node looked after its applications, a second one at the same moment claims nothing.
 abbrev pub SecondTickClaimsNothing : Type 0
-SecondTickClaimsNothing = (t : Table) (me : NodeId) (d : ModelNode) (now : ℕ) (ops : List Operation) (passed : List AppId) → HoldsState d → (model_step t me d (Tick now)).answer ≡ Ok (Ticked ops passed)
+SecondTickClaimsNothing = (t : Table) (me : NodeId) (d : ModelNode) (now : ℕ) (ops : List Operation) (passed : List AppId)
+    → HoldsState d → (model_step t me d (Tick now)).answer ≡ Ok (Ticked ops passed)
     → ClaimsNothing passed (model_step t me (model_step t me d (Tick now)).node (Tick now)).answer

@@ -82,7 +82,16 @@ hears_message t r m =
     let body = content_of m.body in
     let adds = brings r.state body in
     let peers = heard_from r.origin r.kept.count r.peers m in
-    record { reply = Heard (not (is_below body r.state)); adds = adds; goes_off = false; last = r.moments.last; is_open = r.is_open; notes = false; peers = peers; trim = acked_by_all peers (fold join r.state adds) (node_count t) r.origin.node }
+    record {
+      reply = Heard (not (is_below body r.state));
+      adds = adds;
+      goes_off = false;
+      last = r.moments.last;
+      is_open = r.is_open;
+      notes = false;
+      peers = peers;
+      trim = acked_by_all peers (fold join r.state adds) (node_count t) r.origin.node;
+    }
 
 -- the states that these operations mean, each alone
 abbrev pub meanings : List Operation → List StateValue

@@ -35,6 +35,7 @@ too_many_deltas r more = nat_lt MAX_COUNTER (r.kept.count + more)
 abbrev pub causes_to_tick : Table → RunValue → ℕ → List (Bool × Refusal)
 causes_to_tick t r now = (declared_down r.origin r.state, DeclaredDown) ∷ (nat_lt now r.moments.last, MomentBack) ∷ (too_few_left t r.state r.origin || too_many_deltas r (needed t), DotsUsedUp) ∷ []
 
+-- the first of these causes that there is
 abbrev pub refusal_to_tick : Table → RunValue → ℕ → Option Refusal
 refusal_to_tick t r now = first (causes_to_tick t r now)
 
@@ -54,6 +55,7 @@ overflows r body = not (is_below body r.state) && too_many_deltas r 1
 abbrev pub causes_to_hear : RunValue → Message → List (Bool × Refusal)
 causes_to_hear r m = (nat_eq m.from.node.0 r.origin.node.0, OnSelf) ∷ (not (is_for r.origin m), NotForMe) ∷ (overflows r (content_of m.body), DotsUsedUp) ∷ []
 
+-- the first of these causes that there is
 abbrev pub refusal_to_hear : RunValue → Message → Option Refusal
 refusal_to_hear r m = first (causes_to_hear r m)
 
@@ -91,6 +93,7 @@ refusal_off last (Ship to) = Some Off
 refusal_off last (Hear m) = Some Off
 refusal_off last (HearOp o) = Some Off
 
+-- why a node with this last incarnation refuses an event, if it does, by what it runs
 abbrev pub refusal_by : Table → ℕ → Option RunValue → Event → Option Refusal
 refusal_by t last None e = refusal_off last e
 refusal_by t last (Some r) e = refusal_on t r e

@@ -100,5 +100,6 @@ KeepsBy t me last None (Boot now) (Booted o) new = (new.last ≡ last + 1) × So
 KeepsBy t me last None e reply new = ⊥
 KeepsBy t me last (Some r) e reply new = (new.last ≡ last) × LeavesRunning t r e reply new.run
 
+-- what an event that is answered so leaves of a node
 abbrev pub Keeps : Table → NodeId → NodeValue → Event → Reply → NodeValue → Type 0
 Keeps t me old e reply new = KeepsBy t me old.last old.run e reply new

@@ -42,5 +42,6 @@ joined states = fold join bottom states
 abbrev pub run_shown : Table → ModelRun → RunValue
 run_shown t r = record { origin = r.origin; moments = r.moments; is_open = r.is_open; waits = waits_of t r.notes; state = joined r.log; kept = kept_of r.base r.log; peers = r.peers }
 
+-- and so the whole node is shown: the number of its last incarnation is the same
 abbrev pub shown : Table → ModelNode → NodeValue
 shown t d = record { last = d.last; run = option_map (run_shown t) d.run }

@@ -34,15 +34,25 @@ pub record NodeValue : Type 0 where
   pub last : ℕ
   pub run : Option RunValue
 
+-- ---- what a node holds is data
+
+-- two moments
 abbrev pub coded_moments : Coded Moments
 coded_moments = code_by (ℕ × ℕ) (coded× coded_ℕ coded_ℕ) (λ m. (m.booted, m.last)) (λ p. record { booted = p.0; last = p.1 }) (λ _. refl)
 
+-- the deltas that are kept
 abbrev pub coded_kept : Coded (Kept StateValue)
-coded_kept = code_by (ℕ × (ℕ × List StateValue)) (coded× coded_ℕ (coded× coded_ℕ (coded_list coded_state))) (λ k. (k.count, (k.base, k.deltas))) (λ p. record { count = p.0; base = p.1.0; deltas = p.1.1 }) (λ _. refl)
+coded_kept =
+    code_by (ℕ × (ℕ × List StateValue)) (coded× coded_ℕ (coded× coded_ℕ (coded_list coded_state)))
+    (λ k. (k.count, (k.base, k.deltas)))
+    (λ p. record { count = p.0; base = p.1.0; deltas = p.1.1 })
+    (λ _. refl)
 
+-- the parts of what runs, in pairs
 abbrev RunParts : Type 0
 RunParts = (Origin × Moments) × ((Bool × List (Option Noted)) × (StateValue × (Kept StateValue × PeersValue)))
 
+-- what runs, by its parts
 abbrev pub coded_run : Coded RunValue
 coded_run =
     code_by RunParts (coded× (coded× coded_origin coded_moments) (coded× (coded× coded_bool (coded_list (coded_option coded_noted))) (coded× coded_state (coded× coded_kept coded_peers))))
@@ -50,8 +60,11 @@ coded_run =
     (λ p. record { origin = p.0.0; moments = p.0.1; is_open = p.1.0.0; waits = p.1.0.1; state = p.1.1.0; kept = p.1.1.1.0; peers = p.1.1.1.1 })
     (λ _. refl)
 
+-- the whole node
 abbrev pub coded_node_value : Coded NodeValue
 coded_node_value = code_by (ℕ × Option RunValue) (coded× coded_ℕ (coded_option coded_run)) (λ v. (v.last, v.run)) (λ p. record { last = p.0; run = p.1 }) (λ _. refl)
+
+-- ---- a node as it is
 
 -- a node that is off
 abbrev pub off : ℕ → NodeValue

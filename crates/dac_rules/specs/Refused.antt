@@ -188,9 +188,11 @@ IsAnsweredBy t v e why = IsRefused t v e why ⊎ ((why ≡ NoMemory) × IsFree t
 
 -- ---- the table of causes answers so
 
+-- what refuses an event is the least of the causes that hold
 abbrev pub AnswersTheLeast : Type 0
 AnswersTheLeast = (t : Table) (v : NodeValue) (e : Event) (why : Refusal) → refusal_of t v e ≡ Some why → IsRefused t v e why
 
+-- where nothing refuses an event, no cause of it holds
 abbrev pub RefusesNoOther : Type 0
 RefusesNoOther = (t : Table) (v : NodeValue) (e : Event) → refusal_of t v e ≡ None → IsFree t v e
 

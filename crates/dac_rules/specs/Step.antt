@@ -42,6 +42,7 @@ goes_on r note deed = cond deed.goes_off None (Some (record {
 abbrev pub deed_on : Table → ModelRun → Event → Deed
 deed_on t r e = deed_of t (run_shown t r) (waits_of t (note_of (joined r.log) e ∷ r.notes)) e
 
+-- what a step gives: the node after it, and the answer
 pub record Stepped : Type 0 where
   pub node : ModelNode
   pub answer : Result Reply Refusal
@@ -53,6 +54,7 @@ accepted t me last None e =
     record { node = record { last = last + 1; run = Some (comes_up own (moment_of e)) }; answer = Ok (Booted (up own)) }
 accepted t me last (Some r) e = record { node = record { last = last; run = goes_on r (note_of (joined r.log) e) (deed_on t r e) }; answer = Ok (deed_on t r e).reply }
 
+-- a step, where this refuses the event, if anything does
 abbrev pub step_by : Option Refusal → Table → NodeId → ModelNode → Event → Stepped
 step_by (Some why) t me d e = record { node = d; answer = Err why }
 step_by None t me d e = accepted t me d.last d.run e

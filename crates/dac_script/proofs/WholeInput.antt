@@ -12,9 +12,10 @@ use Rattle.dac_config.specs.Reading.{config_at}
 use Rattle.dac_script.specs.declared.failure.Failure.{Failure}
 use Rattle.dac_script.specs.declared.failure.Failure.TheVariants as failure
 use Rattle.dac_script.specs.declared.fault.InputFault.TheVariants.{TooLong, NoScript, Read}
+use Rattle.dac_script.specs.declared.input.TheConstants.{MAX_INPUT}
 use Rattle.dac_script.specs.Failures.{failure_of_kind}
 use Rattle.dac_script.specs.Script.{lines_of, IsScriptFailure}
-use Rattle.dac_script.specs.Input.{max_input, IsTaken, IsParted, IsReadFailure}
+use Rattle.dac_script.specs.Input.{IsTaken, IsParted, IsReadFailure}
 use Rattle.dac_script.specs.Inputs.{IsPartsFailure, IsFailureOf}
 use Rattle.dac_script.specs.Sources.{Sourced, IsLeftBy}
 use Rattle.dac_script.specs.declared.source.Progress.{Progress}
@@ -33,7 +34,7 @@ is_failed Failed = true
 ended_not_failed : Ended ≡ Failed → ⊥
 ended_not_failed same = false≢true (ap is_failed same)
 
-pub read_fails : (a : Option (List ℕ)) (why : Failure) → IsReadFailure max_input a why → IfSome a (λ bytes. IsFailureOf bytes why)
+pub read_fails : (a : Option (List ℕ)) (why : Failure) → IsReadFailure MAX_INPUT a why → IfSome a (λ bytes. IsFailureOf bytes why)
 read_fails None (failure.Input TooLong) fails = tt
 read_fails (Some bytes) (failure.Input TooLong) fails = fails
 read_fails None why fails = tt

@@ -10,6 +10,7 @@ use Rattle.dac_script.specs.declared.fault.ScriptFaultKind.TheVariants.{BadCount
 use Rattle.dac_script.specs.declared.asked.Wish.{Wish}
 use Rattle.dac_script.specs.Words.{name_in, number_in}
 
+-- the first fault is the answer, and where there is none it goes on with what was read
 infixl 10 ◌>>=◌
 abbrev pub ◌>>=◌ : {A B : Type 0} → Result A ScriptFaultKind → (A → Result B ScriptFaultKind) → Result B ScriptFaultKind
 (Ok x) >>= f = f x
@@ -21,18 +22,23 @@ seen view (Ok x) = Ok (view x)
 seen view (Err kind) = Err kind
 
 -- ---- how many words there are
+
+-- the only word
 abbrev pub one : List (List ℕ) → Result (List ℕ) ScriptFaultKind
 one (only ∷ []) = Ok only
 one _ = Err BadCount
 
+-- exactly two words
 abbrev pub two : List (List ℕ) → Result (List ℕ × List ℕ) ScriptFaultKind
 two (first ∷ second ∷ []) = Ok (first, second)
 two _ = Err BadCount
 
+-- exactly three words
 abbrev pub three : List (List ℕ) → Result (List ℕ × List ℕ × List ℕ) ScriptFaultKind
 three (first ∷ second ∷ third ∷ []) = Ok (first, second, third)
 three _ = Err BadCount
 
+-- exactly four words
 abbrev pub four : List (List ℕ) → Result (List ℕ × List ℕ × List ℕ × List ℕ) ScriptFaultKind
 four (first ∷ second ∷ third ∷ fourth ∷ []) = Ok (first, second, third, fourth)
 four _ = Err BadCount

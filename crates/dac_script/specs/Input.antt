@@ -8,13 +8,9 @@ use Rattle.dac_script.specs.declared.fault.InputFault.TheVariants.{TooLong, NoSc
 use Rattle.dac_script.specs.declared.input.TheConstants.{MAX_INPUT}
 use Rattle.dac_script.specs.Script.{lines_of}
 
--- the most bytes that an input may have
-abbrev pub max_input : ℕ
-max_input = MAX_INPUT
-
 -- an input that isn't too long
 abbrev pub IsTaken : List ℕ → Type 0
-IsTaken bytes = length bytes ≤ max_input
+IsTaken bytes = length bytes ≤ MAX_INPUT
 
 -- the line that parts a configuration from a script
 abbrev pub mark : List ℕ
@@ -63,4 +59,4 @@ pub record TakesAtMost (had left : Option (List ℕ)) (most : ℕ) : Type 0 wher
 
 -- whatever came of an input, its reader gave at most one byte more than an input may have
 abbrev pub IsReadWithinBound : Option (List ℕ) → Option (List ℕ) → Type 0
-IsReadWithinBound had left = TakesAtMost had left (max_input + 1)
+IsReadWithinBound had left = TakesAtMost had left (MAX_INPUT + 1)

@@ -8,9 +8,10 @@ use Rattle.dac_script.specs.declared.failure.Failure.{Failure}
 use Rattle.dac_script.specs.declared.failure.Failure.TheVariants as failure
 use Rattle.dac_script.specs.declared.fault.InputFault.TheVariants.{TooLong, NoScript, Read}
 use Rattle.dac_script.specs.declared.fault.ScriptFault.{ScriptFault}
+use Rattle.dac_script.specs.declared.input.TheConstants.{MAX_INPUT}
 use Rattle.dac_script.specs.declared.line.ScriptLine.{ScriptLine}
 use Rattle.dac_script.specs.Script.{lines_of, ReadsAs, IsFirstFault}
-use Rattle.dac_script.specs.Input.{max_input, IsTaken, mark, IsParted}
+use Rattle.dac_script.specs.Input.{IsTaken, mark, IsParted}
 
 -- a text has two parts, which say this configuration and this script
 pub record HasParts (text : List ℕ) (table : Table) (lines : List ScriptLine) : Type 0 where
@@ -54,7 +55,7 @@ pub record Says (bytes : List ℕ) (table : Table) (lines : List ScriptLine) : T
 -- Why an input isn't read. What it says is looked at only where it isn't too long. Of a failed read, and where memory
 -- is refused, the input says nothing.
 abbrev pub IsFailureOf : List ℕ → Failure → Type 0
-IsFailureOf bytes (failure.Input TooLong) = max_input < length bytes
+IsFailureOf bytes (failure.Input TooLong) = MAX_INPUT < length bytes
 IsFailureOf bytes (failure.Input NoScript) = IsTaken bytes × All (λ line. line ≢ mark) (lines_of bytes)
 IsFailureOf bytes (failure.Input Read) = Unit {0}
 IsFailureOf bytes (failure.Config fault) = IsTaken bytes × HasConfigFault bytes fault

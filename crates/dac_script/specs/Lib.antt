@@ -8,3 +8,4 @@ pub mod Script
 pub mod Input
 pub mod Failures
 pub mod Inputs
+pub mod Limits

@@ -52,11 +52,13 @@ verb_of word =
 abbrev pub happens : NodeId → What → Result ScriptLine ScriptFaultKind
 happens node what = Ok (says.Event (record { node = node; what = what }))
 
+-- `boot NODE NOW`
 abbrev pub boot_line : Table → List (List ℕ) → Result ScriptLine ScriptFaultKind
 boot_line table words = do
   both ← node_and_number table words
   happens both.0 (what.Boot both.1)
 
+-- `crash NODE`
 abbrev pub crash_line : Table → List (List ℕ) → Result ScriptLine ScriptFaultKind
 crash_line table words = do
   word ← one words
@@ -64,11 +66,13 @@ crash_line table words = do
   node ← actor table name
   happens node what.Crash
 
+-- `down NODE ABOUT`
 abbrev pub down_line : Table → List (List ℕ) → Result ScriptLine ScriptFaultKind
 down_line table words = do
   both ← node_and_about table words
   happens both.0 (what.Command (command.Down both.1))
 
+-- `permit NODE APP ABOUT true` or `false`
 abbrev pub permit_line : Table → List (List ℕ) → Result ScriptLine ScriptFaultKind
 permit_line table words = do
   all ← four words
@@ -76,47 +80,56 @@ permit_line table words = do
   wish ← wish_in table all.0 all.1 all.2
   happens wish.at (what.Command (command.Permit wish.app wish.node value))
 
+-- `start NODE APP ABOUT`
 abbrev pub start_line : Table → List (List ℕ) → Result ScriptLine ScriptFaultKind
 start_line table words = do
   all ← three words
   wish ← wish_in table all.0 all.1 all.2
   happens wish.at (what.Command (command.Start wish.app wish.node))
 
+-- `stop NODE APP ABOUT`
 abbrev pub stop_line : Table → List (List ℕ) → Result ScriptLine ScriptFaultKind
 stop_line table words = do
   all ← three words
   wish ← wish_in table all.0 all.1 all.2
   happens wish.at (what.Command (command.Stop wish.app wish.node))
 
+-- `takeover NODE APP`
 abbrev pub takeover_line : Table → List (List ℕ) → Result ScriptLine ScriptFaultKind
 takeover_line table words = do
   both ← node_and_app table words
   happens both.0 (what.Command (command.Takeover both.1))
 
+-- `tick NODE NOW`
 abbrev pub tick_line : Table → List (List ℕ) → Result ScriptLine ScriptFaultKind
 tick_line table words = do
   both ← node_and_number table words
   happens both.0 (what.Tick both.1)
 
+-- `ship NODE ABOUT`
 abbrev pub ship_line : Table → List (List ℕ) → Result ScriptLine ScriptFaultKind
 ship_line table words = do
   both ← node_and_about table words
   happens both.0 (what.Ship both.1)
 
+-- `hear NODE K`
 abbrev pub hear_line : Table → List (List ℕ) → Result ScriptLine ScriptFaultKind
 hear_line table words = do
   both ← node_and_number table words
   happens both.0 (what.Deliver both.1)
 
+-- `hand NODE O`
 abbrev pub hand_line : Table → List (List ℕ) → Result ScriptLine ScriptFaultKind
 hand_line table words = do
   both ← node_and_number table words
   happens both.0 (what.Hand both.1)
 
+-- `share`
 abbrev pub share_line : List (List ℕ) → Result ScriptLine ScriptFaultKind
 share_line [] = Ok says.Share
 share_line (word ∷ words) = Err BadCount
 
+-- `page NODE`
 abbrev pub page_line : Table → List (List ℕ) → Result ScriptLine ScriptFaultKind
 page_line table words = do
   word ← one words
@@ -124,6 +137,7 @@ page_line table words = do
   node ← actor table name
   Ok (says.Page node)
 
+-- `state NODE`
 abbrev pub state_line : Table → List (List ℕ) → Result ScriptLine ScriptFaultKind
 state_line table words = do
   word ← one words
@@ -131,6 +145,7 @@ state_line table words = do
   node ← actor table name
   Ok (says.State node)
 
+-- `same NODE NODE`
 abbrev pub same_line : Table → List (List ℕ) → Result ScriptLine ScriptFaultKind
 same_line table words = do
   both ← two words
@@ -140,14 +155,14 @@ same_line table words = do
   second ← actor table other
   Ok (says.Same first second)
 
--- the bytes of a message
+-- `bytes K`: the bytes of a message
 abbrev pub bytes_line : List (List ℕ) → Result ScriptLine ScriptFaultKind
 bytes_line words = do
   word ← one words
   message ← numbered word
   Ok (says.Bytes message)
 
--- bytes to be read as a message
+-- `feed HEX`: bytes to be read as a message or an operation
 abbrev pub feed_line : List (List ℕ) → Result ScriptLine ScriptFaultKind
 feed_line words = do
   word ← one words

@@ -7,10 +7,6 @@ use Rattle.dac_script.specs.declared.source.TheConstants.{MAX_READS}
 use Rattle.dac_script.specs.declared.source.Progress.{Progress}
 use Rattle.dac_script.specs.declared.source.Progress.TheVariants.{Open, Ended, Failed}
 
--- the most reads that an input may need
-abbrev pub max_reads : ℕ
-max_reads = MAX_READS
-
 -- a reader in use: the reference to it, by the name that proofs have for it, what it has left, where that is known, how
 -- often it was read, and how that went
 pub record Sourced : Type 0 where
@@ -25,11 +21,11 @@ unread reader left = record { reader = reader; left = left; reads = 0; progress 
 
 -- the end wasn't met, no read failed, and there may be a further one
 abbrev pub IsOpen : Sourced → Type 0
-IsOpen source = (source.progress ≡ Open) × (source.reads < max_reads)
+IsOpen source = (source.progress ≡ Open) × (source.reads < MAX_READS)
 
 -- a read failed, or there were as many as there may be and none of them met the end
 abbrev pub IsGivenUp : Sourced → Type 0
-IsGivenUp source = (source.progress ≡ Failed) ⊎ ((source.progress ≡ Open) × (source.reads ≡ max_reads))
+IsGivenUp source = (source.progress ≡ Failed) ⊎ ((source.progress ≡ Open) × (source.reads ≡ MAX_READS))
 
 -- How a source is left where this is answered of its input: `Read` only where it is given up. An input that is too
 -- long isn't read to its end. What it says is looked at behind its end. Running out of memory hides no failed read.

@@ -1,8 +1,8 @@
 //! The whole input: how it is read, and how a script is parted from its configuration.
 
-ghost use Rattle.std.specs.Prelude.{◌≡◌, ◌≢◌, ℕ, List, [], ◌∷◌, ◌++◌, ◌+◌, ◌<◌, ◌≤◌, length, All, IfOk, IfErr, OnOk, OnErr, IfSome, IfNone, MatchOption};
+ghost use Rattle.std.specs.Prelude.{◌≡◌, ◌≢◌, [], ◌∷◌, ◌++◌, ◌+◌, ◌<◌, ◌≤◌, length, All, IfOk, IfErr, OnErr, IfSome, IfNone, MatchOption};
 ghost use Rattle.dac_script.specs.Script.{lines_of};
-ghost use Rattle.dac_script.specs.Input.{max_input, IsTaken, mark, line_len, IsParted, IsReadFailure, Takes, TakesAtMost};
+ghost use Rattle.dac_script.specs.Input.{IsTaken, mark, line_len, IsParted, IsReadFailure, Takes, TakesAtMost};
 ghost use Rattle.dac_script.specs.Sources.{IsOpen, IsReadBy};
 ghost use Rattle.dac_script.specs.declared.source.Progress.TheVariants.{Open};
 
@@ -113,12 +113,15 @@ pub(crate) fn read_within<R: Read>(
 }
 
 /// Reads an input to its end. It is too long where it has more bytes than an input may have.
+///
+/// The errors are `TooLong`, `Read` and `NoMemory`. `Read` comes of a failed read, and where the source was read as
+/// often as it may be without an end.
 pub fn read_input<R: Read>(alloc: Global, source: &mut Source<'_, R>) -> Result<Vec<u8>, Failure>
     ensures whole { IfOk result (λ text. IfSome source.old.left (λ bytes. text.items ≡ bytes)) }
     ensures short { IfOk result (λ text. IsTaken text.items) }
-    ensures stops { TakesAtMost source.old.left source.new.left (max_input + 1) }
+    ensures stops { TakesAtMost source.old.left source.new.left (MAX_INPUT + 1) }
     ensures same_reader { source.new.reader ≡ source.old.reader }
-    ensures failed { IfErr result (IsReadFailure max_input source.old.left) }
+    ensures failed { IfErr result (IsReadFailure MAX_INPUT source.old.left) }
     ensures reads { IsReadBy result source.new }
 {
     read_within(alloc, source, MAX_INPUT)

@@ -1,6 +1,6 @@
 //! The script: what is to happen, line by line.
 
-ghost use Rattle.std.specs.Prelude.{◌≡◌, IfOk, IfErr, All, IsTrue};
+ghost use Rattle.std.specs.Prelude.{◌≡◌, IfOk, IfErr, All};
 ghost use Rattle.dac_config.specs.Table.{node_count};
 ghost use Rattle.dac_script.specs.Line.{HasActors};
 ghost use Rattle.dac_script.specs.Script.{lines_of, is_said, line_in, ReadsAs, IsScriptFailure, IsLineFailure};
@@ -43,7 +43,8 @@ fn read_line(
 /// Reads a script. Its lines end at a line feed or at the end of the text, and are counted from 1. Empty lines and
 /// lines that begin with `%` say nothing.
 ///
-/// The first line that has a fault is answered, with the first kind of fault that it has.
+/// The first line that has a fault is answered, with the first kind of fault that it has. `NoMemory` comes only where
+/// memory is refused before a fault is met.
 pub fn read_script(alloc: Global, config: &Config, text: &[u8]) -> Result<Vec<ScriptLine>, Failure>
     ensures ok { IfOk result (λ script. ReadsAs config.now (lines_of text.now) script.items) }
     ensures actors { IfOk result (λ script. All (HasActors (node_count config.now)) script.items) }

@@ -4,7 +4,7 @@ ghost use Rattle.std.specs.Prelude.{◌≡◌, ◌≢◌, ◌+◌, ◌<◌, ◌�
 ghost use Rattle.std.specs.IoError.{error_kind};
 ghost use Rattle.std.specs.Io.{ReadsAtMost};
 ghost use Rattle.std.specs.Io.KnownBytes.{ReadConsumes, IsAtEnd};
-ghost use Rattle.dac_script.specs.Sources.{max_reads, unread, IsOpen};
+ghost use Rattle.dac_script.specs.Sources.{unread, IsOpen};
 
 use std::io;
 use std::io::{ErrorKind, Read};
@@ -35,14 +35,15 @@ pub struct Source<'a, R: Read> {
 impl<'a, R: Read> Model for Source<'a, R> {
     ghost use Rattle.std.specs.Prelude.{◌≡◌, ◌≤◌};
     ghost use Rattle.std.specs.Io.KnownBytes.{IsAtEnd};
-    ghost use Rattle.dac_script.specs.Sources.{Sourced, max_reads};
+    ghost use Rattle.dac_script.specs.Sources.{Sourced};
+    ghost use Rattle.dac_script.specs.declared.source.TheConstants.{MAX_READS};
     ghost use Rattle.dac_script.specs.declared.source.Progress.TheVariants.{Ended};
 
     ghost Value = { Sourced };
 
     ghost view = { λ s. record { reader = s.reader.ghost_name; left = R.remaining s.reader.now; reads = s.reads; progress = s.progress } };
 
-    ghost invariant = { λ s. (s.reads ≤ max_reads) × (s.progress ≡ Ended → IsAtEnd (R.remaining s.reader.now)) };
+    ghost invariant = { λ s. (s.reads ≤ MAX_READS) × (s.progress ≡ Ended → IsAtEnd (R.remaining s.reader.now)) };
 }
 
 impl<'a, R: Read> Source<'a, R> {
@@ -73,7 +74,7 @@ impl<'a, R: Read> Source<'a, R> {
     /// Whether it may be read on: its end wasn't met, no read failed, and there were fewer reads than there may be.
     pub(crate) fn is_open(&self) -> bool
         ensures value { IsTrue result ↔ IsOpen self.now }
-        ensures most { self.now.reads ≤ max_reads }
+        ensures most { self.now.reads ≤ MAX_READS }
     {
         self.progress == Progress::Open && self.reads < MAX_READS
     }

@@ -31,6 +31,7 @@ restless_of t s app = restless_by t s app (verdict_of t s app) (first_choice t s
 
 -- ---- the rule that settling is of
 
--- what is to become of an application, which ticks claim by
+-- The verdict, by which rounds are looked at in the end. Ticks claim by the same verdict, but under its own name,
+-- `verdict_of`.
 abbrev pub judged : Table → StateValue → AppId → Verdict
 judged t s app = verdict_of t s app

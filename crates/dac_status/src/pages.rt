@@ -4,7 +4,7 @@ ghost use Rattle.std.specs.Prelude.{◌≡◌, ◌<◌, ◌++◌, IfOk, OnOk};
 ghost use Rattle.std.specs.List.{flat_map};
 ghost use Rattle.dac_config.specs.Table.{node_count, node_name};
 ghost use Rattle.dac_placement.specs.Placement.{nodes_of, apps_of};
-ghost use Rattle.dac_status.specs.Texts.{header_text, counts_text, node_line, app_lines, page_text};
+ghost use Rattle.dac_status.specs.Texts.{header_text, node_line, app_lines, page_text};
 
 use crate::apps::app_lines;
 use crate::nodes::node_line;

@@ -52,5 +52,8 @@ abbrev pub IsTurn : Table → Origin → List Note → ℕ → StateValue → Li
 IsTurn t own notes now s [] ops passed = (ops ≡ []) × (passed ≡ [])
 IsTurn t own notes now s (app ∷ apps) ops passed =
     (IsNotMine t own notes now s app × IsTurn t own notes now s apps ops passed)
-    ⊎ (((verdict : Verdict) × (o : Operation) × (rest : List Operation) × ((ops ≡ o ∷ rest) × (IsMine t own notes now s app verdict × (IsClaimOf own s app verdict o × IsTurn t own notes now (join s (meaning_of (o ∷ []))) apps rest passed))))
-    ⊎ ((verdict : Verdict) × (rest : List AppId) × ((passed ≡ app ∷ rest) × (IsMine t own notes now s app verdict × (HasLastTerm s app × IsTurn t own notes now s apps ops rest)))))
+    ⊎ (((verdict : Verdict) × (o : Operation) × (rest : List Operation) ×
+    ((ops ≡ o ∷ rest) × (IsMine t own notes now s app verdict ×
+    (IsClaimOf own s app verdict o × IsTurn t own notes now (join s (meaning_of (o ∷ []))) apps rest passed))))
+    ⊎ ((verdict : Verdict) × (rest : List AppId) ×
+    ((passed ≡ app ∷ rest) × (IsMine t own notes now s app verdict × (HasLastTerm s app × IsTurn t own notes now s apps ops rest)))))

@@ -12,6 +12,7 @@ use Rattle.dac_state.specs.StateSpelling as state
 use Rattle.dac_wire.specs.Decoding.{front_fault, unless, packet_at}
 use Rattle.dac_wire.specs.Faults.{Fails, Gives, in_packet}
 use Rattle.dac_wire.specs.Reading.{fields_at}
+use Rattle.dac_wire.specs.declared.coding.TheConstants.{PREAMBLE}
 use Rattle.dac_wire.specs.declared.fault.WireFault.{WireFault}
 use Rattle.dac_wire.specs.declared.fault.WireFaultKind.{WireFaultKind}
 use Rattle.dac_wire.specs.declared.fault.WireFaultKind.TheVariants.{TooLong, BadMagic, BadVersion, OtherConfig, Short, BadNumber, BadOrder, BadName, NotInList, NotKnown, Trailing, NoMemory}
@@ -46,18 +47,18 @@ module _ (t : Table) (bytes : List ℕ) where
   -- a wrong front is what the bytes give
   pub gives_front : (e : WireFault) → front_fault t bytes ≡ Some e → Gives (Err e) (packet_at t bytes)
   unfolding packet_at
-  gives_front e is = fails_with e.kind e (packet_at t bytes) (subst IsReal is (front_real t bytes)) (ap (λ f. unless f (in_packet (fields_at t (after 12 (whole bytes))))) is)
+  gives_front e is = fails_with e.kind e (packet_at t bytes) (subst IsReal is (front_real t bytes)) (ap (λ f. unless f (in_packet (fields_at t (after PREAMBLE (whole bytes))))) is)
 
   -- behind a right front it is what the fields give
-  pub gives_fields : (result : Result Packet WireFault) → front_fault t bytes ≡ None → Gives result (in_packet (fields_at t (after 12 (whole bytes)))) → Gives result (packet_at t bytes)
+  pub gives_fields : (result : Result Packet WireFault) → front_fault t bytes ≡ None → Gives result (in_packet (fields_at t (after PREAMBLE (whole bytes)))) → Gives result (packet_at t bytes)
   unfolding packet_at
-  gives_fields result is gives = subst (Gives result) (sym (ap (λ f. unless f (in_packet (fields_at t (after 12 (whole bytes))))) is)) gives
+  gives_fields result is gives = subst (Gives result) (sym (ap (λ f. unless f (in_packet (fields_at t (after PREAMBLE (whole bytes))))) is)) gives
 
   module _ (parts : PartCodecs t) (states : IsCodec (parts_at t) state.spelling_of (IsInForm t)) where
     -- what the fields give is spelled by the bytes, and in form
-    pub found_fields : IsBytes bytes → front_fault t bytes ≡ None → (result : Result Packet WireFault) → Gives result (in_packet (fields_at t (after 12 (whole bytes))))
+    pub found_fields : IsBytes bytes → front_fault t bytes ≡ None → (result : Result Packet WireFault) → Gives result (in_packet (fields_at t (after PREAMBLE (whole bytes))))
         → IfOk result (λ p. IsPacket t p × (bytes ≡ spelling_of t p) × (length bytes ≤ MAX_MESSAGE))
-    found_fields fits is (Ok p) gives = packet_found t parts states bytes p fits is (given_ok (fields_at t (after 12 (whole bytes))) p gives)
+    found_fields fits is (Ok p) gives = packet_found t parts states bytes p fits is (given_ok (fields_at t (after PREAMBLE (whole bytes))) p gives)
     found_fields fits is (Err e) gives = tt
 
     -- what is spelled so and in form is given

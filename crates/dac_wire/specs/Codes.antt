@@ -21,6 +21,7 @@ packet_code Interval = 2
 packet_code Nothing = 3
 packet_code Single = 4
 
+-- the kind of a code; reading refuses 0 and those above 4 before
 abbrev pub packet_of_code : ℕ → PacketKind
 packet_of_code zero = Whole
 packet_of_code (suc zero) = Whole
@@ -48,6 +49,7 @@ act_code Start = 4
 act_code Stop = 5
 act_code Claim = 6
 
+-- the kind of a code; reading refuses 0 and those above 6 before
 abbrev pub act_of_code : ℕ → ActKind
 act_of_code zero = Up
 act_of_code (suc zero) = Up

@@ -4,6 +4,7 @@ use Rattle.std.specs.List.{starts_with}
 use Rattle.dac_config.specs.Table.{Table}
 use Rattle.dac_bytes.specs.Numbers.{u8_bytes}
 use Rattle.dac_bytes.specs.Reading.{after, whole}
+use Rattle.dac_wire.specs.declared.coding.TheConstants.{PREAMBLE}
 use Rattle.dac_wire.specs.declared.fault.WireFault.{WireFault}
 use Rattle.dac_wire.specs.declared.fault.WireFaultKind.{WireFaultKind}
 use Rattle.dac_wire.specs.declared.fault.WireFaultKind.TheVariants.{TooLong, BadMagic, BadVersion, OtherConfig, Short}
@@ -24,7 +25,7 @@ front_fault t bytes =
     if nat_lt MAX_MESSAGE (length bytes) then wrong TooLong MAX_MESSAGE
     else if not (starts_with nat_eq bytes magic) then wrong BadMagic 0
     else if not (starts_with nat_eq bytes (magic ++ u8_bytes version)) then wrong BadVersion 3
-    else if nat_lt (length bytes) 12 then wrong Short 4
+    else if nat_lt (length bytes) PREAMBLE then wrong Short 4
     else if not (starts_with nat_eq bytes (preamble_bytes t)) then wrong OtherConfig 4
     else None
 
@@ -35,4 +36,4 @@ unless (Some e) read = Err e
 
 -- The packet that the bytes spell under a configuration, or the first fault.
 unfoldable pub packet_at : Table → List ℕ → Result Packet WireFault
-packet_at t bytes = unless (front_fault t bytes) (in_packet (fields_at t (after 12 (whole bytes))))
+packet_at t bytes = unless (front_fault t bytes) (in_packet (fields_at t (after PREAMBLE (whole bytes))))

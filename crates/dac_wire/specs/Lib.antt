@@ -3,6 +3,7 @@ pub mod Decoding
 pub mod Encoding
 pub mod Faults
 pub mod Form
+pub mod Limits
 pub mod Reading
 pub mod Spelling
 pub mod laws

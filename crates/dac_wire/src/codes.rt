@@ -1,6 +1,6 @@
 //! The codes that stand for what a packet and an act are.
 ghost use Rattle.std.specs.Prelude.{◌≡◌};
-ghost use Rattle.dac_wire.specs.Codes.{act_code, act_of_code, ack_code, kind_of_act, kind_of_packet, only_code, only_of_code, packet_code, packet_of_code, value_code, value_of_code};
+ghost use Rattle.dac_wire.specs.Codes.{act_code, act_of_code, kind_of_act, kind_of_packet, only_code, only_of_code, packet_code, packet_of_code, value_code, value_of_code};
 
 use crate::packet::Packet;
 use dac_messages::Body;
@@ -26,7 +26,8 @@ pub(crate) enum ActKind {
     Claim,
 }
 
-/// The kind of a packet, by its code.
+/// The kind of a packet, by its code. The reader refuses each code but 1 to 4 before this is asked. So 0 and those above
+/// 4 don't come; their arms are there since a match covers all codes.
 pub(crate) fn packet_of_code(code: u8) -> PacketKind
     ensures { result ≡ packet_of_code code }
 {
@@ -65,7 +66,8 @@ pub(crate) fn kind_of_packet(packet: &Packet) -> PacketKind
     }
 }
 
-/// The kind of an act, by its code.
+/// The kind of an act, by its code. The reader refuses each code but 1 to 6 before this is asked. So 0 and those above 6
+/// don't come; their arms are there since a match covers all codes.
 pub(crate) fn act_of_code(code: u8) -> ActKind
     ensures { result ≡ act_of_code code }
 {
@@ -108,7 +110,7 @@ pub(crate) fn kind_of_act(act: &Act) -> ActKind
     }
 }
 
-/// What a permit says, by its code.
+/// What a permit says, by its code. The reader refuses codes above 1.
 pub(crate) fn value_of_code(code: u8) -> bool
     ensures { result ≡ value_of_code code }
 {

@@ -24,20 +24,24 @@ use std::alloc::Global;
 /// The name of the format.
 const MAGIC: [u8; 3] = *b"DAC";
 
-/// The name of the format, and its version.
-const MAGIC_AND_VERSION: [u8; 4] = *b"DAC\x01";
+/// The version of the format.
+const VERSION: u8 = 1;
 
-/// How many bytes come before what a packet is.
+/// The name of the format, and its version.
+const MAGIC_AND_VERSION: [u8; 4] = [MAGIC[0], MAGIC[1], MAGIC[2], VERSION];
+
+/// How many bytes come before what a packet is: the name, the version and the mark.
 const PREAMBLE: usize = 12;
 
 /// The name of the format, its version, and the mark of the configuration.
 #[tactic(auto, unfolding(crate::specs::Spelling::preamble_bytes, dac_bytes::specs::Numbers::u8_bytes, dac_bytes::specs::Numbers::u64_bytes))]
-fn preamble(config: &Config) -> [u8; 12]
+fn preamble(config: &Config) -> [u8; PREAMBLE]
     ensures { result ≡ preamble_bytes config.now }
 {
     let mark = config.mark().to_be_bytes();
+    let [d, a, c] = MAGIC;
     [
-        b'D', b'A', b'C', 1, mark[0], mark[1], mark[2], mark[3], mark[4], mark[5], mark[6], mark[7],
+        d, a, c, VERSION, mark[0], mark[1], mark[2], mark[3], mark[4], mark[5], mark[6], mark[7],
     ]
 }
 
@@ -77,15 +81,15 @@ fn decode_fields(alloc: Global, config: &Config, bytes: &[u8]) -> Result<Packet,
 /// The packet that the bytes spell under a configuration.
 ///
 /// More than 4,194,304 bytes are `TooLong` at 4,194,304. Bytes that don't begin with `DAC` are `BadMagic` at 0, and
-/// those whose fourth isn't 1 `BadVersion` at 3. A mark of another configuration is `OtherConfig` at 4. Then each
-/// field is checked as it is read. So the fault is the first from left to right, with its byte counted from 0.
-/// `NoMemory` stands at 0, and says nothing of the bytes.
+/// those whose fourth isn't 1 `BadVersion` at 3. A mark that isn't whole is `Short` at 4, and one of another
+/// configuration `OtherConfig` at 4. Then each field is checked as it is read. The fault, with its byte counted from
+/// 0, is the one that the reading function `packet_at` gives. `NoMemory` stands at 0, and says nothing of the bytes.
 pub fn decode(alloc: Global, config: &Config, bytes: &[u8]) -> Result<Packet, WireFault>
     // What is read is spelled so, and in form.
     ensures found { IfOk result (λ p. IsPacket config.now p × (bytes.now ≡ spelling_of config.now p) × (length bytes.now ≤ MAX_MESSAGE)) }
     // What is spelled so and in form is read, unless memory runs out.
     ensures only { (p : Packet) → IsPacket config.now p → bytes.now ≡ spelling_of config.now p → length bytes.now ≤ MAX_MESSAGE → Gives result (Ok p) }
-    // Which fault it is.
+    // Which fault it is: the one that reading from left to right gives.
     ensures exact { Gives result (packet_at config.now bytes.now) }
 {
     parts_have_one_spelling(config);

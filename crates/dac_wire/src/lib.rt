@@ -7,8 +7,9 @@
 //!
 //! A packet has one spelling under a configuration. [`decode`] answers a packet exactly for the spelling of a packet
 //! in form. In form are those whose names, list places, numbers, orders and counts are those that the bytes can say.
-//! For any other bytes it answers the first fault from left to right, with its byte. `NoMemory` stands at 0, and says
-//! nothing of the bytes. No count makes a reader take memory that the bytes don't pay for.
+//! For any other bytes it answers the fault that the reading function `packet_at` gives, with its byte. That function
+//! reads the fields from left to right. `NoMemory` stands at 0, and says nothing of the bytes. No count makes a reader
+//! take memory that the bytes don't pay for.
 #![tactic(auto)]
 
 pub use coding::{decode, encode};

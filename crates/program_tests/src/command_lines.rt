@@ -74,7 +74,7 @@ Lines of a script, NODE being where it happens, and NOW a moment in milliseconds
   state NODE              The bytes of NODE's state
   same NODE NODE          Whether two nodes' states have the same bytes
   bytes K                 The bytes of message K
-  feed HEX                Whether bytes are those of a message
+  feed HEX                Whether bytes are those of a message or an operation
 Lines that begin with % and empty lines are skipped.
 
 Exit status:

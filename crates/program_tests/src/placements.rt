@@ -15,7 +15,7 @@ pub const PLACEMENTS: &[(&str, &str, &str)] = &[
         "boot cp1@cave 0\ntick cp1@cave 4999\ntick cp1@cave 5000\npage cp1@cave\nboot cp1@cave 6000\n",
         "booted 1 op 1\nheld\ngave up\nnode cp1@cave off\nbooted 2 op 2\n",
     ),
-    // The node goes down, and the wait of five seconds counts from the tick that noted it. Of two nodes of one group the one with less to run takes over.
+    // The node goes down, and the wait of five seconds counts from the tick that noted it. Of two nodes of one group the failover is to the one with less to run.
     (
         TWO,
         "boot c1@h 0\nboot c2@h 0\nboot c3@h 0\nstart c1@h a c1@h\nstart c2@h a c2@h\nstart c2@h b c2@h\nstart c3@h a c3@h\nshare\ntick c1@h 0\ntick c2@h 0\nshare\ncrash c1@h\ndown c3@h c1@h\ntick c3@h 1000\ntick c3@h 5999\ntick c3@h 6000\n",

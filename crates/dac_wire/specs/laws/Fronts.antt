@@ -8,6 +8,7 @@ use Rattle.std.proofs.lemmas.Slice.Eq.{starts_is}
 use Rattle.std.specs.List.{starts_with}
 use Rattle.dac_bytes.specs.Numbers.{u8_bytes, u64_bytes}
 use Rattle.dac_config.specs.Table.{Table}
+use Rattle.dac_wire.specs.declared.coding.TheConstants.{PREAMBLE}
 use Rattle.dac_wire.specs.declared.fault.WireFault.{WireFault}
 use Rattle.dac_wire.specs.declared.fault.WireFaultKind.TheVariants.{TooLong, BadMagic, BadVersion, OtherConfig, Short, NoMemory}
 use Rattle.dac_wire.specs.declared.packet.TheConstants.{MAX_MESSAGE}
@@ -37,22 +38,22 @@ module _ (t : Table) (bytes : List ℕ) where
       bad_version p = rw (le-ltb MAX_MESSAGE (length bytes) short, named, p) refl
 
       module _ (versioned : starts_with nat_eq bytes name_and_version ≡ true) where
-        pub no_mark : length bytes < 12 → front_fault t bytes ≡ wrong Short 4
+        pub no_mark : length bytes < PREAMBLE → front_fault t bytes ≡ wrong Short 4
         unfolding front_fault u8_bytes
-        no_mark p = rw (le-ltb MAX_MESSAGE (length bytes) short, named, versioned, lt-ltb (length bytes) 12 p) refl
+        no_mark p = rw (le-ltb MAX_MESSAGE (length bytes) short, named, versioned, lt-ltb (length bytes) PREAMBLE p) refl
 
-        module _ (marked : 12 ≤ length bytes) where
+        module _ (marked : PREAMBLE ≤ length bytes) where
           pub other_config : starts_with nat_eq bytes (preamble_bytes t) ≡ false → front_fault t bytes ≡ wrong OtherConfig 4
           unfolding front_fault u8_bytes
-          other_config p = rw (le-ltb MAX_MESSAGE (length bytes) short, named, versioned, le-ltb (length bytes) 12 marked, p) refl
+          other_config p = rw (le-ltb MAX_MESSAGE (length bytes) short, named, versioned, le-ltb (length bytes) PREAMBLE marked, p) refl
 
           pub no_fault : starts_with nat_eq bytes (preamble_bytes t) ≡ true → front_fault t bytes ≡ None
           unfolding front_fault u8_bytes
-          no_fault p = rw (le-ltb MAX_MESSAGE (length bytes) short, named, versioned, le-ltb (length bytes) 12 marked, p) refl
+          no_fault p = rw (le-ltb MAX_MESSAGE (length bytes) short, named, versioned, le-ltb (length bytes) PREAMBLE marked, p) refl
 
 -- ---- what the tests say together
 
-pub preamble_length : (t : Table) → length (preamble_bytes t) ≡ 12
+pub preamble_length : (t : Table) → length (preamble_bytes t) ≡ PREAMBLE
 unfolding preamble_bytes u8_bytes u64_bytes
 preamble_length t = refl
 
@@ -88,19 +89,19 @@ module _ (t : Table) (bytes : List ℕ) where
   -- what is wrong with a front isn't `NoMemory`
   pub front_real : IsReal (front_fault t bytes)
   unfolding front_fault table u8_bytes
-  front_real = table_real (nat_lt MAX_MESSAGE (length bytes)) (starts_with nat_eq bytes name) (starts_with nat_eq bytes name_and_version) (nat_lt (length bytes) 12) (starts_with nat_eq bytes (preamble_bytes t))
+  front_real = table_real (nat_lt MAX_MESSAGE (length bytes)) (starts_with nat_eq bytes name) (starts_with nat_eq bytes name_and_version) (nat_lt (length bytes) PREAMBLE) (starts_with nat_eq bytes (preamble_bytes t))
 
   module _ (right : front_fault t bytes ≡ None) where
-    tests : (nat_lt MAX_MESSAGE (length bytes) ≡ false) × (nat_lt (length bytes) 12 ≡ false) × (starts_with nat_eq bytes (preamble_bytes t) ≡ true)
+    tests : (nat_lt MAX_MESSAGE (length bytes) ≡ false) × (nat_lt (length bytes) PREAMBLE ≡ false) × (starts_with nat_eq bytes (preamble_bytes t) ≡ true)
     unfolding front_fault table u8_bytes
-    tests = table_none (nat_lt MAX_MESSAGE (length bytes)) (starts_with nat_eq bytes name) (starts_with nat_eq bytes name_and_version) (nat_lt (length bytes) 12) (starts_with nat_eq bytes (preamble_bytes t)) right
+    tests = table_none (nat_lt MAX_MESSAGE (length bytes)) (starts_with nat_eq bytes name) (starts_with nat_eq bytes name_and_version) (nat_lt (length bytes) PREAMBLE) (starts_with nat_eq bytes (preamble_bytes t)) right
 
     -- bytes with a right front are so many at least
-    pub front_long : 12 ≤ length bytes
-    front_long = ltb-false (length bytes) 12 tests.1
+    pub front_long : PREAMBLE ≤ length bytes
+    front_long = ltb-false (length bytes) PREAMBLE tests.1
 
     -- and begin with the preamble
-    pub front_begins : (bytes ≡ preamble_bytes t ++ drop 12 bytes) × (length bytes ≤ MAX_MESSAGE)
+    pub front_begins : (bytes ≡ preamble_bytes t ++ drop PREAMBLE bytes) × (length bytes ≤ MAX_MESSAGE)
     front_begins =
         let begins = (starts_is Decides-eqb bytes (preamble_bytes t) (starts_with nat_eq bytes (preamble_bytes t)) refl).0 tests.2 in
         (begins ∙ ap (λ n. preamble_bytes t ++ drop n bytes) (preamble_length t), ltb-false MAX_MESSAGE (length bytes) tests.0)
@@ -122,7 +123,7 @@ module _ (t : Table) (bytes : List ℕ) where
     pub front_is : bytes ≡ preamble_bytes t ++ rest → length bytes ≤ MAX_MESSAGE → front_fault t bytes ≡ None
     front_is parts short =
         let all : length bytes ≡ length (preamble_bytes t ++ rest) = ap length parts in
-        let front : length (preamble_bytes t) ≡ 12 = preamble_length t in
+        let front : length (preamble_bytes t) ≡ PREAMBLE = preamble_length t in
         no_fault t bytes short
         (begins_with name (1 ∷ u64_bytes (mark_of t) ++ rest) (parts ∙ in_name))
         (begins_with name_and_version (u64_bytes (mark_of t) ++ rest) (parts ∙ in_version))

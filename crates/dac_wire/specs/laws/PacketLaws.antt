@@ -27,6 +27,7 @@ use Rattle.dac_wire.specs.declared.codes.PacketKind.TheVariants.{Whole, Interval
 use Rattle.dac_wire.specs.declared.head.Head.{Head}
 use Rattle.dac_wire.specs.declared.packet.Packet.{Packet}
 use Rattle.dac_wire.specs.declared.packet.Packet.TheVariants as packet
+use Rattle.dac_wire.specs.declared.coding.TheConstants.{PREAMBLE}
 use Rattle.dac_wire.specs.declared.packet.TheConstants.{MAX_MESSAGE}
 use Rattle.dac_wire.specs.laws.ActLaws.{operation_codec}
 use Rattle.dac_wire.specs.laws.CodeLaws.{IsAny, packet_kind_bytes, packet_kind_codec}
@@ -140,10 +141,10 @@ module _ (t : Table) (parts : PartCodecs t) (states : IsCodec (parts_at t) state
   spelled p = append_assoc (preamble_bytes t) (packet_kind_bytes (kind_of_packet p)) (content_bytes p)
 
   -- What is read behind a right front is the one spelling of a packet in form.
-  pub packet_found : (bytes : List ℕ) (p : Packet) → IsBytes bytes → front_fault t bytes ≡ None → fields_at t (after 12 (whole bytes)) ≡ Ok p → IsPacket t p × (bytes ≡ spelling_of t p) × (length bytes ≤ MAX_MESSAGE)
+  pub packet_found : (bytes : List ℕ) (p : Packet) → IsBytes bytes → front_fault t bytes ≡ None → fields_at t (after PREAMBLE (whole bytes)) ≡ Ok p → IsPacket t p × (bytes ≡ spelling_of t p) × (length bytes ≤ MAX_MESSAGE)
   packet_found bytes p fits none e =
       let front = front_begins t bytes none in
-      let f = fields_found (after 12 (whole bytes)) p (Takes-front 12 (whole bytes) (front_long t bytes none) fits).fits e in
+      let f = fields_found (after PREAMBLE (whole bytes)) p (Takes-front PREAMBLE (whole bytes) (front_long t bytes none) fits).fits e in
       (f.1, front.0 ∙ ap (λ rest. preamble_bytes t ++ rest) f.0 ∙ sym (spelled p), front.1)
 
   -- A packet in form is read from its spelling.
@@ -151,6 +152,6 @@ module _ (t : Table) (parts : PartCodecs t) (states : IsCodec (parts_at t) state
   unfolding packet_at
   packet_again bytes p is text short =
       let parts = text ∙ spelled p in
-      let behind : drop 12 bytes ≡ tail_bytes p = ap (drop 12) parts ∙ drop_at (preamble_bytes t) (tail_bytes p) 12 (preamble_length t) in
-      ap (λ f. unless f (in_packet (fields_at t (after 12 (whole bytes))))) (front_is t bytes (tail_bytes p) parts short)
-      ∙ ap in_packet (fields_again 12 (drop 12 bytes) p is behind)
+      let behind : drop PREAMBLE bytes ≡ tail_bytes p = ap (drop PREAMBLE) parts ∙ drop_at (preamble_bytes t) (tail_bytes p) PREAMBLE (preamble_length t) in
+      ap (λ f. unless f (in_packet (fields_at t (after PREAMBLE (whole bytes))))) (front_is t bytes (tail_bytes p) parts short)
+      ∙ ap in_packet (fields_again PREAMBLE (drop PREAMBLE bytes) p is behind)

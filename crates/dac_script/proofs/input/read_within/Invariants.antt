@@ -1,6 +1,6 @@
 use Rattle.std.proofs.Common.{◌≡◌, ◌≤◌, ◌-◌, length}
 use Rattle.std.specs.Io.KnownBytes.{Consumes}
-use Rattle.dac_script.specs.Sources.{max_reads}
+use Rattle.dac_script.specs.declared.source.TheConstants.{MAX_READS}
 use Rattle.dac_script.proofs.input.read_within.Given as goal
 
 abbrev pub invariant-loop-text : goal.invariant-loop-text
@@ -11,4 +11,4 @@ invariant-loop-text g l = record {
 }
 
 abbrev pub decreases-loop-text : goal.decreases-loop-text
-decreases-loop-text g l = max_reads - l.source.reads
+decreases-loop-text g l = MAX_READS - l.source.reads
