@@ -3,7 +3,6 @@ use crate::sample::{EXAMPLE, config, dot, origin};
 use dac_base::{AppId, NoMemory, NodeId};
 use dac_chains::How;
 use dac_config::Config;
-use dac_dots::{Dot, Origin};
 use dac_messages::{Body, Message};
 use dac_operations::{Act, Op};
 use dac_state::State;
@@ -19,30 +18,47 @@ const BOOTED: &[u8] =
     \x01\x00\x00\x00\x00\x01\x00\
     \x00\x00";
 
-/// Its message to the second node: that it is whole, who ships it, for whom, for any incarnation, one delta, and nothing got.
-const HEAD: &[u8] =
+/// The fields of its message to the second node: kind 1; shipped by node 0, incarnation 1; for node 1, any incarnation;
+/// one delta; nothing got. Its state follows.
+const WHOLE: &[u8] =
     b"\x01\x00\x00\x00\x00\x01\x01\x00\x00\x00\x00\x00\x00\x00\x00\x00\x00\x00\x01\x00";
 
-/// The bytes of a message of a node that booted.
-fn booted(alloc: Global, config: &Config) -> Result<Vec<u8>, NoMemory> {
-    let mut bytes = Vec::from_slice(alloc, b"DAC\x01")?;
-    bytes.extend_from_slice(&config.mark().to_be_bytes())?;
-    bytes.extend_from_slice(HEAD)?;
-    bytes.extend_from_slice(BOOTED)?;
+/// The fields of an interval: kind 2; shipped by node 1, incarnation 258; for node 0, incarnation 2; seven deltas; three
+/// deltas got of node 0, incarnation 2. A state follows.
+const INTERVAL: &[u8] =
+    b"\x02\x01\x00\x00\x01\x02\x00\x00\x00\x00\x02\x00\x00\x00\x00\x00\x00\x00\x07\
+    \x01\x00\x00\x00\x00\x02\x00\x00\x00\x00\x00\x00\x00\x03";
+
+/// The fields of a message that brings nothing: kind 3, and then as in the interval. No state follows.
+const NOTHING: &[u8] =
+    b"\x03\x01\x00\x00\x01\x02\x00\x00\x00\x00\x02\x00\x00\x00\x00\x00\x00\x00\x07\
+    \x01\x00\x00\x00\x00\x02\x00\x00\x00\x00\x00\x00\x00\x03";
+
+/// What each packet under the example begins with: `DAC`, version 1 and the mark. The mark is 15451059380765602643, the
+/// 64-bit FNV-1a value of the example's canonical text.
+const FRONT: &[u8] = b"DAC\x01\xd6\x6d\x30\xa4\xc2\x00\x33\x53";
+
+/// The bytes of a packet that has these fields after its mark.
+fn packet_bytes(alloc: Global, fields: &[&[u8]]) -> Result<Vec<u8>, NoMemory> {
+    let mut bytes = Vec::from_slice(alloc, FRONT)?;
+    for part in fields {
+        bytes.extend_from_slice(part)?;
+    }
     Ok(bytes)
 }
 
-/// The same message.
-fn booted_message(alloc: Global, config: &Config) -> Option<Packet> {
-    let state = State::decode(alloc, config, BOOTED).ok()?;
-    Some(Packet::Msg(Message {
-        from: origin(0, 1),
-        to: NodeId(1),
-        only: None,
-        up_to: 1,
-        body: Body::Whole(state),
-        ack: None,
-    }))
+/// The bytes of the message of a node that booted.
+fn booted(alloc: Global) -> Result<Vec<u8>, NoMemory> {
+    packet_bytes(alloc, &[WHOLE, BOOTED])
+}
+
+/// Whether the two are one packet.
+fn are_equal(one: &Packet, other: &Packet) -> bool {
+    match (one, other) {
+        (Packet::Msg(one), Packet::Msg(other)) => one.equal(other),
+        (Packet::Single(one), Packet::Single(other)) => one.equal(other),
+        _ => false,
+    }
 }
 
 /// Whether the packet has these bytes.
@@ -53,154 +69,187 @@ fn has_bytes(alloc: Global, config: &Config, packet: &Packet, bytes: &[u8]) -> b
     }
 }
 
-/// Whether the bytes are read, and the packet that is read has these bytes.
-fn is_read(alloc: Global, config: &Config, bytes: &[u8]) -> bool {
-    match decode(alloc, config, bytes) {
-        Ok(packet) => has_bytes(alloc, config, &packet, bytes),
-        Err(_) => false,
-    }
-}
-
-/// Whether the message of a node that booted has its bytes, and is read from them.
-fn is_booted_spelled(alloc: Global) -> Option<bool> {
+/// Whether a packet's bytes are those of these fields, and are read as the packet.
+fn is_spelled(alloc: Global, fields: &[&[u8]], packet: &Packet) -> Option<bool> {
     let config = config(alloc, EXAMPLE)?;
-    let bytes = booted(alloc, &config).ok()?;
-    let packet = booted_message(alloc, &config)?;
-    let is_spelled = has_bytes(alloc, &config, &packet, &bytes);
-    Some(bytes.len() == 87 && is_spelled && is_read(alloc, &config, &bytes))
+    let bytes = packet_bytes(alloc, fields).ok()?;
+    let read = decode(alloc, &config, &bytes).ok()?;
+    Some(are_equal(&read, packet) && has_bytes(alloc, &config, packet, &bytes))
 }
 
-#[test]
-fn a_message_of_a_node_that_booted(rt: HostRuntime) {
-    assert!(rt; is_booted_spelled(rt.alloc()) == Some(true));
+/// The state of a node that booted.
+fn state(alloc: Global) -> Option<State> {
+    State::decode(alloc, &config(alloc, EXAMPLE)?, BOOTED).ok()
 }
 
-/// Whether the packet's fields are those of the message of a node that booted.
-fn is_booted(packet: &Packet) -> bool {
-    match packet {
-        Packet::Msg(message) => {
-            message.from == origin(0, 1)
-                && message.to == NodeId(1)
-                && message.only.is_none()
-                && message.up_to == 1
-                && message.ack.is_none()
-                && matches!(&message.body, Body::Whole(_))
-        }
-        Packet::Single(_) => false,
-    }
-}
-
-/// Whether that message is read.
-fn is_booted_read(alloc: Global) -> Option<bool> {
-    let config = config(alloc, EXAMPLE)?;
-    let bytes = booted(alloc, &config).ok()?;
-    let packet = decode(alloc, &config, &bytes).ok()?;
-    Some(is_booted(&packet))
-}
-
-#[test]
-fn the_fields_of_a_message(rt: HostRuntime) {
-    assert!(rt; is_booted_read(rt.alloc()) == Some(true));
-}
-
-/// Whether a packet is read from its bytes again.
-fn goes_round(alloc: Global, packet: &Packet) -> Option<bool> {
-    let config = config(alloc, EXAMPLE)?;
-    let bytes = encode(alloc, &config, packet).ok()?;
-    Some(is_read(alloc, &config, &bytes))
+/// The message of a node that booted.
+fn whole(state: State) -> Packet {
+    Packet::Msg(Message {
+        from: origin(0, 1),
+        to: NodeId(1),
+        only: None,
+        up_to: 1,
+        body: Body::Whole(state),
+        ack: None,
+    })
 }
 
 /// A message of the second node to the first one's second incarnation.
-fn answer(body: Body, ack: Option<(Origin, u64)>) -> Packet {
+fn answer(body: Body) -> Packet {
     Packet::Msg(Message {
         from: origin(1, 258),
         to: NodeId(0),
         only: Some(2),
         up_to: 7,
         body,
-        ack,
+        ack: Some((origin(0, 2), 3)),
     })
 }
 
-/// Whether an interval and a message that brings nothing are read again.
-fn do_messages_go_round(alloc: Global) -> Option<bool> {
-    let config = config(alloc, EXAMPLE)?;
-    let state = State::decode(alloc, &config, BOOTED).ok()?;
-    let interval = answer(Body::Interval(state), None);
-    let nothing = answer(Body::Nothing, Some((origin(0, 2), 3)));
-    Some(goes_round(alloc, &interval)? && goes_round(alloc, &nothing)?)
+/// Whether a message of each kind is spelled so.
+fn are_messages_spelled(alloc: Global) -> Option<bool> {
+    let whole = whole(state(alloc)?);
+    let interval = answer(Body::Interval(state(alloc)?));
+    let nothing = answer(Body::Nothing);
+    Some(
+        is_spelled(alloc, &[WHOLE, BOOTED], &whole)?
+            && is_spelled(alloc, &[INTERVAL, BOOTED], &interval)?
+            && is_spelled(alloc, &[NOTHING], &nothing)?,
+    )
 }
 
 #[test]
 fn every_message(rt: HostRuntime) {
-    assert!(rt; do_messages_go_round(rt.alloc()) == Some(true));
+    assert!(rt; are_messages_spelled(rt.alloc()) == Some(true));
 }
 
-/// Some dots in order.
-fn over(alloc: Global) -> Option<DotList> {
-    let dots = [dot(0, 1, 2), dot(0, 1, 3), dot(1, 1, 2)];
-    Some(DotList::new(Vec::from_slice(alloc, &dots).ok()?))
+/// What an operation does. Of a permit it has the value; of a claim the term, how, and from which node.
+#[derive(Clone, Copy)]
+enum Kind {
+    Up,
+    Down,
+    Permit(bool),
+    Start,
+    Stop,
+    Claim(u64, How, Option<NodeId>),
 }
 
-/// The application at the third node.
+/// The first application at the third node, incarnation 3.
 const KEY: Key = Key {
     app: AppId(0),
     node: NodeId(2),
     inc: 3,
 };
 
-/// An act of each kind but an Up, by its number.
-fn act(alloc: Global, number: u8) -> Option<Act> {
-    let over = over(alloc)?;
-    Some(match number {
-        0 => Act::Down {
+/// The dots that an operation replaces.
+fn over(alloc: Global) -> Result<DotList, NoMemory> {
+    let dots = [dot(0, 1, 2), dot(1, 258, 3)];
+    Ok(DotList::new(Vec::from_slice(alloc, &dots)?))
+}
+
+/// The act of a kind.
+fn act(kind: Kind, over: DotList) -> Act {
+    let key = KEY;
+    match kind {
+        Kind::Up => Act::Up,
+        Kind::Down => Act::Down {
             node: NodeId(2),
             inc: 4,
         },
-        1 => Act::Permit {
-            key: KEY,
-            value: true,
-            over,
-        },
-        2 => Act::Permit {
-            key: KEY,
-            value: false,
-            over,
-        },
-        3 => Act::Start { key: KEY, over },
-        4 => Act::Stop { key: KEY, over },
-        5 => Act::Claim {
+        Kind::Permit(value) => Act::Permit { key, value, over },
+        Kind::Start => Act::Start { key, over },
+        Kind::Stop => Act::Stop { key, over },
+        Kind::Claim(term, how, from) => Act::Claim {
             app: AppId(0),
-            term: 5,
-            how: How::Takeover,
-            from: Some(NodeId(2)),
+            term,
+            how,
+            from,
         },
-        _ => Act::Claim {
-            app: AppId(0),
-            term: 1,
-            how: How::Normal,
-            from: None,
-        },
-    })
+    }
 }
 
-/// Whether an operation alone is read again.
-fn does_operation_go_round(alloc: Global, dot: Dot, act: Act) -> Option<bool> {
-    let op = Op::new(dot, act).ok()?;
-    goes_round(alloc, &Packet::Single(op))
+/// Operations of node 1, incarnation 258, each with its counter. First come kind 4, the dot and the act. The other lines
+/// of a row are the act's fields:
+/// - of a Down node 2, incarnation 4;
+/// - of a Permit application 0, node 2, incarnation 3; the value; two replaced dots, (0, 1, 2) and (1, 258, 3);
+/// - of a Start and a Stop the same without the value;
+/// - of a Claim application 0, the term, how, and the number after that of the node it was taken from.
+const OPERATIONS: &[(&[u8], u64, Kind)] = &[
+    (
+        b"\x04\x01\x00\x00\x01\x02\x00\x00\x00\x00\x00\x00\x00\x01\x01",
+        1,
+        Kind::Up,
+    ),
+    (
+        b"\x04\x01\x00\x00\x01\x02\x00\x00\x00\x00\x00\x00\x00\x09\x02\
+        \x02\x00\x00\x00\x04",
+        9,
+        Kind::Down,
+    ),
+    (
+        b"\x04\x01\x00\x00\x01\x02\x00\x00\x00\x00\x00\x00\x00\x09\x03\
+        \x00\x00\x02\x00\x00\x00\x03\x01\x00\x02\
+        \x00\x00\x00\x00\x01\x00\x00\x00\x00\x00\x00\x00\x02\
+        \x01\x00\x00\x01\x02\x00\x00\x00\x00\x00\x00\x00\x03",
+        9,
+        Kind::Permit(true),
+    ),
+    (
+        b"\x04\x01\x00\x00\x01\x02\x00\x00\x00\x00\x00\x00\x00\x09\x03\
+        \x00\x00\x02\x00\x00\x00\x03\x00\x00\x02\
+        \x00\x00\x00\x00\x01\x00\x00\x00\x00\x00\x00\x00\x02\
+        \x01\x00\x00\x01\x02\x00\x00\x00\x00\x00\x00\x00\x03",
+        9,
+        Kind::Permit(false),
+    ),
+    (
+        b"\x04\x01\x00\x00\x01\x02\x00\x00\x00\x00\x00\x00\x00\x09\x04\
+        \x00\x00\x02\x00\x00\x00\x03\x00\x02\
+        \x00\x00\x00\x00\x01\x00\x00\x00\x00\x00\x00\x00\x02\
+        \x01\x00\x00\x01\x02\x00\x00\x00\x00\x00\x00\x00\x03",
+        9,
+        Kind::Start,
+    ),
+    (
+        b"\x04\x01\x00\x00\x01\x02\x00\x00\x00\x00\x00\x00\x00\x09\x05\
+        \x00\x00\x02\x00\x00\x00\x03\x00\x02\
+        \x00\x00\x00\x00\x01\x00\x00\x00\x00\x00\x00\x00\x02\
+        \x01\x00\x00\x01\x02\x00\x00\x00\x00\x00\x00\x00\x03",
+        9,
+        Kind::Stop,
+    ),
+    (
+        b"\x04\x01\x00\x00\x01\x02\x00\x00\x00\x00\x00\x00\x00\x09\x06\
+        \x00\x00\x00\x00\x00\x00\x00\x00\x00\x01\x01\x00",
+        9,
+        Kind::Claim(1, How::Normal, None),
+    ),
+    (
+        b"\x04\x01\x00\x00\x01\x02\x00\x00\x00\x00\x00\x00\x00\x09\x06\
+        \x00\x00\x00\x00\x00\x00\x00\x00\x00\x05\x02\x01",
+        9,
+        Kind::Claim(5, How::Failover, Some(NodeId(0))),
+    ),
+    (
+        b"\x04\x01\x00\x00\x01\x02\x00\x00\x00\x00\x00\x00\x00\x09\x06\
+        \x00\x00\x00\x00\x00\x00\x00\x00\x01\x02\x03\x03",
+        9,
+        Kind::Claim(258, How::Takeover, Some(NodeId(2))),
+    ),
+];
+
+/// Whether these fields are those of an operation of this counter and kind.
+fn is_operation_spelled(alloc: Global, fields: &[u8], n: u64, kind: Kind) -> Option<bool> {
+    let over = over(alloc).ok()?;
+    let op = Op::new(dot(1, 258, n), act(kind, over)).ok()?;
+    is_spelled(alloc, &[fields], &Packet::Single(op))
 }
 
 #[test]
 fn every_operation(rt: HostRuntime) {
-    let alloc = rt.alloc();
-    assert!(rt; does_operation_go_round(alloc, dot(1, 2, 1), Act::Up) == Some(true));
-    for number in 0..7 {
-        match act(alloc, number) {
-            Some(act) => assert!(rt;
-                does_operation_go_round(alloc, dot(1, 2, 9), act) == Some(true)
-            ),
-            None => assert!(rt; false),
-        }
+    for (fields, n, kind) in OPERATIONS {
+        let answer = is_operation_spelled(rt.alloc(), fields, *n, *kind);
+        assert!(rt; answer == Some(true), "{fields:?}");
     }
 }
 
@@ -244,7 +293,7 @@ fn are_refused(
 /// Whether each front has the fault of the list.
 fn are_fronts_refused(alloc: Global) -> Option<bool> {
     let config = config(alloc, EXAMPLE)?;
-    let bytes = booted(alloc, &config).ok()?;
+    let bytes = booted(alloc).ok()?;
     let mut least = 0;
     for (most, kind, at) in FRONTS {
         let fault = WireFault {
@@ -298,7 +347,7 @@ const CHANGES: &[(usize, u8, WireFaultKind, usize)] = &[
 /// The fault of the message where one byte is another.
 fn fault_of_change(alloc: Global, place: usize, byte: u8) -> Option<WireFault> {
     let config = config(alloc, EXAMPLE)?;
-    let bytes = booted(alloc, &config).ok()?;
+    let bytes = booted(alloc).ok()?;
     refused(alloc, &config, &changed(alloc, &bytes, place, byte).ok()?)
 }
 
@@ -317,7 +366,7 @@ fn one_fault_of_a_message(rt: HostRuntime) {
 /// Why the message is refused with a byte after it.
 fn trailing(alloc: Global) -> Option<WireFault> {
     let config = config(alloc, EXAMPLE)?;
-    let mut bytes = booted(alloc, &config).ok()?;
+    let mut bytes = booted(alloc).ok()?;
     bytes.push(0).ok()?;
     refused(alloc, &config, &bytes)
 }
@@ -325,7 +374,7 @@ fn trailing(alloc: Global) -> Option<WireFault> {
 /// Why the message is refused under another configuration.
 fn under_another(alloc: Global) -> Option<WireFault> {
     let other = config(alloc, b"[{kernel,[{distributed,[{a,[b@h,c@h]}]}]}].")?;
-    let bytes = booted(alloc, &config(alloc, EXAMPLE)?).ok()?;
+    let bytes = booted(alloc).ok()?;
     refused(alloc, &other, &bytes)
 }
 
@@ -358,13 +407,16 @@ fn faults_of_all_bytes(rt: HostRuntime) {
 
 /// Whether the bytes are refused, or spell a packet whose bytes they are.
 fn is_refused_or_read(alloc: Global, config: &Config, bytes: &[u8]) -> bool {
-    refused(alloc, config, bytes).is_some() || is_read(alloc, config, bytes)
+    match decode(alloc, config, bytes) {
+        Ok(packet) => has_bytes(alloc, config, &packet, bytes),
+        Err(_) => true,
+    }
 }
 
 /// Whether the message with another byte at a place is refused or read, for each place.
 fn all_are_refused_or_read(alloc: Global, byte: u8) -> Option<bool> {
     let config = config(alloc, EXAMPLE)?;
-    let bytes = booted(alloc, &config).ok()?;
+    let bytes = booted(alloc).ok()?;
     for at in 0..bytes.len() {
         let bytes = changed(alloc, &bytes, at, byte).ok()?;
         if !is_refused_or_read(alloc, &config, &bytes) {
@@ -389,11 +441,7 @@ const STOP: &[u8] = b"\x04\x01\x00\x00\x00\x02\x00\x00\x00\x00\x00\x00\x00\x09\x
 /// Why a stop that replaces these two dots is refused.
 fn fault_of_stop(alloc: Global, first: &[u8], second: &[u8]) -> Option<WireFault> {
     let config = config(alloc, EXAMPLE)?;
-    let mut bytes = Vec::from_slice(alloc, b"DAC\x01").ok()?;
-    bytes.extend_from_slice(&config.mark().to_be_bytes()).ok()?;
-    for part in [STOP, first, second] {
-        bytes.extend_from_slice(part).ok()?;
-    }
+    let bytes = packet_bytes(alloc, &[STOP, first, second]).ok()?;
     refused(alloc, &config, &bytes)
 }
 

@@ -4,7 +4,6 @@ use dac_base::{AppId, NoMemory, NodeId};
 use dac_config::{Config, read_config};
 use dac_core::{Body, Command, Event, Message, Node, Refusal, Reply};
 use dac_dots::Dot;
-use dac_lattice::Lattice;
 use dac_state::{Act, DotList, How, Key, Op, State};
 use std::alloc::Global;
 
@@ -321,19 +320,10 @@ pub fn message(alloc: Global) -> Option<Message> {
     })
 }
 
-/// Whether two messages are equal.
-fn are_equal(one: &Message, other: &Message) -> bool {
-    let same_body = match (&one.body, &other.body) {
-        (Body::Whole(one), Body::Whole(other)) => one.equal(other),
-        _ => false,
-    };
-    one.from == other.from && one.to == other.to && same_body
-}
-
 /// Whether the copy of an event is the hearing of an equal message.
 fn is_heard(event: &Event, message: &Message) -> Result<bool, NoMemory> {
     match event.copy()? {
-        Event::Hear(heard) => Ok(are_equal(&heard, message)),
+        Event::Hear(heard) => Ok(heard.equal(message)),
         _ => Ok(false),
     }
 }

@@ -179,13 +179,11 @@ fn events(alloc: Global, cases: &[Case]) -> Option<Vec<WorldEvent>> {
 /// Whether these are the answers to the events.
 fn are_answered(cases: &[Case], answers: &[Result<Reply, WorldFault>]) -> bool {
     for (i, (_, _, wanted)) in cases.iter().enumerate() {
-        match answers.get(i) {
-            Some(answer) => {
-                if said(answer) != *wanted {
-                    return false;
-                }
-            }
-            None => return false,
+        let Some(answer) = answers.get(i) else {
+            return false;
+        };
+        if said(answer) != *wanted {
+            return false;
         }
     }
     answers.len() == cases.len()

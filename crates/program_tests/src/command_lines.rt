@@ -1,8 +1,12 @@
 //! Command lines, and what is printed for those that ask for help or for nothing that there is.
 use dac_program::{Request, asked, run};
 use std::alloc::Global;
+use std::cell::Cell;
+use std::fmt::Display;
+use std::io;
+use std::io::{Eprint, ErrorKind, Print};
 
-/// Words, whether what clap prints for them is an error, and its text.
+/// Words, whether what is printed for them is an error, and its text.
 const REFUSED: &[(&[&str], bool, &str)] = &[
     (
         &["distac"],
@@ -129,16 +133,81 @@ Documents:
         true,
         "error: unrecognized subcommand 'jump'\n\nUsage: distac <COMMAND>\n\nFor more information, try '--help'.\n",
     ),
+    (
+        &["distac", "sim=1"],
+        true,
+        "error: unrecognized subcommand 'sim=1'\n\n  tip: a similar subcommand exists: 'sim'\n\nUsage: distac <COMMAND>\n\nFor more information, try '--help'.\n",
+    ),
 ];
 
-/// Whether clap prints this for the words, as an error or not.
+/// A runtime that keeps what is printed on the standard output and on the standard error.
+#[derive(Drop)]
+struct Streams {
+    alloc: Global,
+    output: Cell<String>,
+    error: Cell<String>,
+}
+
+/// Puts the text of a value behind what a stream has.
+fn add<D: Display + Drop>(alloc: Global, stream: &Cell<String>, value: D) -> io::Result<()> {
+    let mut text = stream.replace(String::new(alloc));
+    write!(text, "{value}")?;
+    stream.set(text);
+    Ok(())
+}
+
+impl Print for Streams {
+    fn print<D: Display + Drop>(&self, value: D) -> io::Result<()> {
+        add(self.alloc, &self.output, value)
+    }
+
+    fn println<D: Display + Drop>(&self, value: D) -> io::Result<()> {
+        add(self.alloc, &self.output, format_args!("{value}\n"))
+    }
+
+    /// The program prints text alone.
+    fn write_all(&self, _bytes: &[u8]) -> io::Result<()> {
+        Err(io::Error::from(ErrorKind::Unsupported))
+    }
+}
+
+impl Eprint for Streams {
+    fn eprint<D: Display + Drop>(&self, value: D) -> io::Result<()> {
+        add(self.alloc, &self.error, value)
+    }
+
+    fn eprintln<D: Display + Drop>(&self, value: D) -> io::Result<()> {
+        add(self.alloc, &self.error, format_args!("{value}\n"))
+    }
+}
+
+/// Whether this is the status for the words, and these are then on the standard output and on the standard error.
+/// Nothing is written to the output.
+fn answers(alloc: Global, words: &[&str], status: u8, printed: &str, said: &str) -> bool {
+    let streams = Streams {
+        alloc,
+        output: Cell::new(String::new(alloc)),
+        error: Cell::new(String::new(alloc)),
+    };
+    let mut written = Vec::new(alloc);
+    let answered = run(&streams, alloc, words, &mut b"".as_slice(), &mut written);
+    let Streams {
+        alloc: _,
+        output,
+        error,
+    } = streams;
+    written.is_empty()
+        && answered == status
+        && output.into_inner().as_str() == printed
+        && error.into_inner().as_str() == said
+}
+
+/// Whether this text alone is printed for the words, as an error or not.
 fn is_refused(alloc: Global, words: &[&str], is_error: bool, text: &str) -> bool {
-    match asked(alloc, words) {
-        Ok(_) => false,
-        Err(error) => match format!(in alloc; "{error}") {
-            Ok(printed) => printed.as_str() == text && error.use_stderr() == is_error,
-            Err(_) => false,
-        },
+    if is_error {
+        answers(alloc, words, 2, "", text)
+    } else {
+        answers(alloc, words, 0, text, "")
     }
 }
 
@@ -161,18 +230,4 @@ fn asks_for(alloc: Global, words: &[&str], request: Request) -> bool {
 fn asks_for_a_check_or_a_run(rt: HostRuntime) {
     assert!(rt; asks_for(rt.alloc(), &["distac", "check"], Request::Check));
     assert!(rt; asks_for(rt.alloc(), &["distac", "sim"], Request::Sim));
-}
-
-/// Whether this is the status for these words, and nothing is written to the output.
-fn answers(rt: &HostRuntime, words: &[&str], status: u8) -> bool {
-    let mut output = Vec::new(rt.alloc());
-    let answered = run(rt, rt.alloc(), words, &mut b"".as_slice(), &mut output);
-    answered == status && output.is_empty()
-}
-
-#[test]
-fn answers_a_status(rt: HostRuntime) {
-    assert!(rt; answers(&rt, &["distac", "--help"], 0));
-    assert!(rt; answers(&rt, &["distac", "jump"], 2));
-    assert!(rt; answers(&rt, &["distac", "sim=1"], 2));
 }

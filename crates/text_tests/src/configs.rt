@@ -42,13 +42,11 @@ fn is_node(config: &Config, node: NodeId, name: &[u8], mandatory: bool, optional
 /// Whether the nodes of the example are these, and are found by their names.
 fn are_nodes(config: &Config) -> bool {
     for (name, mandatory, optional) in NODES {
-        match config.node_named(name) {
-            Some(node) => {
-                if !is_node(config, node, name, *mandatory, *optional) {
-                    return false;
-                }
-            }
-            None => return false,
+        let Some(node) = config.node_named(name) else {
+            return false;
+        };
+        if !is_node(config, node, name, *mandatory, *optional) {
+            return false;
         }
     }
     config.node_named(b"cp3").is_none() && config.nodes() == 3

@@ -8,13 +8,12 @@ use std::alloc::{AllocError, AllocFailed, Global};
 fn fault_of(text: &[u8]) -> Option<ConfigFault> {
     let mut tokens = Tokens::new(text);
     for _ in 0..=text.len() {
-        match tokens.next() {
-            Ok(located) => {
-                if located.token == Token::End {
-                    return None;
-                }
-            }
+        let located = match tokens.next() {
+            Ok(located) => located,
             Err(fault) => return Some(fault),
+        };
+        if located.token == Token::End {
+            return None;
         }
     }
     None
