@@ -1,5 +1,5 @@
 //! The life of each node.
-ghost use Rattle.std.specs.Prelude.{◌≡◌, ◌↔◌, ℕ, IfOk, IsTrue, Some, option_map};
+ghost use Rattle.std.specs.Prelude.{◌≡◌, ◌↔◌, ℕ, IfOk, IsTrue, Some};
 ghost use Rattle.std.specs.FinMap as map;
 ghost use Rattle.dac_chains.specs.Kept.{unwrapped};
 ghost use Rattle.dac_chains.specs.Lives.{IsLive, live_at};
@@ -82,12 +82,12 @@ impl Lives {
         Ok(Lives { lives })
     }
 
-    /// The life of a node, as the incarnation and whether it is up, if anything was said of it.
-    pub fn life(&self, node: NodeId) -> Option<(u32, Flag)>
-        ensures { result ≡ option_map (λ l. (l.inc, l.flag)) (map.get self.now node) }
+    /// The life of a node, if anything was said of it.
+    pub fn life(&self, node: NodeId) -> Option<Life>
+        ensures { result ≡ map.get self.now node }
     {
         match self.lives.get(node) {
-            Some(greatest) => Some((greatest.value.inc, greatest.value.flag)),
+            Some(greatest) => Some(greatest.value),
             None => None,
         }
     }
@@ -97,9 +97,10 @@ impl Lives {
         ensures value { result ≡ live_at self.now node }
         ensures exact { (i : ℕ) → (result ≡ Some i) ↔ IsLive self.now node i }
     {
-        match self.life(node) {
-            Some((inc, Flag::Up)) => Some(inc),
-            _ => None,
+        let life = self.life(node)?;
+        match life.flag {
+            Flag::Up => Some(life.inc),
+            Flag::Down => None,
         }
     }
 

@@ -1,7 +1,6 @@
 //! What a controller knows, in short.
 
 ghost use Rattle.std.specs.Prelude.{◌≡◌, ◌<◌};
-ghost use Rattle.std.specs.FinMap as map;
 ghost use Rattle.dac_config.specs.Table.{app_count};
 ghost use Rattle.dac_status.specs.Summaries.{marks_of, lives_of, no_app, app_summary, app_summaries, summary_of};
 
@@ -53,23 +52,13 @@ impl Summary {
     }
 }
 
-/// The life of a node.
-fn life_of(state: &State, node: NodeId) -> Option<Life>
-    ensures { result ≡ map.get state.now.lives node }
-{
-    match state.lives().life(node) {
-        Some((inc, flag)) => Some(Life { inc, flag }),
-        None => None,
-    }
-}
-
 /// The life of each node of the configuration, by its number.
 fn lives_of(config: &Config, state: &State) -> [Option<Life>; MAX_NODES]
     ensures { result ≡ lives_of config.now state.now }
 {
     let mut lives = [None; MAX_NODES];
     for number in 0..config.nodes() {
-        lives[number as usize] = life_of(state, NodeId(number));
+        lives[number as usize] = state.lives().life(NodeId(number));
     }
     lives
 }

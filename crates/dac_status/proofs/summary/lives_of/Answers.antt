@@ -8,5 +8,5 @@ loop-number-init c = placed_none 16 None node_numbered (finmap.get c.args.state.
 
 pub loop-number-preserved : goal.loop-number-preserved
 loop-number-preserved c =
-    ap (λ life. set c.loop-number.lives c.loop-number.number life) c.life_of.ensures
+    ap (λ life. set c.loop-number.lives c.loop-number.number life) (rw c.lives.ensures at c.life.ensures)
     ∙ placed_more 16 None node_numbered (finmap.get c.args.state.now.lives) c.loop-number.number c.loop-number.lives (omega arith) c.loop-number.invariant

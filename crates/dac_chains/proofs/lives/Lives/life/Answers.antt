@@ -2,16 +2,15 @@ use Rattle.std.proofs.Common.{ap, ◌∙◌, sym, option_map}
 use Rattle.std.specs.Option.{option_copied}
 use Rattle.std.specs.FinMap as map
 use Rattle.dac_base.specs.Ids.{nodes_total, exact_nodes}
-use Rattle.dac_chains.specs.declared.lives.Life.{Life}
 use Rattle.dac_chains.proofs.KeptLemmas.{value_of, get-kept}
 use Rattle.dac_chains.proofs.lives.Lives.life.Goals as goal
 
 pub returns-in-Some : goal.returns-in-Some
-returns-in-Some c = ap (option_map (λ (l : Life). (l.inc, l.flag))) (
+returns-in-Some c =
     ap (λ r. option_map value_of (option_copied r)) (sym c.in-Some.is) ∙ ap (option_map value_of) c.get.ensures
-    ∙ sym (get-kept nodes_total exact_nodes c.self.inside.lives c.args.node) ∙ ap (λ m. map.get m c.args.node) c.self.view_is)
+    ∙ sym (get-kept nodes_total exact_nodes c.self.inside.lives c.args.node) ∙ ap (λ m. map.get m c.args.node) c.self.view_is
 
 pub returns-in-None : goal.returns-in-None
-returns-in-None c = ap (option_map (λ (l : Life). (l.inc, l.flag))) (
+returns-in-None c =
     ap (λ r. option_map value_of (option_copied r)) (sym c.in-None.is) ∙ ap (option_map value_of) c.get.ensures
-    ∙ sym (get-kept nodes_total exact_nodes c.self.inside.lives c.args.node) ∙ ap (λ m. map.get m c.args.node) c.self.view_is)
+    ∙ sym (get-kept nodes_total exact_nodes c.self.inside.lives c.args.node) ∙ ap (λ m. map.get m c.args.node) c.self.view_is
