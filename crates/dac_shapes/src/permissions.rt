@@ -11,23 +11,20 @@ use crate::draft::Permission;
 use crate::names::spells;
 use crate::pairs::Pair;
 use crate::parser::Parser;
-use dac_tokens::{ConfigFault, FaultKind};
+use dac_tokens::{ConfigFault, FaultKind, Token};
 use std::alloc::Global;
 
 impl Parser<'_> {
     /// The flag that the token is: `true` or `false`.
-    #[tactic(auto, unfolding(crate::specs::Shape::flag_of))]
+    #[tactic(auto, unfolding(crate::specs::Shape::atom_of, crate::specs::Shape::flag_of))]
     fn flag(&self) -> Result<bool, ConfigFault>
         ensures { Gives (λ flag. flag) result (flag_of (located_of self.now.token)) }
     {
-        let name = self.atom()?;
-        if spells(b"true", name) {
-            return Ok(true);
+        match self.token.token {
+            Token::Atom(name) if spells(b"true", name) => Ok(true),
+            Token::Atom(name) if spells(b"false", name) => Ok(false),
+            _ => Err(self.fault(FaultKind::BadShape)),
         }
-        if spells(b"false", name) {
-            return Ok(false);
-        }
-        Err(self.fault(FaultKind::BadShape))
     }
 }
 

@@ -3,7 +3,7 @@
 ghost use Rattle.std.specs.Prelude.{◌≡◌, ◌<◌, not, codes, map, filter, All};
 ghost use Rattle.std.specs.Fmt.{decimal};
 ghost use Rattle.dac_config.specs.Sinks.{Gains};
-ghost use Rattle.dac_config.specs.Canonical.{name_text, parted_behind, parted, node_name_text, tuple_text, group_text, app_text, ban_text, wait_texts, param_texts};
+ghost use Rattle.dac_config.specs.Canonical.{name_text, parted_behind, parted, node_name_text, group_text, app_text, ban_text, wait_texts, param_texts};
 ghost use Rattle.dac_config.specs.Table.{node_count};
 ghost use Rattle.dac_config.specs.ConfigView.{node_row, named_row, HasMembersBelow, is_in};
 
@@ -13,23 +13,14 @@ use crate::naming::put_name;
 use crate::sink::Sink;
 use dac_base::{AppId, NodeId};
 
-/// One decimal digit.
-fn put_digit<S: Sink>(sink: &mut S, digit: u8)
-    requires { digit < 10 }
-    ensures { Gains S.holds sink.old sink.new (decimal digit) }
-{
-    sink.put(&[b'0' + digit]);
-}
-
+/// The decimal digits of a number.
 fn put_number<S: Sink>(sink: &mut S, number: u32)
     ensures { Gains S.holds sink.old sink.new (decimal number) }
 {
-    if number < 10 {
-        put_digit(sink, number as u8);
-    } else {
+    if number >= 10 {
         put_number(sink, number / 10);
-        put_digit(sink, (number % 10) as u8);
     }
+    sink.put(&[b'0' + (number % 10) as u8]);
 }
 
 fn put_node<S: Sink>(sink: &mut S, config: &Config, node: NodeId)
@@ -58,17 +49,12 @@ fn put_group<S: Sink>(sink: &mut S, config: &Config, group: &[u8])
 {
     match group {
         [number] => put_node(sink, config, NodeId(*number)),
-        _ => put_tuple(sink, config, group),
+        _ => {
+            sink.put(b"{");
+            put_members(sink, config, group);
+            sink.put(b"}");
+        }
     }
-}
-
-fn put_tuple<S: Sink>(sink: &mut S, config: &Config, group: &[u8])
-    requires { All (λ number. number < node_count config.now) group.now }
-    ensures { Gains S.holds sink.old sink.new (tuple_text (map (node_name_text config.now.nodes) group.now)) }
-{
-    sink.put(b"{");
-    put_members(sink, config, group);
-    sink.put(b"}");
 }
 
 /// The groups of an application, with a comma between any two.
@@ -110,14 +96,6 @@ fn put_apps<S: Sink>(sink: &mut S, config: &Config)
     }
 }
 
-fn put_ban<S: Sink>(sink: &mut S, name: &[u8])
-    ensures { Gains S.holds sink.old sink.new (ban_text name.now) }
-{
-    sink.put(b"{");
-    put_name(sink, name);
-    sink.put(b",false}");
-}
-
 /// The applications that aren't permitted where no one has said, with a comma between any two.
 fn put_bans<S: Sink>(sink: &mut S, config: &Config)
     ensures { Gains S.holds sink.old sink.new (parted (map (λ row. ban_text row.name) (filter (λ row. not row.permission) config.now.apps))) }
@@ -129,7 +107,9 @@ fn put_bans<S: Sink>(sink: &mut S, config: &Config)
             continue;
         }
         sink.put(before);
-        put_ban(sink, name);
+        sink.put(b"{");
+        put_name(sink, name);
+        sink.put(b",false}");
         before = b",";
     }
 }
