@@ -9,7 +9,7 @@ use Rattle.dac_tokens.specs.TokenGrammar.{AreTokensOf}
 use Rattle.dac_tokens.specs.TokenFaults.{StopAt}
 use Rattle.dac_shapes.specs.declared.limits.TheConstants.{MAX_NAME, MAX_TEXT}
 use Rattle.dac_tokens.specs.Digits.{value_from}
-use Rattle.dac_shapes.specs.Written.{Section, written}
+use Rattle.dac_shapes.specs.Written.{Section, written, ms_bound}
 use Rattle.dac_shapes.specs.Grammar.{IsFile}
 use Rattle.dac_shapes.specs.Within.{AreWithinLimits, nodes_in}
 use Rattle.dac_first_fault.specs.Loose.{IsLooseFile}
@@ -23,7 +23,7 @@ IsShortName word = (name : List ℕ) × (word ≡ Name name) × (length name ≤
 abbrev pub CanBring : FaultKind → Word → Type 0
 CanBring BadShape word = Unit {0}
 CanBring Unsupported word = word ≡ Text
-CanBring NumberTooLarge word = (digits : List ℕ) × (word ≡ Number false digits) × (4294967296 ≤ value_from 0 digits)
+CanBring NumberTooLarge word = (digits : List ℕ) × (word ≡ Number false digits) × (ms_bound ≤ value_from 0 digits)
 CanBring NameTooLong word = (name : List ℕ) × (word ≡ Name name) × (MAX_NAME < length name)
 CanBring TwiceApp word = IsShortName word
 CanBring TwiceInList word = IsShortName word

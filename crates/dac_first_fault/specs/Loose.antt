@@ -10,7 +10,7 @@ use Rattle.dac_shapes.specs.declared.draft.SyncWait.TheVariants.{NoSync, Forever
 use Rattle.dac_shapes.specs.declared.param.ParamName.{ParamName}
 use Rattle.dac_shapes.specs.declared.param.ParamName.TheVariants as named
 use Rattle.dac_tokens.specs.Digits.{value_from}
-use Rattle.dac_shapes.specs.Written.{App, Param, Distributed, Permissions, Mandatory, Optional, Timeout, Section, Kernel, spelled}
+use Rattle.dac_shapes.specs.Written.{App, Param, Distributed, Permissions, Mandatory, Optional, Timeout, Section, Kernel, spelled, ms_bound}
 use Rattle.dac_shapes.specs.Grammar.{Parted, between, IsListOf, IsPair, IsTerm, IsNode, IsItem, IsMs, IsPermission}
 
 module _ (Kept : FaultKind → Type 0) where
@@ -32,7 +32,7 @@ module _ (Kept : FaultKind → Type 0) where
   abbrev pub IsLooseMs : Word → ℕ → Type 0
   IsLooseMs word n =
       IsMs word n
-      ⊎ (Passes NumberTooLarge × (digits : List ℕ) × (word ≡ Number false digits) × (n ≡ value_from 0 digits) × (4294967296 ≤ n))
+      ⊎ (Passes NumberTooLarge × (digits : List ℕ) × (word ≡ Number false digits) × (n ≡ value_from 0 digits) × (ms_bound ≤ n))
 
   abbrev pub IsLooseTimeout : List Word → ℕ → Type 0
   IsLooseTimeout words n =

@@ -9,7 +9,7 @@ use Rattle.dac_shapes.specs.declared.param.ParamName.{ParamName}
 use Rattle.dac_shapes.specs.declared.param.ParamName.TheVariants as named
 use Rattle.dac_shapes.specs.declared.draft.SyncWait.{SyncWait}
 use Rattle.dac_shapes.specs.declared.draft.SyncWait.TheVariants.{NoSync, Forever, Ms}
-use Rattle.dac_shapes.specs.Written.{App, Permission, Param, Distributed, Permissions, Mandatory, Optional, Timeout, Section, Kernel, Written, spelled, written}
+use Rattle.dac_shapes.specs.Written.{App, Permission, Param, Distributed, Permissions, Mandatory, Optional, Timeout, Section, Kernel, Written, spelled, written, ms_bound}
 use Rattle.dac_tokens.specs.Digits.{value_from}
 use Rattle.dac_shapes.specs.Within.{AreWithinLimits, nodes_in}
 
@@ -70,9 +70,9 @@ IsItem words group =
 abbrev pub IsNodeList : List Word → List (List (List ℕ)) → Type 0
 IsNodeList words groups = (inner : List Word) × (words ≡ between OpenList inner CloseList) × Parted IsItem inner groups
 
--- this token is a number of milliseconds below 2 ^ 32, which is not negative
+-- this token is a number of milliseconds below their bound, which is not negative
 abbrev pub IsMs : Word → ℕ → Type 0
-IsMs word n = (negative : Bool) × (digits : List ℕ) × (word ≡ Number negative digits) × (n ≡ value_from 0 digits) × (n < 4294967296) × (negative ≡ true → n ≡ 0)
+IsMs word n = (negative : Bool) × (digits : List ℕ) × (word ≡ Number negative digits) × (n ≡ value_from 0 digits) × (n < ms_bound) × (negative ≡ true → n ≡ 0)
 
 -- nothing, which is 0, or a number and a comma
 abbrev pub IsTimeout : List Word → ℕ → Type 0

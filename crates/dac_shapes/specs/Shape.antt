@@ -16,7 +16,7 @@ use Rattle.dac_shapes.specs.declared.draft.SyncWait.TheVariants.{Forever, Ms}
 use Rattle.dac_shapes.specs.declared.limits.TheConstants.{MAX_NAME, MAX_TEXT}
 use Rattle.dac_shapes.specs.declared.param.ParamName.{ParamName}
 use Rattle.dac_shapes.specs.declared.param.ParamName.TheVariants as named
-use Rattle.dac_shapes.specs.Written.{App, Permission, Param, Distributed, Permissions, Mandatory, Optional, Timeout, Section, Kernel, Written, written}
+use Rattle.dac_shapes.specs.Written.{App, Permission, Param, Distributed, Permissions, Mandatory, Optional, Timeout, Section, Kernel, Written, written, ms_bound}
 use Rattle.dac_shapes.specs.Limits.{Seen, nothing, is_among, has_param, has_kernel, with_node, listing}
 
 -- what is left to read, and the names seen so far
@@ -96,11 +96,11 @@ short_name_of t = do
   name ← atom_of t
   if nat_lt MAX_NAME (length name) then fails NameTooLong t.at else Ok name
 
--- a timeout is not negative and below 2 ^ 32
+-- a timeout is not negative and below its bound
 abbrev pub milliseconds_of : ℕ → Bool → ℕ → Result ℕ ConfigFault
 milliseconds_of at negative n =
     if negative && not (n == 0) then fails BadShape at
-    else (if nat_lt n 4294967296 then Ok n else fails NumberTooLarge at)
+    else (if nat_lt n ms_bound then Ok n else fails NumberTooLarge at)
 
 -- how long to wait at the start: a number, or forever
 unfoldable pub wait_of : Located → Result SyncWait ConfigFault

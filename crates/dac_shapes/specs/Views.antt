@@ -66,6 +66,10 @@ parser_state p = record { left = p.tokens; seen = record { met = names_of p.met.
 abbrev pub here : Parser → Located × State
 here p = (located_of p.token, parser_state p)
 
+-- what this gives from the token that was read last on
+abbrev pub from_here : {A : Type 0} → (Located → State → A) → Parser → A
+from_here read p = read (located_of p.token) (parser_state p)
+
 -- how many tokens are left
 abbrev pub tokens_left : Parser → ℕ
 tokens_left p = length p.tokens.tokens

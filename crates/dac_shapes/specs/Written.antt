@@ -5,6 +5,10 @@ use Rattle.dac_shapes.specs.declared.draft.SyncWait.TheVariants.{NoSync}
 use Rattle.dac_shapes.specs.declared.param.ParamName.{ParamName}
 use Rattle.dac_shapes.specs.declared.param.ParamName.TheVariants as named
 
+-- a time has fewer milliseconds than this: it fits in 32 bits
+abbrev pub ms_bound : ℕ
+ms_bound = 4294967296
+
 -- an application: its name, its timeout, and its groups of nodes by their names
 pub record App : Type 0 where
   pub name : List ℕ

@@ -6,7 +6,7 @@ ghost use Rattle.std.specs.Str.{bytes_eq};
 ghost use Rattle.dac_tokens.specs.Gives.{Gives};
 ghost use Rattle.dac_tokens.specs.Words.{located_of};
 ghost use Rattle.dac_shapes.specs.Shape.{timeout_at, app_name_of, app_value_at, closed};
-ghost use Rattle.dac_shapes.specs.Views.{app_of, parser_state, tokens_left};
+ghost use Rattle.dac_shapes.specs.Views.{app_of, from_here, parser_state, tokens_left};
 ghost use Rattle.dac_shapes.specs.Written.{App};
 
 use crate::draft::DraftApp;
@@ -15,14 +15,13 @@ use crate::numbers::milliseconds_of;
 use crate::pairs::Pair;
 use crate::parser::Parser;
 use dac_tokens::{ConfigFault, FaultKind, Symbol, Token};
-use std::alloc::Global;
 
 impl Parser<'_> {
     /// The timeout of an application, if the token is a number, and 0 if not. Behind a timeout and its comma the next
     /// token is read.
     #[tactic(auto, unfolding(crate::specs::Shape::timeout_at))]
     fn timeout(&mut self) -> Result<u32, ConfigFault>
-        ensures read { Gives (λ ms. (ms, located_of self.new.token, parser_state self.new)) result (timeout_at (located_of self.old.token) (parser_state self.old)) }
+        ensures read { Gives (λ ms. (ms, located_of self.new.token, parser_state self.new)) result (from_here timeout_at self.old) }
         ensures left { tokens_left self.new ≤ tokens_left self.old }
     {
         let Token::Number { negative, digits } = self.token.token else {
@@ -69,14 +68,10 @@ impl<'a> Pair<'a> for DraftApp<'a> {
     }
 
     #[tactic(auto, unfolding(crate::specs::Shape::app_value_at))]
-    fn rest(
-        parser: &mut Parser<'a>,
-        alloc: Global,
-        name: &'a [u8],
-    ) -> Result<DraftApp<'a>, ConfigFault> {
+    fn rest(parser: &mut Parser<'a>, name: &'a [u8]) -> Result<DraftApp<'a>, ConfigFault> {
         parser.advance()?;
         let timeout = parser.timeout()?;
-        let groups = parser.groups(alloc)?;
+        let groups = parser.groups()?;
         parser.closed(DraftApp {
             name,
             timeout,

@@ -2,16 +2,14 @@
 
 ghost use Rattle.std.specs.Prelude.{◌≤◌, ℕ, List, true, false};
 ghost use Rattle.dac_tokens.specs.Gives.{Gives};
-ghost use Rattle.dac_tokens.specs.Words.{located_of};
 ghost use Rattle.dac_shapes.specs.Shape.{node_of, tuple_at, item_at, groups_at};
-ghost use Rattle.dac_shapes.specs.Views.{names_of, groups_of, parser_state, tokens_left};
+ghost use Rattle.dac_shapes.specs.Views.{names_of, groups_of, from_here, parser_state, tokens_left};
 
 use crate::limits::MAX_NODES;
 use crate::list::Elements;
 use crate::names::is_among;
 use crate::parser::{Parser, fault};
 use dac_tokens::{ConfigFault, FaultKind, Symbol};
-use std::alloc::Global;
 
 /// Nodes by their names, of which each stands once in its list.
 pub struct Nodes;
@@ -25,11 +23,7 @@ impl<'a> Elements<'a> for Nodes {
 
     ghost read_at = { λ _. node_of false };
 
-    fn read(
-        parser: &mut Parser<'a>,
-        _alloc: Global,
-        _before: &[&'a [u8]],
-    ) -> Result<&'a [u8], ConfigFault> {
+    fn read(parser: &mut Parser<'a>, _before: &[&'a [u8]]) -> Result<&'a [u8], ConfigFault> {
         parser.node(false)
     }
 }
@@ -46,11 +40,7 @@ impl<'a> Elements<'a> for SyncNodes {
 
     ghost read_at = { λ _. node_of true };
 
-    fn read(
-        parser: &mut Parser<'a>,
-        _alloc: Global,
-        _before: &[&'a [u8]],
-    ) -> Result<&'a [u8], ConfigFault> {
+    fn read(parser: &mut Parser<'a>, _before: &[&'a [u8]]) -> Result<&'a [u8], ConfigFault> {
         parser.node(true)
     }
 }
@@ -70,14 +60,13 @@ impl<'a> Elements<'a> for Groups {
     #[tactic(auto, unfolding(crate::specs::Shape::item_at))]
     fn read(
         parser: &mut Parser<'a>,
-        alloc: Global,
         _before: &[Vec<&'a [u8]>],
     ) -> Result<Vec<&'a [u8]>, ConfigFault> {
         if parser.is(Symbol::OpenTuple) {
-            return parser.tuple(alloc);
+            return parser.tuple();
         }
         let name = parser.node(false)?;
-        let group = [name].to_vec(alloc)?;
+        let group = [name].to_vec(parser.alloc)?;
         Ok(group)
     }
 }
@@ -86,7 +75,7 @@ impl<'a> Parser<'a> {
     /// The node that the token is, in the list that is being read.
     #[tactic(auto, unfolding(crate::specs::Shape::node_of))]
     fn node(&mut self, repeats: bool) -> Result<&'a [u8], ConfigFault>
-        ensures read { Gives (λ name. (name.now, parser_state self.new)) result (node_of repeats (located_of self.old.token) (parser_state self.old)) }
+        ensures read { Gives (λ name. (name.now, parser_state self.new)) result (from_here (node_of repeats) self.old) }
         ensures left { tokens_left self.new ≤ tokens_left self.old }
     {
         let name = self.short_name()?;
@@ -104,7 +93,7 @@ impl<'a> Parser<'a> {
     }
 
     /// The nodes of a tuple, whose opening brace is the token.
-    fn tuple(&mut self, alloc: Global) -> Result<Vec<&'a [u8]>, ConfigFault>
+    fn tuple(&mut self) -> Result<Vec<&'a [u8]>, ConfigFault>
         ensures read { Gives (λ group. (names_of group.items, parser_state self.new)) result (tuple_at self.old.token.at (parser_state self.old)) }
         ensures left { tokens_left self.new ≤ tokens_left self.old }
     {
@@ -113,13 +102,13 @@ impl<'a> Parser<'a> {
         if self.is(Symbol::CloseTuple) {
             return Err(fault(FaultKind::EmptyTuple, brace));
         }
-        self.parted::<Nodes>(alloc, Symbol::CloseTuple)
+        self.parted::<Nodes>(Symbol::CloseTuple)
     }
 
     /// A node list, whose opening bracket is the token.
     #[tactic(auto, unfolding(crate::specs::Shape::groups_at))]
-    pub fn groups(&mut self, alloc: Global) -> Result<Vec<Vec<&'a [u8]>>, ConfigFault>
-        ensures read { Gives (λ groups. (groups_of groups.items, parser_state self.new)) result (groups_at (located_of self.old.token) (parser_state self.old)) }
+    pub fn groups(&mut self) -> Result<Vec<Vec<&'a [u8]>>, ConfigFault>
+        ensures read { Gives (λ groups. (groups_of groups.items, parser_state self.new)) result (from_here groups_at self.old) }
         ensures left { tokens_left self.new ≤ tokens_left self.old }
     {
         if !self.is(Symbol::OpenList) {
@@ -131,6 +120,6 @@ impl<'a> Parser<'a> {
             return Err(fault(FaultKind::EmptyList, bracket));
         }
         self.listed.clear();
-        self.parted::<Groups>(alloc, Symbol::CloseList)
+        self.parted::<Groups>(Symbol::CloseList)
     }
 }

@@ -5,6 +5,7 @@ ghost use Rattle.dac_tokens.specs.Gives.{Gives};
 ghost use Rattle.dac_tokens.specs.Words.{located_of};
 ghost use Rattle.dac_tokens.specs.Digits.{value_from};
 ghost use Rattle.dac_shapes.specs.Shape.{milliseconds_of, wait_of};
+ghost use Rattle.dac_shapes.specs.Written.{ms_bound};
 
 use crate::draft::SyncWait;
 use crate::names::spells;
@@ -13,7 +14,7 @@ use dac_tokens::{ConfigFault, FaultKind, Token};
 
 /// The number that the digits are, if it fits.
 fn number_of(digits: &[u8]) -> Option<u32>
-    ensures { result ≡ (if nat_lt (value_from 0 digits.now) 4294967296 then Some (value_from 0 digits.now) else None) }
+    ensures { result ≡ (if nat_lt (value_from 0 digits.now) ms_bound then Some (value_from 0 digits.now) else None) }
 {
     let mut value: u32 = 0;
     for digit in digits {

@@ -11,7 +11,6 @@ ghost use Rattle.dac_shapes.specs.Views.{parser_state, tokens_left};
 use crate::list::Elements;
 use crate::parser::Parser;
 use dac_tokens::{ConfigFault, FaultKind, Symbol};
-use std::alloc::Global;
 use std::marker::PhantomData;
 
 /// What is written as a pair: how its name is read, after the pairs before it, and what stands behind the name.
@@ -38,7 +37,7 @@ pub trait Pair<'a>: Drop {
         ensures { Gives named result (name_at (map said before.now) (located_of parser.now.token)) };
 
     /// What stands behind the comma, with the brace that closes the pair.
-    fn rest(parser: &mut Parser<'a>, alloc: Global, name: Self::Name) -> Result<Self, ConfigFault>
+    fn rest(parser: &mut Parser<'a>, name: Self::Name) -> Result<Self, ConfigFault>
         ensures read { Gives (λ x. (said x, parser_state parser.new)) result (rest_at (named name) (parser_state parser.old)) }
         ensures left { tokens_left parser.new ≤ tokens_left parser.old };
 }
@@ -57,27 +56,20 @@ impl<'a, P: Pair<'a>> Elements<'a> for Pairs<'a, P> {
 
     ghost read_at = { λ before. pair_at (P.name_at before) P.rest_at };
 
-    fn read(parser: &mut Parser<'a>, alloc: Global, before: &[P]) -> Result<P, ConfigFault> {
-        parser.pair(alloc, before)
+    /// A pair, whose opening brace is the token.
+    #[tactic(auto, unfolding(crate::specs::Shape::pair_at))]
+    fn read(parser: &mut Parser<'a>, before: &[P]) -> Result<P, ConfigFault> {
+        if !parser.is(Symbol::OpenTuple) {
+            return Err(parser.fault(FaultKind::BadShape));
+        }
+        parser.advance()?;
+        let name = P::name(parser, before)?;
+        parser.symbol(Symbol::Comma)?;
+        P::rest(parser, name)
     }
 }
 
 impl<'a> Parser<'a> {
-    /// A pair, whose opening brace is the token.
-    #[tactic(auto, unfolding(crate::specs::Shape::pair_at))]
-    pub fn pair<P: Pair<'a>>(&mut self, alloc: Global, before: &[P]) -> Result<P, ConfigFault>
-        ensures read { Gives (λ x. (P.said x, parser_state self.new)) result (pair_at (P.name_at (map P.said before.now)) P.rest_at (located_of self.old.token) (parser_state self.old)) }
-        ensures left { tokens_left self.new ≤ tokens_left self.old }
-    {
-        if !self.is(Symbol::OpenTuple) {
-            return Err(self.fault(FaultKind::BadShape));
-        }
-        self.advance()?;
-        let name = P::name(self, before)?;
-        self.symbol(Symbol::Comma)?;
-        P::rest(self, alloc, name)
-    }
-
     /// This value, if the brace that closes its pair comes next.
     pub fn closed<T: Drop>(&mut self, value: T) -> Result<T, ConfigFault>
         ensures read { Gives (λ _. parser_state self.new) result (symbol_at CloseTuple (parser_state self.old)) }

@@ -7,11 +7,13 @@ ghost use Rattle.dac_shapes.specs.Shape.{token, is_mark, is_text, symbol_at, beh
 ghost use Rattle.dac_shapes.specs.Views.{here, parser_state, tokens_left};
 
 use dac_tokens::{ConfigFault, FaultKind, Located, Symbol, Token, Tokens};
+use std::alloc::Global;
 
 /// What is left of the text behind the token that was read last, the different nodes met so far, and those of the list
 /// that is being read.
 #[derive(Drop)]
 pub struct Parser<'a> {
+    pub alloc: Global,
     pub tokens: Tokens<'a>,
     pub token: Located<'a>,
     pub met: Vec<&'a [u8]>,

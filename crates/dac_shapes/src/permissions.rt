@@ -12,7 +12,6 @@ use crate::names::spells;
 use crate::pairs::Pair;
 use crate::parser::Parser;
 use dac_tokens::{ConfigFault, FaultKind, Token};
-use std::alloc::Global;
 
 impl Parser<'_> {
     /// The flag that the token is: `true` or `false`.
@@ -48,11 +47,7 @@ impl<'a> Pair<'a> for Permission<'a> {
     }
 
     #[tactic(auto, unfolding(crate::specs::Shape::permission_value_at))]
-    fn rest(
-        parser: &mut Parser<'a>,
-        _alloc: Global,
-        name: &'a [u8],
-    ) -> Result<Permission<'a>, ConfigFault> {
+    fn rest(parser: &mut Parser<'a>, name: &'a [u8]) -> Result<Permission<'a>, ConfigFault> {
         parser.advance()?;
         let value = parser.flag()?;
         parser.closed(Permission { name, value })

@@ -39,6 +39,7 @@ pub fn parse_draft(alloc: Global, text: &[u8]) -> Result<Draft<'_>, ConfigFault>
         return Err(fault(FaultKind::TooLong, MAX_TEXT));
     }
     let parser = Parser {
+        alloc,
         tokens: Tokens::new(text),
         // No token is read yet: the end stands in its place.
         token: Located {
@@ -48,5 +49,5 @@ pub fn parse_draft(alloc: Global, text: &[u8]) -> Result<Draft<'_>, ConfigFault>
         met: Vec::new(alloc),
         listed: Vec::new(alloc),
     };
-    parser.file(alloc)
+    parser.file()
 }

@@ -15,24 +15,19 @@ use crate::pairs::{Pair, Pairs};
 use crate::param::{Param, ParamName, Section, has_kernel, has_param};
 use crate::parser::{Parser, fault};
 use dac_tokens::{ConfigFault, FaultKind, Symbol, Token};
-use std::alloc::Global;
 
 impl<'a> Parser<'a> {
     /// The value of the parameter of this name.
     #[tactic(auto, unfolding(crate::specs::Shape::param_value_at))]
-    fn param_value(&mut self, alloc: Global, name: ParamName) -> Result<Param<'a>, ConfigFault>
+    fn param_value(&mut self, name: ParamName) -> Result<Param<'a>, ConfigFault>
         ensures read { Gives (λ param. (param_of param, parser_state self.new)) result (param_value_at name (parser_state self.old)) }
         ensures left { tokens_left self.new ≤ tokens_left self.old }
     {
         match name {
-            ParamName::Distributed => self
-                .list::<Pairs<DraftApp<'a>>>(alloc)
-                .map(Param::Distributed),
-            ParamName::Permissions => self
-                .list::<Pairs<Permission<'a>>>(alloc)
-                .map(Param::Permissions),
-            ParamName::Mandatory => self.list::<SyncNodes>(alloc).map(Param::Mandatory),
-            ParamName::Optional => self.list::<SyncNodes>(alloc).map(Param::Optional),
+            ParamName::Distributed => self.list::<Pairs<DraftApp<'a>>>().map(Param::Distributed),
+            ParamName::Permissions => self.list::<Pairs<Permission<'a>>>().map(Param::Permissions),
+            ParamName::Mandatory => self.list::<SyncNodes>().map(Param::Mandatory),
+            ParamName::Optional => self.list::<SyncNodes>().map(Param::Optional),
             ParamName::Timeout => {
                 self.advance()?;
                 let wait = self.wait()?;
@@ -55,12 +50,12 @@ impl<'a> Parser<'a> {
 
     /// A whole file.
     #[tactic(auto, unfolding(crate::specs::Shape::file_at))]
-    pub fn file(mut self, alloc: Global) -> Result<Draft<'a>, ConfigFault>
+    pub fn file(mut self) -> Result<Draft<'a>, ConfigFault>
         ensures { Gives draft_of result (file_at (parser_state self.entry)) }
     {
-        let sections = self.list::<Sections>(alloc)?;
+        let sections = self.list::<Sections>()?;
         let end = self.end()?;
-        let draft = Draft::of_sections(alloc, sections, self.met);
+        let draft = Draft::of_sections(self.alloc, sections, self.met);
         if draft.apps.is_empty() {
             return Err(fault(FaultKind::NoDistributed, end));
         }
@@ -96,16 +91,12 @@ impl<'a> Pair<'a> for Param<'a> {
     }
 
     #[tactic(auto, unfolding(crate::specs::Shape::param_rest_at))]
-    fn rest(
-        parser: &mut Parser<'a>,
-        alloc: Global,
-        name: Option<ParamName>,
-    ) -> Result<Param<'a>, ConfigFault> {
+    fn rest(parser: &mut Parser<'a>, name: Option<ParamName>) -> Result<Param<'a>, ConfigFault> {
         let Some(name) = name else {
             parser.pass()?;
             return Ok(Param::Other);
         };
-        let param = parser.param_value(alloc, name)?;
+        let param = parser.param_value(name)?;
         parser.closed(param)
     }
 }
@@ -123,15 +114,11 @@ impl<'a> Elements<'a> for Sections {
     ghost read_at = { section_at };
 
     #[tactic(auto, unfolding(crate::specs::Shape::section_at))]
-    fn read(
-        parser: &mut Parser<'a>,
-        alloc: Global,
-        before: &[Section<'a>],
-    ) -> Result<Section<'a>, ConfigFault> {
+    fn read(parser: &mut Parser<'a>, before: &[Section<'a>]) -> Result<Section<'a>, ConfigFault> {
         if parser.is_text() {
             return Err(parser.fault(FaultKind::Unsupported));
         }
-        parser.pair(alloc, before)
+        Pairs::read(parser, before)
     }
 }
 
@@ -163,16 +150,12 @@ impl<'a> Pair<'a> for Section<'a> {
     }
 
     #[tactic(auto, unfolding(crate::specs::Shape::kernel_at, crate::specs::Shape::section_rest_at))]
-    fn rest(
-        parser: &mut Parser<'a>,
-        alloc: Global,
-        kernel: bool,
-    ) -> Result<Section<'a>, ConfigFault> {
+    fn rest(parser: &mut Parser<'a>, kernel: bool) -> Result<Section<'a>, ConfigFault> {
         if !kernel {
             parser.pass()?;
             return Ok(Section::Other);
         }
-        let params = parser.list::<Pairs<Param<'a>>>(alloc)?;
+        let params = parser.list::<Pairs<Param<'a>>>()?;
         parser.closed(Section::Kernel(params))
     }
 }

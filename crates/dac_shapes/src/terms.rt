@@ -4,7 +4,7 @@ ghost use Rattle.std.specs.Prelude.{◌≡◌, ℕ, ◌<◌, ◌≤◌, IfOk, fa
 ghost use Rattle.dac_tokens.specs.Words.{located_of, word_of, is_end};
 ghost use Rattle.dac_tokens.specs.Gives.{Gives};
 ghost use Rattle.dac_shapes.specs.Shape.{IsEnough, closing_of, texts_at, terms_in, term_at, passed_at};
-ghost use Rattle.dac_shapes.specs.Views.{here, parser_state, tokens_left};
+ghost use Rattle.dac_shapes.specs.Views.{here, from_here, parser_state, tokens_left};
 
 use crate::parser::Parser;
 use dac_tokens::{ConfigFault, FaultKind, Symbol, Token};
@@ -60,7 +60,7 @@ impl Parser<'_> {
     /// Reads the token behind a term, which begins with the token.
     #[cycle(terms)]
     fn behind_term(&mut self) -> Result<(), ConfigFault>
-        ensures read { (n : ℕ) → IsEnough (located_of self.old.token) (parser_state self.old) n → Gives (λ _. here self.new) result (term_at n (located_of self.old.token) (parser_state self.old)) }
+        ensures read { (n : ℕ) → IsEnough (located_of self.old.token) (parser_state self.old) n → Gives (λ _. here self.new) result (from_here (term_at n) self.old) }
         ensures left { tokens_left self.new ≤ tokens_left self.old }
         ensures fewer { IfOk result (λ _. is_end (word_of self.new.token.token) ≡ false → tokens_left self.new < tokens_left self.old) }
     {
