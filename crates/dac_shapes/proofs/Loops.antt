@@ -1,5 +1,5 @@
 -- What loops read: faults that are passed on, elements parted by commas, terms that are passed over, names by their bytes.
-use Rattle.std.proofs.Common.{◌≡◌, ℕ, Result, Ok, Err, sym, ap, ◌∙◌, zero, suc, ◌<◌, ◌≤◌, Bool, true, false, cond, List, [], ◌∷◌, ◌++◌, length, refl, arith, subst, ◌||◌, map, bytes_eq, IsErrAnd, IfErr}
+use Rattle.std.proofs.Common.{◌≡◌, ℕ, Result, Ok, Err, sym, ap, ◌∙◌, zero, suc, ◌<◌, ◌≤◌, Bool, true, false, cond, List, [], ◌∷◌, ◌++◌, length, refl, arith, ◌||◌, map, bytes_eq, IsErrAnd, IfErr}
 use Rattle.std.specs.List.{list_any}
 use Rattle.std.proofs.lemmas.List.{length-map}
 use Rattle.dac_tokens.specs.declared.fault.FaultKind.{FaultKind}
@@ -125,50 +125,40 @@ abbrev texts_from : ℕ → Located × State → Result (Located × State) Confi
 texts_from n t = cond (is_text t.0.word) (texts_at n t.1) (Ok t)
 
 -- what is passed over on from here is what is passed over in all
-pub record GoesTexts (total : Result (Located × State) ConfigFault) (t : Located) (s : State) : Type 0 where
+pub record GoesTexts (total : Result (Located × State) ConfigFault) (s : State) : Type 0 where
   pub n : ℕ
-  pub enough : is_end t.word ≡ false → length s.left.tokens < n
-  pub same : texts_from n (t, s) ≡ total
+  pub enough : length s.left.tokens < n
+  pub same : texts_at n s ≡ total
 
-pub texts_fail : (e : ConfigFault) (n : ℕ) (s : State) → length s.left.tokens < n → Fails e (token s) → Fails e (texts_at n s)
-unfolding texts_at
-texts_fail e zero s lt h = absurd (omega arith)
-texts_fail e (suc n) s lt h = fails_then e (token s) (texts_from n) (texts_at (suc n) s) refl h
-
-pub texts_begin : (n : ℕ) (s : State) (t : Located) (u : State) → length s.left.tokens < n → token s ≡ Ok (t, u) → (is_end t.word ≡ false → length u.left.tokens < length s.left.tokens) → GoesTexts (texts_at n s) t u
-unfolding texts_at
-texts_begin zero s t u lt e fewer = absurd (omega arith)
-texts_begin (suc n) s t u lt e fewer = record {
-  n = n;
-  enough = λ no_end. (let less = fewer no_end in omega arith);
-  same = then_is (token s) (texts_from n) (t, u) (texts_at (suc n) s) refl e;
-}
-
-text_no_end : (w : Word) → is_text w ≡ true → is_end w ≡ false
+pub text_no_end : (w : Word) → is_text w ≡ true → is_end w ≡ false
 text_no_end End e = absurd cc
 text_no_end _ e = refl
 
--- behind a string less is left to pass over
-pub texts_less : (w next : Word) (left rest : ℕ) → is_text w ≡ true → (is_end next ≡ false → rest < left) → cond (is_end next) 0 (suc rest) < cond (is_end w) 0 (suc left)
-texts_less w next left rest is fewer = rw (text_no_end w is) (by (is_end next) fewer)
-  where
-    by : (b : Bool) → (b ≡ false → rest < left) → cond b 0 (suc rest) < suc left
-    by true fewer = omega arith
-    by false fewer = (let less = fewer refl in omega arith)
+-- one step, with the room that is left after it
+text_step : (total : Result (Located × State) ConfigFault) (n : ℕ) (s : State) → length s.left.tokens < n → texts_at n s ≡ total → (m : ℕ) × (length s.left.tokens ≤ m) × ((token s >>= texts_from m) ≡ total)
+unfolding texts_at
+text_step total zero s lt same = absurd (omega arith)
+text_step total (suc n) s lt same = (n, omega arith, same)
 
--- another token than a string is what stands behind the strings
-pub texts_end : {total : Result (Located × State) ConfigFault} {t : Located} {s : State} → GoesTexts total t s → is_text t.word ≡ false → total ≡ Ok (t, s)
-texts_end g is = sym (when_false _ _ _ _ g.same is)
+module _ {total : Result (Located × State) ConfigFault} {s : State} (g : GoesTexts total s) where
+  text : (n : ℕ) × (length s.left.tokens ≤ n) × ((token s >>= texts_from n) ≡ total)
+  text = text_step total g.n s g.enough g.same
 
-module _ {total : Result (Located × State) ConfigFault} {t : Located} {s : State} (g : GoesTexts total t s) (is : is_text t.word ≡ true) where
-  on_text : texts_at g.n s ≡ total
-  on_text = when_true _ _ _ _ g.same is
+  pub texts_fail : (e : ConfigFault) → Fails e (token s) → Fails e total
+  texts_fail e h = fails_then e (token s) (texts_from text.0) total text.2 h
 
-  pub texts_fail_more : (e : ConfigFault) → Fails e (token s) → Fails e total
-  texts_fail_more e h = subst (Fails e) on_text (texts_fail e g.n s (g.enough (text_no_end t.word is)) h)
+  module _ {t : Located} {u : State} (e : token s ≡ Ok (t, u)) where
+    begun : texts_from text.0 (t, u) ≡ total
+    begun = then_is (token s) (texts_from text.0) (t, u) total text.2 e
 
-  pub texts_go : {next : Located} {u : State} → token s ≡ Ok (next, u) → (is_end next.word ≡ false → length u.left.tokens < length s.left.tokens) → GoesTexts total next u
-  texts_go {next} {u} e fewer = subst (λ r. GoesTexts r next u) on_text (texts_begin g.n s next u (g.enough (text_no_end t.word is)) e fewer)
+    -- another token than a string is what stands behind the strings
+    pub texts_end : is_text t.word ≡ false → total ≡ Ok (t, u)
+    texts_end is = sym (when_false _ _ _ _ begun is)
+
+    pub texts_go : is_text t.word ≡ true → length u.left.tokens < length s.left.tokens → GoesTexts total u
+    texts_go is less =
+        let room = text.1 in
+        record { n = text.0; enough = omega (arith, room, less); same = when_true _ _ _ _ begun is }
 
 -- ---- terms between brackets
 

@@ -27,11 +27,12 @@ impl Parser<'_> {
         ensures left { tokens_left self.new ≤ tokens_left self.old }
         ensures fewer { IfOk result (λ _. is_end (word_of self.new.token.token) ≡ false → tokens_left self.new < tokens_left self.old) }
     {
-        self.advance()?;
-        while self.is_text() {
+        loop {
             self.advance()?;
+            if !self.is_text() {
+                return Ok(());
+            }
         }
-        Ok(())
     }
 
     /// Reads the token behind the closing symbol, up to which terms parted by commas, or nothing, stand.
