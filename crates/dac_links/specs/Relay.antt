@@ -1,0 +1,25 @@
+-- What was put is what was taken and then what the link holds. One pass at most may put, and it has the list of what was
+-- put. The same for taking.
+use Rattle.std.specs.Prelude.{◌≡◌, ℕ, Bool, true, List, Option, ◌++◌}
+use mathlib.Core.Option.{some}
+use lib.ListN.{get_elem?}
+use Rattle.dac_links.specs.declared.rule.Log.{Log}
+
+-- a letter: its bytes, if there are any
+abbrev pub Paper : Type 0
+Paper = Option (List ℕ)
+
+abbrev pub log : Bool → Bool → List Paper → List Paper → Log
+log a b put taken = record { puts = a; takes = b; put = put; taken = taken }
+
+abbrev pub Fits : ℕ → ℕ → List Paper → List Paper → ℕ → Log → Type 0
+Fits writer reader put taken port v = (v.puts ≡ true → (port ≡ writer) × (v.put ≡ put)) × (v.takes ≡ true → (port ≡ reader) × (v.taken ≡ taken))
+
+abbrev pub Relayed : List Paper → List Log → Type 0
+Relayed items views =
+    (writer : ℕ) × (reader : ℕ) × (put : List Paper) × (taken : List Paper) × (put ≡ taken ++ items)
+    × ((port : ℕ) (v : Log) → get_elem? views port ≡ some v → Fits writer reader put taken port v)
+
+-- the one list begins with the other
+abbrev pub StartsWith : List Paper → List Paper → Type 0
+StartsWith all first = (rest : List Paper) × (all ≡ first ++ rest)

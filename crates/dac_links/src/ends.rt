@@ -1,0 +1,99 @@
+//! The two ends of a link.
+
+ghost use Rattle.std.specs.Prelude.{◌≡◌, ◌<◌, true, [], ◌∷◌, ◌++◌, IfOk, MatchResult};
+ghost use Rattle.crossbeam_channel.specs.Claims.{view, IsSeatAt};
+ghost use Rattle.crossbeam_channel.specs.Ends.{sends_on, receives_on};
+ghost use Rattle.dac_links.specs.Relay.{StartsWith};
+
+use crate::letter::Letter;
+use crate::rule::{InOrder, Log, Put, Roles, Took, Whole};
+use crossbeam_channel::{Pass, RuledReceiver, RuledSender, bounded_with};
+use std::alloc::{AllocError, Global};
+use std::sync::Wait;
+
+/// The other end of the link is gone.
+#[derive(Clone, Copy, Debug, PartialEq, Eq)]
+pub struct Gone;
+
+/// The end that letters are put in.
+#[derive(Drop)]
+pub struct LinkSender {
+    pub end: RuledSender<Letter, Log, InOrder>,
+    pub pass: Pass<Letter, Log>,
+    ghost seated: { IsSeatAt (sends_on end) pass },
+    ghost may: { (view pass).puts ≡ true },
+}
+
+/// The end that letters are taken from.
+#[derive(Drop)]
+pub struct LinkReceiver {
+    pub end: RuledReceiver<Letter, Log, InOrder>,
+    pub pass: Pass<Letter, Log>,
+    ghost seated: { IsSeatAt (receives_on end) pass },
+    ghost may: { (view pass).takes ≡ true },
+}
+
+/// A link that holds so many letters, and its two ends. Nothing was put and nothing was taken.
+pub fn link(alloc: Global, room: usize) -> Result<(LinkSender, LinkReceiver), AllocError>
+    requires { 0 < room }
+    ensures one { IfOk result (λ r. receives_on r.1.end ≡ sends_on r.0.end) }
+    ensures empty { IfOk result (λ r. ((view r.0.pass).put ≡ []) × ((view r.1.pass).taken ≡ [])) }
+{
+    let (sender, receiver, mut pass) = bounded_with::<Letter, Log, InOrder, Global>(alloc, room)?;
+    let other = sender.another::<Roles>(&mut pass);
+    let sender = LinkSender { end: sender, pass };
+    let receiver = LinkReceiver {
+        end: receiver,
+        pass: other,
+    };
+    Ok((sender, receiver))
+}
+
+impl LinkSender {
+    /// Puts a letter behind all that were put. At `Err` nothing was put.
+    pub fn put<R: Wait>(&mut self, rt: &R, letter: Letter) -> Result<(), Gone>
+        ensures link { sends_on self.new.end ≡ sends_on self.old.end }
+        ensures put { MatchResult result (λ _. (view self.new.pass).put ≡ (view self.old.pass).put ++ letter ∷ []) (λ _. (view self.new.pass).put ≡ (view self.old.pass).put) }
+    {
+        let LinkSender { end, pass } = self;
+        match end.send_as::<Put, R>(rt, pass, letter) {
+            Ok(()) => Ok(()),
+            Err(_) => Err(Gone),
+        }
+    }
+
+    /// Shows that what was taken is a beginning of what was put. Both ends are as before.
+    pub fn compare(&mut self, receiver: LinkReceiver) -> LinkReceiver
+        requires { receives_on receiver.end ≡ sends_on self.old.end }
+        ensures link { (sends_on self.new.end ≡ sends_on self.old.end) × (receives_on result.end ≡ receives_on receiver.end) }
+        ensures same { ((view self.new.pass).put ≡ (view self.old.pass).put) × ((view result.pass).taken ≡ (view receiver.pass).taken) }
+        ensures beginning { StartsWith (view self.old.pass).put (view receiver.pass).taken }
+    {
+        let LinkSender { end, pass } = self;
+        let LinkReceiver {
+            end: from,
+            pass: other,
+        } = receiver;
+        end.absorb::<Roles>(pass, other);
+        end.learn_as::<Whole>(pass);
+        let other = end.another::<Roles>(pass);
+        LinkReceiver {
+            end: from,
+            pass: other,
+        }
+    }
+}
+
+impl LinkReceiver {
+    /// Takes the letter that was put next, and waits for it. At `Err` nothing was taken.
+    pub fn take<R: Wait>(&mut self, rt: &R) -> Result<Letter, Gone>
+        ensures link { receives_on self.new.end ≡ receives_on self.old.end }
+        ensures taken { MatchResult result (λ x. (view self.new.pass).taken ≡ (view self.old.pass).taken ++ x ∷ []) (λ _. (view self.new.pass).taken ≡ (view self.old.pass).taken) }
+    {
+        let LinkReceiver { end, pass } = self;
+        match end.recv_as::<Took, R>(rt, pass) {
+            Ok(letter) => Ok(letter),
+            Err(_) => Err(Gone),
+        }
+    }
+}
