@@ -1,3 +1,14 @@
+pub mod Going
 pub mod Journals
 pub mod Limits
+pub use Rattle.dac_node.specs.Changes
+pub use Rattle.dac_worlds.specs.Converges
+pub use Rattle.dac_worlds.specs.EveryList
+pub use Rattle.dac_worlds.specs.Histories
+pub use Rattle.dac_worlds.specs.ModelNode
+pub use Rattle.dac_worlds.specs.ModelWorld
+pub use Rattle.dac_worlds.specs.NodeValue
+pub use Rattle.dac_worlds.specs.Records
+pub use Rattle.dac_worlds.specs.Step
+pub use Rattle.dac_worlds.specs.declared.fault.WorldFault
 pub mod laws

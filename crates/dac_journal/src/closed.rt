@@ -44,6 +44,13 @@ impl Model for Closed {
 impl Closed {
     ghost use Rattle.dac_journal.specs.Journals.{AreHistory};
 
+    /// The configuration.
+    pub fn config(&self) -> &Config
+        ensures { result.now ≡ self.now.opening.table }
+    {
+        &self.config
+    }
+
     /// The node.
     pub fn node(&self) -> NodeId
         ensures { result ≡ self.now.opening.node }

@@ -4,10 +4,12 @@ ghost use Rattle.std.specs.Prelude.{◌≡◌, ◌≢◌, ◌≤◌, ◌<◌, �
 ghost use Rattle.dac_worlds.specs.Step.{Steps};
 ghost use Rattle.dac_journal.specs.declared.limits.TheConstants.{MAX_RECORDS as MOST};
 ghost use Rattle.dac_node.specs.Changes.{changed, Fits};
-ghost use Rattle.dac_journal.specs.Journals.{call_of, record_of, opening_of};
+ghost use Rattle.dac_journal.specs.Journals.{call_of, record_of, opening_of, EndsAt};
+ghost use Rattle.dac_journal.specs.Going.{GoesTo};
 
 use crate::closed::Closed;
 use crate::limits::MAX_RECORDS;
+use crate::next::Next;
 use crate::record::{Answer, Call, Record};
 use dac_base::{NoMemory, NodeId};
 use dac_commands::Refusal;
@@ -110,6 +112,20 @@ impl Journal {
         }
     }
 
+    /// The configuration.
+    pub fn config(&self) -> &Config
+        ensures { result.now ≡ self.now.opening.table }
+    {
+        &self.config
+    }
+
+    /// The node, which stands for where the history ends.
+    pub fn node(&self) -> &Node
+        ensures { EndsAt self.now.opening self.now.records result.now }
+    {
+        &self.node
+    }
+
     /// Asks the node for this seat, and adds the record of it. It gives what the seat keeps of it, and the answer.
     /// [`NoMemory`] is the only error, and leaves all as it was.
     pub fn ask(&mut self, seat: u16, event: Event) -> Result<(Call, Answer), NoMemory>
@@ -121,43 +137,75 @@ impl Journal {
         ensures history { IfOk result (λ _. AreHistory self.new.opening self.new.records) }
         ensures unchanged { OnErr result (self.new ≡ self.old) }
     {
-        let place = self.records.len() as u64 + 1;
-        let kept = event.copy()?;
-        let (answer, other) = self.recorded(seat, event)?;
-        let call = Call {
-            place,
-            event: kept,
-            answer,
-        };
-        Ok((call, other))
+        let next = self.prepare(seat, event)?;
+        self.commit(next)
     }
 
-    // Asks the node, and adds the record of it. It gives the answer twice.
-    fn recorded(&mut self, seat: u16, event: Event) -> Result<(Answer, Answer), NoMemory>
-        requires { length self.old.records < MOST }
+    /// What asking the node for this seat would do. Nothing changes yet. [`NoMemory`] is the only error.
+    pub fn prepare(&self, seat: u16, event: Event) -> Result<Next, NoMemory>
+        requires { length self.now.records < MOST }
+        ensures goes { IfOk result (GoesTo self.now seat event) }
+        ensures answered { IfOk result (λ next. IfErr next.entry.answer (λ why. why ≢ Refusal.NoMemory)) }
+    {
+        let place = self.records.len() as u64 + 1;
+        let kept = event.copy()?;
+        let (node, answer, second, third) = stepped(&self.config, self.me, &self.node, &event)?;
+        Ok(Next {
+            entry: Record {
+                seat,
+                event,
+                answer,
+            },
+            call: Call {
+                place,
+                event: kept,
+                answer: second,
+            },
+            answer: third,
+            node,
+        })
+    }
+
+    /// Goes on to what was prepared of this journal, which has been as it is since then. It gives what the seat keeps, and
+    /// the answer. [`NoMemory`] is the only error, and leaves all as it was.
+    pub fn commit(&mut self, next: Next) -> Result<(Call, Answer), NoMemory>
+        requires room { length self.old.records < MOST }
+        requires follows { EndsAt self.old.opening (self.old.records ++ next.entry ∷ []) next.node }
         ensures opening { self.new.opening ≡ self.old.opening }
-        ensures ok { IfOk result (λ a. self.new.records ≡ self.old.records ++ record_of seat event a.1 ∷ []) }
-        ensures same { IfOk result (λ a. a.0 ≡ a.1) }
-        ensures answered { IfOk result (λ a. IfErr a.1 (λ why. why ≢ Refusal.NoMemory)) }
+        ensures ok { IfOk result (λ _. self.new.records ≡ self.old.records ++ next.entry ∷ []) }
+        ensures said { IfOk result (λ r. (r.0 ≡ next.call) × (r.1 ≡ next.entry.answer)) }
         ensures history { IfOk result (λ _. AreHistory self.new.opening self.new.records) }
         ensures unchanged { OnErr result (self.new ≡ self.old) }
     {
         let Journal {
-            config,
-            me,
+            config: _,
+            me: _,
             last: _,
             records,
             node,
         } = self;
         records.reserve(1)?;
-        let (answer, second, third) = asked(config, *me, node, &event)?;
-        records.push_reserved(Record {
-            seat,
-            event,
-            answer,
-        });
-        Ok((second, third))
+        let (entry, call, answer, after) = next.into_parts();
+        records.push_reserved(entry);
+        *node = after;
+        Ok((call, answer))
     }
+}
+
+// The node after its answer, and the answer, three times. The node that is lent stays as it is.
+fn stepped(
+    config: &Config,
+    me: NodeId,
+    node: &Node,
+    event: &Event,
+) -> Result<(Node, Answer, Answer, Answer), NoMemory>
+    ensures steps { IfOk result (λ r. Steps config.now me node.now event.now r.0 r.1) }
+    ensures same { IfOk result (λ r. (r.2 ≡ r.1) × (r.3 ≡ r.1)) }
+    ensures answered { IfOk result (λ r. IfErr r.1 (λ why. why ≢ Refusal.NoMemory)) }
+{
+    let mut after = node.copy()?;
+    let (answer, second, third) = asked(config, me, &mut after, event)?;
+    Ok((after, answer, second, third))
 }
 
 // The answer of the node, three times. At `Err` it is as before.

@@ -4,11 +4,15 @@
 #![tactic(auto)]
 
 pub use closed::Closed;
+pub use dac_node::Node;
+pub use dac_worlds::laws::every_list_converges;
 pub use journal::Journal;
 pub use limits::MAX_RECORDS;
+pub use next::Next;
 pub use record::{Answer, Call, Record};
 
 mod closed;
 mod journal;
 mod limits;
+mod next;
 mod record;
