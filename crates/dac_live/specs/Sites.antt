@@ -9,4 +9,4 @@ pub record IsBlankOf (b : SiteBlank) (name parts seats : ℕ) (opening : Opening
   pub named : b.blank.name ≡ name
   pub parted : b.blank.parts ≡ parts
   pub seated : seats ≡ parts
-  pub begins : b.journal.opening ≡ opening
+  pub begins : b.desk.journal.opening ≡ opening

@@ -1,3 +1,4 @@
 pub mod Apart
 pub mod Calls
+pub mod Pages
 pub mod Seats

@@ -1,12 +1,14 @@
 //! Names of sites, and sites that have none yet.
 
-ghost use Rattle.std.specs.Prelude.{◌≡◌, ◌↔◌, ◌<◌, [], length, Err, IfOk};
+ghost use Rattle.std.specs.Prelude.{◌≡◌, ◌<◌, [], length, vec_len, IfOk};
 ghost use Rattle.dac_journal.specs.Journals.{opening_of};
 
+use crate::desk::Desk;
 use crate::faults::OpenFault;
 use dac_base::NodeId;
 use dac_config::Config;
 use dac_journal::Journal;
+use dac_pages::RawReader;
 use std::alloc::Global;
 use std::marker::Brand;
 use std::sync::Wait;
@@ -32,27 +34,65 @@ impl SiteName for Brand {
     ghost opening = { nowhere };
 }
 
-/// A site that has no name yet: its journal is empty.
-#[derive(Drop)]
+/// A site that has no name yet: its journal is empty. It isn't `Drop`: open it by [`open_site`](crate::open_site), or end
+/// it by [`SiteBlank::give_up`].
 pub struct SiteBlank {
     /// What the ledger of its name is opened from, with a part for each seat.
     pub blank: Blank,
-    /// The journal, with the node.
-    pub journal: Journal,
+    /// The journal, with the node and its pages.
+    pub desk: Desk,
     /// How many seats it is for.
     pub seats: u16,
+    pub(crate) readers: Vec<RawReader>,
     pub(crate) alloc: Global,
     pub ghost parts: { blank.parts ≡ seats },
     pub ghost some: { 0 < seats },
-    ghost empty: { length journal.records ≡ 0 },
+    ghost empty: { length desk.journal.records ≡ 0 },
 }
 
-/// A node that is off after so many incarnations, with an empty journal, for so many seats: one at least.
+impl SiteBlank {
+    /// The journal with its pages alone, where no site is to be opened.
+    pub fn into_desk(self) -> Desk
+        ensures { result ≡ self.desk }
+    {
+        let SiteBlank {
+            blank: _,
+            desk,
+            seats: _,
+            readers: _,
+            alloc: _,
+        } = self;
+        desk
+    }
+
+    /// Ends it, where no site is to be opened.
+    pub fn give_up<R: Wait>(self, rt: &R) {
+        self.into_desk().end(rt);
+    }
+}
+
+/// Readers of these pages, as many.
+fn readers_of(alloc: Global, desk: &Desk, count: u16) -> Result<Vec<RawReader>, OpenFault>
+    ensures { IfOk result (λ all. vec_len all ≡ count) }
+{
+    let mut all = Vec::new(alloc);
+    for _number in 0..count {
+        let Some(reader) = desk.reader() else {
+            return Err(OpenFault::NoReader);
+        };
+        if all.push(reader).is_err() {
+            return Err(OpenFault::NoMemory);
+        }
+    }
+    Ok(all)
+}
+
+/// A node that is off after so many incarnations, with an empty journal, for so many seats: one at least. So many readers
+/// have places in its pages.
 ///
-/// There are no pages yet, and so no places for readers: a site that is to have some is refused as `NoReader`.
-/// `NoMemory` comes after that.
+/// `NoReader` comes where the page structure refuses a reader's place.
 pub fn blank_site<R: Wait>(
-    _rt: &R,
+    rt: &R,
     alloc: Global,
     config: &Config,
     me: NodeId,
@@ -61,19 +101,28 @@ pub fn blank_site<R: Wait>(
     readers: u16,
 ) -> Result<SiteBlank, OpenFault>
     requires { 0 < seats }
-    ensures ok { IfOk result (λ b. (b.seats ≡ seats) × (b.journal ≡ record { opening = opening_of config.now me last; records = [] })) }
-    ensures no_reader { (0 < readers) ↔ (result ≡ Err OpenFault.NoReader) }
+    ensures ok { IfOk result (λ b. (b.seats ≡ seats) × (b.desk.journal ≡ record { opening = opening_of config.now me last; records = [] })) }
+    ensures readers { IfOk result (λ b. vec_len b.readers ≡ readers) }
 {
-    if readers > 0 {
-        return Err(OpenFault::NoReader);
-    }
     let Ok(config) = config.copy() else {
         return Err(OpenFault::NoMemory);
     };
-    Ok(SiteBlank {
-        blank: Blank::new(u64::from(seats)),
-        journal: Journal::new(alloc, config, me, last),
-        seats,
-        alloc,
-    })
+    // With no readers one place is made all the same.
+    let places = usize::from(readers.max(1));
+    let Ok(desk) = Desk::open(alloc, Journal::new(alloc, config, me, last), places) else {
+        return Err(OpenFault::NoMemory);
+    };
+    match readers_of(alloc, &desk, readers) {
+        Ok(readers) => Ok(SiteBlank {
+            blank: Blank::new(u64::from(seats)),
+            desk,
+            seats,
+            readers,
+            alloc,
+        }),
+        Err(fault) => {
+            desk.end(rt);
+            Err(fault)
+        }
+    }
 }

@@ -6,7 +6,7 @@ use thiserror::Error;
 /// Why a site is not opened.
 #[derive(Clone, Copy, Debug, PartialEq, Eq, Error)]
 pub enum OpenFault {
-    /// There is no place for a reader. A site has none as yet.
+    /// The page structure refused a reader's place.
     #[error("no place for a reader")]
     NoReader,
     /// Memory was refused.

@@ -1,47 +1,49 @@
 //! What a call of a site and its end do to a journal, said without the lock.
 //!
-//! No call of a site goes through [`add_record`]. What a site calls under its lock is `Locked::call`, whose clause `full`
-//! promises that `JournalFull` comes exactly of a full journal. [`add_record`] is the same call of a journal without a
-//! lock and without a seat's list. [`same_calls`] is what [`Site::close`](crate::Site::close) compares each seat by.
+//! [`add_record`] is what a call of a site runs under its lock. [`same_calls`] is what [`Site::close`](crate::Site::close)
+//! compares each seat by.
 
-ghost use Rattle.std.specs.Prelude.{◌≡◌, ◌↔◌, length, IfOk, IfErr, Ok, Err, MatchOption};
+ghost use Rattle.std.specs.Prelude.{◌≡◌, ◌≢◌, ◌↔◌, ◌⊎◌, ◌+◌, ◌++◌, ◌∷◌, [], length, IfOk, IfErr, OnErr, Err, MatchOption};
 ghost use Rattle.dac_journal.specs.declared.limits.TheConstants.{MAX_RECORDS};
-ghost use Rattle.dac_journal.specs.Journals.{calls_of, DifferAt};
-ghost use Rattle.dac_live.specs.Told.{Added, AddedRefused};
+ghost use Rattle.dac_journal.specs.Journals.{AreHistory, call_of, calls_of, record_of, DifferAt};
+ghost use Rattle.dac_live.specs.Paged.{page_after};
 
+use crate::desk::Desk;
 use crate::faults::LiveFault;
 use crate::same::is_record;
-use dac_journal::{Call, Journal, Record};
-use dac_messages::{Event, Reply};
+use dac_commands::Refusal;
+use dac_journal::{Answer, Call, Record};
+use dac_messages::Event;
 use std::sync::Wait;
 
-/// Asks the node of a journal for this seat and adds the record, if any. It answers what a call of a site answers: the
-/// place of the record, from 1, and the reply.
+/// Asks the node of a journal for this seat, adds the record, and publishes the page after it. It gives what the seat keeps
+/// of it, the place from 1 among that, and the node's answer.
 ///
-/// `JournalFull` comes exactly where the journal has [`MAX_RECORDS`](dac_journal::MAX_RECORDS) records; a refusal of the node
-/// is a record too. `NoMemory` comes after the one and before the other. At `JournalFull` and `NoMemory` nothing changes.
+/// `JournalFull` comes exactly where the journal has [`MAX_RECORDS`](dac_journal::MAX_RECORDS) records. A refusal of the node
+/// is no error here: it is a record too. `NoMemory` comes after the one and before the other. At both nothing changes.
+/// Readers take the number of records, the incarnation, and the summary of the state that it leaves, or of the one that
+/// knows nothing where the node is off.
 pub fn add_record<R: Wait>(
-    _rt: &R,
-    journal: &mut Journal,
+    rt: &R,
+    desk: &mut Desk,
     seat: u16,
     event: Event,
-) -> Result<(u64, Reply), LiveFault>
-    ensures opening { journal.new.opening ≡ journal.old.opening }
-    ensures ok { IfOk result (λ r. Added journal.old.records journal.new.records seat event r.0 (Ok r.1)) }
-    ensures err { IfErr result (λ e. AddedRefused e journal.old.records journal.new.records seat event) }
-    ensures full { (length journal.old.records ≡ MAX_RECORDS) ↔ (result ≡ Err LiveFault.JournalFull) }
+) -> Result<(Call, Answer), LiveFault>
+    ensures opening { desk.new.journal.opening ≡ desk.old.journal.opening }
+    ensures ok { IfOk result (λ r. desk.new.journal.records ≡ desk.old.journal.records ++ record_of seat event r.1 ∷ []) }
+    ensures call { IfOk result (λ r. r.0 ≡ call_of (length desk.old.journal.records + 1) event r.1) }
+    ensures answered { IfOk result (λ r. IfErr r.1 (λ why. why ≢ Refusal.NoMemory)) }
+    ensures history { IfOk result (λ _. AreHistory desk.new.journal.opening desk.new.journal.records) }
+    ensures full { (length desk.old.journal.records ≡ MAX_RECORDS) ↔ (result ≡ Err LiveFault.JournalFull) }
+    ensures page { desk.new.page ≡ page_after desk.new.journal.opening desk.new.journal.records }
+    ensures unchanged { OnErr result (desk.new ≡ desk.old) }
+    ensures recorded { IfErr result (λ fault. (fault ≡ LiveFault.JournalFull) ⊎ (fault ≡ LiveFault.NoMemory)) }
 {
-    if journal.is_full() {
+    if desk.journal().is_full() {
         return Err(LiveFault::JournalFull);
     }
-    match journal.ask(seat, event) {
-        Ok((call, answer)) => match answer {
-            Ok(reply) => Ok((call.place, reply)),
-            Err(why) => Err(LiveFault::Refused {
-                place: call.place,
-                why,
-            }),
-        },
+    match desk.ask(rt, seat, event) {
+        Ok(recorded) => Ok(recorded),
         Err(_) => Err(LiveFault::NoMemory),
     }
 }

@@ -1,7 +1,8 @@
 //! Sites: one controller, which any thread that has a seat may call.
 //!
 //! A [`Site`] is a node under a lock, with a journal of all that it answered. [`blank_site`] makes one without a name,
-//! and [`open_site`] opens it under its name, with a [`Seat`] for each caller. [`Site::call`] asks the node for a seat,
+//! and [`open_site`] opens it under its name, with a [`Seat`] for each caller. Each record is followed by a page, which a
+//! [`PageReader`] reads beside the lock. [`Site::call`] asks the node for a seat,
 //! which keeps the place, the event and the answer. [`Site::close`] takes all seats back and gives the journal.
 //!
 //! The lock hides the journal while the site is open. So a call promises its answer after some history of the node,
@@ -12,13 +13,20 @@
 
 pub use blank::{SiteBlank, SiteName, blank_site};
 pub use dac_journal::{Answer, Call, Closed, Journal, MAX_RECORDS, Record};
+pub use dac_pages::Page;
+pub use desk::Desk;
 pub use faults::{CloseFault, LiveFault, OpenFault};
+pub use reader::PageReader;
+pub use replaying::replay;
 pub use seat::Seat;
 pub use site::{Receipt, Site, open_site};
 
 mod blank;
+mod desk;
 mod faults;
 pub mod laws;
+mod reader;
+mod replaying;
 mod same;
 mod seat;
 mod site;

@@ -1,34 +1,37 @@
 //! A site: a journal under a lock, and the seats of its callers.
 
-ghost use Rattle.std.specs.Prelude.{◌≡◌, ◌≢◌, ◌↔◌, ◌+◌, ◌<◌, length, Ok, Err, IfOk, IfErr, MatchOption, All, sum_by, vec_len};
+ghost use Rattle.std.specs.Prelude.{◌≡◌, ◌≢◌, ◌↔◌, ◌+◌, ◌<◌, true, length, Ok, Err, IfOk, IfErr, MatchOption, All, sum_by, vec_len};
 ghost use Rattle.dac_journal.specs.declared.limits.TheConstants.{MAX_RECORDS};
 ghost use Rattle.dac_journal.specs.Journals.{calls_of};
 ghost use Rattle.dac_live.specs.Behind.{WentOn, NotTaken, SeatDiffers, StrangerFrom, NotClosed};
+ghost use Rattle.dac_live.specs.Paged.{page_after};
 ghost use Rattle.dac_live.specs.Told.{Added, AddedRefused, Told, ToldRefused};
 ghost use Rattle.dac_live.specs.Seats.{IsOneOf, new_seats};
 ghost use Rattle.dac_live.specs.Sites.{IsBlankOf};
 
 use crate::blank::{SiteBlank, SiteName};
+use crate::desk::Desk;
 use crate::faults::{CloseFault, LiveFault};
-use crate::laws::same_calls;
+use crate::laws::{add_record, same_calls};
+use crate::reader::PageReader;
 use crate::seat::Seat;
 use dac_base::NoMemory;
-use dac_journal::{Closed, Journal, Record};
+use dac_journal::{Closed, Record};
 use dac_messages::{Event, Reply};
+use dac_pages::RawReader;
 use std::alloc::Global;
 use std::marker::PhantomData;
 use std::sync::ledger::{Blank, Book, Share};
 use std::sync::{Mutex, MutexGuard, Wait};
 
-/// What lies under the lock: the journal, and the sum of the seats' shares.
-#[derive(Drop)]
+/// What lies under the lock: the journal with its pages, and the sum of the seats' shares. It isn't `Drop`.
 pub struct Locked<L: SiteName> {
-    journal: Journal,
+    desk: Desk,
     book: Book<L>,
     /// The journal has as many records as the seats have calls.
-    ghost counted: { length journal.records ≡ book.total },
+    ghost counted: { length desk.journal.records ≡ book.total },
     /// It begins where the site's name says.
-    ghost begins: { journal.opening ≡ L.opening },
+    ghost begins: { desk.journal.opening ≡ L.opening },
 }
 
 /// What a call was answered.
@@ -38,35 +41,44 @@ pub struct Receipt<L: SiteName> {
     pub place: u64,
     /// The node's reply.
     pub reply: Reply,
+    /// Whether no reader has learned it.
+    pub(crate) is_new: bool,
     of: PhantomData<L>,
 }
 
 impl<L: SiteName> Locked<L> {
-    /// A call of this seat. All that takes memory is made before anything changes.
-    fn call(&mut self, seat: &mut Seat<L>, event: Event) -> Result<Receipt<L>, LiveFault>
+    /// A call of this seat. All that takes memory is made before anything changes, and the page is published before it
+    /// answers.
+    fn call<R: Wait>(
+        &mut self,
+        rt: &R,
+        seat: &mut Seat<L>,
+        event: Event,
+    ) -> Result<Receipt<L>, LiveFault>
         ensures number { seat.new.number ≡ seat.old.number }
-        ensures ok { IfOk result (λ r. Told seat.old.calls seat.new.calls r.place event (Ok r.reply)) }
+        ensures ok { IfOk result (λ r. Told seat.old.calls seat.new.calls r.place event (Ok r.reply) × (r.is_new ≡ true)) }
         ensures err { IfErr result (λ e. ToldRefused e seat.old.calls seat.new.calls event) }
         // The journal gets the same: what the seat keeps of the call is the record.
-        ensures added { IfOk result (λ r. Added self.old.journal.records self.new.journal.records seat.old.number event r.place (Ok r.reply)) }
-        ensures refused { IfErr result (λ e. AddedRefused e self.old.journal.records self.new.journal.records seat.old.number event) }
-        ensures full { (length self.old.journal.records ≡ MAX_RECORDS) ↔ (result ≡ Err LiveFault.JournalFull) }
+        ensures added { IfOk result (λ r. Added self.old.desk.journal.records self.new.desk.journal.records seat.old.number event r.place (Ok r.reply)) }
+        ensures refused { IfErr result (λ e. AddedRefused e self.old.desk.journal.records self.new.desk.journal.records seat.old.number event) }
+        ensures full { (length self.old.desk.journal.records ≡ MAX_RECORDS) ↔ (result ≡ Err LiveFault.JournalFull) }
+        ensures page { self.new.desk.page ≡ page_after L.opening self.new.desk.journal.records }
         ensures taken { IfOk result (λ r. WentOn L.opening seat.old.number event r.place (Ok r.reply)) }
         ensures not_taken { IfErr result (λ e. NotTaken e L.opening seat.old.number event) }
     {
-        if self.journal.is_full() {
+        if self.desk.journal().is_full() {
             return Err(LiveFault::JournalFull);
         }
         if seat.calls.reserve(1).is_err() {
             return Err(LiveFault::NoMemory);
         }
-        let Locked { journal, book } = self;
+        let Locked { desk, book } = self;
         let Seat {
             number,
             calls,
             share,
         } = seat;
-        let Ok((call, answer)) = journal.ask(*number, event) else {
+        let Ok((call, answer)) = add_record(rt, desk, *number, event) else {
             return Err(LiveFault::NoMemory);
         };
         let place = call.place;
@@ -76,6 +88,7 @@ impl<L: SiteName> Locked<L> {
             Ok(reply) => Ok(Receipt {
                 place,
                 reply,
+                is_new: true,
                 of: PhantomData,
             }),
             Err(why) => Err(LiveFault::Refused { place, why }),
@@ -83,8 +96,8 @@ impl<L: SiteName> Locked<L> {
     }
 }
 
-/// A site: a node with its journal under one lock. Any thread that has a seat may call it.
-#[derive(Drop)]
+/// A site: a node with its journal under one lock, and its pages beside it. Any thread that has a seat may call it. It isn't
+/// `Drop`: end it by [`Site::close`].
 pub struct Site<L: SiteName> {
     locked: Mutex<Locked<L>>,
     seats: usize,
@@ -110,28 +123,50 @@ fn deal<L: SiteName>(
     Ok((book, seats))
 }
 
-/// The site under its name, with its seats: numbered from 1, without calls. It is called in a function over the name,
-/// whose caller sees to it that the name stands for this blank. [`NoMemory`] is the only error; the blank is given up then.
+/// Readers under the site's name.
+fn named<L: SiteName>(
+    alloc: Global,
+    mut readers: Vec<RawReader>,
+) -> Result<Vec<PageReader<L>>, NoMemory>
+    ensures { IfOk result (λ all. vec_len all ≡ vec_len readers) }
+{
+    let mut all = Vec::new(alloc);
+    while let Some(reader) = readers.pop() {
+        all.push(PageReader::over(reader))?;
+    }
+    Ok(all)
+}
+
+/// The site under its name, with its seats: numbered from 1, without calls. Its readers have seen nothing. It is called in a
+/// function over the name, whose caller sees to it that the name stands for this blank. [`NoMemory`] is the only error; the
+/// blank is given up then.
 pub fn open_site<L: SiteName, R: Wait>(
-    _rt: &R,
+    rt: &R,
     blank: SiteBlank,
-) -> Result<(Site<L>, Vec<Seat<L>>), NoMemory>
+) -> Result<(Site<L>, Vec<Seat<L>>, Vec<PageReader<L>>), NoMemory>
     requires { IsBlankOf blank L.name L.parts L.seats L.opening }
-    ensures { IfOk result (λ r. r.1.items ≡ new_seats blank.seats) }
+    ensures seats { IfOk result (λ r. r.1.items ≡ new_seats blank.seats) }
+    ensures readers { IfOk result (λ r. vec_len r.2 ≡ vec_len blank.readers) }
 {
     let SiteBlank {
         blank,
-        journal,
+        desk,
         seats,
+        readers,
         alloc,
     } = blank;
-    let (book, all) = deal::<L>(alloc, blank, seats)?;
-    let locked = Mutex::new(Locked { journal, book });
+    let dealt = deal::<L>(alloc, blank, seats);
+    let readers = named::<L>(alloc, readers);
+    let (Ok((book, all)), Ok(readers)) = (dealt, readers) else {
+        desk.end(rt);
+        return Err(NoMemory);
+    };
+    let locked = Mutex::new(Locked { desk, book });
     let site = Site {
         locked,
         seats: usize::from(seats),
     };
-    Ok((site, all))
+    Ok((site, all, readers))
 }
 
 // The place at which the calls of the first seat that doesn't match its records differ from them.
@@ -190,14 +225,14 @@ fn merged<L: SiteName>(mut seats: Vec<Seat<L>>, mut all: Share<L>) -> Share<L>
 
 impl<L: SiteName> Site<L> {
     /// Asks the node. The seat then has one call more: the place of its record, the event and the answer. A refusal of
-    /// the node is a record too.
+    /// the node is a record too. The page after the record is published before the call answers.
     ///
     /// `JournalFull` is for a journal with [`MAX_RECORDS`](dac_journal::MAX_RECORDS) records. `NoMemory` comes after it, but before
-    /// a refusal of the node, since that needs room for its record. At both the seat stays as it was. The lock hides the
-    /// journal, so the clauses speak of some history of the node from where the site began. One of each length exists, so
-    /// they leave open when `JournalFull` comes. That it comes exactly of a full journal is promised under the lock, by
-    /// the clause `full` of `Locked::call`. [`add_record`](crate::laws::add_record) is the same call of a journal without a
-    /// lock, and promises the same.
+    /// a refusal of the node, since that needs room for its record. At both the seat stays as it was.
+    ///
+    /// The lock hides the journal, so the clauses speak of some history of the node from where the site began. One of each
+    /// length exists, so they leave open when `JournalFull` comes. Under the lock the call runs
+    /// [`add_record`](crate::laws::add_record), whose clause `full` says that it comes exactly of a full journal.
     pub fn call<R: Wait>(
         &self,
         rt: &R,
@@ -205,14 +240,14 @@ impl<L: SiteName> Site<L> {
         event: Event,
     ) -> Result<Receipt<L>, LiveFault>
         ensures number { seat.new.number ≡ seat.old.number }
-        ensures ok { IfOk result (λ r. Told seat.old.calls seat.new.calls r.place event (Ok r.reply)) }
+        ensures ok { IfOk result (λ r. Told seat.old.calls seat.new.calls r.place event (Ok r.reply) × (r.is_new ≡ true)) }
         ensures err { IfErr result (λ e. ToldRefused e seat.old.calls seat.new.calls event) }
         // The answer is the model node's after some history of the site's node, and its record is the next one.
         ensures taken { IfOk result (λ r. WentOn L.opening seat.old.number event r.place (Ok r.reply)) }
         ensures not_taken { IfErr result (λ e. NotTaken e L.opening seat.old.number event) }
     {
         let mut guard = self.locked.lock(rt);
-        let answer = guard.call(seat, event);
+        let answer = guard.call(rt, seat, event);
         MutexGuard::unlock(guard);
         answer
     }
@@ -222,7 +257,7 @@ impl<L: SiteName> Site<L> {
     /// `SeatMissing` comes where not as many seats come back as the site was opened with. `Mismatch` comes where a seat's
     /// calls aren't its records, or a record is of none of these seats. It names the place where the first such seat
     /// differs, or, where no seat does, that of the first such record. At both the site and its seats are given up.
-    pub fn close<R: Wait>(self, _rt: &R, mut seats: Vec<Seat<L>>) -> Result<Closed, CloseFault>
+    pub fn close<R: Wait>(self, rt: &R, mut seats: Vec<Seat<L>>) -> Result<Closed, CloseFault>
         requires { L.seats ≡ L.parts }
         ensures opening { IfOk result (λ c. c.opening ≡ L.opening) }
         // Each seat's calls are the seat's records, with their places and in the journal's order.
@@ -237,7 +272,8 @@ impl<L: SiteName> Site<L> {
             locked,
             seats: count,
         } = self;
-        let Locked { journal, mut book } = locked.into_inner();
+        let Locked { desk, mut book } = locked.into_inner();
+        let (journal, _page) = desk.end(rt);
         if seats.len() != count {
             return Err(CloseFault::SeatMissing);
         }

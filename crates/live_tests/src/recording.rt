@@ -2,8 +2,8 @@
 use dac_base::NodeId;
 use dac_commands::Refusal;
 use dac_config::read_config;
+use dac_live::blank_site;
 use dac_live::laws::add_record;
-use dac_live::{LiveFault, SiteBlank, blank_site};
 use dac_messages::{Event, Reply};
 use std::alloc::Global;
 use std::sync::Wait;
@@ -13,22 +13,23 @@ use std::test::Fail;
 fn are_recorded<R: Wait>(rt: &R, alloc: Global) -> Option<bool> {
     let config = read_config(alloc, b"[{kernel,[{distributed,[{a,[b@h]}]}]}].").ok()?;
     let blank = blank_site(rt, alloc, &config, NodeId(0), 4, 2, 0).ok()?;
-    let SiteBlank { mut journal, .. } = blank;
-    let first = add_record(rt, &mut journal, 2, Event::Boot { now: 0 });
-    let second = add_record(rt, &mut journal, 1, Event::Boot { now: 1 });
-    let boots = matches!(first, Ok((1, Reply::Booted(_))));
-    let refused = LiveFault::Refused {
-        place: 2,
-        why: Refusal::AlreadyOn,
-    };
+    let mut desk = blank.into_desk();
+    let first = add_record(rt, &mut desk, 2, Event::Boot { now: 0 });
+    let second = add_record(rt, &mut desk, 1, Event::Boot { now: 1 });
+    let (journal, page) = desk.end(rt);
+    let (boot, booted) = first.ok()?;
+    let (again, refused) = second.ok()?;
     let records = journal.records();
     let both = records.len() == 2;
     Some(
-        boots
-            && second.err() == Some(refused)
+        boot.place == 1
+            && matches!(booted, Ok(Reply::Booted(_)))
+            && again.place == 2
+            && matches!(refused, Err(Refusal::AlreadyOn))
             && both
             && records[0].seat == 2
-            && records[1].seat == 1,
+            && records[1].seat == 1
+            && page.place == 2,
     )
 }
 

@@ -1,12 +1,14 @@
 //! Sites: calls and their places, closing, a full journal, and two threads.
+ghost use Rattle.std.specs.Prelude.{◌≡◌};
 ghost use Rattle.dac_live.specs.Sites.{IsBlankOf};
 
 use dac_base::NodeId;
 use dac_commands::Refusal;
 use dac_config::read_config;
+use dac_dots::Origin;
 use dac_live::{
-    CloseFault, Closed, LiveFault, OpenFault, Receipt, Record, Seat, Site, SiteBlank, SiteName,
-    blank_site, open_site,
+    CloseFault, Closed, LiveFault, OpenFault, PageReader, Receipt, Record, Seat, Site, SiteBlank,
+    SiteName, blank_site, open_site,
 };
 use dac_messages::{Event, Reply};
 use std::alloc::Global;
@@ -71,16 +73,38 @@ fn worked<L: SiteName, R: Wait>(
 ) -> Option<([(u64, Told); 5], Result<Closed, CloseFault>)>
     requires { IsBlankOf blank L.name L.parts L.seats L.opening }
 {
-    let (site, mut seats) = open_site::<L, R>(rt, blank).ok()?;
-    let mut second = seats.pop()?;
-    let mut first = seats.pop()?;
+    let (site, seats, _readers) = open_site::<L, R>(rt, blank).ok()?;
+    let Some((mut first, mut second)) = first_two(seats) else {
+        return closed_with_none(rt, alloc, site);
+    };
     let answers = five_calls(rt, &site, &mut first, &mut second);
+    let second = if with_both { Some(second) } else { None };
+    Some((answers, site.close(rt, given_back(alloc, first, second))))
+}
+
+/// The first two of two seats.
+fn first_two<L: SiteName>(mut seats: Vec<Seat<L>>) -> Option<(Seat<L>, Seat<L>)> {
+    let second = seats.pop()?;
+    let first = seats.pop()?;
+    Some((first, second))
+}
+
+/// A list of one or two seats, as far as memory goes.
+fn given_back<L: SiteName>(alloc: Global, first: Seat<L>, second: Option<Seat<L>>) -> Vec<Seat<L>> {
     let mut back = Vec::new(alloc);
-    back.push(first).ok()?;
-    if with_both {
-        back.push(second).ok()?;
+    let _ = back.push(first);
+    if let Some(second) = second {
+        let _ = back.push(second);
     }
-    Some((answers, site.close(rt, back)))
+    back
+}
+
+/// Ends a site without its seats.
+fn closed_with_none<L: SiteName, T, R: Wait>(rt: &R, alloc: Global, site: Site<L>) -> Option<T>
+    requires { L.seats ≡ L.parts }
+{
+    let _ = site.close(rt, Vec::new(alloc));
+    None
 }
 
 /// A site of the first node with two seats, without a name yet.
@@ -155,10 +179,84 @@ fn a_seat_is_missing(rt: HostRuntime) -> Result<(), Fail> {
     Ok(())
 }
 
+/// What a page says, in short: its place, the incarnation, and how many operations were heard and are known.
+type PageShort = (u64, Option<Origin>, u128, u128);
+
+/// Learns the receipt of a call, if it has one, and reads a page then.
+fn learned<L: SiteName>(
+    reader: &mut PageReader<L>,
+    answer: Result<Receipt<L>, LiveFault>,
+) -> Option<PageShort> {
+    let mut receipt = answer.ok()?;
+    reader.learn(&mut receipt);
+    let page = reader.read()?;
+    Some((
+        page.place,
+        page.origin,
+        page.summary.heard,
+        page.summary.known,
+    ))
+}
+
+/// What a reader reads after each of the five calls that has a receipt.
+fn pages_of_calls<L: SiteName, R: Wait>(
+    rt: &R,
+    site: &Site<L>,
+    seat: &mut Seat<L>,
+    reader: &mut PageReader<L>,
+) -> [Option<PageShort>; 5] {
+    let boot = learned(reader, site.call(rt, seat, Event::Boot { now: 0 }));
+    let tick = learned(reader, site.call(rt, seat, Event::Tick { now: 0 }));
+    let again = learned(reader, site.call(rt, seat, Event::Boot { now: 1 }));
+    let crash = learned(reader, site.call(rt, seat, Event::Crash));
+    let off = learned(reader, site.call(rt, seat, Event::Crash));
+    [boot, tick, again, crash, off]
+}
+
+/// A site with one reader, which reads after each call.
+fn watched<L: SiteName, R: Wait>(
+    rt: &R,
+    alloc: Global,
+    blank: SiteBlank,
+) -> Option<[Option<PageShort>; 5]>
+    requires { IsBlankOf blank L.name L.parts L.seats L.opening }
+{
+    let (site, seats, mut readers) = open_site::<L, R>(rt, blank).ok()?;
+    let (Some((mut first, second)), Some(mut reader)) = (first_two(seats), readers.pop()) else {
+        return closed_with_none(rt, alloc, site);
+    };
+    let pages = pages_of_calls(rt, &site, &mut first, &mut reader);
+    let closed = site.close(rt, given_back(alloc, first, Some(second)));
+    if closed.is_err() || reader.read().is_some() {
+        return None;
+    }
+    Some(pages)
+}
+
+/// The same, from the opening on.
+fn pages_are_read<R: Wait>(rt: &R, alloc: Global) -> Option<[Option<PageShort>; 5]> {
+    let blank = two_seats(rt, alloc, 1).ok()?;
+    watched::<Brand, R>(rt, alloc, blank)
+}
+
+/// The first incarnation of the first node.
+const FIRST: Origin = Origin {
+    node: NodeId(0),
+    inc: 1,
+};
+
+/// The boot is heard from the first page on, and nothing after the crash.
+const PAGES: [Option<PageShort>; 5] = [
+    Some((1, Some(FIRST), 1, 1)),
+    Some((2, Some(FIRST), 1, 1)),
+    None,
+    Some((4, None, 0, 0)),
+    None,
+];
+
 #[test]
-fn there_are_no_readers_yet(rt: HostRuntime) -> Result<(), Fail> {
-    let fault = two_seats(&rt, rt.alloc(), 1).err();
-    assert_eq!(rt; fault, Some(OpenFault::NoReader));
+fn a_reader_sees_each_receipt(rt: HostRuntime) -> Result<(), Fail> {
+    assert_eq!(rt; pages_are_read(&rt, rt.alloc()), Some(PAGES));
     Ok(())
 }
 
@@ -182,18 +280,17 @@ fn one_more<L: SiteName, R: Wait>(
 ) -> Option<(Told, usize, usize)>
     requires { IsBlankOf blank L.name L.parts L.seats L.opening }
 {
-    let (site, mut seats) = open_site::<L, R>(rt, blank).ok()?;
-    let second = seats.pop()?;
-    let mut first = seats.pop()?;
-    if !fills(rt, &site, &mut first) {
-        return None;
-    }
+    let (site, seats, _readers) = open_site::<L, R>(rt, blank).ok()?;
+    let Some((mut first, second)) = first_two(seats) else {
+        return closed_with_none(rt, alloc, site);
+    };
+    let full = fills(rt, &site, &mut first);
     let (_, last) = in_short(site.call(rt, &mut first, Event::Crash));
     let calls = first.calls().len();
-    let mut back = Vec::new(alloc);
-    back.push(first).ok()?;
-    back.push(second).ok()?;
-    let closed = site.close(rt, back).ok()?;
+    let closed = site.close(rt, given_back(alloc, first, Some(second))).ok()?;
+    if !full {
+        return None;
+    }
     Some((last, calls, closed.records().len()))
 }
 
@@ -233,19 +330,17 @@ fn both<L: SiteName + Send + Sync, R: Threads + Wait + Sync>(
 ) -> Option<usize>
     requires { IsBlankOf blank L.name L.parts L.seats L.opening }
 {
-    let (site, mut seats) = open_site::<L, R>(rt, blank).ok()?;
-    let second = seats.pop()?;
-    let first = seats.pop()?;
+    let (site, seats, _readers) = open_site::<L, R>(rt, blank).ok()?;
+    let Some((first, second)) = first_two(seats) else {
+        return closed_with_none(rt, alloc, site);
+    };
     let lent = &site;
     let (first, second) = join(
         rt,
         move || many_calls(rt, lent, first),
         move || many_calls(rt, lent, second),
     );
-    let mut back = Vec::new(alloc);
-    back.push(first).ok()?;
-    back.push(second).ok()?;
-    let closed = site.close(rt, back).ok()?;
+    let closed = site.close(rt, given_back(alloc, first, Some(second))).ok()?;
     Some(closed.records().len())
 }
 

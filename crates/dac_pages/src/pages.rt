@@ -1,0 +1,97 @@
+//! The writer of pages.
+
+ghost use Rattle.std.specs.Prelude.{◌≡◌, ◌≤◌, ◌^◌, ◌<◌, None, Some, IfOk, MatchResult};
+ghost use Rattle.dac_pages.specs.Published.{PagesValue, Follows};
+
+use crate::page::Page;
+use crate::reading::RawReader;
+use crate::rule::{Rises, Sees};
+use dac_base::NoMemory;
+use left_right::writer::Writer;
+use std::alloc::{AllocError, Global};
+use std::marker::Model;
+use std::sync::Wait;
+
+/// The writer of pages under their rule.
+pub type PageWriter = Writer<Page, Page, u64, Rises>;
+
+/// Publishes pages. Contracts see the page that readers take, and the one that is laid ready, if any. It isn't `Drop`: end
+/// it by [`Pages::end`].
+pub struct Pages {
+    writer: Option<PageWriter>,
+}
+
+impl Model for Pages {
+    ghost use Rattle.dac_pages.specs.Published.{PagesValue, IsReady, published_by};
+
+    ghost Value = { PagesValue };
+
+    ghost view = { λ s. published_by s.writer };
+
+    ghost invariant = { λ s. IsReady s.writer };
+}
+
+// The place is empty, and the writer goes back.
+fn put_back<R: Wait>(rt: &R, home: &mut Option<PageWriter>, writer: PageWriter)
+    ensures { home.new ≡ Some writer }
+{
+    if let Some(other) = home.replace(writer) {
+        other.take(rt);
+    }
+}
+
+impl Pages {
+    /// Pages for so many readers, of which this is the first.
+    pub fn open(alloc: Global, first: Page, readers: usize) -> Result<Pages, NoMemory>
+        requires { (0 < readers) × (readers < 2 ^ 32) }
+        ensures { IfOk result (λ p. p ≡ record { shown = first; ready = None }) }
+    {
+        match Writer::new(alloc, first, first, readers) {
+            Ok(writer) => Ok(Pages {
+                writer: Some(writer),
+            }),
+            Err(_) => Err(NoMemory),
+        }
+    }
+
+    /// Lays a page ready, so that it can be published without memory. Readers take what they took. [`NoMemory`] is the only
+    /// error, and leaves all as it was.
+    pub fn prepare(&mut self, page: Page) -> Result<(), NoMemory>
+        ensures { MatchResult result (λ _. self.new ≡ record { shown = self.old.shown; ready = Some page }) (λ _. self.new ≡ self.old) }
+    {
+        let Some(writer) = &mut self.writer else {
+            return Err(NoMemory);
+        };
+        match writer.append(page) {
+            Ok(()) => Ok(()),
+            Err(_) => Err(NoMemory),
+        }
+    }
+
+    /// Readers take the page that was laid ready from now on.
+    pub fn publish<R: Wait>(&mut self, rt: &R)
+        requires { Follows self.old }
+        ensures { (Some self.new.shown ≡ self.old.ready) × (self.new.ready ≡ None) }
+    {
+        let Pages { writer: home } = self;
+        let writer = home.take().unwrap();
+        let (writer, _published) = writer.publish_as::<Sees, R>(rt);
+        put_back(rt, home, writer);
+    }
+
+    /// A reader, which has seen nothing. `None` where each place for one is in use.
+    pub fn reader(&self) -> Option<RawReader> {
+        match &self.writer {
+            Some(writer) => writer.factory().reader().ok(),
+            None => None,
+        }
+    }
+
+    /// Ends it. Readers that come now find no page.
+    pub fn end<R: Wait>(self, rt: &R) -> Page
+        ensures { result ≡ self.shown }
+    {
+        let Pages { writer } = self;
+        *writer.unwrap().take(rt)
+    }
+}
