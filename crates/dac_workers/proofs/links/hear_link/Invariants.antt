@@ -1,0 +1,12 @@
+use Rattle.std.proofs.Common.{◌≡◌, []}
+use Rattle.crossbeam_channel.specs.Claims.{view}
+use Rattle.crossbeam_channel.specs.Ends.{receives_on}
+use Rattle.dac_workers.specs.Links.{Hears}
+use Rattle.dac_workers.proofs.links.hear_link.Given as goal
+
+abbrev pub invariant-loop : goal.invariant-loop
+invariant-loop g l = record {
+  number : l.seat.number ≡ l.initial.seat.number;
+  same : receives_on l.link.end ≡ receives_on l.initial.link.end;
+  hears : Hears l.config l.initial.seat.calls l.seat.calls (view l.initial.link.pass).taken (view l.link.pass).taken [];
+}

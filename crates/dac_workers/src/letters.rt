@@ -1,0 +1,89 @@
+//! Messages as letters.
+
+ghost use Rattle.std.specs.Prelude.{◌≡◌, true, Ok, Some, IfOk};
+ghost use Rattle.dac_wire.specs.declared.packet.Packet.TheVariants.{Msg};
+ghost use Rattle.dac_wire.specs.Decoding.{packet_at};
+ghost use Rattle.dac_workers.specs.Letters.{IsLetterOf};
+
+use crate::faults::RunFault;
+use dac_base::NodeId;
+use dac_config::Config;
+use dac_links::Letter;
+use dac_messages::Message;
+use dac_wire::{Packet, WireFault, WireFaultKind, decode, encode};
+use std::alloc::Global;
+
+/// A link, by the node that ships and the one that hears.
+#[derive(Clone, Copy, Debug, PartialEq, Eq)]
+pub(crate) struct Ends {
+    pub(crate) from: NodeId,
+    pub(crate) to: NodeId,
+}
+
+impl Ends {
+    /// The link is lost.
+    pub(crate) fn lost(self) -> RunFault {
+        RunFault::LinkLost {
+            from: self.from,
+            to: self.to,
+        }
+    }
+
+    /// What a fault of bytes is to the link.
+    fn fault_of(self, fault: WireFault) -> RunFault {
+        match fault.kind {
+            WireFaultKind::NoMemory => RunFault::NoMemory,
+            _ => self.lost(),
+        }
+    }
+}
+
+// Whether the two are one message.
+fn is_same(packet: &Packet, other: &Packet) -> bool
+    ensures { result ≡ true → packet.now ≡ other.now }
+{
+    match (packet, other) {
+        (Packet::Msg(message), Packet::Msg(other_message)) => message.equal(other_message),
+        _ => false,
+    }
+}
+
+/// The letter of a message: its bytes, which are read as that message.
+pub(crate) fn letter_of(
+    alloc: Global,
+    config: &Config,
+    ends: Ends,
+    message: Message,
+) -> Result<Letter, RunFault>
+    ensures { IfOk result (IsLetterOf config.now message) }
+{
+    let packet = Packet::Msg(message);
+    let bytes = match encode(alloc, config, &packet) {
+        Ok(bytes) => bytes,
+        Err(fault) => return Err(ends.fault_of(fault)),
+    };
+    let read = match decode(alloc, config, &bytes) {
+        Ok(read) => read,
+        Err(fault) => return Err(ends.fault_of(fault)),
+    };
+    if !is_same(&read, &packet) {
+        return Err(ends.lost());
+    }
+    Ok(Letter::of(bytes))
+}
+
+/// The message that the bytes of a letter are read as.
+pub(crate) fn message_in(
+    alloc: Global,
+    config: &Config,
+    ends: Ends,
+    bytes: &[u8],
+) -> Result<Message, RunFault>
+    ensures { IfOk result (λ message. packet_at config.now bytes.now ≡ Ok (Msg message)) }
+{
+    match decode(alloc, config, bytes) {
+        Ok(Packet::Msg(message)) => Ok(message),
+        Ok(Packet::Single(_)) => Err(ends.lost()),
+        Err(fault) => Err(ends.fault_of(fault)),
+    }
+}

@@ -1,0 +1,17 @@
+//! The workers of the links between sites, and what the sites' journals say of a link.
+//!
+//! The bodies of a link's two threads stand in [`links`]. A shipper asks its site to ship, and puts the bytes of each
+//! message into the link. A link worker takes the bytes out, and has its site hear each message.
+#![tactic(auto)]
+
+pub use dac_live::{
+    Answer, CloseFault, Closed, LiveFault, Page, PageReader, Receipt, Record, Seat, Site,
+    SiteBlank, SiteName, blank_site, open_site, replay,
+};
+pub use faults::RunFault;
+pub use links::{Gate, hear_link, ship_last, ship_link};
+
+pub mod compare;
+mod faults;
+mod letters;
+mod links;
