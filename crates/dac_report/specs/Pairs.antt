@@ -1,0 +1,24 @@
+-- The links between closed journals.
+use Rattle.std.specs.Prelude.{◌≢◌, ◌<◌, ◌+◌, ◌*◌, ℕ, List, [], length, nat_lt, slice_index_or, if◌then◌else◌}
+use Rattle.dac_run.specs.Record.{Record}
+use Rattle.dac_run.specs.Journals.{JournalValue, nowhere}
+use Rattle.dac_run.specs.Compared.{Linked}
+
+-- The seats 1 to 4 are the callers'. Then each other node, by name, has two: its shipper's and its link worker's.
+abbrev pub shipper_seat : ℕ → ℕ → ℕ
+shipper_seat me other = if nat_lt other me then 2 * other + 5 else 2 * other + 3
+
+abbrev pub worker_seat : ℕ → ℕ → ℕ
+worker_seat me other = shipper_seat me other + 1
+
+-- the records of the journal at this place
+abbrev pub records_at : List JournalValue → ℕ → List Record
+records_at all i = (slice_index_or all i (record { opening = nowhere; records = [] })).records
+
+-- all links from this node were used as they are to be
+abbrev pub RowHolds : ℕ → ℕ → List Record → List JournalValue → Type 0
+RowHolds phases f sender all = (t : ℕ) → t < length all → t ≢ f → Linked phases (record { 0 = t }) (shipper_seat f t) (worker_seat t f) sender (records_at all t)
+
+-- all links were
+abbrev pub LinksHold : ℕ → List JournalValue → Type 0
+LinksHold phases all = (f : ℕ) → f < length all → RowHolds phases f (records_at all f) all

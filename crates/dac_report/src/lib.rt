@@ -1,0 +1,25 @@
+//! What a run reports is read off the closed journals: what the links carried, the last pages, and what callers asked.
+//!
+//! [`run_live`] runs phases at sites and makes a [`LiveReport`] of what came of them. It asks nothing of the threads: each
+//! journal is a history of its node, and the rest of the report is compared with the journals before it is handed out.
+#![tactic(auto)]
+
+pub use callers::{answers_of, are_asked, are_told, strange_node};
+pub use dac_run::{Ask, Closed, Gate, Line, Page, Phase, RunFault};
+pub use lines::{are_answered, asked_by, told_to};
+pub use live::run_live;
+pub use nodes::last_pages;
+pub use owed::are_runnable;
+pub use pages::last_page;
+pub use pairs::lost_link;
+pub use report::{LineAnswer, LiveReport};
+
+mod callers;
+mod handing;
+mod lines;
+mod live;
+mod nodes;
+mod owed;
+mod pages;
+mod pairs;
+mod report;

@@ -1,0 +1,27 @@
+//! What a run reports.
+
+use dac_commands::Refusal;
+use dac_messages::Reply;
+use dac_run::{Closed, Page};
+
+/// What came of a line.
+#[derive(Drop)]
+pub enum LineAnswer {
+    /// The node answered so.
+    Done(Result<Reply, Refusal>),
+    /// The page that was read is at least at the place of the caller's last receipt.
+    Fresh,
+    /// It isn't, or there was none.
+    Stale,
+}
+
+/// What came of a run.
+#[derive(Drop)]
+pub struct LiveReport {
+    /// Of each phase, what came of each line.
+    pub answers: Vec<Vec<LineAnswer>>,
+    /// The last page of each node, by name.
+    pub pages: Vec<Page>,
+    /// The journal of each node, by name.
+    pub closed: Vec<Closed>,
+}

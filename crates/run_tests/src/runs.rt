@@ -1,0 +1,317 @@
+//! Runs of sites in threads.
+use dac_base::{AppId, NodeId};
+use dac_config::read_config;
+use dac_events::Command;
+use dac_messages::Event;
+use dac_report::{
+    Ask, Gate, Line, LineAnswer, LiveReport, Phase, RunFault, are_runnable, run_live,
+};
+use std::alloc::Global;
+use std::sync::Wait;
+use std::sync::atomic::{AtomicU64, Ordering};
+use std::test::Fail;
+use std::thread;
+use std::thread::Threads;
+
+/// The documented example: three nodes.
+const EXAMPLE: &[u8] =
+    b"[{kernel, [{distributed, [{myapp, 5000, [cp1@cave, {cp2@cave, cp3@cave}]}]}, {sync_nodes_mandatory, [cp2@cave, cp3@cave]}, {sync_nodes_timeout, 5000}]}].";
+
+/// Four nodes, and none waits for another one.
+const FOUR: &[u8] = b"[{kernel,[{distributed,[{a,[a@h,b@h,c@h,d@h]}]}]}].";
+
+/// Five nodes.
+const FIVE: &[u8] = b"[{kernel,[{distributed,[{a,[a@h,b@h,c@h,d@h,e@h]}]}]}].";
+
+/// How often a hearing yields while it is held.
+const TURNS: u32 = 1_000_000;
+
+/// Holds the hearings of the links from the first node to the two others, until both are inside at once.
+#[derive(Drop)]
+struct Both {
+    second: AtomicU64,
+    third: AtomicU64,
+    met: AtomicU64,
+}
+
+impl Both {
+    fn new() -> Self {
+        Both {
+            second: AtomicU64::new(0),
+            third: AtomicU64::new(0),
+            met: AtomicU64::new(0),
+        }
+    }
+
+    fn hold(&self, mine: &AtomicU64, other: &AtomicU64) {
+        mine.store(1, Ordering::SeqCst);
+        for _turn in 0..TURNS {
+            if other.load(Ordering::SeqCst) == 1 {
+                self.met.store(1, Ordering::SeqCst);
+            }
+            if self.met.load(Ordering::SeqCst) == 1 {
+                return;
+            }
+            thread::yield_now();
+        }
+    }
+}
+
+impl Gate for Both {
+    fn before(&self, from: NodeId, to: NodeId, _k: u64) {
+        if from == NodeId(0) {
+            if to == NodeId(1) {
+                self.hold(&self.second, &self.third);
+            } else {
+                self.hold(&self.third, &self.second);
+            }
+        }
+    }
+
+    fn after(&self, from: NodeId, to: NodeId, _k: u64) {
+        if from == NodeId(0) {
+            if to == NodeId(1) {
+                self.second.store(0, Ordering::SeqCst);
+            } else {
+                self.third.store(0, Ordering::SeqCst);
+            }
+        }
+    }
+}
+
+/// A gate that holds nobody.
+#[derive(Drop)]
+struct Open;
+
+impl Gate for Open {
+    fn before(&self, _from: NodeId, _to: NodeId, _k: u64) {}
+
+    fn after(&self, _from: NodeId, _to: NodeId, _k: u64) {}
+}
+
+/// A phase, line by line: the node, the caller, and what is asked.
+fn phase_of<const N: usize>(alloc: Global, lines: [(u8, u8, Ask); N]) -> Option<Phase> {
+    let mut all = Vec::new(alloc);
+    for (node, caller, what) in Vec::from_array(alloc, lines).ok()? {
+        let line = Line {
+            node: NodeId(node),
+            caller,
+            what,
+        };
+        all.push(line).ok()?;
+    }
+    Some(Phase { lines: all })
+}
+
+fn ask(event: Event) -> Ask {
+    Ask::Do(event)
+}
+
+fn boot(now: u64) -> Ask {
+    ask(Event::Boot { now })
+}
+
+fn tick(now: u64) -> Ask {
+    ask(Event::Tick { now })
+}
+
+fn start(node: u8) -> Ask {
+    ask(Event::Command(Command::Start {
+        app: AppId(0),
+        node: NodeId(node),
+    }))
+}
+
+fn permit(node: u8, value: bool) -> Ask {
+    ask(Event::Command(Command::Permit {
+        app: AppId(0),
+        node: NodeId(node),
+        value,
+    }))
+}
+
+/// Runs phases under a configuration.
+fn ran<G: Gate, R: Threads + Wait + Sync>(
+    rt: &R,
+    alloc: Global,
+    text: &[u8],
+    phases: &[Phase],
+    gate: &G,
+) -> Option<Result<LiveReport, RunFault>> {
+    let config = read_config(alloc, text).ok()?;
+    if !are_runnable(&config, phases) {
+        return None;
+    }
+    Some(run_live(rt, alloc, &config, phases, gate))
+}
+
+/// Two phases: a boot and a tick of the first node.
+fn two_phases(alloc: Global) -> Option<Vec<Phase>> {
+    let mut phases = Vec::new(alloc);
+    phases.push(phase_of(alloc, [(0, 1, boot(0))])?).ok()?;
+    phases.push(phase_of(alloc, [(0, 1, tick(1))])?).ok()?;
+    Some(phases)
+}
+
+/// How many records the journals of three nodes have.
+fn counted(report: &LiveReport) -> Option<[usize; 3]> {
+    match report.closed.as_slice() {
+        [a, b, c] => Some([a.records().len(), b.records().len(), c.records().len()]),
+        _ => None,
+    }
+}
+
+/// Whether the hearings of two links were held at once. The first node has its two calls and five ships to each other node
+/// a phase.
+fn meets<R: Threads + Wait + Sync>(rt: &R, alloc: Global) -> Option<bool> {
+    let gate = Both::new();
+    let phases = two_phases(alloc)?;
+    let report = ran(rt, alloc, EXAMPLE, phases.as_slice(), &gate)?.ok()?;
+    let records = counted(&report)?;
+    Some(records[0] >= 22 && gate.met.load(Ordering::SeqCst) == 1)
+}
+
+#[test]
+fn workers_of_two_links_meet(rt: HostRuntime) -> Result<(), Fail> {
+    assert_eq!(rt; meets(&rt, rt.alloc()), Some(true));
+    Ok(())
+}
+
+fn fault_of_five<R: Threads + Wait + Sync>(rt: &R, alloc: Global) -> Option<RunFault> {
+    let phases = two_phases(alloc)?;
+    ran(rt, alloc, FIVE, phases.as_slice(), &Open)?.err()
+}
+
+#[test]
+fn five_nodes_are_too_many(rt: HostRuntime) -> Result<(), Fail> {
+    assert_eq!(rt;
+        fault_of_five(&rt, rt.alloc()),
+        Some(RunFault::TooManyNodes)
+    );
+    Ok(())
+}
+
+/// Four nodes boot.
+fn four_boots(alloc: Global) -> Option<Phase> {
+    phase_of(
+        alloc,
+        [
+            (0, 1, boot(0)),
+            (1, 1, boot(0)),
+            (2, 1, boot(0)),
+            (3, 1, boot(0)),
+        ],
+    )
+}
+
+/// Each caller of each of four nodes asks for something.
+fn all_ask(alloc: Global, now: u64) -> Option<Phase> {
+    let mut lines = Vec::new(alloc);
+    for node in 0..4u8 {
+        let value = now % 2 == 0;
+        for (caller, what) in [
+            (1, permit(node, value)),
+            (2, start(node)),
+            (3, tick(now)),
+            (4, Ask::Read),
+        ] {
+            let line = Line {
+                node: NodeId(node),
+                caller,
+                what,
+            };
+            lines.push(line).ok()?;
+        }
+    }
+    Some(Phase { lines })
+}
+
+/// Twenty phases: four nodes boot, and then all callers of all of them ask.
+fn twenty_phases(alloc: Global) -> Option<Vec<Phase>> {
+    let mut phases = Vec::new(alloc);
+    phases.push(four_boots(alloc)?).ok()?;
+    for now in 1..20u64 {
+        phases.push(all_ask(alloc, now)?).ok()?;
+    }
+    Some(phases)
+}
+
+/// Whether each line was answered without a refusal, and each page that was read was fresh.
+fn are_well(answers: &[Vec<LineAnswer>]) -> bool {
+    answers.iter().all(|lines| {
+        lines.iter().all(|line| match line {
+            LineAnswer::Done(Ok(_)) | LineAnswer::Fresh => true,
+            _ => false,
+        })
+    })
+}
+
+/// Whether all lines are answered, and each journal has at least its callers' 58 records and its shippers' 300.
+fn twenty_are_well<R: Threads + Wait + Sync>(rt: &R, alloc: Global) -> Option<bool> {
+    let phases = twenty_phases(alloc)?;
+    let report = ran(rt, alloc, FOUR, phases.as_slice(), &Open)?.ok()?;
+    let records = report
+        .closed
+        .iter()
+        .all(|closed| closed.records().len() >= 358);
+    Some(
+        report.answers.len() == 20
+            && report.closed.len() == 4
+            && are_well(&report.answers)
+            && records,
+    )
+}
+
+#[test]
+fn four_nodes_run_twenty_phases(rt: HostRuntime) -> Result<(), Fail> {
+    assert_eq!(rt; twenty_are_well(&rt, rt.alloc()), Some(true));
+    Ok(())
+}
+
+/// Three phases of three nodes: they boot; each is started, and one forbidden; two tick.
+fn three_phases(alloc: Global) -> Option<Vec<Phase>> {
+    let mut phases = Vec::new(alloc);
+    let boots = phase_of(alloc, [(0, 1, boot(0)), (1, 1, boot(0)), (2, 1, boot(0))])?;
+    let starts = phase_of(
+        alloc,
+        [
+            (0, 1, start(0)),
+            (0, 2, permit(2, true)),
+            (1, 1, start(1)),
+            (1, 2, permit(1, false)),
+            (2, 1, start(2)),
+            (2, 2, permit(0, true)),
+        ],
+    )?;
+    let ticks = phase_of(alloc, [(0, 1, tick(100)), (1, 2, tick(100))])?;
+    phases.push(boots).ok()?;
+    phases.push(starts).ok()?;
+    phases.push(ticks).ok()?;
+    Some(phases)
+}
+
+/// Whether two reports have the same final pages, but for their places.
+fn are_alike(one: &LiveReport, other: &LiveReport) -> bool {
+    one.pages.len() == other.pages.len()
+        && one.pages.iter().zip(other.pages.iter()).all(|(left, right)| left.origin == right.origin
+            && left.summary == right.summary)
+}
+
+/// Whether so many further runs end as the first one.
+fn all_alike<R: Threads + Wait + Sync>(rt: &R, alloc: Global, times: u32) -> Option<bool> {
+    let phases = three_phases(alloc)?;
+    let first = ran(rt, alloc, EXAMPLE, phases.as_slice(), &Open)?.ok()?;
+    for _time in 0..times {
+        let other = ran(rt, alloc, EXAMPLE, phases.as_slice(), &Open)?.ok()?;
+        if !are_alike(&first, &other) {
+            return Some(false);
+        }
+    }
+    Some(true)
+}
+
+#[test]
+fn a_hundred_runs_end_alike(rt: HostRuntime) -> Result<(), Fail> {
+    assert_eq!(rt; all_alike(&rt, rt.alloc(), 100), Some(true));
+    Ok(())
+}
