@@ -1,0 +1,6 @@
+mod Filed
+mod Least
+mod Twice
+mod Replays
+mod Placed
+mod Converged

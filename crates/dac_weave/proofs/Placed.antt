@@ -1,0 +1,384 @@
+-- What the loom keeps.
+use Rattle.std.proofs.Common.{◌≡◌, ◌≢◌, ℕ, zero, suc, ◌+◌, ◌-◌, ◌<◌, ◌≤◌, cond, inl, inr, ◌⊎◌, List, [], ◌∷◌, ◌++◌, Option, Some, None, Result, Ok, Err, length, take, drop, get_or, nat_eq, refl, sym, ap, subst, ◌∙◌, append-nil, arith, below_more}
+use Rattle.std.specs.Prelude.{MatchOption}
+use Rattle.std.specs.List.{slice_get, AllZip}
+use Rattle.std.proofs.Math.ListN.{set}
+use Rattle.std.proofs.lemmas.List.{take_more, length-set, take_all, take-append-drop, length-take-le, length-map, length-append}
+use Rattle.std.proofs.lemmas.Option.{slice_get_within}
+use Rattle.std.proofs.lemmas.Bool.{cases_lt}
+use Rattle.dac_base.specs.declared.NodeId.{NodeId}
+use Rattle.dac_config.specs.Table.{Table}
+use Rattle.dac_messages.specs.declared.reply.Reply.{Reply}
+use Rattle.dac_commands.specs.declared.refusal.Refusal.{Refusal}
+use Rattle.dac_messages.specs.declared.message.Message.{Message}
+use Rattle.dac_operations.specs.Operations.{Operation}
+use Rattle.dac_events.specs.declared.WorldEvent.{WorldEvent}
+use Rattle.dac_events.specs.declared.What.{What}
+use Rattle.dac_journal.specs.ModelNode.{ModelNode}
+use Rattle.dac_journal.specs.Histories.{off_after}
+use Rattle.dac_journal.specs.ModelWorld.{ModelWorld, start, event_of}
+use Rattle.dac_weave.specs.declared.strand.Strand.{Strand}
+use Rattle.dac_weave.specs.declared.loom.Loom.{Loom}
+use Rattle.dac_journal.specs.Journals.{JournalValue}
+use Rattle.dac_weave.specs.Woven.{Seen, seen_of, seen_in, as_seen, told, worldly, At, IsFrontOf, AllFit, Gives, GivesFronts, IsFirst, IsStuckAt, IsUnwoven}
+use Rattle.dac_weave.specs.Replay.{node_step, replayed, AreAnswered}
+use Rattle.dac_journal.specs.EveryList.{run_from}
+use Rattle.dac_weave.specs.Names.{Begins, issued_in, shipped_in}
+use Rattle.dac_weave.specs.Placing.{IsStrand, Fits, Weaves, IsReady, IsStill, StillBetween, AllStill, Places, PlacesRecord, longer, IsLeft, IsLeftAt, AllWhole}
+use Rattle.dac_weave.specs.laws.Members.{not_true}
+use Rattle.dac_weave.specs.laws.Runs.{eq_self, node-after, count-after, seen-append, run-append, steps_node, grows, shipped_of, issued_of}
+use Rattle.dac_weave.proofs.Replays.{take-push, told-at, so_far}
+use Rattle.dac_weave.specs.Recording.{IsRecorded}
+use Rattle.dac_weave.specs.laws.Recorded.{kept, recorded-gives}
+use Rattle.dac_weave.specs.laws.Complete.{Stands, furthest, same_number}
+use Rattle.dac_weave.proofs.Least.{one_at}
+
+-- ---- lists
+same_strand : (a b : Strand) → Some a ≡ Some b → a ≡ b
+same_strand a b e = cc
+
+-- the place that is set, and the others
+pub record SetAt {X : Type 0} (xs : List X) (i : ℕ) (x : X) (k : ℕ) (y : X) : Type 0 where
+  pub cases : ((k ≡ i) × (x ≡ y)) ⊎ ((k ≢ i) × (slice_get xs k ≡ Some y))
+
+set-cases : {X : Type 0} (xs : List X) (i : ℕ) (x : X) (k : ℕ) (y : X) → slice_get (set xs i x) k ≡ Some y → ((k ≡ i) × (x ≡ y)) ⊎ ((k ≢ i) × (slice_get xs k ≡ Some y))
+set-cases [] zero x k y h = cc
+set-cases [] (suc i) x k y h = cc
+set-cases (z ∷ xs) zero x zero y h = inl (refl, cc)
+set-cases (z ∷ xs) zero x (suc k) y h = inr (no, h)
+  where
+    no : suc k ≡ 0 → ⊥
+    no e = omega arith
+set-cases (z ∷ xs) (suc i) x zero y h = inr (no, h)
+  where
+    no : 0 ≡ suc i → ⊥
+    no e = omega arith
+set-cases (z ∷ xs) (suc i) x (suc k) y h = elim (set-cases xs i x k y h) [
+  | inl both ↦ inl (ap suc both.0, both.1)
+  | inr both ↦ inr ((λ e. both.0 (less e)), both.1)
+]
+  where
+    less : suc k ≡ suc i → k ≡ i
+    less e = omega arith
+
+AllZip-length : {A B : Type 0} (R : A → B → Type 0) (xs : List A) (ys : List B) → AllZip R xs ys → length ys ≡ length xs
+AllZip-length R [] [] h = refl
+AllZip-length R [] (y ∷ ys) h = elim h [ ]
+AllZip-length R (x ∷ xs) [] h = elim h [ ]
+AllZip-length R (x ∷ xs) (y ∷ ys) h = ap suc (AllZip-length R xs ys h.1)
+
+AllZip-at : {A B : Type 0} (R : A → B → Type 0) (xs : List A) (ys : List B) (i : ℕ) (x : A) (y : B) → AllZip R xs ys → slice_get xs i ≡ Some x → slice_get ys i ≡ Some y → R x y
+AllZip-at R [] [] i x y h a b = cc
+AllZip-at R [] (v ∷ ys) i x y h a b = elim h [ ]
+AllZip-at R (u ∷ xs) [] i x y h a b = elim h [ ]
+AllZip-at {A} {B} R (u ∷ xs) (v ∷ ys) zero x y h a b = subst (λ v. R x v) (same_b v y b) (subst (λ u. R u v) (same_a u x a) h.0)
+  where
+    same_a : (p q : A) → Some p ≡ Some q → p ≡ q
+    same_a p q e = cc
+
+    same_b : (p q : B) → Some p ≡ Some q → p ≡ q
+    same_b p q e = cc
+AllZip-at R (u ∷ xs) (v ∷ ys) (suc i) x y h a b = AllZip-at R xs ys i x y h.1 a b
+
+-- ---- nothing placed
+pub record IsEmpty (l : Loom) : Type 0 where
+  pub events : l.events.items ≡ []
+  pub operations : l.operations ≡ []
+  pub messages : l.messages ≡ []
+
+zero_least : (n m : ℕ) → n ≡ 0 → n ≤ m
+zero_least n m e = omega arith
+
+pub weaves-new : (t : Table) (js : List JournalValue) (l : Loom) → AllZip (Begins t) js l.strands.items → IsEmpty l → Weaves t js l
+weaves-new t js l zip empty = record {
+  count = AllZip-length (Begins t) js l.strands.items zip;
+  strands = λ i j s at sat. let b = AllZip-at (Begins t) js l.strands.items i j s zip at sat in record { placed = zero_least s.placed s.good b.placed; longest = b.longest };
+  seen = λ i j s at sat. let b = AllZip-at (Begins t) js l.strands.items i j s zip at sat in ap (λ es. seen_in t es j.opening.node) empty.events ∙ ap (λ k. take k (told j)) (sym b.placed);
+  others = λ n none. ap (λ es. seen_in t es n) empty.events;
+  operations = empty.operations ∙ ap (λ es. (run_from t (start t) es).operations) (sym empty.events);
+  messages = empty.messages ∙ ap (λ es. (run_from t (start t) es).messages) (sym empty.events);
+}
+
+pub fits-weaves : (t : Table) (js : List JournalValue) (l : Loom) → Weaves t js l → Fits js l.strands.items
+fits-weaves t js l w = record { count = w.count; within = λ i j s at sat. (w.strands i j s at sat).longest.within }
+
+-- ---- placing one
+-- an answer of a history is the step's after what comes before it
+history-at : (t : Table) (n : NodeId) (d : ModelNode) (xs : List Seen) (g k : ℕ) (x : Seen) → AreAnswered t n d (take g xs) → k < g → At xs k x → x.answer ≡ (node_step t n (replayed t n d (take k xs)) x.event).answer
+history-at t n d [] g k x h lt at = cc
+history-at t n d (y ∷ xs) zero k x h lt at = absurd (omega arith)
+history-at t n d (y ∷ xs) (suc g) zero x h lt at = subst (λ (z : Seen). z.answer ≡ (node_step t n d z.event).answer) (same y x at) h.0
+  where
+    same : (a b : Seen) → Some a ≡ Some b → a ≡ b
+    same a b e = cc
+history-at t n d (y ∷ xs) (suc g) (suc k) x h lt at = history-at t n (node_step t n d y.event).node xs g k x h.1 (less lt) at
+  where
+    less : suc k < suc g → k < g
+    less p = omega arith
+
+issued-worldly : (a : Result Reply Refusal) → issued_of (worldly a) ≡ issued_in a
+issued-worldly (Ok x) = refl
+issued-worldly (Err x) = refl
+
+shipped-worldly : (a : Result Reply Refusal) → shipped_of (worldly a) ≡ shipped_in a
+shipped-worldly (Ok x) = refl
+shipped-worldly (Err x) = refl
+
+module _ (t : Table) (js : List JournalValue) (old : Loom) (i : ℕ) (what : What) (w : Weaves t js old) (fit : AllFit js) (ready : IsReady js old i what) where
+  abbrev world : ModelWorld
+  world = run_from t (start t) old.events.items
+
+  abbrev event : WorldEvent
+  event = record { node = ready.journal.opening.node; what = what }
+
+  placed_event : event_of world.operations world.messages what ≡ Ok ready.next.event
+  placed_event = ap (λ os. event_of os world.messages what) (sym w.operations) ∙ (ap (λ ms. event_of old.operations ms what) (sym w.messages) ∙ ready.named)
+
+  here_seen : seen_in t old.events.items ready.journal.opening.node ≡ take ready.strand.placed (told ready.journal)
+  here_seen = w.seen i ready.journal ready.strand ready.at ready.strand_at
+
+  placed_seen : seen_of t world event ≡ as_seen ready.next
+  placed_seen =
+      let j = ready.journal in
+      let steps = steps_node t j.opening.node world event (count-after t (start t) old.events.items refl) (eq_self j.opening.node.0) in
+      let history = history-at t j.opening.node (off_after 0) (told j) ready.strand.good ready.strand.placed (as_seen ready.next) (w.strands i j ready.strand ready.at ready.strand_at).longest.answered ready.left (told-at j ready.strand.placed ready.next ready.next_at) in
+      let answer : (seen_of t world event).answer ≡ worldly ready.next.answer =
+      steps.answer
+      ∙ (ap (λ d. (node_step t j.opening.node d (seen_of t world event).event).answer) (node-after t j.opening.node (start t) old.events.items refl ∙ ap (replayed t j.opening.node (off_after 0)) here_seen)
+      ∙ (ap (λ e. (node_step t j.opening.node (so_far t j ready.strand.placed) e).answer) placed_event ∙ sym history)) in
+      λ k. record { event = placed_event k; answer = answer k }
+
+  more_seen : (n : NodeId) → seen_in t (old.events.items ++ event ∷ []) n ≡ seen_in t old.events.items n ++ cond (nat_eq ready.journal.opening.node.0 n.0) (as_seen ready.next ∷ []) []
+  more_seen n = seen-append t n (start t) old.events.items (event ∷ []) ∙ ap (λ (x : Seen). seen_in t old.events.items n ++ cond (nat_eq ready.journal.opening.node.0 n.0) (x ∷ []) []) placed_seen
+
+  more_here : seen_in t (old.events.items ++ event ∷ []) ready.journal.opening.node ≡ take (ready.strand.placed + 1) (told ready.journal)
+  more_here =
+      more_seen ready.journal.opening.node
+      ∙ (ap (λ b. seen_in t old.events.items ready.journal.opening.node ++ cond b (as_seen ready.next ∷ []) []) (eq_self ready.journal.opening.node.0)
+      ∙ (ap (λ xs. xs ++ as_seen ready.next ∷ []) here_seen ∙ sym (take-push (told ready.journal) ready.strand.placed (as_seen ready.next) (told-at ready.journal ready.strand.placed ready.next ready.next_at))))
+
+  more_else : (n : NodeId) → ready.journal.opening.node ≢ n → seen_in t (old.events.items ++ event ∷ []) n ≡ seen_in t old.events.items n
+  more_else n apart =
+      more_seen n
+      ∙ (ap (λ b. seen_in t old.events.items n ++ cond b (as_seen ready.next ∷ []) []) (not_true (nat_eq ready.journal.opening.node.0 n.0) (λ e. apart (same_number ready.journal.opening.node n e)))
+      ∙ append-nil (seen_in t old.events.items n))
+
+  module _ (new : Loom) (placed : Places js old i what new) where
+    abbrev does : PlacesRecord old i what new ready.journal ready.strand ready.next
+    does = placed.each ready.journal ready.strand ready.next ready.at ready.strand_at ready.next_at
+
+    -- another journal is another node's
+    apart : (k : ℕ) (b : JournalValue) → At js k b → k ≢ i → ready.journal.opening.node ≢ b.opening.node
+    apart k b at ne same = fit k b at (inr (i, (ready.journal, (ready.at, ((λ e. ne (sym e)), same)))))
+
+    strand_cases : (k : ℕ) (s : Strand) → At new.strands.items k s → ((k ≡ i) × (longer ready.strand ≡ s)) ⊎ ((k ≢ i) × At old.strands.items k s)
+    strand_cases k s sat = set-cases old.strands.items i (longer ready.strand) k s (subst (λ ss. slice_get ss k ≡ Some s) does.strands sat)
+
+    own_journal : (k : ℕ) (b : JournalValue) → At js k b → k ≡ i → ready.journal ≡ b
+    own_journal k b at e = one_at js i ready.journal b ready.at (subst (λ m. At js m b) e at)
+
+    up_to : ready.strand.placed + 1 ≤ ready.strand.good
+    up_to = let lt = ready.left in omega arith
+
+    pub weaves-place : Weaves t js new
+    weaves-place = record {
+      count = ap (λ (ss : List Strand). length ss) does.strands ∙ (length-set old.strands.items i (longer ready.strand) ∙ w.count);
+      strands = λ k b s at sat. elim (strand_cases k s sat) [
+        | inl own ↦ subst (λ (x : Strand). IsStrand t b x) own.1 (subst (λ (x : JournalValue). IsStrand t x (longer ready.strand)) (own_journal k b at own.0) (record { placed = up_to; longest = (w.strands i ready.journal ready.strand ready.at ready.strand_at).longest }))
+        | inr other ↦ w.strands k b s at other.1
+      ];
+      seen = λ k b s at sat. ap (λ es. seen_in t es b.opening.node) does.events ∙ elim (strand_cases k s sat) as (λ _. seen_in t (old.events.items ++ event ∷ []) b.opening.node ≡ take s.placed (told b)) [
+        | inl own ↦ subst (λ (x : Strand). seen_in t (old.events.items ++ event ∷ []) b.opening.node ≡ take x.placed (told b)) own.1 (subst (λ (x : JournalValue). seen_in t (old.events.items ++ event ∷ []) x.opening.node ≡ take (ready.strand.placed + 1) (told x)) (own_journal k b at own.0) more_here)
+        | inr other ↦ more_else b.opening.node (apart k b at other.0) ∙ w.seen k b s at other.1
+      ];
+      others = λ n none. ap (λ es. seen_in t es n) does.events ∙ (more_else n (none i ready.journal ready.at) ∙ w.others n none);
+      operations = does.operations ∙ (ap (λ (os : List Operation). os ++ issued_in ready.next.answer) w.operations
+          ∙ (ap (λ (os : List Operation). world.operations ++ os) (sym (issued-worldly ready.next.answer) ∙ ap (λ (x : Seen). issued_of x.answer) (sym placed_seen))
+          ∙ (sym (grows t world event).operations ∙ (ap (λ (v : ModelWorld). v.operations) (sym (run-append t (start t) old.events.items (event ∷ []))) ∙ ap (λ es. (run_from t (start t) es).operations) (sym does.events)))));
+      messages = does.messages ∙ (ap (λ (ms : List Message). ms ++ shipped_in ready.next.answer) w.messages
+          ∙ (ap (λ (ms : List Message). world.messages ++ ms) (sym (shipped-worldly ready.next.answer) ∙ ap (λ (x : Seen). shipped_of x.answer) (sym placed_seen))
+          ∙ (sym (grows t world event).messages ∙ (ap (λ (v : ModelWorld). v.messages) (sym (run-append t (start t) old.events.items (event ∷ []))) ∙ ap (λ es. (run_from t (start t) es).messages) (sym does.events)))));
+    }
+
+-- ---- seeking
+pub still-more : (js : List JournalValue) (l : Loom) (low i : ℕ) → StillBetween js l low i → IsStill js l i → StillBetween js l low (i + 1)
+still-more js l low i before here k le lt = below_more (λ m. low ≤ m → IsStill js l m) i (λ m less from. before m from less) (λ _. here) k lt le
+
+pub still-all : (js : List JournalValue) (l : Loom) (from high : ℕ) → high ≡ length js → StillBetween js l from high → StillBetween js l 0 from → AllStill js l
+still-all js l from high long above below i lt = elim (cases_lt i from) [
+  | inl less ↦ below i (omega arith) less
+  | inr more ↦ above i more (omega arith)
+]
+
+pub still-found : (js : List JournalValue) (l : Loom) (from high : ℕ) → high ≡ length js → StillBetween js l from high → {X : Type 0} (Q : X → Type 0) (o : Option X) → MatchOption o (StillBetween js l 0 from) Q → MatchOption o (AllStill js l) Q
+still-found js l from high long above Q None h = still-all js l from high long above h
+still-found js l from high long above Q (Some x) h = h
+
+-- ---- the strands, one after another
+both_push : {A B : Type 0} (R : A → B → Type 0) (xs : List A) (ys : List B) (x : A) (y : B) → AllZip R xs ys → R x y → AllZip R (xs ++ x ∷ []) (ys ++ y ∷ [])
+both_push R [] [] x y h r = (r, tt)
+both_push R [] (v ∷ ys) x y h r = elim h [ ]
+both_push R (u ∷ xs) [] x y h r = elim h [ ]
+both_push R (u ∷ xs) (v ∷ ys) x y h r = (h.0, both_push R xs ys x y h.1 r)
+
+pub begun_more : (t : Table) (js : List JournalValue) (i : ℕ) (j : JournalValue) (ss more : List Strand) (s : Strand) → i < length js → j ≡ get_or js i j → AllZip (Begins t) (take i js) ss → Begins t j s → more ≡ ss ++ s ∷ [] → AllZip (Begins t) (take (i + 1) js) more
+begun_more t js i j ss more s lt read zip begins is =
+    subst (λ (ys : List Strand). AllZip (Begins t) (take (i + 1) js) ys) (sym is)
+    (subst (λ (xs : List JournalValue). AllZip (Begins t) xs (ss ++ s ∷ [])) (sym (take_more js i j lt ∙ ap (λ x. take i js ++ x ∷ []) (sym read)))
+    (both_push (Begins t) (take i js) ss j s zip begins))
+
+-- ---- what is left to place
+pub unplaced : List JournalValue → List Strand → ℕ
+unplaced [] ss = 0
+unplaced (j ∷ js) [] = 0
+unplaced (j ∷ js) (s ∷ ss) = (length j.records - s.placed) + unplaced js ss
+
+unplaced-set : (js : List JournalValue) (ss : List Strand) (i : ℕ) (j : JournalValue) (s : Strand) → At js i j → At ss i s → s.placed < length j.records → unplaced js (set ss i (longer s)) < unplaced js ss
+unfolding unplaced
+unplaced-set [] ss i j s at sat lt = cc
+unplaced-set (k ∷ js) [] i j s at sat lt = cc
+unplaced-set (k ∷ js) (r ∷ ss) zero j s at sat lt =
+    let p : r.placed ≡ s.placed = ap (λ (x : Strand). x.placed) (same_strand r s sat) in
+    let q : length k.records ≡ length j.records = ap (λ (x : JournalValue). length x.records) (same k j at) in
+    less (length k.records) (length j.records) r.placed s.placed (unplaced js ss) q p lt
+  where
+    same : (a b : JournalValue) → Some a ≡ Some b → a ≡ b
+    same a b e = cc
+
+    less : (m n a b u : ℕ) → m ≡ n → a ≡ b → b < n → (m - (b + 1)) + u < (m - a) + u
+    less m n a b u e f lt = omega arith
+unplaced-set (k ∷ js) (r ∷ ss) (suc i) j s at sat lt = let h = unplaced-set js ss i j s at sat lt in omega arith
+
+pub unplaced-place : (t : Table) (js : List JournalValue) (old : Loom) (i : ℕ) (what : What) (new : Loom) → Weaves t js old → IsReady js old i what → Places js old i what new → unplaced js new.strands.items < unplaced js old.strands.items
+unplaced-place t js old i what new w ready placed =
+    subst (λ ss. unplaced js ss < unplaced js old.strands.items) (sym (placed.each ready.journal ready.strand ready.next ready.at ready.strand_at ready.next_at).strands)
+    (unplaced-set js old.strands.items i ready.journal ready.strand ready.at ready.strand_at within)
+  where
+    within : ready.strand.placed < length ready.journal.records
+    within = let a = ready.left in let b = (w.strands i ready.journal ready.strand ready.at ready.strand_at).longest.within in omega arith
+
+-- ---- where nothing can be placed
+at_end : (xs : List Seen) (x : Seen) (rest : List Seen) → slice_get ((xs ++ x ∷ []) ++ rest) (length xs) ≡ Some x
+at_end [] x rest = refl
+at_end (y ∷ xs) x rest = at_end xs x rest
+
+at_front : (all : List Seen) (k : ℕ) (x : Seen) (rest : List Seen) → k ≤ length all → all ≡ (take k all ++ x ∷ []) ++ rest → slice_get all k ≡ Some x
+at_front all k x rest le e =
+    ap (λ xs. slice_get xs k) e ∙ (ap (slice_get ((take k all ++ x ∷ []) ++ rest)) (sym (length-take-le k all le)) ∙ at_end (take k all) x rest)
+
+told-long : (t : Table) (j : JournalValue) (s : Strand) → IsStrand t j s → s.placed ≤ length (told j)
+told-long t j s k = let a = k.placed in let b = k.longest.within in rw length-map (omega arith)
+
+pub stands : (t : Table) (js : List JournalValue) (l : Loom) → Weaves t js l → AllStill js l → Stands t js l.events.items
+stands t js l w still i j at x front answer what named =
+    let k = still i (slice_get_within js i j at) in
+    let same : k.journal ≡ j = one_at js i k.journal j k.at at in
+    let strand : IsStrand t j k.strand = w.strands i j k.strand at k.strand_at in
+    let seen : seen_in t l.events.items j.opening.node ≡ take k.strand.placed (told j) = w.seen i j k.strand at k.strand_at in
+    let there : At (told j) k.strand.placed x = at_front (told j) k.strand.placed x front.0 (told-long t j k.strand strand) (front.1 ∙ ap (λ xs. (xs ++ x ∷ []) ++ front.0) seen) in
+    elim k.cause [
+      | inl used ↦
+          let whole : k.strand.placed ≡ k.strand.good = (let a = strand.placed in omega arith) in
+          strand.longest.ends x (subst (λ n. At (told j) n x) whole there)
+          (answer ∙ ap (λ d. (node_step t j.opening.node d x.event).answer) (node-after t j.opening.node (start t) l.events.items refl ∙ ap (replayed t j.opening.node (off_after 0)) (seen ∙ ap (λ n. take n (told j)) whole)))
+      | inr next ↦
+          let r = next.0 in
+          let is : x ≡ as_seen r = same_seen x (as_seen r) (sym there ∙ told-at j k.strand.placed r (subst (λ (y : JournalValue). At y.records k.strand.placed r) same next.1.0)) in
+          next.1.1 what (ap (λ os. event_of os l.messages what) w.operations ∙ (ap (λ ms. event_of (run_from t (start t) l.events.items).operations ms what) w.messages ∙ (named ∙ ap (λ (y : Seen). y.event) is)))
+    ]
+  where
+    same_seen : (a b : Seen) → Some a ≡ Some b → a ≡ b
+    same_seen a b e = cc
+
+-- ---- the end
+take-whole : (j : JournalValue) (k : ℕ) → length j.records ≤ k → take k (told j) ≡ told j
+take-whole j k h = take_all k (told j) (rw length-map h)
+
+not_below : (a b : ℕ) → (a < b → ⊥) → b ≤ a
+not_below a b h = omega arith
+
+strand_there : (js : List JournalValue) (ss : List Strand) (i : ℕ) (j : JournalValue) → length ss ≡ length js → At js i j → (s : Strand) × At ss i s
+strand_there [] [] i j e at = cc
+strand_there [] (r ∷ ss) i j e at = absurd (omega arith)
+strand_there (k ∷ js) [] i j e at = absurd (omega arith)
+strand_there (k ∷ js) (r ∷ ss) zero j e at = (r, refl)
+strand_there (k ∷ js) (r ∷ ss) (suc i) j e at = strand_there js ss i j (less e) at
+  where
+    less : suc (length ss) ≡ suc (length js) → length ss ≡ length js
+    less e = omega arith
+
+module _ (t : Table) (js : List JournalValue) (l : Loom) (w : Weaves t js l) (fit : AllFit js) where
+  -- a journal of which nothing is left is given whole
+  given_whole : (i : ℕ) (j : JournalValue) → At js i j → (IsLeft l.strands.items i j → ⊥) → seen_in t l.events.items j.opening.node ≡ told j
+  given_whole i j at not =
+      let s = strand_there js l.strands.items i j w.count at in
+      w.seen i j s.0 at s.1 ∙ take-whole j s.0.placed (not_below s.0.placed (length j.records) (λ lt. not (s.0, (s.1, lt))))
+
+  pub gives : AllWhole js l.strands.items → Gives t js l.events.items
+  gives whole = record { fit = fit; each = λ i j at. given_whole i j at (whole i j at); others = w.others }
+
+  pub gives_fronts : GivesFronts t js l.events.items
+  gives_fronts = record {
+    each = λ i j at.
+        let s = strand_there js l.strands.items i j w.count at in
+        (drop s.0.placed (told j), sym (take-append-drop s.0.placed (told j)) ∙ ap (λ xs. xs ++ drop s.0.placed (told j)) (sym (w.seen i j s.0 at s.1)));
+    others = w.others;
+  }
+
+  front_length : (xs ys : List Seen) → IsFrontOf xs ys → length xs ≤ length ys
+  front_length xs ys f = let e = ap (λ (zs : List Seen). length zs) f.1 ∙ length-append xs f.0 in omega arith
+
+  pub stuck : AllStill js l → (i : ℕ) (j : JournalValue) (s : Strand) → IsFirst js (IsLeft l.strands.items) i j → At l.strands.items i s → IsStuckAt t js i j (s.placed + 1)
+  stuck still i j s first sat =
+      let at = first.there in
+      let left = first.is in
+      let own : left.0 ≡ s = same_strand left.0 s (sym left.1.0 ∙ sat) in
+      let strand = w.strands i j s at sat in
+      let placed : length (seen_in t l.events.items j.opening.node) ≡ s.placed =
+      ap (λ (xs : List Seen). length xs) (w.seen i j s at sat) ∙ length-take-le s.placed (told j) (told-long t j s strand) in
+      record {
+        there = at;
+        within = next (subst (λ (x : Strand). x.placed < length j.records) own left.1.1);
+        reached = (l.events.items, (gives_fronts, (ap (λ n. n + 1) placed, λ k b there lt. given_whole k b there (λ more. before (first.least k b there more) lt))));
+        never = λ es fronts. below (front_length _ _ (furthest t js l.events.items gives_fronts (stands t js l w still) es fronts j.opening.node)) placed;
+      }
+    where
+      next : {a b : ℕ} → a < b → a + 1 ≤ b
+      next h = omega arith
+
+      before : {a b : ℕ} → a ≤ b → b < a → ⊥
+      before h k = omega arith
+
+      below : {a b c : ℕ} → a ≤ b → b ≡ c → a < c + 1
+      below h k = omega arith
+
+-- ---- what the fault says
+-- of journals that a fault names no run gives all
+pub gives_fronts-of : (t : Table) (js : List JournalValue) (es : List WorldEvent) → Gives t js es → GivesFronts t js es
+gives_fronts-of t js es g = record {
+  each = λ i j at. ([], sym (g.each i j at) ∙ sym (append-nil (seen_in t es j.opening.node)));
+  others = g.others;
+}
+
+pub none_gives : (t : Table) (js : List JournalValue) (node : NodeId) (place : ℕ) → IsUnwoven t js node place → (es : List WorldEvent) → Gives t js es → ⊥
+none_gives t js node place u es g = elim u.cause [
+  | inl unfit ↦ g.fit u.index u.journal unfit.1.there unfit.1.is
+  | inr stuck ↦ short (stuck.1.never es (gives_fronts-of t js es g)) (ap (λ (xs : List Seen). length xs) (g.each u.index u.journal stuck.1.there) ∙ length-map u.journal.records as_seen) stuck.1.within
+]
+  where
+    short : {a b c : ℕ} → a < b → a ≡ c → b ≤ c → ⊥
+    short h k m = omega arith
+
+-- nor does any record all
+pub none_recorded : (t : Table) (js : List JournalValue) (node : NodeId) (place : ℕ) → IsUnwoven t js node place → (es : List WorldEvent) → IsRecorded t js es → ⊥
+none_recorded t js node place u es recorded = none_gives t js node place u (kept t (start t) es) (recorded-gives t js es recorded)
+
+-- ---- as the code comes to an end
+module _ (t : Table) (js : List JournalValue) (l : Loom) (w : Weaves t js l) (fit : AllFit js) (still : AllStill js l) (node : NodeId) (place : ℕ) (left : IsLeftAt js l.strands.items node place) where
+  pub unwoven : IsUnwoven t js node place
+  unwoven = record {
+    journal = left.journal;
+    index = left.index;
+    node_is = left.node_is;
+    cause = inr (fit, subst (IsStuckAt t js left.index left.journal) left.place_is (stuck t js l w fit still left.index left.journal left.strand left.first left.strand_at));
+  }

@@ -1,0 +1,172 @@
+-- One journal replayed alone.
+use Rattle.std.proofs.Common.{◌≡◌, ℕ, ◌+◌, ◌<◌, ◌≤◌, Bool, true, false, cond, zero, suc, List, [], ◌∷◌, ◌++◌, Some, None, Result, Ok, Err, length, take, map, get_or, lt-ltb, refl, sym, ap, subst, ◌∙◌, true≢false, arith}
+use Rattle.std.specs.Prelude.{nat_lt, IsTrue, ◌↔◌}
+use Rattle.std.specs.List.{slice_get}
+use Rattle.std.specs.Option.{option_map}
+use Rattle.std.proofs.lemmas.List.{take_more, length-map}
+use Rattle.std.proofs.lemmas.Bool.Decides.{nat_tests}
+use Rattle.std.proofs.lemmas.Option.{slice_get-map, slice_get_within, get_or_from_slice_get, slice_get_past, slice_get_read}
+use Rattle.dac_base.specs.declared.NodeId.{NodeId}
+use Rattle.dac_config.specs.Table.{Table, node_count}
+use Rattle.dac_journal.specs.NodeValue.{NodeValue}
+use Rattle.dac_messages.specs.declared.event.Event.{Event}
+use Rattle.dac_messages.specs.declared.reply.Reply.{Reply}
+use Rattle.dac_commands.specs.declared.refusal.Refusal.{Refusal}
+use Rattle.dac_journal.specs.WorldFault.TheVariants.{NoSuchNode}
+use Rattle.dac_journal.specs.ModelNode.{ModelNode, shown}
+use Rattle.dac_journal.specs.Step.{model_step, Steps}
+use Rattle.dac_journal.specs.laws.Histories.{refused_stays}
+use Rattle.dac_journal.specs.Histories.{off_after}
+use Rattle.dac_journal.specs.NodeValue.{off}
+use Rattle.dac_journal.specs.declared.record.Record.{Record}
+use Rattle.dac_journal.specs.Journals.{JournalValue}
+use Rattle.dac_weave.specs.Woven.{Seen, as_seen, told, worldly, At}
+use Rattle.dac_weave.specs.Replay.{NodeStepped, moved, node_step, node_step_by, replayed, AreAnswered, IsLongest, Repeats}
+use Rattle.dac_weave.specs.laws.Runs.{replayed-append, AreAnswered-push}
+
+-- ---- lists by place
+pub take-push : {X : Type 0} (xs : List X) (i : ℕ) (x : X) → slice_get xs i ≡ Some x → take (i + 1) xs ≡ take i xs ++ x ∷ []
+take-push xs i x h = take_more xs i x (slice_get_within xs i x h) ∙ ap (λ z. take i xs ++ z ∷ []) (get_or_from_slice_get xs i x x h)
+
+pub told-at : (j : JournalValue) (i : ℕ) (r : Record) → At j.records i r → At (told j) i (as_seen r)
+told-at j i r h = slice_get-map as_seen j.records i ∙ ap (option_map as_seen) h
+
+-- ---- one step
+pub worldly-same : (a b : Result Reply Refusal) → worldly a ≡ worldly b → a ≡ b
+worldly-same (Ok x) (Ok y) e = cc
+worldly-same (Ok x) (Err y) e = cc
+worldly-same (Err x) (Ok y) e = cc
+worldly-same (Err x) (Err y) e = cc
+
+moved-answer : (d m : ModelNode) (a : Result Reply Refusal) → (moved d m a).answer ≡ worldly a
+moved-answer d m (Ok x) = refl
+moved-answer d m (Err x) = refl
+
+-- a refused event leaves the node as it was
+moved-node : (t : Table) (n : NodeId) (d : ModelNode) (e : Event) → (moved d (model_step t n d e).node (model_step t n d e).answer).node ≡ (model_step t n d e).node
+moved-node t n d e = elim (model_step t n d e).answer as (λ r. (model_step t n d e).answer ≡ r → (moved d (model_step t n d e).node r).node ≡ (model_step t n d e).node) [
+  | Ok reply ↦ λ is. refl
+  | Err why ↦ λ is. sym (refused_stays t n d e why is)
+] refl
+
+module _ (t : Table) (n : NodeId) (inside : nat_lt n.0 (node_count t) ≡ true) (d : ModelNode) (e : Event) where
+  node_step-is : node_step t n d (Ok e) ≡ moved d (model_step t n d e).node (model_step t n d e).answer
+  node_step-is = ap (λ b. cond b (moved d (model_step t n d e).node (model_step t n d e).answer) (record { node = d; answer = Err NoSuchNode })) inside
+
+  pub node_step-answer : (node_step t n d (Ok e)).answer ≡ worldly (model_step t n d e).answer
+  node_step-answer = ap (λ (s : NodeStepped). s.answer) node_step-is ∙ moved-answer d (model_step t n d e).node (model_step t n d e).answer
+
+  pub node_step-node : (node_step t n d (Ok e)).node ≡ (model_step t n d e).node
+  node_step-node = ap (λ (s : NodeStepped). s.node) node_step-is ∙ moved-node t n d e
+
+-- ---- as far as the replay has come
+abbrev pub so_far : Table → JournalValue → ℕ → ModelNode
+so_far t j i = replayed t j.opening.node (off_after 0) (take i (told j))
+
+pub record Replaying (t : Table) (j : JournalValue) (i : ℕ) (node : NodeValue) : Type 0 where
+  pub inside : nat_lt j.opening.node.0 (node_count t) ≡ true
+  pub answered : AreAnswered t j.opening.node (off_after 0) (take i (told j))
+  pub shows : shown t (so_far t j i) ≡ node
+
+pub replay_turn : (t : Table) (j : JournalValue) (i : ℕ) (old new : NodeValue) (r : Record) → Replaying t j i old → At j.records i r → Repeats t j.opening.node old r new true → Replaying t j (i + 1) new
+replay_turn t j i old new r p at rep =
+    let more = take-push (told j) i (as_seen r) (told-at j i r at) in
+    let step = rep.by (so_far t j i) p.shows in
+    record {
+      inside = p.inside;
+      answered = subst (AreAnswered t j.opening.node (off_after 0)) (sym more)
+          (AreAnswered-push t j.opening.node (off_after 0) (take i (told j)) (as_seen r) p.answered (sym (node_step-answer t j.opening.node p.inside (so_far t j i) r.event ∙ ap worldly (step.1.0 refl))));
+      shows = ap (λ xs. shown t (replayed t j.opening.node (off_after 0) xs)) more
+          ∙ (ap (shown t) (replayed-append t j.opening.node (off_after 0) (take i (told j)) (as_seen r ∷ []))
+          ∙ (ap (shown t) (node_step-node t j.opening.node p.inside (so_far t j i) r.event) ∙ step.0));
+    }
+
+same_seen : (x y : Seen) → Some x ≡ Some y → x ≡ y
+same_seen x y e = cc
+
+pub replay_stop : (t : Table) (j : JournalValue) (i : ℕ) (old new : NodeValue) (r : Record) → Replaying t j i old → At j.records i r → Repeats t j.opening.node old r new false → IsLongest t j i
+replay_stop t j i old new r p at rep = record {
+  within = before (slice_get_within j.records i r at);
+  answered = p.answered;
+  ends = λ x there is.
+      let e : x ≡ as_seen r = same_seen x (as_seen r) (sym there ∙ told-at j i r at) in
+      let step = rep.by (so_far t j i) p.shows in
+      let answer : worldly r.answer ≡ worldly (model_step t j.opening.node (so_far t j i) r.event).answer =
+      subst (λ (y : Seen). y.answer ≡ (node_step t j.opening.node (so_far t j i) y.event).answer) e is ∙ node_step-answer t j.opening.node p.inside (so_far t j i) r.event in
+      true≢false (sym (step.1.1 (sym (worldly-same r.answer (model_step t j.opening.node (so_far t j i) r.event).answer answer))));
+}
+  where
+    before : i < length j.records → i ≤ length j.records
+    before h = omega arith
+
+pub replay_end : (t : Table) (j : JournalValue) (i : ℕ) (node : NodeValue) → i ≡ length j.records → Replaying t j i node → IsLongest t j i
+replay_end t j i node e p = record {
+  within = all;
+  answered = p.answered;
+  ends = λ x there is. past x (sym there ∙ slice_get_past (told j) i long);
+}
+  where
+    all : i ≤ length j.records
+    all = omega arith
+
+    long : length (told j) ≤ i
+    long = rw length-map (omega arith)
+
+    past : (x : Seen) → Some x ≡ None → ⊥
+    past x e = cc
+
+-- what is told is of a record
+recorded : (rs : List Record) (i : ℕ) (x : Seen) → slice_get (map as_seen rs) i ≡ Some x → (r : Record) × (x ≡ as_seen r)
+recorded [] i x h = cc
+recorded (r ∷ rs) zero x h = (r, cc)
+recorded (r ∷ rs) (suc i) x h = recorded rs i x h
+
+pub worldly-there : (a : Result Reply Refusal) → worldly a ≡ Err NoSuchNode → ⊥
+worldly-there (Ok x) e = cc
+worldly-there (Err x) e = cc
+
+-- no record of a node that isn't there
+pub replay_nowhere : (t : Table) (j : JournalValue) → nat_lt j.opening.node.0 (node_count t) ≡ false → IsLongest t j 0
+replay_nowhere t j outside = record {
+  within = omega arith;
+  answered = tt;
+  ends = λ x there is.
+      let r = recorded j.records 0 x there in
+      worldly-there r.0.answer (sym (ap (λ (y : Seen). y.answer) r.1) ∙ (is ∙ ap (λ b. (cond b (node_step_by t j.opening.node (off_after 0) x.event) (record { node = off_after 0; answer = Err NoSuchNode })).answer) outside));
+}
+
+pub outside : (n c : ℕ) → c ≤ n → nat_lt n c ≡ false
+outside n c h = grind (arith, nat_tests)
+
+-- ---- as the code reads them
+module _ (t : Table) (j : JournalValue) (i : ℕ) (old new : NodeValue) (rs : List Record) (r : Record) (read : r ≡ get_or rs i r) (n : NodeId) (n_is : n ≡ j.opening.node) (rs_is : rs ≡ j.records) (same : Bool) where
+  read_at : i < length rs → At j.records i r
+  read_at lt = subst (λ xs. slice_get xs i ≡ Some r) rs_is (slice_get_read rs (length rs) i r refl lt read)
+
+  own_node : Repeats t n old r new same → (b : Bool) → same ≡ b → Repeats t j.opening.node old r new b
+  own_node rep b e = subst (λ (m : NodeId). Repeats t m old r new b) n_is (subst (λ (s : Bool). Repeats t n old r new s) e rep)
+
+  pub read_turn : i < length rs → same ≡ true → Replaying t j i old → Repeats t n old r new same → Replaying t j (i + 1) new
+  read_turn lt e p rep = replay_turn t j i old new r p (read_at lt) (own_node rep true e)
+
+  pub read_stop : i < length rs → same ≡ false → Replaying t j i old → Repeats t n old r new same → IsLongest t j i
+  read_stop lt e p rep = replay_stop t j i old new r p (read_at lt) (own_node rep false e)
+
+-- the step, joined with a test of its answer
+pub repeated : (t : Table) (me : NodeId) (old new : NodeValue) (r : Record) (test : Bool) (a : Result Reply Refusal) → Steps t me old r.event new a → (IsTrue test ↔ (r.answer ≡ a)) → Repeats t me old r new test
+repeated t me old new r test a steps tests = record {
+  by = λ d shows. let s = steps.by d shows in (s.0, (λ h. s.1 ∙ sym (tests.0 h), λ h. tests.1 (sym h ∙ s.1)));
+}
+
+pub replay_start : (t : Table) (j : JournalValue) (n : NodeId) (node : NodeValue) → n ≡ j.opening.node → n.0 < node_count t → node ≡ off 0 → Replaying t j 0 node
+replay_start t j n node is lt e = record {
+  inside = subst (λ (m : NodeId). nat_lt m.0 (node_count t) ≡ true) is (lt-ltb n.0 (node_count t) lt);
+  answered = tt;
+  shows = sym e;
+}
+
+pub read_end : (t : Table) (j : JournalValue) (i : ℕ) (node : NodeValue) (rs : List Record) → rs ≡ j.records → length rs ≤ i → i ≤ length rs → Replaying t j i node → IsLongest t j (length rs)
+read_end t j i node rs e low high p = subst (IsLongest t j) same (replay_end t j i node (same ∙ ap (λ (xs : List Record). length xs) e) p)
+  where
+    same : i ≡ length rs
+    same = omega arith

@@ -1,0 +1,22 @@
+use Rattle.std.proofs.Common.{◌≡◌, ◌%◌, ◌<◌, Some, length, arith}
+use Rattle.std.specs.List.{slice_get}
+use Rattle.std.proofs.lemmas.Nat.{mod_below}
+use Rattle.std.proofs.lemmas.Option.{slice_get_read}
+use Rattle.dac_weave.proofs.Filed.{files, keeps, on_err}
+use Rattle.dac_weave.proofs.buckets.Buckets.file.Goals as goal
+
+pub returns-clause-files : goal.returns-clause-files
+returns-clause-files c =
+    let lists = c.args.self.now.lists.items in
+    let some : 0 < length lists = c.args.self.now.some in
+    let long : c.len.result ≡ length lists = omega arith in
+    let there : slice_get lists (c.args.label % c.len.result) ≡ Some c.index_mut.result.now = slice_get_read lists c.len.result (c.args.label % c.len.result) c.index_mut.result.now long (mod_below c.args.label c.len.result (omega arith)) c.index_mut.ensures.value in
+    files lists c.args.label c.len.result c.args.number c.index_mut.result.now c.push.new.self long there c.in_ok-push.ensures.items
+
+pub returns-in_err-push-clause-kept : goal.returns-in_err-push-clause-kept
+returns-in_err-push-clause-kept c =
+    let lists = c.args.self.now.lists.items in
+    let some : 0 < length lists = c.args.self.now.some in
+    let long : c.len.result ≡ length lists = omega arith in
+    let there : slice_get lists (c.args.label % c.len.result) ≡ Some c.index_mut.result.now = slice_get_read lists c.len.result (c.args.label % c.len.result) c.index_mut.result.now long (mod_below c.args.label c.len.result (omega arith)) c.index_mut.ensures.value in
+    on_err c.from_residual.result (keeps lists c.args.label c.len.result c.index_mut.result.now c.push.new.self long there c.in_err-push.ensures.items)

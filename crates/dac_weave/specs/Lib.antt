@@ -1,0 +1,10 @@
+pub mod Woven
+pub mod Recording
+pub mod Faults
+pub mod Converging
+pub mod Replay
+pub mod Filing
+pub mod Labels
+pub mod Names
+pub mod Placing
+pub mod laws

@@ -1,0 +1,100 @@
+-- What a list of world events gives at each node, and when it gives these journals.
+use Rattle.std.specs.Prelude.{◌⊎◌, ◌≡◌, ◌≢◌, ℕ, ◌+◌, ◌<◌, ◌≤◌, cond, nat_eq, List, [], ◌∷◌, ◌++◌, length, map as list_map, Some, Result, Ok, Err}
+use Rattle.std.specs.List.{slice_get}
+use Rattle.dac_base.specs.declared.NodeId.{NodeId}
+use Rattle.dac_config.specs.Table.{Table}
+use Rattle.dac_messages.specs.declared.event.Event.{Event}
+use Rattle.dac_messages.specs.declared.reply.Reply.{Reply}
+use Rattle.dac_commands.specs.declared.refusal.Refusal.{Refusal}
+use Rattle.dac_events.specs.declared.WorldEvent.{WorldEvent}
+use Rattle.dac_journal.specs.WorldFault.{WorldFault}
+use Rattle.dac_journal.specs.WorldFault.TheVariants.{Refused}
+use Rattle.dac_journal.specs.ModelWorld.{ModelWorld, start, event_of, happens}
+use Rattle.dac_journal.specs.declared.record.Record.{Record}
+use Rattle.dac_journal.specs.Journals.{JournalValue}
+
+-- ---- what a node sees of a run
+-- an event of the world as its node sees it: the node's own event, unless the number names none, and the answer
+pub record Seen : Type 0 where
+  pub event : Result Event WorldFault
+  pub answer : Result Reply WorldFault
+
+abbrev pub seen_of : Table → ModelWorld → WorldEvent → Seen
+seen_of t w e = record { event = event_of w.operations w.messages e.what; answer = (happens t w e).answer }
+
+-- what node n sees of these events, one after another from w
+abbrev pub seen_at : Table → NodeId → ModelWorld → List WorldEvent → List Seen
+seen_at t n w [] = []
+seen_at t n w (e ∷ es) = cond (nat_eq e.node.0 n.0) (seen_of t w e ∷ seen_at t n (happens t w e).world es) (seen_at t n (happens t w e).world es)
+
+-- what node n sees of a whole run
+abbrev pub seen_in : Table → List WorldEvent → NodeId → List Seen
+seen_in t es n = seen_at t n (start t) es
+
+-- ---- journals
+abbrev pub worldly : Result Reply Refusal → Result Reply WorldFault
+worldly (Ok reply) = Ok reply
+worldly (Err why) = Err (Refused why)
+
+-- a record, as its node saw it
+abbrev pub as_seen : Record → Seen
+as_seen r = record { event = Ok r.event; answer = worldly r.answer }
+
+abbrev pub told : JournalValue → List Seen
+told j = list_map as_seen j.records
+
+-- the i-th journal, from 0
+abbrev pub At : {X : Type 0} → List X → ℕ → X → Type 0
+At xs i x = slice_get xs i ≡ Some x
+
+abbrev pub IsFrontOf : List Seen → List Seen → Type 0
+IsFrontOf xs ys = (rest : List Seen) × (ys ≡ xs ++ rest)
+
+-- no journal is node n's
+abbrev pub HasNone : List JournalValue → NodeId → Type 0
+HasNone js n = (i : ℕ) (j : JournalValue) → At js i j → j.opening.node ≢ n
+
+-- another journal is the i-th one's node's too
+abbrev pub IsTwice : List JournalValue → ℕ → JournalValue → Type 0
+IsTwice js i j = (k : ℕ) × ((b : JournalValue) × (At js k b × ((k ≢ i) × (b.opening.node ≡ j.opening.node))))
+
+-- The i-th journal is no whole history: its node was booted before it begins, or another journal is its node's too.
+abbrev pub IsUnfit : List JournalValue → ℕ → JournalValue → Type 0
+IsUnfit js i j = (j.opening.last ≢ 0) ⊎ IsTwice js i j
+
+abbrev pub AllFit : List JournalValue → Type 0
+AllFit js = (i : ℕ) (j : JournalValue) → At js i j → IsUnfit js i j → ⊥
+
+-- ---- what the weave promises
+-- The run of these world events gives these journals: at each journal's node exactly its records, in order,
+-- with their answers, and nothing at any other node.
+pub record Gives (t : Table) (js : List JournalValue) (es : List WorldEvent) : Type 0 where
+  pub fit : AllFit js
+  pub each : (i : ℕ) (j : JournalValue) → At js i j → seen_in t es j.opening.node ≡ told j
+  pub others : (n : NodeId) → HasNone js n → seen_in t es n ≡ []
+
+-- the run gives a front of each journal
+pub record GivesFronts (t : Table) (js : List JournalValue) (es : List WorldEvent) : Type 0 where
+  pub each : (i : ℕ) (j : JournalValue) → At js i j → IsFrontOf (seen_in t es j.opening.node) (told j)
+  pub others : (n : NodeId) → HasNone js n → seen_in t es n ≡ []
+
+-- The i-th journal is one of these, and of those the first by name.
+pub record IsFirst (js : List JournalValue) (among : ℕ → JournalValue → Type 0) (i : ℕ) (j : JournalValue) : Type 0 where
+  pub there : At js i j
+  pub is : among i j
+  pub least : (k : ℕ) (b : JournalValue) → At js k b → among k b → j.opening.node.0 ≤ b.opening.node.0
+
+-- Some run gives all before this place of the i-th journal, and the journals of lesser names whole; none gives
+-- more of this one.
+pub record IsStuckAt (t : Table) (js : List JournalValue) (i : ℕ) (j : JournalValue) (place : ℕ) : Type 0 where
+  pub there : At js i j
+  pub within : place ≤ length j.records
+  pub reached : (es : List WorldEvent) × (GivesFronts t js es × ((length (seen_in t es j.opening.node) + 1 ≡ place) × ((k : ℕ) (b : JournalValue) → At js k b → b.opening.node.0 < j.opening.node.0 → seen_in t es b.opening.node ≡ told b)))
+  pub never : (es : List WorldEvent) → GivesFronts t js es → length (seen_in t es j.opening.node) < place
+
+-- the fault of journals that no run gives
+pub record IsUnwoven (t : Table) (js : List JournalValue) (node : NodeId) (place : ℕ) : Type 0 where
+  pub journal : JournalValue
+  pub index : ℕ
+  pub node_is : journal.opening.node ≡ node
+  pub cause : ((place ≡ 0) × IsFirst js (IsUnfit js) index journal) ⊎ (AllFit js × IsStuckAt t js index journal place)

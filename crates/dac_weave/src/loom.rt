@@ -1,0 +1,224 @@
+//! What is placed of each journal, and placing more.
+
+ghost use Rattle.std.specs.Prelude.{◌≡◌, ◌<◌, ◌≤◌, ◌++◌, IfOk, OnOk, MatchOption, length};
+ghost use Rattle.dac_weave.specs.Names.{Names, issued_in, shipped_in};
+
+use crate::messages::Messages;
+use crate::operations::Operations;
+use crate::strand::{Strand, strands_of};
+use crate::unfit::lesser;
+use dac_base::{NoMemory, NodeId};
+use dac_config::Config;
+use dac_events::{What, WorldEvent};
+use dac_journal::{Answer, Closed};
+use dac_messages::{Event, OpList, Reply};
+use std::alloc::Global;
+
+/// The events so far, and what they issued and shipped.
+#[derive(Drop)]
+pub(crate) struct Loom<'a> {
+    pub(crate) strands: Vec<Strand>,
+    pub(crate) events: Vec<WorldEvent>,
+    pub(crate) operations: Operations<'a>,
+    pub(crate) messages: Messages<'a>,
+}
+
+/// The event of the world that is this event at its node, if there is one now.
+fn named(operations: &Operations<'_>, messages: &Messages<'_>, event: &Event) -> Option<What>
+    ensures { Names operations.now messages.now event.now result }
+{
+    match event {
+        Event::Boot { now } => Some(What::Boot { now: *now }),
+        Event::Crash => Some(What::Crash),
+        Event::Command(command) => Some(What::Command(*command)),
+        Event::Tick { now } => Some(What::Tick { now: *now }),
+        Event::Ship { to } => Some(What::Ship { to: *to }),
+        Event::Hear(message) => match messages.number(message) {
+            Some(number) => Some(What::Deliver(number)),
+            None => None,
+        },
+        Event::HearOp(operation) => match operations.number(operation) {
+            Some(number) => Some(What::Hand(number)),
+            None => None,
+        },
+    }
+}
+
+/// Notes operations that were issued.
+fn note_all<'a>(operations: &mut Operations<'a>, issued: &'a OpList) -> Result<(), NoMemory>
+    ensures { OnOk result (operations.new ≡ operations.old ++ issued.now) }
+{
+    for operation in issued.as_slice() {
+        operations.put(operation)?;
+    }
+    Ok(())
+}
+
+/// Notes what an answer issues and ships.
+fn note<'a>(
+    operations: &mut Operations<'a>,
+    messages: &mut Messages<'a>,
+    answer: &'a Answer,
+) -> Result<(), NoMemory>
+    ensures operations { OnOk result (operations.new ≡ operations.old ++ issued_in answer.now) }
+    ensures messages { OnOk result (messages.new ≡ messages.old ++ shipped_in answer.now) }
+{
+    match answer {
+        Ok(Reply::Booted(operation) | Reply::Issued(operation)) => operations.put(operation),
+        Ok(Reply::Ticked { ops, passed: _ }) => note_all(operations, ops),
+        Ok(Reply::Shipped(message)) => messages.put(message),
+        Ok(Reply::Crashed | Reply::Held | Reply::GaveUp | Reply::Heard(_)) | Err(_) => Ok(()),
+    }
+}
+
+/// How many records the journals have together, up to the greatest number.
+fn count_all(journals: &[Closed]) -> usize {
+    let mut count = 0usize;
+    for journal in journals {
+        count = count.saturating_add(journal.records().len());
+    }
+    count
+}
+
+impl<'a> Loom<'a> {
+    ghost use Rattle.std.specs.Prelude.{ℕ, ◌<◌, ◌≤◌, IfOk, OnOk, MatchOption, length};
+    ghost use Rattle.dac_journal.specs.Journals.{JournalValue};
+    ghost use Rattle.dac_weave.specs.Woven.{AllFit, IsFirst};
+    ghost use Rattle.dac_weave.specs.Placing.{Fits, Weaves, IsReady, IsStill, AllStill, StillBetween, Places, IsLeft, IsLeftAt, AllWhole};
+
+    /// Nothing placed.
+    pub(crate) fn new(
+        alloc: Global,
+        config: &Config,
+        journals: &'a [Closed],
+    ) -> Result<Self, NoMemory>
+        ensures { IfOk result (Weaves config.now journals.now) }
+    {
+        let strands = strands_of(alloc, config, journals)?;
+        let room = count_all(journals);
+        let operations = Operations::new(alloc, room)?;
+        let messages = Messages::new(alloc, room)?;
+        Ok(Loom {
+            strands,
+            events: Vec::new(alloc),
+            operations,
+            messages,
+        })
+    }
+
+    /// The event of the world that places the next record of a journal, if it can be placed.
+    fn ready(&self, journals: &[Closed], i: usize) -> Option<What>
+        requires fits { Fits journals.now self.now.strands.items }
+        requires within { i < length journals.now }
+        ensures { MatchOption result (IsStill journals.now self.now i) (IsReady journals.now self.now i) }
+    {
+        let strand = &self.strands[i];
+        let records = journals[i].records();
+        if strand.placed < strand.good {
+            named(
+                &self.operations,
+                &self.messages,
+                &records[strand.placed].event,
+            )
+        } else {
+            None
+        }
+    }
+
+    /// A journal between two places whose next record can be placed, with the event of the world that places it.
+    fn find_between(&self, journals: &[Closed], low: usize, high: usize) -> Option<(usize, What)>
+        requires fits { Fits journals.now self.now.strands.items }
+        requires within { high ≤ length journals.now }
+        ensures { MatchOption result (StillBetween journals.now self.now low high) (λ found. (found.0 < length journals.now) × IsReady journals.now self.now found.0 found.1) }
+    {
+        for i in low..high {
+            match self.ready(journals, i) {
+                Some(what) => return Some((i, what)),
+                None => {}
+            }
+        }
+        None
+    }
+
+    /// A journal whose next record can be placed, with the event of the world that places it. It is sought from this
+    /// one on, and then from the first one on.
+    fn find(&self, journals: &[Closed], from: usize) -> Option<(usize, What)>
+        requires fits { Fits journals.now self.now.strands.items }
+        requires within { from ≤ length journals.now }
+        ensures { MatchOption result (AllStill journals.now self.now) (λ found. (found.0 < length journals.now) × IsReady journals.now self.now found.0 found.1) }
+    {
+        match self.find_between(journals, from, journals.len()) {
+            Some(found) => Some(found),
+            None => self.find_between(journals, 0, from),
+        }
+    }
+
+    /// Places the next record of a journal.
+    fn place(&mut self, journals: &'a [Closed], i: usize, what: What) -> Result<(), NoMemory>
+        requires fits { Fits journals.now self.old.strands.items }
+        requires within { i < length journals.now }
+        requires ready { IsReady journals.now self.old i what }
+        ensures { OnOk result (Places journals.now self.old i what self.new) }
+    {
+        let journal = &journals[i];
+        let records = journal.records();
+        let placed = self.strands[i].placed;
+        let record = &records[placed];
+        self.events.push(WorldEvent {
+            node: journal.node(),
+            what,
+        })?;
+        note(&mut self.operations, &mut self.messages, &record.answer)?;
+        self.strands[i].placed = placed + 1;
+        Ok(())
+    }
+
+    /// Places all that can be placed. A journal is gone on with while its next record can be placed.
+    pub(crate) fn weave(&mut self, config: &Config, journals: &'a [Closed]) -> Result<(), NoMemory>
+        requires fit { AllFit journals.now }
+        requires weaves { Weaves config.now journals.now self.old }
+        ensures weaves { OnOk result (Weaves config.now journals.now self.new) }
+        ensures still { OnOk result (AllStill journals.now self.new) }
+    {
+        let mut from = 0;
+        while let Some((i, what)) = self.find(journals, from) {
+            self.place(journals, i, what)?;
+            from = i;
+        }
+        Ok(())
+    }
+
+    /// The least-named journal that isn't placed whole.
+    fn left(&self, journals: &[Closed]) -> Option<usize>
+        requires { length self.now.strands.items ≡ length journals.now }
+        ensures { MatchOption result (AllWhole journals.now self.now.strands.items) (λ i. (j : JournalValue) × IsFirst journals.now (IsLeft self.now.strands.items) i j) }
+    {
+        let mut least: Option<usize> = None;
+        for i in 0..journals.len() {
+            if self.strands[i].placed < journals[i].records().len() {
+                least = Some(lesser(journals, least, i));
+            }
+        }
+        least
+    }
+
+    /// The node of the least-named journal that isn't placed whole, and the place of its first record that isn't.
+    pub(crate) fn first_left(&self, journals: &[Closed]) -> Option<(NodeId, u64)>
+        requires { Fits journals.now self.now.strands.items }
+        ensures { MatchOption result (AllWhole journals.now self.now.strands.items) (λ found. IsLeftAt journals.now self.now.strands.items found.0 found.1) }
+    {
+        match self.left(journals) {
+            None => None,
+            Some(i) => {
+                let journal = &journals[i];
+                let records = journal.records();
+                let placed = self.strands[i].placed;
+                if placed < records.len() {
+                    Some((journal.node(), placed as u64 + 1))
+                } else {
+                    None
+                }
+            }
+        }
+    }
+}

@@ -1,0 +1,80 @@
+//! One journal replayed alone.
+
+ghost use Rattle.std.specs.Prelude.{◌≡◌, ◌↔◌, ◌≢◌, true, false, IfOk, IsTrue, Ok, Err};
+ghost use Rattle.dac_weave.specs.Replay.{IsLongest, Repeats};
+
+use dac_base::{NoMemory, NodeId};
+use dac_commands::Refusal;
+use dac_config::Config;
+use dac_journal::{Answer, Closed, Node, Record};
+use dac_messages::Reply;
+use std::alloc::Global;
+
+/// Whether the answer is this reply.
+fn is_reply(reply: &Reply, answer: &Answer) -> bool
+    ensures { IsTrue result ↔ (answer.now ≡ Ok reply.now) }
+{
+    match answer {
+        Ok(other) => other.equal(reply),
+        Err(_) => false,
+    }
+}
+
+/// Whether the answer is this refusal.
+fn is_refusal(why: Refusal, answer: &Answer) -> bool
+    ensures { IsTrue result ↔ (answer.now ≡ Err why) }
+{
+    match answer {
+        Ok(_) => false,
+        Err(other) => *other == why,
+    }
+}
+
+/// Whether memory was refused.
+fn is_no_memory(why: Refusal) -> bool
+    ensures yes { result ≡ true → why ≡ Refusal.NoMemory }
+    ensures no { result ≡ false → why ≢ Refusal.NoMemory }
+{
+    why == Refusal::NoMemory
+}
+
+/// Does what a record did, and tells whether the answer is the record's.
+fn repeat(config: &Config, me: NodeId, node: &mut Node, record: &Record) -> Result<bool, NoMemory>
+    ensures { IfOk result (λ same. Repeats config.now me node.old record.now node.new same) }
+{
+    match node.prepare(config, me, &record.event) {
+        Ok(change) => {
+            let reply = node.apply(change)?;
+            Ok(is_reply(&reply, &record.answer))
+        }
+        Err(why) => {
+            if is_no_memory(why) {
+                return Err(NoMemory);
+            }
+            Ok(is_refusal(why, &record.answer))
+        }
+    }
+}
+
+/// How many records, from the first on, have the answers of a node that was never booted.
+pub(crate) fn true_records(
+    alloc: Global,
+    config: &Config,
+    journal: &Closed,
+) -> Result<usize, NoMemory>
+    ensures { IfOk result (IsLongest config.now journal.now) }
+{
+    let me = journal.node();
+    if me.0 >= config.nodes() {
+        return Ok(0);
+    }
+    let records = journal.records();
+    let mut node = Node::off(alloc, 0);
+    for i in 0..records.len() {
+        let same = repeat(config, me, &mut node, &records[i])?;
+        if !same {
+            return Ok(i);
+        }
+    }
+    Ok(records.len())
+}

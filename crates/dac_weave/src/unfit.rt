@@ -1,0 +1,69 @@
+//! Journals that no run can give: one that begins after a boot, and two of one node.
+
+ghost use Rattle.std.specs.Prelude.{◌≡◌, ◌≢◌, ◌↔◌, ◌<◌, IsTrue, IfSome, MatchOption, length};
+ghost use Rattle.dac_journal.specs.Journals.{JournalValue};
+ghost use Rattle.dac_weave.specs.Woven.{At, IsFirst, IsUnfit, IsTwice, AllFit};
+ghost use Rattle.dac_weave.specs.Names.{IsLesser};
+
+use dac_journal::Closed;
+
+/// The lesser by name of two journals, where there is a first.
+pub(crate) fn lesser(journals: &[Closed], least: Option<usize>, i: usize) -> usize
+    requires within { i < length journals.now }
+    requires least { IfSome least (λ k. k < length journals.now) }
+    ensures { MatchOption least (result ≡ i) (λ k. IsLesser journals.now k i result) }
+{
+    match least {
+        Some(k) => {
+            if journals[k].node().0 <= journals[i].node().0 {
+                k
+            } else {
+                i
+            }
+        }
+        None => i,
+    }
+}
+
+/// Whether the k-th journal is another one of the i-th one's node.
+fn is_other(journals: &[Closed], i: usize, k: usize) -> bool
+    requires first { i < length journals.now }
+    requires second { k < length journals.now }
+    ensures { (j b : JournalValue) → At journals.now i j → At journals.now k b → IsTrue result ↔ (k ≢ i) × (b.opening.node ≡ j.opening.node) }
+{
+    k != i && journals[k].node() == journals[i].node()
+}
+
+/// Whether another journal is of the same node.
+fn is_twice(journals: &[Closed], i: usize) -> bool
+    requires { i < length journals.now }
+    ensures { (j : JournalValue) → At journals.now i j → IsTrue result ↔ IsTwice journals.now i j }
+{
+    for k in 0..journals.len() {
+        if is_other(journals, i, k) {
+            return true;
+        }
+    }
+    false
+}
+
+/// Whether a journal is no whole history, or not the only one.
+fn is_unfit(journals: &[Closed], i: usize) -> bool
+    requires { i < length journals.now }
+    ensures { (j : JournalValue) → At journals.now i j → IsTrue result ↔ IsUnfit journals.now i j }
+{
+    journals[i].last() != 0 || is_twice(journals, i)
+}
+
+/// The least-named journal that is no whole history, or not the only one.
+pub(crate) fn unfit(journals: &[Closed]) -> Option<usize>
+    ensures { MatchOption result (AllFit journals.now) (λ i. (j : JournalValue) × IsFirst journals.now (IsUnfit journals.now) i j) }
+{
+    let mut least: Option<usize> = None;
+    for i in 0..journals.len() {
+        if is_unfit(journals, i) {
+            least = Some(lesser(journals, least, i));
+        }
+    }
+    least
+}

@@ -1,0 +1,59 @@
+//! Journals that are made by asking them.
+use dac_base::NodeId;
+use dac_config::{Config, read_config};
+use dac_journal::{Answer, Closed, Journal};
+use dac_messages::{Event, Reply};
+use std::alloc::Global;
+
+/// The documented example: three nodes, of which two must be there before an application starts.
+const EXAMPLE: &[u8] =
+    b"[{kernel, [{distributed, [{myapp, 5000, [cp1@cave, {cp2@cave, cp3@cave}]}]}, {sync_nodes_mandatory, [cp2@cave, cp3@cave]}, {sync_nodes_timeout, 5000}]}].";
+
+/// The configuration of the example.
+pub(crate) fn example(alloc: Global) -> Option<Config> {
+    read_config(alloc, EXAMPLE).ok()
+}
+
+/// A journal of a node after so many incarnations.
+pub(crate) fn journal(alloc: Global, node: u8, last: u32) -> Option<Journal> {
+    let config = example(alloc)?;
+    Some(Journal::new(alloc, config, NodeId(node), last))
+}
+
+/// Asks a node by its first seat.
+pub(crate) fn ask(journal: &mut Journal, event: Event) -> Option<Answer> {
+    if journal.is_full() {
+        return None;
+    }
+    let (_, answer) = journal.ask(1, event).ok()?;
+    Some(answer)
+}
+
+/// Ships from one node to another, which hears it. A node that has all ships nothing.
+pub(crate) fn tell(from: &mut Journal, to: &mut Journal, to_node: u8) -> Option<()> {
+    let answer = ask(
+        from,
+        Event::Ship {
+            to: NodeId(to_node),
+        },
+    )?;
+    if let Ok(Reply::Shipped(message)) = &answer {
+        let copied = message.copy().ok()?;
+        let _heard = ask(to, Event::Hear(copied))?;
+    }
+    Some(())
+}
+
+/// Three journals, closed.
+pub(crate) fn close_three(
+    alloc: Global,
+    first: Journal,
+    second: Journal,
+    third: Journal,
+) -> Option<Vec<Closed>> {
+    let mut closed = Vec::new(alloc);
+    closed.push(first.close()).ok()?;
+    closed.push(second.close()).ok()?;
+    closed.push(third.close()).ok()?;
+    Some(closed)
+}

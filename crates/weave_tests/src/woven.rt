@@ -1,0 +1,148 @@
+//! Journals that are woven.
+use crate::journals::{ask, close_three, example, journal, tell};
+use dac_base::{AppId, NodeId};
+use dac_events::{Command, What, WorldEvent};
+use dac_journal::{Answer, Closed, Journal};
+use dac_messages::{Event, Reply};
+use dac_weave::weave;
+use std::alloc::Global;
+use std::test::Fail;
+
+/// Each of three nodes tells each other one.
+fn tell_all(p: &mut Journal, q: &mut Journal, r: &mut Journal) -> Option<()> {
+    tell(p, q, 1)?;
+    tell(p, r, 2)?;
+    tell(q, p, 0)?;
+    tell(q, r, 2)?;
+    tell(r, p, 0)?;
+    tell(r, q, 1)
+}
+
+fn command(journal: &mut Journal, command: Command) -> Option<()> {
+    let _answer = ask(journal, Event::Command(command))?;
+    Some(())
+}
+
+fn start(journal: &mut Journal, node: u8) -> Option<()> {
+    command(
+        journal,
+        Command::Start {
+            app: AppId(0),
+            node: NodeId(node),
+        },
+    )
+}
+
+fn permit(journal: &mut Journal, node: u8, value: bool) -> Option<()> {
+    command(
+        journal,
+        Command::Permit {
+            app: AppId(0),
+            node: NodeId(node),
+            value,
+        },
+    )
+}
+
+/// Three phases at three nodes: they boot, wish and permit, and tick; after each they tell each other.
+fn three_phases(alloc: Global) -> Option<Vec<Closed>> {
+    let mut p = journal(alloc, 0, 0)?;
+    let mut q = journal(alloc, 1, 0)?;
+    let mut r = journal(alloc, 2, 0)?;
+    let _up = ask(&mut p, Event::Boot { now: 0 })?;
+    let _up = ask(&mut q, Event::Boot { now: 0 })?;
+    let _up = ask(&mut r, Event::Boot { now: 0 })?;
+    tell_all(&mut p, &mut q, &mut r)?;
+    start(&mut p, 0)?;
+    permit(&mut p, 2, true)?;
+    start(&mut q, 1)?;
+    permit(&mut q, 1, false)?;
+    start(&mut r, 2)?;
+    permit(&mut r, 0, true)?;
+    tell_all(&mut p, &mut q, &mut r)?;
+    let _tick = ask(&mut p, Event::Tick { now: 100 })?;
+    let _tick = ask(&mut q, Event::Tick { now: 100 })?;
+    tell_all(&mut p, &mut q, &mut r)?;
+    close_three(alloc, r, p, q)
+}
+
+/// How many records the three journals have, and how many events are woven of them.
+fn count_three(alloc: Global) -> Option<(usize, usize)> {
+    let config = example(alloc)?;
+    let journals = three_phases(alloc)?;
+    let mut records = 0usize;
+    for journal in &journals {
+        records = records.saturating_add(journal.records().len());
+    }
+    let events = weave(alloc, &config, journals.as_slice()).ok()?;
+    Some((records, events.len()))
+}
+
+/// The events of two nodes, of which the second one's journal comes first: it hears what the first ships, and is
+/// handed the operation of its boot.
+fn two_nodes(alloc: Global) -> Option<Vec<WorldEvent>> {
+    let config = example(alloc)?;
+    let mut p = journal(alloc, 0, 0)?;
+    let mut q = journal(alloc, 1, 0)?;
+    let r = journal(alloc, 2, 0)?;
+    let _up = ask(&mut q, Event::Boot { now: 5 })?;
+    let booted = ask(&mut p, Event::Boot { now: 3 })?;
+    tell(&mut p, &mut q, 1)?;
+    hand(&mut q, &booted)?;
+    let journals = close_three(alloc, q, p, r)?;
+    weave(alloc, &config, journals.as_slice()).ok()
+}
+
+/// Hands a node the operation of a boot.
+fn hand(journal: &mut Journal, booted: &Answer) -> Option<()> {
+    if let Ok(Reply::Booted(operation)) = booted {
+        let copied = operation.copy().ok()?;
+        let _heard = ask(journal, Event::HearOp(copied))?;
+        return Some(());
+    }
+    None
+}
+
+fn event(node: u8, what: What) -> WorldEvent {
+    WorldEvent {
+        node: NodeId(node),
+        what,
+    }
+}
+
+/// Whether they are these events, in this order: a journal is gone on with while its next record can be placed.
+fn are_five(events: &[WorldEvent]) -> bool {
+    let wanted = [
+        event(1, What::Boot { now: 5 }),
+        event(0, What::Boot { now: 3 }),
+        event(0, What::Ship { to: NodeId(1) }),
+        event(1, What::Deliver(1)),
+        event(1, What::Hand(2)),
+    ];
+    if events.len() != wanted.len() {
+        return false;
+    }
+    for i in 0..wanted.len() {
+        if events[i] != wanted[i] {
+            return false;
+        }
+    }
+    true
+}
+
+#[test]
+fn three_journals(rt: HostRuntime) -> Result<(), Fail> {
+    assert_eq!(rt; count_three(rt.alloc()), Some((47, 47)));
+    Ok(())
+}
+
+#[test]
+fn two_journals(rt: HostRuntime) -> Result<(), Fail> {
+    let events = two_nodes(rt.alloc());
+    let right = match &events {
+        Some(events) => are_five(events.as_slice()),
+        None => false,
+    };
+    assert!(rt; right);
+    Ok(())
+}
