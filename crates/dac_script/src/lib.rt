@@ -15,11 +15,13 @@ mod script;
 mod source;
 mod words;
 
+pub use asked::{actor, named, one};
 pub use byte_list::ByteList;
 pub use failure::Failure;
 pub use fault::{InputFault, ScriptFault, ScriptFaultKind};
 pub use input::{MAX_INPUT, parted, read_input};
-pub use line::ScriptLine;
+pub use line::{ScriptLine, line_of};
 pub use preparing::prepare;
-pub use script::read_script;
+pub use script::{is_said, read_script};
 pub use source::{MAX_READS, Progress, Source};
+pub use words::{number_in, words_of};

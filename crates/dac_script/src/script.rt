@@ -13,7 +13,7 @@ use dac_config::Config;
 use std::alloc::Global;
 
 /// Whether the line says something: empty lines and lines that begin with `%` don't.
-fn is_said(line: &[u8]) -> bool
+pub fn is_said(line: &[u8]) -> bool
     ensures { result ≡ is_said line.now }
 {
     match line {

@@ -1,0 +1,5 @@
+mod Digits
+mod Roles
+mod LiveFaults
+mod LineByLine
+mod WholeInput

@@ -1,0 +1,69 @@
+-- From what was read to what the input says.
+use Rattle.std.proofs.Common.{◌≡◌, ℕ, List, Option, Some, None, Err, sym, subst, ◌∙◌}
+use Rattle.std.specs.Prelude.{IfSome}
+use Rattle.dac_tokens.specs.declared.fault.ConfigFault.{ConfigFault}
+use Rattle.dac_tokens.specs.declared.fault.FaultKind.{FaultKind}
+use Rattle.dac_tokens.specs.declared.fault.FaultKind.TheVariants.{NoMemory}
+use Rattle.dac_tokens.specs.Gives.{OrMemory}
+use Rattle.dac_config.specs.Table.{Table}
+use Rattle.dac_config.specs.Says.{IsConfigOf}
+use Rattle.dac_config.specs.Reading.{config_at}
+use Rattle.dac_script.specs.declared.failure.Failure.{Failure}
+use Rattle.dac_script.specs.declared.failure.Failure.TheVariants as failure
+use Rattle.dac_script.specs.declared.fault.InputFault.TheVariants.{TooLong, NoScript, Read}
+use Rattle.dac_script.specs.declared.input.TheConstants.{MAX_INPUT}
+use Rattle.dac_script.specs.declared.source.Progress.TheVariants.{Ended, Failed}
+use Rattle.dac_script.specs.Failures.{failure_of_kind}
+use Rattle.dac_script.specs.Script.{lines_of}
+use Rattle.dac_script.specs.Input.{IsTaken, IsParted, IsReadFailure}
+use Rattle.dac_script.specs.Sources.{Sourced, IsLeftBy}
+use Rattle.dac_live_script.specs.LiveScripts.{IsScriptFailure}
+use Rattle.dac_live_script.specs.LiveInputs.{IsPartsFailure, IsFailureOf}
+
+-- what holds of the text that was read holds of the bytes that there were
+pub of_bytes : (a : Option (List ℕ)) (text : List ℕ) (P : List ℕ → Type 0) → IfSome a (λ bytes. text ≡ bytes) → P text → IfSome a P
+of_bytes None text P same p = tt
+of_bytes (Some bytes) text P same p = subst P same p
+
+pub read_fails : (a : Option (List ℕ)) (why : Failure) → IsReadFailure MAX_INPUT a why → IfSome a (λ bytes. IsFailureOf bytes why)
+read_fails None why fails = tt
+read_fails (Some bytes) (failure.Input TooLong) fails = fails
+read_fails (Some bytes) (failure.Input NoScript) fails = absurd fails
+read_fails (Some bytes) (failure.Input Read) fails = tt
+read_fails (Some bytes) (failure.Config fault) fails = absurd fails
+read_fails (Some bytes) (failure.Script fault) fails = absurd fails
+read_fails (Some bytes) failure.NoMemory fails = tt
+
+-- what fails in the parts of a text that isn't too long
+pub parts_fail : (text : List ℕ) (why : Failure) → IsTaken text → IsPartsFailure text why → IsFailureOf text why
+parts_fail text (failure.Input TooLong) taken fails = absurd fails
+parts_fail text (failure.Input NoScript) taken fails = (taken, fails)
+parts_fail text (failure.Input Read) taken fails = absurd fails
+parts_fail text (failure.Config fault) taken fails = (taken, fails)
+parts_fail text (failure.Script fault) taken fails = (taken, fails)
+parts_fail text failure.NoMemory taken fails = tt
+
+ended_not_failed : Ended ≡ Failed → ⊥
+ended_not_failed same = cc
+
+-- the source of an input whose parts fail was read to its end
+pub left_by_parts : (text : List ℕ) (source : Sourced) (why : Failure) → source.progress ≡ Ended → IsPartsFailure text why → IsLeftBy why source
+left_by_parts text source (failure.Input TooLong) ended fails = absurd fails
+left_by_parts text source (failure.Input NoScript) ended fails = ended
+left_by_parts text source (failure.Input Read) ended fails = absurd fails
+left_by_parts text source (failure.Config fault) ended fails = ended
+left_by_parts text source (failure.Script fault) ended fails = ended
+left_by_parts text source failure.NoMemory ended fails = λ failed. ended_not_failed (sym ended ∙ failed)
+
+config_fails_by : (kind : FaultKind) (text config script : List ℕ) (fault : ConfigFault) → IsParted text config script → OrMemory kind fault.at (config_at config ≡ Err fault) → IsPartsFailure text (failure_of_kind kind fault)
+config_fails_by NoMemory text config script fault parted fails = tt
+config_fails_by _ text config script fault parted fails = record { config = config; script = script; parted = parted; fault_is = fails }
+
+pub config_fails : (text config script : List ℕ) (fault : ConfigFault) (why : Failure) → IsParted text config script → OrMemory fault.kind fault.at (config_at config ≡ Err fault) → why ≡ failure_of_kind fault.kind fault → IsPartsFailure text why
+config_fails text config script fault why parted fails is_why = subst (IsPartsFailure text) (sym is_why) (config_fails_by fault.kind text config script fault parted fails)
+
+pub script_has : (text config script : List ℕ) (table : Table) (why : Failure) → IsParted text config script → IsConfigOf config table → IsScriptFailure table (lines_of script) why → IsPartsFailure text why
+script_has text config script table (failure.Input fault) parted table_is fails = absurd fails
+script_has text config script table (failure.Config fault) parted table_is fails = absurd fails
+script_has text config script table (failure.Script fault) parted table_is fails = record { config = config; script = script; parted = parted; table = table; table_is = table_is; fault_is = fails }
+script_has text config script table failure.NoMemory parted table_is fails = tt

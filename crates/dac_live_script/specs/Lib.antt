@@ -1,0 +1,4 @@
+pub mod LiveLines
+pub mod LiveFaults
+pub mod LiveScripts
+pub mod LiveInputs

@@ -1,0 +1,14 @@
+//! What an input of `distac live` says: a configuration, a line `--`, and a script of callers' lines and the marks
+//! between phases.
+//!
+//! [`prepare_live`] reads a whole input, or says which fault it has. A script is read exactly, up to the first fault of
+//! the first line that has one. Nothing is run or printed here.
+#![tactic(auto)]
+
+mod line;
+mod preparing;
+mod script;
+
+pub use line::{Deed, LiveLine, live_line_of};
+pub use preparing::prepare_live;
+pub use script::read_live_script;

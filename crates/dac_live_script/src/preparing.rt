@@ -1,0 +1,48 @@
+//! A whole input of `distac live` read: its configuration and its script.
+
+ghost use Rattle.std.specs.Prelude.{◌≡◌, IfOk, IfErr, IfSome, All};
+ghost use Rattle.dac_config.specs.Table.{node_count};
+ghost use Rattle.dac_script.specs.Input.{IsReadWithinBound};
+ghost use Rattle.dac_script.specs.Sources.{IsReadBy};
+ghost use Rattle.dac_live_script.specs.LiveLines.{HasActors};
+ghost use Rattle.dac_live_script.specs.LiveInputs.{HasParts, IsPartsFailure, Says, IsFailureOf};
+
+use crate::line::LiveLine;
+use crate::script::read_live_script;
+use dac_config::{Config, read_config};
+use dac_script::{Failure, InputFault, Source, parted, read_input};
+use std::alloc::Global;
+use std::io::Read;
+
+/// Reads both parts of an input: its configuration, and then its script.
+fn parts_of(alloc: Global, text: &[u8]) -> Result<(Config, Vec<LiveLine>), Failure>
+    ensures says { IfOk result (λ both. HasParts text.now both.0 both.1.items) }
+    ensures actors { IfOk result (λ both. All (HasActors (node_count both.0)) both.1.items) }
+    ensures fails { IfErr result (IsPartsFailure text.now) }
+{
+    let Some((config, script)) = parted(text) else {
+        return Err(Failure::Input(InputFault::NoScript));
+    };
+    let config = read_config(alloc, config)?;
+    let script = read_live_script(alloc, &config, script)?;
+    Ok((config, script))
+}
+
+/// Reads and checks a whole input of `distac live`: the input as such, its configuration and then its script. The first
+/// of these that has a fault is answered; `NoMemory` only where memory is refused before a fault is met.
+pub fn prepare_live<R: Read>(
+    alloc: Global,
+    source: &mut Source<'_, R>,
+) -> Result<(Config, Vec<LiveLine>), Failure>
+    ensures says { IfOk result (λ both. IfSome source.old.left (λ bytes. Says bytes both.0 both.1.items)) }
+    ensures actors { IfOk result (λ both. All (HasActors (node_count both.0)) both.1.items) }
+    ensures fails { IfErr result (λ why. IfSome source.old.left (λ bytes. IsFailureOf bytes why)) }
+    ensures reads { IsReadBy result source.new }
+    // However it ends, no more was read than the bound and one byte.
+    ensures bound { IsReadWithinBound source.old.left source.new.left }
+    ensures same_reader { source.new.reader ≡ source.old.reader }
+{
+    let text = read_input(alloc, source)?;
+    let both = parts_of(alloc, &text)?;
+    Ok(both)
+}
