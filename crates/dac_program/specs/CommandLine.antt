@@ -3,15 +3,19 @@ use Rattle.std.specs.Prelude.{List, [], ◌∷◌, Option, Some, None, option_ma
 use Rattle.std.specs.Str.{bytes_eq}
 use Rattle.clap.specs.Words.{App, Text, new_app, with_subcommand, subcommand_of}
 use Rattle.dac_program.specs.declared.command_line.Request.{Request}
-use Rattle.dac_program.specs.declared.command_line.Request.TheVariants.{Check, Sim}
+use Rattle.dac_program.specs.declared.command_line.Request.TheVariants.{Check, Sim, Live}
 
 -- one of the subcommands has to be there
 abbrev pub required : App → App
 required app = record { top = record app.top { subcommand_required = true }; subs = app.subs }
 
--- the program, with its subcommands
+-- the program, with the subcommands that start no threads
+abbrev pub threadless : App
+threadless = with_subcommand (with_subcommand (required (new_app (codes "distac"))) (new_app (codes "check")).top) (new_app (codes "sim")).top
+
+-- the program, with all its subcommands
 abbrev pub distac : App
-distac = with_subcommand (with_subcommand (required (new_app (codes "distac"))) (new_app (codes "check")).top) (new_app (codes "sim")).top
+distac = with_subcommand threadless (new_app (codes "live")).top
 
 -- the words that ask for a configuration to be checked
 abbrev pub check_words : Text → List Text
@@ -20,6 +24,10 @@ check_words name = name ∷ codes "check" ∷ []
 -- the words that ask for a script to be played
 abbrev pub sim_words : Text → List Text
 sim_words name = name ∷ codes "sim" ∷ []
+
+-- the words that ask for a script to be run in threads
+abbrev pub live_words : Text → List Text
+live_words name = name ∷ codes "live" ∷ []
 
 -- the subcommand that the words name
 abbrev pub subcommand_in : List Text → Option Text
@@ -31,4 +39,5 @@ request_in None = None
 request_in (Some name) =
     if bytes_eq name (codes "check") then Some Check
     else (if bytes_eq name (codes "sim") then Some Sim
-    else None)
+    else (if bytes_eq name (codes "live") then Some Live
+    else None))

@@ -2,7 +2,7 @@
 
 ghost use Rattle.std.specs.Prelude.{◌≡◌, map, option_map, Some, IfOk, MatchResult};
 ghost use Rattle.clap.specs.Words.{Text, app_of, kind_of};
-ghost use Rattle.dac_program.specs.CommandLine.{distac, check_words, sim_words, subcommand_in, request_in};
+ghost use Rattle.dac_program.specs.CommandLine.{threadless, distac, check_words, sim_words, live_words, subcommand_in, request_in};
 
 use clap::error::ErrorKind;
 use clap::{Command, Error};
@@ -15,17 +15,20 @@ pub enum Request {
     Check,
     /// A script is to be played.
     Sim,
+    /// A script is to be run in threads.
+    Live,
 }
 
 /// What stands at the end of the program's help.
 const AFTER_HELP: &str =
-    r"Lines of a script begin with one of these verbs (`distac sim --help` says more):
+    r"Lines of a script of `sim` begin with one of these verbs (`distac sim --help` says more):
   boot crash down permit start stop takeover tick
   ship hear hand share page state same bytes feed
+Those of `live` are a caller's, or `feed` or `phase` (`distac live --help` says more).
 
 Exit status:
   0  Done, also where lines of a script were refused
-  1  The input has a fault, memory ran out, or a write failed
+  1  The input or the run has a fault, memory ran out, or a write failed
   2  The command line can't be read
 
 Example:
@@ -90,8 +93,46 @@ Documents:
   docs/FORMATS.md     What each line prints, and what to look at first for each fault and refusal
   examples/README.md  Scripts to try";
 
-fn command<'a>(alloc: Global) -> Result<Command<'a>, AllocError>
-    ensures { IfOk result (λ command. app_of command ≡ distac) }
+/// What stands at the end of the help of `distac live`.
+const AFTER_LIVE: &str =
+    r"Lines of a script, N being the number of a caller of NODE, 1 to 4, and NOW a moment in milliseconds:
+  N boot NODE NOW           NODE boots
+  N crash NODE              NODE goes down and loses what it knew
+  N down NODE ABOUT         NODE is told that ABOUT is down
+  N permit NODE APP ABOUT true (or false)
+                            At NODE, APP is permitted (or forbidden) at ABOUT
+  N start NODE APP ABOUT    At NODE, APP is started at ABOUT
+  N stop NODE APP ABOUT     At NODE, APP is stopped at ABOUT
+  N takeover NODE APP       NODE takes APP over from where it runs
+  N tick NODE NOW           NODE looks after its applications
+  N read NODE               Whether the page of NODE has what this caller's last line did
+  feed HEX                  Whether bytes are those of a message or an operation
+  phase                     A phase ends
+Lines that begin with % and empty lines are skipped.
+
+In a phase all callers run at once, each in a thread with its lines in order. So do the links between the nodes. Then
+every link ships and hears once more. The last phase ends with the script.
+
+For each phase its callers' lines are printed by node, caller and order, and then its feeds. After the last phase the page
+of each node is printed. Then `weave ok` says that one run of a world gives all that the nodes did.
+Up to four nodes can be run. A fault of the run is printed as `live fault 1 TooManyNodes`: its number and its name.
+
+Exit status:
+  0  The script was run, also where some of its lines were refused
+  1  The input or the run has a fault, which is printed; or memory ran out, or a write failed
+  2  The command line can't be read
+
+Example:
+  ./distac live < examples/live-three-nodes.distac
+
+Documents:
+  docs/OPERATORS.md   How to write a script and read a page
+  docs/FORMATS.md     What each line prints, and what to look at first for each fault and refusal
+  examples/README.md  Scripts to try";
+
+/// The command with the subcommands that start no threads.
+fn threadless<'a>(alloc: Global) -> Result<Command<'a>, AllocError>
+    ensures { IfOk result (λ command. app_of command ≡ threadless) }
 {
     let check = Command::new(alloc, "check")
         .about(
@@ -109,6 +150,18 @@ fn command<'a>(alloc: Global) -> Result<Command<'a>, AllocError>
     distac.subcommand(sim)
 }
 
+fn command<'a>(alloc: Global) -> Result<Command<'a>, AllocError>
+    ensures { IfOk result (λ command. app_of command ≡ distac) }
+{
+    let live = Command::new(alloc, "live")
+        .about(
+            "Runs a script in threads: standard input is a configuration, a line `--`, and the script",
+        )
+        .after_help(AFTER_LIVE);
+    let distac = threadless(alloc)?;
+    distac.subcommand(live)
+}
+
 fn request_of(name: Option<&str>) -> Option<Request>
     ensures { result ≡ request_in (option_map (λ s. s.now) name.entry) }
 {
@@ -119,6 +172,9 @@ fn request_of(name: Option<&str>) -> Option<Request>
     if name == "sim" {
         return Some(Request::Sim);
     }
+    if name == "live" {
+        return Some(Request::Live);
+    }
     None
 }
 
@@ -127,6 +183,7 @@ pub fn asked<'a>(alloc: Global, words: &'a [&'a str]) -> Result<Option<Request>,
     ensures request { IfOk result (λ request. request ≡ request_in (subcommand_in (map (λ word. word.now) words.entry.now))) }
     ensures check { (name : Text) → map (λ word. word.now) words.entry.now ≡ check_words name → MatchResult result (λ request. request ≡ Some Request.Check) (λ error. kind_of error ≡ ErrorKind.OutOfMemory) }
     ensures sim { (name : Text) → map (λ word. word.now) words.entry.now ≡ sim_words name → MatchResult result (λ request. request ≡ Some Request.Sim) (λ error. kind_of error ≡ ErrorKind.OutOfMemory) }
+    ensures live { (name : Text) → map (λ word. word.now) words.entry.now ≡ live_words name → MatchResult result (λ request. request ≡ Some Request.Live) (λ error. kind_of error ≡ ErrorKind.OutOfMemory) }
 {
     let command = command(alloc)?;
     let matches = command.try_get_matches_from(words)?;

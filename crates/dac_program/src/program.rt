@@ -2,18 +2,23 @@
 
 ghost use Rattle.std.specs.Prelude.{◌≡◌, ◌≤◌, map};
 ghost use Rattle.clap.specs.Words.{Text, kind_of};
+ghost use Rattle.dac_live_play.specs.Endings.{EndsLiveWith};
+ghost use Rattle.dac_live_play.specs.Lives.{EndsLive};
 ghost use Rattle.dac_play.specs.Checks.{EndsCheck};
 ghost use Rattle.dac_play.specs.Endings.{EndsWith};
 ghost use Rattle.dac_play.specs.Simulations.{EndsSim};
 ghost use Rattle.dac_script.specs.Input.{IsReadWithinBound};
-ghost use Rattle.dac_program.specs.CommandLine.{check_words, sim_words};
+ghost use Rattle.dac_program.specs.CommandLine.{check_words, sim_words, live_words};
 
 use crate::command_line::{Request, asked};
 use clap::Error;
 use clap::error::ErrorKind;
+use dac_live_play::live;
 use dac_play::{OUT_OF_MEMORY, check, simulate};
 use std::alloc::Global;
 use std::io::{Eprint, Print, Read, Write};
+use std::sync::Wait;
+use std::thread::Threads;
 
 /// Prints why the words are no command line, or the help that they ask for, and answers the status.
 fn refuse<T: Print + Eprint, W: Write>(rt: &T, error: &Error, output: &mut W) -> u8
@@ -30,16 +35,17 @@ fn refuse<T: Print + Eprint, W: Write>(rt: &T, error: &Error, output: &mut W) ->
     if error.use_stderr() { 2 } else { 0 }
 }
 
-/// Runs the program on the words of a command line, the program's name first, and answers its status. Of `distac check`
-/// and `distac sim` it is 0 where all was done. It is 1 where an input has a fault, memory was refused or a write
-/// failed. Both write to the output alone.
+/// Runs the program on the words of a command line, the program's name first, and answers its status. Of `distac check`,
+/// `distac sim` and `distac live` it is 0 where all was done. It is 1 where an input or a run has a fault, memory was
+/// refused or a write failed. They write to the output alone, and only `distac live` starts threads.
 ///
 /// Other words are for `clap`, and the clauses say of them only that the status is at most 2. Help goes to the standard
 /// output with status 0. The text about words that are no command line goes to the standard error with status 2, or 1
 /// where it can't be written.
 #[tactic(auto, using(crate::proofs::Reading::nothing_read))]
-pub fn run<'a, T: Print + Eprint, R: Read, W: Write>(
+pub fn run<'a, T: Print + Eprint, H: Threads + Wait + Sync, R: Read, W: Write>(
     rt: &T,
+    threads: &H,
     alloc: Global,
     words: &'a [&'a str],
     input: &mut R,
@@ -50,12 +56,15 @@ pub fn run<'a, T: Print + Eprint, R: Read, W: Write>(
     ensures check { (name : Text) → map (λ word. word.now) words.entry.now ≡ check_words name → EndsWith (λ bytes ending. EndsCheck bytes ending (W.contents output.old) (W.contents output.new)) (R.remaining input.old) result }
     // What `distac sim` prints is what the script of its input does, or the line of the input's failure.
     ensures sim { (name : Text) → map (λ word. word.now) words.entry.now ≡ sim_words name → EndsWith (λ bytes ending. EndsSim bytes ending (W.contents output.old) (W.contents output.new)) (R.remaining input.old) result }
+    // What `distac live` prints is what a run of the script of its input was, or the line of the failure or the fault.
+    ensures live { (name : Text) → map (λ word. word.now) words.entry.now ≡ live_words name → EndsLiveWith (λ bytes ending. EndsLive bytes ending (W.contents output.old) (W.contents output.new)) (R.remaining input.old) result }
     // However it ends, no more was read than the bound and one byte.
     ensures bound { IsReadWithinBound (R.remaining input.old) (R.remaining input.new) }
 {
     match asked(alloc, words) {
         Ok(Some(Request::Check)) => check(alloc, input, output).status(),
         Ok(Some(Request::Sim)) => simulate(alloc, input, output).status(),
+        Ok(Some(Request::Live)) => live(threads, alloc, input, output).status(),
         Ok(None) => 2,
         Err(error) => refuse(rt, &error, output),
     }

@@ -1,8 +1,9 @@
 //! `distac`, a replicated controller for distributed applications of Erlang/OTP.
 //!
 //! `distac check` reads a configuration and prints its canonical text. `distac sim` reads a configuration and a script,
-//! plays the script in a world of controllers, and prints what comes of each line. This crate is the process alone: `run`
-//! is the whole program over a reader and a writer, and `main` calls it.
+//! plays the script in a world of controllers, and prints what comes of each line. `distac live` runs a script at
+//! controllers in threads. This crate is the process alone: `run` is the whole program over a reader and a writer, and
+//! `main` calls it.
 #![tactic(auto)]
 
 pub use dac_program::run;
@@ -15,6 +16,6 @@ fn main(rt: HostRuntime) -> anyhow::Result<ExitCode> {
     for word in &words {
         texts.push(word.as_str())?;
     }
-    let status = run(&rt, alloc, &texts, &mut rt.stdin(), &mut rt.stdout());
+    let status = run(&rt, &rt, alloc, &texts, &mut rt.stdin(), &mut rt.stdout());
     Ok(ExitCode::from(status))
 }

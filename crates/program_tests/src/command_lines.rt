@@ -5,13 +5,15 @@ use std::cell::Cell;
 use std::fmt::Display;
 use std::io;
 use std::io::{Eprint, ErrorKind, Print};
+use std::sync::Wait;
+use std::thread::Threads;
 
 /// Words, whether what is printed for them is an error, and its text.
 const REFUSED: &[(&[&str], bool, &str)] = &[
     (
         &["distac"],
         true,
-        "error: 'distac' requires a subcommand but one was not provided\n  [subcommands: check, sim, help]\n\nUsage: distac <COMMAND>\n\nFor more information, try '--help'.\n",
+        "error: 'distac' requires a subcommand but one was not provided\n  [subcommands: check, sim, live, help]\n\nUsage: distac <COMMAND>\n\nFor more information, try '--help'.\n",
     ),
     (
         &["distac", "check", "x"],
@@ -96,6 +98,52 @@ Documents:
 ",
     ),
     (
+        &["distac", "live", "--help"],
+        false,
+        r"Runs a script in threads: standard input is a configuration, a line `--`, and the script
+
+Usage: distac live
+
+Options:
+  -h, --help  Print help
+
+Lines of a script, N being the number of a caller of NODE, 1 to 4, and NOW a moment in milliseconds:
+  N boot NODE NOW           NODE boots
+  N crash NODE              NODE goes down and loses what it knew
+  N down NODE ABOUT         NODE is told that ABOUT is down
+  N permit NODE APP ABOUT true (or false)
+                            At NODE, APP is permitted (or forbidden) at ABOUT
+  N start NODE APP ABOUT    At NODE, APP is started at ABOUT
+  N stop NODE APP ABOUT     At NODE, APP is stopped at ABOUT
+  N takeover NODE APP       NODE takes APP over from where it runs
+  N tick NODE NOW           NODE looks after its applications
+  N read NODE               Whether the page of NODE has what this caller's last line did
+  feed HEX                  Whether bytes are those of a message or an operation
+  phase                     A phase ends
+Lines that begin with % and empty lines are skipped.
+
+In a phase all callers run at once, each in a thread with its lines in order. So do the links between the nodes. Then
+every link ships and hears once more. The last phase ends with the script.
+
+For each phase its callers' lines are printed by node, caller and order, and then its feeds. After the last phase the page
+of each node is printed. Then `weave ok` says that one run of a world gives all that the nodes did.
+Up to four nodes can be run. A fault of the run is printed as `live fault 1 TooManyNodes`: its number and its name.
+
+Exit status:
+  0  The script was run, also where some of its lines were refused
+  1  The input or the run has a fault, which is printed; or memory ran out, or a write failed
+  2  The command line can't be read
+
+Example:
+  ./distac live < examples/live-three-nodes.distac
+
+Documents:
+  docs/OPERATORS.md   How to write a script and read a page
+  docs/FORMATS.md     What each line prints, and what to look at first for each fault and refusal
+  examples/README.md  Scripts to try
+",
+    ),
+    (
         &["distac", "--help"],
         false,
         r"A replicated controller for distributed applications of Erlang/OTP
@@ -105,18 +153,20 @@ Usage: distac <COMMAND>
 Commands:
   check  Checks a configuration: standard input is its text, and its canonical text is printed
   sim    Plays a script: standard input is a configuration, a line `--`, and the script
+  live   Runs a script in threads: standard input is a configuration, a line `--`, and the script
   help   Print this message or the help of the given subcommand(s)
 
 Options:
   -h, --help  Print help
 
-Lines of a script begin with one of these verbs (`distac sim --help` says more):
+Lines of a script of `sim` begin with one of these verbs (`distac sim --help` says more):
   boot crash down permit start stop takeover tick
   ship hear hand share page state same bytes feed
+Those of `live` are a caller's, or `feed` or `phase` (`distac live --help` says more).
 
 Exit status:
   0  Done, also where lines of a script were refused
-  1  The input has a fault, memory ran out, or a write failed
+  1  The input or the run has a fault, memory ran out, or a write failed
   2  The command line can't be read
 
 Example:
@@ -183,14 +233,28 @@ impl Eprint for Streams {
 
 /// Whether this is the status for the words, and these are then on the standard output and on the standard error.
 /// Nothing is written to the output.
-fn answers(alloc: Global, words: &[&str], status: u8, printed: &str, said: &str) -> bool {
+fn answers<T: Threads + Wait + Sync>(
+    rt: &T,
+    alloc: Global,
+    words: &[&str],
+    status: u8,
+    printed: &str,
+    said: &str,
+) -> bool {
     let streams = Streams {
         alloc,
         output: Cell::new(String::new(alloc)),
         error: Cell::new(String::new(alloc)),
     };
     let mut written = Vec::new(alloc);
-    let answered = run(&streams, alloc, words, &mut b"".as_slice(), &mut written);
+    let answered = run(
+        &streams,
+        rt,
+        alloc,
+        words,
+        &mut b"".as_slice(),
+        &mut written,
+    );
     let Streams {
         alloc: _,
         output,
@@ -203,18 +267,27 @@ fn answers(alloc: Global, words: &[&str], status: u8, printed: &str, said: &str)
 }
 
 /// Whether this text alone is printed for the words, as an error or not.
-fn is_refused(alloc: Global, words: &[&str], is_error: bool, text: &str) -> bool {
+fn is_refused<T: Threads + Wait + Sync>(
+    rt: &T,
+    alloc: Global,
+    words: &[&str],
+    is_error: bool,
+    text: &str,
+) -> bool {
     if is_error {
-        answers(alloc, words, 2, "", text)
+        answers(rt, alloc, words, 2, "", text)
     } else {
-        answers(alloc, words, 0, text, "")
+        answers(rt, alloc, words, 0, text, "")
     }
 }
 
 #[test]
 fn says_what_is_wrong_with_words(rt: HostRuntime) {
     for (words, is_error, text) in REFUSED {
-        assert!(rt; is_refused(rt.alloc(), words, *is_error, text), "{text}");
+        assert!(rt;
+            is_refused(&rt, rt.alloc(), words, *is_error, text),
+            "{text}"
+        );
     }
 }
 
@@ -227,7 +300,8 @@ fn asks_for(alloc: Global, words: &[&str], request: Request) -> bool {
 }
 
 #[test]
-fn asks_for_a_check_or_a_run(rt: HostRuntime) {
+fn asks_for_what_there_is(rt: HostRuntime) {
     assert!(rt; asks_for(rt.alloc(), &["distac", "check"], Request::Check));
     assert!(rt; asks_for(rt.alloc(), &["distac", "sim"], Request::Sim));
+    assert!(rt; asks_for(rt.alloc(), &["distac", "live"], Request::Live));
 }

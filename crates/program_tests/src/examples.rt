@@ -781,4 +781,189 @@ ticked
 ticked
 "#,
     ),
+    // live-failover.distac
+    (
+        "live",
+        r#"[{kernel, [{distributed, [{shop, 5000, [main@h, {east@h, west@h}]},
+                          {mail, [east@h]}]}]}].
+--
+% Three nodes come up, and each starts what it may run. A node that boots in a phase can be asked about itself.
+1 boot main@h 0
+1 start main@h shop main@h
+1 boot east@h 0
+1 start east@h shop east@h
+1 start east@h mail east@h
+1 boot west@h 0
+1 start west@h shop west@h
+phase
+% The shop belongs to the first node of its list, the mail to the only one. So no order of these ticks changes who has what.
+1 tick main@h 0
+1 tick east@h 0
+1 tick west@h 0
+phase
+% The first node goes down. The others know what it knew since the end of the phase before.
+1 crash main@h
+2 read west@h
+phase
+% One of the others is told so. When the phase ends both know it.
+1 down west@h main@h
+phase
+% Each counts the wait of five seconds from its own first tick behind that. Nobody has the shop yet.
+1 tick east@h 1000
+1 tick west@h 2000
+phase
+% The one with less to do is to have it. For the other one the wait is over too, but it leaves the shop alone.
+1 tick east@h 6000
+2 read east@h
+phase
+% A moment too early, and then in time.
+1 tick west@h 6999
+1 tick west@h 7000
+phase
+% The first node comes back. It has forgotten all, and hears it from the others while the phase lasts.
+1 boot main@h 8000
+1 start main@h shop main@h
+phase
+% So it takes the shop over. Moments don't go back.
+1 tick main@h 8000
+1 tick main@h 7999
+"#,
+        r#"phase 1
+east@h 1 ok
+east@h 1 ok
+east@h 1 ok
+main@h 1 ok
+main@h 1 ok
+west@h 1 ok
+west@h 1 ok
+phase 2
+east@h 1 ok
+main@h 1 ok
+west@h 1 ok
+phase 3
+main@h 1 ok
+west@h 2 fresh
+phase 4
+west@h 1 ok
+phase 5
+east@h 1 ok
+west@h 1 ok
+phase 6
+east@h 1 ok
+east@h 2 fresh
+phase 7
+west@h 1 ok
+west@h 1 ok
+phase 8
+main@h 1 ok
+main@h 1 ok
+phase 9
+main@h 1 ok
+main@h 1 refused 8 MomentBack
+node east@h 1
+heard 14 known 14
+node east@h up 1
+node main@h up 2
+node west@h up 1
+app shop holder main@h 2 term 3 takeover from west@h verdict kept main@h
+list main@h=ok east@h=ok west@h=ok
+app mail holder east@h 1 term 1 normal verdict kept east@h
+list east@h=ok
+node main@h 2
+heard 14 known 14
+node east@h up 1
+node main@h up 2
+node west@h up 1
+app shop holder main@h 2 term 3 takeover from west@h verdict kept main@h
+list main@h=ok east@h=ok west@h=ok
+app mail holder east@h 1 term 1 normal verdict kept east@h
+list east@h=ok
+node west@h 1
+heard 14 known 14
+node east@h up 1
+node main@h up 2
+node west@h up 1
+app shop holder main@h 2 term 3 takeover from west@h verdict kept main@h
+list main@h=ok east@h=ok west@h=ok
+app mail holder east@h 1 term 1 normal verdict kept east@h
+list east@h=ok
+close ok
+weave ok
+"#,
+    ),
+    // live-three-nodes.distac
+    (
+        "live",
+        r#"[{kernel,
+[{distributed, [{myapp, 5000, [cp1@cave, {cp2@cave, cp3@cave}]}]},
+{sync_nodes_mandatory, [cp2@cave, cp3@cave]},
+{sync_nodes_timeout, 5000}
+]
+}
+].
+--
+% The three nodes come up, each in threads of its own. The first word of a line is a caller of the node.
+1 boot cp1@cave 0
+1 boot cp2@cave 0
+1 boot cp3@cave 0
+phase
+% Now each knows that all are up. Six callers speak at once. No two of them start, or permit, the same: their order changes nothing.
+1 start cp1@cave myapp cp1@cave
+2 permit cp1@cave myapp cp3@cave true
+1 start cp2@cave myapp cp2@cave
+2 permit cp2@cave myapp cp2@cave false
+1 start cp3@cave myapp cp3@cave
+2 permit cp3@cave myapp cp1@cave true
+% A caller's page is as new as what it was answered before.
+1 read cp1@cave
+% These bytes come to no node. They are read as a message, and what is wrong with them is said.
+feed 44414301
+feed 444143010000000000000000
+phase
+% Two nodes look after the application at once. It belongs to the first of its list, so the other one leaves it alone.
+1 tick cp1@cave 100
+2 tick cp2@cave 100
+"#,
+        r#"phase 1
+cp1@cave 1 ok
+cp2@cave 1 ok
+cp3@cave 1 ok
+phase 2
+cp1@cave 1 ok
+cp1@cave 1 fresh
+cp1@cave 2 ok
+cp2@cave 1 ok
+cp2@cave 2 ok
+cp3@cave 1 ok
+cp3@cave 2 ok
+wire fault 5 Short at 4
+wire fault 4 OtherConfig at 4
+phase 3
+cp1@cave 1 ok
+cp2@cave 2 ok
+node cp1@cave 1
+heard 10 known 10
+node cp1@cave up 1
+node cp2@cave up 1
+node cp3@cave up 1
+app myapp holder cp1@cave 1 term 1 normal verdict kept cp1@cave
+list cp1@cave=ok cp2@cave=barred cp3@cave=ok
+node cp2@cave 1
+heard 10 known 10
+node cp1@cave up 1
+node cp2@cave up 1
+node cp3@cave up 1
+app myapp holder cp1@cave 1 term 1 normal verdict kept cp1@cave
+list cp1@cave=ok cp2@cave=barred cp3@cave=ok
+node cp3@cave 1
+heard 10 known 10
+node cp1@cave up 1
+node cp2@cave up 1
+node cp3@cave up 1
+app myapp holder cp1@cave 1 term 1 normal verdict kept cp1@cave
+list cp1@cave=ok cp2@cave=barred cp3@cave=ok
+close ok
+weave ok
+"#,
+    ),
 ];

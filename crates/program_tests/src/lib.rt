@@ -13,6 +13,8 @@ mod examples;
 #[cfg(test)]
 mod faults;
 #[cfg(test)]
+mod lives;
+#[cfg(test)]
 mod placements;
 #[cfg(test)]
 mod readers;

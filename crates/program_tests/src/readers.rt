@@ -1,8 +1,11 @@
 //! Readers and writers that fail, are interrupted, or give and take one byte at a time.
 use crate::running::{input_of, status_of};
 use crate::scripts::EXAMPLE;
+use std::alloc::Global;
 use std::io;
-use std::io::{ErrorKind, Read, Write};
+use std::io::{Eprint, ErrorKind, Print, Read, Write};
+use std::sync::Wait;
+use std::thread::Threads;
 
 /// A reader whose every read fails.
 #[derive(Drop)]
@@ -48,9 +51,15 @@ impl Read for Slow<'_> {
 }
 
 /// Whether `distac sim` prints this on what a reader gives, and answers this status.
-fn prints<R: Read>(rt: &HostRuntime, input: &mut R, status: u8, printed: &str) -> bool {
-    let mut output = Vec::new(rt.alloc());
-    let answered = status_of(rt, "sim", input, &mut output);
+fn prints<T: Print + Eprint + Threads + Wait + Sync, R: Read>(
+    rt: &T,
+    alloc: Global,
+    input: &mut R,
+    status: u8,
+    printed: &str,
+) -> bool {
+    let mut output = Vec::new(alloc);
+    let answered = status_of(rt, alloc, "sim", input, &mut output);
     answered == status && output.as_slice() == printed.as_bytes()
 }
 
@@ -59,17 +68,18 @@ const LINE: &str = "boot cp1@cave 0";
 
 /// Whether `distac sim` prints this of a script of one line and answers this status. The script is read byte by byte,
 /// and a read fails once with so many bytes left.
-fn reads(
-    rt: &HostRuntime,
+fn reads<T: Print + Eprint + Threads + Wait + Sync>(
+    rt: &T,
+    alloc: Global,
     fault: Option<ErrorKind>,
     left: usize,
     status: u8,
     printed: &str,
 ) -> bool {
-    match input_of(rt.alloc(), EXAMPLE, LINE) {
+    match input_of(alloc, EXAMPLE, LINE) {
         Ok(text) => {
             let rest = text.as_bytes();
-            prints(rt, &mut Slow { rest, fault, left }, status, printed)
+            prints(rt, alloc, &mut Slow { rest, fault, left }, status, printed)
         }
         Err(_) => false,
     }
@@ -88,7 +98,7 @@ const READS: &[(Option<ErrorKind>, usize, u8, &str)] = &[
 fn reads_byte_by_byte(rt: HostRuntime) {
     for (fault, left, status, printed) in READS {
         assert!(rt;
-            reads(&rt, *fault, *left, *status, printed),
+            reads(&rt, rt.alloc(), *fault, *left, *status, printed),
             "{fault:?} with {left} left"
         );
     }
@@ -99,6 +109,7 @@ fn gives_up_what_cannot_be_read(rt: HostRuntime) {
     assert!(rt;
         prints(
             &rt,
+            rt.alloc(),
             &mut Broken(ErrorKind::Other),
             1,
             "input fault 3 Read\n"
@@ -107,6 +118,7 @@ fn gives_up_what_cannot_be_read(rt: HostRuntime) {
     assert!(rt;
         prints(
             &rt,
+            rt.alloc(),
             &mut Broken(ErrorKind::Interrupted),
             1,
             "input fault 3 Read\n"
@@ -116,7 +128,7 @@ fn gives_up_what_cannot_be_read(rt: HostRuntime) {
 
 #[test]
 fn gives_up_what_has_no_end(rt: HostRuntime) {
-    assert!(rt; prints(&rt, &mut Endless, 1, "input fault 1 TooLong\n"));
+    assert!(rt; prints(&rt, rt.alloc(), &mut Endless, 1, "input fault 1 TooLong\n"));
 }
 
 /// A writer of one byte a write, of which one write or one flush fails once.
@@ -148,21 +160,22 @@ impl Write for Narrow {
 }
 
 /// Whether a script of one line answers this status, where a write fails so after so many bytes.
-fn writes(
-    rt: &HostRuntime,
+fn writes<T: Print + Eprint + Threads + Wait + Sync>(
+    rt: &T,
+    alloc: Global,
     fault: Option<ErrorKind>,
     room: usize,
     flushes: bool,
     status: u8,
 ) -> bool {
-    match input_of(rt.alloc(), EXAMPLE, LINE) {
+    match input_of(alloc, EXAMPLE, LINE) {
         Ok(text) => {
             let mut output = Narrow {
                 fault,
                 room,
                 flushes,
             };
-            status_of(rt, "sim", &mut text.as_bytes(), &mut output) == status
+            status_of(rt, alloc, "sim", &mut text.as_bytes(), &mut output) == status
         }
         Err(_) => false,
     }
@@ -181,7 +194,7 @@ const WRITES: &[(Option<ErrorKind>, usize, bool, u8)] = &[
 fn fails_where_writing_fails(rt: HostRuntime) {
     for (fault, room, flushes, status) in WRITES {
         assert!(rt;
-            writes(&rt, *fault, *room, *flushes, *status),
+            writes(&rt, rt.alloc(), *fault, *room, *flushes, *status),
             "{fault:?} after {room}"
         );
     }

@@ -2,34 +2,50 @@
 use crate::configs::CASES;
 use crate::examples::EXAMPLES;
 use crate::faults::{CONFIG_FAULTS, INPUT_FAULTS, SCRIPT_FAULTS};
+use crate::lives::{LIVES, PHASES, PHASES_PRINTED};
 use crate::placements::PLACEMENTS;
 use crate::scripts::{EXAMPLE, SCRIPTS};
 use crate::wires::WIRES;
 use dac_program::run;
 use std::alloc::{AllocError, Global};
-use std::io::{Read, Write};
+use std::io::{Eprint, Print, Read, Write};
+use std::sync::Wait;
+use std::thread::Threads;
 
 /// The status of `distac` with one word more, on what a reader gives.
-pub fn status_of<R: Read, W: Write>(
-    rt: &HostRuntime,
+pub fn status_of<T: Print + Eprint + Threads + Wait + Sync, R: Read, W: Write>(
+    rt: &T,
+    alloc: Global,
     word: &str,
     input: &mut R,
     output: &mut W,
 ) -> u8 {
-    run(rt, rt.alloc(), &["distac", word], input, output)
+    run(rt, rt, alloc, &["distac", word], input, output)
 }
 
 /// The status and the output of `distac` with one word more, on an input.
-fn ran(rt: &HostRuntime, word: &str, input: &[u8]) -> (u8, Vec<u8>) {
-    let mut output = Vec::new(rt.alloc());
+fn ran<T: Print + Eprint + Threads + Wait + Sync>(
+    rt: &T,
+    alloc: Global,
+    word: &str,
+    input: &[u8],
+) -> (u8, Vec<u8>) {
+    let mut output = Vec::new(alloc);
     let mut input = input;
-    let status = status_of(rt, word, &mut input, &mut output);
+    let status = status_of(rt, alloc, word, &mut input, &mut output);
     (status, output)
 }
 
 /// Whether `distac` with one word more prints this on an input, and answers this status.
-fn prints(rt: &HostRuntime, word: &str, input: &[u8], status: u8, printed: &str) -> bool {
-    let (answered, output) = ran(rt, word, input);
+fn prints<T: Print + Eprint + Threads + Wait + Sync>(
+    rt: &T,
+    alloc: Global,
+    word: &str,
+    input: &[u8],
+    status: u8,
+    printed: &str,
+) -> bool {
+    let (answered, output) = ran(rt, alloc, word, input);
     answered == status && output.as_slice() == printed.as_bytes()
 }
 
@@ -42,9 +58,31 @@ pub fn input_of(alloc: Global, config: &str, script: &str) -> Result<String, All
 }
 
 /// Whether `distac sim` prints this for a configuration and a script, and answers this status.
-fn plays(rt: &HostRuntime, config: &str, script: &str, status: u8, printed: &str) -> bool {
-    match input_of(rt.alloc(), config, script) {
-        Ok(text) => prints(rt, "sim", text.as_bytes(), status, printed),
+fn plays<T: Print + Eprint + Threads + Wait + Sync>(
+    rt: &T,
+    alloc: Global,
+    config: &str,
+    script: &str,
+    status: u8,
+    printed: &str,
+) -> bool {
+    match input_of(alloc, config, script) {
+        Ok(text) => prints(rt, alloc, "sim", text.as_bytes(), status, printed),
+        Err(_) => false,
+    }
+}
+
+/// Whether `distac live` prints this for a configuration and a script, and answers this status.
+fn lives<T: Print + Eprint + Threads + Wait + Sync>(
+    rt: &T,
+    alloc: Global,
+    config: &str,
+    script: &str,
+    status: u8,
+    printed: &str,
+) -> bool {
+    match input_of(alloc, config, script) {
+        Ok(text) => prints(rt, alloc, "live", text.as_bytes(), status, printed),
         Err(_) => false,
     }
 }
@@ -54,6 +92,7 @@ fn checks_configurations_of_all_kinds(rt: HostRuntime) {
     for case in CASES {
         let printed = prints(
             &rt,
+            rt.alloc(),
             "check",
             case.text.as_bytes(),
             case.status,
@@ -66,49 +105,70 @@ fn checks_configurations_of_all_kinds(rt: HostRuntime) {
 #[test]
 fn plays_scripts(rt: HostRuntime) {
     for (config, script, printed) in SCRIPTS {
-        assert!(rt; plays(&rt, config, script, 0, printed), "{script}");
+        assert!(rt;
+            plays(&rt, rt.alloc(), config, script, 0, printed),
+            "{script}"
+        );
     }
 }
 
 #[test]
 fn plays_scripts_of_placements(rt: HostRuntime) {
     for (config, script, printed) in PLACEMENTS {
-        assert!(rt; plays(&rt, config, script, 0, printed), "{script}");
+        assert!(rt;
+            plays(&rt, rt.alloc(), config, script, 0, printed),
+            "{script}"
+        );
     }
 }
 
 #[test]
 fn plays_scripts_of_wires(rt: HostRuntime) {
     for (config, script, printed) in WIRES {
-        assert!(rt; plays(&rt, config, script, 0, printed), "{script}");
+        assert!(rt;
+            plays(&rt, rt.alloc(), config, script, 0, printed),
+            "{script}"
+        );
     }
 }
 
 #[test]
 fn prints_what_stands_beside_each_example(rt: HostRuntime) {
     for (word, input, printed) in EXAMPLES {
-        assert!(rt; prints(&rt, word, input.as_bytes(), 0, printed), "{input}");
+        assert!(rt;
+            prints(&rt, rt.alloc(), word, input.as_bytes(), 0, printed),
+            "{input}"
+        );
     }
 }
 
 #[test]
 fn names_faults_of_configurations(rt: HostRuntime) {
     for (text, printed) in CONFIG_FAULTS {
-        assert!(rt; prints(&rt, "check", text.as_bytes(), 1, printed), "{text}");
+        assert!(rt;
+            prints(&rt, rt.alloc(), "check", text.as_bytes(), 1, printed),
+            "{text}"
+        );
     }
 }
 
 #[test]
 fn names_faults_of_scripts(rt: HostRuntime) {
     for (script, printed) in SCRIPT_FAULTS {
-        assert!(rt; plays(&rt, EXAMPLE, script, 1, printed), "{script}");
+        assert!(rt;
+            plays(&rt, rt.alloc(), EXAMPLE, script, 1, printed),
+            "{script}"
+        );
     }
 }
 
 #[test]
 fn names_faults_of_inputs(rt: HostRuntime) {
     for (input, printed) in INPUT_FAULTS {
-        assert!(rt; prints(&rt, "sim", input.as_bytes(), 1, printed), "{input}");
+        assert!(rt;
+            prints(&rt, rt.alloc(), "sim", input.as_bytes(), 1, printed),
+            "{input}"
+        );
     }
 }
 
@@ -124,9 +184,16 @@ fn large(alloc: Global, lists: usize, spaces: usize) -> Result<Vec<u8>, AllocErr
 }
 
 /// Whether `distac check` prints this for such a configuration, and answers this status.
-fn checks(rt: &HostRuntime, lists: usize, spaces: usize, status: u8, printed: &str) -> bool {
-    match large(rt.alloc(), lists, spaces) {
-        Ok(text) => prints(rt, "check", &text, status, printed),
+fn checks<T: Print + Eprint + Threads + Wait + Sync>(
+    rt: &T,
+    alloc: Global,
+    lists: usize,
+    spaces: usize,
+    status: u8,
+    printed: &str,
+) -> bool {
+    match large(alloc, lists, spaces) {
+        Ok(text) => prints(rt, alloc, "check", &text, status, printed),
         Err(_) => false,
     }
 }
@@ -147,8 +214,38 @@ const PRINTED: &str =
 fn takes_what_is_large(rt: HostRuntime) {
     for (lists, spaces, status, printed) in LARGE {
         assert!(rt;
-            checks(&rt, *lists, *spaces, *status, printed),
+            checks(&rt, rt.alloc(), *lists, *spaces, *status, printed),
             "{lists} lists, {spaces} spaces"
         );
     }
+}
+
+#[test]
+fn runs_phases_in_threads(rt: HostRuntime) {
+    assert!(rt; lives(&rt, rt.alloc(), EXAMPLE, PHASES, 0, PHASES_PRINTED));
+}
+
+#[test]
+fn runs_scripts_in_threads(rt: HostRuntime) {
+    for (config, script, status, printed) in LIVES {
+        assert!(rt;
+            lives(&rt, rt.alloc(), config, script, *status, printed),
+            "{script}"
+        );
+    }
+}
+
+#[test]
+fn runs_no_input_without_a_script(rt: HostRuntime) {
+    let input = EXAMPLE.as_bytes();
+    assert!(rt;
+        prints(
+            &rt,
+            rt.alloc(),
+            "live",
+            input,
+            1,
+            "input fault 2 NoScript\n"
+        )
+    );
 }

@@ -5,7 +5,7 @@ use Rattle.clap.specs.declared.parser.matches.ArgMatches.{ArgMatches}
 use Rattle.clap.specs.declared.parser.matches.ArgMatches.TheViews.{out-ArgMatches, out-SubCommand}
 use Rattle.std.specs.Box.{box_value}
 use Rattle.clap.proofs.OnLiterals.{clap_on_literals}
-use Rattle.dac_program.specs.CommandLine.{distac, check_words, sim_words, subcommand_in, request_in}
+use Rattle.dac_program.specs.CommandLine.{distac, check_words, sim_words, live_words, subcommand_in, request_in}
 use Rattle.dac_program.proofs.command_line.asked.Goals as goal
 
 is_taken : (name : Text) → takes distac (sim_words name) ≡ true
@@ -24,6 +24,14 @@ is_sim : (name : Text) → subcommand_in (sim_words name) ≡ Some (codes "sim")
 unfolding clap_on_literals
 is_sim name = refl
 
+live_taken : (name : Text) → takes distac (live_words name) ≡ true
+unfolding clap_on_literals
+live_taken name = refl
+
+is_live : (name : Text) → subcommand_in (live_words name) ≡ Some (codes "live")
+unfolding clap_on_literals
+is_live name = refl
+
 is_plain : is_simple distac ≡ true
 is_plain = refl
 
@@ -36,6 +44,11 @@ pub returns-in_err-matches-clause-sim : goal.returns-in_err-matches-clause-sim
 returns-in_err-matches-clause-sim c = λ name same.
     let p = err_from_is_err_and c.from_residual-in_err-matches.result c.from_residual-in_err-matches.ensures.1 in
     rw (p.1, p.2) (c.in_err-matches.ensures.passes (ap₂ takes c.in_ok-command.ensures same ∙ is_taken name))
+
+pub returns-in_err-matches-clause-live : goal.returns-in_err-matches-clause-live
+returns-in_err-matches-clause-live c = λ name same.
+    let p = err_from_is_err_and c.from_residual-in_err-matches.result c.from_residual-in_err-matches.ensures.1 in
+    rw (p.1, p.2) (c.in_err-matches.ensures.passes (ap₂ takes c.in_ok-command.ensures same ∙ live_taken name))
 
 -- the name is that of the rows
 named : (m : ArgMatches) → subcommand_name_of m ≡ option_map (λ p. p.0) (subcommand_rows_of m)
@@ -51,4 +64,5 @@ returns c =
       request = request_is;
       check = λ name same. request_is ∙ ap request_in (ap subcommand_in same ∙ is_check name);
       sim = λ name same. request_is ∙ ap request_in (ap subcommand_in same ∙ is_sim name);
+      live = λ name same. request_is ∙ ap request_in (ap subcommand_in same ∙ is_live name);
     }

@@ -1,0 +1,61 @@
+-- How `distac live` ends, from what was read, run and printed.
+use Rattle.std.proofs.Common.{◌≡◌, ℕ, List, Option, Some, None, sym, subst}
+use Rattle.std.specs.Prelude.{IfSome}
+use Rattle.std.specs.Io.KnownBytes.{Appends}
+use Rattle.dac_config.specs.Table.{Table}
+use Rattle.dac_live_script.specs.declared.line.LiveLine.{LiveLine}
+use Rattle.dac_live_script.specs.LiveInputs.{Says, IsFailureOf}
+use Rattle.dac_play.specs.Texts.{failure_text}
+use Rattle.dac_script.specs.declared.failure.Failure.{Failure}
+use Rattle.dac_script.specs.declared.source.Progress.TheVariants.{Ended}
+use Rattle.dac_script.specs.Sources.{Sourced, IsLeftBy}
+use Rattle.dac_live_play.specs.declared.fault.PlayFault.{PlayFault}
+use Rattle.dac_live_play.specs.declared.ending.LiveEnding.{LiveEnding}
+use Rattle.dac_live_play.specs.declared.ending.LiveEnding.TheVariants as ending
+use Rattle.dac_live_play.specs.Endings.{fault_text, IsRefusal, IsGivenUp, IsLeftAt}
+use Rattle.dac_live_play.specs.Runs.{IsFaultOf}
+use Rattle.dac_live_play.specs.Lives.{IsPlayed, IsLived, EndsLive}
+
+-- the script that the input says was run, and its text was printed
+pub lived : (had old new : Option (List ℕ)) (table : Table) (script : List LiveLine) (text : List ℕ) → IfSome had (λ bytes. Says bytes table script) → IsPlayed table script text → Appends old new text
+    → IfSome had (λ bytes. EndsLive bytes ending.Done old new)
+lived None old new table script text says played printed = tt
+lived (Some bytes) old new table script text says played printed = record { table = table; script = script; says = says; text = text; played = played; printed = printed }
+
+-- the input was refused, and the line of its failure was printed
+pub refused_ends : (had old new : Option (List ℕ)) (why : Failure) (how : LiveEnding) → IfSome had (λ bytes. IsFailureOf bytes why) → IsRefusal why how old new → IfSome had (λ bytes. EndsLive bytes how old new)
+refused_ends None old new why how fails refusal = tt
+refused_ends (Some bytes) old new why ending.Done fails refusal = absurd refusal
+refused_ends (Some bytes) old new why (ending.Refused found) fails refusal =
+    (subst (IsFailureOf bytes) (sym refusal.0) fails, subst (λ (f : Failure). Appends old new (failure_text f)) (sym refusal.0) refusal.1)
+refused_ends (Some bytes) old new why (ending.Faulted found) fails refusal = absurd refusal
+refused_ends (Some bytes) old new why ending.Stopped fails refusal = tt
+
+-- the script wasn't run to its end, and the line of the fault was printed
+pub given_up_ends : (had old new : Option (List ℕ)) (table : Table) (script : List LiveLine) (why : PlayFault) (how : LiveEnding) → IfSome had (λ bytes. Says bytes table script) → IsFaultOf table script why → IsGivenUp table why how old new
+    → IfSome had (λ bytes. EndsLive bytes how old new)
+given_up_ends None old new table script why how says fault_is given_up = tt
+given_up_ends (Some bytes) old new table script why ending.Done says fault_is given_up = absurd given_up
+given_up_ends (Some bytes) old new table script why (ending.Refused found) says fault_is given_up = absurd given_up
+given_up_ends (Some bytes) old new table script why (ending.Faulted found) says fault_is given_up = record {
+  table = table;
+  script = script;
+  says = says;
+  fault_is = subst (IsFaultOf table script) (sym given_up.0) fault_is;
+  printed = subst (λ (f : PlayFault). Appends old new (fault_text table f)) (sym given_up.0) given_up.1;
+}
+given_up_ends (Some bytes) old new table script why ending.Stopped says fault_is given_up = tt
+
+-- the source is left as the failure tells
+pub refused_left : (old new : Option (List ℕ)) (source : Sourced) (why : Failure) (how : LiveEnding) → IsLeftBy why source → IsRefusal why how old new → IsLeftAt how source
+refused_left old new source why ending.Done left refusal = absurd refusal
+refused_left old new source why (ending.Refused found) left refusal = subst (λ (f : Failure). IsLeftBy f source) (sym refusal.0) left
+refused_left old new source why (ending.Faulted found) left refusal = absurd refusal
+refused_left old new source why ending.Stopped left refusal = tt
+
+-- the source was read to its end
+pub given_up_left : (old new : Option (List ℕ)) (source : Sourced) (table : Table) (why : PlayFault) (how : LiveEnding) → source.progress ≡ Ended → IsGivenUp table why how old new → IsLeftAt how source
+given_up_left old new source table why ending.Done left given_up = left
+given_up_left old new source table why (ending.Refused found) left given_up = absurd given_up
+given_up_left old new source table why (ending.Faulted found) left given_up = left
+given_up_left old new source table why ending.Stopped left given_up = tt

@@ -1,0 +1,6 @@
+mod Asking
+mod Ends
+mod Lines
+mod Owed
+mod Placing
+mod Reports

@@ -1,0 +1,7 @@
+use Rattle.dac_live_play.specs.Texts.{last_text}
+use Rattle.dac_live_play.proofs.Lines.{put_more}
+use Rattle.dac_live_play.proofs.printing.put_pages.Goals as goal
+
+pub loop-number-preserved : goal.loop-number-preserved
+loop-number-preserved c =
+    put_more (last_text c.args.config.now c.args.pages.now) c.loop-number.number c.args.text.now.items c.loop-number.text.items _ c.loop-number.invariant c.in_ok-put_last.ensures

@@ -1,0 +1,66 @@
+-- How `distac live` ends.
+use Rattle.std.specs.Prelude.{◌≡◌, ℕ, List, ◌++◌, Option, IfSome, codes}
+use Rattle.std.specs.Fmt.{decimal}
+use Rattle.std.specs.Io.KnownBytes.{Appends}
+use Rattle.dac_base.specs.declared.NodeId.{NodeId}
+use Rattle.dac_config.specs.Table.{Table}
+use Rattle.dac_play.specs.Texts.{failure_text}
+use Rattle.dac_script.specs.declared.failure.Failure.{Failure}
+use Rattle.dac_script.specs.declared.source.Progress.TheVariants.{Ended}
+use Rattle.dac_script.specs.Sources.{Sourced, IsLeftBy}
+use Rattle.dac_status.specs.Texts.{node_text}
+use Rattle.dac_report.specs.RunFault.{RunFault}
+use Rattle.dac_report.specs.RunFaults.{number_of, name_of}
+use Rattle.dac_live_play.specs.declared.fault.PlayFault.{PlayFault}
+use Rattle.dac_live_play.specs.declared.fault.PlayFault.TheVariants as fault
+use Rattle.dac_live_play.specs.declared.ending.LiveEnding.{LiveEnding}
+use Rattle.dac_live_play.specs.declared.ending.LiveEnding.TheVariants as ending
+
+-- a run that wasn't ended: the number and the name of its fault
+abbrev pub run_fault_text : RunFault → List ℕ
+run_fault_text why = codes "live fault " ++ (decimal (number_of why) ++ (codes " " ++ (name_of why ++ codes "\n")))
+
+-- journals that no run of the world has: the node and the place at which each run ends
+abbrev pub weave_fault_text : Table → NodeId → ℕ → List ℕ
+weave_fault_text table node place = codes "weave fault 1 Unwoven " ++ (node_text table node ++ (codes " " ++ (decimal place ++ codes "\n")))
+
+-- the line of a fault
+abbrev pub fault_text : Table → PlayFault → List ℕ
+fault_text table (fault.Run why) = run_fault_text why
+fault_text table (fault.Unwoven node place) = weave_fault_text table node place
+fault_text table fault.NoMemory = codes "out of memory\n"
+
+-- the exit status of an ending
+abbrev pub status_of : LiveEnding → ℕ
+status_of ending.Done = 0
+status_of (ending.Refused why) = 1
+status_of (ending.Faulted why) = 1
+status_of ending.Stopped = 1
+
+-- nothing was run, and the line of this failure was printed, unless memory was refused or the output took no more
+abbrev pub IsRefusal : Failure → LiveEnding → Option (List ℕ) → Option (List ℕ) → Type 0
+IsRefusal failure ending.Done old new = ⊥
+IsRefusal failure (ending.Refused why) old new = (why ≡ failure) × Appends old new (failure_text failure)
+IsRefusal failure (ending.Faulted why) old new = ⊥
+IsRefusal failure ending.Stopped old new = Unit {0}
+
+-- the line of this fault was printed, unless memory was refused or the output took no more
+abbrev pub IsGivenUp : Table → PlayFault → LiveEnding → Option (List ℕ) → Option (List ℕ) → Type 0
+IsGivenUp table found ending.Done old new = ⊥
+IsGivenUp table found (ending.Refused why) old new = ⊥
+IsGivenUp table found (ending.Faulted why) old new = (why ≡ found) × Appends old new (fault_text table found)
+IsGivenUp table found ending.Stopped old new = Unit {0}
+
+-- How `distac live` leaves its source: as the failure tells where the input was refused, and else read to its end
+-- wherever anything is said of what was printed.
+abbrev pub IsLeftAt : LiveEnding → Sourced → Type 0
+IsLeftAt ending.Done source = source.progress ≡ Ended
+IsLeftAt (ending.Refused why) source = IsLeftBy why source
+IsLeftAt (ending.Faulted why) source = source.progress ≡ Ended
+IsLeftAt ending.Stopped source = Unit {0}
+
+-- what the program answers is the status of such an ending, where the reader tells its bytes
+pub record EndsLiveWith (Ending_of : List ℕ → LiveEnding → Type 0) (had : Option (List ℕ)) (status : ℕ) : Type 0 where
+  pub ending : LiveEnding
+  pub status_is : status ≡ status_of ending
+  pub ends : IfSome had (λ bytes. Ending_of bytes ending)

@@ -1,0 +1,23 @@
+-- Faults of the run and of the weave, as faults of `distac live`.
+use Rattle.dac_weave.specs.declared.fault.WeaveFault.{WeaveFault}
+use Rattle.dac_weave.specs.declared.fault.WeaveFault.TheVariants as weave
+use Rattle.dac_report.specs.RunFault.{RunFault}
+use Rattle.dac_report.specs.RunFault.TheVariants as run
+use Rattle.dac_live_play.specs.declared.fault.PlayFault.{PlayFault}
+use Rattle.dac_live_play.specs.declared.fault.PlayFault.TheVariants as fault
+
+-- want of memory is no fault of a run
+abbrev pub play_fault_of : RunFault → PlayFault
+play_fault_of run.NoMemory = fault.NoMemory
+play_fault_of run.TooManyNodes = fault.Run run.TooManyNodes
+play_fault_of run.NoThread = fault.Run run.NoThread
+play_fault_of (run.LinkLost from to) = fault.Run (run.LinkLost from to)
+play_fault_of (run.Open why) = fault.Run (run.Open why)
+play_fault_of (run.Site node why) = fault.Run (run.Site node why)
+play_fault_of (run.Close node why) = fault.Run (run.Close node why)
+play_fault_of (run.NoPage node) = fault.Run (run.NoPage node)
+
+-- nor one of the weave
+abbrev pub unwoven_fault_of : WeaveFault → PlayFault
+unwoven_fault_of (weave.Unwoven node place) = fault.Unwoven node place
+unwoven_fault_of weave.NoMemory = fault.NoMemory

@@ -1,0 +1,46 @@
+-- What `distac live` prints of an input.
+use Rattle.std.specs.Prelude.{◌≡◌, ℕ, List, Option}
+use Rattle.std.specs.Io.KnownBytes.{Appends}
+use Rattle.dac_config.specs.Table.{Table}
+use Rattle.dac_live_script.specs.declared.line.LiveLine.{LiveLine}
+use Rattle.dac_live_script.specs.LiveInputs.{Says, IsFailureOf}
+use Rattle.dac_play.specs.Texts.{failure_text}
+use Rattle.dac_report.specs.declared.report.LiveReport.{LiveReport}
+use Rattle.dac_live_play.specs.declared.fault.PlayFault.{PlayFault}
+use Rattle.dac_live_play.specs.declared.ending.LiveEnding.{LiveEnding}
+use Rattle.dac_live_play.specs.declared.ending.LiveEnding.TheVariants as ending
+use Rattle.dac_live_play.specs.Endings.{fault_text}
+use Rattle.dac_live_play.specs.Runs.{IsReportOf, IsWoven, IsFaultOf}
+use Rattle.dac_live_play.specs.Texts.{live_text}
+
+-- this text is that of a run of the script, whose journals are woven
+pub record IsPlayed (table : Table) (script : List LiveLine) (text : List ℕ) : Type 0 where
+  pub report : LiveReport
+  pub reported : IsReportOf table script report
+  pub woven : IsWoven table report
+  pub text_is : text ≡ live_text table script report
+
+-- what is printed is that of a run of the script that the input says
+pub record IsLived (bytes : List ℕ) (old new : Option (List ℕ)) : Type 0 where
+  pub table : Table
+  pub script : List LiveLine
+  pub says : Says bytes table script
+  pub text : List ℕ
+  pub played : IsPlayed table script text
+  pub printed : Appends old new text
+
+-- the script that the input says wasn't run to its end, and the line of this fault is all that is printed
+pub record IsFaulted (bytes : List ℕ) (why : PlayFault) (old new : Option (List ℕ)) : Type 0 where
+  pub table : Table
+  pub script : List LiveLine
+  pub says : Says bytes table script
+  pub fault_is : IsFaultOf table script why
+  pub printed : Appends old new (fault_text table why)
+
+-- How `distac live` ends, where these are the bytes of its input. Where it stopped because memory was refused or the
+-- output took no more, nothing is said.
+abbrev pub EndsLive : List ℕ → LiveEnding → Option (List ℕ) → Option (List ℕ) → Type 0
+EndsLive bytes ending.Done old new = IsLived bytes old new
+EndsLive bytes (ending.Refused why) old new = IsFailureOf bytes why × Appends old new (failure_text why)
+EndsLive bytes (ending.Faulted why) old new = IsFaulted bytes why old new
+EndsLive bytes ending.Stopped old new = Unit {0}

@@ -1,0 +1,45 @@
+-- A script in phases, and what its callers are asked in each.
+use Rattle.std.specs.Prelude.{Bool, true, false, ◌≡◌, List, map, Option, Some, None}
+use Rattle.std.specs.List.{slice_split, filter_map}
+use Rattle.dac_live_script.specs.declared.line.Deed.{Deed}
+use Rattle.dac_live_script.specs.declared.line.Deed.TheVariants as deed
+use Rattle.dac_live_script.specs.declared.line.LiveLine.{LiveLine}
+use Rattle.dac_live_script.specs.declared.line.LiveLine.TheVariants as says
+use Rattle.dac_messages.specs.declared.event.Event.{Event}
+use Rattle.dac_messages.specs.declared.event.Event.TheVariants as event
+use Rattle.dac_report.specs.Ask.TheVariants as ask
+use Rattle.dac_report.specs.Line.{Line}
+use Rattle.dac_report.specs.Phase.{Phase}
+
+-- a phase ends
+abbrev pub is_mark : LiveLine → Bool
+is_mark (says.Do node caller d) = false
+is_mark (says.Read node caller) = false
+is_mark (says.Feed bytes) = false
+is_mark says.Phase = true
+
+-- the lines of each phase: they stand between the marks, so there is one more phase than marks
+abbrev pub parts_of : List LiveLine → List (List LiveLine)
+parts_of script = slice_split is_mark script
+
+-- what happens at a node of which this is asked
+abbrev pub event_of : Deed → Event
+event_of (deed.Boot now) = event.Boot now
+event_of deed.Crash = event.Crash
+event_of (deed.Command command) = event.Command command
+event_of (deed.Tick now) = event.Tick now
+
+-- what a caller is asked to do, if it is a caller's line
+abbrev pub asked_by : LiveLine → Option Line
+asked_by (says.Do node caller d) = Some (record { node = node; caller = caller; what = ask.Do (event_of d) })
+asked_by (says.Read node caller) = Some (record { node = node; caller = caller; what = ask.Read })
+asked_by (says.Feed bytes) = None
+asked_by says.Phase = None
+
+-- what callers are asked in a phase of these lines
+abbrev pub lines_in : List LiveLine → List Line
+lines_in part = filter_map asked_by part
+
+-- in these phases callers are asked what these lists of lines say, phase by phase
+abbrev pub AsksAs : List Phase → List (List LiveLine) → Type 0
+AsksAs phases parts = map (λ (p : Phase). p.lines.items) phases ≡ map lines_in parts

@@ -1,0 +1,57 @@
+-- What the run of a script was.
+use Rattle.std.specs.Prelude.{◌≡◌, ◌≢◌, ℕ, ◌<◌, List, length}
+use Rattle.dac_base.specs.declared.NodeId.{NodeId}
+use Rattle.dac_config.specs.Table.{Table, node_count}
+use Rattle.dac_events.specs.declared.WorldEvent.{WorldEvent}
+use Rattle.dac_live_script.specs.declared.line.LiveLine.{LiveLine}
+use Rattle.dac_report.specs.declared.report.LiveReport.{LiveReport}
+use Rattle.dac_report.specs.Lines.{CallersHold, AreAnswered}
+use Rattle.dac_report.specs.Nodes.{AreNodes, PagesHold}
+use Rattle.dac_report.specs.Pairs.{LinksHold}
+use Rattle.dac_report.specs.Phase.{Phase}
+use Rattle.dac_weave.specs.Converging.{IsConverged}
+use Rattle.dac_weave.specs.Recording.{IsRecorded}
+use Rattle.dac_weave.specs.Woven.{Gives, IsUnwoven}
+use Rattle.dac_report.specs.RunFault.{RunFault}
+use Rattle.dac_report.specs.RunFault.TheVariants as run
+use Rattle.dac_live_play.specs.declared.fault.PlayFault.{PlayFault}
+use Rattle.dac_live_play.specs.declared.fault.PlayFault.TheVariants as fault
+use Rattle.dac_live_play.specs.Phases.{parts_of, AsksAs}
+
+-- What a run in these phases leaves: a journal and a page of each node. What a link's worker heard is what its shipper
+-- shipped. The pages are those of the whole journals. Each caller's seat has exactly its lines as records, and was answered so.
+pub record IsReport (table : Table) (phases : List Phase) (report : LiveReport) : Type 0 where
+  pub nodes : AreNodes (node_count table) report.closed.items
+  pub links : LinksHold (length phases) report.closed.items
+  pub pages : PagesHold table report.closed.items report.pages.items
+  pub callers : CallersHold phases report.answers.items report.closed.items
+  pub lines : AreAnswered phases report.answers.items
+
+-- a run reports this, whose phases ask what the script says
+pub record IsReportOf (table : Table) (script : List LiveLine) (report : LiveReport) : Type 0 where
+  pub phases : List Phase
+  pub asks : AsksAs phases (parts_of script)
+  pub few : ¬ (4 < node_count table)
+  pub is : IsReport table phases report
+
+-- one run of the world has at each node exactly the records of its journal, with their answers, so all that every run
+-- leaves holds of it
+pub record IsWoven (table : Table) (report : LiveReport) : Type 0 where
+  pub events : List WorldEvent
+  pub gives : Gives table report.closed.items events
+  pub recorded : IsRecorded table report.closed.items events
+  pub converges : IsConverged table report.closed.items events
+
+-- no run of the world has the journals that a run of the script left, and each ends at this place of this node
+pub record IsUnwovenAt (table : Table) (script : List LiveLine) (node : NodeId) (place : ℕ) : Type 0 where
+  pub report : LiveReport
+  pub reported : IsReportOf table script report
+  pub ends : IsUnwoven table report.closed.items node place
+  pub none : (events : List WorldEvent) → IsRecorded table report.closed.items events → ⊥
+
+-- Why a script isn't run to its end. More than four nodes are always the fault, unless memory was refused. Want of
+-- memory is no fault of a run.
+abbrev pub IsFaultOf : Table → List LiveLine → PlayFault → Type 0
+IsFaultOf table script (fault.Run why) = (why ≢ run.NoMemory) × (4 < node_count table → why ≡ run.TooManyNodes)
+IsFaultOf table script (fault.Unwoven node place) = IsUnwovenAt table script node place
+IsFaultOf table script fault.NoMemory = Unit {0}

@@ -1,0 +1,25 @@
+//! What `distac live` does with an input. It runs the script at sites in threads, and prints what comes of its lines.
+//!
+//! The promise is on [`live_source`]. Where it is done, what it wrote is the text of a report of a run of the script that
+//! the input says. By that report, each link carried what was shipped, each page is that of its node's whole journal, and
+//! each caller was answered as its records say. The journals were woven, so all that every run of the world leaves holds
+//! of what is printed. Nothing is printed before all that is known. Where the input, the run or the weave has a
+//! fault, a line that says so is all that is printed. Where memory or a write fails, nothing else is promised but the
+//! status 1.
+#![tactic(auto)]
+
+mod ending;
+mod fault;
+mod phases;
+mod playing;
+mod printing;
+mod running;
+mod texts;
+
+pub use ending::LiveEnding;
+pub use fault::PlayFault;
+pub use phases::{parts_of, phases_of};
+pub use playing::played;
+pub use printing::live_lines;
+pub use running::{live, live_source};
+pub use texts::CALLERS;

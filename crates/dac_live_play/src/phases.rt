@@ -1,0 +1,87 @@
+//! A script in phases, and what its callers are asked in each.
+
+ghost use Rattle.std.specs.Prelude.{◌≡◌, ◌<◌, All, IfOk, map};
+ghost use Rattle.std.specs.Option.{option_map};
+ghost use Rattle.dac_config.specs.Table.{node_count};
+ghost use Rattle.dac_live_script.specs.LiveLines.{HasActors};
+ghost use Rattle.dac_report.specs.Lines.{HasLines};
+ghost use Rattle.dac_live_play.specs.Phases.{is_mark, parts_of, event_of, asked_by, lines_in, AsksAs};
+
+use dac_base::NoMemory;
+use dac_live_script::{Deed, LiveLine};
+use dac_messages::Event;
+use dac_report::{Ask, Line, Phase};
+use std::alloc::Global;
+
+/// Whether a phase ends.
+fn is_mark(line: &LiveLine) -> bool
+    ensures { result ≡ is_mark line.now }
+{
+    match line {
+        LiveLine::Phase => true,
+        _ => false,
+    }
+}
+
+/// The lines of each phase of a script: one more phase than lines that end one. [`NoMemory`] is the only error.
+pub fn parts_of(alloc: Global, script: &[LiveLine]) -> Result<Vec<&[LiveLine]>, NoMemory>
+    ensures { IfOk result (λ parts. map (λ part. part.now) parts.items ≡ parts_of script.now) }
+{
+    let parts = script.split(is_mark).collect(alloc)?;
+    Ok(parts)
+}
+
+/// What happens at a node of which this is asked.
+fn event_of(deed: Deed) -> Event
+    ensures { result ≡ event_of deed }
+{
+    match deed {
+        Deed::Boot { now } => Event::Boot { now },
+        Deed::Crash => Event::Crash,
+        Deed::Command(command) => Event::Command(command),
+        Deed::Tick { now } => Event::Tick { now },
+    }
+}
+
+/// What a caller is asked to do, if it is a caller's line.
+fn asked_by(line: &LiveLine) -> Option<Line>
+    ensures { result ≡ asked_by line.now }
+{
+    match line {
+        LiveLine::Do { node, caller, deed } => Some(Line {
+            node: *node,
+            caller: *caller,
+            what: Ask::Do(event_of(*deed)),
+        }),
+        LiveLine::Read { node, caller } => Some(Line {
+            node: *node,
+            caller: *caller,
+            what: Ask::Read,
+        }),
+        LiveLine::Feed(_) | LiveLine::Phase => None,
+    }
+}
+
+/// A phase in which callers are asked what these lines say.
+fn phase_of(alloc: Global, part: &[LiveLine]) -> Result<Phase, NoMemory>
+    ensures { IfOk result (λ phase. phase.lines.items ≡ lines_in part.now) }
+{
+    let mut lines = Vec::new(alloc);
+    for line in part {
+        if let Some(asked) = asked_by(line) {
+            lines.push(asked)?;
+        }
+    }
+    Ok(Phase { lines })
+}
+
+/// Phases in which callers are asked what these lists of lines say, phase by phase. [`NoMemory`] is the only error.
+pub fn phases_of(alloc: Global, parts: &[&[LiveLine]]) -> Result<Vec<Phase>, NoMemory>
+    ensures { IfOk result (λ phases. AsksAs phases.items (map (λ part. part.now) parts.now)) }
+{
+    let mut phases = Vec::new(alloc);
+    for part in parts {
+        phases.push(phase_of(alloc, part)?)?;
+    }
+    Ok(phases)
+}

@@ -1,0 +1,49 @@
+//! A script run to its end.
+
+ghost use Rattle.std.specs.Prelude.{All, IfOk, IfErr};
+ghost use Rattle.dac_config.specs.Table.{node_count};
+ghost use Rattle.dac_live_script.specs.LiveLines.{HasActors};
+ghost use Rattle.dac_live_play.specs.Runs.{IsFaultOf};
+ghost use Rattle.dac_live_play.specs.Lives.{IsPlayed};
+
+use crate::fault::PlayFault;
+use crate::phases::{parts_of, phases_of};
+use crate::printing::live_lines;
+use dac_base::NodeId;
+use dac_config::Config;
+use dac_live_script::LiveLine;
+use dac_report::{Gate, run_live};
+use dac_weave::weave;
+use std::alloc::Global;
+use std::sync::Wait;
+use std::thread::Threads;
+
+/// Holds nothing.
+struct Open;
+
+impl Gate for Open {
+    fn before(&self, _from: NodeId, _to: NodeId, _k: u64) {}
+
+    fn after(&self, _from: NodeId, _to: NodeId, _k: u64) {}
+}
+
+/// Runs a script at sites in threads, weaves their journals, and gives what is printed of it.
+///
+/// [`PlayFault::NoMemory`] is answered wherever memory is refused before another fault is met.
+pub fn played<T: Threads + Wait + Sync>(
+    rt: &T,
+    alloc: Global,
+    config: &Config,
+    script: &[LiveLine],
+) -> Result<Vec<u8>, PlayFault>
+    requires { All (HasActors (node_count config.now)) script.now }
+    ensures ok { IfOk result (λ text. IsPlayed config.now script.now text.items) }
+    ensures fault { IfErr result (IsFaultOf config.now script.now) }
+{
+    let parts = parts_of(alloc, script)?;
+    let phases = phases_of(alloc, &parts)?;
+    let report = run_live(rt, alloc, config, &phases, &Open)?;
+    weave(alloc, config, &report.closed)?;
+    let text = live_lines(alloc, config, &parts, &phases, &report)?;
+    Ok(text)
+}

@@ -1,0 +1,201 @@
+//! What is printed of a run.
+
+ghost use Rattle.std.specs.Prelude.{◌≡◌, ◌+◌, ◌<◌, ◌++◌, IfOk, OnOk, length, map};
+ghost use Rattle.std.specs.List.{flat_map};
+ghost use Rattle.dac_config.specs.Table.{node_count};
+ghost use Rattle.dac_live_play.specs.Phases.{lines_in, AsksAs};
+ghost use Rattle.dac_live_play.specs.Texts.{caller_text, callers_text, asked_text, feed_text, phase_text, phases_text, shown_text, last_text, pages_text, run_text};
+
+use crate::texts::{CALLERS, put_feed, put_own};
+use dac_base::{NoMemory, NodeId};
+use dac_config::Config;
+use dac_live_script::LiveLine;
+use dac_report::{Line, LineAnswer, LiveReport, Page, Phase};
+use dac_status::{header, page};
+use std::alloc::Global;
+
+/// The lines of a caller of a node in a phase.
+fn put_caller(
+    alloc: Global,
+    text: &mut Vec<u8>,
+    config: &Config,
+    lines: &[Line],
+    answers: &[LineAnswer],
+    node: NodeId,
+    caller: u8,
+) -> Result<(), NoMemory>
+    requires { node.0 < node_count config.now }
+    ensures { OnOk result (text.new.items ≡ text.old.items ++ caller_text config.now lines.now answers.now node caller) }
+{
+    for place in 0..lines.len().min(answers.len()) {
+        put_own(
+            alloc,
+            text,
+            config,
+            node,
+            caller,
+            &lines[place],
+            &answers[place],
+        )?;
+    }
+    Ok(())
+}
+
+/// The lines of a node's callers in a phase.
+fn put_node(
+    alloc: Global,
+    text: &mut Vec<u8>,
+    config: &Config,
+    lines: &[Line],
+    answers: &[LineAnswer],
+    node: NodeId,
+) -> Result<(), NoMemory>
+    requires { node.0 < node_count config.now }
+    ensures { OnOk result (text.new.items ≡ text.old.items ++ callers_text config.now lines.now answers.now node) }
+{
+    for caller in &CALLERS {
+        put_caller(alloc, text, config, lines, answers, node, *caller)?;
+    }
+    Ok(())
+}
+
+/// The lines of all callers in a phase.
+fn put_asked(
+    alloc: Global,
+    text: &mut Vec<u8>,
+    config: &Config,
+    lines: &[Line],
+    answers: &[LineAnswer],
+) -> Result<(), NoMemory>
+    ensures { OnOk result (text.new.items ≡ text.old.items ++ asked_text config.now lines.now answers.now) }
+{
+    for number in 0..config.nodes() {
+        put_node(alloc, text, config, lines, answers, NodeId(number))?;
+    }
+    Ok(())
+}
+
+/// The feeds of a phase.
+fn put_feeds(
+    alloc: Global,
+    text: &mut Vec<u8>,
+    config: &Config,
+    part: &[LiveLine],
+) -> Result<(), NoMemory>
+    ensures { OnOk result (text.new.items ≡ text.old.items ++ flat_map (feed_text config.now) part.now) }
+{
+    for line in part {
+        put_feed(alloc, text, config, line)?;
+    }
+    Ok(())
+}
+
+/// The lines of a phase, which has these lines of the script and this place among the phases.
+fn phase_lines(
+    alloc: Global,
+    config: &Config,
+    place: usize,
+    part: &[LiveLine],
+    lines: &[Line],
+    answers: &[LineAnswer],
+) -> Result<Vec<u8>, NoMemory>
+    requires place { place < usize.MAX }
+    requires lines { lines.now ≡ lines_in part.now }
+    ensures { IfOk result (λ text. text.items ≡ phase_text config.now (place + 1) part.now answers.now) }
+{
+    let number = place + 1;
+    let mut text = format!(in alloc; "phase {number}\n")?.into_bytes();
+    put_asked(alloc, &mut text, config, lines, answers)?;
+    put_feeds(alloc, &mut text, config, part)?;
+    Ok(text)
+}
+
+/// The lines of all phases.
+fn put_phases(
+    alloc: Global,
+    text: &mut Vec<u8>,
+    config: &Config,
+    parts: &[&[LiveLine]],
+    phases: &[Phase],
+    answers: &[Vec<LineAnswer>],
+) -> Result<(), NoMemory>
+    requires { AsksAs phases.now (map (λ part. part.now) parts.now) }
+    ensures { OnOk result (text.new.items ≡ text.old.items ++ phases_text config.now (map (λ part. part.now) parts.now) (map (λ told. told.items) answers.now)) }
+{
+    for place in 0..phases.len().min(answers.len()) {
+        let lines = &phases[place].lines;
+        let told = &answers[place];
+        let lines = phase_lines(alloc, config, place, parts[place], lines, told)?;
+        text.extend_from_slice(&lines)?;
+    }
+    Ok(())
+}
+
+/// As what a node runs, and its page. A node that is off has none.
+fn shown_lines(
+    alloc: Global,
+    config: &Config,
+    node: NodeId,
+    last: &Page,
+) -> Result<Vec<u8>, NoMemory>
+    requires { node.0 < node_count config.now }
+    ensures { IfOk result (λ lines. lines.items ≡ shown_text config.now node last.now) }
+{
+    let mut lines = header(alloc, config, node, last.origin)?;
+    if last.origin.is_some() {
+        let page = page(alloc, config, &last.summary)?;
+        lines.extend_from_slice(&page)?;
+    }
+    Ok(lines)
+}
+
+/// The page of a node, of these by their numbers.
+fn put_last(
+    alloc: Global,
+    text: &mut Vec<u8>,
+    config: &Config,
+    pages: &[Page],
+    node: NodeId,
+) -> Result<(), NoMemory>
+    requires { node.0 < node_count config.now }
+    ensures { OnOk result (text.new.items ≡ text.old.items ++ last_text config.now pages.now node) }
+{
+    if let Some(last) = pages.get(usize::from(node.0)) {
+        let lines = shown_lines(alloc, config, node, last)?;
+        text.extend_from_slice(&lines)?;
+    }
+    Ok(())
+}
+
+/// The pages of all nodes.
+fn put_pages(
+    alloc: Global,
+    text: &mut Vec<u8>,
+    config: &Config,
+    pages: &[Page],
+) -> Result<(), NoMemory>
+    ensures { OnOk result (text.new.items ≡ text.old.items ++ pages_text config.now pages.now) }
+{
+    for number in 0..config.nodes() {
+        put_last(alloc, text, config, pages, NodeId(number))?;
+    }
+    Ok(())
+}
+
+/// All that is printed of a run in these phases, which ask what these lists of lines say. [`NoMemory`] is the only error.
+pub fn live_lines(
+    alloc: Global,
+    config: &Config,
+    parts: &[&[LiveLine]],
+    phases: &[Phase],
+    report: &LiveReport,
+) -> Result<Vec<u8>, NoMemory>
+    requires { AsksAs phases.now (map (λ part. part.now) parts.now) }
+    ensures { IfOk result (λ text. text.items ≡ run_text config.now (map (λ part. part.now) parts.now) report.now) }
+{
+    let mut text = Vec::new(alloc);
+    put_phases(alloc, &mut text, config, parts, phases, &report.answers)?;
+    put_pages(alloc, &mut text, config, &report.pages)?;
+    text.extend_from_slice(b"close ok\nweave ok\n")?;
+    Ok(text)
+}

@@ -1,0 +1,62 @@
+//! A script run in threads, with what is printed of it.
+
+ghost use Rattle.std.specs.Prelude.{◌≡◌, IfSome};
+ghost use Rattle.dac_script.specs.Input.{IsReadWithinBound};
+ghost use Rattle.dac_live_play.specs.Endings.{IsLeftAt};
+ghost use Rattle.dac_live_play.specs.Lives.{EndsLive};
+
+use crate::ending::{LiveEnding, given_up, refused};
+use crate::playing::played;
+use dac_live_script::prepare_live;
+use dac_play::print;
+use dac_script::Source;
+use std::alloc::Global;
+use std::io::{Read, Write};
+use std::sync::Wait;
+use std::thread::Threads;
+
+/// Reads a configuration and a script, runs the script at sites in threads, and prints what comes of it. The whole input
+/// is read and checked before anything is run. All is known to be good before anything is printed. Where there is a fault
+/// of the input, of the run or of the weave, a line that says so is all that is printed.
+#[tactic(auto, using(crate::proofs::Ends::lived, crate::proofs::Ends::refused_ends, crate::proofs::Ends::given_up_ends, crate::proofs::Ends::refused_left, crate::proofs::Ends::given_up_left))]
+pub fn live_source<R: Read, W: Write, T: Threads + Wait + Sync>(
+    rt: &T,
+    alloc: Global,
+    source: &mut Source<'_, R>,
+    output: &mut W,
+) -> LiveEnding
+    ensures ends { IfSome source.old.left (λ bytes. EndsLive bytes result (W.contents output.old) (W.contents output.new)) }
+    ensures reads { IsLeftAt result source.new }
+    // However it ends, no more was read than the bound and one byte.
+    ensures bound { IsReadWithinBound source.old.left source.new.left }
+    ensures same_reader { source.new.reader ≡ source.old.reader }
+{
+    let (config, script) = match prepare_live(alloc, source) {
+        Ok(both) => both,
+        Err(failure) => return refused(alloc, failure, output),
+    };
+    let text = match played(rt, alloc, &config, &script) {
+        Ok(text) => text,
+        Err(fault) => return given_up(alloc, &config, fault, output),
+    };
+    if !print(&text, output) {
+        return LiveEnding::Stopped;
+    }
+    LiveEnding::Done
+}
+
+/// As [`live_source`], of a reader of which nothing was read.
+pub fn live<R: Read, W: Write, T: Threads + Wait + Sync>(
+    rt: &T,
+    alloc: Global,
+    input: &mut R,
+    output: &mut W,
+) -> LiveEnding
+    ensures ends { IfSome (R.remaining input.old) (λ bytes. EndsLive bytes result (W.contents output.old) (W.contents output.new)) }
+    ensures bound { IsReadWithinBound (R.remaining input.old) (R.remaining input.new) }
+{
+    let mut source = Source::new(input);
+    let ending = live_source(rt, alloc, &mut source, output);
+    let _reader = source.into_reader();
+    ending
+}
