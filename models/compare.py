@@ -1,10 +1,10 @@
 #!/usr/bin/env python3
 """Runs the program and the models on the same random inputs, and prints the first difference whole.
 
-Usage: python3 compare.py PROGRAM [--seed S] [--count N] [--scripts M] [--jobs J]
+Usage: python3 compare.py PROGRAM [--seed S] [--count N] [--scripts M] [--live L] [--jobs J]
 
-PROGRAM may be a command of several words in one argument, as of a loader with its arguments. The word `check` or `sim` is
-added to it.
+PROGRAM may be a command of several words in one argument, as of a loader with its arguments. The word `check`, `sim` or `live`
+is added to it. A live run that hasn't ended after some minutes is a difference too.
 """
 
 from __future__ import annotations
@@ -18,12 +18,15 @@ from concurrent.futures import ProcessPoolExecutor
 from dataclasses import dataclass
 
 import check
+import live
+import random_live
 import random_scripts
 import random_texts
 import sim
 
 Model = Callable[[bytes], tuple[bytes, int]]
 BATCH = 50
+MOST_SECONDS = 300
 
 
 @dataclass(frozen=True)
@@ -49,12 +52,17 @@ class Difference:
 KINDS = {
     "check": Kind("check", random_texts.random_text, check.check),
     "sim": Kind("sim", random_scripts.random_script, sim.simulate),
+    "live": Kind("live", random_live.random_live, live.run_live),
 }
 
 
 def run_program(program: list[str], word: str, source: bytes) -> tuple[bytes, int]:
     """What the program prints for an input, and its exit status."""
-    done = subprocess.run([*program, word], input=source, stdout=subprocess.PIPE, check=False)
+    most = MOST_SECONDS if word == "live" else None
+    try:
+        done = subprocess.run([*program, word], input=source, stdout=subprocess.PIPE, check=False, timeout=most)
+    except subprocess.TimeoutExpired:
+        return b"(no end)\n", -1
     return done.stdout, done.returncode
 
 
@@ -76,9 +84,9 @@ def batches(word: str, count: int) -> Iterator[tuple[str, range]]:
         yield word, range(start, min(start + BATCH, count))
 
 
-def compare_all(program: list[str], seed: int, texts: int, scripts: int, jobs: int) -> list[Difference]:
+def compare_all(program: list[str], seed: int, counts: dict[str, int], jobs: int) -> list[Difference]:
     """All differences, found by several processes at once."""
-    work = [*batches("check", texts), *batches("sim", scripts)]
+    work = [batch for word, count in counts.items() for batch in batches(word, count)]
     with ProcessPoolExecutor(jobs) as pool:
         tasks = [pool.submit(compare_batch, program, word, seed, numbers) for word, numbers in work]
         return [difference for task in tasks for difference in task.result()]
@@ -100,6 +108,7 @@ def arguments() -> argparse.Namespace:
     parser.add_argument("--seed", type=int, default=1)
     parser.add_argument("--count", type=int, default=20_000, help="how many texts for `check`")
     parser.add_argument("--scripts", type=int, default=2_000, help="how many scripts for `sim`")
+    parser.add_argument("--live", type=int, default=500, help="how many scripts for `live`")
     parser.add_argument("--jobs", type=int, default=2)
     parser.add_argument("program", type=shlex.split, help="the program, or a command of several words")
     return parser.parse_args()
@@ -108,10 +117,11 @@ def arguments() -> argparse.Namespace:
 def main() -> int:
     """Compares, shows the first difference, and counts all."""
     words = arguments()
-    found = compare_all(words.program, words.seed, words.count, words.scripts, words.jobs)
+    counts = {"check": words.count, "sim": words.scripts, "live": words.live}
+    found = compare_all(words.program, words.seed, counts, words.jobs)
     if found:
         show(found[0])
-    print(f"{words.count} texts, {words.scripts} scripts, {len(found)} differences")
+    print(f"{words.count} texts, {words.scripts} scripts, {words.live} live scripts, {len(found)} differences")
     return 1 if found else 0
 
 

@@ -393,7 +393,7 @@ def near_word(random: Random, word: bytes) -> bytes:
     return random.choice((b"0" + word, b"'%s'" % word, word + b"0", word.upper(), word[:-1] or b"+", b"+" + word, word + b"'"))
 
 
-def with_fault(random: Random, lines: list[bytes]) -> list[bytes]:
+def with_fault(random: Random, lines: list[bytes], odd_words: tuple[bytes, ...] = ODD_WORDS) -> list[bytes]:
     """The lines with one changed so that it has a fault, most likely."""
     at = random.randrange(len(lines))
     words = lines[at].split(b" ")
@@ -404,11 +404,11 @@ def with_fault(random: Random, lines: list[bytes]) -> list[bytes]:
     elif roll == 0:
         words = words[:place] + words[place + 1 :]
     elif roll == 1:
-        words.insert(place, random.choice(ODD_WORDS))
+        words.insert(place, random.choice(odd_words))
     elif roll == 2:
-        words[place : place + 1] = [random.choice(ODD_WORDS)]
+        words[place : place + 1] = [random.choice(odd_words)]
     else:
-        words = [random.choice(ODD_WORDS) if random.random() < 0.5 else word for word in words]
+        words = [random.choice(odd_words) if random.random() < 0.5 else word for word in words]
     return [*lines[:at], b" ".join(words) or b" ", *lines[at + 1 :]]
 
 

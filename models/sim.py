@@ -17,12 +17,13 @@ from wire import INTERVAL, NOTHING, WHOLE, WireFault, message_bytes, read_packet
 from world import NoSuch, Refused, World
 
 MOST_NUMBER = 2**62
+INPUT_FAULTS = ("TooLong", "NoScript")
 SCRIPT_FAULTS = ("BadWord", "BadCount", "BadName", "BadNumber", "UnknownActor", "BadHex")
 HOW_NAMES = {NORMAL: b"normal", FAILOVER: b"failover", TAKEOVER: b"takeover"}
 HEARD = {True: b"heard new", False: b"heard nothing new"}
 BODY_NAMES = {WHOLE: "whole", INTERVAL: "interval", NOTHING: "nothing"}
 
-ACTOR, NODE, APP, NUMBER, TRUTH, HEX = "actor", "node", "app", "number", "truth", "hex"
+VERB, ACTOR, NODE, APP, NUMBER, TRUTH, HEX = "verb", "actor", "node", "app", "number", "truth", "hex"
 
 SHAPES: dict[bytes, tuple[str, ...]] = {
     **dict.fromkeys((b"boot", b"tick", b"hear", b"hand"), (ACTOR, NUMBER)),
@@ -33,6 +34,18 @@ SHAPES: dict[bytes, tuple[str, ...]] = {
     **{b"share": (), b"bytes": (NUMBER,), b"feed": (HEX,)},
 }
 COMMANDS = (b"down", b"permit", b"start", b"stop", b"takeover")
+
+
+class InputFault(Exception):
+    """What is wrong with an input as a whole."""
+
+    def __init__(self, kind: str) -> None:
+        super().__init__(kind)
+        self.kind = kind
+
+    def line(self) -> bytes:
+        """The line that the program prints for it."""
+        return f"input fault {INPUT_FAULTS.index(self.kind) + 1} {self.kind}".encode()
 
 
 class ScriptFault(Exception):
@@ -56,7 +69,7 @@ Value = int | bool | bytes
 
 @dataclass(frozen=True)
 class Line:
-    """A line that is in order: its first word, and the values of the others."""
+    """A line that is in order: the word that says what it does, and the values of the others."""
 
     word: bytes
     values: tuple[Value, ...]
@@ -94,14 +107,18 @@ class LineReader:
         self.nodes = list(config.nodes)
         self.apps = [app.name for app in config.apps]
 
+    def kinds_of(self, words: list[bytes]) -> tuple[str, ...] | None:
+        """Of which kind each word of a line has to be, if it is a line at all."""
+        return (VERB, *SHAPES[words[0]]) if words[0] in SHAPES else None
+
     def fault_of(self, words: list[bytes]) -> str | None:
         """The least kind of fault of a line, over all its words."""
-        if words[0] not in SHAPES:
+        kinds = self.kinds_of(words)
+        if kinds is None:
             return "BadWord"
-        shape = SHAPES[words[0]]
-        if len(words) != len(shape) + 1:
+        if len(words) != len(kinds):
             return "BadCount"
-        faults = [self.fault_of_word(kind, word) for kind, word in zip(shape, words[1:])]
+        faults = [self.fault_of_word(kind, word) for kind, word in zip(kinds, words)]
         return min((fault for fault in faults if fault), key=SCRIPT_FAULTS.index, default=None)
 
     def fault_of_word(self, kind: str, word: bytes) -> str | None:
@@ -131,13 +148,13 @@ class LineReader:
         fault = self.fault_of(words)
         if fault is not None:
             raise ScriptFault(number, fault)
-        values = [self.value_of(kind, word) for kind, word in zip(SHAPES[words[0]], words[1:])]
-        return Line(words[0], tuple(values))
+        kinds = self.kinds_of(words) or ()
+        values = [self.value_of(kind, word) for kind, word in zip(kinds, words) if kind != VERB]
+        return Line(words[kinds.index(VERB)], tuple(values))
 
 
-def read_script(config: Config, script: bytes) -> list[Line]:
+def read_lines(reader: LineReader, script: bytes) -> list[Line]:
     """All lines of a script that do something, or the first fault."""
-    reader = LineReader(config)
     lines = enumerate(script.split(b"\n"), 1)
     return [reader.read(line, number) for number, line in lines if line and line[:1] != b"%"]
 
@@ -152,6 +169,17 @@ def parted(source: bytes) -> tuple[bytes, bytes] | None:
             return source[:at], source[past + 1 :]
         at = past + 1
     return None
+
+
+def read_input(source: bytes, reader: type[LineReader]) -> tuple[Config, list[Line]]:
+    """The configuration and the lines of an input, or its first fault."""
+    if len(source) > MOST_INPUT:
+        raise InputFault("TooLong")
+    parts = parted(source)
+    if parts is None:
+        raise InputFault("NoScript")
+    config = read_config(parts[0])
+    return config, read_lines(reader(config), parts[1])
 
 
 # Printing
@@ -332,15 +360,9 @@ def play_all(config: Config, lines: list[Line]) -> bytes:
 
 def simulate(source: bytes) -> tuple[bytes, int]:
     """What the program prints for an input, and its exit status."""
-    if len(source) > MOST_INPUT:
-        return b"input fault 1 TooLong\n", 1
-    parts = parted(source)
-    if parts is None:
-        return b"input fault 2 NoScript\n", 1
     try:
-        config = read_config(parts[0])
-        lines = read_script(config, parts[1])
-    except (ConfigFault, ScriptFault) as fault:
+        config, lines = read_input(source, LineReader)
+    except (InputFault, ConfigFault, ScriptFault) as fault:
         return fault.line() + b"\n", 1
     return play_all(config, lines), 0
 

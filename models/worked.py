@@ -12,8 +12,10 @@ from collections.abc import Callable, Iterator
 from dataclasses import dataclass
 
 from check import Config, check, read_config
+from live import run_live
 from meaning import NORMAL, Claim, ClaimAct, Dot, Down, Key, Meaning, Operation, Start, Up, meaning_of
 from placement import load, verdict
+from random_live import outputs
 from sim import LineReader, Player, simulate
 from wire import WireFault, claim_bytes, context_bytes, is_operation, read_packet, read_state, state_bytes
 
@@ -218,6 +220,100 @@ ROWS = (
     ),
 )
 
+
+
+@dataclass(frozen=True)
+class LiveRow:
+    """A live script under a configuration, and what it prints in any order of its threads."""
+
+    name: str
+    config: bytes
+    script: str
+    output: str
+
+    def failure(self) -> str | None:
+        """What is wrong, if anything."""
+        source = self.config + b"--\n" + "\n".join(whole(self.script)).encode()
+        expected = "".join(line + "\n" for line in whole(self.output)).encode()
+        other = next((output for output in outputs(source, ORDERS, 1) if output != expected), None)
+        return None if other is None else other.decode()
+
+
+ORDERS = 20
+
+LIVE_PAGE = (
+    "heard 10 known 10;node p up 1;node q up 1;node r up 1;app m holder p 1 term 1 normal verdict kept p;"
+    "list p=ok q=barred r=ok;"
+)
+FAILOVER_PAGE = (
+    "heard 11 known 11;node x down 1;node y up 1;node z up 1;app a holder z 1 term 2 failover from x verdict kept z;"
+    "list x=down y=ok z=ok;app b holder y 1 term 1 normal verdict kept y;list y=ok;"
+)
+REBOOT_PAGE = (
+    "heard 6 known 6;node x unknown;node y up 1;node z up 2;app a holder y 1 term 1 normal verdict kept y;"
+    "list x=down y=ok z=idle;"
+)
+CLOSED = "close ok;weave ok"
+
+LIVE_ROWS = (
+    LiveRow(
+        "three nodes in three phases",
+        EXAMPLE,
+        "1 boot p 0;1 boot q 0;1 boot r 0;phase;1 start p m p;1 read p;2 permit p m r true;1 start q m q;2 permit q m q false;"
+        "1 start r m r;2 permit r m p true;feed 44414301;feed 444143010000000000000000;phase;1 tick p 100;2 tick q 100",
+        "phase 1;p 1 ok;q 1 ok;r 1 ok;phase 2;p 1 ok;p 1 fresh;p 2 ok;q 1 ok;q 2 ok;r 1 ok;r 2 ok;wire fault 5 Short at 4;"
+        "wire fault 4 OtherConfig at 4;phase 3;p 1 ok;q 2 ok;"
+        f"node p 1;{LIVE_PAGE};node q 1;{LIVE_PAGE};node r 1;{LIVE_PAGE};{CLOSED}",
+    ),
+    LiveRow("nothing is said", ONE_APPLICATION, "", f"phase 1;node x off;node y off;node z off;{CLOSED}"),
+    LiveRow(
+        "answers by node and caller",
+        ONE_APPLICATION,
+        "2 read y;1 tick z 5;phase;phase;4 read z;1 read z;1 boot x 3;4 crash y;3 read x;1 crash x;1 read x;1 tick x 4",
+        "phase 1;y 2 fresh;z 1 refused 1 Off;phase 2;phase 3;x 1 ok;x 1 ok;x 1 fresh;x 1 refused 1 Off;x 3 fresh;"
+        f"y 4 refused 1 Off;z 1 fresh;z 4 fresh;node x off;node y off;node z off;{CLOSED}",
+    ),
+    LiveRow(
+        "a failover over phases",
+        TWO_APPLICATIONS,
+        "1 boot x 0;1 boot y 0;1 boot z 0;phase;1 start x a x;1 start y a y;2 start y b y;1 start z a z;phase;1 tick x 0;phase;"
+        "1 tick y 0;phase;1 crash x;2 read y;phase;1 down z x;phase;1 tick z 1000;phase;1 tick z 5999;phase;1 tick z 6000",
+        "phase 1;x 1 ok;y 1 ok;z 1 ok;phase 2;x 1 ok;y 1 ok;y 2 ok;z 1 ok;phase 3;x 1 ok;phase 4;y 1 ok;phase 5;x 1 ok;"
+        "y 2 fresh;phase 6;z 1 ok;phase 7;z 1 ok;phase 8;z 1 ok;phase 9;z 1 ok;"
+        f"node x off;node y 1;{FAILOVER_PAGE};node z 1;{FAILOVER_PAGE};{CLOSED}",
+    ),
+    LiveRow(
+        "the last node boots again",
+        ONE_APPLICATION,
+        "1 boot y 0;1 boot z 0;phase;1 start y a y;1 start z a z;phase;1 tick y 0;phase;1 crash z;phase;1 boot z 9;phase;"
+        "feed 44",
+        "phase 1;y 1 ok;z 1 ok;phase 2;y 1 ok;z 1 ok;phase 3;y 1 ok;phase 4;z 1 ok;phase 5;z 1 ok;phase 6;"
+        f"wire fault 2 BadMagic at 0;node x off;node y 1;{REBOOT_PAGE};node z 2;{REBOOT_PAGE};{CLOSED}",
+    ),
+    LiveRow(
+        "declared down",
+        ONE_APPLICATION,
+        "1 boot y 0;1 boot z 0;phase;1 down y z;1 down y z;phase;1 tick z 5;2 start z a z;3 boot z 6",
+        "phase 1;y 1 ok;z 1 ok;phase 2;y 1 ok;y 1 refused 9 NotLive;phase 3;z 1 refused 3 DeclaredDown;"
+        "z 2 refused 3 DeclaredDown;z 3 refused 2 AlreadyOn;node x off;"
+        "node y 1;heard 3 known 3;node x unknown;node y up 1;node z down 1;app a holder none verdict nobody;"
+        "list x=down y=idle z=down;"
+        "node z 1;heard 3 known 3;node x unknown;node y up 1;node z down 1;app a holder none verdict nobody;"
+        f"list x=down y=idle z=down;{CLOSED}",
+    ),
+)
+
+FIVE_NODES = b"[{kernel,[{distributed,[{a,[{n1,n2,n3},n4]}]},{sync_nodes_optional,[n5]}]}].\n"
+LIVE_FAULTS = {
+    "1 BadWord": "2 ship x y;boot x 0;1 phase;1 feed 00;-1 boot x 0;9 jump;read x;a1 read x;'1' read x".split(";"),
+    "2 BadCount": "1;9;00;phase 1;1 read;9 tick x;feed;feed 00 00;1 permit x a x;1 crash x 0".split(";"),
+    "3 BadName": "1 start x A x;01 permit x a x 'true';1 boot 'x 0;9 tick A 01;1 read x'".split(";"),
+    "4 BadNumber": "0 boot x 0;5 read x;01 tick x 0;9 boot zz@h 0;1 tick x 4611686018427387905;1 boot zz@h 01".split(";"),
+    "5 UnknownActor": ["4 read zz@h", "1 boot 'Zz' 7", "1 down zz@h zz@h"],
+    "6 BadHex": "feed 0;feed 0A;feed 0g;feed '00'".split(";"),
+}
+RACE = ONE_APPLICATION + b"--\n1 boot c1@h 0\n1 boot c2@h 0\nphase\n1 permit c1@h a c1@h false\n1 permit c2@h a c1@h true\n"
+
 CANONICAL = (
     b"[{kernel,[{distributed,[{myapp,5000,[cp1@cave,{cp2@cave,cp3@cave}]}]},{permissions,[]},"
     b"{sync_nodes_mandatory,[cp2@cave,cp3@cave]},{sync_nodes_optional,[]},{sync_nodes_timeout,5000}]}].\n"
@@ -386,9 +482,24 @@ def two_fault_checks() -> Iterator[tuple[str, bool]]:
     yield "a claim with two faults", fault_of(lambda: read_state(config, state)) == ("NotInList", 32)
 
 
+def live_fault_checks() -> Iterator[tuple[str, bool]]:
+    """Live scripts with a fault, and what comes before what."""
+    for fault, lines in LIVE_FAULTS.items():
+        for line in [line.replace(" x", " c1@h") for line in lines]:
+            source = ONE_APPLICATION + f"--\n\n% note\n4 read c3@h\n{line}\n7\n".encode()
+            yield f"live line {line!r}", run_live(source) == (f"script fault 4 {fault}\n".encode(), 1)
+    blank = ONE_APPLICATION + b"--\nphase\n  \n"
+    yield "a live line of spaces", run_live(blank) == (b"script fault 2 1 BadWord\n", 1)
+    yield "five nodes", run_live(FIVE_NODES + b"--\n1 boot n1 0\n") == (b"live fault 1 TooManyNodes\n", 1)
+    yield "five nodes and a fault", run_live(FIVE_NODES + b"--\n1 boot n6 0\n") == (b"script fault 1 5 UnknownActor\n", 1)
+    yield "a live input without a script", run_live(FIVE_NODES) == (b"input fault 2 NoScript\n", 1)
+    yield "a live input with two faults", run_live(b"[].\n--\n7\n") == (b"config fault 5 NoDistributed at 4\n", 1)
+    yield "a race of two permits", len(outputs(RACE, 100, 1)) == 2
+
+
 def run_all() -> Iterator[tuple[str, bool]]:
     """Each example's name, and whether the models give its answer."""
-    for row in ROWS:
+    for row in (*ROWS, *LIVE_ROWS):
         failure = row.failure()
         if failure is not None:
             print(failure)
@@ -402,6 +513,7 @@ def run_all() -> Iterator[tuple[str, bool]]:
     yield from operation_checks()
     yield from placement_checks()
     yield from two_fault_checks()
+    yield from live_fault_checks()
 
 
 def main() -> int:

@@ -1,0 +1,603 @@
+#!/usr/bin/env python3
+"""Random inputs of `distac live` whose output doesn't hang on the order of the threads, and faults of live scripts.
+
+An answer is sure where it hangs on what was known when the phase began, and on what the same caller said since. So a script
+keeps these conditions:
+
+- At the beginning of a phase all running nodes know the same, and may be asked. After one kind of phase they may not: the last
+  running node booted again in it, so others may have shipped to its earlier incarnation. Then comes a phase in which nodes
+  that run are only read.
+- What a line changes, no other caller looks at or changes in its phase. Such things are whether a node runs, its life, its
+  moments, the permissions and the start wishes of an application at a node, and the claims of an application.
+- A node that boots in a phase is asked there about itself alone. In a phase one node at most goes down and boots again.
+- A node goes down in a phase only before it has issued anything there, by a crash or since it gives up. Where nodes boot, some
+  node runs all the time, unless none ran at first. Else what was known might be lost.
+- In a phase with ticks one caller at most issues anything, and if lives change then no other node ticks. Every other node that
+  ticks is the candidate for no application, whatever part it has heard of what that caller issued.
+
+Whether that is enough is tried out: `--shuffles` plays each script in many orders of its threads.
+
+Usage: python3 random_live.py SEED NUMBER
+       python3 random_live.py SEED COUNT --shuffles N
+
+The first prints the input of a number. The second plays the inputs of all numbers below COUNT, each in N orders, and prints
+the first one whose output isn't always the same.
+"""
+
+from __future__ import annotations
+
+import argparse
+import sys
+from collections import defaultdict
+from dataclasses import dataclass, field
+from random import Random
+from typing import NamedTuple
+
+import placement
+from check import Config, ConfigFault, read_config, spelled
+from live import CALLER, CALLER_SHAPES, MOST_NODES, READ, Asked, LiveReader, Run, Thread, asked_in, run_live
+from random_packets import changed_bytes, random_packet
+from random_scripts import CONFIGS, ODD_WORDS, decorated, odd_input, with_fault
+from random_texts import random_text
+from sim import ACTOR, APP, NODE, NUMBER, TRUTH, VERB, ScriptFault, read_lines
+from world import World
+
+Who = tuple[int, int]
+
+CROWD = {"permit": 6, "start": 7, "stop": 3, "read": 3, "takeover": 2, "down": 1, "boot": 2, "odd": 1}
+GOING = {"crash": 4, "down": 5, "boot": 4, "start": 3, "permit": 2, "stop": 1, "read": 1, "takeover": 1}
+LONE = {"tick": 9, "start": 4, "permit": 3, "stop": 1, "takeover": 2, "read": 1, "down": 1}
+
+ODD_LIVE_WORDS = (*ODD_WORDS, *b"0 1 4 5 01 1' read phase feed ship hear page share 12345678901234567890123".split())
+ODD_OF_KIND = {
+    CALLER: b"0 5 01 x 1' 12345678901234567890123".split(),
+    VERB: b"phase feed ship page read tick 'boot'".split(),
+    ACTOR: b"zz@h zz@h 'Zz' A".split(),
+    NODE: b"zz@h A 'A 1".split(),
+    APP: b"zz A 'A 1".split(),
+    NUMBER: b"01 -1 x 4611686018427387904 4611686018427387905".split(),
+    TRUTH: b"'true' True 1".split(),
+}
+
+
+# What may stand in a phase
+
+
+class Thing(NamedTuple):
+    """Something that lines look at and change: of a node, or of an application at a node. Claims are of no node."""
+
+    what: str
+    node: int | None
+    app: int | None = None
+
+
+@dataclass
+class Touch:
+    """What a line looks at, and what it changes."""
+
+    reads: set[Thing] = field(default_factory=set)
+    writes: set[Thing] = field(default_factory=set)
+
+
+@dataclass
+class OpenPhase:
+    """A phase that is being made: its lines by caller, its feeds, and what was done in it.
+
+    `running` has the nodes that ran at first and still run. `stages` has what is known at first, and with what the only caller
+    that issues something added: after each of its lines. A phase is closed once a node ticked that is to claim nothing. Then
+    nothing is issued in it any more.
+    """
+
+    stages: list[int]
+    running: set[int] = field(default_factory=set)
+    said: dict[Who, list[bytes]] = field(default_factory=dict)
+    feeds: list[bytes] = field(default_factory=list)
+    readers: defaultdict[Thing, set[Who]] = field(default_factory=lambda: defaultdict(set))
+    writers: defaultdict[Thing, set[Who]] = field(default_factory=lambda: defaultdict(set))
+    young: set[int] = field(default_factory=set)
+    crashed: set[int] = field(default_factory=set)
+    issuers: set[Who] = field(default_factory=set)
+    claimer: Who | None = None
+    is_closed: bool = False
+
+    def is_free(self, who: Who, touch: Touch) -> bool:
+        """Whether a line races no line of another caller."""
+        touched = [self.writers[thing] for thing in touch.reads | touch.writes]
+        touched += [self.readers[thing] for thing in touch.writes]
+        return all(callers <= {who} for callers in touched)
+
+    def add(self, who: Who, line: bytes, touch: Touch) -> None:
+        """Adds a line."""
+        self.said.setdefault(who, []).append(line)
+        for thing in touch.reads:
+            self.readers[thing].add(who)
+        for thing in touch.writes:
+            self.writers[thing].add(who)
+
+    def may_issue(self, who: Who) -> bool:
+        """Whether a caller may issue something beside the ticks that are there."""
+        return not self.is_closed and self.claimer in (None, who)
+
+    def may_claim(self, who: Who) -> bool:
+        """Whether a caller's ticks may claim: no other caller issued anything."""
+        return self.may_issue(who) and self.issuers <= {who}
+
+    def has_issued(self, node: int) -> bool:
+        """Whether a node issued something."""
+        return any(issuer == node for issuer, _ in self.issuers)
+
+    def may_go(self, node: int) -> bool:
+        """Whether a node may go down: what it issued and what was known is with others too."""
+        return not self.has_issued(node) and (not self.young or self.running != {node})
+
+    def may_come(self) -> bool:
+        """Whether a node may boot: what was known at first is with one that runs all the time."""
+        return bool(self.running) or not self.crashed
+
+    def lines(self, random: Random) -> list[bytes]:
+        """The lines in any order that keeps that of each caller, and that of the feeds."""
+        rows = [list(lines) for lines in (*self.said.values(), self.feeds)]
+        turns = [row for row in rows for _ in row]
+        random.shuffle(turns)
+        return [row.pop(0) for row in turns]
+
+
+class LiveMaker:
+    """Makes a script phase by phase, with the model playing along. A line that breaks a condition is left out."""
+
+    def __init__(self, random: Random, config: Config) -> None:
+        self.random = random
+        self.config = config
+        self.run = Run(config)
+        self.reader = LiveReader(config)
+        self.nodes = [node for node, name in enumerate(config.nodes) if b" " not in name]
+        self.apps = [at for at, app in enumerate(config.apps) if b" " not in app.name]
+        self.lines: list[bytes] = []
+        self.now = 0
+        self.is_settled = True
+        self.open = OpenPhase([])
+
+    @property
+    def world(self) -> World:
+        """The world as it is now."""
+        return self.run.world
+
+    def on(self) -> list[int]:
+        """The nodes that run."""
+        return [node for node in self.nodes if self.world.is_on(node)]
+
+    def off(self) -> list[int]:
+        """The nodes that are off."""
+        return [node for node in self.nodes if not self.world.is_on(node)]
+
+    # The conditions
+
+    def touch(self, asked: Asked) -> Touch | None:
+        """What a line touches, or nothing where it may not stand in this phase."""
+        node = asked.node
+        if asked.word == READ:
+            return Touch()
+        if asked.word != b"boot" and not self.world.is_on(node):
+            return Touch({Thing("on", node)})
+        if not self.is_settled:
+            return None
+        if asked.word == b"crash":
+            return Touch(set(), {Thing("on", node), Thing("moment", node)}) if self.open.may_go(node) else None
+        if asked.word == b"tick":
+            return self.touch_of_tick(asked)
+        if not self.open.may_issue((node, asked.caller)):
+            return None
+        return self.touch_of_boot(node) if asked.word == b"boot" else self.touch_of_command(asked)
+
+    def touch_of_boot(self, node: int) -> Touch | None:
+        """What a boot touches."""
+        is_second_restart = node in self.open.crashed and self.open.crashed & self.open.young
+        if is_second_restart or not self.open.may_come():
+            return None
+        return Touch(set(), {Thing("on", node), Thing("life", node), Thing("moment", node)})
+
+    def touch_of_command(self, asked: Asked) -> Touch | None:
+        """What a command at a running node touches."""
+        node = asked.node
+        if asked.word == b"takeover":
+            found = self.touch_of_takeover(int(asked.values[1]))
+        elif asked.word == b"down":
+            is_other = asked.values[1] not in (node, len(self.config.nodes))
+            found = Touch(set(), {Thing("life", int(asked.values[1]))} if is_other else set())
+        else:
+            found = self.touch_of_wish(asked.word, int(asked.values[1]), int(asked.values[2]))
+        if node in self.open.young and any(thing.node != node for thing in found.reads | found.writes):
+            return None
+        found.reads |= {Thing("on", node), Thing("life", node)}
+        return found
+
+    def touch_of_takeover(self, app: int) -> Touch:
+        """What a takeover touches beside its own node."""
+        if app == len(self.config.apps):
+            return Touch()
+        nodes = self.config.apps[app].nodes()
+        wishes = {Thing(what, node, app) for node in nodes for what in ("permit", "start")}
+        return Touch(wishes | {Thing("life", node) for node in nodes}, {Thing("claims", None, app)})
+
+    def touch_of_wish(self, word: bytes, app: int, about: int) -> Touch:
+        """What a permission, a start or a stop touches beside its own node."""
+        if app == len(self.config.apps) or self.config.apps[app].group_of(about) is None:
+            return Touch()
+        return Touch({Thing("life", about)}, {Thing("permit" if word == b"permit" else "start", about, app)})
+
+    def touch_of_tick(self, asked: Asked) -> Touch | None:
+        """What a tick at a running node touches."""
+        node = asked.node
+        found = Touch({Thing("life", other) for other in range(len(self.config.nodes))}, {Thing("moment", node)})
+        found.reads.add(Thing("on", node))
+        if node in self.open.young and len(self.config.nodes) > 1:
+            return None
+        if self.gives_up(node, int(asked.values[1])):
+            found.writes.add(Thing("on", node))
+            if not self.open.may_go(node):
+                return None
+        if self.open.may_claim((node, asked.caller)):
+            found.writes |= {Thing("claims", None, app) for app in range(len(self.config.apps))}
+            return found
+        return found if self.is_idle(node) else None
+
+    def gives_up(self, node: int, now: int) -> bool:
+        """Whether a tick makes a node give up."""
+        running = self.world.running(node)
+        if running.is_open or now < running.now or self.world.state(node).live(node) != running.inc:
+            return False
+        before, running.now = running.now, now
+        opening = self.world.opening(running, node)
+        running.now = before
+        return opening == "gave up"
+
+    def is_idle(self, node: int) -> bool:
+        """Whether the node is to claim nothing, whatever it has heard of the only caller that issues something."""
+        states = [self.world.meaning(heard) for heard in self.open.stages]
+        apps = range(len(self.config.apps))
+        candidates = {placement.candidate(self.config, state, app) for state in states for app in apps}
+        return len(self.open.issuers) <= 1 and node not in candidates
+
+    # Lines
+
+    def say(self, who: Who, verb: bytes, *words: bytes) -> bool:
+        """A caller of a node says something, unless a condition forbids it. Whether it does."""
+        node, caller = who
+        line = b" ".join((b"%d" % caller, verb, self.name_of(node), *words))
+        asked = asked_in(self.reader.read(line, 1))
+        touch = self.touch(asked)
+        if touch is None or not self.open.is_free(who, touch):
+            return False
+        self.open.add(who, line, touch)
+        if verb == b"tick" and self.world.is_on(node):
+            self.note_tick(who)
+        self.play(who, asked)
+        return True
+
+    def note_tick(self, who: Who) -> None:
+        """Notes whose ticks may claim, or that nothing is issued any more."""
+        if self.open.may_claim(who):
+            self.open.claimer = who
+        else:
+            self.open.is_closed = True
+
+    def play(self, who: Who, asked: Asked) -> None:
+        """Plays a line, and notes what it did."""
+        was_on, count = self.world.is_on(asked.node), len(self.world.operations)
+        self.run.answer(asked)
+        if was_on and not self.world.is_on(asked.node):
+            self.open.crashed.add(asked.node)
+            self.open.running.discard(asked.node)
+        if len(self.world.operations) > count:
+            self.open.issuers.add(who)
+            self.open.stages.append(self.world.running(asked.node).heard)
+        if asked.word == b"boot" and not was_on:
+            self.open.young.add(asked.node)
+
+    def end(self) -> None:
+        """Ends a phase: its lines are written, and all that was said is heard."""
+        self.run.phase([])
+        self.lines += [*self.open.lines(self.random), b"phase"]
+        on = self.on()
+        self.is_settled = not on or on[-1] not in self.open.young or self.world.nodes[on[-1]].last == 1
+        heard = {self.world.running(node).heard for node in on}
+        if self.is_settled and len(heard) > 1:
+            raise AssertionError("running nodes know different things")
+        self.open = OpenPhase([*heard][:1], set(on))
+        if not self.is_settled:
+            self.rest()
+
+    # Words
+
+    def name_of(self, node: int) -> bytes:
+        """A node's name."""
+        return spelled(self.config.nodes[node])
+
+    def who(self, node: int) -> Who:
+        """A caller of a node."""
+        return node, self.random.choice((1, 1, 1, 2, 2, 3, 4))
+
+    def some_node(self) -> int:
+        """A node, most often one that runs."""
+        on = self.on()
+        return self.random.choice(on if on and self.random.random() < 0.95 else self.nodes)
+
+    def pair(self) -> tuple[bytes, bytes]:
+        """An application and a node, most often of its list."""
+        roll = self.random.random()
+        if roll < 0.03 or not self.apps:
+            return b"zz", self.name_of(self.some_node())
+        app = self.config.apps[self.random.choice(self.apps)]
+        listed = [node for node in app.nodes() if node in self.nodes]
+        if roll < 0.06:
+            return spelled(app.name), self.random.choice((b"zz@h", b"'Zz'"))
+        return spelled(app.name), self.name_of(self.random.choice(listed if listed and roll < 0.95 else self.nodes))
+
+    def moment(self) -> bytes:
+        """A moment, most often later than the one before."""
+        waits = [app.timeout for app in self.config.apps if app.timeout < 10**6]
+        self.now += self.random.choice((0, 0, 1, 3, 10, 999, 5000, self.random.choice(waits or [0])))
+        back = self.random.choice((1, 100)) if self.random.random() < 0.04 else 0
+        return b"%d" % max(0, self.now - back)
+
+    # Lines of a kind
+
+    def line(self, who: Who, verb: str) -> None:
+        """A line of a kind."""
+        if verb in ("permit", "start", "stop"):
+            values = [self.random.choice((b"true", b"true", b"false"))] if verb == "permit" else []
+            self.say(who, verb.encode(), *self.pair(), *values)
+        elif verb == "takeover":
+            self.say(who, b"takeover", self.pair()[0])
+        elif verb in ("tick", "boot"):
+            self.say(who, verb.encode(), self.moment())
+        elif verb == "down":
+            off = self.off()
+            about = self.random.choice(off if off and self.random.random() < 0.7 else self.nodes)
+            self.say(who, b"down", self.name_of(about))
+        else:
+            self.say(who, verb.encode())
+
+    def any_line(self, profile: dict[str, int]) -> None:
+        """A line of a profile, of any caller."""
+        verb = self.random.choices(list(profile), list(profile.values()))[0]
+        off = self.off()
+        node = self.some_node()
+        if verb == "boot" and off and self.random.random() < 0.9:
+            self.come(self.random.choice(off))
+        elif verb == "odd":
+            self.line(self.who(self.random.choice(self.nodes)), self.random.choice(("tick", "crash", "down", "boot")))
+        else:
+            self.line(self.who(node), verb)
+
+    def come(self, node: int) -> None:
+        """A node boots, and most often starts what it may run."""
+        who = self.who(node)
+        if not self.say(who, b"boot", self.moment()):
+            return
+        for app in self.apps:
+            if self.config.apps[app].group_of(node) is not None and self.random.random() < 0.6:
+                self.say(who, b"start", spelled(self.config.apps[app].name), self.name_of(node))
+
+    def feed(self) -> None:
+        """The bytes of a packet, most often changed a little."""
+        data = random_packet(self.random, self.world)
+        for _ in range(self.random.choice((0, 1, 1, 2))):
+            data = changed_bytes(self.random, data)
+        self.open.feeds.append(b"feed " + (data or b"D").hex().encode())
+
+    # Phases
+
+    def arrive(self) -> None:
+        """Nodes boot."""
+        for node in self.off():
+            if self.random.random() < 0.85:
+                self.come(node)
+        self.end()
+
+    def crowd(self) -> None:
+        """Many callers ask for something."""
+        profile = self.random.choice((CROWD, CROWD, GOING))
+        for _ in range(self.random.choice((2, 5, 10, 20))):
+            self.any_line(profile)
+        self.end()
+
+    def candidates(self) -> list[int]:
+        """The running nodes that are to claim something."""
+        on = self.on()
+        if not on:
+            return []
+        state = self.world.state(on[0])
+        found = {placement.candidate(self.config, state, app) for app in range(len(self.config.apps))}
+        return [node for node in on if node in found]
+
+    def lone(self) -> None:
+        """One caller asks for much, most often for ticks. Other nodes only tick."""
+        candidates = self.candidates()
+        chosen = candidates and self.random.random() < 0.85
+        who = self.who(self.random.choice(candidates) if chosen else self.some_node())
+        self.say(who, b"tick", self.moment())
+        for _ in range(self.random.choice((0, 0, 1, 4, 8))):
+            self.line(who, self.random.choices(list(LONE), list(LONE.values()))[0])
+        for node in self.on():
+            if self.random.random() < 0.5:
+                self.say(self.who(node), b"tick", self.moment())
+        if self.random.random() < 0.15:
+            self.line(self.who(self.some_node()), self.random.choice(("crash", "read")))
+        self.end()
+
+    def loss(self) -> None:
+        """A node that has an application, most often, goes down. The others are told so and tick, or it comes back, or both."""
+        holders = [node for node in self.on() if node in self.holders()]
+        node = self.random.choice(holders) if holders and self.random.random() < 0.8 else self.some_node()
+        self.line(self.who(node), "crash")
+        for _ in range(self.random.choice((0, 0, 3, 6))):
+            self.any_line(CROWD)
+        self.end()
+        others = [other for other in self.on() if other != node]
+        if others and self.random.random() < 0.7:
+            self.say(self.who(self.random.choice(others)), b"down", self.name_of(node))
+            self.end()
+            for other in self.random.choices(others, k=self.random.choice((1, 2, 3, 4))):
+                self.say(self.who(other), b"tick", self.moment())
+                self.end()
+        if self.random.random() < 0.6:
+            self.come_back(node)
+
+    def come_back(self, node: int) -> None:
+        """A node comes back, and is then asked about others that it had forgotten."""
+        if not self.world.is_on(node):
+            self.come(node)
+            self.end()
+        for _ in range(self.random.choice((0, 1, 3))):
+            self.line(self.who(node), self.random.choice(("start", "permit", "stop", "takeover", "down")))
+        self.end()
+
+    def holders(self) -> set[int]:
+        """The nodes that have applications, by what a running node knows."""
+        states = [self.world.state(node) for node in self.on()[:1]]
+        return {claim.node for state in states for claim in state.claims.values()}
+
+    def rest(self) -> None:
+        """Nodes that run are only read."""
+        for _ in range(self.random.choice((0, 1, 3))):
+            self.line(self.who(self.random.choice(self.nodes)), self.random.choice(("read", "read", "tick", "start", "crash")))
+        self.end()
+
+    def story(self) -> None:
+        """Some phases."""
+        self.arrive()
+        for _ in range(self.random.choice((0, 1, 3, 6, 9))):
+            if self.random.random() < 0.15:
+                self.feed()
+            self.random.choice((self.crowd, self.crowd, self.lone, self.lone, self.lone, self.loss, self.loss, self.arrive))()
+
+
+# Whole inputs
+
+
+def live_config(random: Random, seed: int, number: int) -> bytes:
+    """A configuration to run: one of the chosen ones, or any that is valid. Few have too many nodes."""
+    if random.random() < 0.7:
+        return random.choice(CONFIGS)
+    has_too_many = random.random() < 0.1
+    for other in range(40):
+        text = random_text(seed, -1 - number * 40 - other)
+        try:
+            config = read_config(text)
+        except ConfigFault:
+            continue
+        is_small = len(text) < 4_000 and len(config.apps) < 12 and b"--" not in text
+        is_chosen = is_small and has_too_many == (len(config.nodes) > MOST_NODES)
+        if is_chosen and any(b" " not in name for name in config.nodes):
+            return text + b"\n"
+    return random.choice(CONFIGS)
+
+
+def odd_line(random: Random, config: Config) -> bytes:
+    """A line with an odd word or two, or with a word too few or too many."""
+    if random.random() < 0.15:
+        return b"feed" + random.choice((b"", b" 0", b" 0g", b" 0A", b" '00'", b" 00 00"))
+    verb = random.choice([*CALLER_SHAPES])
+    kinds = (CALLER, VERB, *CALLER_SHAPES[verb])
+    usual = {CALLER: b"2", VERB: verb, APP: spelled(config.apps[0].name), NUMBER: b"7", TRUTH: b"true"}
+    words = [usual.get(kind, spelled(config.nodes[-1])) for kind in kinds]
+    for at in random.sample(range(len(words)), random.choice((0, 1, 1, 2))):
+        words[at] = random.choice(ODD_OF_KIND[kinds[at]])
+    if random.random() < 0.15:
+        at = random.randrange(len(words) + 1)
+        words[at : at + 1] = random.choice(([], [b"7", b"7"]))
+    return b" ".join(words)
+
+
+def with_odd_line(random: Random, lines: list[bytes], config: Config) -> list[bytes]:
+    """The lines with one more of that kind."""
+    at = random.randint(0, len(lines))
+    return [*lines[:at], odd_line(random, config), *lines[at:]]
+
+
+def is_faulty(config: Config, lines: list[bytes]) -> bool:
+    """Whether some line has a fault."""
+    try:
+        read_lines(LiveReader(config), b"\n".join(lines))
+    except ScriptFault:
+        return True
+    return False
+
+
+def random_live(seed: int, number: int) -> bytes:
+    """The input of a number under a seed."""
+    random = Random(f"live {seed} {number}")
+    text = live_config(random, seed, number)
+    config = read_config(text)
+    maker = LiveMaker(random, config)
+    maker.story()
+    lines = maker.lines[:-1]
+    roll = random.random()
+    if roll < 0.14 and lines:
+        is_changed = roll < 0.07
+        changed = with_fault(random, lines, ODD_LIVE_WORDS) if is_changed else with_odd_line(random, lines, config)
+        lines = changed if is_faulty(config, changed) else lines
+    script = decorated(random, lines)
+    return odd_input(random, text, script) if roll > 0.98 else text + b"--\n" + script
+
+
+# Orders
+
+
+class Paces:
+    """Chooses among threads, some of which are much quicker than others."""
+
+    def __init__(self, random: Random) -> None:
+        self.random = random
+        self.paces: dict[Thread, float] = {}
+
+    def __call__(self, threads: list[Thread]) -> Thread:
+        """The thread that goes on."""
+        weights = [self.paces.setdefault(thread, self.random.choice((0.001, 0.1, 1.0, 30.0))) for thread in threads]
+        return self.random.choices(threads, weights)[0]
+
+
+def outputs(source: bytes, orders: int, seed: int) -> set[bytes]:
+    """What is printed for an input in some orders of its threads."""
+    shuffles = [run_live(source, Paces(Random(f"order {seed} {order}"))) for order in range(orders)]
+    return {output for output, _ in (run_live(source), *shuffles)}
+
+
+def show_outputs(source: bytes, found: set[bytes]) -> None:
+    """Prints an input and two of its outputs."""
+    print(source.decode(errors="backslashreplace"))
+    for output in sorted(found)[:2]:
+        print("an output:")
+        print(output.decode(errors="backslashreplace"))
+
+
+def play_shuffled(seed: int, count: int, orders: int) -> int:
+    """Plays many inputs in many orders each. How many don't always print the same."""
+    changing = 0
+    for number in range(count):
+        source = random_live(seed, number)
+        found = outputs(source, orders, number)
+        if len(found) > 1 and not changing:
+            print(f"live {number}, whose output isn't always the same:")
+            show_outputs(source, found)
+        changing += len(found) > 1
+    print(f"{count} live scripts in {orders} orders each, {changing} with more than one output")
+    return changing
+
+
+def main() -> int:
+    """Prints an input, or plays many in any order."""
+    parser = argparse.ArgumentParser(description="Random inputs of `distac live`.")
+    parser.add_argument("seed", type=int)
+    parser.add_argument("number", type=int, help="which input, or how many with --shuffles")
+    parser.add_argument("--shuffles", type=int, default=0, help="in how many orders of its threads each is played")
+    words = parser.parse_args()
+    if words.shuffles:
+        return 1 if play_shuffled(words.seed, words.number, words.shuffles) else 0
+    sys.stdout.buffer.write(random_live(words.seed, words.number))
+    return 0
+
+
+if __name__ == "__main__":
+    sys.exit(main())
