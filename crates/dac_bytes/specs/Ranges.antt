@@ -7,7 +7,7 @@ use Rattle.dac_dots.specs.Dots.{Dots}
 use Rattle.dac_dots.specs.declared.dot.Origin.{Origin}
 use Rattle.dac_dots.specs.declared.dot.Dot.{Dot}
 use Rattle.dac_bytes.specs.Items.{Chain}
-use Rattle.dac_dots.specs.Rows.{Row, rows_of}
+use Rattle.dac_contexts.specs.Rows.{Row, rows_of}
 
 -- an incarnation: from 1, and within its field
 abbrev pub IsIncarnation : ℕ → Type 0

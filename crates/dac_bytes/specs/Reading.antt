@@ -11,7 +11,7 @@ use Rattle.dac_dots.specs.Dots.{Dots, dot_cmp, origin_cmp}
 use Rattle.dac_bytes.specs.declared.fault.ReadFaultKind.{ReadFaultKind}
 use Rattle.dac_bytes.specs.declared.fault.ReadFaultKind.TheVariants.{Short, BadNumber, BadOrder, BadName, NoMemory}
 use Rattle.dac_bytes.specs.declared.fault.ReadFault.{ReadFault}
-use Rattle.dac_dots.specs.Rows.{Row, dots_in}
+use Rattle.dac_contexts.specs.Rows.{Row, dots_in}
 
 -- the rest of a text of bytes, and the place of its first byte in that text
 pub record Rest : Type 0 where

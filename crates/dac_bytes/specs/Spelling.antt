@@ -5,7 +5,7 @@ use Rattle.dac_dots.specs.Dots.{Dots}
 use Rattle.dac_dots.specs.declared.dot.Origin.{Origin}
 use Rattle.dac_dots.specs.declared.dot.Dot.{Dot}
 use Rattle.dac_bytes.specs.Numbers.{u8_bytes, u16_bytes, u32_bytes, u64_bytes}
-use Rattle.dac_dots.specs.Rows.{Row, rows_of}
+use Rattle.dac_contexts.specs.Rows.{Row, rows_of}
 
 -- an incarnation, in four bytes
 unfoldable pub incarnation_bytes : ℕ → List ℕ

@@ -1,7 +1,7 @@
 //! Contexts that are read, row by row.
 ghost use Rattle.std.specs.Prelude.{◌≡◌, ◌+◌, ◌++◌, ℕ, IfOk, List, Ok, None, Some, length};
 ghost use Rattle.dac_dots.specs.Dots.{Dots};
-ghost use Rattle.dac_dots.specs.Rows.{rows_of};
+ghost use Rattle.dac_contexts.specs.Rows.{rows_of};
 ghost use Rattle.dac_bytes.specs.Reading.{Gives, IsOfBytes, context_at, further_at, items_at, row_at, rows_at};
 ghost use Rattle.dac_bytes.specs.Ranges.{IsContext};
 ghost use Rattle.dac_bytes.specs.Spelling.{context_bytes};
@@ -10,7 +10,8 @@ ghost use Rattle.dac_bytes.specs.Takes.{IsBytes, Takes};
 use crate::fault::{ReadFault, ReadFaultKind};
 use crate::reader::ByteReader;
 use dac_base::{MAX_COUNTER, NoMemory};
-use dac_dots::{Context, Origin};
+use dac_contexts::Context;
+use dac_dots::Origin;
 use std::alloc::Global;
 
 /// The dots of one origin as they are read: the counters 1 to `upto`, and the further ones.

@@ -12,7 +12,7 @@ use Rattle.std.proofs.lemmas.List.Folds.{list_any-append, list_any_none}
 use Rattle.std.proofs.lemmas.List.Sorted.{searchable_from_sorted}
 use Rattle.std.proofs.lemmas.Map.Lookups.{CmpEqualImpliesEq}
 use Rattle.dac_dots.specs.InOrder.{less, tie, or_swap, below_more, below_absent}
-use Rattle.dac_dots.specs.laws.KeyLaws.{has_at}
+use Rattle.dac_dots.specs.laws.KeyLaws.{has_at, greater, smaller, below_at, neighbours, rising_insert}
 use Rattle.dac_dots.specs.Keys.{is_below_all, IsRising, has_key}
 
 or_same : (a b : Bool) → (a ≡ true → b ≡ true) → b ≡ (a || b)
@@ -20,29 +20,13 @@ or_same true b h = h refl
 or_same false b h = refl
 
 module _ {K : Type 0} {R : K → K → Ordering} (o : IsTotalOrder R) where
-  pub greater : (x y : K) → R x y ≡ Less → R y x ≡ Greater
-  greater x y p = o.antisymm y x ∙ ap ordering_reverse p
-
-  smaller : (x y : K) → R x y ≡ Greater → R y x ≡ Less
-  smaller x y p = o.antisymm y x ∙ ap ordering_reverse p
-
-  pub below_at : (x : K) (ks : List K) (i : ℕ) (d : K) → is_below_all R x ks ≡ true → i < length ks → R x (get_or ks i d) ≡ Less
-  below_at x [] i d h p = absurd (omega arith)
-  below_at x (k ∷ ks) zero d h p = less _ (and_parts _ _ h).0
-  below_at x (k ∷ ks) (suc i) d h p = below_at x ks i d (and_parts _ _ h).1 (omega arith)
-
-  pub neighbours : (ks : List K) → IsRising R ks → (i : ℕ) (d : K) → suc i < length ks → is_lt (R (get_or ks (suc i) d) (get_or ks i d)) ≡ false
-  neighbours [] h i d p = absurd (omega arith)
-  neighbours (x ∷ ks) h zero d p = ap is_lt (greater x (get_or ks 0 d) (below_at x ks 0 d (and_parts _ _ h).0 (omega arith)))
-  neighbours (x ∷ ks) h (suc i) d p = neighbours ks (and_parts _ _ h).1 i d (omega arith)
-
   rises : (ks : List K) → IsRising R ks → (k : K) → IsNonDecreasingBy (λ y. ordering_index (R y k)) ks
-  rises ks h k = searchable_from_sorted o (λ e. e) ks k (λ i d _ p. rw add-one (neighbours ks h i d (omega arith)))
+  rises ks h k = searchable_from_sorted o (λ e. e) ks k (λ i d _ p. rw add-one (neighbours o ks h i d (omega arith)))
 
   absent_at : (ks : List K) (k : K) (i : ℕ) → AllWithin (λ y. R y k ≡ Less) ks 0 i → AllWithin (λ y. R y k ≡ Greater) ks i (length ks) → has_key R ks k ≡ false
   absent_at ks k i low high = list_any_none (eq_by_cmp R k) ks (λ j d p. elim (cases_lt j i) [
-    | inl q ↦ ap is_eq (greater _ k (low j d (omega arith) q))
-    | inr q ↦ ap is_eq (smaller _ k (high j d q p))
+    | inl q ↦ ap is_eq (greater o _ k (low j d (omega arith) q))
+    | inr q ↦ ap is_eq (smaller o _ k (high j d q p))
   ])
 
   -- a search answers Ok where the key is there
@@ -57,24 +41,8 @@ module _ {K : Type 0} {R : K → K → Ordering} (o : IsTotalOrder R) where
       ∙ or_swap (has_key R (take i ks) q) (eq_by_cmp R q k) (has_key R (drop i ks) q)
       ∙ ap (λ b. eq_by_cmp R q k || b) (sym (list_any-append (eq_by_cmp R q) (take i ks) (drop i ks)) ∙ ap (λ l. has_key R l q) (take-append-drop i ks))
 
-  below_insert : (x : K) (ks : List K) (i : ℕ) (k : K) → R x k ≡ Less → is_below_all R x ks ≡ true → is_below_all R x (insert ks i k) ≡ true
-  below_insert x ks zero k p h = and_from _ _ (ap is_lt p) h
-  below_insert x [] (suc i) k p h = and_from _ _ (ap is_lt p) refl
-  below_insert x (y ∷ ks) (suc i) k p h = and_from _ _ (and_parts _ _ h).0 (below_insert x ks i k p (and_parts _ _ h).1)
-
-  -- an insert where the search says keeps the order
-  pub rising_insert : (ks : List K) (i : ℕ) (k : K) → IsRising R ks → i ≤ length ks → AllWithin (λ y. R y k ≡ Less) ks 0 i → AllWithin (λ y. R y k ≡ Greater) ks i (length ks) → IsRising R (insert ks i k)
-  rising_insert [] zero k h p low high = refl
-  rising_insert [] (suc i) k h p low high = absurd (omega arith)
-  rising_insert (x ∷ ks) zero k h p low high =
-      let k_first : R k x ≡ Less = smaller x k (high 0 x (omega arith) (omega arith)) in
-      and_from _ _ (and_from _ _ (ap is_lt k_first) (below_more o k x ks k_first (and_parts _ _ h).0)) h
-  rising_insert (x ∷ ks) (suc i) k h p low high =
-      and_from _ _ (below_insert x ks i k (low 0 x (omega arith) (omega arith)) (and_parts _ _ h).0)
-      (rising_insert ks i k (and_parts _ _ h).1 (omega arith) (λ j d a b. low (suc j) d (omega arith) (omega arith)) (λ j d a b. high (suc j) d (omega arith) (omega arith)))
-
   pub rising_searched : (ks : List K) (i : ℕ) (k : K) → IsRising R ks → i ≤ length ks → IsBinarySearchResult (λ y. R y k) ks (Err i) → IsRising R (insert ks i k)
-  rising_searched ks i k h p parted = let parts = parted (rises ks h k) in rising_insert ks i k h p parts.0 parts.1
+  rising_searched ks i k h p parted = let parts = parted (rises ks h k) in rising_insert o ks i k h p parts.0 parts.1
 
   -- a key that is there adds nothing
   pub has_key-again : CmpEqualImpliesEq R → (ks : List K) (k : K) → has_key R ks k ≡ true → (q : K) → has_key R ks q ≡ (eq_by_cmp R q k || has_key R ks q)
@@ -107,7 +75,7 @@ module _ {K : Type 0} {R : K → K → Ordering} (o : IsTotalOrder R) where
 
     -- a key that is below another isn't that one
     not_tied : (q k x : K) → R x k ≡ Less → eq_by_cmp R q k ≡ true → eq_by_cmp R q x ≡ false
-    not_tied q k x p e = ap (λ y. eq_by_cmp R y x) (exact q k (tie _ e)) ∙ ap is_eq (greater x k p)
+    not_tied q k x p e = ap (λ y. eq_by_cmp R y x) (exact q k (tie _ e)) ∙ ap is_eq (greater o x k p)
 
     -- all keys but the removed one are left
     pub has_key-remove : (ks : List K) (i : ℕ) (k q : K) → IsRising R ks → i < length ks → R (get_or ks i k) k ≡ Equal → has_key R (remove ks i) q ≡ (not (eq_by_cmp R q k) && has_key R ks q)
@@ -117,7 +85,7 @@ module _ {K : Type 0} {R : K → K → Ordering} (o : IsTotalOrder R) where
         first_less (eq_by_cmp R q k) (has_key R ks q) (λ e. ap (has_key R ks) (exact q k (tie _ e) ∙ sym is) ∙ below_absent o x ks (and_parts _ _ h).0)
         ∙ ap (λ y. not (eq_by_cmp R q k) && (eq_by_cmp R q y || has_key R ks q)) (sym is)
     has_key-remove (x ∷ ks) (suc i) k q h p t =
-        let before : R x k ≡ Less = ap (R x) (sym (exact (get_or ks i k) k t)) ∙ below_at x ks i k (and_parts _ _ h).0 (omega arith) in
+        let before : R x k ≡ Less = ap (R x) (sym (exact (get_or ks i k) k t)) ∙ below_at o x ks i k (and_parts _ _ h).0 (omega arith) in
         ap (λ b. eq_by_cmp R q x || b) (has_key-remove ks i k q (and_parts _ _ h).1 (omega arith) t)
         ∙ later_less (eq_by_cmp R q k) (eq_by_cmp R q x) (has_key R ks q) (not_tied q k x before)
 

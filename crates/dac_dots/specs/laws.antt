@@ -1,4 +1,1 @@
-pub mod CounterLaws
 pub mod KeyLaws
-pub mod RowLaws
-pub mod RowSets

@@ -13,7 +13,7 @@ use crate::parts::Parts;
 use crate::state::State;
 use dac_bytes::{ByteReader, ReadFault, ReadFaultKind};
 use dac_chains::{Claims, Lives};
-use dac_dots::Context;
+use dac_contexts::Context;
 use dac_lattice::Lattice;
 use dac_part_bytes::{Config, read_claims, read_lives, read_permissions, read_wishes};
 use dac_wishes::{Permissions, Wishes};

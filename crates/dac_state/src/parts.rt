@@ -5,7 +5,7 @@ ghost use Rattle.dac_state.specs.Parts.{AreParts, state_of_parts};
 
 use dac_base::NoMemory;
 use dac_chains::{Claims, Lives};
-use dac_dots::Context;
+use dac_contexts::Context;
 use dac_lattice::Lattice;
 use dac_wishes::{Permissions, Wishes};
 use std::alloc::Global;

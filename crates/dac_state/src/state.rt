@@ -6,7 +6,7 @@ ghost use Rattle.dac_meaning.specs.Meaning.{meaning_of};
 use crate::parts::Parts;
 use dac_base::NoMemory;
 use dac_chains::{Claims, Lives};
-use dac_dots::Context;
+use dac_contexts::Context;
 use dac_lattice::{Bottom, Lattice, Piece};
 use dac_meaning::{Op, laws};
 use dac_wishes::{Permissions, Wishes};

@@ -5,7 +5,8 @@ ghost use Rattle.dac_store.specs.Stores.{IsHeld, IsUnheard};
 
 use crate::DotStore;
 use crate::kept::Kept;
-use dac_dots::{Context, NoMemory};
+use dac_contexts::Context;
+use dac_dots::NoMemory;
 use dac_lattice::{Bottom, Lattice};
 use std::alloc::Global;
 use std::marker::Model;

@@ -9,7 +9,8 @@ ghost use Rattle.dac_store.specs.AtDot.{StandsBelow};
 
 use crate::DotStore;
 use crate::appending::ends_below;
-use dac_dots::{Context, Dot, NoMemory};
+use dac_contexts::Context;
+use dac_dots::{Dot, NoMemory};
 use dac_lattice::Lattice;
 use dac_lattice::merging::{Combine, merge, value_at};
 use std::alloc::Global;

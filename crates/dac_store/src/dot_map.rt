@@ -7,7 +7,8 @@ ghost use Rattle.dac_store.specs.DotMaps.{kept, store_at};
 
 use crate::DotStore;
 use crate::appending::ends_below;
-use dac_dots::{Context, Dot, MapKey, NoMemory};
+use dac_contexts::Context;
+use dac_dots::{Dot, MapKey, NoMemory};
 use dac_lattice::merging::{Combine, merge, value_at};
 use std::alloc::Global;
 use std::marker::Model;

@@ -4,7 +4,8 @@ ghost use Rattle.dac_dots.specs.Dots.{Dots};
 ghost use Rattle.dac_dots.specs.declared.Dot.{Dot};
 ghost use Rattle.dac_store.specs.Stores.{IsDotStore, IsHeld};
 
-use dac_dots::{Context, Dot, NoMemory};
+use dac_contexts::Context;
+use dac_dots::{Dot, NoMemory};
 use std::alloc::Global;
 
 /// Values that hold dots. Two of them are ordered and joined beside their contexts, the dots that each

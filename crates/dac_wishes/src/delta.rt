@@ -4,7 +4,8 @@ ghost use Rattle.std.specs.FinSet as set;
 ghost use Rattle.dac_store.specs.Stores.{IsHeld};
 
 use dac_base::NoMemory;
-use dac_dots::{Context, Dot};
+use dac_store::Context;
+use dac_dots::Dot;
 use dac_store::{Causal, DotStore};
 use std::alloc::Global;
 

@@ -1,6 +1,7 @@
 //! Dots that the tests share, and what is asked of every lattice.
 use dac_base::{NoMemory, NodeId};
-use dac_dots::{Context, Dot, Origin};
+use dac_contexts::Context;
+use dac_dots::{Dot, Origin};
 use dac_lattice::{Bottom, Lattice};
 use std::alloc::Global;
 

@@ -14,9 +14,9 @@ use Rattle.dac_bytes.specs.Numbers.{u16_bytes, u32_bytes, u64_bytes}
 use Rattle.dac_bytes.specs.Ranges.{IsOrigin, IsFurther, IsRow, CountsFit, IsContext}
 use Rattle.dac_bytes.specs.Reading.{Rest, ◌>>=◌, fault, is_above, number_at, range_at, counter_at, origin_above_at, items_at, further_at, further_count_at, row_at, rows_at, context_at}
 use Rattle.dac_bytes.specs.laws.RisingLaws.{IsNextAbove, AreRising, rising_of, chain_of}
-use Rattle.dac_dots.specs.laws.RowLaws.{rows_tell}
-use Rattle.dac_dots.specs.laws.RowSets.{dots_back}
-use Rattle.dac_dots.specs.Rows.{Row, rows_of, dots_in}
+use Rattle.dac_contexts.specs.laws.RowLaws.{rows_tell}
+use Rattle.dac_contexts.specs.laws.RowSets.{dots_back}
+use Rattle.dac_contexts.specs.Rows.{Row, rows_of, dots_in}
 use Rattle.dac_bytes.specs.laws.SetLaws.{rows_in_range, are_rows, rows_are_read}
 use Rattle.dac_bytes.specs.Spelling.{origin_bytes, row_bytes, context_bytes}
 use Rattle.dac_bytes.specs.Takes.{Takes, Takes-then, TakesAs, TakesAs-more, TakesAs-wanted, Again, Again-then, Again-made, Again-wanted, bind_ok, ok_is}

@@ -9,8 +9,8 @@ use Rattle.dac_dots.specs.Keys.{IsRising, has_key}
 use Rattle.dac_dots.specs.InOrder.{tie}
 use Rattle.dac_dots.specs.Dots.{Dots, dot, origin_cmp, exact_origins}
 use Rattle.dac_dots.specs.declared.dot.Dot.{Dot}
-use Rattle.dac_dots.specs.laws.RowSets.{contains-dots_in, kept_are, some_length}
-use Rattle.dac_dots.specs.Rows.{Row, IsRowOf, rows_of, dots_in, has_counter, any_row, origins, IsKept, HasSome}
+use Rattle.dac_contexts.specs.laws.RowSets.{contains-dots_in, kept_are, some_length}
+use Rattle.dac_contexts.specs.Rows.{Row, IsRowOf, rows_of, dots_in, has_counter, any_row, origins, IsKept, HasSome}
 use Rattle.dac_bytes.specs.laws.FurtherLaws.{further_of_chain, chain_of_further}
 use Rattle.dac_bytes.specs.Ranges.{IsOrigin, IsDot, InRange, IsRow, IsFurther}
 

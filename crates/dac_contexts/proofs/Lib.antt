@@ -1,0 +1,6 @@
+pub mod ContextLemmas
+pub mod Failures
+pub mod LenLemmas
+pub mod PlaceLemmas
+pub mod RowLemmas
+pub mod RunLemmas

@@ -1,0 +1,3 @@
+pub mod CounterLaws
+pub mod RowLaws
+pub mod RowSets

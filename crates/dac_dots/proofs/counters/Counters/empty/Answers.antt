@@ -1,5 +1,0 @@
-use Rattle.dac_dots.proofs.RunLemmas.{no_runs}
-use Rattle.dac_dots.proofs.counters.Counters.empty.Goals as goal
-
-pub returns : goal.returns
-returns c = rw c.new.ensures.items no_runs
