@@ -1,10 +1,10 @@
 pub mod Ready
 pub use Rattle.dac_node.specs.Refusals
-pub use Rattle.dac_worlds.specs.Converges
-pub use Rattle.dac_worlds.specs.EveryList
-pub use Rattle.dac_worlds.specs.ModelNode
-pub use Rattle.dac_worlds.specs.ModelWorld
-pub use Rattle.dac_worlds.specs.NodeValue
-pub use Rattle.dac_worlds.specs.WorldValue
-pub use Rattle.dac_worlds.specs.declared.fault.WorldFault
+pub use Rattle.dac_settle.specs.dac_worlds.Converges
+pub use Rattle.dac_settle.specs.dac_worlds.EveryList
+pub use Rattle.dac_settle.specs.dac_worlds.ModelNode
+pub use Rattle.dac_settle.specs.dac_worlds.ModelWorld
+pub use Rattle.dac_settle.specs.dac_worlds.NodeValue
+pub use Rattle.dac_settle.specs.dac_worlds.WorldValue
+pub use Rattle.dac_settle.specs.dac_worlds.declared.fault.WorldFault
 pub mod laws

@@ -8,6 +8,9 @@
 //! status 1.
 #![tactic(auto)]
 
+pub use dac_play;
+pub use dac_script;
+
 mod ending;
 mod fault;
 mod phases;

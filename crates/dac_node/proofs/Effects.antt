@@ -9,8 +9,8 @@ use Rattle.dac_config.specs.Table.{Table}
 use Rattle.dac_decide.specs.declared.waits.Noted.{Noted}
 use Rattle.dac_messages.specs.declared.event.Event.{Event}
 use Rattle.dac_messages.specs.declared.reply.Reply.{Reply}
-use Rattle.dac_commands.specs.declared.refusal.Refusal.TheVariants.{DotsUsedUp}
-use Rattle.dac_commands.specs.laws.Written.{none_is}
+use Rattle.dac_rules.specs.dac_commands.declared.refusal.Refusal.TheVariants.{DotsUsedUp}
+use Rattle.dac_rules.specs.dac_commands.laws.Written.{none_is}
 use Rattle.dac_rules.specs.NodeValue.{RunValue}
 use Rattle.dac_rules.specs.EventRefusals.{refusal_by, refusal_to_hear_op, too_many_deltas}
 use Rattle.dac_rules.specs.Deeds.{Deed, deed_of, moment_of}

@@ -9,7 +9,7 @@ use Rattle.dac_meaning.specs.StateValue.{StateValue, bottom, join}
 use Rattle.dac_meaning.specs.laws.StateLaws.{known-join}
 use Rattle.dac_meaning.specs.Meaning.{meaning_of}
 use Rattle.dac_meaning.specs.laws.Readers.{known-meaning}
-use Rattle.dac_commands.specs.Commands.{KnowsItself}
+use Rattle.dac_rules.specs.dac_commands.Commands.{KnowsItself}
 use Rattle.dac_rules.specs.Step.{up}
 
 -- what is joined is known still

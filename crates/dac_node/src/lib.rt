@@ -11,7 +11,7 @@
 #![tactic(auto)]
 
 pub use change::Change;
-pub use dac_commands::Refusal;
+pub use dac_rules::dac_commands::Refusal;
 pub use node::Node;
 
 mod change;

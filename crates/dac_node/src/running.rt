@@ -5,15 +5,14 @@ ghost use Rattle.dac_base.specs.declared.limits.TheConstants.{MAX_COUNTER as LAS
 ghost use Rattle.dac_meaning.specs.Below.{is_below};
 ghost use Rattle.dac_meaning.specs.Meaning.{meaning_of};
 ghost use Rattle.dac_messages.specs.Bodies.{content_of};
-ghost use Rattle.dac_commands.specs.Commands.{next_operation, act_of as said_by};
-ghost use Rattle.dac_commands.specs.Causes.{refusal_of_command as refused_command};
+ghost use Rattle.dac_rules.specs.dac_commands.Commands.{next_operation, act_of as said_by};
+ghost use Rattle.dac_rules.specs.dac_commands.Causes.{refusal_of_command as refused_command};
 ghost use Rattle.dac_rules.specs.EventRefusals.{refusal_to_tick as refused_tick, refusal_to_ship as refused_ship, refusal_to_hear as refused_hear, refusal_to_obey as refused_command_here, refusal_to_hear_op as refused_hear_op, refusal_on, is_for, needed, overflows, too_few_left, too_many_deltas};
 ghost use Rattle.dac_rules.specs.Step.{up};
 
 use crate::knowledge::{Knowledge, is_below};
 use crate::next::Next;
 use dac_base::{MAX_COUNTER, NoMemory, NodeId};
-use dac_commands::{Refusal, operation_of, refusal_of};
 use dac_config::Config;
 use dac_decide::is_up;
 use dac_deltas::Buffer;
@@ -21,6 +20,7 @@ use dac_dots::Origin;
 use dac_events::Command;
 use dac_lattice::Bottom;
 use dac_messages::{Event, Message};
+use dac_rules::dac_commands::{Refusal, operation_of, refusal_of};
 use dac_state::{Op, State};
 use std::alloc::Global;
 use std::marker::Model;

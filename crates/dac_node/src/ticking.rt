@@ -4,8 +4,8 @@ ghost use Rattle.std.specs.Prelude.{◌≡◌, ◌≤◌, ◌∷◌, [], List, I
 ghost use Rattle.dac_meaning.specs.StateValue.{join};
 ghost use Rattle.dac_messages.specs.declared.event.Event.TheVariants.{Tick};
 ghost use Rattle.dac_decide.specs.FailoverWait.{Note, waits_of};
-ghost use Rattle.dac_ticks.specs.Ticks.{turn_of};
-ghost use Rattle.dac_ticks.specs.Progress.{IsMade};
+ghost use Rattle.dac_rules.specs.dac_ticks.Ticks.{turn_of};
+ghost use Rattle.dac_rules.specs.dac_ticks.Progress.{IsMade};
 ghost use Rattle.dac_rules.specs.EventRefusals.{refusal_to_tick, too_few_left};
 ghost use Rattle.dac_rules.specs.Deeds.{meanings, opening_at};
 ghost use Rattle.dac_node.specs.Knowing.{ticking};
@@ -21,8 +21,8 @@ use dac_decide::{Opening, Waits, gate};
 use dac_lattice::Lattice;
 use dac_messages::Reply;
 use dac_rules::Moments;
+use dac_rules::dac_ticks::{Turn, tick as turn};
 use dac_state::{Op, State};
-use dac_ticks::{Turn, tick as turn};
 use std::alloc::Global;
 
 /// What a tick that isn't refused does at a running controller. Where it gives up, that takes no memory.

@@ -15,3 +15,5 @@ pub use Rattle.dac_peers.specs.Peers
 pub use Rattle.dac_peers.specs.declared.places.Place
 pub use Rattle.dac_ticks.specs.Issued
 pub use Rattle.dac_ticks.specs.Ticks
+pub use Rattle.dac_ticks.specs as dac_ticks
+pub use Rattle.dac_commands.specs as dac_commands

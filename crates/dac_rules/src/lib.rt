@@ -5,6 +5,8 @@
 //! controller is proved against them, and so is what a whole world of such nodes comes to.
 #![tactic(auto)]
 
+pub use dac_commands;
+pub use dac_ticks;
 pub use moments::Moments;
 
 pub mod laws;

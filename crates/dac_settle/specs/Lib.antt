@@ -6,3 +6,4 @@ pub mod Worked
 pub mod WorldRounds
 pub mod WorkedRun
 pub mod laws
+pub use Rattle.dac_worlds.specs as dac_worlds

@@ -4,8 +4,8 @@ use Rattle.dac_meaning.specs.StateValue.{join}
 use Rattle.dac_decide.specs.declared.start_gate.Opening.TheVariants.{Opened}
 use Rattle.dac_messages.specs.declared.event.Event.TheVariants.{Tick}
 use Rattle.dac_messages.specs.declared.reply.Reply.TheVariants.{Ticked}
-use Rattle.dac_ticks.specs.Ticks.{turn_of}
-use Rattle.dac_ticks.specs.laws.Claims.{state_joined}
+use Rattle.dac_rules.specs.dac_ticks.Ticks.{turn_of}
+use Rattle.dac_rules.specs.dac_ticks.laws.Claims.{state_joined}
 use Rattle.dac_rules.specs.NodeValue.{RunValue}
 use Rattle.dac_rules.specs.Deeds.{meanings, opening_at}
 use Rattle.dac_node.specs.declared.change.After.TheVariants.{GoesOn}
