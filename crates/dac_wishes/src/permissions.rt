@@ -10,10 +10,9 @@ use crate::delta::{beside, named_by};
 use crate::key::Key;
 use crate::permit_act::PermitAct;
 use dac_base::NoMemory;
-use dac_store::Context;
 use dac_dots::Dot;
 use dac_lattice::{Bottom, Flag, Lattice, Piece};
-use dac_store::{Causal, DotFun, DotMap, DotStore};
+use dac_store::{Causal, Context, DotFun, DotMap, DotStore};
 use std::alloc::Global;
 use std::marker::Model;
 
