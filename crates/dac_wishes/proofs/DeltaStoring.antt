@@ -1,4 +1,4 @@
--- What the deltas of operations are, as they are stored.
+-- What the deltas of start wishes are, as they are stored.
 use Rattle.std.specs.Prelude.{◌≡◌, Bool, true, false, cond, ◌&&◌, ◌||◌, [], ◌∷◌, Option, Some, None, is_some, nat_eq, ◌+◌, refl}
 use Rattle.std.proofs.Common.{sym, ap, ◌∙◌}
 use Rattle.std.specs.Ordering.{eq_by_cmp}
@@ -84,51 +84,3 @@ start_there d (OtherWish over) w = set.contains-empty dot_cmp w.dot
 pub wishes_of-delta : (d : Dot) (a : WishAct) → wishes_of (stored_wish d a) ≡ wish_delta d a
 wishes_of-delta d a = same_wishes (wishes_of (stored_wish d a)) (wish_delta d a) refl (λ w.
     contains-writes_of (stored_start d a) (start_keyed d a).in_order w ∙ start_there d a w ∙ sym (contains-delta d a w))
-
--- ---- permits
-
-one_in : (b : Bool) (f : Flag) → IsIn IsAny (cond b (Some f) None)
-one_in true f = tt
-one_in false f = tt
-
-permit_kept : (d : Dot) (f : Flag) (b : Bool) → IsKept (IsMap dot_cmp IsAny) is_empty_list (cond b (Some ((d, f) ∷ [])) None)
-permit_kept d f true = (record { in_order = tt; values = λ x. one_in (same_dot x d) f }, refl)
-permit_kept d f false = tt
-
-permit_keyed : (d : Dot) (a : PermitAct) → IsKeyed key_cmp (IsMap dot_cmp IsAny) is_empty_list (stored_permit d a)
-permit_keyed d (Permit key value over) = record { in_order = tt; stores = λ k. permit_kept d (flag_of value) (eq_by_cmp key_cmp k key) }
-permit_keyed d (OtherPermit over) = record { in_order = tt; stores = λ k. tt }
-
-some_test : (b : Bool) (f : Flag) → (is_some (cond b (Some f) None) || false) ≡ true → b ≡ true
-some_test true f e = refl
-some_test false f e = e
-
-permit_held : (d : Dot) (a : PermitAct) (x : Dot) → has_in has_dot (stored_permit d a) x ≡ true → same_dot x d ≡ true
-permit_held d (Permit key value over) x e = some_test (same_dot x d) (flag_of value) e
-permit_held d (OtherPermit over) x e = absurd (false≢true e)
-
-pub permit_known : (d : Dot) (a : PermitAct) → IsHeld (has_in has_dot (stored_permit d a)) (named_by permit.over_of d a)
-permit_known d a x e = contains-named_by permit.over_of d a x ∙ or_left (same_dot x d) (replaces permit.over_of x (d, a)) (permit_held d a x e)
-
--- a permit's delta as it is stored
-abbrev pub stored_permission : Dot → PermitAct → StoredFlags
-stored_permission d a = record { store = stored_permit d a; context = named_by permit.over_of d a }
-
-pub permission_stored : (d : Dot) (a : PermitAct) → AreStoredFlags (stored_permission d a)
-permission_stored d a = record { store = permit_keyed d a; held = permit_known d a }
-
-permit_at : (d : Dot) (f : Flag) (k : Bool) (x : Dot) → find dot_cmp x (store_at [] (cond k (Some ((d, f) ∷ [])) None)) ≡ cond (same_dot x d) (cond k (Some f) None) None
-permit_at d f true x = refl
-permit_at d f false x = none_at (same_dot x d)
-  where
-    none_at : (b : Bool) → ◌≡◌ {A = Option Flag} None (cond b None None)
-    none_at true = refl
-    none_at false = refl
-
-permit_there : (d : Dot) (a : PermitAct) (w : Write) → find dot_cmp w.dot (store_at [] (find key_cmp w.key (stored_permit d a))) ≡ permit.permit_in w (d, a)
-permit_there d (Permit key value over) w = permit_at d (flag_of value) (same_key w.key key) w.dot
-permit_there d (OtherPermit over) w = permit_at d (flag_of true) false w.dot
-
-pub permissions_of-delta : (d : Dot) (a : PermitAct) → permissions_of (stored_permission d a) ≡ permit_delta d a
-permissions_of-delta d a = same_permissions (permissions_of (stored_permission d a)) (permit_delta d a) refl (λ w.
-    get-permits_of (stored_permit d a) (permit_keyed d a).in_order w ∙ permit_there d a w ∙ sym (get-delta d a w))

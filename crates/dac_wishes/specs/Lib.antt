@@ -1,9 +1,14 @@
 pub mod Keys
+pub mod KeyedWrites
 pub mod Writes
 pub mod WishesValue
 pub mod StoredWishes
 pub mod Replacing
 pub mod WishMeaning
+pub mod Votes
+pub mod StoredVotes
+pub mod VoteMeaning
+pub mod VotesByKey
 pub mod PermissionsValue
 pub mod StoredPermits
 pub mod PermitMeaning

@@ -7,9 +7,8 @@ use Rattle.dac_wishes.specs.declared.key.Key.{Key}
 use Rattle.dac_wishes.specs.declared.wish_act.WishAct.{WishAct}
 use Rattle.dac_wishes.specs.declared.permit_act.PermitAct.{PermitAct}
 use Rattle.dac_wishes.specs.declared.wish_act.WishAct.TheVariants.{Start, Other as OtherWish}
-use Rattle.dac_wishes.specs.declared.permit_act.PermitAct.TheVariants.{Permit, Other as OtherPermit}
-use Rattle.dac_wishes.specs.PermissionsValue.{flag_of}
-use Rattle.dac_wishes.specs.StoredPermits.{DotFlags}
+use Rattle.dac_wishes.specs.PermitMeaning.{vote_of}
+use Rattle.dac_wishes.specs.StoredVotes.{DotFlags, stored_vote}
 
 -- a start as it is stored
 abbrev pub stored_start : Dot → WishAct → List (Key × Dots)
@@ -18,5 +17,4 @@ stored_start d (OtherWish over) = []
 
 -- a permit as it is stored
 abbrev pub stored_permit : Dot → PermitAct → List (Key × DotFlags)
-stored_permit d (Permit key value over) = (key, (d, flag_of value) ∷ []) ∷ []
-stored_permit d (OtherPermit over) = []
+stored_permit d a = stored_vote d (vote_of a)
