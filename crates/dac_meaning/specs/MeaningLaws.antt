@@ -1,5 +1,5 @@
 -- The laws of meanings, in terms of the operations.
-use Rattle.std.specs.Prelude.{Bool, false, ◌≡◌, ◌≤◌, ◌↔◌, ℕ, true, Some, List, [], ◌++◌, ◌⊎◌}
+use Rattle.std.specs.Prelude.{Bool, false, ◌≡◌, ◌≤◌, ◌↔◌, ℕ, true, Option, Some, List, [], ◌++◌, ◌⊎◌}
 use Rattle.std.specs.FinSet as set
 use Rattle.std.specs.FinMap as map
 use Rattle.dac_base.specs.declared.NodeId.{NodeId}
@@ -13,9 +13,11 @@ use Rattle.dac_chains.specs.Greatest.{IsGreatest}
 use Rattle.dac_chains.specs.Lives.{life_cmp, IsLive}
 use Rattle.dac_chains.specs.Claims.{claim_cmp}
 use Rattle.dac_wishes.specs.declared.key.Key.{Key}
+use Rattle.dac_wishes.specs.KeyedWrites.{KeyedWrite}
 use Rattle.dac_wishes.specs.Writes.{Write}
 use Rattle.dac_wishes.specs.WishesValue.{SomeStands}
 use Rattle.dac_wishes.specs.PermissionsValue.{says_true, IsPermitted}
+use Rattle.dac_operations.specs.declared.act.Act.{Act}
 use Rattle.dac_operations.specs.declared.act.Act.TheVariants.{Up, Down, Permit, Start, Claim}
 use Rattle.dac_operations.specs.Operations.{Operation}
 use Rattle.dac_meaning.specs.StateValue.{IsState, permissions_of, wishes_of, bottom, join}
@@ -44,6 +46,10 @@ IsStart w o = (o.dot ≡ w.dot) × Starts w.key o
 -- a start wish stands exactly if an operation is it and none replaces it
 abbrev pub StartsAreUnreplaced : Type 0
 StartsAreUnreplaced = (os : List Operation) (w : Write) → (set.contains (meaning_of os).starts w ≡ true) ↔ (((o : Operation) × (In o os × IsStart w o)) × Stands w.dot os)
+
+-- the operation is the vote, with this value
+abbrev pub IsVote : {K : Type 0} → (Act → Option (K × Bool)) → KeyedWrite K → Bool → Operation → Type 0
+IsVote vote w v o = (o.dot ≡ w.dot) × (vote o.act ≡ Some (w.key, v))
 
 -- the operation permits the key, or forbids it
 abbrev pub Permits : Key → Bool → Operation → Type 0

@@ -28,13 +28,18 @@ permit_in a = NoPermit (over_list a)
 abbrev pub without : Dot → List Dot → List Dot
 without d over = filter (λ (x : Dot). not (same_dot d x)) over
 
--- What start wishes see of an act under a dot. No operation replaces itself; one that did would wish nothing.
-abbrev pub seen_wish : Dot → Act → WishAct
-seen_wish d a = if replaces_itself d a then NoWish (without d (over_list a)) else wish_in a
+-- What a piece sees of an act under a dot, where `sees` is what it sees of one that doesn't replace its own dot. No
+-- operation replaces itself; one that did would be nothing but the other dots that it replaces.
+abbrev pub seen_by : {A : Type 0} → (List Dot → A) → (Act → A) → Dot → Act → A
+seen_by nothing sees d a = if replaces_itself d a then nothing (without d (over_list a)) else sees a
 
--- What permissions see of an act under a dot. No operation replaces itself; one that did would say nothing.
+-- what start wishes see of an act under a dot
+abbrev pub seen_wish : Dot → Act → WishAct
+seen_wish = seen_by NoWish wish_in
+
+-- what permissions see of an act under a dot
 abbrev pub seen_permit : Dot → Act → PermitAct
-seen_permit d a = if replaces_itself d a then NoPermit (without d (over_list a)) else permit_in a
+seen_permit = seen_by NoPermit permit_in
 
 -- what lives see of an act
 abbrev pub seen_life : Act → LifeAct
