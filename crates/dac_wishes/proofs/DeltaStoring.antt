@@ -1,5 +1,5 @@
 -- What the deltas of start wishes are, as they are stored.
-use Rattle.std.specs.Prelude.{◌≡◌, Bool, true, false, cond, ◌&&◌, ◌||◌, [], ◌∷◌, Option, Some, None, is_some, nat_eq, ◌+◌, refl}
+use Rattle.std.specs.Prelude.{◌≡◌, Bool, true, false, cond, ◌&&◌, ◌||◌, Some, None, nat_eq, ◌+◌, refl}
 use Rattle.std.proofs.Common.{sym, ap, ◌∙◌}
 use Rattle.std.specs.Ordering.{eq_by_cmp}
 use Rattle.std.specs.FinSet as set
@@ -7,32 +7,21 @@ use Rattle.std.specs.FinMap.{find}
 use Rattle.std.proofs.lemmas.Bool.{false≢true, or_left}
 use Rattle.dac_dots.specs.declared.dot.Dot.{Dot}
 use Rattle.dac_dots.specs.Dots.{dot_cmp, dots_total}
-use Rattle.dac_lattice.specs.declared.flags.Flag.{Flag}
 use Rattle.dac_lattice.specs.Chains.{IsAny}
-use Rattle.dac_lattice.specs.Lattices.{IsIn}
-use Rattle.dac_lattice.specs.Maps.{IsMap}
 use Rattle.dac_store.specs.Stores.{IsHeld}
 use Rattle.dac_store.specs.DotSets.{is_empty_set}
-use Rattle.dac_store.specs.DotFuns.{has_dot, is_empty_list}
 use Rattle.dac_store.specs.DotMaps.{has_in, store_at, IsKept, IsKeyed}
 use Rattle.dac_wishes.specs.declared.wish_act.WishAct.{WishAct}
-use Rattle.dac_wishes.specs.declared.permit_act.PermitAct.{PermitAct}
 use Rattle.dac_wishes.specs.declared.wish_act.WishAct.TheVariants.{Start, Other as OtherWish}
-use Rattle.dac_wishes.specs.declared.permit_act.PermitAct.TheVariants.{Permit, Other as OtherPermit}
 use Rattle.dac_wishes.specs.Keys.{key_cmp, same_key}
 use Rattle.dac_wishes.specs.Writes.{Write, same_dot}
 use Rattle.dac_wishes.specs.WishesValue.{same_wishes}
-use Rattle.dac_wishes.specs.PermissionsValue.{flag_of, same_permissions}
 use Rattle.dac_wishes.specs.Replacing.{named_by, contains-named_by, replaces}
 use Rattle.dac_wishes.specs.StoredWishes.{StoredDots, AreStoredDots, wishes_of}
 use Rattle.dac_wishes.specs.StartsByKey.{contains-writes_of}
-use Rattle.dac_wishes.specs.StoredPermits.{StoredFlags, AreStoredFlags, permissions_of}
-use Rattle.dac_wishes.specs.PermitsByKey.{get-permits_of}
 use Rattle.dac_wishes.specs.WishMeaning.{wish_delta, contains-delta, wishes}
-use Rattle.dac_wishes.specs.PermitMeaning.{permit_delta, get-delta, says}
 use Rattle.dac_wishes.specs.WishMeaning as wish
-use Rattle.dac_wishes.specs.PermitMeaning as permit
-use Rattle.dac_wishes.specs.StoredDeltas.{stored_start, stored_permit}
+use Rattle.dac_wishes.specs.StoredDeltas.{stored_start}
 
 or_false : (b : Bool) → (b || false) ≡ b
 or_false true = refl

@@ -10,7 +10,8 @@ use Rattle.std.specs.FinMap.{find}
 use Rattle.std.proofs.lemmas.Bool.{false≢true, or_left, or_right}
 use Rattle.std.proofs.lemmas.Map.Lookups.{CmpEqualImpliesEq}
 use Rattle.dac_dots.specs.declared.dot.Dot.{Dot}
-use Rattle.dac_dots.specs.Dots.{dot_cmp}
+use Rattle.dac_dots.specs.Dots.{dot_cmp, dots_total}
+use Rattle.dac_dots.specs.Keys.{has_key}
 use Rattle.dac_lattice.specs.declared.flags.Flag.{Flag}
 use Rattle.dac_lattice.specs.Chains.{IsAny}
 use Rattle.dac_lattice.specs.Flags.{IsFlagBelow, join_flags, flag_laws}
@@ -24,8 +25,8 @@ use Rattle.dac_wishes.specs.KeyedWrites.{KeyedWrite, keyed_write, same_dot}
 use Rattle.dac_wishes.specs.Votes.{AreVotes, AreVotesBelow, join_votes, joined_vote, known-join_votes, standing-join_votes, same_votes}
 use Rattle.dac_wishes.specs.StoredVotes.{DotFlags, StoredVotes, AreKeyedVotes, AreStoredVotes, votes_of, votes_value_of, stored_vote}
 use Rattle.dac_wishes.specs.VotesByKey.{get-votes_of}
-use Rattle.dac_wishes.specs.Replacing.{named_by, contains-named_by, replaces}
-use Rattle.dac_wishes.specs.VoteMeaning.{vote_in, vote_delta, says_of, get-vote_delta}
+use Rattle.dac_wishes.specs.Replacing.{named_by}
+use Rattle.dac_wishes.specs.VoteMeaning.{vote_delta, says_of, get-vote_delta}
 
 -- ---- what is stored is known
 
@@ -44,6 +45,10 @@ AreStoredVotesBelow R = IsStoredBelow (IsKeyedBelow R [] (IsFunBelow IsFlagBelow
 
 abbrev pub join_stored_votes : {K : Type 0} (R : K → K → Ordering) → StoredVotes K → StoredVotes K → StoredVotes K
 join_stored_votes R = join_stored (join_keyed R [] is_empty_list (join_funs join_flags))
+
+pub votes_of-none : {K : Type 0} (R : K → K → Ordering) → votes_of R [] ≡ map.empty
+unfolding votes_of
+votes_of-none R = refl
 
 -- nothing stored
 pub votes_value_of-none : {K : Type 0} (R : K → K → Ordering) → votes_value_of R (record { store = []; context = set.empty }) ≡ record { known = set.empty; standing = map.empty }
@@ -122,11 +127,11 @@ vote_there : {K : Type 0} (R : K → K → Ordering) (d : Dot) (u : Option (K ×
 vote_there R d None w = none_at (same_dot w.dot d)
 vote_there R d (Some v) w = vote_at d v.1 (eq_by_cmp R w.key v.0) w.dot
 
-module _ {K : Type 0} {R : K → K → Ordering} (keys_total : IsTotalOrder R) (exact_keys : CmpEqualImpliesEq R) {A : Type 0} (over : A → List Dot) (vote : A → Option (K × Flag)) where
-  -- a delta's dot is known
-  pub vote_known : (d : Dot) (a : A) → IsHeld (has_in has_dot (stored_vote d (vote a))) (named_by over d a)
-  vote_known d a x e = contains-named_by over d a x ∙ or_left (same_dot x d) (replaces over x (d, a)) (vote_held d (vote a) x e)
+-- a delta's dot is known
+pub vote_held_by : {K : Type 0} (d : Dot) (u : Option (K × Flag)) (over : List Dot) → IsHeld (has_in has_dot (stored_vote d u)) (set.from_list (d ∷ over))
+vote_held_by d u over x e = set.contains-from_list dots_total (d ∷ over) x ∙ or_left (same_dot x d) (has_key dot_cmp over x) (vote_held d u x e)
 
+module _ {K : Type 0} {R : K → K → Ordering} (keys_total : IsTotalOrder R) (exact_keys : CmpEqualImpliesEq R) {A : Type 0} (over : A → List Dot) (vote : A → Option (K × Flag)) where
   -- a delta is what is stored of it
   pub votes_value_of-delta : (d : Dot) (a : A) → votes_value_of R (record { store = stored_vote d (vote a); context = named_by over d a }) ≡ vote_delta R over vote d a
   votes_value_of-delta d a = same_votes keys_total exact_keys (votes_value_of R (record { store = stored_vote d (vote a); context = named_by over d a })) (vote_delta R over vote d a) refl (λ w.

@@ -12,6 +12,9 @@ pub mod VotesByKey
 pub mod PermissionsValue
 pub mod StoredPermits
 pub mod PermitMeaning
+pub mod DrainsValue
+pub mod StoredDrains
+pub mod DrainMeaning
 pub mod StoredDeltas
 pub mod ByKey
 pub mod StartsByKey

@@ -1,6 +1,6 @@
 -- What permissions are: the permits that stand, with their values, beside the dots that are known. Equal parts are
 -- equal values. A permission's true is Up, and its false Down. Permits are votes of keys.
-use Rattle.std.specs.Prelude.{◌≡◌, ◌⊎◌, Bool, true, false, List, Option, None, Some, if◌then◌else◌, refl}
+use Rattle.std.specs.Prelude.{◌≡◌, ◌⊎◌, Bool, true, false, List, Option, None, Some, if◌then◌else◌}
 use Rattle.std.specs.List.{list_all}
 use Rattle.std.specs.Coded.{Coded}
 use Rattle.std.specs.FinSet as set

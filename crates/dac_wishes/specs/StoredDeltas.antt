@@ -1,20 +1,13 @@
--- How the writes of operations are stored.
+-- How the start wishes of operations are stored.
 use Rattle.std.specs.Prelude.{List, [], ◌∷◌}
 use Rattle.std.specs.FinSet as set
 use Rattle.dac_dots.specs.declared.dot.Dot.{Dot}
 use Rattle.dac_dots.specs.Dots.{Dots}
 use Rattle.dac_wishes.specs.declared.key.Key.{Key}
 use Rattle.dac_wishes.specs.declared.wish_act.WishAct.{WishAct}
-use Rattle.dac_wishes.specs.declared.permit_act.PermitAct.{PermitAct}
 use Rattle.dac_wishes.specs.declared.wish_act.WishAct.TheVariants.{Start, Other as OtherWish}
-use Rattle.dac_wishes.specs.PermitMeaning.{vote_of}
-use Rattle.dac_wishes.specs.StoredVotes.{DotFlags, stored_vote}
 
 -- a start as it is stored
 abbrev pub stored_start : Dot → WishAct → List (Key × Dots)
 stored_start d (Start key over) = (key, set.insert set.empty d) ∷ []
 stored_start d (OtherWish over) = []
-
--- a permit as it is stored
-abbrev pub stored_permit : Dot → PermitAct → List (Key × DotFlags)
-stored_permit d a = stored_vote d (vote_of a)

@@ -1,6 +1,5 @@
 -- How permissions are stored: values at dots at each key, beside the context of the dots that are known.
 use Rattle.std.specs.Prelude.{List}
-use Rattle.dac_dots.specs.declared.dot.Dot.{Dot}
 use Rattle.dac_lattice.specs.declared.flags.Flag.{Flag}
 use Rattle.dac_wishes.specs.declared.key.Key.{Key}
 use Rattle.dac_wishes.specs.Keys.{key_cmp}

@@ -1,6 +1,6 @@
 -- Votes: operations that say yes or no of a key, as flags, and replace one another. Here is what stands of them, beside
 -- the dots that are known, for keys of any type. Equal parts are equal values. Permits are votes, and so are drains.
-use Rattle.std.specs.Prelude.{◌≡◌, Bool, true, ◌||◌, List, filter, map as list_map, Option, None, Some, is_some, refl}
+use Rattle.std.specs.Prelude.{◌≡◌, true, ◌||◌, List, filter, map as list_map, Option, None, Some, is_some, refl}
 use Rattle.std.proofs.Common.{sym, ap, subst, ◌∙◌, inl, inr}
 use Rattle.std.specs.declared.cmp.Ordering.{Ordering}
 use Rattle.std.specs.Ordering.{eq_by_cmp}
