@@ -8,7 +8,7 @@ use Rattle.std.specs.FinSet as set
 use Rattle.std.specs.FinMap as map
 use Rattle.dac_base.specs.Ids.{nodes_total, exact_nodes, apps_total, exact_apps}
 use Rattle.dac_dots.specs.declared.dot.Dot.{Dot}
-use Rattle.dac_dots.specs.Dots.{Dots, dot_cmp, dots_total, exact_dots}
+use Rattle.dac_dots.specs.Dots.{Dots, dot_cmp, dots_total, exact_dots, origins_total, exact_origins}
 use Rattle.dac_dots.specs.Keys.{has_key}
 use Rattle.dac_lattice.specs.declared.flags.Flag.{Flag}
 use Rattle.dac_lattice.specs.declared.flags.Flag.TheVariants.{Up as IsUp, Down as IsDown}
@@ -28,15 +28,18 @@ use Rattle.dac_wishes.specs.WishesValue.{same_wishes}
 use Rattle.dac_wishes.specs.PermissionsValue.{flag_of}
 use Rattle.dac_wishes.specs.WishMeaning as wish
 use Rattle.dac_wishes.specs.PermitMeaning as permit
+use Rattle.dac_wishes.specs.DrainMeaning as drain
+use Rattle.dac_wishes.specs.DrainsValue.{flag_of as drain_flag}
+use Rattle.dac_wishes.specs.declared.drain_act.DrainAct.TheVariants.{Other as NoDrain}
 use Rattle.dac_operations.specs.declared.act.Act.{Act}
-use Rattle.dac_operations.specs.declared.act.Act.TheVariants.{Up, Down, Permit, Start, Stop, Claim}
+use Rattle.dac_operations.specs.declared.act.Act.TheVariants.{Up, Down, Permit, Start, Stop, Drain, Claim}
 use Rattle.dac_operations.specs.Operations.{Operation, over_list, replaces_itself}
-use Rattle.dac_operations.specs.Seen.{wish_in, permit_in, without, seen_by, seen_wish, seen_permit}
-use Rattle.dac_meaning.specs.StateValue.{permissions_of, wishes_of}
-use Rattle.dac_meaning.specs.Meaning.{meaning_of, has_dot, replaces, names, wishes, is_start, is_same, flag_said, told, vote_at, permit_vote, life_said, claim_said}
+use Rattle.dac_operations.specs.Seen.{wish_in, permit_in, drain_in, without, seen_by, seen_wish}
+use Rattle.dac_meaning.specs.StateValue.{permissions_of, wishes_of, drains_of}
+use Rattle.dac_meaning.specs.Meaning.{meaning_of, has_dot, replaces, names, wishes, is_start, is_same, flag_said, told, vote_at, permit_vote, drain_vote, life_said, claim_said}
 use Rattle.dac_meaning.specs.Chained.{greatest-one}
-use Rattle.dac_meaning.specs.laws.Readers.{or-false, heard-meaning, known-meaning, starts-meaning, permits-meaning, lives-meaning, claims-meaning}
-use Rattle.dac_meaning.specs.DeltaLaws.{OneIsHeard, PermitDeltaIsMeaning, WishDeltaIsMeaning, LifeDeltaIsMeaning, ClaimDeltaIsMeaning}
+use Rattle.dac_meaning.specs.laws.Readers.{or-false, heard-meaning, known-meaning, starts-meaning, permits-meaning, lives-meaning, claims-meaning, drains-meaning}
+use Rattle.dac_meaning.specs.DeltaLaws.{OneIsHeard, PermitDeltaIsMeaning, DrainDeltaIsMeaning, WishDeltaIsMeaning, LifeDeltaIsMeaning, ClaimDeltaIsMeaning}
 
 pub one_is_heard : OneIsHeard
 one_is_heard o = set.same_set dots_total exact_dots _ _ (λ d.
@@ -71,6 +74,7 @@ wish_over (Down n i) = refl
 wish_over (Permit k v over) = refl
 wish_over (Start k over) = refl
 wish_over (Stop k over) = refl
+wish_over (Drain n i v over) = refl
 wish_over (Claim app term how from) = refl
 
 permit_over : (a : Act) → permit.over_of (permit_in a) ≡ over_list a
@@ -79,6 +83,7 @@ permit_over (Down n i) = refl
 permit_over (Permit k v over) = refl
 permit_over (Start k over) = refl
 permit_over (Stop k over) = refl
+permit_over (Drain n i v over) = refl
 permit_over (Claim app term how from) = refl
 
 -- what a piece sees of an act names what the act does
@@ -102,6 +107,7 @@ wish_wishes key (Down n i) = refl
 wish_wishes key (Permit k v over) = refl
 wish_wishes key (Start k over) = refl
 wish_wishes key (Stop k over) = refl
+wish_wishes key (Drain n i v over) = refl
 wish_wishes key (Claim app term how from) = refl
 
 -- b: the act replaces its own dot; k: it wishes the key; e: it has the dot; r: it replaces the dot
@@ -206,12 +212,38 @@ seen_permit_vote (Down n i) = refl
 seen_permit_vote (Permit k v over) = refl
 seen_permit_vote (Start k over) = refl
 seen_permit_vote (Stop k over) = refl
+seen_permit_vote (Drain n i v over) = refl
 seen_permit_vote (Claim app term how from) = refl
 
 pub permit_delta_is_meaning : PermitDeltaIsMeaning
 permit_delta_is_meaning o =
     delta_alone keys_total exact_keys permit_vote false flag_of refl refl permit.over_of permit.vote_of NoPermit permit_in (λ _. refl) permit_over (λ _. refl) seen_permit_vote
     o (permissions_of (meaning_of (o ∷ []))) refl (permits-meaning (o ∷ []))
+
+-- ---- drains
+
+drain_over : (a : Act) → drain.over_of (drain_in a) ≡ over_list a
+drain_over Up = refl
+drain_over (Down n i) = refl
+drain_over (Permit k v over) = refl
+drain_over (Start k over) = refl
+drain_over (Stop k over) = refl
+drain_over (Drain n i v over) = refl
+drain_over (Claim app term how from) = refl
+
+seen_drain_vote : (a : Act) → drain.vote_of (drain_in a) ≡ as_flag drain_flag (drain_vote a)
+seen_drain_vote Up = refl
+seen_drain_vote (Down n i) = refl
+seen_drain_vote (Permit k v over) = refl
+seen_drain_vote (Start k over) = refl
+seen_drain_vote (Stop k over) = refl
+seen_drain_vote (Drain n i v over) = refl
+seen_drain_vote (Claim app term how from) = refl
+
+pub drain_delta_is_meaning : DrainDeltaIsMeaning
+drain_delta_is_meaning o =
+    delta_alone origins_total exact_origins drain_vote true drain_flag refl refl drain.over_of drain.vote_of NoDrain drain_in (λ _. refl) drain_over (λ _. refl) seen_drain_vote
+    o (drains_of (meaning_of (o ∷ []))) refl (drains-meaning (o ∷ []))
 
 -- ---- lives and claims
 

@@ -22,18 +22,20 @@ use Rattle.dac_chains.specs.Greatest.{IsGreatest, greatest_same, IsSaid}
 use Rattle.dac_chains.specs.Lives.{life_cmp, lives_total, exact_lives}
 use Rattle.dac_chains.specs.Claims.{claim_cmp, claims_total, exact_claims, exact_hows, how_cmp}
 use Rattle.dac_wishes.specs.declared.key.Key.{Key}
-use Rattle.dac_wishes.specs.Keys.{same_key, same_key_is, same_key_itself, keys_total, exact_keys}
+use Rattle.dac_wishes.specs.Keys.{same_key_is, same_key_itself, keys_total, exact_keys}
 use Rattle.dac_wishes.specs.KeyedWrites.{KeyedWrite, tied_is}
 use Rattle.dac_wishes.specs.Writes.{Write, same_dot, same_dot_is, same_dot_itself}
 use Rattle.dac_wishes.specs.PermissionsValue.{says_true}
+use Rattle.dac_wishes.specs.DrainsValue.{origin, says_drained}
+use Rattle.dac_dots.specs.Dots.{origins_total, exact_origins}
 use Rattle.dac_operations.specs.declared.act.Act.{Act}
-use Rattle.dac_operations.specs.declared.act.Act.TheVariants.{Up, Down, Permit, Start, Stop, Claim}
+use Rattle.dac_operations.specs.declared.act.Act.TheVariants.{Up, Down, Permit, Start, Stop, Drain, Claim}
 use Rattle.dac_operations.specs.Operations.{Operation}
-use Rattle.dac_meaning.specs.Meaning.{meaning_of, has_dot, replaces, is_replaced, names, wishes, is_start, is_same, flag_said, told, value_of, is_vote, vote_said, vote_at, permit_vote, pairs, life_said, claim_said, In, Agree, Stands}
-use Rattle.dac_meaning.specs.MeaningLaws.{HeardAreDots, KnownAreNamed, Names, IsStart, StartsAreUnreplaced, IsVote, PermitsAreUnreplaced, SaysLife, LivesAreGreatest, DownStaysDown, IsClaim, ClaimsAreGreatest}
+use Rattle.dac_meaning.specs.Meaning.{meaning_of, has_dot, replaces, is_replaced, names, wishes, is_start, is_same, flag_said, told, value_of, is_vote, vote_said, vote_at, permit_vote, drain_vote, pairs, life_said, claim_said, In, Agree, Stands}
+use Rattle.dac_meaning.specs.MeaningLaws.{HeardAreDots, KnownAreNamed, Names, IsStart, StartsAreUnreplaced, IsVote, PermitsAreUnreplaced, DrainsAreUnreplaced, SaysLife, LivesAreGreatest, DownStaysDown, IsClaim, ClaimsAreGreatest}
 use Rattle.dac_meaning.specs.laws.Members.{found, finds}
 use Rattle.dac_meaning.specs.Chained.{of_said, is_said}
-use Rattle.dac_meaning.specs.laws.Readers.{heard-meaning, known-meaning, starts-meaning, permits-meaning, lives-meaning, claims-meaning, lives_are, claims_are}
+use Rattle.dac_meaning.specs.laws.Readers.{heard-meaning, known-meaning, starts-meaning, permits-meaning, drains-meaning, lives-meaning, claims-meaning, lives_are, claims_are}
 
 -- ---- dots
 
@@ -77,6 +79,7 @@ start_act key Up t = absurd (false≢true t)
 start_act key (Down n i) t = absurd (false≢true t)
 start_act key (Permit k v over) t = absurd (false≢true t)
 start_act key (Stop k over) t = absurd (false≢true t)
+start_act key (Drain n i v over) t = absurd (false≢true t)
 start_act key (Claim app term how from) t = absurd (false≢true t)
 
 start_of : (w : Write) (o : Operation) → IsStart w o → is_start w o ≡ true
@@ -183,6 +186,7 @@ permit_act key v Up t = absurd (false≢true (ap is_some t))
 permit_act key v (Down n i) t = absurd (false≢true (ap is_some t))
 permit_act key v (Start k over) t = absurd (false≢true (ap is_some t))
 permit_act key v (Stop k over) t = absurd (false≢true (ap is_some t))
+permit_act key v (Drain n i u over) t = absurd (false≢true (ap is_some t))
 permit_act key v (Claim app term how from) t = absurd (false≢true (ap is_some t))
 
 permit_value : (f : Flag) → value_of false f ≡ says_true f
@@ -200,6 +204,32 @@ permits_are_unreplaced os agree w f =
           ∙ stand.1 ((p.0.0, (p.0.1.0, (p.0.1.1.0, ap permit_vote p.0.1.1.1.1 ∙ ap (λ v. Some (w.key, v)) (sym (permit_value f))))), p.1),
     )
 
+-- ---- drains
+
+drain_act : (n : NodeId) (i : ℕ) (v : Bool) (a : Act) → drain_vote a ≡ Some (origin n i, v) → (over : List Dot) × (a ≡ Drain n i v over)
+drain_act n i v (Drain m j u over) t = let p = some_pair (origin m j, u) (origin n i, v) t in (over, λ k. Drain (p k).0.node (p k).0.inc (p k).1 over)
+drain_act n i v Up t = absurd (false≢true (ap is_some t))
+drain_act n i v (Down m j) t = absurd (false≢true (ap is_some t))
+drain_act n i v (Permit k u over) t = absurd (false≢true (ap is_some t))
+drain_act n i v (Start k over) t = absurd (false≢true (ap is_some t))
+drain_act n i v (Stop k over) t = absurd (false≢true (ap is_some t))
+drain_act n i v (Claim app term how from) t = absurd (false≢true (ap is_some t))
+
+drain_value : (f : Flag) → value_of true f ≡ says_drained f
+drain_value IsUp = refl
+drain_value IsDown = refl
+
+pub drains_are_unreplaced : DrainsAreUnreplaced
+drains_are_unreplaced os agree w f =
+    let stand = votes_are_unreplaced origins_total exact_origins drain_vote true os agree w f in (
+      λ h.
+          let p = stand.0 (sym (drains-meaning os w) ∙ h) in
+          ((p.0.0, (p.0.1.0, (p.0.1.1.0, drain_act w.key.node w.key.inc (says_drained f) p.0.0.act (p.0.1.1.1 ∙ ap (λ v. Some (w.key, v)) (drain_value f))))), p.1),
+      λ p.
+          drains-meaning os w
+          ∙ stand.1 ((p.0.0, (p.0.1.0, (p.0.1.1.0, ap drain_vote p.0.1.1.1.1 ∙ ap (λ v. Some (w.key, v)) (sym (drain_value f))))), p.1),
+    )
+
 -- ---- lives
 
 life_of : (n : NodeId) (l : Life) (o : Operation) → life_said o.dot o.act ≡ Some (n, l) → SaysLife n l o
@@ -211,6 +241,7 @@ life_of n l o h = by_act o.act refl h
     by_act (Permit k v over) e h = absurd (false≢true (ap is_some h))
     by_act (Start k over) e h = absurd (false≢true (ap is_some h))
     by_act (Stop k over) e h = absurd (false≢true (ap is_some h))
+    by_act (Drain m j v over) e h = absurd (false≢true (ap is_some h))
     by_act (Claim app term how from) e h = absurd (false≢true (ap is_some h))
 
 of_life : (n : NodeId) (l : Life) (o : Operation) → SaysLife n l o → life_said o.dot o.act ≡ Some (n, l)
@@ -252,6 +283,7 @@ claim_of app c o h = by_act o.act refl h
     by_act (Permit k v over) e h = absurd (false≢true (ap is_some h))
     by_act (Start k over) e h = absurd (false≢true (ap is_some h))
     by_act (Stop k over) e h = absurd (false≢true (ap is_some h))
+    by_act (Drain m j v over) e h = absurd (false≢true (ap is_some h))
 
 of_claim : (app : AppId) (c : ClaimValue) (o : Operation) → IsClaim app c o → claim_said o.dot o.act ≡ Some (app, c)
 of_claim app c o s = ap (claim_said o.dot) s.1 ∙ (λ i. Some (app, record { term = c.term; origin = s.0 i; how = c.how; from = c.from }))

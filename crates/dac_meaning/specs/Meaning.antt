@@ -8,7 +8,8 @@ use Rattle.std.specs.FinMap as map
 use Rattle.dac_base.specs.declared.NodeId.{NodeId}
 use Rattle.dac_base.specs.declared.AppId.{AppId}
 use Rattle.dac_dots.specs.declared.dot.Dot.{Dot}
-use Rattle.dac_dots.specs.Dots.{Dots, dot_cmp}
+use Rattle.dac_dots.specs.declared.dot.Origin.{Origin}
+use Rattle.dac_dots.specs.Dots.{Dots, dot_cmp, origin_cmp}
 use Rattle.dac_dots.specs.Keys.{has_key}
 use Rattle.dac_lattice.specs.declared.flags.Flag.{Flag}
 use Rattle.dac_lattice.specs.declared.flags.Flag.TheVariants.{Up, Down}
@@ -24,8 +25,9 @@ use Rattle.dac_wishes.specs.KeyedWrites.{KeyedWrite, keyed_write, keyed_write_cm
 use Rattle.dac_wishes.specs.Writes.{Write, Writes, write, same_dot}
 use Rattle.dac_wishes.specs.Votes.{Votes}
 use Rattle.dac_wishes.specs.PermissionsValue.{Permits}
+use Rattle.dac_wishes.specs.DrainsValue.{Drains, DrainWrite, origin}
 use Rattle.dac_operations.specs.declared.act.Act.{Act}
-use Rattle.dac_operations.specs.declared.act.Act.TheVariants.{Permit, Start}
+use Rattle.dac_operations.specs.declared.act.Act.TheVariants.{Permit, Start, Drain}
 use Rattle.dac_operations.specs.Operations.{Operation, over_list}
 use Rattle.dac_operations.specs.Seen.{seen_life, seen_claim}
 use Rattle.dac_meaning.specs.StateValue.{StateValue}
@@ -154,6 +156,21 @@ permit_at = vote_at key_cmp permit_vote false
 abbrev pub permits_of : List Operation → Permits
 permits_of = votes_of key_cmp permit_vote false
 
+-- ---- drains
+
+-- what an act says of which incarnation of a node, if it drains it or ends that
+abbrev pub drain_vote : Act → Option (Origin × Bool)
+drain_vote (Drain node inc value over) = Some (origin node inc, value)
+drain_vote _ = None
+
+-- the drain that stands, if it does: true is Down
+abbrev pub drain_at : List Operation → DrainWrite → Option Flag
+drain_at = vote_at origin_cmp drain_vote true
+
+-- the drains that stand
+abbrev pub standing_drains : List Operation → Drains
+standing_drains = votes_of origin_cmp drain_vote true
+
 -- ---- lives and claims
 
 -- operations as pairs
@@ -184,7 +201,7 @@ claims_of os = greatest_of claim_cmp claim_said os
 
 -- a set of operations as a state
 unfoldable pub meaning_of : List Operation → StateValue
-meaning_of os = record { heard = heard_of os; known = known_of os; permits = permits_of os; starts = starts_of os; lives = lives_of os; claims = claims_of os }
+meaning_of os = record { heard = heard_of os; known = known_of os; permits = permits_of os; starts = starts_of os; lives = lives_of os; claims = claims_of os; drains = standing_drains os }
 
 -- the operation has this dot, or replaces it
 abbrev pub names : Dot → Operation → Bool

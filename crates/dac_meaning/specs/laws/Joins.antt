@@ -11,7 +11,7 @@ use Rattle.std.proofs.lemmas.Bool.{false≢true, and_parts, or_left, or_cases}
 use Rattle.std.proofs.lemmas.List.Folds.{list_any-append}
 use Rattle.dac_base.specs.Ids.{nodes_total, exact_nodes, apps_total, exact_apps}
 use Rattle.dac_dots.specs.declared.dot.Dot.{Dot}
-use Rattle.dac_dots.specs.Dots.{Dots, dots_total, exact_dots}
+use Rattle.dac_dots.specs.Dots.{Dots, dots_total, exact_dots, origin_cmp, origins_total, exact_origins}
 use Rattle.dac_lattice.specs.declared.flags.Flag.{Flag}
 use Rattle.dac_lattice.specs.Lattices.{join_options}
 use Rattle.dac_lattice.specs.Flags.{join_flags, flag_cmp, flags_exact}
@@ -26,14 +26,15 @@ use Rattle.dac_wishes.specs.KeyedWrites.{KeyedWrite}
 use Rattle.dac_wishes.specs.Votes.{VotesValue, join_votes, known-join_votes, standing-join_votes, same_votes}
 use Rattle.dac_wishes.specs.WishesValue.{join_wishes, same_wishes, known-join as known-wishes, standing-join as standing-wishes}
 use Rattle.dac_wishes.specs.PermissionsValue.{join_permissions, same_permissions}
+use Rattle.dac_wishes.specs.DrainsValue.{join_drains, same_drains}
 use Rattle.dac_operations.specs.declared.act.Act.{Act}
 use Rattle.dac_operations.specs.Operations.{Operation}
-use Rattle.dac_meaning.specs.StateValue.{IsState, permissions_of, wishes_of, join}
-use Rattle.dac_meaning.specs.laws.StateLaws.{same_state, heard-join, permissions-join, wishes-join, lives-join, claims-join}
-use Rattle.dac_meaning.specs.Meaning.{meaning_of, has_dot, replaces, is_replaced, names, wishes, is_start, flag_said, told, is_vote, vote_said, vote_at, permit_vote, life_said, claim_said, Within, Agree}
+use Rattle.dac_meaning.specs.StateValue.{IsState, permissions_of, wishes_of, drains_of, join}
+use Rattle.dac_meaning.specs.laws.StateLaws.{same_state, heard-join, permissions-join, wishes-join, lives-join, claims-join, drains-join}
+use Rattle.dac_meaning.specs.Meaning.{meaning_of, has_dot, replaces, is_replaced, names, wishes, is_start, flag_said, told, is_vote, vote_said, vote_at, permit_vote, drain_vote, life_said, claim_said, Within, Agree}
 use Rattle.dac_meaning.specs.laws.Members.{In-append_left, In-append_right, list_any-same, list_any-wider, shared}
 use Rattle.dac_meaning.specs.Chained.{greatest-same, greatest-append}
-use Rattle.dac_meaning.specs.laws.Readers.{heard-meaning, known-meaning, starts-meaning, permits-meaning, lives-meaning, claims-meaning}
+use Rattle.dac_meaning.specs.laws.Readers.{heard-meaning, known-meaning, starts-meaning, permits-meaning, lives-meaning, claims-meaning, drains-meaning}
 
 -- sets of the same dots are equal
 same_dots : (a b : Dots) → ((d : Dot) → set.contains a d ≡ set.contains b d) → a ≡ b
@@ -91,12 +92,14 @@ meaning-same os ps f g = same_state (meaning_of os) (meaning_of ps)
     (same_wishes _ _ (known-same os ps f g) (λ w. starts-meaning os w ∙ (λ i. list_any-same (is_start w) os ps f g i && not (list_any-same (replaces w.dot) os ps f g i)) ∙ sym (starts-meaning ps w)))
     (lives-meaning os ∙ greatest-same nodes_total exact_nodes lives_total (exact_lives flag_cmp flags_exact) life_said os ps f g ∙ sym (lives-meaning ps))
     (claims-meaning os ∙ greatest-same apps_total exact_apps claims_total (exact_claims how_cmp exact_hows) claim_said os ps f g ∙ sym (claims-meaning ps))
+    (same_drains _ _ (known-same os ps f g) (λ w. drains-meaning os w ∙ vote_at-same origin_cmp drain_vote true os ps f g w ∙ sym (drains-meaning ps w)))
 
 pub meaning-state : (os : List Operation) → IsState (meaning_of os)
 meaning-state os = record {
   heard = λ d h. known_own os d (sym (heard-meaning os d) ∙ h);
   permits = λ w h. standing_known key_cmp permit_vote false os w (ap is_some (sym (permits-meaning os w)) ∙ h);
   starts = λ w h. known_own os w.dot (list_any-wider (is_start w) (has_dot w.dot) (start_has_dot w) os (and_parts (list_any (is_start w) os) (not (is_replaced w.dot os)) (sym (starts-meaning os w) ∙ h)).0);
+  drains = λ w h. standing_known origin_cmp drain_vote true os w (ap is_some (sym (drains-meaning os w)) ∙ h);
 }
 
 -- ---- a join of meanings
@@ -216,6 +219,10 @@ module _ (os ps : List Operation) (agree : Agree (os ++ ps)) where
   permits_together = votes_together keys_total exact_keys permit_vote false (permissions_of (meaning_of os)) (permissions_of (meaning_of ps)) (permissions_of (meaning_of (os ++ ps))) refl refl refl
       (permits-meaning os) (permits-meaning ps) (permits-meaning (os ++ ps))
 
+  drains_together : join_drains (drains_of (meaning_of os)) (drains_of (meaning_of ps)) ≡ drains_of (meaning_of (os ++ ps))
+  drains_together = votes_together origins_total exact_origins drain_vote true (drains_of (meaning_of os)) (drains_of (meaning_of ps)) (drains_of (meaning_of (os ++ ps))) refl refl refl
+      (drains-meaning os) (drains-meaning ps) (drains-meaning (os ++ ps))
+
   starts_together : join_wishes (wishes_of (meaning_of os)) (wishes_of (meaning_of ps)) ≡ wishes_of (meaning_of (os ++ ps))
   starts_together =
       let x = wishes_of (meaning_of os) in
@@ -240,3 +247,4 @@ module _ (os ps : List Operation) (agree : Agree (os ++ ps)) where
       ∙ greatest-append nodes_total exact_nodes lives_total (exact_lives flag_cmp flags_exact) life_said os ps ∙ sym (lives-meaning (os ++ ps)))
       (claims-join x y ∙ (λ i. greater claim_cmp (claims-meaning os i) (claims-meaning ps i))
       ∙ greatest-append apps_total exact_apps claims_total (exact_claims how_cmp exact_hows) claim_said os ps ∙ sym (claims-meaning (os ++ ps)))
+      (drains-join x y ∙ drains_together)

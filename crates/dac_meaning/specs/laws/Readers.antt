@@ -10,7 +10,7 @@ use Rattle.std.proofs.lemmas.Bool.{false≢true, and_parts, and_from, or_left}
 use Rattle.std.proofs.lemmas.List.Folds.{list_any-append}
 use Rattle.std.proofs.lemmas.Map.Lookups.{CmpEqualImpliesEq}
 use Rattle.dac_dots.specs.declared.dot.Dot.{Dot}
-use Rattle.dac_dots.specs.Dots.{dots_total}
+use Rattle.dac_dots.specs.Dots.{dots_total, origins_total, exact_origins}
 use Rattle.dac_lattice.specs.declared.flags.Flag.{Flag}
 use Rattle.dac_base.specs.Ids.{nodes_total, exact_nodes, apps_total, exact_apps}
 use Rattle.dac_lattice.specs.Flags.{flag_cmp, flags_exact}
@@ -20,11 +20,12 @@ use Rattle.dac_chains.specs.Claims.{claim_cmp, how_cmp, claims_total, exact_hows
 use Rattle.dac_wishes.specs.Keys.{keys_total, exact_keys}
 use Rattle.dac_wishes.specs.KeyedWrites.{KeyedWrite, keyed_write, keyed_write_cmp, keyed_writes_total, exact_keyed_writes, same_keyed_write}
 use Rattle.dac_wishes.specs.Writes.{Write, write_cmp, writes_total, exact_writes, same_dot, same_write, list_any-alike}
+use Rattle.dac_wishes.specs.DrainsValue.{DrainWrite}
 use Rattle.dac_operations.specs.declared.act.Act.{Act}
-use Rattle.dac_operations.specs.declared.act.Act.TheVariants.{Up, Down, Permit, Start, Stop, Claim}
+use Rattle.dac_operations.specs.declared.act.Act.TheVariants.{Up, Down, Permit, Start, Stop, Drain, Claim}
 use Rattle.dac_operations.specs.Operations.{Operation, over_list}
 use Rattle.dac_meaning.specs.Tables.{get-table, given_or_none}
-use Rattle.dac_meaning.specs.Meaning.{meaning_of, has_dot, is_replaced, names, starts_in, wishes, is_start, is_same, flag_said, told, told_in, is_vote, vote_at, votes_of, permit_vote, permit_at, pairs, life_said, claim_said, lives_of, claims_of}
+use Rattle.dac_meaning.specs.Meaning.{meaning_of, has_dot, is_replaced, names, starts_in, wishes, is_start, is_same, flag_said, told, told_in, is_vote, vote_at, votes_of, permit_vote, permit_at, drain_vote, drain_at, pairs, life_said, claim_said, lives_of, claims_of}
 use Rattle.dac_meaning.specs.laws.Members.{list_any-narrower}
 use Rattle.dac_meaning.specs.Chained.{are_greatest}
 
@@ -58,6 +59,7 @@ starts_in-is w d Up = refl
 starts_in-is w d (Down node inc) = refl
 starts_in-is w d (Permit key value over) = refl
 starts_in-is w d (Stop key over) = refl
+starts_in-is w d (Drain node inc value over) = refl
 starts_in-is w d (Claim app term how from) = refl
 
 -- start wishes: some operation is the wish, and none replaces it
@@ -109,6 +111,11 @@ module _ {K : Type 0} {R : K → K → Ordering} (total : IsTotalOrder R) (exact
 pub permits-meaning : (os : List Operation) (w : Write) → map.get (meaning_of os).permits w ≡ permit_at os w
 unfolding meaning_of
 permits-meaning = get-votes_of keys_total exact_keys permit_vote false
+
+-- drains: the same
+pub drains-meaning : (os : List Operation) (w : DrainWrite) → map.get (meaning_of os).drains w ≡ drain_at os w
+unfolding meaning_of
+drains-meaning = get-votes_of origins_total exact_origins drain_vote true
 
 -- lives: each node has the greatest that was said of it
 pub lives-meaning : (os : List Operation) → (meaning_of os).lives ≡ lives_of os
