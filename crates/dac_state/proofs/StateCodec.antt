@@ -84,6 +84,12 @@ module _ (t : Table) (parts : PartCodecs t) where
       state_from spelling_of (IsInForm t)
       (λ d p is so. (
         regroup (context_bytes d.0) (context_bytes d.1) (permits_bytes p.0.0) (starts_bytes p.0.1) (lives_bytes p.1.0) (claims_bytes p.1.1),
-        record { heard = is.0.0; known = is.0.1; within = is.1; permits = so.0.0; starts = so.0.1; lives = so.1.0; claims = so.1.1 },
+        record { heard = is.0.0; known = is.0.1; within = is.1; permits = so.0.0; starts = so.0.1; lives = so.1.0; claims = so.1.1; drains = refl },
       ))
-      (λ s is. ((s.heard, s.known), ((s.permits, s.starts), (s.lives, s.claims)), ((is.heard, is.known), is.within), ((is.permits, is.starts), (is.lives, is.claims)), refl))
+      (λ s is. (
+        (s.heard, s.known),
+        ((s.permits, s.starts), (s.lives, s.claims)),
+        ((is.heard, is.known), is.within),
+        ((is.permits, is.starts), (is.lives, is.claims)),
+        (λ i. record { heard = s.heard; known = s.known; permits = s.permits; starts = s.starts; lives = s.lives; claims = s.claims; drains = sym is.drains i }),
+      ))

@@ -1,4 +1,6 @@
 -- Which states have bytes that are read under a configuration.
+use Rattle.std.specs.Prelude.{◌≡◌}
+use Rattle.std.specs.FinMap as map
 use Rattle.dac_part_bytes.specs.Table.{Table, node_count}
 use Rattle.dac_dots.specs.Dots.{IsSubset}
 use Rattle.dac_bytes.specs.Ranges.{IsContext}
@@ -20,3 +22,5 @@ pub record IsInForm (t : Table) (s : StateValue) : Type 0 where
   pub lives : AreLivesInForm (node_count t) s.lives
   -- claims by listed nodes
   pub claims : AreClaimsInForm t s.claims
+  -- these bytes can't say drains
+  pub drains : s.drains ≡ map.empty

@@ -1,6 +1,7 @@
 -- Reading a state from left to right, with the first fault that is met and its place.
 use Rattle.std.specs.Prelude.{ℕ, ◌==◌, List, length, Result, Ok, if◌then◌else◌}
 use Rattle.std.specs.FinSet as set
+use Rattle.std.specs.FinMap as map
 use Rattle.dac_dots.specs.Dots.{Dots}
 use Rattle.dac_chains.specs.Lives.{Lives}
 use Rattle.dac_chains.specs.Claims.{Claims}
@@ -47,7 +48,7 @@ pieces_at t known r = do
 
 -- the state of the dots heard, the dots known and its pieces
 abbrev pub state_from : Dots × Dots → Pieces → StateValue
-state_from dots p = record { heard = dots.0; known = dots.1; permits = p.0.0; starts = p.0.1; lives = p.1.0; claims = p.1.1 }
+state_from dots p = record { heard = dots.0; known = dots.1; permits = p.0.0; starts = p.0.1; lives = p.1.0; claims = p.1.1; drains = map.empty }
 
 -- the parts of a state, one after the other
 unfoldable pub parts_at : Table → Rest → Field StateValue

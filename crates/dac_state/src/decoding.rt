@@ -16,7 +16,7 @@ use dac_chains::{Claims, Lives};
 use dac_contexts::Context;
 use dac_lattice::Lattice;
 use dac_part_bytes::{Config, read_claims, read_lives, read_permissions, read_wishes};
-use dac_wishes::{Permissions, Wishes};
+use dac_wishes::{Drains, Permissions, Wishes};
 use std::alloc::Global;
 
 /// The dots heard and the dots known.
@@ -103,9 +103,10 @@ fn read_parts<'a>(
     let ((heard, known), rest) = read_dots(reader, alloc, config.nodes())?;
     let (pieces, rest) = read_pieces(rest, alloc, config, &known)?;
     let ((permissions, wishes), (lives, claims)) = pieces;
+    let drains = Drains::none(alloc, known.copy()?);
     Lattice::known(&permissions);
     Lattice::known(&wishes);
-    let parts = Parts::new(alloc, heard, permissions, wishes, lives, claims);
+    let parts = Parts::new(alloc, heard, permissions, wishes, lives, claims, drains);
     Ok((parts, rest))
 }
 
