@@ -131,6 +131,7 @@ fn mark_text(mark: Mark) -> &'static str
     match mark {
         Mark::Down => "down",
         Mark::Barred => "barred",
+        Mark::Drained => "drained",
         Mark::Idle => "idle",
         Mark::Ok => "ok",
     }
