@@ -73,7 +73,7 @@ impl Drains {
     }
 
     /// Whether an incarnation of a node is drained: some drain of it stands that says true. It takes no memory.
-    pub fn drained(&self, node: NodeId, inc: u32) -> bool
+    pub fn drained(&self, node: NodeId, inc: u64) -> bool
         ensures value { result ≡ is_drained (origin node inc) self.now }
         ensures cases { IsTrue result ↔ IsDrained (origin node inc) self.now }
     {
@@ -82,7 +82,7 @@ impl Drains {
 
     /// The dots of the drains of the incarnation that stand, with their values, in ascending order. It takes no
     /// memory.
-    pub fn dots(&self, node: NodeId, inc: u32) -> &[(Dot, Flag)]
+    pub fn dots(&self, node: NodeId, inc: u64) -> &[(Dot, Flag)]
         ensures { result.now ≡ drains_at (origin node inc) self.now.standing }
     {
         kept_at(&self.causal, Origin { node, inc })
