@@ -17,7 +17,7 @@ pub enum Act {
         /// The node.
         node: NodeId,
         /// Which of its incarnations.
-        inc: u32,
+        inc: u64,
     },
     /// The application of the key is permitted or not at the key's node and incarnation. This permit takes
     /// the place of the operations that `over` names.
@@ -50,7 +50,7 @@ pub enum Act {
         /// The node.
         node: NodeId,
         /// Which of its incarnations.
-        inc: u32,
+        inc: u64,
         /// Whether it is drained.
         value: bool,
         /// The operations that this one replaces, in ascending order.
