@@ -2,16 +2,16 @@
 use Rattle.std.specs.Prelude.{◌≡◌, ℕ, ◌+◌, ◌<◌, ◌≤◌, ◌^◌, true, length}
 use Rattle.std.specs.List.{AllByRecursion}
 use Rattle.std.specs.FinSet as set
-use Rattle.dac_base.specs.declared.limits.TheConstants.{MAX_COUNTER}
+use Rattle.dac_base.specs.declared.limits.TheConstants.{MAX_COUNTER, MAX_INCARNATION}
 use Rattle.dac_dots.specs.Dots.{Dots}
 use Rattle.dac_dots.specs.declared.dot.Origin.{Origin}
 use Rattle.dac_dots.specs.declared.dot.Dot.{Dot}
 use Rattle.dac_bytes.specs.Items.{Chain}
 use Rattle.dac_contexts.specs.Rows.{Row, rows_of}
 
--- an incarnation: from 1, and within its field
+-- an incarnation: from 1 to the greatest
 abbrev pub IsIncarnation : ℕ → Type 0
-IsIncarnation n = (1 ≤ n) × (n < 2 ^ 32)
+IsIncarnation n = (1 ≤ n) × (n ≤ MAX_INCARNATION)
 
 -- a node that there is, and an incarnation
 pub record IsOrigin (nodes : ℕ) (o : Origin) : Type 0 where

@@ -4,7 +4,7 @@ use Rattle.std.specs.Int.{Width, w8, w16, w32, w64, byte_len, from_be_bytes}
 use Rattle.std.specs.declared.cmp.Ordering.{Ordering}
 use Rattle.std.specs.Ordering.{is_lt}
 use Rattle.dac_base.specs.declared.NodeId.{NodeId}
-use Rattle.dac_base.specs.declared.limits.TheConstants.{MAX_COUNTER}
+use Rattle.dac_base.specs.declared.limits.TheConstants.{MAX_COUNTER, MAX_INCARNATION}
 use Rattle.dac_dots.specs.declared.dot.Origin.{Origin}
 use Rattle.dac_dots.specs.declared.dot.Dot.{Dot}
 use Rattle.dac_dots.specs.Dots.{Dots, dot_cmp, origin_cmp}
@@ -82,9 +82,9 @@ node_at nodes r = do
   n ← number_at w8 r
   if nat_lt n.0 nodes then Ok (record { 0 = n.0 }, n.1) else fault BadName r
 
--- an incarnation, from 1
+-- an incarnation, from 1 to the greatest
 abbrev pub incarnation_at : Rest → Field ℕ
-incarnation_at r = range_at w32 1 (2 ^ 32 - 1) r
+incarnation_at r = range_at w64 1 MAX_INCARNATION r
 
 -- a counter of a dot, 1 to 2^62
 abbrev pub counter_at : Rest → Field ℕ

@@ -7,15 +7,15 @@ use Rattle.dac_dots.specs.declared.dot.Dot.{Dot}
 use Rattle.dac_bytes.specs.Numbers.{u8_bytes, u16_bytes, u32_bytes, u64_bytes}
 use Rattle.dac_contexts.specs.Rows.{Row, rows_of}
 
--- an incarnation, in four bytes
+-- an incarnation, in eight bytes
 unfoldable pub incarnation_bytes : ℕ → List ℕ
-incarnation_bytes n = u32_bytes n
+incarnation_bytes n = u64_bytes n
 
--- node and incarnation, in five bytes
+-- node and incarnation, in nine bytes
 unfoldable pub origin_bytes : Origin → List ℕ
 origin_bytes origin = u8_bytes origin.node.0 ++ incarnation_bytes origin.inc
 
--- origin and counter, in thirteen bytes
+-- origin and counter, in seventeen bytes
 unfoldable pub dot_bytes : Dot → List ℕ
 dot_bytes d = origin_bytes d.origin ++ u64_bytes d.n
 

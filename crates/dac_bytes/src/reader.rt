@@ -4,7 +4,7 @@ ghost use Rattle.std.specs.Int.{w8, w16, w32, w64};
 ghost use Rattle.dac_bytes.specs.Reading.{IsOfBytes, Reads, after, taken, number_at, range_at, node_at, incarnation_at, counter_at, origin_at, dot_at, origin_above_at, dot_above_at, whole};
 
 use crate::fault::{ReadFault, ReadFaultKind};
-use dac_base::{MAX_COUNTER, NodeId};
+use dac_base::{MAX_COUNTER, MAX_INCARNATION, NodeId};
 use dac_dots::{Dot, Origin};
 use std::marker::Model;
 
@@ -176,12 +176,12 @@ impl<'a> ByteReader<'a> {
         }
     }
 
-    /// An incarnation in four bytes. 0 is `BadNumber` at its first byte.
-    pub fn read_incarnation(self) -> Result<(u32, ByteReader<'a>), ReadFault>
+    /// An incarnation in eight bytes. 0, and one above the greatest, is `BadNumber` at its first byte.
+    pub fn read_incarnation(self) -> Result<(u64, ByteReader<'a>), ReadFault>
         ensures exact { result ≡ incarnation_at self.entry }
         ensures real { IsOfBytes result }
     {
-        let read = self.read_u32_in(1, u32::MAX)?;
+        let read = self.read_u64_in(1, MAX_INCARNATION)?;
         Ok(read)
     }
 
@@ -194,7 +194,7 @@ impl<'a> ByteReader<'a> {
         Ok(read)
     }
 
-    /// Who issued an operation: the node in one byte and its incarnation in four.
+    /// Who issued an operation: the node in one byte and its incarnation in eight.
     #[tactic(auto, unfolding(crate::specs::Reading::origin_at))]
     pub fn read_origin(self, nodes: u8) -> Result<(Origin, ByteReader<'a>), ReadFault>
         ensures exact { result ≡ origin_at nodes self.entry }
@@ -205,7 +205,7 @@ impl<'a> ByteReader<'a> {
         Ok((Origin { node, inc }, rest))
     }
 
-    /// The name of an operation: its origin in five bytes and its counter in eight.
+    /// The name of an operation: its origin in nine bytes and its counter in eight.
     #[tactic(auto, unfolding(crate::specs::Reading::dot_at))]
     pub fn read_dot(self, nodes: u8) -> Result<(Dot, ByteReader<'a>), ReadFault>
         ensures exact { result ≡ dot_at nodes self.entry }

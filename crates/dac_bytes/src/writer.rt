@@ -119,16 +119,16 @@ impl ByteWriter {
         Ok(written)
     }
 
-    /// An incarnation in four bytes.
+    /// An incarnation in eight bytes.
     #[tactic(auto, unfolding(crate::specs::Spelling::incarnation_bytes))]
-    pub fn write_incarnation(self, inc: u32) -> Result<Self, NoMemory>
+    pub fn write_incarnation(self, inc: u64) -> Result<Self, NoMemory>
         ensures { IfOk result (λ written. written ≡ self ++ incarnation_bytes inc) }
     {
-        let written = self.write_u32(inc)?;
+        let written = self.write_u64(inc)?;
         Ok(written)
     }
 
-    /// Who issued an operation: the node in one byte and its incarnation in four.
+    /// Who issued an operation: the node in one byte and its incarnation in eight.
     #[tactic(auto, unfolding(crate::specs::Spelling::origin_bytes))]
     pub fn write_origin(self, origin: Origin) -> Result<Self, NoMemory>
         ensures { IfOk result (λ written. written ≡ self ++ origin_bytes origin) }
@@ -137,7 +137,7 @@ impl ByteWriter {
         Ok(written)
     }
 
-    /// The name of an operation: its origin in five bytes and its counter in eight.
+    /// The name of an operation: its origin in nine bytes and its counter in eight.
     #[tactic(auto, unfolding(crate::specs::Spelling::dot_bytes))]
     pub fn write_dot(self, dot: Dot) -> Result<Self, NoMemory>
         ensures { IfOk result (λ written. written ≡ self ++ dot_bytes dot) }

@@ -6,7 +6,7 @@ use Rattle.std.proofs.lemmas.Bool.{or_parts, or_from, ltb-true, ltb-false, lt-lt
 use Rattle.std.proofs.lemmas.List.{take_at, drop_at, length-append, length-take}
 use Rattle.std.proofs.lemmas.Nat.{be_bytes_2, be_bytes_4, be_bytes_8, from_be_bytes-to_be_bytes_2, from_be_bytes-to_be_bytes_4, from_be_bytes-to_be_bytes_8}
 use Rattle.dac_base.specs.declared.NodeId.{NodeId}
-use Rattle.dac_base.specs.declared.limits.TheConstants.{MAX_COUNTER}
+use Rattle.dac_base.specs.declared.limits.TheConstants.{MAX_COUNTER, MAX_INCARNATION}
 use Rattle.dac_dots.specs.declared.dot.Origin.{Origin}
 use Rattle.dac_dots.specs.declared.dot.Dot.{Dot}
 use Rattle.dac_dots.specs.Dots.{dot_cmp, origin_cmp}
@@ -157,12 +157,11 @@ named n = record { 0 = n }
 
 pub incarnation_takes : TakesAs incarnation_at incarnation_bytes IsIncarnation
 unfolding incarnation_bytes
-incarnation_takes =
-    TakesAs-more incarnation_at incarnation_bytes (λ n. (1 ≤ n) × (n ≤ 2 ^ 32 - 1)) IsIncarnation (u32_in_takes 1 (2 ^ 32 - 1)) (λ n is. (is.0, omega (arith, is.1)))
+incarnation_takes = u64_in_takes 1 MAX_INCARNATION
 
 pub incarnation_again : (n : ℕ) → IsIncarnation n → Again incarnation_at (incarnation_bytes n) n
 unfolding incarnation_bytes
-incarnation_again n is = u32_in_again 1 (2 ^ 32 - 1) (omega arith) n is.0 (omega (arith, is.1))
+incarnation_again n is = u64_in_again 1 MAX_INCARNATION (omega arith) n is.0 is.1
 
 pub counter_takes : TakesAs counter_at u64_bytes (λ n. (1 ≤ n) × (n ≤ MAX_COUNTER))
 counter_takes = u64_in_takes 1 MAX_COUNTER
