@@ -34,7 +34,7 @@ app_bytes app = u16_bytes app.0
 abbrev pub key_origin : Key → Origin
 key_origin key = record { node = key.node; inc = key.inc }
 
--- application, node and incarnation, in seven bytes
+-- application, node and incarnation, in eleven bytes
 unfoldable pub key_bytes : Key → List ℕ
 key_bytes key = app_bytes key.app ++ origin_bytes (key_origin key)
 

@@ -11,7 +11,7 @@ use dac_dots::{Dot, Origin};
 use dac_lattice::Flag;
 use dac_wishes::{Key, Permissions, Wishes};
 
-/// A key: its application in two bytes, its node in one and the incarnation in four. [`NoMemory`] is the
+/// A key: its application in two bytes, its node in one and the incarnation in eight. [`NoMemory`] is the
 /// only error; the writer is gone then.
 #[tactic(auto, unfolding(crate::specs::Spelling::key_bytes))]
 pub fn write_key(writer: ByteWriter, key: Key) -> Result<ByteWriter, NoMemory>
