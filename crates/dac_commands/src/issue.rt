@@ -154,7 +154,7 @@ fn standing_drains(
     alloc: Global,
     state: &State,
     node: NodeId,
-    inc: u32,
+    inc: u64,
 ) -> Result<DotList, NoMemory>
     ensures { IfOk result (λ over. over ≡ drains_standing state.now (origin node inc)) }
 {
