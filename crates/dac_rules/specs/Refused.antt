@@ -1,9 +1,9 @@
 -- Why an event is refused, in words. They say which causes an event can have, when each holds, and that the least of
 -- those that hold is answered. (The causes and their order are this project's own.)
-use Rattle.std.specs.Prelude.{◌≡◌, ◌⊎◌, ℕ, ◌+◌, ◌-◌, ◌^◌, ◌<◌, ◌≤◌, true, false, List, [], ◌∷◌, length, Option, None, Some, IfSome}
+use Rattle.std.specs.Prelude.{◌≡◌, ◌⊎◌, ℕ, ◌+◌, ◌<◌, ◌≤◌, true, false, List, [], ◌∷◌, length, Option, None, Some, IfSome}
 use Rattle.std.specs.Option.{option_map}
 use Rattle.std.specs.FinSet as set
-use Rattle.dac_base.specs.declared.limits.TheConstants.{MAX_COUNTER, MAX_REPLACED}
+use Rattle.dac_base.specs.declared.limits.TheConstants.{MAX_INCARNATION, MAX_COUNTER, MAX_REPLACED}
 use Rattle.dac_base.specs.declared.NodeId.{NodeId}
 use Rattle.dac_base.specs.declared.AppId.{AppId}
 use Rattle.dac_dots.specs.declared.dot.Origin.{Origin}
@@ -157,7 +157,7 @@ Holds t v e UpToDate = Some! v.run (λ (r : RunValue). Some! (node_in e) (λ to.
 Holds t v e TooManyDots = Running v (λ own s. MAX_REPLACED < length (replaced_in s e))
 Holds t v e TermsUsedUp = Running v (λ own s. Some! (app_in e) (λ app. HasLastTerm s app))
 Holds t v e DotsUsedUp = Some! v.run (λ (r : RunValue). Lacks t r e)
-Holds t v e IncarnationsUsedUp = 2 ^ 32 - 1 ≤ v.last
+Holds t v e IncarnationsUsedUp = MAX_INCARNATION ≤ v.last
 Holds t v e NoMemory = ⊥
 
 -- ---- what is answered

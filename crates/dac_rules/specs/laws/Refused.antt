@@ -1,10 +1,10 @@
 -- The table of causes answers the least cause that holds. Each test is its cause in words, and the causes stand in
 -- the order of their numbers.
-use Rattle.std.specs.Prelude.{◌≡◌, ◌↔◌, ◌⊎◌, ℕ, ◌+◌, ◌-◌, ◌^◌, ◌<◌, ◌≤◌, Bool, true, false, not, ◌&&◌, ◌||◌, cond, nat_eq, nat_le, nat_lt, List, [], ◌∷◌, ◌++◌, length, Option, None, Some, is_some, unwrap_or, IfSome, refl}
+use Rattle.std.specs.Prelude.{◌≡◌, ◌↔◌, ◌⊎◌, ℕ, ◌+◌, ◌<◌, ◌≤◌, Bool, true, false, not, ◌&&◌, ◌||◌, cond, nat_eq, nat_le, nat_lt, List, [], ◌∷◌, ◌++◌, length, Option, None, Some, is_some, unwrap_or, IfSome, refl}
 use Rattle.std.specs.Option.{option_map_or}
 use Rattle.std.proofs.Common.{sym, ap, subst, ◌∙◌, inl, inr, arith}
 use Rattle.std.proofs.lemmas.Bool.{true≢false, false≢true, and_parts, le-leb, leb-true, lt-ltb, ltb-true, eqb-true, eq-eqb}
-use Rattle.dac_base.specs.declared.limits.TheConstants.{MAX_COUNTER, MAX_REPLACED}
+use Rattle.dac_base.specs.declared.limits.TheConstants.{MAX_INCARNATION, MAX_COUNTER, MAX_REPLACED}
 use Rattle.dac_base.specs.declared.NodeId.{NodeId}
 use Rattle.dac_dots.specs.declared.dot.Origin.{Origin}
 use Rattle.dac_dots.specs.Dots.{IsUsedUp}
@@ -244,8 +244,8 @@ module _ (t : Table) (last : ℕ) where
   off_first e rs h = at_head (Holds t gone e) Off rs h refl
 
   off_event : (e : Event) → IsRight (Holds t gone e) (causes_of_event e) (refusal_by t last None e)
-  off_event (Boot now) = first_is (Holds t gone (Boot now)) 0 ((false, AlreadyOn) ∷ (nat_le (2 ^ 32 - 1) last, IncarnationsUsedUp) ∷ []) (causes_of_event (Boot now)) refl
-      (refl, ((λ e. absurd (false≢true e), λ e. absurd e), λ _. (refl, (at_least (2 ^ 32 - 1) last, λ _. tt))))
+  off_event (Boot now) = first_is (Holds t gone (Boot now)) 0 ((false, AlreadyOn) ∷ (nat_le MAX_INCARNATION last, IncarnationsUsedUp) ∷ []) (causes_of_event (Boot now)) refl
+      (refl, ((λ e. absurd (false≢true e), λ e. absurd e), λ _. (refl, (at_least MAX_INCARNATION last, λ _. tt))))
   off_event Crash = off_first Crash [] refl
   off_event (Told (Down node)) = off_first (Told (Down node)) (DeclaredDown ∷ UnknownNode ∷ OnSelf ∷ NotLive ∷ DotsUsedUp ∷ []) refl
   off_event (Told (Permit app node value)) = off_first (Told (Permit app node value)) (DeclaredDown ∷ UnknownApp ∷ UnknownNode ∷ NotInList ∷ NotLive ∷ TooManyDots ∷ DotsUsedUp ∷ []) refl
