@@ -1,9 +1,9 @@
 -- Reading the fields of a packet from left to right, with the first fault that is met and its place.
 use Rattle.std.specs.Prelude.{ℕ, zero, suc, Bool, true, false, List, length, Option, None, Some, is_none, Result, Ok, nat_lt, ◌==◌, if◌then◌else◌}
-use Rattle.std.specs.Int.{w8, w16, w32, w64}
+use Rattle.std.specs.Int.{w8, w16, w64}
 use Rattle.dac_base.specs.declared.NodeId.{NodeId}
 use Rattle.dac_base.specs.declared.AppId.{AppId}
-use Rattle.dac_base.specs.declared.limits.TheConstants.{MAX_COUNTER}
+use Rattle.dac_base.specs.declared.limits.TheConstants.{MAX_COUNTER, MAX_INCARNATION}
 use Rattle.dac_chains.specs.declared.claims.How.{How}
 use Rattle.dac_dots.specs.declared.dot.Dot.{Dot}
 use Rattle.dac_dots.specs.declared.dot.Origin.{Origin}
@@ -47,7 +47,7 @@ is_only_of false n = nat_lt 0 n
 -- the code of the incarnation that it is for
 unfoldable pub only_code_at : Bool → Rest → Field ℕ
 only_code_at whole r = do
-  n ← number_at w32 r
+  n ← range_at w64 0 MAX_INCARNATION r
   if is_only_of whole n.0 then Ok n else fault BadNumber r
 
 -- the incarnation that it is for, if it is for one alone

@@ -128,7 +128,7 @@ pub(crate) fn value_code(value: bool) -> u8
 }
 
 /// The incarnation that a message is for, by its code.
-pub(crate) fn only_of_code(code: u32) -> Option<u32>
+pub(crate) fn only_of_code(code: u64) -> Option<u64>
     ensures { result ≡ only_of_code code }
 {
     match code {
@@ -138,7 +138,7 @@ pub(crate) fn only_of_code(code: u32) -> Option<u32>
 }
 
 /// The code of the incarnation that a message is for.
-pub(crate) fn only_code(only: Option<u32>) -> u32
+pub(crate) fn only_code(only: Option<u64>) -> u64
     ensures { result ≡ only_code only }
 {
     match only {

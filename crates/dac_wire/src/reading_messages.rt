@@ -7,7 +7,7 @@ use crate::codes::{PacketKind, only_of_code, packet_of_code};
 use crate::head::Head;
 use crate::packet::Packet;
 use crate::reading_operations::read_operation;
-use dac_base::{MAX_COUNTER, NodeId};
+use dac_base::{MAX_COUNTER, MAX_INCARNATION, NodeId};
 use dac_bytes::{ByteReader, ReadFault, ReadFaultKind};
 use dac_config::Config;
 use dac_dots::Origin;
@@ -30,7 +30,7 @@ fn read_route<'a>(
 }
 
 /// Whether the code is 0 exactly where a whole state is brought.
-fn is_only_of(whole: bool, code: u32) -> bool
+fn is_only_of(whole: bool, code: u64) -> bool
     ensures { result ≡ is_only_of whole code }
 {
     if whole { code == 0 } else { 0 < code }
@@ -41,12 +41,12 @@ fn is_only_of(whole: bool, code: u32) -> bool
 fn read_only_code<'a>(
     reader: ByteReader<'a>,
     whole: bool,
-) -> Result<(u32, ByteReader<'a>), ReadFault>
+) -> Result<(u64, ByteReader<'a>), ReadFault>
     ensures exact { result ≡ only_code_at whole reader.entry }
     ensures real { IsOfBytes result }
 {
     let at = reader.at();
-    let (code, rest) = reader.read_u32()?;
+    let (code, rest) = reader.read_u64_in(0, MAX_INCARNATION)?;
     if is_only_of(whole, code) {
         Ok((code, rest))
     } else {
@@ -59,7 +59,7 @@ fn read_only_code<'a>(
 fn read_only<'a>(
     reader: ByteReader<'a>,
     whole: bool,
-) -> Result<(Option<u32>, ByteReader<'a>), ReadFault>
+) -> Result<(Option<u64>, ByteReader<'a>), ReadFault>
     ensures exact { result ≡ only_at whole reader.entry }
     ensures real { IsOfBytes result }
 {
@@ -134,7 +134,7 @@ fn read_bound<'a>(
     reader: ByteReader<'a>,
     nodes: u8,
     whole: bool,
-) -> Result<((Option<u32>, Counts), ByteReader<'a>), ReadFault>
+) -> Result<((Option<u64>, Counts), ByteReader<'a>), ReadFault>
     ensures exact { result ≡ bound_at nodes whole reader.entry }
     ensures real { IsOfBytes result }
 {

@@ -1,8 +1,9 @@
 -- Codes and what they stand for are one to one.
-use Rattle.std.specs.Prelude.{◌≡◌, ℕ, zero, suc, ◌<◌, ◌≤◌, ◌^◌, Bool, true, false, List, Option, None, Some, refl}
+use Rattle.std.specs.Prelude.{◌≡◌, ℕ, zero, suc, ◌≤◌, Bool, true, false, List, Option, None, Some, refl}
 use Rattle.std.specs.Int.{w8}
 use Rattle.std.proofs.Common.{ap, arith}
 use Rattle.std.proofs.lemmas.Bool.{eqb-true, lt-ltb, false≢true}
+use Rattle.dac_base.specs.declared.limits.TheConstants.{MAX_INCARNATION}
 use Rattle.dac_bytes.specs.FieldCodecs.{FieldCodecs}
 use Rattle.dac_bytes.specs.Takes.{IsCodec}
 use Rattle.dac_bytes.specs.laws.Codecs.{codec_made}
@@ -110,18 +111,18 @@ pub only_number : (n : ℕ) → n ≡ only_code (only_of_code n)
 only_number zero = refl
 only_number (suc n) = refl
 
-pub only_is : (whole : Bool) (n : ℕ) → n < 2 ^ 32 → is_only_of whole n ≡ true → IsOnly whole (only_of_code n)
+pub only_is : (whole : Bool) (n : ℕ) → n ≤ MAX_INCARNATION → is_only_of whole n ≡ true → IsOnly whole (only_of_code n)
 only_is true n lt e = ap only_of_code (eqb-true n 0 e)
 only_is false zero lt e = absurd (false≢true e)
 only_is false (suc n) lt e = (suc n, refl, (omega arith, lt))
 
-pub only_fits : (whole : Bool) (only : Option ℕ) → IsOnly whole only → (only_code only < 2 ^ 32) × (is_only_of whole (only_code only) ≡ true)
-only_fits true only is = let same : only_code only ≡ 0 = ap only_code is in (omega arith, ap (is_only_of true) same)
+pub only_fits : (whole : Bool) (only : Option ℕ) → IsOnly whole only → ((0 ≤ only_code only) × (only_code only ≤ MAX_INCARNATION)) × (is_only_of whole (only_code only) ≡ true)
+only_fits true only is = let same : only_code only ≡ 0 = ap only_code is in ((omega arith, omega arith), ap (is_only_of true) same)
 only_fits false only is =
     let same : only_code only ≡ is.0 = ap only_code is.1 in
     let first : 1 ≤ is.0 = is.2.0 in
-    let last : is.0 < 2 ^ 32 = is.2.1 in
-    (omega arith, lt-ltb 0 (only_code only) (omega arith))
+    let last : is.0 ≤ MAX_INCARNATION = is.2.1 in
+    ((omega arith, omega arith), lt-ltb 0 (only_code only) (omega arith))
 
 pub only_back : (whole : Bool) (only : Option ℕ) → IsOnly whole only → only_of_code (only_code only) ≡ only
 only_back whole None is = refl

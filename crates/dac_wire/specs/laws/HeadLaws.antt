@@ -1,18 +1,18 @@
 -- The heads of messages and their spellings are one to one.
-use Rattle.std.specs.Prelude.{◌≡◌, ℕ, zero, suc, ◌+◌, ◌<◌, ◌≤◌, ◌^◌, Bool, List, [], ◌++◌, Option, None, Some, Ok, refl}
-use Rattle.std.specs.Int.{w8, w32}
+use Rattle.std.specs.Prelude.{◌≡◌, ℕ, zero, suc, ◌+◌, ◌<◌, ◌≤◌, Bool, List, [], ◌++◌, Option, None, Some, Ok, refl}
+use Rattle.std.specs.Int.{w8, w64}
 use Rattle.std.proofs.Common.{sym, ap, subst, ◌∙◌, arith, append_assoc}
 use Rattle.std.proofs.lemmas.List.{append-nil}
 use Rattle.dac_base.specs.declared.NodeId.{NodeId}
-use Rattle.dac_base.specs.declared.limits.TheConstants.{MAX_COUNTER}
+use Rattle.dac_base.specs.declared.limits.TheConstants.{MAX_COUNTER, MAX_INCARNATION}
 use Rattle.dac_dots.specs.declared.dot.Origin.{Origin}
 use Rattle.dac_bytes.specs.declared.fault.ReadFault.{ReadFault}
 use Rattle.dac_bytes.specs.declared.fault.ReadFaultKind.TheVariants.{BadNumber}
 use Rattle.dac_bytes.specs.FieldCodecs.{FieldCodecs}
 use Rattle.dac_bytes.specs.laws.Codecs.{codec_same, codec_wanted, codec_made, codec_both, codec_pair}
-use Rattle.dac_bytes.specs.Numbers.{u8_bytes, u32_bytes, u64_bytes}
+use Rattle.dac_bytes.specs.Numbers.{u8_bytes, u64_bytes}
 use Rattle.dac_bytes.specs.Ranges.{IsOrigin}
-use Rattle.dac_bytes.specs.Reading.{Rest, number_at, range_at, node_at, origin_at}
+use Rattle.dac_bytes.specs.Reading.{Rest, range_at, node_at, origin_at}
 use Rattle.dac_bytes.specs.Spelling.{incarnation_bytes, origin_bytes}
 use Rattle.dac_bytes.specs.Takes.{IsCodec, Passes, Takes, TakesAs, Takes-none, TakesAs-made, Again, Again-made, ok_is}
 use Rattle.dac_wire.specs.Codes.{only_code, only_of_code, ack_code}
@@ -53,17 +53,17 @@ regroup a b c d e = sym (simp append_assoc)
 module _ (nodes : ℕ) (fields : FieldCodecs nodes) where
   -- ---- the incarnation that it is for
 
-  only_code_codec : (whole : Bool) → IsCodec (only_code_at whole) u32_bytes (Passes (λ n. n < 2 ^ 32) (is_only_of whole))
+  only_code_codec : (whole : Bool) → IsCodec (only_code_at whole) u64_bytes (Passes (λ n. (0 ≤ n) × (n ≤ MAX_INCARNATION)) (is_only_of whole))
   unfolding only_code_at
   only_code_codec whole =
       let wrong : Rest → ℕ × Rest → ReadFault = λ r _. record { kind = BadNumber; at = r.at } in
-      codec_wanted (number_at w32) u32_bytes (λ n. n < 2 ^ 32) fields.u32 (is_only_of whole) wrong
+      codec_wanted (range_at w64 0 MAX_INCARNATION) u64_bytes (λ n. (0 ≤ n) × (n ≤ MAX_INCARNATION)) (fields.u64_in 0 MAX_INCARNATION (omega arith)) (is_only_of whole) wrong
 
   only_codec : (whole : Bool) → IsCodec (only_at whole) only_bytes (IsOnly whole)
   unfolding only_at incarnation_bytes
   only_codec whole =
-      codec_made (only_code_at whole) u32_bytes (Passes (λ n. n < 2 ^ 32) (is_only_of whole)) (only_code_codec whole) only_of_code only_bytes (IsOnly whole)
-      (λ n is. (ap u32_bytes (only_number n), only_is whole n is.0 is.1)) (λ only is. (only_code only, only_fits whole only is, only_back whole only is))
+      codec_made (only_code_at whole) u64_bytes (Passes (λ n. (0 ≤ n) × (n ≤ MAX_INCARNATION)) (is_only_of whole)) (only_code_codec whole) only_of_code only_bytes (IsOnly whole)
+      (λ n is. (ap u64_bytes (only_number n), only_is whole n is.0.1 is.1)) (λ only is. (only_code only, only_fits whole only is, only_back whole only is))
 
   -- ---- what was got
 
