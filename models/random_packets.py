@@ -17,7 +17,7 @@ def some_dot(random: Random, world: World) -> Dot:
     if world.operations and random.random() < 0.6:
         return random.choice(world.operations).dot
     counter = random.choice((1, 1, 2, 3, 7, MOST_NUMBER, MOST_NUMBER + 1, 0))
-    return Dot(random.randint(0, len(world.nodes)), random.choice((0, 1, 1, 2, 2**32 - 1)), counter)
+    return Dot(random.randint(0, len(world.nodes)), random.choice((0, 1, 1, 2, 2**32, MOST_NUMBER, MOST_NUMBER + 1)), counter)
 
 
 def some_key(random: Random, world: World) -> Key:

@@ -53,7 +53,7 @@ def u(size: int, number: int) -> bytes:
 
 def origin_bytes(origin: Origin) -> bytes:
     """An incarnation of a node."""
-    return u(1, origin.node) + u(4, origin.inc)
+    return u(1, origin.node) + u(8, origin.inc)
 
 
 def dot_bytes(dot: Dot) -> bytes:
@@ -63,7 +63,7 @@ def dot_bytes(dot: Dot) -> bytes:
 
 def key_bytes(key: Key) -> bytes:
     """A key."""
-    return u(2, key.app) + u(1, key.node) + u(4, key.inc)
+    return u(2, key.app) + u(1, key.node) + u(8, key.inc)
 
 
 def context_bytes(dots: set[Dot]) -> bytes:
@@ -86,7 +86,7 @@ def row_bytes(origin: Origin, counters: list[int]) -> bytes:
 
 def life_bytes(node: int, life: Life) -> bytes:
     """The life of a node."""
-    return u(1, node) + u(4, life.inc) + u(1, life.is_down)
+    return u(1, node) + u(8, life.inc) + u(1, life.is_down)
 
 
 def claim_bytes(app: int, claim: Claim) -> bytes:
@@ -121,7 +121,7 @@ def message_bytes(config: Config, message: Message) -> bytes:
     """A message."""
     ack = b"\0" if message.ack is None else b"\1" + origin_bytes(message.ack[0]) + u(8, message.ack[1])
     found = head_bytes(config, message.kind) + origin_bytes(message.sender) + u(1, message.to)
-    found += u(4, message.only) + u(8, message.up_to) + ack
+    found += u(8, message.only) + u(8, message.up_to) + ack
     found += b"" if message.body is None else state_bytes(message.body)
     if len(found) > MOST_BYTES:
         raise WireFault("TooLong", MOST_BYTES)
@@ -133,7 +133,7 @@ def operation_bytes(config: Config, operation: Operation) -> bytes:
     act = operation.act
     found = head_bytes(config, SINGLE) + dot_bytes(operation.dot) + u(1, ACT_CODES[type(act)])
     if isinstance(act, Down):
-        return found + u(1, act.node) + u(4, act.inc)
+        return found + u(1, act.node) + u(8, act.inc)
     if isinstance(act, ClaimAct):
         return found + u(2, act.app) + u(8, act.term) + u(1, act.how) + u(1, act.source + 1)
     if isinstance(act, Up):
@@ -181,7 +181,7 @@ class Fields:
 
     def inc(self) -> int:
         """An incarnation."""
-        return self.number(4, 1, 2**32 - 1)
+        return self.number(8, 1, MOST_NUMBER)
 
     def origin(self) -> Origin:
         """An incarnation of a node."""
@@ -431,7 +431,7 @@ def read_operation(fields: Fields) -> Operation:
 def read_message(fields: Fields, kind: int) -> tuple[Message, ReadState | None]:
     """A message of a kind without its body, and its body."""
     sender, to = fields.origin(), fields.node()
-    only = fields.number(4, 0, 0) if kind == WHOLE else fields.inc()
+    only = fields.number(8, 0, 0) if kind == WHOLE else fields.inc()
     up_to = fields.number(8, 0, MOST_NUMBER)
     ack = None
     if fields.number(1, 0, 1):

@@ -131,7 +131,7 @@ ROWS = (
         "page q;state q",
         "node q 1;heard 1 known 1;node p unknown;node q up 1;node r unknown;app m holder none verdict nobody;"
         "list p=down q=idle r=down;"
-        "00010100000001000000000000000100000000000101000000010000000000000001000000000000000000000000010100000001000000",
+        "00010100000000000000010000000000000001000000000001010000000000000001000000000000000100000000000000000000000001010000000000000001000000",
     ),
     Row("handed out of order", EXAMPLE, "p q", OUT_OF_ORDER, OUT_OF_ORDER_OUT),
     Row("gate gives up", EXAMPLE, "p", "tick p 4999;tick p 5000;page p;boot p 6000", "held;gave up;node p off;booted 2 op 2"),
@@ -349,8 +349,8 @@ TEXTS = (
     (one_entry(b",".join(b"{a%d,[n@h]}" % number for number in range(65))), b"config fault 11 TooManyApps at 783\n"),
 )
 
-CONTEXT_HEX = "00010100000001000000000000000100000000"
-FRESH_HEX = CONTEXT_HEX * 2 + "0000000000000000" + "01010000000100" + "0000"
+CONTEXT_HEX = "0001010000000000000001000000000000000100000000"
+FRESH_HEX = CONTEXT_HEX * 2 + "0000000000000000" + "0101000000000000000100" + "0000"
 FRESH = bytes.fromhex(FRESH_HEX)
 D1, D2 = Dot(0, 1, 1), Dot(0, 1, 2)
 
@@ -358,9 +358,9 @@ D1, D2 = Dot(0, 1, 1), Dot(0, 1, 2)
 def fresh_message(config: Config) -> bytes:
     """The whole state of the first node, which has just come up, for the second."""
     head = bytes.fromhex("44414301") + config.mark.to_bytes(8, "big")
-    fields = bytes.fromhex("01" + "0000000001" + "01" + "00000000" + "0000000000000001" + "00")
+    fields = bytes.fromhex("01" + "000000000000000001" + "01" + "0000000000000000" + "0000000000000001" + "00")
     state = bytearray(FRESH)
-    for at in (2, 21, 47):
+    for at in (2, 25, 55):
         state[at] = 0
     return head + fields + bytes(state)
 
@@ -379,7 +379,7 @@ def fault_of(read: Callable[[], object]) -> tuple[str, int] | None:
     return None
 
 
-SHORT_FIELDS = (4, 12, 13, 14, 18, 19, 23, 31, 32, 34)
+SHORT_FIELDS = (4, 12, 13, 14, 22, 23, 31, 39, 40, 42)
 
 
 def fault_of_prefix(length: int) -> tuple[str, int]:
@@ -394,14 +394,14 @@ def state_checks(config: Config) -> Iterator[tuple[str, bool]]:
     def fault(data: bytes) -> tuple[str, int] | None:
         return fault_of(lambda: read_state(config, data))
 
-    yield "a fresh state is read", state_bytes(read_state(config, FRESH).meaning()) == FRESH and len(FRESH) == 55
-    yield "a fresh state, cut", fault(FRESH[:54]) == ("Short", 53)
-    yield "a fresh state and a byte", fault(FRESH + b"\0") == ("Trailing", 55)
-    yield "a fresh state, neither up nor down", fault(with_byte(FRESH, 52, 2)) == ("BadNumber", 52)
-    yield "a fresh state, no such node", fault(with_byte(FRESH, 47, 3)) == ("BadName", 47)
-    yield "a fresh state, nothing known", fault(FRESH[:19] + b"\0\0" + FRESH[38:]) == ("NotKnown", 21)
+    yield "a fresh state is read", state_bytes(read_state(config, FRESH).meaning()) == FRESH and len(FRESH) == 67
+    yield "a fresh state, cut", fault(FRESH[:66]) == ("Short", 65)
+    yield "a fresh state and a byte", fault(FRESH + b"\0") == ("Trailing", 67)
+    yield "a fresh state, neither up nor down", fault(with_byte(FRESH, 64, 2)) == ("BadNumber", 64)
+    yield "a fresh state, no such node", fault(with_byte(FRESH, 55, 3)) == ("BadName", 55)
+    yield "a fresh state, nothing known", fault(FRESH[:23] + b"\0\0" + FRESH[46:]) == ("NotKnown", 25)
     most = bytes.fromhex("4000000000000000")
-    large = FRESH[:7] + most + FRESH[15:26] + most + FRESH[34:]
+    large = FRESH[:11] + most + FRESH[19:34] + most + FRESH[42:]
     read = read_state(config, large)
     yield "a state with very many dots", read.heard == read.known == {(1, 1): (2**62, [])}
 
@@ -413,15 +413,15 @@ def packet_checks(config: Config) -> Iterator[tuple[str, bool]]:
 
     packet = fresh_message(config)
     script = EXAMPLE + b"--\nboot cp1@cave 0\nboot cp2@cave 0\nship cp1@cave cp2@cave\nbytes 1\n"
-    yield "a message", simulate(script)[0].splitlines()[-1] == packet.hex().encode() and len(packet) == 87
+    yield "a message", simulate(script)[0].splitlines()[-1] == packet.hex().encode() and len(packet) == 107
     yield "a message is read", fault(packet) is None
     yield "a message, cut", fault(packet[:12]) == ("Short", 12)
     yield "a message with another magic", fault(with_byte(packet, 0, 0x45)) == ("BadMagic", 0)
     yield "a message of another version", fault(with_byte(packet, 3, 2)) == ("BadVersion", 3)
-    for length in range(34):
+    for length in range(42):
         yield f"{length} bytes of a message", fault(packet[:length]) == fault_of_prefix(length)
     yield "longer parts of a message are short", all(
-        (found := fault(packet[:length])) is not None and found[0] == "Short" for length in range(34, 87)
+        (found := fault(packet[:length])) is not None and found[0] == "Short" for length in range(42, 107)
     )
     yield "a packet that is too long", fault(bytes(4_194_305)) == ("TooLong", 4_194_304)
 
@@ -438,9 +438,9 @@ def operation_checks() -> Iterator[tuple[str, bool]]:
     both = meaning_of([Operation(D2, Start(key, ())), Operation(later, Start(key, (D2,)))])
     yield "a start in the place of another", both.starts == {key: {later}} and both.known == {D2, later}
     gap = {D1, D2, Dot(0, 1, 4)}
-    spelled_gap = "0001" "0000000001" "0000000000000002" "00000001" "0000000000000004"
+    spelled_gap = "0001" "000000000000000001" "0000000000000002" "00000001" "0000000000000004"
     yield "a context with a gap", context_bytes(gap).hex() == spelled_gap
-    yield "a context without", context_bytes(gap | {later}).hex() == "0001" "0000000001" "0000000000000004" "00000000"
+    yield "a context without", context_bytes(gap | {later}).hex() == "0001" "000000000000000001" "0000000000000004" "00000000"
 
 
 def verdicts_of(config: Config, state: Meaning) -> tuple[str, str, int]:
@@ -479,7 +479,7 @@ def two_fault_checks() -> Iterator[tuple[str, bool]]:
     claims = [claim_bytes(1, Claim(1, node, 1, NORMAL, -1)) for node in (1, 0)]
     state = bytes(13) + b"\0\2" + b"".join(claims)
     config = read_config(TWO_APPLICATIONS)
-    yield "a claim with two faults", fault_of(lambda: read_state(config, state)) == ("NotInList", 32)
+    yield "a claim with two faults", fault_of(lambda: read_state(config, state)) == ("NotInList", 36)
 
 
 def live_fault_checks() -> Iterator[tuple[str, bool]]:
