@@ -78,10 +78,10 @@ fn counts_are_written_by_their_lowest_bits(rt: HostRuntime) {
     assert!(rt; are_bytes(bytes, b"\x02\x02\x03\x02\x03\x04\x05"));
 }
 
-const DOT: &[u8] = b"\x02\x00\x00\x01\x02\x00\x00\x00\x00\x00\x00\x00\x05";
+const DOT: &[u8] = b"\x02\x00\x00\x00\x00\x00\x00\x01\x02\x00\x00\x00\x00\x00\x00\x00\x05";
 
 /// The fields of a dot.
-fn fields(bytes: &[u8]) -> Result<(NodeId, u32, u64), ReadFault> {
+fn fields(bytes: &[u8]) -> Result<(NodeId, u64, u64), ReadFault> {
     let (node, reader) = ByteReader::new(bytes).read_node(3)?;
     let (inc, reader) = reader.read_incarnation()?;
     let (n, _) = reader.read_counter()?;
@@ -118,11 +118,22 @@ fn dots_and_their_parts(rt: HostRuntime) {
 
 #[test]
 fn faults_of_a_dot(rt: HostRuntime) {
-    let (short, _) = DOT.split_at(12);
-    assert!(rt; read_dot(short, 3) == Err(ReadFault::new(ReadFaultKind::Short, 5)));
+    let (short, _) = DOT.split_at(16);
+    assert!(rt; read_dot(short, 3) == Err(ReadFault::new(ReadFaultKind::Short, 9)));
     assert!(rt; read_dot(DOT, 2) == Err(ReadFault::new(ReadFaultKind::BadName, 0)));
     let same = dot_above(DOT, dot(2, 258, 5));
     assert!(rt; same == Err(ReadFault::new(ReadFaultKind::BadOrder, 0)));
+}
+
+/// Counter 5 of the greatest incarnation of node 2, and of one above it.
+const LAST: &[u8] = b"\x02\x40\x00\x00\x00\x00\x00\x00\x00\x00\x00\x00\x00\x00\x00\x00\x05";
+
+const PAST: &[u8] = b"\x02\x40\x00\x00\x00\x00\x00\x00\x01\x00\x00\x00\x00\x00\x00\x00\x05";
+
+#[test]
+fn incarnations_end(rt: HostRuntime) {
+    assert!(rt; read_dot(LAST, 3) == Ok(dot(2, 1 << 62, 5)));
+    assert!(rt; read_dot(PAST, 3) == Err(ReadFault::new(ReadFaultKind::BadNumber, 1)));
 }
 
 /// An origin and a dot as bytes.
@@ -134,19 +145,20 @@ fn written(alloc: Global, origin: Origin, dot: Dot) -> Result<Vec<u8>, NoMemory>
 #[test]
 fn origin_and_dot(rt: HostRuntime) {
     let bytes = written(rt.alloc(), origin(2, 1), dot(2, 1, 258));
-    let wanted = b"\x02\x00\x00\x00\x01\x02\x00\x00\x00\x01\x00\x00\x00\x00\x00\x00\x01\x02";
+    let wanted =
+        b"\x02\x00\x00\x00\x00\x00\x00\x00\x01\x02\x00\x00\x00\x00\x00\x00\x00\x01\x00\x00\x00\x00\x00\x00\x01\x02";
     assert!(rt; are_bytes(bytes, wanted));
 }
 
 /// Contexts as bytes, each with the node, incarnation and counter of each of its dots. Counter 0 is a further one.
-const CONTEXTS: &[(&[u8], &[(u8, u32, u64)])] = &[
+const CONTEXTS: &[(&[u8], &[(u8, u64, u64)])] = &[
     (b"\x00\x00", &[]),
     (
-        b"\x00\x01\x01\x00\x00\x00\x01\x00\x00\x00\x00\x00\x00\x00\x01\x00\x00\x00\x00",
+        b"\x00\x01\x01\x00\x00\x00\x00\x00\x00\x00\x01\x00\x00\x00\x00\x00\x00\x00\x01\x00\x00\x00\x00",
         &[(1, 1, 1)],
     ),
     (
-        b"\x00\x01\x01\x00\x00\x00\x01\x00\x00\x00\x00\x00\x00\x00\x02\x00\x00\x00\x01\x00\x00\x00\x00\x00\x00\x00\x00",
+        b"\x00\x01\x01\x00\x00\x00\x00\x00\x00\x00\x01\x00\x00\x00\x00\x00\x00\x00\x02\x00\x00\x00\x01\x00\x00\x00\x00\x00\x00\x00\x00",
         &[(1, 1, 0), (1, 1, 1), (1, 1, 2)],
     ),
     (
@@ -156,13 +168,13 @@ const CONTEXTS: &[(&[u8], &[(u8, u32, u64)])] = &[
 ];
 
 const GAPS: &[u8] = b"\x00\x02\
-    \x00\x00\x00\x00\x01\x00\x00\x00\x00\x00\x00\x00\x02\x00\x00\x00\x02\
+    \x00\x00\x00\x00\x00\x00\x00\x00\x01\x00\x00\x00\x00\x00\x00\x00\x02\x00\x00\x00\x02\
     \x00\x00\x00\x00\x00\x00\x00\x04\x00\x00\x00\x00\x00\x00\x00\x07\
-    \x02\x00\x00\x01\x02\x00\x00\x00\x00\x00\x00\x00\x00\x00\x00\x00\x01\
+    \x02\x00\x00\x00\x00\x00\x00\x01\x02\x00\x00\x00\x00\x00\x00\x00\x00\x00\x00\x00\x01\
     \x00\x00\x00\x00\x00\x00\x00\x05";
 
 /// The context of some dots.
-fn context(alloc: Global, dots: &[(u8, u32, u64)]) -> Result<Context, NoMemory> {
+fn context(alloc: Global, dots: &[(u8, u64, u64)]) -> Result<Context, NoMemory> {
     let mut context = Context::empty(alloc);
     for (node, inc, n) in dots {
         context.insert(dot(*node, *inc, *n))?;
@@ -171,7 +183,7 @@ fn context(alloc: Global, dots: &[(u8, u32, u64)]) -> Result<Context, NoMemory> 
 }
 
 /// The context of some dots as bytes.
-fn context_bytes(alloc: Global, dots: &[(u8, u32, u64)]) -> Result<Vec<u8>, NoMemory> {
+fn context_bytes(alloc: Global, dots: &[(u8, u64, u64)]) -> Result<Vec<u8>, NoMemory> {
     let writer = ByteWriter::new(alloc).write_context(&context(alloc, dots)?)?;
     Ok(writer.into_bytes())
 }
@@ -184,7 +196,7 @@ fn contexts_as_bytes(rt: HostRuntime) {
 }
 
 /// Whether the bytes are read as the context of some dots.
-fn is_read(alloc: Global, bytes: &[u8], dots: &[(u8, u32, u64)]) -> Result<bool, ReadFault> {
+fn is_read(alloc: Global, bytes: &[u8], dots: &[(u8, u64, u64)]) -> Result<bool, ReadFault> {
     let (read, _) = ByteReader::new(bytes).read_context(alloc, 3)?;
     let wanted = context(alloc, dots)?;
     Ok(read.len() == wanted.len() && read.is_subset(&wanted))
@@ -205,24 +217,24 @@ fn contexts_from_bytes(rt: HostRuntime) {
 /// counter that continues, an origin without dots, and counter 0.
 const FAULTS: &[(&[u8], ReadFaultKind, usize)] = &[
     (
-        b"\x00\x01\x01\x00\x00\x00\x01\x00\x00\x00\x00\x00\x00\x00\x00\xff\xff\xff\xff",
+        b"\x00\x01\x01\x00\x00\x00\x00\x00\x00\x00\x01\x00\x00\x00\x00\x00\x00\x00\x00\xff\xff\xff\xff",
         ReadFaultKind::Short,
-        19,
+        23,
     ),
     (
-        b"\x00\x01\x01\x00\x00\x00\x01\x00\x00\x00\x00\x00\x00\x00\x01\x00\x00\x00\x01\x00\x00\x00\x00\x00\x00\x00\x02",
+        b"\x00\x01\x01\x00\x00\x00\x00\x00\x00\x00\x01\x00\x00\x00\x00\x00\x00\x00\x01\x00\x00\x00\x01\x00\x00\x00\x00\x00\x00\x00\x02",
         ReadFaultKind::BadOrder,
+        23,
+    ),
+    (
+        b"\x00\x01\x01\x00\x00\x00\x00\x00\x00\x00\x01\x00\x00\x00\x00\x00\x00\x00\x00\x00\x00\x00\x00",
+        ReadFaultKind::BadNumber,
         19,
     ),
     (
-        b"\x00\x01\x01\x00\x00\x00\x01\x00\x00\x00\x00\x00\x00\x00\x00\x00\x00\x00\x00",
+        b"\x00\x01\x01\x00\x00\x00\x00\x00\x00\x00\x01\x00\x00\x00\x00\x00\x00\x00\x02\x00\x00\x00\x01\x00\x00\x00\x00\x00\x00\x00\x00",
         ReadFaultKind::BadNumber,
-        15,
-    ),
-    (
-        b"\x00\x01\x01\x00\x00\x00\x01\x00\x00\x00\x00\x00\x00\x00\x02\x00\x00\x00\x01\x00\x00\x00\x00\x00\x00\x00\x00",
-        ReadFaultKind::BadNumber,
-        19,
+        23,
     ),
 ];
 

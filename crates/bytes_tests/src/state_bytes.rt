@@ -9,10 +9,10 @@ use std::alloc::Global;
 
 /// The second node booted, and has heard of nothing else.
 const BOOTED: &[u8] =
-    b"\x00\x01\x01\x00\x00\x00\x01\x00\x00\x00\x00\x00\x00\x00\x01\x00\x00\x00\x00\
-    \x00\x01\x01\x00\x00\x00\x01\x00\x00\x00\x00\x00\x00\x00\x01\x00\x00\x00\x00\
+    b"\x00\x01\x01\x00\x00\x00\x00\x00\x00\x00\x01\x00\x00\x00\x00\x00\x00\x00\x01\x00\x00\x00\x00\
+    \x00\x01\x01\x00\x00\x00\x00\x00\x00\x00\x01\x00\x00\x00\x00\x00\x00\x00\x01\x00\x00\x00\x00\
     \x00\x00\x00\x00\x00\x00\x00\x00\
-    \x01\x01\x00\x00\x00\x01\x00\
+    \x01\x01\x00\x00\x00\x00\x00\x00\x00\x01\x00\
     \x00\x00";
 
 /// Three nodes and three applications.
@@ -21,28 +21,28 @@ const LISTS: &[u8] = b"[{kernel,[{distributed,[{p,[a@h,b@h]},{q,[c@h]},{r,[a@h]}
 /// A state with every part, under the configuration of three applications.
 const FULL: &[u8] = b"\
     \x00\x02\
-    \x00\x00\x00\x00\x01\x00\x00\x00\x00\x00\x00\x00\x05\x00\x00\x00\x00\
-    \x01\x00\x00\x00\x01\x00\x00\x00\x00\x00\x00\x00\x03\x00\x00\x00\x00\
+    \x00\x00\x00\x00\x00\x00\x00\x00\x01\x00\x00\x00\x00\x00\x00\x00\x05\x00\x00\x00\x00\
+    \x01\x00\x00\x00\x00\x00\x00\x00\x01\x00\x00\x00\x00\x00\x00\x00\x03\x00\x00\x00\x00\
     \x00\x02\
-    \x00\x00\x00\x00\x01\x00\x00\x00\x00\x00\x00\x00\x05\x00\x00\x00\x00\
-    \x01\x00\x00\x00\x01\x00\x00\x00\x00\x00\x00\x00\x03\x00\x00\x00\x01\
+    \x00\x00\x00\x00\x00\x00\x00\x00\x01\x00\x00\x00\x00\x00\x00\x00\x05\x00\x00\x00\x00\
+    \x01\x00\x00\x00\x00\x00\x00\x00\x01\x00\x00\x00\x00\x00\x00\x00\x03\x00\x00\x00\x01\
     \x00\x00\x00\x00\x00\x00\x00\x05\
     \x00\x00\x00\x02\
-    \x00\x00\x01\x00\x00\x00\x01\x00\x00\x00\x02\
-    \x00\x00\x00\x00\x01\x00\x00\x00\x00\x00\x00\x00\x02\x01\
-    \x01\x00\x00\x00\x01\x00\x00\x00\x00\x00\x00\x00\x02\x00\
-    \x00\x02\x00\x00\x00\x01\x02\x00\x00\x00\x01\
-    \x00\x00\x00\x00\x01\x00\x00\x00\x00\x00\x00\x00\x03\x00\
+    \x00\x00\x01\x00\x00\x00\x00\x00\x00\x00\x01\x00\x00\x00\x02\
+    \x00\x00\x00\x00\x00\x00\x00\x00\x01\x00\x00\x00\x00\x00\x00\x00\x02\x01\
+    \x01\x00\x00\x00\x00\x00\x00\x00\x01\x00\x00\x00\x00\x00\x00\x00\x02\x00\
+    \x00\x02\x00\x00\x00\x00\x00\x00\x00\x01\x02\x00\x00\x00\x01\
+    \x00\x00\x00\x00\x00\x00\x00\x00\x01\x00\x00\x00\x00\x00\x00\x00\x03\x00\
     \x00\x00\x00\x02\
-    \x00\x00\x01\x00\x00\x00\x01\x00\x00\x00\x02\
-    \x00\x00\x00\x00\x01\x00\x00\x00\x00\x00\x00\x00\x04\
-    \x01\x00\x00\x00\x01\x00\x00\x00\x00\x00\x00\x00\x03\
-    \x00\x02\x00\x00\x00\x01\x02\x00\x00\x00\x01\
-    \x00\x00\x00\x00\x01\x00\x00\x00\x00\x00\x00\x00\x05\
-    \x02\x00\x00\x00\x00\x01\x01\x02\x00\x00\x01\x02\x00\
+    \x00\x00\x01\x00\x00\x00\x00\x00\x00\x00\x01\x00\x00\x00\x02\
+    \x00\x00\x00\x00\x00\x00\x00\x00\x01\x00\x00\x00\x00\x00\x00\x00\x04\
+    \x01\x00\x00\x00\x00\x00\x00\x00\x01\x00\x00\x00\x00\x00\x00\x00\x03\
+    \x00\x02\x00\x00\x00\x00\x00\x00\x00\x01\x02\x00\x00\x00\x01\
+    \x00\x00\x00\x00\x00\x00\x00\x00\x01\x00\x00\x00\x00\x00\x00\x00\x05\
+    \x02\x00\x00\x00\x00\x00\x00\x00\x00\x01\x01\x02\x00\x00\x00\x00\x00\x00\x01\x02\x00\
     \x00\x02\
-    \x00\x00\x00\x00\x00\x00\x00\x00\x00\x01\x00\x00\x00\x00\x01\x01\x00\
-    \x00\x01\x00\x00\x00\x00\x00\x00\x01\x02\x02\x00\x00\x00\x01\x03\x01";
+    \x00\x00\x00\x00\x00\x00\x00\x00\x00\x01\x00\x00\x00\x00\x00\x00\x00\x00\x01\x01\x00\
+    \x00\x01\x00\x00\x00\x00\x00\x00\x01\x02\x02\x00\x00\x00\x00\x00\x00\x00\x01\x03\x01";
 
 /// Whether the bytes spell a state whose bytes they are.
 fn is_spelled(alloc: Global, text: &[u8], bytes: &[u8]) -> Option<bool> {
@@ -194,11 +194,11 @@ fn replaced(alloc: Global, from: usize, others: &[u8], to: usize) -> Result<Vec<
 
 /// From which place to which the bytes are replaced, by what, and the fault at its place.
 const REPLACED: &[(usize, &[u8], usize, StateFaultKind, usize)] = &[
-    (54, &[], 55, StateFaultKind::Short, 53),
-    (55, &[0], 55, StateFaultKind::Trailing, 55),
-    (52, &[2], 53, StateFaultKind::BadNumber, 52),
-    (47, &[3], 48, StateFaultKind::BadName, 47),
-    (19, &[0, 0], 38, StateFaultKind::NotKnown, 21),
+    (66, &[], 67, StateFaultKind::Short, 65),
+    (67, &[0], 67, StateFaultKind::Trailing, 67),
+    (64, &[2], 65, StateFaultKind::BadNumber, 64),
+    (55, &[3], 56, StateFaultKind::BadName, 55),
+    (23, &[0, 0], 46, StateFaultKind::NotKnown, 25),
 ];
 
 #[test]
@@ -225,45 +225,45 @@ fn changed(alloc: Global, bytes: &[u8], at: usize, byte: u8) -> Result<Vec<u8>, 
 /// A place, the byte that is put there, and the fault of the state with every part at its place then.
 const CHANGES: &[(usize, u8, StateFaultKind, usize)] = &[
     // What was heard: an origin without dots, of no node, and one that doesn't ascend.
-    (14, 0, StateFaultKind::BadNumber, 15),
-    (19, 3, StateFaultKind::BadName, 19),
-    (19, 0, StateFaultKind::BadOrder, 19),
-    (7, 0x41, StateFaultKind::BadNumber, 7),
+    (18, 0, StateFaultKind::BadNumber, 19),
+    (23, 3, StateFaultKind::BadName, 23),
+    (23, 0, StateFaultKind::BadOrder, 23),
+    (11, 0x41, StateFaultKind::BadNumber, 11),
     // What is known: a counter that continues, and a dot too few.
-    (79, 4, StateFaultKind::BadOrder, 72),
-    (67, 2, StateFaultKind::NotKnown, 80),
+    (95, 4, StateFaultKind::BadOrder, 88),
+    (83, 2, StateFaultKind::NotKnown, 96),
     // Permits.
-    (84, 1, StateFaultKind::BadName, 84),
-    (86, 3, StateFaultKind::BadName, 86),
-    (90, 0, StateFaultKind::BadNumber, 87),
-    (86, 2, StateFaultKind::NotInList, 84),
-    (94, 0, StateFaultKind::BadNumber, 91),
-    (109, 0, StateFaultKind::BadOrder, 109),
-    (107, 9, StateFaultKind::NotKnown, 95),
-    (108, 2, StateFaultKind::BadNumber, 108),
-    (124, 0, StateFaultKind::BadOrder, 123),
-    (83, 3, StateFaultKind::BadOrder, 148),
+    (100, 1, StateFaultKind::BadName, 100),
+    (102, 3, StateFaultKind::BadName, 102),
+    (110, 0, StateFaultKind::BadNumber, 103),
+    (102, 2, StateFaultKind::NotInList, 100),
+    (114, 0, StateFaultKind::BadNumber, 111),
+    (133, 0, StateFaultKind::BadOrder, 133),
+    (131, 9, StateFaultKind::NotKnown, 115),
+    (132, 2, StateFaultKind::BadNumber, 132),
+    (152, 0, StateFaultKind::BadOrder, 151),
+    (99, 3, StateFaultKind::BadOrder, 184),
     // Starts.
-    (152, 1, StateFaultKind::BadName, 152),
-    (154, 2, StateFaultKind::NotInList, 152),
-    (162, 0, StateFaultKind::BadNumber, 159),
-    (175, 9, StateFaultKind::NotKnown, 163),
-    (175, 0, StateFaultKind::BadNumber, 168),
-    (176, 0, StateFaultKind::BadOrder, 176),
-    // Lives.
-    (214, 3, StateFaultKind::BadName, 214),
-    (218, 0, StateFaultKind::BadNumber, 215),
-    (219, 2, StateFaultKind::BadNumber, 219),
+    (188, 1, StateFaultKind::BadName, 188),
+    (190, 2, StateFaultKind::NotInList, 188),
+    (202, 0, StateFaultKind::BadNumber, 199),
+    (219, 9, StateFaultKind::NotKnown, 203),
+    (219, 0, StateFaultKind::BadNumber, 212),
     (220, 0, StateFaultKind::BadOrder, 220),
+    // Lives.
+    (270, 3, StateFaultKind::BadName, 270),
+    (278, 0, StateFaultKind::BadNumber, 271),
+    (279, 2, StateFaultKind::BadNumber, 279),
+    (280, 0, StateFaultKind::BadOrder, 280),
     // Claims.
-    (237, 0, StateFaultKind::BadNumber, 230),
-    (243, 0, StateFaultKind::BadNumber, 243),
-    (244, 1, StateFaultKind::BadNumber, 244),
-    (244, 4, StateFaultKind::BadName, 244),
-    (246, 0, StateFaultKind::NotInList, 245),
-    (261, 0, StateFaultKind::BadNumber, 261),
-    (227, 3, StateFaultKind::Short, 262),
-    (227, 1, StateFaultKind::Trailing, 245),
+    (301, 0, StateFaultKind::BadNumber, 294),
+    (311, 0, StateFaultKind::BadNumber, 311),
+    (312, 1, StateFaultKind::BadNumber, 312),
+    (312, 4, StateFaultKind::BadName, 312),
+    (314, 0, StateFaultKind::NotInList, 313),
+    (333, 0, StateFaultKind::BadNumber, 333),
+    (291, 3, StateFaultKind::Short, 334),
+    (291, 1, StateFaultKind::Trailing, 313),
 ];
 
 /// The fault of the state with every part where one byte is another.
@@ -347,10 +347,11 @@ fn one_byte_changed_in_every_part(rt: HostRuntime) {
 }
 
 /// The second node booted, and its counters go to the greatest that is issued.
-const MOST: &[u8] = b"\x00\x01\x01\x00\x00\x00\x01\x40\x00\x00\x00\x00\x00\x00\x00\x00\x00\x00\x00\
-    \x00\x01\x01\x00\x00\x00\x01\x40\x00\x00\x00\x00\x00\x00\x00\x00\x00\x00\x00\
+const MOST: &[u8] =
+    b"\x00\x01\x01\x00\x00\x00\x00\x00\x00\x00\x01\x40\x00\x00\x00\x00\x00\x00\x00\x00\x00\x00\x00\
+    \x00\x01\x01\x00\x00\x00\x00\x00\x00\x00\x01\x40\x00\x00\x00\x00\x00\x00\x00\x00\x00\x00\x00\
     \x00\x00\x00\x00\x00\x00\x00\x00\
-    \x01\x01\x00\x00\x00\x01\x00\
+    \x01\x01\x00\x00\x00\x00\x00\x00\x00\x01\x00\
     \x00\x00";
 
 /// Whether as many counters as there can be are heard.
