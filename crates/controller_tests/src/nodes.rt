@@ -286,7 +286,7 @@ fn declared_down_by_another(rt: HostRuntime) {
 }
 
 /// What comes of a boot after this last incarnation: the next one, or why there is none.
-fn next(alloc: Global, config: &Config, last: u32) -> Result<Option<u32>, Refusal> {
+fn next(alloc: Global, config: &Config, last: u64) -> Result<Option<u64>, Refusal> {
     let mut node = Node::off(alloc, last);
     let _reply = step(config, &mut node, Event::Boot { now: 0 })?;
     match node.origin() {
@@ -298,8 +298,9 @@ fn next(alloc: Global, config: &Config, last: u32) -> Result<Option<u32>, Refusa
 /// Whether incarnations go on by one, and end.
 fn go_on_and_end(alloc: Global) -> Option<bool> {
     let config = read_config(alloc, ONE).ok()?;
-    let ended = next(alloc, &config, u32::MAX) == Err(Refusal::IncarnationsUsedUp);
-    Some(ended && next(alloc, &config, 4) == Ok(Some(5)))
+    let ended = next(alloc, &config, 1 << 62) == Err(Refusal::IncarnationsUsedUp);
+    let wide = next(alloc, &config, 4_294_967_295) == Ok(Some(4_294_967_296));
+    Some(ended && wide && next(alloc, &config, 4) == Ok(Some(5)))
 }
 
 #[test]
