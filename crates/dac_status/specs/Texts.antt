@@ -130,7 +130,7 @@ abbrev pub summary_text : Table → AppId → AppSummary → List ℕ
 summary_text table app summary = standing_text table app summary.claim summary.verdict ++ list_text table app summary.marks
 
 -- the lines of the application, of these by their numbers
-abbrev pub app_lines : Table → List AppSummary → AppId → List ℕ
+unfoldable pub app_lines : Table → List AppSummary → AppId → List ℕ
 app_lines table apps app = summary_text table app (slice_index_or apps app.0 no_app)
 
 -- how much was heard, then each node by its name, then each application in the order of the configuration file

@@ -240,6 +240,7 @@ fn summary_lines(
 }
 
 /// The lines of an application, which stands as these say by their numbers.
+#[tactic(auto, unfolding(crate::specs::Texts::app_lines))]
 pub fn app_lines(
     alloc: Global,
     config: &Config,
