@@ -48,7 +48,7 @@ pub fn is_allowed(config: &Config, state: &State, key: Key) -> bool
 }
 
 /// Whether an incarnation of a node is drained: some drain of it stands that says so. It takes no memory.
-pub fn is_drained(state: &State, node: NodeId, inc: u32) -> bool
+pub fn is_drained(state: &State, node: NodeId, inc: u64) -> bool
     ensures value { result ≡ is_drained_at state.now node inc }
     ensures cases { IsTrue result ↔ IsDrainedAt state.now node inc }
 {
