@@ -5,13 +5,14 @@ use Rattle.dac_base.specs.declared.NodeId.{NodeId}
 use Rattle.dac_base.specs.declared.limits.TheConstants.{MAX_COUNTER}
 use Rattle.dac_dots.specs.declared.dot.Dot.{Dot}
 use Rattle.dac_dots.specs.Dots.{dot_cmp}
+use Rattle.dac_bytes.specs.declared.version.Version.{Version}
 use Rattle.dac_bytes.specs.Numbers.{u8_bytes, u16_bytes, u32_bytes, u64_bytes}
 use Rattle.dac_bytes.specs.Ranges.{IsOrigin, IsDot, IsContext}
 use Rattle.dac_bytes.specs.Reading.{number_at, range_at, node_at, counter_at, origin_at, dot_at, dot_above_at, is_above, context_at}
 use Rattle.dac_bytes.specs.Spelling.{origin_bytes, dot_bytes, context_bytes}
 use Rattle.dac_bytes.specs.Takes.{IsCodec, Passes}
 
-pub record FieldCodecs (nodes : ℕ) : Type 0 where
+pub record FieldCodecs (version : Version) (nodes : ℕ) : Type 0 where
   -- numbers, each in as many bytes as its name says, and within bounds where it says so
   pub u8_in : (low high : ℕ) → high < 2 ^ 8 → IsCodec (range_at w8 low high) u8_bytes (λ n. (low ≤ n) × (n ≤ high))
   pub u16 : IsCodec (number_at w16) u16_bytes (λ n. n < 2 ^ 16)
@@ -20,9 +21,9 @@ pub record FieldCodecs (nodes : ℕ) : Type 0 where
   pub counter : IsCodec counter_at u64_bytes (λ n. (1 ≤ n) × (n ≤ MAX_COUNTER))
   -- names
   pub node : IsCodec (node_at nodes) (λ (node : NodeId). u8_bytes node.0) (λ node. node.0 < nodes)
-  pub origin : IsCodec (origin_at nodes) origin_bytes (IsOrigin nodes)
-  pub dot : IsCodec (dot_at nodes) dot_bytes (IsDot nodes)
+  pub origin : IsCodec (origin_at version nodes) (origin_bytes version) (IsOrigin version nodes)
+  pub dot : IsCodec (dot_at version nodes) (dot_bytes version) (IsDot version nodes)
   -- a dot above the one before it
-  pub dot_above : (before : Option Dot) → IsCodec (dot_above_at nodes before) dot_bytes (Passes (IsDot nodes) (is_above dot_cmp before))
+  pub dot_above : (before : Option Dot) → IsCodec (dot_above_at version nodes before) (dot_bytes version) (Passes (IsDot version nodes) (is_above dot_cmp before))
   -- a set of dots
-  pub context : IsCodec (context_at nodes) context_bytes (IsContext nodes)
+  pub context : IsCodec (context_at version nodes) (context_bytes version) (IsContext version nodes)
