@@ -17,40 +17,41 @@ use Rattle.dac_bytes.specs.Ranges.{IsOrigin, IsDot}
 use Rattle.dac_bytes.specs.Reading.{is_above}
 use Rattle.dac_part_bytes.specs.Reading.{is_listed}
 use Rattle.dac_part_bytes.specs.Spelling.{key_origin}
+use Rattle.dac_bytes.specs.declared.version.Version.{Version}
 
 -- an application that there is, a node that there is with an incarnation from 1, and the node in the application's list
-pub record IsKey (t : Table) (key : Key) : Type 0 where
+pub record IsKey (version : Version) (t : Table) (key : Key) : Type 0 where
   pub app : key.app.0 < app_count t
-  pub origin : IsOrigin (node_count t) (key_origin key)
+  pub origin : IsOrigin version (node_count t) (key_origin key)
   pub listed : is_listed t key.app key.node ≡ true
 
 -- a key above the one before it
-abbrev pub IsKeyAbove : Table → Option Key → Key → Type 0
-IsKeyAbove t before key = IsKey t key × (is_above key_cmp before key ≡ true)
+abbrev pub IsKeyAbove : Version → Table → Option Key → Key → Type 0
+IsKeyAbove version t before key = IsKey version t key × (is_above key_cmp before key ≡ true)
 
 -- a dot that there can be, and that is known
-pub record IsKnownDot (t : Table) (known : Dots) (d : Dot) : Type 0 where
-  pub dot : IsDot (node_count t) d
+pub record IsKnownDot (version : Version) (t : Table) (known : Dots) (d : Dot) : Type 0 where
+  pub dot : IsDot version (node_count t) d
   pub among : set.contains known d ≡ true
 
 -- the write of such a key by such a dot
-pub record IsKnownWrite (t : Table) (known : Dots) (w : Write) : Type 0 where
-  pub key : IsKey t w.key
-  pub dot : IsKnownDot t known w.dot
+pub record IsKnownWrite (version : Version) (t : Table) (known : Dots) (w : Write) : Type 0 where
+  pub key : IsKey version t w.key
+  pub dot : IsKnownDot version t known w.dot
 
 -- permits that can be read
-pub record ArePermitsInForm (t : Table) (known : Dots) (permits : Permits) : Type 0 where
+pub record ArePermitsInForm (version : Version) (t : Table) (known : Dots) (permits : Permits) : Type 0 where
   -- each is of a key that the configuration has, by a dot that is known
-  pub each : (w : Write) → is_some (map.get permits w) ≡ true → IsKnownWrite t known w
+  pub each : (w : Write) → is_some (map.get permits w) ≡ true → IsKnownWrite version t known w
   -- how many keys have permits fits its field
   pub keys : length (permits_by_key permits) < 2 ^ 32
   -- and so does how many permits a key has
   pub dots : (key : Key) → length (permits_at key permits) < 2 ^ 32
 
 -- start wishes that can be read
-pub record AreStartsInForm (t : Table) (known : Dots) (writes : Writes) : Type 0 where
+pub record AreStartsInForm (version : Version) (t : Table) (known : Dots) (writes : Writes) : Type 0 where
   -- each is of a key that the configuration has, by a dot that is known
-  pub each : (w : Write) → set.contains writes w ≡ true → IsKnownWrite t known w
+  pub each : (w : Write) → set.contains writes w ≡ true → IsKnownWrite version t known w
   -- how many keys have wishes fits its field
   pub keys : length (starts_by_key writes) < 2 ^ 32
   -- and so does how many wishes a key has

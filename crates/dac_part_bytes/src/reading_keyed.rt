@@ -13,7 +13,7 @@ ghost use Rattle.dac_part_bytes.specs.Reading.{all_permits_at, all_starts_at, do
 
 use crate::reading_fields::{read_key, read_known_dot, read_permit, read_some};
 use dac_base::NoMemory;
-use dac_bytes::{ByteReader, ReadFault};
+use dac_bytes::{ByteReader, ReadFault, Version};
 use dac_config::Config;
 use dac_store::Context;
 use dac_lattice::Flag;
@@ -25,17 +25,18 @@ use std::alloc::Global;
 fn read_permits<'a>(
     reader: ByteReader<'a>,
     alloc: Global,
+    version: Version,
     nodes: u8,
     known: &Context,
     count: u32,
 ) -> Result<(DotFun<Flag>, ByteReader<'a>), ReadFault>
-    ensures { Gives (λ x. x) result (items_at (permit_at nodes known.now) (λ p. Some p.0) count None reader.entry) }
+    ensures { Gives (λ x. x) result (items_at (permit_at version nodes known.now) (λ p. Some p.0) count None reader.entry) }
 {
     let mut permits = DotFun::empty(alloc);
     let mut before = None;
     let mut rest = reader;
     for _ in 0..count {
-        let (permit, after) = read_permit(rest, nodes, known, before)?;
+        let (permit, after) = read_permit(rest, version, nodes, known, before)?;
         let (dot, flag) = permit;
         permits.push(dot, flag)?;
         before = Some(dot);
@@ -49,13 +50,14 @@ fn read_permits<'a>(
 fn read_permits_of_key<'a>(
     reader: ByteReader<'a>,
     alloc: Global,
+    version: Version,
     nodes: u8,
     known: &Context,
 ) -> Result<(DotFun<Flag>, ByteReader<'a>), ReadFault>
-    ensures { Gives (λ x. x) result (permits_of_key_at nodes known.now reader.entry) }
+    ensures { Gives (λ x. x) result (permits_of_key_at version nodes known.now reader.entry) }
 {
     let (count, rest) = read_some(reader)?;
-    let read = read_permits(rest, alloc, nodes, known, count)?;
+    let read = read_permits(rest, alloc, version, nodes, known, count)?;
     Ok(read)
 }
 
@@ -64,14 +66,15 @@ fn read_permits_of_key<'a>(
 fn read_keyed_permits<'a>(
     reader: ByteReader<'a>,
     alloc: Global,
+    version: Version,
     config: &Config,
     known: &Context,
     before: Option<Key>,
 ) -> Result<((Key, DotFun<Flag>), ByteReader<'a>), ReadFault>
-    ensures { Gives (λ x. x) result (keyed_permits_at config.now known.now before reader.entry) }
+    ensures { Gives (λ x. x) result (keyed_permits_at version config.now known.now before reader.entry) }
 {
-    let (key, rest) = read_key(reader, config, before)?;
-    let (permits, rest) = read_permits_of_key(rest, alloc, config.nodes(), known)?;
+    let (key, rest) = read_key(reader, version, config, before)?;
+    let (permits, rest) = read_permits_of_key(rest, alloc, version, config.nodes(), known)?;
     Ok(((key, permits), rest))
 }
 
@@ -79,17 +82,18 @@ fn read_keyed_permits<'a>(
 fn read_keys_of_permits<'a>(
     reader: ByteReader<'a>,
     alloc: Global,
+    version: Version,
     config: &Config,
     known: &Context,
     count: u32,
 ) -> Result<(DotMap<Key, DotFun<Flag>>, ByteReader<'a>), ReadFault>
-    ensures { Gives (λ x. x) result (items_at (keyed_permits_at config.now known.now) (λ e. Some e.0) count None reader.entry) }
+    ensures { Gives (λ x. x) result (items_at (keyed_permits_at version config.now known.now) (λ e. Some e.0) count None reader.entry) }
 {
     let mut store = DotMap::empty(alloc);
     let mut before = None;
     let mut rest = reader;
     for _ in 0..count {
-        let (entry, after) = read_keyed_permits(rest, alloc, config, known, before)?;
+        let (entry, after) = read_keyed_permits(rest, alloc, version, config, known, before)?;
         let (key, permits) = entry;
         store.push(key, permits)?;
         before = Some(key);
@@ -103,14 +107,15 @@ fn read_keys_of_permits<'a>(
 fn read_permits_by_key<'a>(
     reader: ByteReader<'a>,
     alloc: Global,
+    version: Version,
     config: &Config,
     known: &Context,
 ) -> Result<(DotMap<Key, DotFun<Flag>>, ByteReader<'a>), ReadFault>
-    ensures exact { Gives (λ x. x) result (permits_by_key_at config.now known.now reader.entry) }
+    ensures exact { Gives (λ x. x) result (permits_by_key_at version config.now known.now reader.entry) }
     ensures held { IfOk result (λ x. IsHeld (has_in has_dot x.0) known.now) }
 {
     let (count, rest) = reader.read_u32()?;
-    let read = read_keys_of_permits(rest, alloc, config, known, count)?;
+    let read = read_keys_of_permits(rest, alloc, version, config, known, count)?;
     Ok(read)
 }
 
@@ -127,13 +132,14 @@ fn beside<S: DotStore>(store: S, context: Context) -> Causal<S>
 fn read_all_permits<'a>(
     reader: ByteReader<'a>,
     alloc: Global,
+    version: Version,
     config: &Config,
     known: &Context,
 ) -> Result<(Permissions, ByteReader<'a>), ReadFault>
-    ensures exact { Gives (λ x. (x.0.standing, x.1)) result (all_permits_at config.now known.now reader.entry) }
+    ensures exact { Gives (λ x. (x.0.standing, x.1)) result (all_permits_at version config.now known.now reader.entry) }
     ensures known { IfOk result (λ x. x.0.known ≡ known.now) }
 {
-    let (store, rest) = read_permits_by_key(reader, alloc, config, known)?;
+    let (store, rest) = read_permits_by_key(reader, alloc, version, config, known)?;
     let causal = beside(store, known.copy()?);
     Ok((Permissions::new(causal), rest))
 }
@@ -150,37 +156,39 @@ fn read_all_permits<'a>(
 pub fn read_permissions<'a>(
     reader: ByteReader<'a>,
     alloc: Global,
+    version: Version,
     config: &Config,
     known: &Context,
 ) -> Result<(Permissions, ByteReader<'a>), ReadFault>
-    ensures exact { Gives (λ x. (x.0.standing, x.1)) result (all_permits_at config.now known.now reader.entry) }
+    ensures exact { Gives (λ x. (x.0.standing, x.1)) result (all_permits_at version config.now known.now reader.entry) }
     ensures known { IfOk result (λ x. x.0.known ≡ known.now) }
     // What is read is spelled so, and in form.
-    ensures found { IsFoundAs (λ x. (x.0.standing, x.1)) permits_bytes (ArePermitsInForm config.now known.now) reader.entry result }
+    ensures found { IsFoundAs (λ x. (x.0.standing, x.1)) (permits_bytes version) (ArePermitsInForm version config.now known.now) reader.entry result }
     // What is spelled so and in form is read, unless memory runs out.
-    ensures again { IsReadAgain (λ x. (x.0.standing, x.1)) permits_bytes (ArePermitsInForm config.now known.now) reader.entry result }
+    ensures again { IsReadAgain (λ x. (x.0.standing, x.1)) (permits_bytes version) (ArePermitsInForm version config.now known.now) reader.entry result }
 {
     // Nodes are numbered in one byte, and applications in two.
     let _nodes = config.nodes();
     let _apps = config.apps();
-    read_all_permits(reader, alloc, config, known)
+    read_all_permits(reader, alloc, version, config, known)
 }
 
 /// So many dots of a key.
 fn read_dots<'a>(
     reader: ByteReader<'a>,
     alloc: Global,
+    version: Version,
     nodes: u8,
     known: &Context,
     count: u32,
 ) -> Result<(DotSet, ByteReader<'a>), ReadFault>
-    ensures { Gives (λ x. (in_order x.0, x.1)) result (items_at (known_dot_at nodes known.now) Some count None reader.entry) }
+    ensures { Gives (λ x. (in_order x.0, x.1)) result (items_at (known_dot_at version nodes known.now) Some count None reader.entry) }
 {
     let mut dots = DotSet::empty(alloc);
     let mut before = None;
     let mut rest = reader;
     for _ in 0..count {
-        let (dot, after) = read_known_dot(rest, nodes, known, before)?;
+        let (dot, after) = read_known_dot(rest, version, nodes, known, before)?;
         dots.push(dot)?;
         before = Some(dot);
         rest = after;
@@ -193,13 +201,14 @@ fn read_dots<'a>(
 fn read_dots_of_key<'a>(
     reader: ByteReader<'a>,
     alloc: Global,
+    version: Version,
     nodes: u8,
     known: &Context,
 ) -> Result<(DotSet, ByteReader<'a>), ReadFault>
-    ensures { Gives (λ x. (in_order x.0, x.1)) result (dots_of_key_at nodes known.now reader.entry) }
+    ensures { Gives (λ x. (in_order x.0, x.1)) result (dots_of_key_at version nodes known.now reader.entry) }
 {
     let (count, rest) = read_some(reader)?;
-    let read = read_dots(rest, alloc, nodes, known, count)?;
+    let read = read_dots(rest, alloc, version, nodes, known, count)?;
     Ok(read)
 }
 
@@ -208,14 +217,15 @@ fn read_dots_of_key<'a>(
 fn read_keyed_dots<'a>(
     reader: ByteReader<'a>,
     alloc: Global,
+    version: Version,
     config: &Config,
     known: &Context,
     before: Option<Key>,
 ) -> Result<((Key, DotSet), ByteReader<'a>), ReadFault>
-    ensures { Gives (λ x. x) result (keyed_dots_at config.now known.now before reader.entry) }
+    ensures { Gives (λ x. x) result (keyed_dots_at version config.now known.now before reader.entry) }
 {
-    let (key, rest) = read_key(reader, config, before)?;
-    let (dots, rest) = read_dots_of_key(rest, alloc, config.nodes(), known)?;
+    let (key, rest) = read_key(reader, version, config, before)?;
+    let (dots, rest) = read_dots_of_key(rest, alloc, version, config.nodes(), known)?;
     Ok(((key, dots), rest))
 }
 
@@ -223,17 +233,18 @@ fn read_keyed_dots<'a>(
 fn read_keys_of_dots<'a>(
     reader: ByteReader<'a>,
     alloc: Global,
+    version: Version,
     config: &Config,
     known: &Context,
     count: u32,
 ) -> Result<(DotMap<Key, DotSet>, ByteReader<'a>), ReadFault>
-    ensures { Gives (λ x. x) result (items_at (keyed_dots_at config.now known.now) (λ e. Some e.0) count None reader.entry) }
+    ensures { Gives (λ x. x) result (items_at (keyed_dots_at version config.now known.now) (λ e. Some e.0) count None reader.entry) }
 {
     let mut store = DotMap::empty(alloc);
     let mut before = None;
     let mut rest = reader;
     for _ in 0..count {
-        let (entry, after) = read_keyed_dots(rest, alloc, config, known, before)?;
+        let (entry, after) = read_keyed_dots(rest, alloc, version, config, known, before)?;
         let (key, dots) = entry;
         store.push(key, dots)?;
         before = Some(key);
@@ -247,14 +258,15 @@ fn read_keys_of_dots<'a>(
 fn read_starts_by_key<'a>(
     reader: ByteReader<'a>,
     alloc: Global,
+    version: Version,
     config: &Config,
     known: &Context,
 ) -> Result<(DotMap<Key, DotSet>, ByteReader<'a>), ReadFault>
-    ensures exact { Gives (λ x. x) result (starts_by_key_at config.now known.now reader.entry) }
+    ensures exact { Gives (λ x. x) result (starts_by_key_at version config.now known.now reader.entry) }
     ensures held { IfOk result (λ x. IsHeld (has_in set.contains x.0) known.now) }
 {
     let (count, rest) = reader.read_u32()?;
-    let read = read_keys_of_dots(rest, alloc, config, known, count)?;
+    let read = read_keys_of_dots(rest, alloc, version, config, known, count)?;
     Ok(read)
 }
 
@@ -263,13 +275,14 @@ fn read_starts_by_key<'a>(
 fn read_all_starts<'a>(
     reader: ByteReader<'a>,
     alloc: Global,
+    version: Version,
     config: &Config,
     known: &Context,
 ) -> Result<(Wishes, ByteReader<'a>), ReadFault>
-    ensures exact { Gives (λ x. (x.0.standing, x.1)) result (all_starts_at config.now known.now reader.entry) }
+    ensures exact { Gives (λ x. (x.0.standing, x.1)) result (all_starts_at version config.now known.now reader.entry) }
     ensures known { IfOk result (λ x. x.0.known ≡ known.now) }
 {
-    let (store, rest) = read_starts_by_key(reader, alloc, config, known)?;
+    let (store, rest) = read_starts_by_key(reader, alloc, version, config, known)?;
     let causal = beside(store, known.copy()?);
     Ok((Wishes::new(causal), rest))
 }
@@ -281,18 +294,19 @@ fn read_all_starts<'a>(
 pub fn read_wishes<'a>(
     reader: ByteReader<'a>,
     alloc: Global,
+    version: Version,
     config: &Config,
     known: &Context,
 ) -> Result<(Wishes, ByteReader<'a>), ReadFault>
-    ensures exact { Gives (λ x. (x.0.standing, x.1)) result (all_starts_at config.now known.now reader.entry) }
+    ensures exact { Gives (λ x. (x.0.standing, x.1)) result (all_starts_at version config.now known.now reader.entry) }
     ensures known { IfOk result (λ x. x.0.known ≡ known.now) }
     // What is read is spelled so, and in form.
-    ensures found { IsFoundAs (λ x. (x.0.standing, x.1)) starts_bytes (AreStartsInForm config.now known.now) reader.entry result }
+    ensures found { IsFoundAs (λ x. (x.0.standing, x.1)) (starts_bytes version) (AreStartsInForm version config.now known.now) reader.entry result }
     // What is spelled so and in form is read, unless memory runs out.
-    ensures again { IsReadAgain (λ x. (x.0.standing, x.1)) starts_bytes (AreStartsInForm config.now known.now) reader.entry result }
+    ensures again { IsReadAgain (λ x. (x.0.standing, x.1)) (starts_bytes version) (AreStartsInForm version config.now known.now) reader.entry result }
 {
     // Nodes are numbered in one byte, and applications in two.
     let _nodes = config.nodes();
     let _apps = config.apps();
-    read_all_starts(reader, alloc, config, known)
+    read_all_starts(reader, alloc, version, config, known)
 }

@@ -5,22 +5,25 @@ ghost use Rattle.dac_bytes.specs.Spelling.{dot_bytes};
 ghost use Rattle.dac_part_bytes.specs.Spelling.{claim_bytes, claims_bytes, down_code, from_code, how_code, key_bytes, keyed_dots_bytes, keyed_permits_bytes, life_bytes, lives_bytes, manner_bytes, permit_bytes, permits_bytes, starts_bytes, value_code};
 
 use dac_base::{AppId, NoMemory, NodeId};
-use dac_bytes::ByteWriter;
+use dac_bytes::{ByteWriter, Version};
 use dac_chains::{Claim, Claims, How, Life, Lives};
 use dac_dots::{Dot, Origin};
 use dac_lattice::Flag;
 use dac_wishes::{Key, Permissions, Wishes};
 
-/// A key: its application in two bytes, its node in one and the incarnation in eight. [`NoMemory`] is the
+/// A key: its application in two bytes, its node in one, and the incarnation as the version has it. [`NoMemory`] is the
 /// only error; the writer is gone then.
 #[tactic(auto, unfolding(crate::specs::Spelling::key_bytes))]
-pub fn write_key(writer: ByteWriter, key: Key) -> Result<ByteWriter, NoMemory>
-    ensures { IfOk result (λ written. written ≡ writer ++ key_bytes key) }
+pub fn write_key(writer: ByteWriter, version: Version, key: Key) -> Result<ByteWriter, NoMemory>
+    ensures { IfOk result (λ written. written ≡ writer ++ key_bytes version key) }
 {
-    let written = writer.write_u16(key.app.0)?.write_origin(Origin {
-        node: key.node,
-        inc: key.inc,
-    })?;
+    let written = writer.write_u16(key.app.0)?.write_origin(
+        version,
+        Origin {
+            node: key.node,
+            inc: key.inc,
+        },
+    )?;
     Ok(written)
 }
 
@@ -34,10 +37,15 @@ fn value_code(flag: Flag) -> u8
 }
 
 #[tactic(auto, unfolding(crate::specs::Spelling::permit_bytes))]
-fn write_permit(writer: ByteWriter, dot: Dot, flag: Flag) -> Result<ByteWriter, NoMemory>
-    ensures { IfOk result (λ written. written ≡ writer ++ permit_bytes (dot, flag)) }
+fn write_permit(
+    writer: ByteWriter,
+    version: Version,
+    dot: Dot,
+    flag: Flag,
+) -> Result<ByteWriter, NoMemory>
+    ensures { IfOk result (λ written. written ≡ writer ++ permit_bytes version (dot, flag)) }
 {
-    let written = writer.write_dot(dot)?.write_u8(value_code(flag))?;
+    let written = writer.write_dot(version, dot)?.write_u8(value_code(flag))?;
     Ok(written)
 }
 
@@ -45,15 +53,16 @@ fn write_permit(writer: ByteWriter, dot: Dot, flag: Flag) -> Result<ByteWriter, 
 #[tactic(auto, unfolding(crate::specs::Spelling::keyed_permits_bytes))]
 fn write_permits(
     writer: ByteWriter,
+    version: Version,
     key: Key,
     permits: &[(Dot, Flag)],
 ) -> Result<ByteWriter, NoMemory>
-    ensures { IfOk result (λ written. written ≡ writer ++ keyed_permits_bytes (key, permits.now)) }
+    ensures { IfOk result (λ written. written ≡ writer ++ keyed_permits_bytes version (key, permits.now)) }
 {
-    let head = write_key(writer, key)?;
+    let head = write_key(writer, version, key)?;
     let mut written = head.write_count_u32(permits.len())?;
     for (dot, flag) in permits {
-        written = write_permit(written, *dot, *flag)?;
+        written = write_permit(written, version, *dot, *flag)?;
     }
     Ok(written)
 }
@@ -64,27 +73,33 @@ fn write_permits(
 #[tactic(auto, unfolding(crate::specs::Spelling::permits_bytes))]
 pub fn write_permissions(
     writer: ByteWriter,
+    version: Version,
     permissions: &Permissions,
 ) -> Result<ByteWriter, NoMemory>
-    ensures { IfOk result (λ written. written ≡ writer ++ permits_bytes permissions.now.standing) }
+    ensures { IfOk result (λ written. written ≡ writer ++ permits_bytes version permissions.now.standing) }
 {
     let entries = permissions.entries();
     let mut written = writer.write_count_u32(entries.len())?;
     for (key, permits) in entries {
-        written = write_permits(written, *key, permits.entries())?;
+        written = write_permits(written, version, *key, permits.entries())?;
     }
     Ok(written)
 }
 
 /// A key and the dots of its start wishes.
 #[tactic(auto, unfolding(crate::specs::Spelling::keyed_dots_bytes))]
-fn write_dots(writer: ByteWriter, key: Key, dots: &[Dot]) -> Result<ByteWriter, NoMemory>
-    ensures { IfOk result (λ written. written ≡ writer ++ keyed_dots_bytes (key, dots.now)) }
+fn write_dots(
+    writer: ByteWriter,
+    version: Version,
+    key: Key,
+    dots: &[Dot],
+) -> Result<ByteWriter, NoMemory>
+    ensures { IfOk result (λ written. written ≡ writer ++ keyed_dots_bytes version (key, dots.now)) }
 {
-    let head = write_key(writer, key)?;
+    let head = write_key(writer, version, key)?;
     let mut written = head.write_count_u32(dots.len())?;
     for dot in dots {
-        written = written.write_dot(*dot)?;
+        written = written.write_dot(version, *dot)?;
     }
     Ok(written)
 }
@@ -92,13 +107,17 @@ fn write_dots(writer: ByteWriter, key: Key, dots: &[Dot]) -> Result<ByteWriter, 
 /// The start wishes that stand: how many keys have wishes, and for each in ascending order an entry. An entry is the
 /// key, how many wishes it has, and their dots. [`NoMemory`] is the only error; the writer is gone then.
 #[tactic(auto, unfolding(crate::specs::Spelling::starts_bytes))]
-pub fn write_wishes(writer: ByteWriter, wishes: &Wishes) -> Result<ByteWriter, NoMemory>
-    ensures { IfOk result (λ written. written ≡ writer ++ starts_bytes wishes.now.standing) }
+pub fn write_wishes(
+    writer: ByteWriter,
+    version: Version,
+    wishes: &Wishes,
+) -> Result<ByteWriter, NoMemory>
+    ensures { IfOk result (λ written. written ≡ writer ++ starts_bytes version wishes.now.standing) }
 {
     let entries = wishes.entries();
     let mut written = writer.write_count_u32(entries.len())?;
     for (key, dots) in entries {
-        written = write_dots(written, *key, dots.dots())?;
+        written = write_dots(written, version, *key, dots.dots())?;
     }
     Ok(written)
 }
@@ -113,12 +132,17 @@ fn down_code(flag: Flag) -> u8
 }
 
 #[tactic(auto, unfolding(crate::specs::Spelling::life_bytes))]
-fn write_life(writer: ByteWriter, node: NodeId, life: Life) -> Result<ByteWriter, NoMemory>
-    ensures { IfOk result (λ written. written ≡ writer ++ life_bytes (node, life)) }
+fn write_life(
+    writer: ByteWriter,
+    version: Version,
+    node: NodeId,
+    life: Life,
+) -> Result<ByteWriter, NoMemory>
+    ensures { IfOk result (λ written. written ≡ writer ++ life_bytes version (node, life)) }
 {
     let written = writer
         .write_u8(node.0)?
-        .write_incarnation(life.inc)?
+        .write_incarnation(version, life.inc)?
         .write_u8(down_code(life.flag))?;
     Ok(written)
 }
@@ -126,13 +150,17 @@ fn write_life(writer: ByteWriter, node: NodeId, life: Life) -> Result<ByteWriter
 /// The lives: how many nodes have one, and for each in ascending order its life. That is the node, its incarnation,
 /// and 0 for up or 1 for down. [`NoMemory`] is the only error; the writer is gone then.
 #[tactic(auto, unfolding(crate::specs::Spelling::lives_bytes))]
-pub fn write_lives(writer: ByteWriter, lives: &Lives) -> Result<ByteWriter, NoMemory>
-    ensures { IfOk result (λ written. written ≡ writer ++ lives_bytes lives.now) }
+pub fn write_lives(
+    writer: ByteWriter,
+    version: Version,
+    lives: &Lives,
+) -> Result<ByteWriter, NoMemory>
+    ensures { IfOk result (λ written. written ≡ writer ++ lives_bytes version lives.now) }
 {
     let entries = lives.entries();
     let mut written = writer.write_count_u8(entries.len())?;
     for (node, greatest) in entries {
-        written = write_life(written, *node, greatest.value)?;
+        written = write_life(written, version, *node, greatest.value)?;
     }
     Ok(written)
 }
@@ -173,13 +201,18 @@ pub fn write_manner(
 }
 
 #[tactic(auto, unfolding(crate::specs::Spelling::claim_bytes))]
-fn write_claim(writer: ByteWriter, app: AppId, claim: Claim) -> Result<ByteWriter, NoMemory>
-    ensures { IfOk result (λ written. written ≡ writer ++ claim_bytes (app, claim)) }
+fn write_claim(
+    writer: ByteWriter,
+    version: Version,
+    app: AppId,
+    claim: Claim,
+) -> Result<ByteWriter, NoMemory>
+    ensures { IfOk result (λ written. written ≡ writer ++ claim_bytes version (app, claim)) }
 {
     let head = writer
         .write_u16(app.0)?
         .write_u64(claim.term)?
-        .write_origin(claim.origin)?;
+        .write_origin(version, claim.origin)?;
     let written = write_manner(head, claim.how, claim.from)?;
     Ok(written)
 }
@@ -188,13 +221,17 @@ fn write_claim(writer: ByteWriter, app: AppId, claim: Claim) -> Result<ByteWrite
 /// the term of its claim, who claims it, and how it came there. [`NoMemory`] is the only error; the writer is gone
 /// then.
 #[tactic(auto, unfolding(crate::specs::Spelling::claims_bytes))]
-pub fn write_claims(writer: ByteWriter, claims: &Claims) -> Result<ByteWriter, NoMemory>
-    ensures { IfOk result (λ written. written ≡ writer ++ claims_bytes claims.now) }
+pub fn write_claims(
+    writer: ByteWriter,
+    version: Version,
+    claims: &Claims,
+) -> Result<ByteWriter, NoMemory>
+    ensures { IfOk result (λ written. written ≡ writer ++ claims_bytes version claims.now) }
 {
     let entries = claims.entries();
     let mut written = writer.write_count_u16(entries.len())?;
     for (app, greatest) in entries {
-        written = write_claim(written, *app, greatest.value)?;
+        written = write_claim(written, version, *app, greatest.value)?;
     }
     Ok(written)
 }

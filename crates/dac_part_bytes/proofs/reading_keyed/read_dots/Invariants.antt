@@ -11,5 +11,5 @@ use Rattle.dac_part_bytes.proofs.reading_keyed.read_dots.Given as goal
 -- what was read with what is still to be read is the whole, and the items so far are below what may come
 abbrev pub invariant-loop : goal.invariant-loop
 invariant-loop l =
-    (with_front (in_order l.dots) (items_at (known_dot_at l.nodes l.known) (λ (d : Dot). Some d) (l.count - l.counter) l.before l.rest) ≡ items_at (known_dot_at l.nodes l.known) (λ (d : Dot). Some d) l.count None l.fn.reader)
+    (with_front (in_order l.dots) (items_at (known_dot_at l.version l.nodes l.known) (λ (d : Dot). Some d) (l.count - l.counter) l.before l.rest) ≡ items_at (known_dot_at l.version l.nodes l.known) (λ (d : Dot). Some d) l.count None l.fn.reader)
     × Reaches dot_cmp (λ (d : Dot). d) l.before (in_order l.dots)

@@ -11,5 +11,5 @@ use Rattle.dac_part_bytes.proofs.reading_keyed.read_keys_of_dots.Given as goal
 -- what was read with what is still to be read is the whole, and the items so far are below what may come
 abbrev pub invariant-loop : goal.invariant-loop
 invariant-loop l =
-    (with_front l.store (items_at (keyed_dots_at l.config l.known) (λ (e : Key × Dots). Some e.0) (l.count - l.counter) l.before l.rest) ≡ items_at (keyed_dots_at l.config l.known) (λ (e : Key × Dots). Some e.0) l.count None l.fn.reader)
+    (with_front l.store (items_at (keyed_dots_at l.version l.config l.known) (λ (e : Key × Dots). Some e.0) (l.count - l.counter) l.before l.rest) ≡ items_at (keyed_dots_at l.version l.config l.known) (λ (e : Key × Dots). Some e.0) l.count None l.fn.reader)
     × Reaches key_cmp (λ (e : Key × Dots). e.0) l.before l.store

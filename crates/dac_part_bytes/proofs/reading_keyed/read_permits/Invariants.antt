@@ -11,5 +11,5 @@ use Rattle.dac_part_bytes.proofs.reading_keyed.read_permits.Given as goal
 -- what was read with what is still to be read is the whole, and the items so far are below what may come
 abbrev pub invariant-loop : goal.invariant-loop
 invariant-loop l =
-    (with_front l.permits (items_at (permit_at l.nodes l.known) (λ (p : Dot × Flag). Some p.0) (l.count - l.counter) l.before l.rest) ≡ items_at (permit_at l.nodes l.known) (λ (p : Dot × Flag). Some p.0) l.count None l.fn.reader)
+    (with_front l.permits (items_at (permit_at l.version l.nodes l.known) (λ (p : Dot × Flag). Some p.0) (l.count - l.counter) l.before l.rest) ≡ items_at (permit_at l.version l.nodes l.known) (λ (p : Dot × Flag). Some p.0) l.count None l.fn.reader)
     × Reaches dot_cmp (λ (p : Dot × Flag). p.0) l.before l.permits

@@ -4,4 +4,4 @@ use Rattle.dac_part_bytes.specs.Spelling.{permit_bytes}
 use Rattle.dac_part_bytes.proofs.writing.write_permits.Given as goal
 
 abbrev pub invariant-loop-dot : goal.invariant-loop-dot
-invariant-loop-dot l = l.written ≡ l.initial.written ++ flat_map permit_bytes (take l.dot-index l.permits)
+invariant-loop-dot l = l.written ≡ l.initial.written ++ flat_map (permit_bytes l.version) (take l.dot-index l.permits)
