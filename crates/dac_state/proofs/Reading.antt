@@ -14,6 +14,7 @@ use Rattle.dac_meaning.specs.StateValue.{StateValue}
 use Rattle.dac_state.specs.StateForm.{IsInForm}
 use Rattle.dac_state.specs.StateReading.{dots_at, parts_at, state_at}
 use Rattle.dac_state.specs.StateSpelling.{spelling_of}
+use Rattle.dac_bytes.specs.declared.version.Version.TheVariants.{Two}
 
 not_true : (b : Bool) → (b ≡ true → ⊥) → b ≡ false
 not_true true h = absurd (h refl)
@@ -21,12 +22,12 @@ not_true false h = refl
 
 -- ---- the dots heard and the dots known
 
-module _ (nodes : ℕ) (r a b : Rest) (h k : Dots) (heard : context_at nodes r ≡ Ok (h, a)) (known : context_at nodes a ≡ Ok (k, b)) where
+module _ (nodes : ℕ) (r a b : Rest) (h k : Dots) (heard : context_at Two nodes r ≡ Ok (h, a)) (known : context_at Two nodes a ≡ Ok (k, b)) where
   -- what both contexts give, by whether the one is within the other
   dots_read : dots_at nodes r ≡ cond (set.is_subset h k) (Ok ((h, k), b)) (fault NotKnown b)
   unfolding dots_at
   dots_read =
-      ap (λ f. f >>= λ heard. context_at nodes heard.1 >>= λ known. cond (set.is_subset heard.0 known.0) (Ok ((heard.0, known.0), known.1)) (fault NotKnown known.1)) heard
+      ap (λ f. f >>= λ heard. context_at Two nodes heard.1 >>= λ known. cond (set.is_subset heard.0 known.0) (Ok ((heard.0, known.0), known.1)) (fault NotKnown known.1)) heard
       ∙ ap (λ f. f >>= λ known. cond (set.is_subset h known.0) (Ok ((h, known.0), known.1)) (fault NotKnown known.1)) known
 
   pub dots_within : IsSubset h k → dots_at nodes r ≡ Ok ((h, k), b)

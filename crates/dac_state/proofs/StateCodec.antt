@@ -20,32 +20,33 @@ use Rattle.dac_state.specs.StateForm.{IsInForm}
 use Rattle.dac_state.proofs.StatePieces.{dots_bytes, standing_bytes, chains_bytes, pieces_bytes, AreDots, AreStanding, AreChains, ArePieces}
 use Rattle.dac_state.specs.StateReading.{dots_at, standing_at, chains_at, pieces_at, parts_at, state_from}
 use Rattle.dac_state.specs.StateSpelling.{spelling_of}
+use Rattle.dac_bytes.specs.declared.version.Version.TheVariants.{Two}
 
 regroup : (a b c d e f : List ℕ) → (a ++ b) ++ ((c ++ d) ++ (e ++ f)) ≡ ((((a ++ b) ++ c) ++ d) ++ e) ++ f
 regroup a b c d e f = sym (simp append_assoc)
 
-module _ (t : Table) (parts : PartCodecs t) where
+module _ (t : Table) (parts : PartCodecs Two t) where
   abbrev nodes : ℕ
   nodes = node_count t
 
   -- ---- the dots heard and known
 
   abbrev contexts_at : Rest → Field (Dots × Dots)
-  contexts_at r = context_at nodes r >>= λ heard. context_at nodes heard.1 >>= λ known. Ok ((heard.0, known.0), known.1)
+  contexts_at r = context_at Two nodes r >>= λ heard. context_at Two nodes heard.1 >>= λ known. Ok ((heard.0, known.0), known.1)
 
   abbrev AreContexts : Dots × Dots → Type 0
-  AreContexts d = IsContext nodes d.0 × IsContext nodes d.1
+  AreContexts d = IsContext Two nodes d.0 × IsContext Two nodes d.1
 
   contexts_codec : IsCodec contexts_at dots_bytes AreContexts
   contexts_codec =
-      codec_pair (context_at nodes) context_bytes (IsContext nodes) parts.fields.context (λ _ r. context_at nodes r) (λ _. context_bytes) (λ _. IsContext nodes) (λ _ _. parts.fields.context)
+      codec_pair (context_at Two nodes) (context_bytes Two) (IsContext Two nodes) parts.fields.context (λ _ r. context_at Two nodes r) (λ _. context_bytes Two) (λ _. IsContext Two nodes) (λ _ _. parts.fields.context)
 
   dots_alike : (r : Rest) → dots_at nodes r ≡ (contexts_at r >>= λ d. cond (set.is_subset d.0.0 d.0.1) (Ok d) (fault NotKnown d.1))
   unfolding dots_at
   dots_alike r =
       let test = λ (d : (Dots × Dots) × Rest). cond (set.is_subset d.0.0 d.0.1) (Ok d) (fault NotKnown d.1) in
-      sym (bind_bind (context_at nodes r) (λ heard. context_at nodes heard.1 >>= λ known. Ok ((heard.0, known.0), known.1)) test
-      ∙ (λ i. context_at nodes r >>= λ heard. bind_bind (context_at nodes heard.1) (λ known. Ok ((heard.0, known.0), known.1)) test i))
+      sym (bind_bind (context_at Two nodes r) (λ heard. context_at Two nodes heard.1 >>= λ known. Ok ((heard.0, known.0), known.1)) test
+      ∙ (λ i. context_at Two nodes r >>= λ heard. bind_bind (context_at Two nodes heard.1) (λ known. Ok ((heard.0, known.0), known.1)) test i))
 
   dots_codec : IsCodec (dots_at nodes) dots_bytes (AreDots nodes)
   dots_codec =
@@ -61,13 +62,13 @@ module _ (t : Table) (parts : PartCodecs t) where
   standing_codec : (known : Dots) → IsCodec (standing_at t known) standing_bytes (AreStanding t known)
   unfolding standing_at
   standing_codec known =
-      codec_pair (all_permits_at t known) permits_bytes (ArePermitsInForm t known) (parts.permits known)
-      (λ _ r. all_starts_at t known r) (λ _. starts_bytes) (λ _. AreStartsInForm t known) (λ _ _. parts.starts known)
+      codec_pair (all_permits_at Two t known) (permits_bytes Two) (ArePermitsInForm Two t known) (parts.permits known)
+      (λ _ r. all_starts_at Two t known r) (λ _. starts_bytes Two) (λ _. AreStartsInForm Two t known) (λ _ _. parts.starts known)
 
   chains_codec : IsCodec (chains_at t) chains_bytes (AreChains t)
   unfolding chains_at
   chains_codec =
-      codec_pair (all_lives_at nodes) lives_bytes (AreLivesInForm nodes) parts.lives (λ _ r. all_claims_at t r) (λ _. claims_bytes) (λ _. AreClaimsInForm t) (λ _ _. parts.claims)
+      codec_pair (all_lives_at Two nodes) (lives_bytes Two) (AreLivesInForm Two nodes) parts.lives (λ _ r. all_claims_at Two t r) (λ _. claims_bytes Two) (λ _. AreClaimsInForm Two t) (λ _ _. parts.claims)
 
   pieces_codec : (known : Dots) → IsCodec (pieces_at t known) pieces_bytes (ArePieces t known)
   unfolding pieces_at
@@ -83,7 +84,7 @@ module _ (t : Table) (parts : PartCodecs t) where
       codec_both (dots_at nodes) dots_bytes (AreDots nodes) dots_codec (λ dots r. pieces_at t dots.1 r) (λ _. pieces_bytes) (λ dots. ArePieces t dots.1) (λ dots _. pieces_codec dots.1)
       state_from spelling_of (IsInForm t)
       (λ d p is so. (
-        regroup (context_bytes d.0) (context_bytes d.1) (permits_bytes p.0.0) (starts_bytes p.0.1) (lives_bytes p.1.0) (claims_bytes p.1.1),
+        regroup (context_bytes Two d.0) (context_bytes Two d.1) (permits_bytes Two p.0.0) (starts_bytes Two p.0.1) (lives_bytes Two p.1.0) (claims_bytes Two p.1.1),
         record { heard = is.0.0; known = is.0.1; within = is.1; permits = so.0.0; starts = so.0.1; lives = so.1.0; claims = so.1.1; drains = refl },
       ))
       (λ s is. (

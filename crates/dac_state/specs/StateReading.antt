@@ -13,26 +13,27 @@ use Rattle.dac_bytes.specs.declared.fault.ReadFaultKind.TheVariants.{NotKnown, T
 use Rattle.dac_bytes.specs.Reading.{Rest, Field, whole, fault, ◌>>=◌, context_at}
 use Rattle.dac_part_bytes.specs.Reading.{all_permits_at, all_starts_at, all_lives_at, all_claims_at}
 use Rattle.dac_meaning.specs.StateValue.{StateValue}
+use Rattle.dac_bytes.specs.declared.version.Version.TheVariants.{Two}
 
 -- the dots heard and the dots known, among which these are
 unfoldable pub dots_at : ℕ → Rest → Field (Dots × Dots)
 dots_at nodes r = do
-  heard ← context_at nodes r
-  known ← context_at nodes heard.1
+  heard ← context_at Two nodes r
+  known ← context_at Two nodes heard.1
   if set.is_subset heard.0 known.0 then Ok ((heard.0, known.0), known.1) else fault NotKnown known.1
 
 -- what stands among the dots known: permits, and start wishes
 unfoldable pub standing_at : Table → Dots → Rest → Field (Permits × Writes)
 standing_at t known r = do
-  permits ← all_permits_at t known r
-  starts ← all_starts_at t known permits.1
+  permits ← all_permits_at Two t known r
+  starts ← all_starts_at Two t known permits.1
   Ok ((permits.0, starts.0), starts.1)
 
 -- lives, and claims
 unfoldable pub chains_at : Table → Rest → Field (Lives × Claims)
 chains_at t r = do
-  lives ← all_lives_at (node_count t) r
-  claims ← all_claims_at t lives.1
+  lives ← all_lives_at Two (node_count t) r
+  claims ← all_claims_at Two t lives.1
   Ok ((lives.0, claims.0), claims.1)
 
 -- what stands, and what only grows

@@ -4,7 +4,7 @@ ghost use Rattle.dac_state.specs.StateSpelling.{spelling_of};
 
 use crate::state::State;
 use dac_base::NoMemory;
-use dac_bytes::ByteWriter;
+use dac_bytes::{ByteWriter, Version};
 use dac_part_bytes::{write_claims, write_lives, write_permissions, write_wishes};
 
 impl State {
@@ -24,12 +24,12 @@ impl State {
         ensures { IfOk result (λ written. written ≡ writer ++ spelling_of self.now) }
     {
         let dots = writer
-            .write_context(self.heard())?
-            .write_context(self.known())?;
-        let permits = write_permissions(dots, self.permissions())?;
-        let wishes = write_wishes(permits, self.wishes())?;
-        let lives = write_lives(wishes, self.lives())?;
-        let whole = write_claims(lives, self.claims())?;
+            .write_context(Version::Two, self.heard())?
+            .write_context(Version::Two, self.known())?;
+        let permits = write_permissions(dots, Version::Two, self.permissions())?;
+        let wishes = write_wishes(permits, Version::Two, self.wishes())?;
+        let lives = write_lives(wishes, Version::Two, self.lives())?;
+        let whole = write_claims(lives, Version::Two, self.claims())?;
         Ok(whole)
     }
 }

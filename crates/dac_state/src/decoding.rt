@@ -11,7 +11,7 @@ ghost use Rattle.dac_state.specs.StateReading.{dots_at, standing_at, chains_at, 
 use crate::laws::states_have_one_spelling;
 use crate::parts::Parts;
 use crate::state::State;
-use dac_bytes::{ByteReader, ReadFault, ReadFaultKind};
+use dac_bytes::{ByteReader, ReadFault, ReadFaultKind, Version};
 use dac_chains::{Claims, Lives};
 use dac_contexts::Context;
 use dac_lattice::Lattice;
@@ -29,8 +29,8 @@ fn read_dots<'a>(
     ensures exact { Gives (λ x. x) result (dots_at nodes reader.entry) }
     ensures within { IfOk result (λ x. IsSubset x.0.0 x.0.1) }
 {
-    let (heard, rest) = reader.read_context(alloc, nodes)?;
-    let (known, rest) = rest.read_context(alloc, nodes)?;
+    let (heard, rest) = reader.read_context(alloc, Version::Two, nodes)?;
+    let (known, rest) = rest.read_context(alloc, Version::Two, nodes)?;
     if heard.is_subset(&known) {
         return Ok(((heard, known), rest));
     }
@@ -52,8 +52,8 @@ fn read_standing<'a>(
     ensures permitted { IfOk result (λ x. x.0.0.known ≡ known.now) }
     ensures wished { IfOk result (λ x. x.0.1.known ≡ known.now) }
 {
-    let (permissions, rest) = read_permissions(reader, alloc, config, known)?;
-    let (wishes, rest) = read_wishes(rest, alloc, config, known)?;
+    let (permissions, rest) = read_permissions(reader, alloc, Version::Two, config, known)?;
+    let (wishes, rest) = read_wishes(rest, alloc, Version::Two, config, known)?;
     Ok(((permissions, wishes), rest))
 }
 
@@ -66,8 +66,8 @@ fn read_chains<'a>(
 ) -> Result<((Lives, Claims), ByteReader<'a>), ReadFault>
     ensures { Gives (λ x. x) result (chains_at config.now reader.entry) }
 {
-    let (lives, rest) = read_lives(reader, alloc, config)?;
-    let (claims, rest) = read_claims(rest, alloc, config)?;
+    let (lives, rest) = read_lives(reader, alloc, Version::Two, config)?;
+    let (claims, rest) = read_claims(rest, alloc, Version::Two, config)?;
     Ok(((lives, claims), rest))
 }
 

@@ -22,6 +22,7 @@ use Rattle.dac_wire.specs.Form.{IsPacket}
 use Rattle.dac_wire.specs.Spelling.{spelling_of}
 use Rattle.dac_wire.specs.laws.Fronts.{IsReal, front_real}
 use Rattle.dac_wire.specs.laws.PacketLaws.{packet_found, packet_again}
+use Rattle.dac_bytes.specs.declared.version.Version.TheVariants.{Two}
 
 -- what isn't `NoMemory` is the fault that reading gives
 fails_with : {X : Type 0} (kind : WireFaultKind) (e : WireFault) (read : Result X WireFault) → ¬ (kind ≡ NoMemory) → read ≡ Err e → Fails kind e read
@@ -54,7 +55,7 @@ module _ (t : Table) (bytes : List ℕ) where
   unfolding packet_at
   gives_fields result is gives = subst (Gives result) (sym (ap (λ f. unless f (in_packet (fields_at t (after PREAMBLE (whole bytes))))) is)) gives
 
-  module _ (parts : PartCodecs t) (states : IsCodec (parts_at t) state.spelling_of (IsInForm t)) where
+  module _ (parts : PartCodecs Two t) (states : IsCodec (parts_at t) state.spelling_of (IsInForm t)) where
     -- what the fields give is spelled by the bytes, and in form
     pub found_fields : IsBytes bytes → front_fault t bytes ≡ None → (result : Result Packet WireFault) → Gives result (in_packet (fields_at t (after PREAMBLE (whole bytes))))
         → IfOk result (λ p. IsPacket t p × (bytes ≡ spelling_of t p) × (length bytes ≤ MAX_MESSAGE))

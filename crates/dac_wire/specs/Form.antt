@@ -23,6 +23,7 @@ use Rattle.dac_operations.specs.declared.act.Act.TheVariants.{Up, Down, Permit, 
 use Rattle.dac_operations.specs.Operations.{Operation, fault_of}
 use Rattle.dac_wire.specs.declared.packet.Packet.{Packet}
 use Rattle.dac_wire.specs.declared.packet.Packet.TheVariants as packet
+use Rattle.dac_bytes.specs.declared.version.Version.TheVariants.{Two}
 
 -- ---- messages
 
@@ -35,12 +36,12 @@ is_whole Nothing = false
 -- a message is for any incarnation exactly where it brings a whole state, and else for one alone
 abbrev pub IsOnly : Bool → Option ℕ → Type 0
 IsOnly true only = only ≡ None
-IsOnly false only = (inc : ℕ) × (only ≡ Some inc) × IsIncarnation inc
+IsOnly false only = (inc : ℕ) × (only ≡ Some inc) × IsIncarnation Two inc
 
 -- what was got, if anything, is of an incarnation of a node that there is, and a number that there can be
 abbrev pub IsAck : ℕ → Option (Origin × ℕ) → Type 0
 IsAck nodes None = Unit {0}
-IsAck nodes (Some ack) = IsOrigin nodes ack.0 × (ack.1 ≤ MAX_COUNTER)
+IsAck nodes (Some ack) = IsOrigin Two nodes ack.0 × (ack.1 ≤ MAX_COUNTER)
 
 -- the state that it brings, if any, is in form
 abbrev pub IsBody : Table → Body → Type 0
@@ -51,7 +52,7 @@ IsBody t Nothing = Unit {0}
 -- a message that can be read
 pub record IsMessage (t : Table) (m : Message) : Type 0 where
   -- an incarnation of a node that there is
-  pub from : IsOrigin (node_count t) m.from
+  pub from : IsOrigin Two (node_count t) m.from
   -- a node that there is
   pub to : m.to.0 < node_count t
   pub only : IsOnly (is_whole m.body) m.only
@@ -64,7 +65,7 @@ pub record IsMessage (t : Table) (m : Message) : Type 0 where
 
 -- dots that there can be, in ascending order, and so many that their number fits its field
 pub record AreOver (nodes : ℕ) (over : List Dot) : Type 0 where
-  pub each : AllByRecursion (IsDot nodes) over
+  pub each : AllByRecursion (IsDot Two nodes) over
   pub rising : IsRising dot_cmp over
   pub count : length over < 2 ^ 16
 
@@ -83,16 +84,16 @@ pub record IsClaim (t : Table) (issuer : NodeId) (claimed : AppId) (number : ℕ
 -- the act of a node
 abbrev pub IsAct : Table → NodeId → Act → Type 0
 IsAct t issuer Up = Unit {0}
-IsAct t issuer (Down node inc) = (node.0 < node_count t) × IsIncarnation inc
-IsAct t issuer (Permit key value over) = IsKey t key × AreOver (node_count t) over
-IsAct t issuer (Start key over) = IsKey t key × AreOver (node_count t) over
-IsAct t issuer (Stop key over) = IsKey t key × AreOver (node_count t) over
+IsAct t issuer (Down node inc) = (node.0 < node_count t) × IsIncarnation Two inc
+IsAct t issuer (Permit key value over) = IsKey Two t key × AreOver (node_count t) over
+IsAct t issuer (Start key over) = IsKey Two t key × AreOver (node_count t) over
+IsAct t issuer (Stop key over) = IsKey Two t key × AreOver (node_count t) over
 IsAct t issuer (Claim app term how from) = IsClaim t issuer app term how from
 
 -- an operation that can be read
 pub record IsOperation (t : Table) (o : Operation) : Type 0 where
   -- a dot that there can be
-  pub dot : IsDot (node_count t) o.dot
+  pub dot : IsDot Two (node_count t) o.dot
   pub act : IsAct t o.dot.origin.node o.act
   -- nothing keeps the two from being an operation
   pub sound : fault_of o.dot o.act ≡ None

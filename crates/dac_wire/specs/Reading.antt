@@ -29,13 +29,14 @@ use Rattle.dac_wire.specs.declared.codes.ActKind.TheVariants.{Up, Down, Permit, 
 use Rattle.dac_wire.specs.declared.head.Head.{Head}
 use Rattle.dac_wire.specs.declared.packet.Packet.{Packet}
 use Rattle.dac_wire.specs.declared.packet.Packet.TheVariants as packet
+use Rattle.dac_bytes.specs.declared.version.Version.TheVariants.{Two}
 
 -- ---- the head of a message
 
 -- who ships it, and for which node
 unfoldable pub route_at : ℕ → Rest → Field (Origin × NodeId)
 route_at nodes r = do
-  from ← origin_at nodes r
+  from ← origin_at Two nodes r
   to ← node_at nodes from.1
   Ok ((from.0, to.0), to.1)
 
@@ -63,7 +64,7 @@ deltas_at r = range_at w64 0 MAX_COUNTER r
 -- an incarnation, and how many deltas it had
 unfoldable pub got_at : ℕ → Rest → Field (Origin × ℕ)
 got_at nodes r = do
-  origin ← origin_at nodes r
+  origin ← origin_at Two nodes r
   n ← deltas_at origin.1
   Ok ((origin.0, n.0), n.1)
 
@@ -110,12 +111,12 @@ head_at nodes whole r = do
 
 -- the dots that an act replaces, each above the one before it
 unfoldable pub over_at : ℕ → Rest → Field (List Dot)
-over_at nodes r = counted_at (number_at w16) (dot_above_at nodes) (λ (d : Dot). d) r
+over_at nodes r = counted_at (number_at w16) (dot_above_at Two nodes) (λ (d : Dot). d) r
 
 -- a key, and the dots
 unfoldable pub keyed_over_at : Table → Rest → Field (Key × List Dot)
 keyed_over_at t r = do
-  key ← key_above_at t None r
+  key ← key_above_at Two t None r
   over ← over_at (node_count t) key.1
   Ok ((key.0, over.0), over.1)
 
@@ -129,7 +130,7 @@ valued_over_at nodes r = do
 -- a key, what a permit says, and the dots
 unfoldable pub permit_fields_at : Table → Rest → Field (Key × (Bool × List Dot))
 permit_fields_at t r = do
-  key ← key_above_at t None r
+  key ← key_above_at Two t None r
   valued ← valued_over_at (node_count t) key.1
   Ok ((key.0, valued.0), valued.1)
 
@@ -161,7 +162,7 @@ listed_claim_at t issuer r = do
 unfoldable pub act_fields_at : Table → NodeId → ActKind → Rest → Field Act
 act_fields_at t issuer Up r = Ok (UpAct, r)
 act_fields_at t issuer Down r = do
-  o ← origin_at (node_count t) r
+  o ← origin_at Two (node_count t) r
   Ok (DownAct o.0.node o.0.inc, o.1)
 act_fields_at t issuer Permit r = do
   p ← permit_fields_at t r
@@ -192,7 +193,7 @@ act_at t issuer r = do
 -- a dot, and the act of its node
 unfoldable pub dot_and_act_at : Table → Rest → Field Operation
 dot_and_act_at t r = do
-  dot ← dot_at (node_count t) r
+  dot ← dot_at Two (node_count t) r
   act ← act_at t dot.0.origin.node dot.1
   Ok (operation dot.0 act.0, act.1)
 

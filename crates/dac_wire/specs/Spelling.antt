@@ -19,6 +19,7 @@ use Rattle.dac_operations.specs.Operations.{Operation}
 use Rattle.dac_wire.specs.Codes.{packet_code, kind_of_packet, act_code, kind_of_act, value_code, only_code}
 use Rattle.dac_wire.specs.declared.packet.Packet.{Packet}
 use Rattle.dac_wire.specs.declared.packet.Packet.TheVariants as packet
+use Rattle.dac_bytes.specs.declared.version.Version.TheVariants.{Two}
 
 -- ---- what each packet begins with
 
@@ -43,7 +44,7 @@ preamble_bytes t = magic ++ u8_bytes version ++ u64_bytes (mark_of t)
 -- what was got of the receiver: 0 for nothing, or 1, its incarnation, and how many deltas that had
 unfoldable pub ack_bytes : Option (Origin × ℕ) → List ℕ
 ack_bytes None = u8_bytes 0
-ack_bytes (Some ack) = u8_bytes 1 ++ origin_bytes ack.0 ++ u64_bytes ack.1
+ack_bytes (Some ack) = u8_bytes 1 ++ origin_bytes Two ack.0 ++ u64_bytes ack.1
 
 -- the state that a message brings, if any
 unfoldable pub body_bytes : Body → List ℕ
@@ -54,21 +55,21 @@ body_bytes Nothing = []
 -- Who ships it, for which node, for which incarnation of it, and how many deltas the sender had. Then what it got of
 -- the receiver, and what it brings
 unfoldable pub message_bytes : Message → List ℕ
-message_bytes m = origin_bytes m.from ++ u8_bytes m.to.0 ++ incarnation_bytes (only_code m.only) ++ u64_bytes m.up_to ++ ack_bytes m.ack ++ body_bytes m.body
+message_bytes m = origin_bytes Two m.from ++ u8_bytes m.to.0 ++ incarnation_bytes Two (only_code m.only) ++ u64_bytes m.up_to ++ ack_bytes m.ack ++ body_bytes m.body
 
 -- ---- operations
 
 -- how many dots, and these
 unfoldable pub over_bytes : List Dot → List ℕ
-over_bytes over = u16_bytes (length over) ++ flat_map dot_bytes over
+over_bytes over = u16_bytes (length over) ++ flat_map (dot_bytes Two) over
 
 -- the fields of an act
 unfoldable pub act_fields_bytes : Act → List ℕ
 act_fields_bytes Up = []
-act_fields_bytes (Down node inc) = u8_bytes node.0 ++ incarnation_bytes inc
-act_fields_bytes (Permit key value over) = key_bytes key ++ u8_bytes (value_code value) ++ over_bytes over
-act_fields_bytes (Start key over) = key_bytes key ++ over_bytes over
-act_fields_bytes (Stop key over) = key_bytes key ++ over_bytes over
+act_fields_bytes (Down node inc) = u8_bytes node.0 ++ incarnation_bytes Two inc
+act_fields_bytes (Permit key value over) = key_bytes Two key ++ u8_bytes (value_code value) ++ over_bytes over
+act_fields_bytes (Start key over) = key_bytes Two key ++ over_bytes over
+act_fields_bytes (Stop key over) = key_bytes Two key ++ over_bytes over
 act_fields_bytes (Claim app term how from) = app_bytes app ++ u64_bytes term ++ manner_bytes how from
 
 -- which act it is, and its fields
@@ -77,7 +78,7 @@ act_bytes a = u8_bytes (act_code (kind_of_act a)) ++ act_fields_bytes a
 
 -- the dot that names it, and the act
 unfoldable pub operation_bytes : Operation → List ℕ
-operation_bytes o = dot_bytes o.dot ++ act_bytes o.act
+operation_bytes o = dot_bytes Two o.dot ++ act_bytes o.act
 
 -- ---- packets
 

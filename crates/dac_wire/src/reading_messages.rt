@@ -8,7 +8,7 @@ use crate::head::Head;
 use crate::packet::Packet;
 use crate::reading_operations::read_operation;
 use dac_base::{MAX_COUNTER, MAX_INCARNATION, NodeId};
-use dac_bytes::{ByteReader, ReadFault, ReadFaultKind};
+use dac_bytes::{ByteReader, ReadFault, ReadFaultKind, Version};
 use dac_config::Config;
 use dac_dots::Origin;
 use dac_messages::{Body, Message};
@@ -24,7 +24,7 @@ fn read_route<'a>(
     ensures exact { result ≡ route_at nodes reader.entry }
     ensures real { IsOfBytes result }
 {
-    let (from, rest) = reader.read_origin(nodes)?;
+    let (from, rest) = reader.read_origin(Version::Two, nodes)?;
     let (to, rest) = rest.read_node(nodes)?;
     Ok(((from, to), rest))
 }
@@ -76,7 +76,7 @@ fn read_got<'a>(
     ensures exact { result ≡ got_at nodes reader.entry }
     ensures real { IsOfBytes result }
 {
-    let (origin, rest) = reader.read_origin(nodes)?;
+    let (origin, rest) = reader.read_origin(Version::Two, nodes)?;
     let (count, rest) = rest.read_u64_in(0, MAX_COUNTER)?;
     Ok(((origin, count), rest))
 }

@@ -4,10 +4,11 @@ ghost use Rattle.dac_base.specs.declared.NodeId.{NodeId};
 ghost use Rattle.dac_config.specs.Table.{app_count};
 ghost use Rattle.dac_bytes.specs.Reading.{Gives, IsOfBytes, dot_above_at, items_at};
 ghost use Rattle.dac_wire.specs.Reading.{act_at, act_fields_at, act_kind_at, claim_fields_at, dot_and_act_at, keyed_over_at, listed_claim_at, operation_at, over_at, permit_fields_at, term_and_manner_at, valued_over_at};
+ghost use Rattle.dac_bytes.specs.declared.version.Version.TheVariants.{Two};
 
 use crate::codes::{ActKind, act_of_code, value_of_code};
 use dac_base::{AppId, MAX_COUNTER, NodeId};
-use dac_bytes::{ByteReader, ReadFault, ReadFaultKind};
+use dac_bytes::{ByteReader, ReadFault, ReadFaultKind, Version};
 use dac_chains::How;
 use dac_config::Config;
 use dac_dots::Dot;
@@ -23,13 +24,13 @@ fn read_dots<'a>(
     nodes: u8,
     count: u16,
 ) -> Result<(Vec<Dot>, ByteReader<'a>), ReadFault>
-    ensures { Gives (λ x. (x.0.items, x.1)) result (items_at (dot_above_at nodes) Some count None reader.entry) }
+    ensures { Gives (λ x. (x.0.items, x.1)) result (items_at (dot_above_at Two nodes) Some count None reader.entry) }
 {
     let mut dots = Vec::new(alloc);
     let mut before = None;
     let mut rest = reader;
     for _ in 0..count {
-        let (dot, after) = rest.read_dot_above(nodes, before)?;
+        let (dot, after) = rest.read_dot_above(Version::Two, nodes, before)?;
         dots.push(dot)?;
         before = Some(dot);
         rest = after;
@@ -60,7 +61,7 @@ fn read_keyed_over<'a>(
 ) -> Result<((Key, DotList), ByteReader<'a>), ReadFault>
     ensures { Gives (λ x. x) result (keyed_over_at config.now reader.entry) }
 {
-    let (key, rest) = read_key(reader, config, None)?;
+    let (key, rest) = read_key(reader, Version::Two, config, None)?;
     let (over, rest) = read_over(rest, alloc, config.nodes())?;
     Ok(((key, over), rest))
 }
@@ -88,7 +89,7 @@ fn read_permit_fields<'a>(
 ) -> Result<((Key, (bool, DotList)), ByteReader<'a>), ReadFault>
     ensures { Gives (λ x. x) result (permit_fields_at config.now reader.entry) }
 {
-    let (key, rest) = read_key(reader, config, None)?;
+    let (key, rest) = read_key(reader, Version::Two, config, None)?;
     let (valued, rest) = read_valued_over(rest, alloc, config.nodes())?;
     Ok(((key, valued), rest))
 }
@@ -168,7 +169,7 @@ fn read_act_fields<'a>(
     match kind {
         ActKind::Up => Ok((Act::Up, reader)),
         ActKind::Down => {
-            let (about, rest) = reader.read_origin(config.nodes())?;
+            let (about, rest) = reader.read_origin(Version::Two, config.nodes())?;
             let down = Act::Down {
                 node: about.node,
                 inc: about.inc,
@@ -224,7 +225,7 @@ fn read_dot_and_act<'a>(
 ) -> Result<((Dot, Act), ByteReader<'a>), ReadFault>
     ensures { Gives (λ x. (record { dot = x.0.0; act = x.0.1 }, x.1)) result (dot_and_act_at config.now reader.entry) }
 {
-    let (dot, rest) = reader.read_dot(config.nodes())?;
+    let (dot, rest) = reader.read_dot(Version::Two, config.nodes())?;
     let (act, rest) = read_act(rest, alloc, config, dot.origin.node)?;
     Ok(((dot, act), rest))
 }

@@ -5,7 +5,7 @@ ghost use Rattle.dac_wire.specs.Spelling.{ack_bytes, act_bytes, act_fields_bytes
 use crate::codes::{act_code, kind_of_act, only_code, value_code};
 use crate::packet::Packet;
 use dac_base::NoMemory;
-use dac_bytes::ByteWriter;
+use dac_bytes::{ByteWriter, Version};
 use dac_dots::{Dot, Origin};
 use dac_messages::{Body, Message};
 use dac_operations::{Act, Op};
@@ -22,7 +22,10 @@ fn write_ack(writer: ByteWriter, ack: Option<(Origin, u64)>) -> Result<ByteWrite
             Ok(written)
         }
         Some((origin, count)) => {
-            let written = writer.write_u8(1)?.write_origin(origin)?.write_u64(count)?;
+            let written = writer
+                .write_u8(1)?
+                .write_origin(Version::Two, origin)?
+                .write_u64(count)?;
             Ok(written)
         }
     }
@@ -48,9 +51,9 @@ fn write_message(writer: ByteWriter, message: &Message) -> Result<ByteWriter, No
     ensures { IfOk result (λ written. written ≡ writer ++ message_bytes message.now) }
 {
     let head = writer
-        .write_origin(message.from)?
+        .write_origin(Version::Two, message.from)?
         .write_u8(message.to.0)?
-        .write_incarnation(only_code(message.only))?
+        .write_incarnation(Version::Two, only_code(message.only))?
         .write_u64(message.up_to)?;
     let acked = write_ack(head, message.ack)?;
     let written = write_body(acked, &message.body)?;
@@ -64,7 +67,7 @@ fn write_over(writer: ByteWriter, over: &[Dot]) -> Result<ByteWriter, NoMemory>
 {
     let mut written = writer.write_count_u16(over.len())?;
     for dot in over {
-        written = written.write_dot(*dot)?;
+        written = written.write_dot(Version::Two, *dot)?;
     }
     Ok(written)
 }
@@ -77,16 +80,18 @@ fn write_act_fields(writer: ByteWriter, act: &Act) -> Result<ByteWriter, NoMemor
     match act {
         Act::Up => Ok(writer),
         Act::Down { node, inc } => {
-            let written = writer.write_u8(node.0)?.write_incarnation(*inc)?;
+            let written = writer
+                .write_u8(node.0)?
+                .write_incarnation(Version::Two, *inc)?;
             Ok(written)
         }
         Act::Permit { key, value, over } => {
-            let head = write_key(writer, *key)?.write_u8(value_code(*value))?;
+            let head = write_key(writer, Version::Two, *key)?.write_u8(value_code(*value))?;
             let written = write_over(head, over.as_slice())?;
             Ok(written)
         }
         Act::Start { key, over } | Act::Stop { key, over } => {
-            let written = write_over(write_key(writer, *key)?, over.as_slice())?;
+            let written = write_over(write_key(writer, Version::Two, *key)?, over.as_slice())?;
             Ok(written)
         }
         Act::Claim {
@@ -108,7 +113,7 @@ fn write_operation(writer: ByteWriter, op: &Op) -> Result<ByteWriter, NoMemory>
     ensures { IfOk result (λ written. written ≡ writer ++ operation_bytes op.now) }
 {
     let head = writer
-        .write_dot(op.dot())?
+        .write_dot(Version::Two, op.dot())?
         .write_u8(act_code(kind_of_act(op.act())))?;
     let written = write_act_fields(head, op.act())?;
     Ok(written)

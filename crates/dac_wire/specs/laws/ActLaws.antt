@@ -37,10 +37,11 @@ use Rattle.dac_wire.specs.Spelling.{over_bytes, act_fields_bytes, act_bytes, ope
 use Rattle.dac_wire.specs.declared.codes.ActKind.{ActKind}
 use Rattle.dac_wire.specs.declared.codes.ActKind.TheVariants.{Up, Down, Permit, Start, Stop, Claim}
 use Rattle.dac_wire.specs.laws.CodeLaws.{IsAny, act_kind_bytes, act_kind_codec, value_number, value_fits, value_back}
+use Rattle.dac_bytes.specs.declared.version.Version.TheVariants.{Two}
 
 -- ---- the dots that an act replaces
 
-module _ (nodes : ℕ) (fields : FieldCodecs nodes) where
+module _ (nodes : ℕ) (fields : FieldCodecs Two nodes) where
   abbrev itself : Dot → Dot
   itself d = d
 
@@ -48,7 +49,7 @@ module _ (nodes : ℕ) (fields : FieldCodecs nodes) where
   IsCount n = n < 2 ^ 16
 
   abbrev AreDots : List Dot → Type 0
-  AreDots = AreCounted dots_total itself (IsDot nodes) (dot_above_at nodes) (number_at w16) u16_bytes dot_bytes IsCount
+  AreDots = AreCounted dots_total itself (IsDot Two nodes) (dot_above_at Two nodes) (number_at w16) u16_bytes (dot_bytes Two) IsCount
 
   over_is : (over : List Dot) → AreDots over → AreOver nodes over
   over_is over is = record { each = is.1; rising = subst (IsRising dot_cmp) (map-id over) is.2; count = is.0 }
@@ -60,7 +61,7 @@ module _ (nodes : ℕ) (fields : FieldCodecs nodes) where
   unfolding over_at over_bytes
   over_codec =
       codec_same (over_at nodes) over_bytes AreDots
-      (counted_codec dots_total itself (IsDot nodes) (dot_above_at nodes) (number_at w16) u16_bytes dot_bytes IsCount fields.u16 fields.dot_above)
+      (counted_codec dots_total itself (IsDot Two nodes) (dot_above_at Two nodes) (number_at w16) u16_bytes (dot_bytes Two) IsCount fields.u16 fields.dot_above)
       (AreOver nodes) over_is dots_are
 
   -- ---- what a permit says
@@ -102,39 +103,39 @@ is_none_from : {X : Type 0} (o : Option X) → is_none o ≡ true → o ≡ None
 is_none_from None e = refl
 is_none_from (Some x) e = absurd cc
 
-module _ (t : Table) (parts : PartCodecs t) where
+module _ (t : Table) (parts : PartCodecs Two t) where
   abbrev nodes : ℕ
   nodes = node_count t
 
-  abbrev fields : FieldCodecs nodes
+  abbrev fields : FieldCodecs Two nodes
   fields = parts.fields
 
   -- a key alone
-  key_codec : IsCodec (key_above_at t None) key_bytes (IsKey t)
-  key_codec = codec_same (key_above_at t None) key_bytes (IsKeyAbove t None) (parts.key None) (IsKey t) (λ key is. is.0) (λ key is. (is, refl))
+  key_codec : IsCodec (key_above_at Two t None) (key_bytes Two) (IsKey Two t)
+  key_codec = codec_same (key_above_at Two t None) (key_bytes Two) (IsKeyAbove Two t None) (parts.key None) (IsKey Two t) (λ key is. is.0) (λ key is. (is, refl))
 
   -- ---- keys with dots
 
   abbrev keyed_bytes : Key × List Dot → List ℕ
-  keyed_bytes k = key_bytes k.0 ++ over_bytes k.1
+  keyed_bytes k = key_bytes Two k.0 ++ over_bytes k.1
 
   abbrev IsKeyed : Key × List Dot → Type 0
-  IsKeyed k = IsKey t k.0 × AreOver nodes k.1
+  IsKeyed k = IsKey Two t k.0 × AreOver nodes k.1
 
   keyed_over_codec : IsCodec (keyed_over_at t) keyed_bytes IsKeyed
   unfolding keyed_over_at
-  keyed_over_codec = codec_pair (key_above_at t None) key_bytes (IsKey t) key_codec (λ _ r. over_at nodes r) (λ _. over_bytes) (λ _. AreOver nodes) (λ _ _. over_codec nodes fields)
+  keyed_over_codec = codec_pair (key_above_at Two t None) (key_bytes Two) (IsKey Two t) key_codec (λ _ r. over_at nodes r) (λ _. over_bytes) (λ _. AreOver nodes) (λ _ _. over_codec nodes fields)
 
   abbrev permit_bytes : Key × (Bool × List Dot) → List ℕ
-  permit_bytes p = key_bytes p.0 ++ valued_bytes nodes fields p.1
+  permit_bytes p = key_bytes Two p.0 ++ valued_bytes nodes fields p.1
 
   abbrev IsPermit : Key × (Bool × List Dot) → Type 0
-  IsPermit p = IsKey t p.0 × AreOver nodes p.1.1
+  IsPermit p = IsKey Two t p.0 × AreOver nodes p.1.1
 
   permit_fields_codec : IsCodec (permit_fields_at t) permit_bytes IsPermit
   unfolding permit_fields_at
   permit_fields_codec =
-      codec_pair (key_above_at t None) key_bytes (IsKey t) key_codec (λ _ r. valued_over_at nodes r) (λ _. valued_bytes nodes fields) (λ _. IsValued nodes fields) (λ _ _. valued_over_codec nodes fields)
+      codec_pair (key_above_at Two t None) (key_bytes Two) (IsKey Two t) key_codec (λ _ r. valued_over_at nodes r) (λ _. valued_bytes nodes fields) (λ _. IsValued nodes fields) (λ _ _. valued_over_codec nodes fields)
 
   -- ---- claims
 
@@ -181,10 +182,10 @@ module _ (t : Table) (parts : PartCodecs t) where
     unfolding act_fields_at act_fields_bytes origin_bytes
     fields_takes Up = λ r x fits e. subst (λ (x : Act × Rest). Takes r (act_fields_bytes x.0) x.1 × IsActOf Up x.0) (ok_is (UpAct, r) x e) (Takes-none r fits, (refl, tt))
     fields_takes Down =
-        TakesAs-made (origin_at nodes) origin_bytes (IsOrigin nodes) (λ (o : Origin). DownAct o.node o.inc) act_fields_bytes (IsActOf Down) fields.origin.takes (λ o is. (refl, (refl, (is.node, is.inc))))
+        TakesAs-made (origin_at Two nodes) (origin_bytes Two) (IsOrigin Two nodes) (λ (o : Origin). DownAct o.node o.inc) act_fields_bytes (IsActOf Down) fields.origin.takes (λ o is. (refl, (refl, (is.node, is.inc))))
     fields_takes Permit =
         TakesAs-made (permit_fields_at t) permit_bytes IsPermit (λ p. PermitAct p.0 p.1.0 p.1.1) act_fields_bytes (IsActOf Permit) permit_fields_codec.takes
-        (λ p is. (regroup (key_bytes p.0) (u8_bytes (value_code p.1.0)) (over_bytes p.1.1), (refl, is)))
+        (λ p is. (regroup (key_bytes Two p.0) (u8_bytes (value_code p.1.0)) (over_bytes p.1.1), (refl, is)))
     fields_takes Start = TakesAs-made (keyed_over_at t) keyed_bytes IsKeyed (λ k. StartAct k.0 k.1) act_fields_bytes (IsActOf Start) keyed_over_codec.takes (λ k is. (refl, (refl, is)))
     fields_takes Stop = TakesAs-made (keyed_over_at t) keyed_bytes IsKeyed (λ k. StopAct k.0 k.1) act_fields_bytes (IsActOf Stop) keyed_over_codec.takes (λ k is. (refl, (refl, is)))
     fields_takes Claim =
@@ -196,9 +197,9 @@ module _ (t : Table) (parts : PartCodecs t) where
     fields_again UpAct is = λ at rest. let none : at ≡ at + 0 = omega arith in ap (λ (n : ℕ). Ok (UpAct, record { at = n; bytes = rest })) none
     fields_again (DownAct node inc) is =
         let o : Origin = record { node = node; inc = inc } in
-        Again-made (origin_at nodes) (λ (o : Origin). DownAct o.node o.inc) (origin_bytes o) o (fields.origin.again o (record { node = is.0; inc = is.1 }))
+        Again-made (origin_at Two nodes) (λ (o : Origin). DownAct o.node o.inc) (origin_bytes Two o) o (fields.origin.again o (record { node = is.0; inc = is.1 }))
     fields_again (PermitAct key value over) is =
-        subst (λ (text : List ℕ). Again (act_fields_at t issuer Permit) text (PermitAct key value over)) (regroup (key_bytes key) (u8_bytes (value_code value)) (over_bytes over))
+        subst (λ (text : List ℕ). Again (act_fields_at t issuer Permit) text (PermitAct key value over)) (regroup (key_bytes Two key) (u8_bytes (value_code value)) (over_bytes over))
         (Again-made (permit_fields_at t) (λ p. PermitAct p.0 p.1.0 p.1.1) (permit_bytes (key, (value, over))) (key, (value, over)) (permit_fields_codec.again (key, (value, over)) is))
     fields_again (StartAct key over) is = Again-made (keyed_over_at t) (λ k. StartAct k.0 k.1) (keyed_bytes (key, over)) (key, over) (keyed_over_codec.again (key, over) is)
     fields_again (StopAct key over) is = Again-made (keyed_over_at t) (λ k. StopAct k.0 k.1) (keyed_bytes (key, over)) (key, over) (keyed_over_codec.again (key, over) is)
@@ -220,12 +221,12 @@ module _ (t : Table) (parts : PartCodecs t) where
   -- ---- operations
 
   abbrev IsDotAndAct : Operation → Type 0
-  IsDotAndAct o = IsDot nodes o.dot × IsAct t o.dot.origin.node o.act
+  IsDotAndAct o = IsDot Two nodes o.dot × IsAct t o.dot.origin.node o.act
 
   dot_and_act_codec : IsCodec (dot_and_act_at t) operation_bytes IsDotAndAct
   unfolding dot_and_act_at operation_bytes
   dot_and_act_codec =
-      codec_both (dot_at nodes) dot_bytes (IsDot nodes) fields.dot (λ dot r. act_at t dot.origin.node r) (λ _. act_bytes) (λ (dot : Dot). IsAct t dot.origin.node) (λ dot _. act_codec dot.origin.node)
+      codec_both (dot_at Two nodes) (dot_bytes Two) (IsDot Two nodes) fields.dot (λ dot r. act_at t dot.origin.node r) (λ _. act_bytes) (λ (dot : Dot). IsAct t dot.origin.node) (λ dot _. act_codec dot.origin.node)
       operation operation_bytes IsDotAndAct (λ dot act is so. (refl, (is, so))) (λ o is. (o.dot, o.act, is.0, is.1, refl))
 
   abbrev is_sound : Operation → Bool

@@ -16,6 +16,7 @@ use Rattle.dac_wire.specs.declared.codes.PacketKind.{PacketKind}
 use Rattle.dac_wire.specs.declared.codes.PacketKind.TheVariants.{Whole, Interval, Nothing, Single}
 use Rattle.dac_wire.specs.declared.codes.ActKind.{ActKind}
 use Rattle.dac_wire.specs.declared.codes.ActKind.TheVariants.{Up, Down, Permit, Start, Stop, Claim}
+use Rattle.dac_bytes.specs.declared.version.Version.TheVariants.{Two}
 
 -- a number within bounds
 abbrev IsFrom : ℕ → ℕ → ℕ → Type 0
@@ -48,7 +49,7 @@ packet_kind_bytes kind = u8_bytes (packet_code kind)
 abbrev pub IsAny : {X : Type 0} → X → Type 0
 IsAny x = Unit {0}
 
-pub packet_kind_codec : (nodes : ℕ) → FieldCodecs nodes → IsCodec packet_kind_at packet_kind_bytes IsAny
+pub packet_kind_codec : (nodes : ℕ) → FieldCodecs Two nodes → IsCodec packet_kind_at packet_kind_bytes IsAny
 unfolding packet_kind_at
 packet_kind_codec nodes fields =
     codec_made (range_at w8 1 4) u8_bytes (IsFrom 1 4) (fields.u8_in 1 4 (omega arith)) packet_of_code packet_kind_bytes IsAny
@@ -84,7 +85,7 @@ act_back Claim = refl
 abbrev pub act_kind_bytes : ActKind → List ℕ
 act_kind_bytes kind = u8_bytes (act_code kind)
 
-pub act_kind_codec : (nodes : ℕ) → FieldCodecs nodes → IsCodec act_kind_at act_kind_bytes IsAny
+pub act_kind_codec : (nodes : ℕ) → FieldCodecs Two nodes → IsCodec act_kind_at act_kind_bytes IsAny
 unfolding act_kind_at
 act_kind_codec nodes fields =
     codec_made (range_at w8 1 6) u8_bytes (IsFrom 1 6) (fields.u8_in 1 6 (omega arith)) act_of_code act_kind_bytes IsAny

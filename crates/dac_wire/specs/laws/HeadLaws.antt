@@ -21,10 +21,11 @@ use Rattle.dac_wire.specs.Reading.{route_at, is_only_of, only_code_at, only_at, 
 use Rattle.dac_wire.specs.Spelling.{ack_bytes}
 use Rattle.dac_wire.specs.declared.head.Head.{Head}
 use Rattle.dac_wire.specs.laws.CodeLaws.{only_number, only_is, only_fits, only_back}
+use Rattle.dac_bytes.specs.declared.version.Version.TheVariants.{Two}
 
 -- the incarnation that it is for
 abbrev only_bytes : Option ℕ → List ℕ
-only_bytes only = incarnation_bytes (only_code only)
+only_bytes only = incarnation_bytes Two (only_code only)
 
 -- a number of deltas
 abbrev AreDeltas : ℕ → Type 0
@@ -33,15 +34,15 @@ AreDeltas n = n ≤ MAX_COUNTER
 -- what was got, after its code
 abbrev got_bytes : Option (Origin × ℕ) → List ℕ
 got_bytes None = []
-got_bytes (Some got) = origin_bytes got.0 ++ u64_bytes got.1
+got_bytes (Some got) = origin_bytes Two got.0 ++ u64_bytes got.1
 
 -- all of a message but what it brings
 abbrev pub head_bytes : Head → List ℕ
-head_bytes h = origin_bytes h.from ++ u8_bytes h.to.0 ++ incarnation_bytes (only_code h.only) ++ u64_bytes h.up_to ++ ack_bytes h.ack
+head_bytes h = origin_bytes Two h.from ++ u8_bytes h.to.0 ++ incarnation_bytes Two (only_code h.only) ++ u64_bytes h.up_to ++ ack_bytes h.ack
 
 -- a head that can be read
 pub record IsHead (nodes : ℕ) (whole : Bool) (h : Head) : Type 0 where
-  pub from : IsOrigin nodes h.from
+  pub from : IsOrigin Two nodes h.from
   pub to : h.to.0 < nodes
   pub only : IsOnly whole h.only
   pub up_to : h.up_to ≤ MAX_COUNTER
@@ -50,7 +51,7 @@ pub record IsHead (nodes : ℕ) (whole : Bool) (h : Head) : Type 0 where
 regroup : (a b c d e : List ℕ) → (a ++ b) ++ (c ++ (d ++ e)) ≡ (((a ++ b) ++ c) ++ d) ++ e
 regroup a b c d e = sym (simp append_assoc)
 
-module _ (nodes : ℕ) (fields : FieldCodecs nodes) where
+module _ (nodes : ℕ) (fields : FieldCodecs Two nodes) where
   -- ---- the incarnation that it is for
 
   only_code_codec : (whole : Bool) → IsCodec (only_code_at whole) u64_bytes (Passes (λ n. (0 ≤ n) × (n ≤ MAX_INCARNATION)) (is_only_of whole))
@@ -60,7 +61,7 @@ module _ (nodes : ℕ) (fields : FieldCodecs nodes) where
       codec_wanted (range_at w64 0 MAX_INCARNATION) u64_bytes (λ n. (0 ≤ n) × (n ≤ MAX_INCARNATION)) (fields.u64_in 0 MAX_INCARNATION (omega arith)) (is_only_of whole) wrong
 
   only_codec : (whole : Bool) → IsCodec (only_at whole) only_bytes (IsOnly whole)
-  unfolding only_at incarnation_bytes
+  unfolding only_at incarnation_bytes u64_bytes
   only_codec whole =
       codec_made (only_code_at whole) u64_bytes (Passes (λ n. (0 ≤ n) × (n ≤ MAX_INCARNATION)) (is_only_of whole)) (only_code_codec whole) only_of_code only_bytes (IsOnly whole)
       (λ n is. (ap u64_bytes (only_number n), only_is whole n is.0.1 is.1)) (λ only is. (only_code only, only_fits whole only is, only_back whole only is))
@@ -71,11 +72,11 @@ module _ (nodes : ℕ) (fields : FieldCodecs nodes) where
   deltas_codec = codec_same deltas_at u64_bytes (λ n. (0 ≤ n) × (n ≤ MAX_COUNTER)) (fields.u64_in 0 MAX_COUNTER (omega arith)) AreDeltas (λ n is. is.1) (λ n is. (omega arith, is))
 
   abbrev IsGot : Origin × ℕ → Type 0
-  IsGot got = IsOrigin nodes got.0 × AreDeltas got.1
+  IsGot got = IsOrigin Two nodes got.0 × AreDeltas got.1
 
-  got_codec : IsCodec (got_at nodes) (λ got. origin_bytes got.0 ++ u64_bytes got.1) IsGot
+  got_codec : IsCodec (got_at nodes) (λ got. origin_bytes Two got.0 ++ u64_bytes got.1) IsGot
   unfolding got_at
-  got_codec = codec_pair (origin_at nodes) origin_bytes (IsOrigin nodes) fields.origin (λ _ r. deltas_at r) (λ _. u64_bytes) (λ _. AreDeltas) (λ _ _. deltas_codec)
+  got_codec = codec_pair (origin_at Two nodes) (origin_bytes Two) (IsOrigin Two nodes) fields.origin (λ _ r. deltas_at r) (λ _. u64_bytes) (λ _. AreDeltas) (λ _ _. deltas_codec)
 
   -- what was got by its code
   abbrev IsAckOf : ℕ → Option (Origin × ℕ) → Type 0
@@ -86,7 +87,7 @@ module _ (nodes : ℕ) (fields : FieldCodecs nodes) where
   got_if_takes zero le = λ r x fits e.
       subst (λ (x : Option (Origin × ℕ) × Rest). Takes r (got_bytes x.0) x.1 × IsAckOf 0 x.0) (ok_is (None, r) x e) (Takes-none r fits, (refl, tt))
   got_if_takes (suc zero) le =
-      TakesAs-made (got_at nodes) (λ got. origin_bytes got.0 ++ u64_bytes got.1) IsGot Some got_bytes (IsAckOf 1) got_codec.takes (λ got is. (refl, (refl, is)))
+      TakesAs-made (got_at nodes) (λ got. origin_bytes Two got.0 ++ u64_bytes got.1) IsGot Some got_bytes (IsAckOf 1) got_codec.takes (λ got is. (refl, (refl, is)))
   got_if_takes (suc (suc n)) le = absurd (omega arith)
 
   got_if_again : (ack : Option (Origin × ℕ)) → IsAck nodes ack → Again (got_if_at nodes (ack_code ack)) (got_bytes ack) ack
@@ -103,7 +104,7 @@ module _ (nodes : ℕ) (fields : FieldCodecs nodes) where
   ack_spelled : (ack : Option (Origin × ℕ)) → u8_bytes (ack_code ack) ++ got_bytes ack ≡ ack_bytes ack
   unfolding ack_bytes
   ack_spelled None = append-nil (u8_bytes 0)
-  ack_spelled (Some got) = sym (append_assoc (u8_bytes 1) (origin_bytes got.0) (u64_bytes got.1))
+  ack_spelled (Some got) = sym (append_assoc (u8_bytes 1) (origin_bytes Two got.0) (u64_bytes got.1))
 
   ack_fits : (ack : Option (Origin × ℕ)) → (0 ≤ ack_code ack) × (ack_code ack ≤ 1)
   ack_fits None = (omega arith, omega arith)
@@ -132,15 +133,15 @@ module _ (nodes : ℕ) (fields : FieldCodecs nodes) where
   counts_codec = codec_pair deltas_at u64_bytes AreDeltas deltas_codec (λ _ r. ack_at nodes r) (λ _. ack_bytes) (λ _. IsAck nodes) (λ _ _. ack_codec)
 
   abbrev route_bytes : Origin × NodeId → List ℕ
-  route_bytes r = origin_bytes r.0 ++ u8_bytes r.1.0
+  route_bytes r = origin_bytes Two r.0 ++ u8_bytes r.1.0
 
   abbrev IsRoute : Origin × NodeId → Type 0
-  IsRoute r = IsOrigin nodes r.0 × (r.1.0 < nodes)
+  IsRoute r = IsOrigin Two nodes r.0 × (r.1.0 < nodes)
 
   route_codec : IsCodec (route_at nodes) route_bytes IsRoute
   unfolding route_at
   route_codec =
-      codec_pair (origin_at nodes) origin_bytes (IsOrigin nodes) fields.origin (λ _ r. node_at nodes r) (λ _ (node : NodeId). u8_bytes node.0) (λ _ node. node.0 < nodes) (λ _ _. fields.node)
+      codec_pair (origin_at Two nodes) (origin_bytes Two) (IsOrigin Two nodes) fields.origin (λ _ r. node_at nodes r) (λ _ (node : NodeId). u8_bytes node.0) (λ _ node. node.0 < nodes) (λ _ _. fields.node)
 
   module _ (whole : Bool) where
     abbrev bound_bytes : Option ℕ × Counts → List ℕ
@@ -159,7 +160,7 @@ module _ (nodes : ℕ) (fields : FieldCodecs nodes) where
         codec_both (route_at nodes) route_bytes IsRoute route_codec (λ _ r. bound_at nodes whole r) (λ _. bound_bytes) (λ _. IsBound) (λ _ _. bound_codec)
         head_of head_bytes (IsHead nodes whole)
         (λ r b is so. (
-          regroup (origin_bytes r.0) (u8_bytes r.1.0) (only_bytes b.0) (u64_bytes b.1.0) (ack_bytes b.1.1),
+          regroup (origin_bytes Two r.0) (u8_bytes r.1.0) (only_bytes b.0) (u64_bytes b.1.0) (ack_bytes b.1.1),
           record { from = is.0; to = is.1; only = so.0; up_to = so.1.0; ack = so.1.1 },
         ))
         (λ h is. ((h.from, h.to), (h.only, (h.up_to, h.ack)), (is.from, is.to), (is.only, (is.up_to, is.ack)), refl))

@@ -33,12 +33,13 @@ use Rattle.dac_wire.specs.laws.ActLaws.{operation_codec}
 use Rattle.dac_wire.specs.laws.CodeLaws.{IsAny, packet_kind_bytes, packet_kind_codec}
 use Rattle.dac_wire.specs.laws.Fronts.{preamble_length, front_begins, front_long, front_is}
 use Rattle.dac_wire.specs.laws.HeadLaws.{head_bytes, IsHead, head_codec}
+use Rattle.dac_bytes.specs.declared.version.Version.TheVariants.{Two}
 
 -- the head of a message
 abbrev head_in : Message → Head
 head_in m = record { from = m.from; to = m.to; only = m.only; up_to = m.up_to; ack = m.ack }
 
-module _ (t : Table) (parts : PartCodecs t) (states : IsCodec (parts_at t) state.spelling_of (IsInForm t)) where
+module _ (t : Table) (parts : PartCodecs Two t) (states : IsCodec (parts_at t) state.spelling_of (IsInForm t)) where
   abbrev nodes : ℕ
   nodes = node_count t
 

@@ -1,6 +1,7 @@
 use Rattle.std.proofs.Common.{Err, sym, ◌∙◌, arith}
 use Rattle.dac_wire.specs.laws.Fronts.{front_long}
 use Rattle.dac_wire.proofs.Giving.{gives_front, gives_fields, found_fields, only_packet}
+use Rattle.dac_bytes.specs.declared.version.Version.TheVariants.{Two}
 use Rattle.dac_wire.proofs.coding.decode.Goals as goal
 
 pub decode_fields-requires : goal.decode_fields-requires
@@ -8,7 +9,7 @@ decode_fields-requires c = front_long c.args.config.now c.args.bytes.now (sym c.
 
 pub returns-in-Some-clause-only : goal.returns-in-Some-clause-only
 returns-in-Some-clause-only c =
-    only_packet c.args.config.now c.args.bytes.now c.parts_have_one_spelling.ensures c.states_have_one_spelling.ensures (Err c.in-Some.fault)
+    only_packet c.args.config.now c.args.bytes.now (c.parts_have_one_spelling.ensures Two) c.states_have_one_spelling.ensures (Err c.in-Some.fault)
     (gives_front c.args.config.now c.args.bytes.now c.in-Some.fault (sym c.front_fault.ensures ∙ c.in-Some.is))
 
 pub returns-in-Some-clause-exact : goal.returns-in-Some-clause-exact
@@ -16,12 +17,12 @@ returns-in-Some-clause-exact c = gives_front c.args.config.now c.args.bytes.now 
 
 pub returns-in-None-clause-found : goal.returns-in-None-clause-found
 returns-in-None-clause-found c =
-    found_fields c.args.config.now c.args.bytes.now c.parts_have_one_spelling.ensures c.states_have_one_spelling.ensures
+    found_fields c.args.config.now c.args.bytes.now (c.parts_have_one_spelling.ensures Two) c.states_have_one_spelling.ensures
     (λ i. omega (arith, c.type_inv.bytes i)) (sym c.front_fault.ensures ∙ c.in-None.is) c.decode_fields.result c.decode_fields.ensures
 
 pub returns-in-None-clause-only : goal.returns-in-None-clause-only
 returns-in-None-clause-only c =
-    only_packet c.args.config.now c.args.bytes.now c.parts_have_one_spelling.ensures c.states_have_one_spelling.ensures c.decode_fields.result
+    only_packet c.args.config.now c.args.bytes.now (c.parts_have_one_spelling.ensures Two) c.states_have_one_spelling.ensures c.decode_fields.result
     (gives_fields c.args.config.now c.args.bytes.now c.decode_fields.result (sym c.front_fault.ensures ∙ c.in-None.is) c.decode_fields.ensures)
 
 pub returns-in-None-clause-exact : goal.returns-in-None-clause-exact
