@@ -9,6 +9,7 @@ use Rattle.dac_dots.specs.declared.dot.Dot.{Dot}
 use Rattle.dac_dots.specs.declared.dot.Origin.{Origin}
 use Rattle.dac_dots.specs.Dots.{dot_cmp}
 use Rattle.dac_dots.specs.Keys.{IsRising}
+use Rattle.dac_wishes.specs.DrainsValue.{origin}
 use Rattle.dac_config.specs.Table.{Table, node_count, app_count}
 use Rattle.dac_bytes.specs.Ranges.{IsIncarnation, IsOrigin, IsDot}
 use Rattle.dac_part_bytes.specs.ChainForm.{IsFromFor}
@@ -19,7 +20,7 @@ use Rattle.dac_messages.specs.declared.message.Body.{Body}
 use Rattle.dac_messages.specs.declared.message.Body.TheVariants.{Whole, Interval, Nothing}
 use Rattle.dac_messages.specs.declared.message.Message.{Message}
 use Rattle.dac_operations.specs.declared.act.Act.{Act}
-use Rattle.dac_operations.specs.declared.act.Act.TheVariants.{Up, Down, Permit, Start, Stop, Claim}
+use Rattle.dac_operations.specs.declared.act.Act.TheVariants.{Up, Down, Permit, Start, Stop, Drain, Claim}
 use Rattle.dac_operations.specs.Operations.{Operation, fault_of}
 use Rattle.dac_wire.specs.declared.packet.Packet.{Packet}
 use Rattle.dac_wire.specs.declared.packet.Packet.TheVariants as packet
@@ -88,6 +89,7 @@ IsAct t issuer (Down node inc) = (node.0 < node_count t) × IsIncarnation Two in
 IsAct t issuer (Permit key value over) = IsKey Two t key × AreOver (node_count t) over
 IsAct t issuer (Start key over) = IsKey Two t key × AreOver (node_count t) over
 IsAct t issuer (Stop key over) = IsKey Two t key × AreOver (node_count t) over
+IsAct t issuer (Drain node inc value over) = IsOrigin Two (node_count t) (origin node inc) × AreOver (node_count t) over
 IsAct t issuer (Claim app term how from) = IsClaim t issuer app term how from
 
 -- an operation that can be read

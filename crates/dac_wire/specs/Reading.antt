@@ -19,13 +19,13 @@ use Rattle.dac_messages.specs.declared.message.Body.{Body}
 use Rattle.dac_messages.specs.declared.message.Body.TheVariants.{Whole as WholeBody, Interval as IntervalBody, Nothing as NoBody}
 use Rattle.dac_messages.specs.declared.message.Message.{Message}
 use Rattle.dac_operations.specs.declared.act.Act.{Act}
-use Rattle.dac_operations.specs.declared.act.Act.TheVariants.{Up as UpAct, Down as DownAct, Permit as PermitAct, Start as StartAct, Stop as StopAct, Claim as ClaimAct}
+use Rattle.dac_operations.specs.declared.act.Act.TheVariants.{Up as UpAct, Down as DownAct, Permit as PermitAct, Start as StartAct, Stop as StopAct, Drain as DrainAct, Claim as ClaimAct}
 use Rattle.dac_operations.specs.Operations.{Operation, operation, fault_of}
 use Rattle.dac_wire.specs.Codes.{packet_of_code, act_of_code, value_of_code, only_of_code}
 use Rattle.dac_wire.specs.declared.codes.PacketKind.{PacketKind}
 use Rattle.dac_wire.specs.declared.codes.PacketKind.TheVariants.{Whole, Interval, Nothing, Single}
 use Rattle.dac_wire.specs.declared.codes.ActKind.{ActKind}
-use Rattle.dac_wire.specs.declared.codes.ActKind.TheVariants.{Up, Down, Permit, Start, Stop, Claim}
+use Rattle.dac_wire.specs.declared.codes.ActKind.TheVariants.{Up, Down, Permit, Start, Stop, Claim, Drain}
 use Rattle.dac_wire.specs.declared.head.Head.{Head}
 use Rattle.dac_wire.specs.declared.packet.Packet.{Packet}
 use Rattle.dac_wire.specs.declared.packet.Packet.TheVariants as packet
@@ -120,7 +120,7 @@ keyed_over_at t r = do
   over ← over_at (node_count t) key.1
   Ok ((key.0, over.0), over.1)
 
--- what a permit says, and the dots
+-- what a permit or a drain says, and the dots
 unfoldable pub valued_over_at : ℕ → Rest → Field (Bool × List Dot)
 valued_over_at nodes r = do
   code ← range_at w8 0 1 r
@@ -133,6 +133,13 @@ permit_fields_at t r = do
   key ← key_above_at Two t None r
   valued ← valued_over_at (node_count t) key.1
   Ok ((key.0, valued.0), valued.1)
+
+-- an incarnation of a node, what a drain says, and the dots
+unfoldable pub drain_fields_at : Table → Rest → Field (Origin × (Bool × List Dot))
+drain_fields_at t r = do
+  at ← origin_at Two (node_count t) r
+  valued ← valued_over_at (node_count t) at.1
+  Ok ((at.0, valued.0), valued.1)
 
 -- the fields of a claim
 abbrev pub ClaimFields : Type 0
@@ -173,6 +180,9 @@ act_fields_at t issuer Start r = do
 act_fields_at t issuer Stop r = do
   k ← keyed_over_at t r
   Ok (StopAct k.0.0 k.0.1, k.1)
+act_fields_at t issuer Drain r = do
+  d ← drain_fields_at t r
+  Ok (DrainAct d.0.0.node d.0.0.inc d.0.1.0 d.0.1.1, d.1)
 act_fields_at t issuer Claim r = do
   c ← listed_claim_at t issuer r
   Ok (ClaimAct c.0.0 c.0.1.0 c.0.1.1.0 c.0.1.1.1, c.1)
@@ -180,7 +190,7 @@ act_fields_at t issuer Claim r = do
 -- which act it is
 unfoldable pub act_kind_at : Rest → Field ActKind
 act_kind_at r = do
-  code ← range_at w8 1 6 r
+  code ← range_at w8 1 7 r
   Ok (act_of_code code.0, code.1)
 
 -- an act of a node

@@ -3,6 +3,7 @@ use Rattle.std.specs.Prelude.{ℕ, List, [], ◌++◌, length, codes, Option, No
 use Rattle.std.specs.List.{flat_map}
 use Rattle.dac_dots.specs.declared.dot.Dot.{Dot}
 use Rattle.dac_dots.specs.declared.dot.Origin.{Origin}
+use Rattle.dac_wishes.specs.DrainsValue.{origin}
 use Rattle.dac_config.specs.Canonical.{canonical_text}
 use Rattle.dac_config.specs.Mark.{fnv1a}
 use Rattle.dac_config.specs.Table.{Table}
@@ -14,7 +15,7 @@ use Rattle.dac_messages.specs.declared.message.Body.{Body}
 use Rattle.dac_messages.specs.declared.message.Body.TheVariants.{Whole, Interval, Nothing}
 use Rattle.dac_messages.specs.declared.message.Message.{Message}
 use Rattle.dac_operations.specs.declared.act.Act.{Act}
-use Rattle.dac_operations.specs.declared.act.Act.TheVariants.{Up, Down, Permit, Start, Stop, Claim}
+use Rattle.dac_operations.specs.declared.act.Act.TheVariants.{Up, Down, Permit, Start, Stop, Drain, Claim}
 use Rattle.dac_operations.specs.Operations.{Operation}
 use Rattle.dac_wire.specs.Codes.{packet_code, kind_of_packet, act_code, kind_of_act, value_code, only_code}
 use Rattle.dac_wire.specs.declared.packet.Packet.{Packet}
@@ -70,6 +71,7 @@ act_fields_bytes (Down node inc) = u8_bytes node.0 ++ incarnation_bytes Two inc
 act_fields_bytes (Permit key value over) = key_bytes Two key ++ u8_bytes (value_code value) ++ over_bytes over
 act_fields_bytes (Start key over) = key_bytes Two key ++ over_bytes over
 act_fields_bytes (Stop key over) = key_bytes Two key ++ over_bytes over
+act_fields_bytes (Drain node inc value over) = origin_bytes Two (origin node inc) ++ u8_bytes (value_code value) ++ over_bytes over
 act_fields_bytes (Claim app term how from) = app_bytes app ++ u64_bytes term ++ manner_bytes how from
 
 -- which act it is, and its fields

@@ -24,6 +24,7 @@ pub(crate) enum ActKind {
     Start,
     Stop,
     Claim,
+    Drain,
 }
 
 /// The kind of a packet, by its code. The reader refuses each code but 1 to 4 before this is asked. So 0 and those above
@@ -66,7 +67,7 @@ pub(crate) fn kind_of_packet(packet: &Packet) -> PacketKind
     }
 }
 
-/// The kind of an act, by its code. The reader refuses each code but 1 to 6 before this is asked. So 0 and those above 6
+/// The kind of an act, by its code. The reader refuses each code but 1 to 7 before this is asked. So 0 and those above 7
 /// don't come; their arms are there since a match covers all codes.
 pub(crate) fn act_of_code(code: u8) -> ActKind
     ensures { result ≡ act_of_code code }
@@ -78,7 +79,8 @@ pub(crate) fn act_of_code(code: u8) -> ActKind
         3 => ActKind::Permit,
         4 => ActKind::Start,
         5 => ActKind::Stop,
-        _ => ActKind::Claim,
+        6 => ActKind::Claim,
+        _ => ActKind::Drain,
     }
 }
 
@@ -93,6 +95,7 @@ pub(crate) fn act_code(kind: ActKind) -> u8
         ActKind::Start => 4,
         ActKind::Stop => 5,
         ActKind::Claim => 6,
+        ActKind::Drain => 7,
     }
 }
 
@@ -106,11 +109,12 @@ pub(crate) fn kind_of_act(act: &Act) -> ActKind
         Act::Permit { .. } => ActKind::Permit,
         Act::Start { .. } => ActKind::Start,
         Act::Stop { .. } => ActKind::Stop,
+        Act::Drain { .. } => ActKind::Drain,
         Act::Claim { .. } => ActKind::Claim,
     }
 }
 
-/// What a permit says, by its code. The reader refuses codes above 1.
+/// What a permit or a drain says, by its code. The reader refuses codes above 1.
 pub(crate) fn value_of_code(code: u8) -> bool
     ensures { result ≡ value_of_code code }
 {
@@ -120,7 +124,7 @@ pub(crate) fn value_of_code(code: u8) -> bool
     }
 }
 
-/// The code of what a permit says.
+/// The code of what a permit or a drain says.
 pub(crate) fn value_code(value: bool) -> u8
     ensures { result ≡ value_code value }
 {

@@ -3,7 +3,7 @@ ghost use Rattle.std.specs.Prelude.{◌≡◌, ◌<◌, None, Some, IfOk};
 ghost use Rattle.dac_base.specs.declared.NodeId.{NodeId};
 ghost use Rattle.dac_config.specs.Table.{app_count};
 ghost use Rattle.dac_bytes.specs.Reading.{Gives, IsOfBytes, dot_above_at, items_at};
-ghost use Rattle.dac_wire.specs.Reading.{act_at, act_fields_at, act_kind_at, claim_fields_at, dot_and_act_at, keyed_over_at, listed_claim_at, operation_at, over_at, permit_fields_at, term_and_manner_at, valued_over_at};
+ghost use Rattle.dac_wire.specs.Reading.{act_at, act_fields_at, act_kind_at, claim_fields_at, dot_and_act_at, drain_fields_at, keyed_over_at, listed_claim_at, operation_at, over_at, permit_fields_at, term_and_manner_at, valued_over_at};
 ghost use Rattle.dac_bytes.specs.declared.version.Version.TheVariants.{Two};
 
 use crate::codes::{ActKind, act_of_code, value_of_code};
@@ -11,7 +11,7 @@ use dac_base::{AppId, MAX_COUNTER, NodeId};
 use dac_bytes::{ByteReader, ReadFault, ReadFaultKind, Version};
 use dac_chains::How;
 use dac_config::Config;
-use dac_dots::Dot;
+use dac_dots::{Dot, Origin};
 use dac_operations::{Act, Op};
 use dac_part_bytes::{read_app, read_key, read_manner};
 use dac_wishes::{DotList, Key};
@@ -66,7 +66,7 @@ fn read_keyed_over<'a>(
     Ok(((key, over), rest))
 }
 
-/// What a permit says, and the dots that it replaces.
+/// What a permit or a drain says, and the dots that it replaces.
 #[tactic(auto, unfolding(crate::specs::Reading::valued_over_at))]
 fn read_valued_over<'a>(
     reader: ByteReader<'a>,
@@ -92,6 +92,20 @@ fn read_permit_fields<'a>(
     let (key, rest) = read_key(reader, Version::Two, config, None)?;
     let (valued, rest) = read_valued_over(rest, alloc, config.nodes())?;
     Ok(((key, valued), rest))
+}
+
+/// The fields of a drain.
+#[tactic(auto, unfolding(crate::specs::Reading::drain_fields_at))]
+fn read_drain_fields<'a>(
+    reader: ByteReader<'a>,
+    alloc: Global,
+    config: &Config,
+) -> Result<((Origin, (bool, DotList)), ByteReader<'a>), ReadFault>
+    ensures { Gives (λ x. x) result (drain_fields_at config.now reader.entry) }
+{
+    let (at, rest) = reader.read_origin(Version::Two, config.nodes())?;
+    let (valued, rest) = read_valued_over(rest, alloc, config.nodes())?;
+    Ok(((at, valued), rest))
 }
 
 /// How an application came to its node, and from which.
@@ -151,7 +165,7 @@ fn read_act_kind<'a>(reader: ByteReader<'a>) -> Result<(ActKind, ByteReader<'a>)
     ensures exact { result ≡ act_kind_at reader.entry }
     ensures real { IsOfBytes result }
 {
-    let (code, rest) = reader.read_u8_in(1, 6)?;
+    let (code, rest) = reader.read_u8_in(1, 7)?;
     Ok((act_of_code(code), rest))
 }
 
@@ -187,6 +201,16 @@ fn read_act_fields<'a>(
         ActKind::Stop => {
             let ((key, over), rest) = read_keyed_over(reader, alloc, config)?;
             Ok((Act::Stop { key, over }, rest))
+        }
+        ActKind::Drain => {
+            let ((at, (value, over)), rest) = read_drain_fields(reader, alloc, config)?;
+            let drain = Act::Drain {
+                node: at.node,
+                inc: at.inc,
+                value,
+                over,
+            };
+            Ok((drain, rest))
         }
         ActKind::Claim => {
             let ((app, (term, (how, from))), rest) = read_listed_claim(reader, config, issuer)?;

@@ -94,6 +94,22 @@ fn write_act_fields(writer: ByteWriter, act: &Act) -> Result<ByteWriter, NoMemor
             let written = write_over(write_key(writer, Version::Two, *key)?, over.as_slice())?;
             Ok(written)
         }
+        Act::Drain {
+            node,
+            inc,
+            value,
+            over,
+        } => {
+            let at = Origin {
+                node: *node,
+                inc: *inc,
+            };
+            let head = writer
+                .write_origin(Version::Two, at)?
+                .write_u8(value_code(*value))?;
+            let written = write_over(head, over.as_slice())?;
+            Ok(written)
+        }
         Act::Claim {
             app,
             term,

@@ -28,14 +28,14 @@ use Rattle.dac_part_bytes.specs.Spelling.{app_bytes, key_bytes, manner_bytes}
 use Rattle.std.proofs.lemmas.List.{map-id}
 use Rattle.dac_part_bytes.specs.PartCodecs.{PartCodecs}
 use Rattle.dac_operations.specs.declared.act.Act.{Act}
-use Rattle.dac_operations.specs.declared.act.Act.TheVariants.{Up as UpAct, Down as DownAct, Permit as PermitAct, Start as StartAct, Stop as StopAct, Claim as ClaimAct}
+use Rattle.dac_operations.specs.declared.act.Act.TheVariants.{Up as UpAct, Down as DownAct, Permit as PermitAct, Start as StartAct, Stop as StopAct, Drain as DrainAct, Claim as ClaimAct}
 use Rattle.dac_operations.specs.Operations.{Operation, operation, fault_of}
 use Rattle.dac_wire.specs.Codes.{kind_of_act, value_code, value_of_code}
 use Rattle.dac_wire.specs.Form.{AreOver, IsClaim, IsAct, IsOperation}
-use Rattle.dac_wire.specs.Reading.{ClaimFields, over_at, keyed_over_at, valued_over_at, permit_fields_at, term_and_manner_at, claim_fields_at, listed_claim_at, act_fields_at, act_kind_at, act_at, dot_and_act_at, operation_at}
+use Rattle.dac_wire.specs.Reading.{ClaimFields, over_at, keyed_over_at, valued_over_at, permit_fields_at, drain_fields_at, term_and_manner_at, claim_fields_at, listed_claim_at, act_fields_at, act_kind_at, act_at, dot_and_act_at, operation_at}
 use Rattle.dac_wire.specs.Spelling.{over_bytes, act_fields_bytes, act_bytes, operation_bytes}
 use Rattle.dac_wire.specs.declared.codes.ActKind.{ActKind}
-use Rattle.dac_wire.specs.declared.codes.ActKind.TheVariants.{Up, Down, Permit, Start, Stop, Claim}
+use Rattle.dac_wire.specs.declared.codes.ActKind.TheVariants.{Up, Down, Permit, Start, Stop, Claim, Drain}
 use Rattle.dac_wire.specs.laws.CodeLaws.{IsAny, act_kind_bytes, act_kind_codec, value_number, value_fits, value_back}
 use Rattle.dac_bytes.specs.declared.version.Version.TheVariants.{Two}
 
@@ -137,6 +137,19 @@ module _ (t : Table) (parts : PartCodecs Two t) where
   permit_fields_codec =
       codec_pair (key_above_at Two t None) (key_bytes Two) (IsKey Two t) key_codec (λ _ r. valued_over_at nodes r) (λ _. valued_bytes nodes fields) (λ _. IsValued nodes fields) (λ _ _. valued_over_codec nodes fields)
 
+  -- ---- drains
+
+  abbrev drain_bytes : Origin × (Bool × List Dot) → List ℕ
+  drain_bytes d = origin_bytes Two d.0 ++ valued_bytes nodes fields d.1
+
+  abbrev IsDrain : Origin × (Bool × List Dot) → Type 0
+  IsDrain d = IsOrigin Two nodes d.0 × AreOver nodes d.1.1
+
+  drain_fields_codec : IsCodec (drain_fields_at t) drain_bytes IsDrain
+  unfolding drain_fields_at
+  drain_fields_codec =
+      codec_pair (origin_at Two nodes) (origin_bytes Two) (IsOrigin Two nodes) fields.origin (λ _ r. valued_over_at nodes r) (λ _. valued_bytes nodes fields) (λ _. IsValued nodes fields) (λ _ _. valued_over_codec nodes fields)
+
   -- ---- claims
 
   term_and_manner_codec : IsCodec (term_and_manner_at nodes) (term_and_manner_bytes nodes fields) (IsTermAndManner nodes fields)
@@ -188,6 +201,9 @@ module _ (t : Table) (parts : PartCodecs Two t) where
         (λ p is. (regroup (key_bytes Two p.0) (u8_bytes (value_code p.1.0)) (over_bytes p.1.1), (refl, is)))
     fields_takes Start = TakesAs-made (keyed_over_at t) keyed_bytes IsKeyed (λ k. StartAct k.0 k.1) act_fields_bytes (IsActOf Start) keyed_over_codec.takes (λ k is. (refl, (refl, is)))
     fields_takes Stop = TakesAs-made (keyed_over_at t) keyed_bytes IsKeyed (λ k. StopAct k.0 k.1) act_fields_bytes (IsActOf Stop) keyed_over_codec.takes (λ k is. (refl, (refl, is)))
+    fields_takes Drain =
+        TakesAs-made (drain_fields_at t) drain_bytes IsDrain (λ d. DrainAct d.0.node d.0.inc d.1.0 d.1.1) act_fields_bytes (IsActOf Drain) drain_fields_codec.takes
+        (λ d is. (regroup (origin_bytes Two d.0) (u8_bytes (value_code d.1.0)) (over_bytes d.1.1), (refl, is)))
     fields_takes Claim =
         TakesAs-made (listed_claim_at t issuer) claim_bytes (Passes AreFields is_issuer_listed) (λ c. ClaimAct c.0 c.1.0 c.1.1.0 c.1.1.1) act_fields_bytes (IsActOf Claim) listed_claim_codec.takes
         (λ c is. (regroup (app_bytes c.0) (u64_bytes c.1.0) (manner_bytes c.1.1.0 c.1.1.1), (refl, claim_is c is)))
@@ -203,6 +219,10 @@ module _ (t : Table) (parts : PartCodecs Two t) where
         (Again-made (permit_fields_at t) (λ p. PermitAct p.0 p.1.0 p.1.1) (permit_bytes (key, (value, over))) (key, (value, over)) (permit_fields_codec.again (key, (value, over)) is))
     fields_again (StartAct key over) is = Again-made (keyed_over_at t) (λ k. StartAct k.0 k.1) (keyed_bytes (key, over)) (key, over) (keyed_over_codec.again (key, over) is)
     fields_again (StopAct key over) is = Again-made (keyed_over_at t) (λ k. StopAct k.0 k.1) (keyed_bytes (key, over)) (key, over) (keyed_over_codec.again (key, over) is)
+    fields_again (DrainAct node inc value over) is =
+        let at : Origin = record { node = node; inc = inc } in
+        subst (λ (text : List ℕ). Again (act_fields_at t issuer Drain) text (DrainAct node inc value over)) (regroup (origin_bytes Two at) (u8_bytes (value_code value)) (over_bytes over))
+        (Again-made (drain_fields_at t) (λ d. DrainAct d.0.node d.0.inc d.1.0 d.1.1) (drain_bytes (at, (value, over))) (at, (value, over)) (drain_fields_codec.again (at, (value, over)) is))
     fields_again (ClaimAct app term how from) is =
         let c : ClaimFields = (app, (term, (how, from))) in
         subst (λ (text : List ℕ). Again (act_fields_at t issuer Claim) text (ClaimAct app term how from)) (regroup (app_bytes app) (u64_bytes term) (manner_bytes how from))

@@ -15,7 +15,7 @@ use Rattle.dac_wire.specs.Reading.{packet_kind_at, act_kind_at, is_only_of}
 use Rattle.dac_wire.specs.declared.codes.PacketKind.{PacketKind}
 use Rattle.dac_wire.specs.declared.codes.PacketKind.TheVariants.{Whole, Interval, Nothing, Single}
 use Rattle.dac_wire.specs.declared.codes.ActKind.{ActKind}
-use Rattle.dac_wire.specs.declared.codes.ActKind.TheVariants.{Up, Down, Permit, Start, Stop, Claim}
+use Rattle.dac_wire.specs.declared.codes.ActKind.TheVariants.{Up, Down, Permit, Start, Stop, Claim, Drain}
 use Rattle.dac_bytes.specs.declared.version.Version.TheVariants.{Two}
 
 -- a number within bounds
@@ -57,22 +57,24 @@ packet_kind_codec nodes fields =
 
 -- ---- acts
 
-act_number : (n : ℕ) → IsFrom 1 6 n → n ≡ act_code (act_of_code n)
+act_number : (n : ℕ) → IsFrom 1 7 n → n ≡ act_code (act_of_code n)
 act_number zero is = absurd (omega (arith, is.0))
 act_number (suc zero) is = refl
 act_number (suc (suc zero)) is = refl
 act_number (suc (suc (suc zero))) is = refl
 act_number (suc (suc (suc (suc zero)))) is = refl
 act_number (suc (suc (suc (suc (suc zero))))) is = refl
-act_number (suc (suc (suc (suc (suc (suc n)))))) is = omega (arith, is.1)
+act_number (suc (suc (suc (suc (suc (suc zero)))))) is = refl
+act_number (suc (suc (suc (suc (suc (suc (suc n))))))) is = omega (arith, is.1)
 
-act_fits : (kind : ActKind) → IsFrom 1 6 (act_code kind)
+act_fits : (kind : ActKind) → IsFrom 1 7 (act_code kind)
 act_fits Up = (omega arith, omega arith)
 act_fits Down = (omega arith, omega arith)
 act_fits Permit = (omega arith, omega arith)
 act_fits Start = (omega arith, omega arith)
 act_fits Stop = (omega arith, omega arith)
 act_fits Claim = (omega arith, omega arith)
+act_fits Drain = (omega arith, omega arith)
 
 act_back : (kind : ActKind) → act_of_code (act_code kind) ≡ kind
 act_back Up = refl
@@ -81,6 +83,7 @@ act_back Permit = refl
 act_back Start = refl
 act_back Stop = refl
 act_back Claim = refl
+act_back Drain = refl
 
 abbrev pub act_kind_bytes : ActKind → List ℕ
 act_kind_bytes kind = u8_bytes (act_code kind)
@@ -88,7 +91,7 @@ act_kind_bytes kind = u8_bytes (act_code kind)
 pub act_kind_codec : (nodes : ℕ) → FieldCodecs Two nodes → IsCodec act_kind_at act_kind_bytes IsAny
 unfolding act_kind_at
 act_kind_codec nodes fields =
-    codec_made (range_at w8 1 6) u8_bytes (IsFrom 1 6) (fields.u8_in 1 6 (omega arith)) act_of_code act_kind_bytes IsAny
+    codec_made (range_at w8 1 7) u8_bytes (IsFrom 1 7) (fields.u8_in 1 7 (omega arith)) act_of_code act_kind_bytes IsAny
     (λ n is. (ap u8_bytes (act_number n is), tt)) (λ kind _. (act_code kind, act_fits kind, act_back kind))
 
 -- ---- what a permit says
