@@ -1,7 +1,7 @@
 //! Numbers, dots and contexts in bytes.
 use crate::sample::{dot, origin};
 use dac_base::{NoMemory, NodeId};
-use dac_bytes::{ByteReader, ByteWriter, ReadFault, ReadFaultKind};
+use dac_bytes::{ByteReader, ByteWriter, ReadFault, ReadFaultKind, Version};
 use dac_contexts::Context;
 use dac_dots::{Dot, Origin};
 use std::alloc::Global;
@@ -83,27 +83,27 @@ const DOT: &[u8] = b"\x02\x00\x00\x00\x00\x00\x00\x01\x02\x00\x00\x00\x00\x00\x0
 /// The fields of a dot.
 fn fields(bytes: &[u8]) -> Result<(NodeId, u64, u64), ReadFault> {
     let (node, reader) = ByteReader::new(bytes).read_node(3)?;
-    let (inc, reader) = reader.read_incarnation()?;
+    let (inc, reader) = reader.read_incarnation(Version::Two)?;
     let (n, _) = reader.read_counter()?;
     Ok((node, inc, n))
 }
 
 /// An origin, read after none and again by itself.
 fn origins(bytes: &[u8]) -> Result<(Origin, Origin), ReadFault> {
-    let (first, _) = ByteReader::new(bytes).read_origin_above(3, None)?;
-    let (second, _) = ByteReader::new(bytes).read_origin(3)?;
+    let (first, _) = ByteReader::new(bytes).read_origin_above(Version::Two, 3, None)?;
+    let (second, _) = ByteReader::new(bytes).read_origin(Version::Two, 3)?;
     Ok((first, second))
 }
 
 /// A dot that is read.
 fn read_dot(bytes: &[u8], nodes: u8) -> Result<Dot, ReadFault> {
-    let (dot, _) = ByteReader::new(bytes).read_dot(nodes)?;
+    let (dot, _) = ByteReader::new(bytes).read_dot(Version::Two, nodes)?;
     Ok(dot)
 }
 
 /// A dot that is read after another.
 fn dot_above(bytes: &[u8], before: Dot) -> Result<Dot, ReadFault> {
-    let (dot, _) = ByteReader::new(bytes).read_dot_above(3, Some(before))?;
+    let (dot, _) = ByteReader::new(bytes).read_dot_above(Version::Two, 3, Some(before))?;
     Ok(dot)
 }
 
@@ -136,15 +136,37 @@ fn incarnations_end(rt: HostRuntime) {
     assert!(rt; read_dot(PAST, 3) == Err(ReadFault::new(ReadFaultKind::BadNumber, 1)));
 }
 
+/// Counter 5 of the greatest incarnation of node 2 that version one has.
+const FOUR: &[u8] = b"\x02\xff\xff\xff\xff\x00\x00\x00\x00\x00\x00\x00\x05";
+
+/// A dot that is read of version one.
+fn read_first(bytes: &[u8]) -> Result<Dot, ReadFault> {
+    let (dot, _) = ByteReader::new(bytes).read_dot(Version::One, 3)?;
+    Ok(dot)
+}
+
+#[test]
+fn version_one_has_incarnations_of_four_bytes(rt: HostRuntime) {
+    let last = dot(2, 4_294_967_295, 5);
+    assert!(rt; read_first(FOUR) == Ok(last));
+    let written = written(rt.alloc(), Version::One, last.origin, last);
+    assert!(rt;
+        are_bytes(
+            written,
+            b"\x02\xff\xff\xff\xff\x02\xff\xff\xff\xff\x00\x00\x00\x00\x00\x00\x00\x05"
+        )
+    );
+}
+
 /// An origin and a dot as bytes.
-fn written(alloc: Global, origin: Origin, dot: Dot) -> Result<Vec<u8>, NoMemory> {
-    let writer = ByteWriter::new(alloc).write_origin(origin)?;
-    Ok(writer.write_dot(dot)?.into_bytes())
+fn written(alloc: Global, version: Version, origin: Origin, dot: Dot) -> Result<Vec<u8>, NoMemory> {
+    let writer = ByteWriter::new(alloc).write_origin(version, origin)?;
+    Ok(writer.write_dot(version, dot)?.into_bytes())
 }
 
 #[test]
 fn origin_and_dot(rt: HostRuntime) {
-    let bytes = written(rt.alloc(), origin(2, 1), dot(2, 1, 258));
+    let bytes = written(rt.alloc(), Version::Two, origin(2, 1), dot(2, 1, 258));
     let wanted =
         b"\x02\x00\x00\x00\x00\x00\x00\x00\x01\x02\x00\x00\x00\x00\x00\x00\x00\x01\x00\x00\x00\x00\x00\x00\x01\x02";
     assert!(rt; are_bytes(bytes, wanted));
@@ -184,7 +206,7 @@ fn context(alloc: Global, dots: &[(u8, u64, u64)]) -> Result<Context, NoMemory> 
 
 /// The context of some dots as bytes.
 fn context_bytes(alloc: Global, dots: &[(u8, u64, u64)]) -> Result<Vec<u8>, NoMemory> {
-    let writer = ByteWriter::new(alloc).write_context(&context(alloc, dots)?)?;
+    let writer = ByteWriter::new(alloc).write_context(Version::Two, &context(alloc, dots)?)?;
     Ok(writer.into_bytes())
 }
 
@@ -197,7 +219,7 @@ fn contexts_as_bytes(rt: HostRuntime) {
 
 /// Whether the bytes are read as the context of some dots.
 fn is_read(alloc: Global, bytes: &[u8], dots: &[(u8, u64, u64)]) -> Result<bool, ReadFault> {
-    let (read, _) = ByteReader::new(bytes).read_context(alloc, 3)?;
+    let (read, _) = ByteReader::new(bytes).read_context(alloc, Version::Two, 3)?;
     let wanted = context(alloc, dots)?;
     Ok(read.len() == wanted.len() && read.is_subset(&wanted))
 }
