@@ -15,9 +15,8 @@ use crate::reading_fields::{read_key, read_known_dot, read_permit, read_some};
 use dac_base::NoMemory;
 use dac_bytes::{ByteReader, ReadFault, Version};
 use dac_config::Config;
-use dac_store::Context;
 use dac_lattice::Flag;
-use dac_store::{Causal, DotFun, DotMap, DotSet, DotStore};
+use dac_store::{Causal, Context, DotFun, DotMap, DotSet, DotStore};
 use dac_wishes::{Key, Permissions, Wishes};
 use std::alloc::Global;
 

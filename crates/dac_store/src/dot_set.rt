@@ -7,8 +7,8 @@ ghost use Rattle.dac_store.specs.DotSets.{join_sets, may_stay};
 
 use crate::DotStore;
 use crate::few::FewDots;
-use dac_dots::keys::holds_key;
 use dac_contexts::Context;
+use dac_dots::keys::holds_key;
 use dac_dots::{Dot, NoMemory};
 use std::alloc::Global;
 use std::marker::Model;

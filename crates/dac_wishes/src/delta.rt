@@ -4,9 +4,8 @@ ghost use Rattle.std.specs.FinSet as set;
 ghost use Rattle.dac_store.specs.Stores.{IsHeld};
 
 use dac_base::NoMemory;
-use dac_store::Context;
 use dac_dots::Dot;
-use dac_store::{Causal, DotStore};
+use dac_store::{Causal, Context, DotStore};
 use std::alloc::Global;
 
 /// The dots that an operation names: its own, and those that it replaces.

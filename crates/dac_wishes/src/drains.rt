@@ -10,9 +10,8 @@ use crate::drain_act::DrainAct;
 use crate::votes::{kept_at, kept_delta};
 use dac_base::{NoMemory, NodeId};
 use dac_dots::{Dot, Origin};
-use dac_store::Context;
 use dac_lattice::{Bottom, Flag, Lattice, Piece};
-use dac_store::{Causal, DotFun, DotMap, DotStore};
+use dac_store::{Causal, Context, DotFun, DotMap, DotStore};
 use std::alloc::Global;
 use std::marker::Model;
 

@@ -9,10 +9,9 @@ use crate::key::Key;
 use crate::permit_act::PermitAct;
 use crate::votes::{kept_at, kept_delta};
 use dac_base::NoMemory;
-use dac_store::Context;
 use dac_dots::Dot;
 use dac_lattice::{Bottom, Flag, Lattice, Piece};
-use dac_store::{Causal, DotFun, DotMap};
+use dac_store::{Causal, Context, DotFun, DotMap};
 use std::alloc::Global;
 use std::marker::Model;
 

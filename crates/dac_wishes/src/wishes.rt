@@ -9,10 +9,9 @@ use crate::delta::{beside, named_by};
 use crate::key::Key;
 use crate::wish_act::WishAct;
 use dac_base::NoMemory;
-use dac_store::Context;
 use dac_dots::Dot;
 use dac_lattice::{Bottom, Lattice, Piece};
-use dac_store::{Causal, DotMap, DotSet, DotStore};
+use dac_store::{Causal, Context, DotMap, DotSet, DotStore};
 use std::alloc::Global;
 use std::marker::Model;
 
