@@ -120,8 +120,7 @@ fn read_keyed_permits<'a>(
     ensures { Gives (λ x. x) result (keyed_votes_at (key_above_at version config.now) (permits_of_key_at version config.now known.now) before reader.entry) }
 {
     let (key, rest) = read_key(reader, version, config, before)?;
-    let (permits, rest) =
-        read_votes_of_key(rest, alloc, version, config.nodes(), known, Flag::Up)?;
+    let (permits, rest) = read_votes_of_key(rest, alloc, version, config.nodes(), known, Flag::Up)?;
     Ok(((key, permits), rest))
 }
 
@@ -222,8 +221,14 @@ fn read_keyed_drains<'a>(
     ensures { Gives (λ x. x) result (keyed_votes_at (origin_above_at Two (node_count config.now)) (drains_of_key_at config.now known.now) before reader.entry) }
 {
     let (at, rest) = reader.read_origin_above(Version::Two, config.nodes(), before)?;
-    let (drains, rest) =
-        read_votes_of_key(rest, alloc, Version::Two, config.nodes(), known, Flag::Down)?;
+    let (drains, rest) = read_votes_of_key(
+        rest,
+        alloc,
+        Version::Two,
+        config.nodes(),
+        known,
+        Flag::Down,
+    )?;
     Ok(((at, drains), rest))
 }
 

@@ -16,9 +16,7 @@ use dac_bytes::{ByteReader, ReadFault, ReadFaultKind, Version};
 use dac_chains::{Claims, Lives};
 use dac_contexts::Context;
 use dac_lattice::Lattice;
-use dac_part_bytes::{
-    Config, read_claims, read_drains, read_lives, read_permissions, read_wishes,
-};
+use dac_part_bytes::{Config, read_claims, read_drains, read_lives, read_permissions, read_wishes};
 use dac_wishes::{Drains, Permissions, Wishes};
 use std::alloc::Global;
 

@@ -125,7 +125,11 @@ type Counts = (u64, Option<(Origin, u64)>);
 
 /// How many deltas the sender had, and what it got.
 #[tactic(auto, unfolding(crate::specs::Reading::counts_at))]
-fn read_counts<'a>(reader: ByteReader<'a>, version: Version, nodes: u8) -> Result<(Counts, ByteReader<'a>), ReadFault>
+fn read_counts<'a>(
+    reader: ByteReader<'a>,
+    version: Version,
+    nodes: u8,
+) -> Result<(Counts, ByteReader<'a>), ReadFault>
     ensures exact { result ≡ counts_at version nodes reader.entry }
     ensures real { IsOfBytes result }
 {

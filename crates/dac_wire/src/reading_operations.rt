@@ -166,7 +166,10 @@ fn read_listed_claim<'a>(
 
 /// Which act it is.
 #[tactic(auto, unfolding(crate::specs::Reading::act_kind_at))]
-fn read_act_kind<'a>(reader: ByteReader<'a>, version: Version) -> Result<(ActKind, ByteReader<'a>), ReadFault>
+fn read_act_kind<'a>(
+    reader: ByteReader<'a>,
+    version: Version,
+) -> Result<(ActKind, ByteReader<'a>), ReadFault>
     ensures exact { result ≡ act_kind_at version reader.entry }
     ensures real { IsOfBytes result }
 {
