@@ -88,6 +88,10 @@ node_at nodes r = do
 abbrev pub incarnation_at : Version → Rest → Field ℕ
 incarnation_at version r = range_at (incarnation_width version) 1 (highest_incarnation version) r
 
+-- an incarnation, or 0
+abbrev pub incarnation_or_zero_at : Version → Rest → Field ℕ
+incarnation_or_zero_at version r = range_at (incarnation_width version) 0 (highest_incarnation version) r
+
 -- a counter of a dot, 1 to 2^62
 abbrev pub counter_at : Rest → Field ℕ
 counter_at r = range_at w64 1 MAX_COUNTER r

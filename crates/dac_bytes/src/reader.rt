@@ -1,7 +1,7 @@
 //! Bytes that are being read: numbers, nodes, origins and dots.
 ghost use Rattle.std.specs.Prelude.{◌≡◌, ◌↔◌, ◌≤◌, IfOk, IsTrue, [], length};
 ghost use Rattle.std.specs.Int.{w8, w16, w32, w64};
-ghost use Rattle.dac_bytes.specs.Reading.{IsOfBytes, Reads, after, taken, number_at, range_at, node_at, incarnation_at, counter_at, origin_at, dot_at, origin_above_at, dot_above_at, whole};
+ghost use Rattle.dac_bytes.specs.Reading.{IsOfBytes, Reads, after, taken, number_at, range_at, node_at, incarnation_at, incarnation_or_zero_at, counter_at, origin_at, dot_at, origin_above_at, dot_above_at, whole};
 
 use crate::fault::{ReadFault, ReadFaultKind};
 use crate::version::Version;
@@ -190,6 +190,27 @@ impl<'a> ByteReader<'a> {
             }
             Version::Two => {
                 let read = self.read_u64_in(1, MAX_INCARNATION)?;
+                Ok(read)
+            }
+        }
+    }
+
+    /// An incarnation, or 0, in four or in eight bytes. One above the greatest is `BadNumber` at its first
+    /// byte.
+    pub fn read_incarnation_or_zero(
+        self,
+        version: Version,
+    ) -> Result<(u64, ByteReader<'a>), ReadFault>
+        ensures exact { result ≡ incarnation_or_zero_at version self.entry }
+        ensures real { IsOfBytes result }
+    {
+        match version {
+            Version::One => {
+                let (inc, rest) = self.read_u32_in(0, u32::MAX)?;
+                Ok((u64::from(inc), rest))
+            }
+            Version::Two => {
+                let read = self.read_u64_in(0, MAX_INCARNATION)?;
                 Ok(read)
             }
         }

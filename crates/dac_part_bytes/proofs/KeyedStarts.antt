@@ -20,7 +20,7 @@ use Rattle.dac_wishes.specs.Writes.{Write, Writes, write, dots_at, contains-dots
 use Rattle.dac_wishes.specs.StoredWishes.{writes_of}
 use Rattle.dac_wishes.specs.StartsByKey.{starts_by_key, AreStarts, contains-writes_of, dots_stored, are_starts, starts_again, writes_again}
 use Rattle.dac_config.specs.Table.{Table}
-use Rattle.dac_part_bytes.specs.KeyedForm.{IsKnownDot, IsKnownWrite, AreStartsInForm}
+use Rattle.dac_part_bytes.specs.KeyedForm.{IsKey, IsKnownDot, IsKnownWrite, AreStartsInForm}
 use Rattle.dac_part_bytes.proofs.Entries.{sorted_of, rising_keys, all_has, has_all, found, all_found}
 use Rattle.dac_part_bytes.proofs.KeyedLists.{IsKeyedDots, AreStartsByKey}
 use Rattle.dac_part_bytes.proofs.InOrder.{no_dots, not_empty_set}
@@ -75,7 +75,7 @@ module _ (version : Version) (t : Table) (known : Dots) where
     pub list_again : starts_by_key (writes_of m) ≡ m
     list_again = starts_again m are_kept
 
-    known_at : (w : Write) (v : Option Dots) → find key_cmp w.key m ≡ v → set.contains (store_at set.empty v) w.dot ≡ true → IsKnownWrite version t known w
+    known_at : (w : Write) (v : Option Dots) → find key_cmp w.key m ≡ v → set.contains (store_at set.empty v) w.dot ≡ true → IsKnownWrite (IsKey version t) version t known w
     known_at w None e h = absurd (false≢true (sym (set.contains-empty dot_cmp w.dot) ∙ h))
     known_at w (Some s) e h =
         let at = at_key w.key s e in
@@ -101,7 +101,7 @@ module _ (version : Version) (t : Table) (known : Dots) where
     stored_at key s e =
         ap (store_at set.empty) (sym e) ∙ dots_stored (starts_by_key writes) (are_starts writes).in_order key ∙ ap (dots_at key) (writes_again writes)
 
-    stands : (key : Key) (s : Dots) → s ≡ dots_at key writes → (d : Dot) → set.contains s d ≡ true → IsKnownWrite version t known (write key d)
+    stands : (key : Key) (s : Dots) → s ≡ dots_at key writes → (d : Dot) → set.contains s d ≡ true → IsKnownWrite (IsKey version t) version t known (write key d)
     stands key s same d h = is.each (write key d) (sym (ap (λ (s : Dots). set.contains s d) same ∙ contains-dots_at key writes d) ∙ h)
 
     keyed : (key : Key) (s : Dots) → find key_cmp key (starts_by_key writes) ≡ Some s → IsKeyedDots version t known (key, s)

@@ -2,6 +2,7 @@
 -- are those of a configuration, and the dots that stand are among those that are known.
 use Rattle.std.specs.Prelude.{ℕ, zero, suc, ◌-◌, ◌^◌, Bool, ◌==◌, List, Option, Some, None, is_some, Ok, nat_lt, if◌then◌else◌}
 use Rattle.std.specs.Int.{w8, w16, w32}
+use Rattle.std.specs.declared.cmp.Ordering.{Ordering}
 use Rattle.std.specs.FinSet as set
 use Rattle.std.specs.FinMap as map
 use Rattle.dac_base.specs.declared.NodeId.{NodeId}
@@ -9,7 +10,7 @@ use Rattle.dac_base.specs.declared.AppId.{AppId}
 use Rattle.dac_base.specs.Ids.{app_cmp, node_cmp}
 use Rattle.dac_dots.specs.declared.dot.Dot.{Dot}
 use Rattle.dac_dots.specs.declared.dot.Origin.{Origin}
-use Rattle.dac_dots.specs.Dots.{Dots}
+use Rattle.dac_dots.specs.Dots.{Dots, origin_cmp}
 use Rattle.dac_lattice.specs.declared.flags.Flag.{Flag}
 use Rattle.dac_lattice.specs.declared.flags.Flag.TheVariants.{Up, Down}
 use Rattle.dac_chains.specs.declared.lives.Life.{Life}
@@ -22,12 +23,15 @@ use Rattle.dac_wishes.specs.declared.key.Key.{Key}
 use Rattle.dac_wishes.specs.Keys.{key_cmp}
 use Rattle.dac_wishes.specs.Writes.{Writes}
 use Rattle.dac_wishes.specs.PermissionsValue.{Permits}
-use Rattle.dac_wishes.specs.StoredPermits.{DotFlags, permits_of}
+use Rattle.dac_wishes.specs.DrainsValue.{Drains}
+use Rattle.dac_wishes.specs.StoredVotes.{DotFlags, votes_of}
+use Rattle.dac_wishes.specs.Votes.{Votes}
 use Rattle.dac_wishes.specs.StoredWishes.{writes_of}
 use Rattle.dac_config.specs.Table.{Table, node_count, app_count, group_of}
 use Rattle.dac_bytes.specs.declared.fault.ReadFaultKind.TheVariants.{BadNumber, BadOrder, BadName, NotInList, NotKnown}
-use Rattle.dac_bytes.specs.Reading.{Rest, Field, fault, ◌>>=◌, number_at, range_at, node_at, incarnation_at, counter_at, origin_at, dot_above_at, is_above, counted_at}
+use Rattle.dac_bytes.specs.Reading.{Rest, Field, fault, ◌>>=◌, number_at, range_at, node_at, incarnation_at, counter_at, origin_at, origin_above_at, dot_above_at, is_above, counted_at}
 use Rattle.dac_bytes.specs.declared.version.Version.{Version}
+use Rattle.dac_bytes.specs.declared.version.Version.TheVariants.{One, Two}
 
 -- ---- keys
 
@@ -64,7 +68,7 @@ key_above_at version t before r = do
   key ← listed_key_at version t r
   if is_above key_cmp before key.0 then Ok key else fault BadOrder r
 
--- ---- permits
+-- ---- votes: permits and drains
 
 -- a dot above the one before it, which is known
 unfoldable pub known_dot_at : Version → ℕ → Dots → Option Dot → Rest → Field Dot
@@ -72,42 +76,61 @@ known_dot_at version nodes known before r = do
   d ← dot_above_at version nodes before r
   if set.contains known d.0 then Ok d else fault NotKnown r
 
--- what a permit says, by its code
-abbrev pub value_of : ℕ → Flag
-value_of zero = Down
-value_of (suc n) = Up
+-- the flag of a vote, by the code of what it says, where the first flag stands for true
+abbrev pub said_flag : Flag → ℕ → Flag
+said_flag Up zero = Down
+said_flag Up (suc n) = Up
+said_flag Down zero = Up
+said_flag Down (suc n) = Down
 
--- a permit: its dot, and what it says
-unfoldable pub permit_at : Version → ℕ → Dots → Option Dot → Rest → Field (Dot × Flag)
-permit_at version nodes known before r = do
+-- a vote: its dot, and what it says
+unfoldable pub vote_at : Version → ℕ → Dots → Flag → Option Dot → Rest → Field (Dot × Flag)
+vote_at version nodes known truth before r = do
   d ← known_dot_at version nodes known before r
   value ← range_at w8 0 1 d.1
-  Ok ((d.0, value_of value.0), value.1)
+  Ok ((d.0, said_flag truth value.0), value.1)
 
 -- a count of at least one
 abbrev pub some_at : Rest → Field ℕ
 some_at r = range_at w32 1 (2 ^ 32 - 1) r
 
--- the permits of a key, at least one
-unfoldable pub permits_of_key_at : Version → ℕ → Dots → Rest → Field DotFlags
-permits_of_key_at version nodes known r = counted_at some_at (permit_at version nodes known) (λ (p : Dot × Flag). p.0) r
+-- the votes of a key, at least one
+unfoldable pub votes_of_key_at : Version → ℕ → Dots → Flag → Rest → Field DotFlags
+votes_of_key_at version nodes known truth r = counted_at some_at (vote_at version nodes known truth) (λ (p : Dot × Flag). p.0) r
 
--- a key above the one before it, with its permits
-unfoldable pub keyed_permits_at : Version → Table → Dots → Option Key → Rest → Field (Key × DotFlags)
-keyed_permits_at version t known before r = do
-  key ← key_above_at version t before r
-  permits ← permits_of_key_at version (node_count t) known key.1
-  Ok ((key.0, permits.0), permits.1)
+-- a key above the one before it, with its votes
+unfoldable pub keyed_votes_at : {K : Type 0} → (Option K → Rest → Field K) → (Rest → Field DotFlags) → Option K → Rest → Field (K × DotFlags)
+keyed_votes_at key_above votes before r = do
+  key ← key_above before r
+  ps ← votes key.1
+  Ok ((key.0, ps.0), ps.1)
 
--- the permits, by key
-unfoldable pub permits_by_key_at : Version → Table → Dots → Rest → Field (List (Key × DotFlags))
-permits_by_key_at version t known r = counted_at (number_at w32) (keyed_permits_at version t known) (λ (e : Key × DotFlags). e.0) r
+-- the votes, by key
+unfoldable pub votes_by_key_at : {K : Type 0} → (Option K → Rest → Field K) → (Rest → Field DotFlags) → Rest → Field (List (K × DotFlags))
+votes_by_key_at {K = K} key_above votes r = counted_at (number_at w32) (keyed_votes_at key_above votes) (λ (e : K × DotFlags). e.0) r
+
+-- the votes
+unfoldable pub all_votes_at : {K : Type 0} (R : K → K → Ordering) → (Option K → Rest → Field K) → (Rest → Field DotFlags) → Rest → Field (Votes R)
+all_votes_at R key_above votes r = do
+  keyed ← votes_by_key_at key_above votes r
+  Ok (votes_of R keyed.0, keyed.1)
+
+-- the permits of a key, of which Up says true
+abbrev pub permits_of_key_at : Version → Table → Dots → Rest → Field DotFlags
+permits_of_key_at version t known = votes_of_key_at version (node_count t) known Up
 
 -- the permits
-unfoldable pub all_permits_at : Version → Table → Dots → Rest → Field Permits
-all_permits_at version t known r = do
-  keyed ← permits_by_key_at version t known r
-  Ok (permits_of keyed.0, keyed.1)
+abbrev pub all_permits_at : Version → Table → Dots → Rest → Field Permits
+all_permits_at version t known = all_votes_at key_cmp (key_above_at version t) (permits_of_key_at version t known)
+
+-- the drains of an incarnation of a node, of which Down says true
+abbrev pub drains_of_key_at : Table → Dots → Rest → Field DotFlags
+drains_of_key_at t known = votes_of_key_at Two (node_count t) known Down
+
+-- the drains; version one has none
+abbrev pub all_drains_at : Version → Table → Dots → Rest → Field Drains
+all_drains_at One t known r = Ok (map.empty, r)
+all_drains_at Two t known r = all_votes_at origin_cmp (origin_above_at Two (node_count t)) (drains_of_key_at t known) r
 
 -- ---- start wishes
 

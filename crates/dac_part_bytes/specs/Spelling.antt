@@ -1,13 +1,14 @@
--- The parts of a state as bytes: permits, start wishes, lives and claims. Numbers are written as in `dac_bytes`, the
+-- The parts of a state as bytes: permits, start wishes, lives, claims and drains. Numbers are written as in `dac_bytes`, the
 -- highest byte first, and one that doesn't fit by its lowest bits.
-use Rattle.std.specs.Prelude.{ℕ, ◌+◌, List, ◌++◌, length, Option, None, Some}
+use Rattle.std.specs.Prelude.{ℕ, ◌+◌, List, [], ◌++◌, length, Option, None, Some}
+use Rattle.std.specs.declared.cmp.Ordering.{Ordering}
 use Rattle.std.specs.List.{flat_map}
 use Rattle.std.specs.FinMap as map
 use Rattle.dac_base.specs.declared.NodeId.{NodeId}
 use Rattle.dac_base.specs.declared.AppId.{AppId}
 use Rattle.dac_dots.specs.declared.dot.Dot.{Dot}
 use Rattle.dac_dots.specs.declared.dot.Origin.{Origin}
-use Rattle.dac_dots.specs.Dots.{Dots}
+use Rattle.dac_dots.specs.Dots.{Dots, origin_cmp}
 use Rattle.dac_dots.specs.InOrder.{in_order}
 use Rattle.dac_lattice.specs.declared.flags.Flag.{Flag}
 use Rattle.dac_lattice.specs.declared.flags.Flag.TheVariants.{Up, Down}
@@ -18,14 +19,18 @@ use Rattle.dac_chains.specs.declared.claims.How.TheVariants.{Normal, Failover, T
 use Rattle.dac_chains.specs.Lives.{Lives}
 use Rattle.dac_chains.specs.Claims.{Claims}
 use Rattle.dac_wishes.specs.declared.key.Key.{Key}
+use Rattle.dac_wishes.specs.Keys.{key_cmp}
 use Rattle.dac_wishes.specs.Writes.{Writes}
 use Rattle.dac_wishes.specs.PermissionsValue.{Permits}
-use Rattle.dac_wishes.specs.StoredPermits.{DotFlags}
+use Rattle.dac_wishes.specs.DrainsValue.{Drains}
 use Rattle.dac_wishes.specs.StartsByKey.{starts_by_key}
-use Rattle.dac_wishes.specs.PermitsByKey.{permits_by_key}
+use Rattle.dac_wishes.specs.StoredVotes.{DotFlags}
+use Rattle.dac_wishes.specs.Votes.{Votes}
+use Rattle.dac_wishes.specs.VotesByKey.{votes_by_key}
 use Rattle.dac_bytes.specs.Numbers.{u8_bytes, u16_bytes, u32_bytes, u64_bytes}
 use Rattle.dac_bytes.specs.Spelling.{dot_bytes, incarnation_bytes, origin_bytes}
 use Rattle.dac_bytes.specs.declared.version.Version.{Version}
+use Rattle.dac_bytes.specs.declared.version.Version.TheVariants.{One, Two}
 
 -- an application, in two bytes
 abbrev pub app_bytes : AppId → List ℕ
@@ -39,24 +44,41 @@ key_origin key = record { node = key.node; inc = key.inc }
 unfoldable pub key_bytes : Version → Key → List ℕ
 key_bytes version key = app_bytes key.app ++ origin_bytes version (key_origin key)
 
--- ---- permits and start wishes
+-- ---- votes: permits and drains
 
--- what a permit says: 0 for false, 1 for true
-abbrev pub value_code : Flag → ℕ
-value_code Up = 1
-value_code Down = 0
+-- what a vote says, 0 for false and 1 for true, where the first flag stands for true
+abbrev pub said_code : Flag → Flag → ℕ
+said_code Up Up = 1
+said_code Up Down = 0
+said_code Down Up = 0
+said_code Down Down = 1
 
--- a permit: its dot, and what it says
-unfoldable pub permit_bytes : Version → Dot × Flag → List ℕ
-permit_bytes version p = dot_bytes version p.0 ++ u8_bytes (value_code p.1)
+-- a vote: its dot, and what it says
+unfoldable pub vote_bytes : Version → Flag → Dot × Flag → List ℕ
+vote_bytes version truth p = dot_bytes version p.0 ++ u8_bytes (said_code truth p.1)
 
--- a key, how many permits it has, and these
-unfoldable pub keyed_permits_bytes : Version → Key × DotFlags → List ℕ
-keyed_permits_bytes version e = key_bytes version e.0 ++ u32_bytes (length e.1) ++ flat_map (permit_bytes version) e.1
+-- how many votes a key has, and these
+unfoldable pub votes_of_key_bytes : Version → Flag → DotFlags → List ℕ
+votes_of_key_bytes version truth ps = u32_bytes (length ps) ++ flat_map (vote_bytes version truth) ps
 
--- how many keys have permits, and the permits of each, in ascending order
-unfoldable pub permits_bytes : Version → Permits → List ℕ
-permits_bytes version permits = u32_bytes (length (permits_by_key permits)) ++ flat_map (keyed_permits_bytes version) (permits_by_key permits)
+-- a key by its own text, and its votes
+unfoldable pub keyed_votes_bytes : {K : Type 0} → (K → List ℕ) → Version → Flag → K × DotFlags → List ℕ
+keyed_votes_bytes key_text version truth e = key_text e.0 ++ votes_of_key_bytes version truth e.1
+
+-- how many keys have votes, and the votes of each, in ascending order
+unfoldable pub votes_bytes : {K : Type 0} (R : K → K → Ordering) → (K → List ℕ) → Version → Flag → Votes R → List ℕ
+votes_bytes R key_text version truth votes = u32_bytes (length (votes_by_key R votes)) ++ flat_map (keyed_votes_bytes key_text version truth) (votes_by_key R votes)
+
+-- permits, of which Up says true
+abbrev pub permits_bytes : Version → Permits → List ℕ
+permits_bytes version = votes_bytes key_cmp (key_bytes version) version Up
+
+-- drains, of which Down says true; version one has no bytes for them
+abbrev pub drains_bytes : Version → Drains → List ℕ
+drains_bytes One drains = []
+drains_bytes Two drains = votes_bytes origin_cmp (origin_bytes Two) Two Down drains
+
+-- ---- start wishes
 
 -- a key, how many start wishes it has, and their dots
 unfoldable pub keyed_dots_bytes : Version → Key × List Dot → List ℕ

@@ -6,7 +6,7 @@ ghost use Rattle.dac_bytes.specs.Takes.{IsFoundAs, IsReadAgain};
 ghost use Rattle.dac_part_bytes.specs.ChainForm.{IsFromFor};
 ghost use Rattle.dac_part_bytes.specs.KeyedForm.{IsKeyAbove};
 ghost use Rattle.dac_part_bytes.specs.Spelling.{app_bytes, key_bytes, manner_bytes};
-ghost use Rattle.dac_part_bytes.specs.Reading.{app_at, fitting_code_at, flag_of, from_at, from_code_at, from_of, how_at, how_of, inc_and_flag_at, is_from_of, is_listed, key_above_at, key_fields_at, known_dot_at, listed_key_at, manner_at, node_above_at, permit_at, some_at, value_of};
+ghost use Rattle.dac_part_bytes.specs.Reading.{app_at, fitting_code_at, flag_of, from_at, from_code_at, from_of, how_at, how_of, inc_and_flag_at, is_from_of, is_listed, key_above_at, key_fields_at, known_dot_at, listed_key_at, manner_at, node_above_at, some_at};
 
 use dac_base::{AppId, NodeId};
 use dac_bytes::{ByteReader, ReadFault, ReadFaultKind, Version};
@@ -177,32 +177,6 @@ pub(crate) fn read_some<'a>(reader: ByteReader<'a>) -> Result<(u32, ByteReader<'
 {
     let read = reader.read_u32_in(1, u32::MAX)?;
     Ok(read)
-}
-
-fn value_of(code: u8) -> Flag
-    ensures { result ≡ value_of code }
-{
-    match code {
-        0 => Flag::Down,
-        _ => Flag::Up,
-    }
-}
-
-/// A permit with a dot above the one before it.
-#[tactic(auto, unfolding(crate::specs::Reading::permit_at))]
-pub(crate) fn read_permit<'a>(
-    reader: ByteReader<'a>,
-    version: Version,
-    nodes: u8,
-    known: &Context,
-    before: Option<Dot>,
-) -> Result<((Dot, Flag), ByteReader<'a>), ReadFault>
-    ensures exact { result ≡ permit_at version nodes known.now before reader.entry }
-    ensures real { IsOfBytes result }
-{
-    let (dot, rest) = read_known_dot(reader, version, nodes, known, before)?;
-    let (value, rest) = rest.read_u8_in(0, 1)?;
-    Ok(((dot, value_of(value)), rest))
 }
 
 /// A node above the one before it.

@@ -1,17 +1,14 @@
 -- Parts that show what a state shows make it.
-use Rattle.std.specs.Prelude.{◌≡◌, is_some}
+use Rattle.std.specs.Prelude.{◌≡◌}
 use Rattle.std.proofs.Common.{sym, ap, subst, ◌∙◌}
 use Rattle.std.specs.FinSet as set
-use Rattle.std.specs.FinMap as map
-use Rattle.std.proofs.lemmas.Bool.{false≢true}
-use Rattle.dac_dots.specs.Dots.{Dots, IsSubset, origin_cmp}
+use Rattle.dac_dots.specs.Dots.{Dots, IsSubset}
 use Rattle.dac_chains.specs.Greatest.{greater}
 use Rattle.dac_chains.specs.Lives.{Lives, life_cmp}
 use Rattle.dac_chains.specs.Claims.{Claims, claim_cmp}
 use Rattle.dac_wishes.specs.WishesValue.{WishesValue, AreWishes, join_wishes}
 use Rattle.dac_wishes.specs.PermissionsValue.{PermissionsValue, ArePermissions, IsPermissionsBelow, join_permissions}
-use Rattle.dac_wishes.specs.KeyedWrites.{keyed_write_cmp}
-use Rattle.dac_wishes.specs.DrainsValue.{DrainsValue, AreDrainsBelow, join_drains}
+use Rattle.dac_wishes.specs.DrainsValue.{DrainsValue, AreDrains, AreDrainsBelow, join_drains}
 use Rattle.dac_meaning.specs.StateValue.{StateValue, IsState, permissions_of, wishes_of, drains_of, join}
 use Rattle.dac_meaning.specs.laws.StateLaws.{heard-join, permissions-join, wishes-join, lives-join, claims-join, drains-join}
 use Rattle.dac_state.specs.Parts.{AreParts, state_of_parts}
@@ -72,18 +69,19 @@ module _ {h g : Dots} {p q : PermissionsValue} {w v : WishesValue} {l m : Lives}
   pub drains_shown_below : AreDrainsBelow (drains_of (state_of_parts h p w l c r)) (drains_of (state_of_parts g q v m d u)) → AreDrainsBelow r u
   drains_shown_below e = subst (λ x. AreDrainsBelow x u) (sym (drains_is one)) (subst (AreDrainsBelow (drains_of (state_of_parts h p w l c r))) (sym (drains_is other)) e)
 
--- what is read makes a state: permissions and wishes beside the dots known, and no drains
-pub read_are_parts : {h k : Dots} {p : PermissionsValue} {w : WishesValue} {l : Lives} {c : Claims} {r : DrainsValue} → IsSubset h k → p.known ≡ k → w.known ≡ k → r ≡ record { known = k; standing = map.empty }
-    → ArePermissions p → AreWishes w → AreParts h p w l c r
-read_are_parts {h = h} {p = p} {r = r} within permitted wished none are_permissions are_wishes =
+-- what is read makes a state: permissions, wishes and drains beside the dots known
+pub read_are_parts : {h k : Dots} {p : PermissionsValue} {w : WishesValue} {l : Lives} {c : Claims} {r : DrainsValue} → IsSubset h k → p.known ≡ k → w.known ≡ k → r.known ≡ k
+    → ArePermissions p → AreWishes w → AreDrains r → AreParts h p w l c r
+read_are_parts {h = h} {p = p} {r = r} within permitted wished drained are_permissions are_wishes are_drains =
     let alike = permitted ∙ sym wished in
+    let drains_alike = drained ∙ sym wished in
     record {
       alike = alike;
-      drained = ap (λ (v : DrainsValue). v.known) none ∙ sym wished;
+      drained = drains_alike;
       state = record {
         heard = subst (IsSubset h) (sym wished) within;
         permits = subst (λ k. ArePermissions (record { known = k; standing = p.standing })) alike are_permissions;
         starts = are_wishes;
-        drains = λ x e. absurd (false≢true (ap is_some (sym (map.get-empty (keyed_write_cmp origin_cmp) x)) ∙ ap (λ (v : DrainsValue). is_some (map.get v.standing x)) (sym none) ∙ e));
+        drains = subst (λ k. AreDrains (record { known = k; standing = r.standing })) drains_alike are_drains;
       };
     }

@@ -5,8 +5,8 @@
 //! alone. The state of one operation is what it means alone ([`State::delta_of`]). The join of what two sets mean is
 //! what both mean together, so nothing is lost. States are a lattice, for every value of the type.
 //!
-//! A state has one spelling in bytes ([`State::encode`]), and is read from it ([`State::decode`]). It keeps none of the
-//! operations.
+//! A state has one spelling in bytes ([`State::encode`]), and is read from it ([`State::decode`]). A state without
+//! drains has an older one too, in version 1 of the bytes ([`State::decode_1`]). A state keeps none of the operations.
 #![tactic(auto)]
 
 pub mod laws;

@@ -1,5 +1,7 @@
 -- The codes that stand for what a packet and an act are.
-use Rattle.std.specs.Prelude.{ℕ, zero, suc, Bool, true, false, Option, None, Some}
+use Rattle.std.specs.Prelude.{ℕ, zero, suc, ◌≤◌, Bool, true, false, Option, None, Some}
+use Rattle.dac_bytes.specs.declared.version.Version.{Version}
+use Rattle.dac_bytes.specs.declared.version.Version.TheVariants.{One, Two}
 use Rattle.dac_messages.specs.declared.message.Body.{Body}
 use Rattle.dac_messages.specs.declared.message.Body.TheVariants.{Whole as WholeBody, Interval as IntervalBody, Nothing as NoBody}
 use Rattle.dac_operations.specs.declared.act.Act.{Act}
@@ -69,6 +71,15 @@ kind_of_act (StartAct key over) = Start
 kind_of_act (StopAct key over) = Stop
 kind_of_act (DrainAct node inc value over) = Drain
 kind_of_act (ClaimAct app term how from) = Claim
+
+-- the highest code of an act; version one has no drains
+abbrev pub highest_act : Version → ℕ
+highest_act One = 6
+highest_act Two = 7
+
+-- the version has such acts
+abbrev pub IsKindIn : Version → ActKind → Type 0
+IsKindIn version kind = act_code kind ≤ highest_act version
 
 -- ---- values
 

@@ -1,8 +1,9 @@
 //! The codes that stand for what a packet and an act are.
 ghost use Rattle.std.specs.Prelude.{◌≡◌};
-ghost use Rattle.dac_wire.specs.Codes.{act_code, act_of_code, kind_of_act, kind_of_packet, only_code, only_of_code, packet_code, packet_of_code, value_code, value_of_code};
+ghost use Rattle.dac_wire.specs.Codes.{act_code, act_of_code, highest_act, kind_of_act, kind_of_packet, only_code, only_of_code, packet_code, packet_of_code, value_code, value_of_code};
 
 use crate::packet::Packet;
+use dac_bytes::Version;
 use dac_messages::Body;
 use dac_operations::Act;
 
@@ -96,6 +97,16 @@ pub(crate) fn act_code(kind: ActKind) -> u8
         ActKind::Stop => 5,
         ActKind::Claim => 6,
         ActKind::Drain => 7,
+    }
+}
+
+/// The highest code of an act. Version one has no drains.
+pub(crate) fn highest_act(version: Version) -> u8
+    ensures { result ≡ highest_act version }
+{
+    match version {
+        Version::One => 6,
+        Version::Two => 7,
     }
 }
 

@@ -16,7 +16,7 @@ use Rattle.dac_bytes.specs.declared.version.Version.TheVariants.{One, Two}
 use Rattle.dac_bytes.specs.Versions.{incarnation_width, highest_incarnation}
 use Rattle.dac_bytes.specs.Numbers.{u8_bytes, u16_bytes, u32_bytes, u64_bytes}
 use Rattle.dac_bytes.specs.Ranges.{IsIncarnation, IsOrigin, IsDot}
-use Rattle.dac_bytes.specs.Reading.{Rest, ◌>>=◌, after, fault, number_at, range_at, node_at, incarnation_at, counter_at, origin_at, dot_at, is_above, origin_above_at, dot_above_at}
+use Rattle.dac_bytes.specs.Reading.{Rest, ◌>>=◌, after, fault, number_at, range_at, node_at, incarnation_at, incarnation_or_zero_at, counter_at, origin_at, dot_at, is_above, origin_above_at, dot_above_at}
 use Rattle.dac_bytes.specs.Spelling.{incarnation_bytes, origin_bytes, dot_bytes}
 use Rattle.dac_bytes.specs.Takes.{IsBytes, IsBytes-take, Takes, TakesAs, Again, Takes-front, bind_ok, guard_ok, wanted_ok, TakesAs-more, TakesAs-guard, TakesAs-wanted, TakesAs-both, Again-guard, Again-wanted, Again-both}
 
@@ -180,6 +180,17 @@ pub incarnation_again : (version : Version) (n : ℕ) → IsIncarnation version 
 unfolding incarnation_bytes
 incarnation_again version n is =
     range_again (incarnation_width version) (beyond_incarnation version) (wide_incarnation version) 1 (highest_incarnation version) (incarnation_fits version) n is.0 is.1
+
+pub incarnation_or_zero_takes : (version : Version) → TakesAs (incarnation_or_zero_at version) (incarnation_bytes version) (λ n. n ≤ highest_incarnation version)
+unfolding incarnation_bytes
+incarnation_or_zero_takes version =
+    TakesAs-more (incarnation_or_zero_at version) (incarnation_bytes version) (λ n. (0 ≤ n) × (n ≤ highest_incarnation version)) (λ n. n ≤ highest_incarnation version)
+    (range_takes (incarnation_width version) (beyond_incarnation version) (wide_incarnation version) 0 (highest_incarnation version)) (λ n is. is.1)
+
+pub incarnation_or_zero_again : (version : Version) (n : ℕ) → n ≤ highest_incarnation version → Again (incarnation_or_zero_at version) (incarnation_bytes version n) n
+unfolding incarnation_bytes
+incarnation_or_zero_again version n le =
+    range_again (incarnation_width version) (beyond_incarnation version) (wide_incarnation version) 0 (highest_incarnation version) (incarnation_fits version) n (omega arith) le
 
 pub counter_takes : TakesAs counter_at u64_bytes (λ n. (1 ≤ n) × (n ≤ MAX_COUNTER))
 counter_takes = u64_in_takes 1 MAX_COUNTER
