@@ -36,6 +36,11 @@ const STOP: Command = Command::Stop {
     node: SECOND,
 };
 
+const DRAIN: Command = Command::Drain {
+    node: SECOND,
+    value: true,
+};
+
 const TAKEOVER: Command = Command::Takeover { app: APP };
 
 /// One application at either of two nodes.
@@ -79,6 +84,17 @@ fn permit(alloc: Global) -> Act {
     }
 }
 
+/// A drain of the second node that replaces nothing.
+fn drain(alloc: Global) -> Act {
+    let over = DotList::new(Vec::new(alloc));
+    Act::Drain {
+        node: SECOND,
+        inc: 1,
+        value: true,
+        over,
+    }
+}
+
 /// What comes of an event at the second node.
 pub fn step(config: &Config, node: &mut Node, event: Event) -> Result<Reply, Refusal> {
     node.step(config, SECOND, event)
@@ -110,7 +126,7 @@ fn accepts(config: &Config, node: &Node, command: Command) -> bool {
 
 /// Whether this is why the node refuses each command.
 fn refuses_all(config: &Config, node: &Node, why: Refusal) -> bool {
-    [DOWN, PERMIT, START, STOP]
+    [DOWN, PERMIT, START, STOP, DRAIN]
         .iter()
         .all(|command| refuses(config, node, *command, why))
 }
@@ -136,6 +152,16 @@ pub fn hears_starts(alloc: Global, config: &Config, node: &mut Node, end: u64) -
 fn hears_permits(alloc: Global, config: &Config, node: &mut Node) -> bool {
     for n in 2..1_027 {
         if !hears(config, node, dot(0, 1, n), permit(alloc)) {
+            return false;
+        }
+    }
+    true
+}
+
+/// Whether the node hears a drain by each operation of the first node from the second one on, below this counter.
+fn hears_drains(alloc: Global, config: &Config, node: &mut Node, end: u64) -> bool {
+    for n in 2..end {
+        if !hears(config, node, dot(0, 1, n), drain(alloc)) {
             return false;
         }
     }
@@ -175,6 +201,24 @@ fn permits_are_too_many(alloc: Global) -> Option<bool> {
 #[test]
 fn too_many_permits(rt: HostRuntime) {
     assert!(rt; permits_are_too_many(rt.alloc()) == Some(true));
+}
+
+/// Whether 1,024 drains are replaced by another, and one more is too many.
+fn drains_are_too_many(alloc: Global) -> Option<bool> {
+    let config = read_config(alloc, ONE).ok()?;
+    let mut node = booted(alloc, &config)?;
+    let most = hears_drains(alloc, &config, &mut node, 1_026) && accepts(&config, &node, DRAIN);
+    let more = hears(&config, &mut node, dot(0, 1, 1_026), drain(alloc));
+    Some(
+        most && more
+            && refuses(&config, &node, DRAIN, Refusal::TooManyDots)
+            && accepts(&config, &node, PERMIT),
+    )
+}
+
+#[test]
+fn too_many_drains(rt: HostRuntime) {
+    assert!(rt; drains_are_too_many(rt.alloc()) == Some(true));
 }
 
 /// Whether a node that heard of an operation of its own with the last counter refuses each command.

@@ -21,6 +21,8 @@ pub enum Kind {
     Stop(u16),
     /// It isn't permitted there.
     Forbid(u16),
+    /// It is drained.
+    Drain,
     /// It claims the application at a term.
     Claim(u16, u64, How, Option<NodeId>),
 }
@@ -50,6 +52,7 @@ fn counter_of(kind: Kind) -> u64 {
         Kind::Stop(app) => 20 + u64::from(app),
         Kind::Forbid(app) => 30 + u64::from(app),
         Kind::Claim(app, _, _, _) => 40 + u64::from(app),
+        Kind::Drain => 45,
         Kind::Down(node, inc) => 50 + 4 * u64::from(node) + inc,
     }
 }
@@ -93,6 +96,12 @@ fn act(step: Step, over: DotList) -> Act {
         Kind::Forbid(app) => Act::Permit {
             key: key(app, node, inc),
             value: false,
+            over,
+        },
+        Kind::Drain => Act::Drain {
+            node: NodeId(node),
+            inc,
+            value: true,
             over,
         },
         Kind::Claim(app, term, how, from) => Act::Claim {

@@ -226,15 +226,12 @@ fn drain(config: &Config, words: &[&[u8]]) -> Result<ScriptLine, ScriptFaultKind
     ensures line { result ≡ drain_line config.now (map (λ word. word.now) words.now) }
     ensures actors { IfOk result (HasActors (node_count config.now)) }
 {
-    let (node, subject, value) = three(words)?;
+    let (node, about, value) = three(words)?;
     let value = truth(value)?;
-    let (node, subject) = nodes_in(config, node, subject)?;
+    let (node, about) = nodes_in(config, node, about)?;
     Ok(ScriptLine::Event(WorldEvent {
         node,
-        what: What::Command(Command::Drain {
-            node: subject,
-            value,
-        }),
+        what: What::Command(Command::Drain { node: about, value }),
     }))
 }
 
