@@ -17,7 +17,7 @@ use Rattle.dac_bytes.specs.Reading.{Rest, Field, number_at, range_at, is_above}
 use Rattle.dac_bytes.specs.Spelling.{dot_bytes}
 use Rattle.dac_bytes.specs.Takes.{IsCodec, Passes}
 use Rattle.dac_bytes.specs.declared.version.Version.{Version}
-use Rattle.dac_bytes.specs.laws.Ascending.{IsNext, AreCounted, counted_codec}
+use Rattle.dac_bytes.specs.laws.Ascending.{IsNext, counted_codec}
 use Rattle.dac_bytes.specs.laws.Codecs.{codec_both}
 use Rattle.dac_bytes.specs.laws.Fields.{u8_in_takes, u8_in_again, u32_takes, u32_again, u32_in_takes, u32_in_again}
 use Rattle.dac_part_bytes.specs.KeyedForm.{IsKnownDot}

@@ -70,10 +70,12 @@ module _ (version : Version) (t : Table) (bytes : List ℕ) where
 
 -- ---- by the version that the bytes name
 
--- what is a packet of a version is one of some version
-pub found_in : (P : Version → Packet → Type 0) (version : Version) (result : Result Packet WireFault) → IfOk result (P version) → IfOk result (λ p. (version : Version) × P version p)
-found_in P version (Ok p) found = (version, found)
-found_in P version (Err e) found = tt
+-- the spelling of a packet in a version is one in some version
+pub found_in : (t : Table) (bytes : List ℕ) (version : Version) (result : Result Packet WireFault)
+    → IfOk result (λ p. IsPacket version t p × (bytes ≡ packet_bytes version t p) × (length bytes ≤ MAX_MESSAGE))
+    → IfOk result (λ p. (version : Version) × IsPacket version t p × (bytes ≡ packet_bytes version t p) × (length bytes ≤ MAX_MESSAGE))
+found_in t bytes version (Ok p) found = (version, found.0, found.1, found.2)
+found_in t bytes version (Err e) found = tt
 
 -- bytes of a version are read by it
 pub version_spelled : (version : Version) (t : Table) (bytes : List ℕ) (p : Packet) → bytes ≡ packet_bytes version t p → version_in bytes ≡ version

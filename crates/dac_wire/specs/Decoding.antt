@@ -1,5 +1,5 @@
 -- What the bytes of a packet give: what is wrong with their front, and else what their fields give.
-use Rattle.std.specs.Prelude.{ℕ, Bool, List, length, not, nat_lt, nat_eq, Option, None, Some, Result, Err, if◌then◌else◌}
+use Rattle.std.specs.Prelude.{ℕ, List, length, not, nat_lt, nat_eq, Option, None, Some, Result, Err, if◌then◌else◌}
 use Rattle.std.specs.List.{starts_with}
 use Rattle.dac_config.specs.Table.{Table}
 use Rattle.dac_bytes.specs.Reading.{after, whole}

@@ -13,20 +13,20 @@ returns-then-not-starts_with c =
 pub returns-then-not-starts_with-2 : goal.returns-then-not-starts_with-2
 returns-then-not-starts_with-2 c =
     ap Some c.new-then-not-starts_with-2.ensures
-    ∙ sym (bad_version c.args.version c.args.config.now c.args.bytes.now c.if-bytes-gt-MAX_MESSAGE.false (sym c.starts_with.ensures.value ∙ c.if-not-starts_with.false) (sym c.starts_with-2.ensures.value ∙ c.if-not-starts_with-2.true))
+    ∙ sym (bad_version c.args.version c.args.config.now c.args.bytes.now c.if-bytes-gt-MAX_MESSAGE.false (sym c.starts_with.ensures.value ∙ c.if-not-starts_with.false) (rw c.name.ensures at (sym c.starts_with-2.ensures.value ∙ c.if-not-starts_with-2.true)))
 
 pub returns-then-bytes-lt-PREAMBLE : goal.returns-then-bytes-lt-PREAMBLE
 returns-then-bytes-lt-PREAMBLE c =
     ap Some c.new-then-bytes-lt-PREAMBLE.ensures
-    ∙ sym (no_mark c.args.version c.args.config.now c.args.bytes.now c.if-bytes-gt-MAX_MESSAGE.false (sym c.starts_with.ensures.value ∙ c.if-not-starts_with.false) (sym c.starts_with-2.ensures.value ∙ c.if-not-starts_with-2.false) c.if-bytes-lt-PREAMBLE.true)
+    ∙ sym (no_mark c.args.version c.args.config.now c.args.bytes.now c.if-bytes-gt-MAX_MESSAGE.false (sym c.starts_with.ensures.value ∙ c.if-not-starts_with.false) (rw c.name.ensures at (sym c.starts_with-2.ensures.value ∙ c.if-not-starts_with-2.false)) c.if-bytes-lt-PREAMBLE.true)
 
 pub returns-then-not-starts_with-3 : goal.returns-then-not-starts_with-3
 returns-then-not-starts_with-3 c =
     ap Some c.new-then-not-starts_with-3.ensures
-    ∙ sym (other_config c.args.version c.args.config.now c.args.bytes.now c.if-bytes-gt-MAX_MESSAGE.false (sym c.starts_with.ensures.value ∙ c.if-not-starts_with.false) (sym c.starts_with-2.ensures.value ∙ c.if-not-starts_with-2.false) c.if-bytes-lt-PREAMBLE.false
+    ∙ sym (other_config c.args.version c.args.config.now c.args.bytes.now c.if-bytes-gt-MAX_MESSAGE.false (sym c.starts_with.ensures.value ∙ c.if-not-starts_with.false) (rw c.name.ensures at (sym c.starts_with-2.ensures.value ∙ c.if-not-starts_with-2.false)) c.if-bytes-lt-PREAMBLE.false
     (rw c.preamble.ensures at (sym c.starts_with-3.ensures.value ∙ c.if-not-starts_with-3.true)))
 
 pub returns : goal.returns
 returns c =
-    sym (no_fault c.args.version c.args.config.now c.args.bytes.now c.if-bytes-gt-MAX_MESSAGE.false (sym c.starts_with.ensures.value ∙ c.if-not-starts_with.false) (sym c.starts_with-2.ensures.value ∙ c.if-not-starts_with-2.false) c.if-bytes-lt-PREAMBLE.false
+    sym (no_fault c.args.version c.args.config.now c.args.bytes.now c.if-bytes-gt-MAX_MESSAGE.false (sym c.starts_with.ensures.value ∙ c.if-not-starts_with.false) (rw c.name.ensures at (sym c.starts_with-2.ensures.value ∙ c.if-not-starts_with-2.false)) c.if-bytes-lt-PREAMBLE.false
     (rw c.preamble.ensures at (sym c.starts_with-3.ensures.value ∙ c.if-not-starts_with-3.false)))
