@@ -1,6 +1,7 @@
 //! Bytes that are being read: numbers, nodes, origins and dots.
 ghost use Rattle.std.specs.Prelude.{◌≡◌, ◌↔◌, ◌≤◌, IfOk, IsTrue, [], length};
 ghost use Rattle.std.specs.Int.{w8, w16, w32, w64};
+ghost use Rattle.dac_bytes.specs.Versions.{highest_incarnation, incarnation_width};
 ghost use Rattle.dac_bytes.specs.Reading.{IsOfBytes, Reads, after, taken, number_at, range_at, node_at, incarnation_at, incarnation_or_zero_at, counter_at, origin_at, dot_at, origin_above_at, dot_above_at, whole};
 
 use crate::fault::{ReadFault, ReadFaultKind};
@@ -177,22 +178,35 @@ impl<'a> ByteReader<'a> {
         }
     }
 
+    /// An incarnation from a least one on, in four or in eight bytes.
+    fn read_incarnation_from(
+        self,
+        version: Version,
+        least: u8,
+    ) -> Result<(u64, ByteReader<'a>), ReadFault>
+        ensures exact { result ≡ range_at (incarnation_width version) least (highest_incarnation version) self.entry }
+        ensures real { IsOfBytes result }
+    {
+        match version {
+            Version::One => {
+                let (inc, rest) = self.read_u32_in(u32::from(least), u32::MAX)?;
+                Ok((u64::from(inc), rest))
+            }
+            Version::Two => {
+                let read = self.read_u64_in(u64::from(least), MAX_INCARNATION)?;
+                Ok(read)
+            }
+        }
+    }
+
     /// An incarnation, in four or in eight bytes. 0, and one above the greatest, is `BadNumber` at its
     /// first byte.
     pub fn read_incarnation(self, version: Version) -> Result<(u64, ByteReader<'a>), ReadFault>
         ensures exact { result ≡ incarnation_at version self.entry }
         ensures real { IsOfBytes result }
     {
-        match version {
-            Version::One => {
-                let (inc, rest) = self.read_u32_in(1, u32::MAX)?;
-                Ok((u64::from(inc), rest))
-            }
-            Version::Two => {
-                let read = self.read_u64_in(1, MAX_INCARNATION)?;
-                Ok(read)
-            }
-        }
+        let read = self.read_incarnation_from(version, 1)?;
+        Ok(read)
     }
 
     /// An incarnation, or 0, in four or in eight bytes. One above the greatest is `BadNumber` at its first
@@ -204,16 +218,8 @@ impl<'a> ByteReader<'a> {
         ensures exact { result ≡ incarnation_or_zero_at version self.entry }
         ensures real { IsOfBytes result }
     {
-        match version {
-            Version::One => {
-                let (inc, rest) = self.read_u32_in(0, u32::MAX)?;
-                Ok((u64::from(inc), rest))
-            }
-            Version::Two => {
-                let read = self.read_u64_in(0, MAX_INCARNATION)?;
-                Ok(read)
-            }
-        }
+        let read = self.read_incarnation_from(version, 0)?;
+        Ok(read)
     }
 
     /// A counter of a dot in eight bytes. 0, and one above 2^62, is `BadNumber` at its first byte.
