@@ -320,22 +320,22 @@ fn refused(alloc: Global, config: &Config, bytes: &[u8]) -> Option<WireFault> {
     decode(alloc, config, bytes).err()
 }
 
-/// Up to which length a front of the message is refused, and why.
+/// Below which length a front of the message is refused so, from the length in the row before on.
 const FRONTS: &[(usize, WireFaultKind, usize)] = &[
-    (2, WireFaultKind::BadMagic, 0),
-    (3, WireFaultKind::BadVersion, 3),
-    (11, WireFaultKind::Short, 4),
-    (12, WireFaultKind::Short, 12),
-    (13, WireFaultKind::Short, 13),
-    (21, WireFaultKind::Short, 14),
-    (22, WireFaultKind::Short, 22),
-    (30, WireFaultKind::Short, 23),
-    (38, WireFaultKind::Short, 31),
-    (39, WireFaultKind::Short, 39),
-    (41, WireFaultKind::Short, 40),
+    (3, WireFaultKind::BadMagic, 0),
+    (4, WireFaultKind::BadVersion, 3),
+    (12, WireFaultKind::Short, 4),
+    (13, WireFaultKind::Short, 12),
+    (14, WireFaultKind::Short, 13),
+    (22, WireFaultKind::Short, 14),
+    (23, WireFaultKind::Short, 22),
+    (31, WireFaultKind::Short, 23),
+    (39, WireFaultKind::Short, 31),
+    (40, WireFaultKind::Short, 39),
+    (42, WireFaultKind::Short, 40),
 ];
 
-/// Whether each front from one length to another has this fault.
+/// Whether each front from one length on and below another has this fault.
 fn are_refused(
     alloc: Global,
     config: &Config,
@@ -343,7 +343,7 @@ fn are_refused(
     lengths: (usize, usize),
     fault: WireFault,
 ) -> bool {
-    for length in lengths.0..=lengths.1 {
+    for length in lengths.0..lengths.1 {
         let (front, _) = bytes.split_at(length.min(bytes.len()));
         if refused(alloc, config, front) != Some(fault) {
             return false;
@@ -354,17 +354,17 @@ fn are_refused(
 
 /// The same for the message in version 1.
 const FRONTS_ONE: &[(usize, WireFaultKind, usize)] = &[
-    (2, WireFaultKind::BadMagic, 0),
-    (3, WireFaultKind::BadVersion, 3),
-    (11, WireFaultKind::Short, 4),
-    (12, WireFaultKind::Short, 12),
-    (13, WireFaultKind::Short, 13),
-    (17, WireFaultKind::Short, 14),
-    (18, WireFaultKind::Short, 18),
-    (22, WireFaultKind::Short, 19),
-    (30, WireFaultKind::Short, 23),
-    (31, WireFaultKind::Short, 31),
-    (33, WireFaultKind::Short, 32),
+    (3, WireFaultKind::BadMagic, 0),
+    (4, WireFaultKind::BadVersion, 3),
+    (12, WireFaultKind::Short, 4),
+    (13, WireFaultKind::Short, 12),
+    (14, WireFaultKind::Short, 13),
+    (18, WireFaultKind::Short, 14),
+    (19, WireFaultKind::Short, 18),
+    (23, WireFaultKind::Short, 19),
+    (31, WireFaultKind::Short, 23),
+    (32, WireFaultKind::Short, 31),
+    (34, WireFaultKind::Short, 32),
 ];
 
 /// Whether each front has the fault of the list.
@@ -374,16 +374,16 @@ fn are_fronts_refused(
     fronts: &[(usize, WireFaultKind, usize)],
 ) -> Option<bool> {
     let config = config(alloc, EXAMPLE)?;
-    let mut least = 0;
-    for (most, kind, at) in fronts {
+    let mut start = 0;
+    for (end, kind, at) in fronts {
         let fault = WireFault {
             kind: *kind,
             at: *at,
         };
-        if !are_refused(alloc, &config, bytes, (least, *most), fault) {
+        if !are_refused(alloc, &config, bytes, (start, *end), fault) {
             return Some(false);
         }
-        least = *most + 1;
+        start = *end;
     }
     Some(true)
 }
