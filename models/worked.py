@@ -267,6 +267,15 @@ ROWS = (
     Row("a drained node boots again", ONE_APPLICATION, "x y", *DRAINED_REBOOT),
     Row("takeovers and a drained holder", ONE_APPLICATION, "y z", *DRAINED_HOLDER),
     Row(
+        "a drained holder is lost",
+        TWO_APPLICATIONS,
+        "x z",
+        "start x a x;share;tick x 0;share;drain z x true;tick z 1000;crash x;down z x;start z a z;tick z 2000;tick z 6999;"
+        "tick z 7000",
+        "+3 x 1 2;ticked;claim 4 a term 1 normal;+5 z 1 2;ticked;crashed;+6 z 1 3;+7 z 1 4;ticked;ticked;ticked;"
+        "claim 8 a term 2 failover from x",
+    ),
+    Row(
         "two rounds",
         TWO_APPLICATIONS,
         "y z",
@@ -399,6 +408,11 @@ def one_entry(entries: bytes) -> bytes:
     return b"[{kernel,[{distributed,[%s]}]}]." % entries
 
 
+def many_nodes(count: int) -> bytes:
+    """The names of so many nodes, each of three bytes."""
+    return b",".join(b"n%d" % number for number in range(10, 10 + count))
+
+
 TEXTS = (
     (b"%% cp1.config\n" + EXAMPLE.replace(b"{cp2@cave, cp3@cave}", b"{cp3@cave, cp2@cave}"), CANONICAL),
     (QUOTED, QUOTED_CANONICAL),
@@ -416,6 +430,12 @@ TEXTS = (
     (b'[{kernel,[{f,~"a"}]}].', b"config fault 3 Unsupported at 13\n"),
     (b" " * 65_537, b"config fault 1 TooLong at 65536\n"),
     (one_entry(b",".join(b"{a%d,[n@h]}" % number for number in range(65))), b"config fault 11 TooManyApps at 783\n"),
+    (one_entry(b"{a,[%s]}" % many_nodes(65)), b"config fault 10 TooManyNodes at 284\n"),
+    (
+        one_entry(b"{a,[%s]}" % many_nodes(64)),
+        b"[{kernel,[{distributed,[{a,0,[%s]}]},{permissions,[]},{sync_nodes_mandatory,[]},{sync_nodes_optional,[]}]}].\n"
+        % many_nodes(64),
+    ),
 )
 
 FRESH, FIRST_FRESH = bytes.fromhex(FRESH_HEX), bytes.fromhex(FIRST_FRESH_HEX)
@@ -487,6 +507,11 @@ FIRST_DRAINED_HEX = (
     + ("01" + "00" + "00000001" + "00")
     + "0000"
 )
+TWO_DRAINS_HEX = (
+    "00000002"
+    + ("00" + "0000000000000002" + "00000001" + "02" + "0000000000000001" + "0000000000000003" + "00")
+    + ("01" + "0000000000000001" + "00000001" + "02" + "0000000000000001" + "0000000000000002" + "01")
+)
 DRAINED = bytes.fromhex(DRAINED_HEX)
 DRAINED_FAULTS: tuple[tuple[str, bytes, Fault], ...] = (
     ("of no such node", with_byte(DRAINED, 71, 3), ("BadName", 71)),
@@ -516,6 +541,10 @@ def drained_checks(config: Config) -> Iterator[tuple[str, bool]]:
     yield "a drained state is read", read_state(config, DRAINED).drains == drains
     for name, data, expected in DRAINED_FAULTS:
         yield f"drains {name}", fault_of(lambda data=data: read_state(config, data)) == expected
+    dots = (Dot(2, 1, 2), Dot(2, 1, 3))
+    both = meaning_of([Operation(dots[0], Drain(Origin(1, 1), True, ())), Operation(dots[1], Drain(Origin(0, 2), False, ()))])
+    yield "drains of two nodes", state_bytes(both).hex().endswith(TWO_DRAINS_HEX)
+    yield "drains of two nodes are read", read_state(config, state_bytes(both)).drains == both.drains
     five = read_config(FIVE_NODES)
     unlisted = with_byte(DRAINED, 71, 4)
     yield "drains of a node in no list", read_state(five, unlisted).drains == {Origin(4, 1): drains[Origin(0, 1)]}
