@@ -19,6 +19,7 @@ from random_live import outputs
 from sim import LineReader, Player, simulate
 from wire import FIRST, MAGIC, SECOND, WireFault, Writer, is_operation, packet_bytes, read_packet, read_state, rows_of
 from wire import state_bytes
+from world import World
 
 EXAMPLE = b"""[{kernel, [{distributed, [{myapp, 5000, [cp1@cave, {cp2@cave, cp3@cave}]}]},
  {sync_nodes_mandatory, [cp2@cave, cp3@cave]}, {sync_nodes_timeout, 5000}]}].
@@ -134,11 +135,12 @@ DRAINED_ALONE = (
     "list x=ok y=down z=down",
 )
 DRAINED_REBOOT = (
-    "share;drain x y true;share;page x;crash y;down x y;page x;boot y 1;start y a y;share;page x;down x y;share;"
-    "drain y zz@h true;drain y z true",
+    "share;drain x y true;share;page x;crash y;down x y;drain x y false;page x;boot y 1;start y a y;share;page x;"
+    "down x y;share;drain y zz@h true;drain y z true",
     "+3 x 1 2;node x 1;heard 3 known 3;node x up 1;node y up 1 drained;node z unknown;app a holder none verdict nobody;"
-    "list x=idle y=drained z=down;crashed;+4 x 1 3;node x 1;heard 4 known 4;node x up 1;node y down 1;node z unknown;"
-    "app a holder none verdict nobody;list x=idle y=down z=down;booted 2 op 5;+6 y 2 2;node x 1;heard 6 known 6;node x up 1;"
+    "list x=idle y=drained z=down;crashed;+4 x 1 3;refused 9 NotLive;node x 1;heard 4 known 4;node x up 1;node y down 1;"
+    "node z unknown;app a holder none verdict nobody;list x=idle y=down z=down;booted 2 op 5;+6 y 2 2;node x 1;"
+    "heard 6 known 6;node x up 1;"
     "node y up 2;node z unknown;app a holder none verdict start y;list x=idle y=ok z=down;+7 x 1 4;refused 3 DeclaredDown;"
     "refused 3 DeclaredDown",
 )
@@ -266,6 +268,7 @@ ROWS = (
     Row("the only node drained", ONE_APPLICATION, "x", *DRAINED_ALONE),
     Row("a drained node boots again", ONE_APPLICATION, "x y", *DRAINED_REBOOT),
     Row("takeovers and a drained holder", ONE_APPLICATION, "y z", *DRAINED_HOLDER),
+    Row("the gate and a drained node", EXAMPLE, "p q r", "share;drain p q true;tick p 0", "+4 p 1 2;ticked"),
     Row(
         "a drained holder is lost",
         TWO_APPLICATIONS,
@@ -587,6 +590,9 @@ def message_checks(config: Config) -> Iterator[tuple[str, bool]]:
     yield "a message with another magic", fault(with_byte(packet, 0, 0x45)) == ("BadMagic", 0)
     for byte in (0, 3):
         yield f"a message of version {byte}", fault(with_byte(packet, 3, byte)) == ("BadVersion", 3)
+    interval, first_interval = with_byte(packet, 12, 2), with_byte(first, 12, 2)
+    yield "an interval for too high an incarnation", fault(with_byte(interval, 23, 0x80)) == ("BadNumber", 23)
+    yield "intervals for any incarnation", (fault(interval), fault(first_interval)) == (("BadNumber", 23), ("BadNumber", 19))
     others = (with_byte(packet, 3, FIRST), with_byte(first, 3, SECOND))
     yield "messages that say that they are of the other version", None not in map(fault, others)
     for version, data in ((FIRST, first), (SECOND, packet)):
@@ -653,6 +659,13 @@ def operation_checks() -> Iterator[tuple[str, bool]]:
     later = Dot(0, 1, 3)
     both = meaning_of([Operation(D2, Start(key, ())), Operation(later, Start(key, (D2,)))])
     yield "a start in the place of another", both.starts == {key: {later}} and both.known == {D2, later}
+    yield "a drain of its own node", is_operation(Operation(D2, Drain(Origin(0, 1), True, ())))
+    over = meaning_of([Operation(later, Drain(Origin(1, 1), True, (D2,)))])
+    yield "a drain in the place of another", over.known == {D2, later} and over.drains == {Origin(1, 1): {later: True}}
+    world = World(read_config(ONE_APPLICATION))
+    world.boot(0, 0)
+    overs = [world.operations[world.drain(0, 0, True) - 1].over for _ in range(2)]
+    yield "a drain that says the same again", overs == [(), (D2,)]
     gap = {D1, D2, Dot(0, 1, 4)}
     spelled_gap = "0001" "000000000000000001" "0000000000000002" "00000001" "0000000000000004"
     whole_row = "0001" "000000000000000001" "0000000000000004" "00000000"
@@ -695,6 +708,7 @@ def placement_checks() -> Iterator[tuple[str, bool]]:
         ("the first is drained by itself", [*base, kept, claimed, own_drained], ("move 3", "kept 2", 1)),
         ("the first is kept by both", [*base, kept, claimed, own_kept], ("kept 1", "kept 2", 1)),
         ("the first is put back", [*base, drained, claimed, put_back], ("kept 1", "kept 2", 1)),
+        ("the first is halted and drained", [*ups, *starts[1:], claim, claimed, drained], ("halted 1", "kept 2", 1)),
         ("another incarnation is drained", [*base, later, claimed], ("kept 1", "kept 2", 1)),
     ):
         yield name, verdicts_of(config, meaning_of(operations)) == expected
