@@ -457,13 +457,16 @@ class LiveMaker:
             self.come_back(node)
 
     def drained(self) -> None:
-        """A node that has an application, most often, is drained. The others tick, and it may be put back."""
+        """A node that has an application, most often, is drained. Others take over or tick, and it may be put back."""
         holders = [node for node in self.on() if node in self.holders()]
         node = self.random.choice(holders) if holders and self.random.random() < 0.8 else self.some_node()
         self.say(self.who(self.some_node()), b"drain", self.name_of(node), b"true")
         for _ in range(self.random.choice((0, 0, 3))):
             self.any_line(CROWD)
         self.end()
+        if self.random.random() < 0.5:
+            self.line(self.who(self.some_node()), "takeover")
+            self.end()
         for _ in range(self.random.choice((1, 2, 3))):
             candidates = self.candidates()
             chosen = candidates and self.random.random() < 0.85

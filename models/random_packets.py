@@ -10,7 +10,21 @@ from wire import rows_of, u
 from world import World
 
 EDGES = (0, 1, 2, 3, 255, 256, 2**16 - 1, 2**32 - 1, 2**32, MOST_NUMBER, MOST_NUMBER + 1, 2**64 - 1)
+VALUES = [b"\0", b"\1"]
+FORGED_PARTS = ("permits", "starts", "chains", "drains")
+ACT_PLACES = {FIRST: 26, SECOND: 30}
 SIZES = (1, 5, 7, 8, 9, 11, 13, 14, 17, 18)
+
+
+def some_inc(random: Random) -> int:
+    """An incarnation, now and then one at an edge of what a version has."""
+    edges = (0, 2**32 - 1, 2**32, MOST_NUMBER, MOST_NUMBER + 1)
+    return random.choice(edges) if random.random() < 0.06 else random.choice((1, 1, 1, 2))
+
+
+def some_node(random: Random, world: World) -> int:
+    """A node, now and then the number just past them."""
+    return len(world.nodes) if random.random() < 0.06 else random.randrange(len(world.nodes))
 
 
 def some_dot(random: Random, world: World) -> Dot:
@@ -18,19 +32,18 @@ def some_dot(random: Random, world: World) -> Dot:
     if world.operations and random.random() < 0.6:
         return random.choice(world.operations).dot
     counter = random.choice((1, 1, 2, 3, 7, MOST_NUMBER, MOST_NUMBER + 1, 0))
-    inc = random.choice((0, 1, 1, 1, 2, 2, 2**32 - 1, 2**32, MOST_NUMBER, MOST_NUMBER + 1))
-    return Dot(random.randint(0, len(world.nodes)), inc, counter)
+    return Dot(some_node(random, world), some_inc(random), counter)
 
 
 def some_key(random: Random, world: World) -> Key:
     """A key."""
     app = random.randint(0, len(world.config.apps) - (random.random() < 0.9))
-    return Key(app, random.randint(0, len(world.nodes)), random.choice((0, 1, 1, 1, 2)))
+    return Key(app, some_node(random, world), some_inc(random))
 
 
 def some_origin(random: Random, world: World) -> Origin:
     """An incarnation of a node."""
-    return Origin(random.randint(0, len(world.nodes)), random.choice((0, 1, 1, 1, 2)))
+    return Origin(some_node(random, world), some_inc(random))
 
 
 def some_over(random: Random, world: World) -> tuple[Dot, ...]:
@@ -45,7 +58,7 @@ def some_act(random: Random, world: World) -> Act:
     """Anything that an operation may say, and more."""
     makers = (
         Up,
-        lambda: Down(random.randint(0, len(world.nodes)), random.choice((0, 1, 1, 2))),
+        lambda: Down(some_node(random, world), some_inc(random)),
         lambda: Permit(some_key(random, world), random.random() < 0.5, some_over(random, world)),
         lambda: Start(some_key(random, world), some_over(random, world)),
         lambda: Stop(some_key(random, world), some_over(random, world)),
@@ -101,25 +114,33 @@ def forged_store(random: Random, writer: Writer, dots: list[Dot], abouts: list[b
 
 
 def forged_parts(random: Random, world: World, writer: Writer) -> bytes:
-    """The bytes of a state's parts, each item of which is most likely in order, but maybe not in place."""
+    """The bytes of a state's parts, each item of which is most likely in order, but maybe not in place.
+
+    Most often one part has items and the others have none, so that the last part is reached too.
+    """
     chosen = [number for number in range(len(world.operations)) if random.random() < 0.8]
     state = world.meaning(sum(1 << number for number in chosen))
+    filled = random.choice((("permits",), ("starts",), ("chains",), ("drains",), ("drains",), FORGED_PARTS))
     known = writer.context(rows_of(state.known))
     dots = sorted(state.known) or [Dot(0, 1, 1)]
     parts = [known, known]
-    for values in ([b"\0", b"\1"], [b""]):
-        keys = sorted({some_key(random, world) for _ in range(random.randint(0, 3))})
+    for part, values in (("permits", VALUES), ("starts", [b""])):
+        keys = sorted({some_key(random, world) for _ in range(random.randint(0, 3) if part in filled else 0)})
         parts.append(forged_store(random, writer, dots, [writer.key(key) for key in keys], values))
+    parts.append(forged_chains(random, world, writer, state) if "chains" in filled else bytes(3))
+    abouts = sorted({some_origin(random, world) for _ in range(random.randint(1, 3) if "drains" in filled else 0)})
+    if writer.version >= SECOND or random.random() < 0.1:
+        parts.append(forged_store(random, writer, dots, [writer.origin(about) for about in abouts], VALUES))
+    return b"".join(parts)
+
+
+def forged_chains(random: Random, world: World, writer: Writer, state: Meaning) -> bytes:
+    """The bytes of lives and claims."""
     lives = shuffled(random, [writer.life(node, state.lives[node]) for node in sorted(state.lives)])
     apps = sorted(random.choices(range(len(world.config.apps)), k=random.randint(0, 3)))
     claims = [Claim(1, random.randrange(len(world.nodes)), 1, *random.choice(((1, -1), (2, 0), (3, 0)))) for _ in apps]
     listed = shuffled(random, [writer.claim(app, claim) for app, claim in zip(apps, claims)])
-    parts += [u(1, len(lives)), *lives, u(2, len(listed)), *listed]
-    if writer.version == FIRST and random.random() < 0.9:
-        return b"".join(parts)
-    abouts = sorted({some_origin(random, world) for _ in range(random.randint(0, 3))})
-    drains = forged_store(random, writer, dots, [writer.origin(about) for about in abouts], [b"\0", b"\1"])
-    return b"".join([*parts, drains])
+    return b"".join([u(1, len(lives)), *lives, u(2, len(listed)), *listed])
 
 
 def forged_packet(random: Random, world: World, version: int) -> bytes:
@@ -146,7 +167,7 @@ def some_message(random: Random, world: World) -> Message:
     ack = random.choice((None, (random.choice(origins), random.choice(EDGES))))
     up_to = random.choice((1, 2, random.choice(EDGES)))
     body = None if kind == NOTHING else SpelledState.of(some_state(random, world))
-    return Message(kind, random.choice(origins), random.randint(0, len(world.nodes)), only, up_to, ack, body)
+    return Message(kind, random.choice(origins), some_node(random, world), only, up_to, ack, body)
 
 
 def some_packet(random: Random, world: World) -> Packet:
@@ -162,9 +183,14 @@ def some_packet(random: Random, world: World) -> Packet:
 def random_packet(random: Random, world: World) -> bytes:
     """The bytes of a packet, of the second version most often."""
     version = FIRST if random.random() < 0.3 else SECOND
-    if random.random() < 0.15:
+    if random.random() < 0.25:
         return forged_packet(random, world, version)
-    return packet_bytes(world.config, some_packet(random, world), version)
+    packet = some_packet(random, world)
+    data = packet_bytes(world.config, packet, version)
+    if isinstance(packet, Operation) and random.random() < 0.1:
+        at = ACT_PLACES[version]
+        data = data[:at] + bytes((random.choice((0, 6, 7, 8)),)) + data[at + 1 :]
+    return data
 
 
 def changed_bytes(random: Random, data: bytes) -> bytes:

@@ -49,7 +49,7 @@ DRAINS = weighted("drain 16 tick 12 share 8 start 3 permit 1 stop 1 takeover 4 c
 ALL = dict.fromkeys(
     "boot crash down permit start stop drain takeover tick ship hear hand share page state same bytes feed".split(), 1
 )
-PROFILES = (CALM, CALM, LETTERS, LETTERS, HANDS, FEEDS, PAUSES, PAUSES, DRAINS, ALL)
+PROFILES = (CALM, CALM, LETTERS, LETTERS, HANDS, FEEDS, FEEDS, PAUSES, PAUSES, DRAINS, ALL)
 
 FEW_NODES = 8
 
@@ -220,7 +220,7 @@ class ScriptMaker:
     def feed(self) -> None:
         """The bytes of a packet, most often changed a little."""
         data = random_packet(self.random, self.world)
-        for _ in range(self.random.choice((0, 1, 1, 1, 2))):
+        for _ in range(self.random.choice((0, 0, 1, 1, 1, 2))):
             data = changed_bytes(self.random, data)
         self.add(b"feed", (data or b"D").hex().encode())
 
@@ -415,11 +415,12 @@ def drained_holders(maker: ScriptMaker) -> None:
             maker.simple(b"takeover")
         maker.add(b"page", maker.on())
         maker.tick_all()
-        if maker.random.random() < 0.5:
+        roll = maker.random.random()
+        if roll < 0.4:
             maker.add(b"drain", maker.on(), holder, b"false")
         else:
             maker.add(b"crash", holder)
-            maker.add(b"boot", holder, maker.moment())
+            maker.add(*((b"boot", holder, maker.moment()) if roll < 0.7 else (b"down", maker.on(), holder)))
             maker.add(b"share")
         maker.wish(b"start")
         maker.add(b"share")

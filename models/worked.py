@@ -19,6 +19,7 @@ from random_live import outputs
 from sim import LineReader, Player, simulate
 from wire import FIRST, MAGIC, SECOND, WireFault, Writer, is_operation, packet_bytes, read_packet, read_state, rows_of
 from wire import state_bytes
+from world import World
 
 EXAMPLE = b"""[{kernel, [{distributed, [{myapp, 5000, [cp1@cave, {cp2@cave, cp3@cave}]}]},
  {sync_nodes_mandatory, [cp2@cave, cp3@cave]}, {sync_nodes_timeout, 5000}]}].
@@ -134,11 +135,12 @@ DRAINED_ALONE = (
     "list x=ok y=down z=down",
 )
 DRAINED_REBOOT = (
-    "share;drain x y true;share;page x;crash y;down x y;page x;boot y 1;start y a y;share;page x;down x y;share;"
-    "drain y zz@h true;drain y z true",
+    "share;drain x y true;share;page x;crash y;down x y;drain x y false;page x;boot y 1;start y a y;share;page x;"
+    "down x y;share;drain y zz@h true;drain y z true",
     "+3 x 1 2;node x 1;heard 3 known 3;node x up 1;node y up 1 drained;node z unknown;app a holder none verdict nobody;"
-    "list x=idle y=drained z=down;crashed;+4 x 1 3;node x 1;heard 4 known 4;node x up 1;node y down 1;node z unknown;"
-    "app a holder none verdict nobody;list x=idle y=down z=down;booted 2 op 5;+6 y 2 2;node x 1;heard 6 known 6;node x up 1;"
+    "list x=idle y=drained z=down;crashed;+4 x 1 3;refused 9 NotLive;node x 1;heard 4 known 4;node x up 1;node y down 1;"
+    "node z unknown;app a holder none verdict nobody;list x=idle y=down z=down;booted 2 op 5;+6 y 2 2;node x 1;"
+    "heard 6 known 6;node x up 1;"
     "node y up 2;node z unknown;app a holder none verdict start y;list x=idle y=ok z=down;+7 x 1 4;refused 3 DeclaredDown;"
     "refused 3 DeclaredDown",
 )
@@ -266,6 +268,16 @@ ROWS = (
     Row("the only node drained", ONE_APPLICATION, "x", *DRAINED_ALONE),
     Row("a drained node boots again", ONE_APPLICATION, "x y", *DRAINED_REBOOT),
     Row("takeovers and a drained holder", ONE_APPLICATION, "y z", *DRAINED_HOLDER),
+    Row("the gate and a drained node", EXAMPLE, "p q r", "share;drain p q true;tick p 0", "+4 p 1 2;ticked"),
+    Row(
+        "a drained holder is lost",
+        TWO_APPLICATIONS,
+        "x z",
+        "start x a x;share;tick x 0;share;drain z x true;tick z 1000;crash x;down z x;start z a z;tick z 2000;tick z 6999;"
+        "tick z 7000",
+        "+3 x 1 2;ticked;claim 4 a term 1 normal;+5 z 1 2;ticked;crashed;+6 z 1 3;+7 z 1 4;ticked;ticked;ticked;"
+        "claim 8 a term 2 failover from x",
+    ),
     Row(
         "two rounds",
         TWO_APPLICATIONS,
@@ -399,6 +411,11 @@ def one_entry(entries: bytes) -> bytes:
     return b"[{kernel,[{distributed,[%s]}]}]." % entries
 
 
+def many_nodes(count: int) -> bytes:
+    """The names of so many nodes, each of three bytes."""
+    return b",".join(b"n%d" % number for number in range(10, 10 + count))
+
+
 TEXTS = (
     (b"%% cp1.config\n" + EXAMPLE.replace(b"{cp2@cave, cp3@cave}", b"{cp3@cave, cp2@cave}"), CANONICAL),
     (QUOTED, QUOTED_CANONICAL),
@@ -416,6 +433,12 @@ TEXTS = (
     (b'[{kernel,[{f,~"a"}]}].', b"config fault 3 Unsupported at 13\n"),
     (b" " * 65_537, b"config fault 1 TooLong at 65536\n"),
     (one_entry(b",".join(b"{a%d,[n@h]}" % number for number in range(65))), b"config fault 11 TooManyApps at 783\n"),
+    (one_entry(b"{a,[%s]}" % many_nodes(65)), b"config fault 10 TooManyNodes at 284\n"),
+    (
+        one_entry(b"{a,[%s]}" % many_nodes(64)),
+        b"[{kernel,[{distributed,[{a,0,[%s]}]},{permissions,[]},{sync_nodes_mandatory,[]},{sync_nodes_optional,[]}]}].\n"
+        % many_nodes(64),
+    ),
 )
 
 FRESH, FIRST_FRESH = bytes.fromhex(FRESH_HEX), bytes.fromhex(FIRST_FRESH_HEX)
@@ -487,6 +510,11 @@ FIRST_DRAINED_HEX = (
     + ("01" + "00" + "00000001" + "00")
     + "0000"
 )
+TWO_DRAINS_HEX = (
+    "00000002"
+    + ("00" + "0000000000000002" + "00000001" + "02" + "0000000000000001" + "0000000000000003" + "00")
+    + ("01" + "0000000000000001" + "00000001" + "02" + "0000000000000001" + "0000000000000002" + "01")
+)
 DRAINED = bytes.fromhex(DRAINED_HEX)
 DRAINED_FAULTS: tuple[tuple[str, bytes, Fault], ...] = (
     ("of no such node", with_byte(DRAINED, 71, 3), ("BadName", 71)),
@@ -516,6 +544,10 @@ def drained_checks(config: Config) -> Iterator[tuple[str, bool]]:
     yield "a drained state is read", read_state(config, DRAINED).drains == drains
     for name, data, expected in DRAINED_FAULTS:
         yield f"drains {name}", fault_of(lambda data=data: read_state(config, data)) == expected
+    dots = (Dot(2, 1, 2), Dot(2, 1, 3))
+    both = meaning_of([Operation(dots[0], Drain(Origin(1, 1), True, ())), Operation(dots[1], Drain(Origin(0, 2), False, ()))])
+    yield "drains of two nodes", state_bytes(both).hex().endswith(TWO_DRAINS_HEX)
+    yield "drains of two nodes are read", read_state(config, state_bytes(both)).drains == both.drains
     five = read_config(FIVE_NODES)
     unlisted = with_byte(DRAINED, 71, 4)
     yield "drains of a node in no list", read_state(five, unlisted).drains == {Origin(4, 1): drains[Origin(0, 1)]}
@@ -558,6 +590,9 @@ def message_checks(config: Config) -> Iterator[tuple[str, bool]]:
     yield "a message with another magic", fault(with_byte(packet, 0, 0x45)) == ("BadMagic", 0)
     for byte in (0, 3):
         yield f"a message of version {byte}", fault(with_byte(packet, 3, byte)) == ("BadVersion", 3)
+    interval, first_interval = with_byte(packet, 12, 2), with_byte(first, 12, 2)
+    yield "an interval for too high an incarnation", fault(with_byte(interval, 23, 0x80)) == ("BadNumber", 23)
+    yield "intervals for any incarnation", (fault(interval), fault(first_interval)) == (("BadNumber", 23), ("BadNumber", 19))
     others = (with_byte(packet, 3, FIRST), with_byte(first, 3, SECOND))
     yield "messages that say that they are of the other version", None not in map(fault, others)
     for version, data in ((FIRST, first), (SECOND, packet)):
@@ -624,6 +659,13 @@ def operation_checks() -> Iterator[tuple[str, bool]]:
     later = Dot(0, 1, 3)
     both = meaning_of([Operation(D2, Start(key, ())), Operation(later, Start(key, (D2,)))])
     yield "a start in the place of another", both.starts == {key: {later}} and both.known == {D2, later}
+    yield "a drain of its own node", is_operation(Operation(D2, Drain(Origin(0, 1), True, ())))
+    over = meaning_of([Operation(later, Drain(Origin(1, 1), True, (D2,)))])
+    yield "a drain in the place of another", over.known == {D2, later} and over.drains == {Origin(1, 1): {later: True}}
+    world = World(read_config(ONE_APPLICATION))
+    world.boot(0, 0)
+    overs = [world.operations[world.drain(0, 0, True) - 1].over for _ in range(2)]
+    yield "a drain that says the same again", overs == [(), (D2,)]
     gap = {D1, D2, Dot(0, 1, 4)}
     spelled_gap = "0001" "000000000000000001" "0000000000000002" "00000001" "0000000000000004"
     whole_row = "0001" "000000000000000001" "0000000000000004" "00000000"
@@ -666,6 +708,7 @@ def placement_checks() -> Iterator[tuple[str, bool]]:
         ("the first is drained by itself", [*base, kept, claimed, own_drained], ("move 3", "kept 2", 1)),
         ("the first is kept by both", [*base, kept, claimed, own_kept], ("kept 1", "kept 2", 1)),
         ("the first is put back", [*base, drained, claimed, put_back], ("kept 1", "kept 2", 1)),
+        ("the first is halted and drained", [*ups, *starts[1:], claim, claimed, drained], ("halted 1", "kept 2", 1)),
         ("another incarnation is drained", [*base, later, claimed], ("kept 1", "kept 2", 1)),
     ):
         yield name, verdicts_of(config, meaning_of(operations)) == expected
