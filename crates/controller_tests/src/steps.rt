@@ -53,7 +53,7 @@ fn counter_of(kind: Kind) -> u64 {
         Kind::Forbid(app) => 30 + u64::from(app),
         Kind::Claim(app, _, _, _) => 40 + u64::from(app),
         Kind::Drain => 45,
-        Kind::Down(node, inc) => 50 + 4 * u64::from(node) + inc,
+        Kind::Down(node, inc) => (50 + 4 * u64::from(node)).wrapping_add(inc),
     }
 }
 
