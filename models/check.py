@@ -14,7 +14,7 @@ from dataclasses import dataclass, field
 from functools import cached_property
 
 MOST_BYTES, MOST_INPUT = 65_536, 2_097_152
-MOST_NODES, MOST_APPS = 16, 64
+MOST_NODES, MOST_APPS = 64, 64
 MOST_NAME, MOST_TIMEOUT, MOST_DEPTH = 255, 4_294_967_295, 64
 
 FAULT_KINDS = (

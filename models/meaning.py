@@ -107,7 +107,16 @@ class ClaimAct:
     source: int
 
 
-Act = Up | Down | Permit | Start | Stop | ClaimAct
+@dataclass(frozen=True)
+class Drain:
+    """The word that an incarnation of a node is drained, or that it isn't, in the place of others."""
+
+    about: Origin
+    value: bool
+    over: tuple[Dot, ...]
+
+
+Act = Up | Down | Permit | Start | Stop | ClaimAct | Drain
 
 
 @dataclass(frozen=True)
@@ -120,12 +129,12 @@ class Operation:
     @property
     def over(self) -> tuple[Dot, ...]:
         """The dots that it replaces."""
-        return self.act.over if isinstance(self.act, (Permit, Start, Stop)) else ()
+        return self.act.over if isinstance(self.act, (Permit, Start, Stop, Drain)) else ()
 
 
 @dataclass
 class Meaning:
-    """What a set of operations means, in six parts."""
+    """What a set of operations means, in seven parts."""
 
     heard: set[Dot] = field(default_factory=set)
     known: set[Dot] = field(default_factory=set)
@@ -133,15 +142,24 @@ class Meaning:
     starts: dict[Key, set[Dot]] = field(default_factory=dict)
     lives: dict[int, Life] = field(default_factory=dict)
     claims: dict[int, Claim] = field(default_factory=dict)
+    drains: dict[Origin, dict[Dot, bool]] = field(default_factory=dict)
 
     def live(self, node: int) -> int | None:
         """The incarnation at which a node is live."""
         life = self.lives.get(node)
         return None if life is None or life.is_down else life.inc
 
-    def standing(self, key: Key, permits: bool) -> tuple[Dot, ...]:
-        """The dots that stand at a key, of its permits or of its starts."""
-        return tuple(sorted(self.permits.get(key, {}) if permits else self.starts.get(key, ())))
+    def standing_permits(self, key: Key) -> tuple[Dot, ...]:
+        """The permits that stand at a key."""
+        return tuple(sorted(self.permits.get(key, ())))
+
+    def standing_starts(self, key: Key) -> tuple[Dot, ...]:
+        """The starts that stand at a key."""
+        return tuple(sorted(self.starts.get(key, ())))
+
+    def standing_drains(self, about: Origin) -> tuple[Dot, ...]:
+        """The drains that stand at an incarnation of a node."""
+        return tuple(sorted(self.drains.get(about, ())))
 
 
 def meaning_of(operations: Iterable[Operation]) -> Meaning:
@@ -160,12 +178,14 @@ def meaning_of(operations: Iterable[Operation]) -> Meaning:
 
 
 def add_standing(found: Meaning, operation: Operation) -> None:
-    """Adds a permit or a start that nothing replaces."""
+    """Adds a permit, a start or a drain that nothing replaces."""
     act = operation.act
     if isinstance(act, Permit):
         found.permits.setdefault(act.key, {})[operation.dot] = act.value
     elif isinstance(act, Start):
         found.starts.setdefault(act.key, set()).add(operation.dot)
+    elif isinstance(act, Drain):
+        found.drains.setdefault(act.about, {})[operation.dot] = act.value
 
 
 def add_life(found: Meaning, operation: Operation) -> None:

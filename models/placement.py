@@ -25,6 +25,16 @@ def is_permitted(config: Config, meaning: Meaning, key: Key) -> bool:
     return all(standing.values()) if standing else config.apps[key.app].permission
 
 
+def is_drained(meaning: Meaning, about: Origin) -> bool:
+    """Whether an incarnation of a node is out of placement: of what stands, drained wins."""
+    return any(meaning.drains.get(about, {}).values())
+
+
+def is_allowed(config: Config, meaning: Meaning, key: Key) -> bool:
+    """Whether an application may run there, at an incarnation that isn't drained."""
+    return is_permitted(config, meaning, key) and not is_drained(meaning, Origin(key.node, key.inc))
+
+
 def is_wished(meaning: Meaning, key: Key) -> bool:
     """Whether some start wish stands."""
     return bool(meaning.starts.get(key))
@@ -36,7 +46,7 @@ def is_eligible(config: Config, meaning: Meaning, app: int, node: int) -> bool:
     if inc is None or config.apps[app].group_of(node) is None:
         return False
     key = Key(app, node, inc)
-    return is_permitted(config, meaning, key) and is_wished(meaning, key)
+    return is_allowed(config, meaning, key) and is_wished(meaning, key)
 
 
 def holder(meaning: Meaning, app: int) -> Origin | None:
@@ -89,7 +99,7 @@ def verdict(config: Config, meaning: Meaning, app: int) -> Verdict:
     key = Key(app, origin.node, origin.inc)
     if not is_wished(meaning, key):
         return Verdict(HALTED, origin.node)
-    if not is_permitted(config, meaning, key):
+    if not is_allowed(config, meaning, key):
         return to_first(MOVE, config, meaning, app)
     own_group = config.apps[app].group_of(origin.node)
     earlier = range(own_group) if own_group is not None else range(0)

@@ -8,7 +8,8 @@ keeps these conditions:
   running node booted again in it, so others may have shipped to its earlier incarnation. Then comes a phase in which nodes
   that run are only read.
 - What a line changes, no other caller looks at or changes in its phase. Such things are whether a node runs, its life, its
-  moments, the permissions and the start wishes of an application at a node, and the claims of an application.
+  moments, whether it is drained, the permissions and the start wishes of an application at a node, and the claims of an
+  application.
 - A node that boots in a phase is asked there about itself alone. In a phase one node at most goes down and boots again.
 - A node goes down in a phase only before it has issued anything there, by a crash or since it gives up. Where nodes boot, some
   node runs all the time, unless none ran at first. Else what was known might be lost.
@@ -37,16 +38,16 @@ import placement
 from check import Config, ConfigFault, read_config, spelled
 from live import CALLER, CALLER_SHAPES, MOST_NODES, READ, Asked, LiveReader, Run, Thread, asked_in, run_live
 from random_packets import changed_bytes, random_packet
-from random_scripts import CONFIGS, ODD_WORDS, decorated, odd_input, with_fault
+from random_scripts import CONFIGS, ODD_WORDS, decorated, odd_input, weighted, with_fault
 from random_texts import random_text
 from sim import ACTOR, APP, NODE, NUMBER, TRUTH, VERB, ScriptFault, read_lines
 from world import World
 
 Who = tuple[int, int]
 
-CROWD = {"permit": 6, "start": 7, "stop": 3, "read": 3, "takeover": 2, "down": 1, "boot": 2, "odd": 1}
-GOING = {"crash": 4, "down": 5, "boot": 4, "start": 3, "permit": 2, "stop": 1, "read": 1, "takeover": 1}
-LONE = {"tick": 9, "start": 4, "permit": 3, "stop": 1, "takeover": 2, "read": 1, "down": 1}
+CROWD = weighted("permit 6 start 7 stop 3 drain 5 read 3 takeover 2 down 1 boot 2 odd 1")
+GOING = weighted("crash 4 down 5 boot 4 start 3 permit 2 stop 1 drain 3 read 1 takeover 1")
+LONE = weighted("tick 9 start 4 permit 3 stop 1 drain 4 takeover 2 read 1 down 1")
 
 ODD_LIVE_WORDS = (*ODD_WORDS, *b"0 1 4 5 01 1' read phase feed ship hear page share 12345678901234567890123".split())
 ODD_OF_KIND = {
@@ -204,6 +205,8 @@ class LiveMaker:
         elif asked.word == b"down":
             is_other = asked.values[1] not in (node, len(self.config.nodes))
             found = Touch(set(), {Thing("life", int(asked.values[1]))} if is_other else set())
+        elif asked.word == b"drain":
+            found = self.touch_of_drain(int(asked.values[1]))
         else:
             found = self.touch_of_wish(asked.word, int(asked.values[1]), int(asked.values[2]))
         if node in self.open.young and any(thing.node != node for thing in found.reads | found.writes):
@@ -216,8 +219,15 @@ class LiveMaker:
         if app == len(self.config.apps):
             return Touch()
         nodes = self.config.apps[app].nodes()
-        wishes = {Thing(what, node, app) for node in nodes for what in ("permit", "start")}
-        return Touch(wishes | {Thing("life", node) for node in nodes}, {Thing("claims", None, app)})
+        of_keys = {Thing(what, node, app) for node in nodes for what in ("permit", "start")}
+        of_nodes = {Thing(what, node) for node in nodes for what in ("life", "drain")}
+        return Touch(of_keys | of_nodes, {Thing("claims", None, app)})
+
+    def touch_of_drain(self, about: int) -> Touch:
+        """What a drain touches beside its own node."""
+        if about == len(self.config.nodes):
+            return Touch()
+        return Touch({Thing("life", about)}, {Thing("drain", about)})
 
     def touch_of_wish(self, word: bytes, app: int, about: int) -> Touch:
         """What a permission, a start or a stop touches beside its own node."""
@@ -347,6 +357,8 @@ class LiveMaker:
         if verb in ("permit", "start", "stop"):
             values = [self.random.choice((b"true", b"true", b"false"))] if verb == "permit" else []
             self.say(who, verb.encode(), *self.pair(), *values)
+        elif verb == "drain":
+            self.say(who, b"drain", self.pair()[1], self.random.choice((b"true", b"true", b"false")))
         elif verb == "takeover":
             self.say(who, b"takeover", self.pair()[0])
         elif verb in ("tick", "boot"):
@@ -444,13 +456,35 @@ class LiveMaker:
         if self.random.random() < 0.6:
             self.come_back(node)
 
+    def drained(self) -> None:
+        """A node that has an application, most often, is drained. Others take over or tick, and it may be put back."""
+        holders = [node for node in self.on() if node in self.holders()]
+        node = self.random.choice(holders) if holders and self.random.random() < 0.8 else self.some_node()
+        self.say(self.who(self.some_node()), b"drain", self.name_of(node), b"true")
+        for _ in range(self.random.choice((0, 0, 3))):
+            self.any_line(CROWD)
+        self.end()
+        if self.random.random() < 0.5:
+            self.line(self.who(self.some_node()), "takeover")
+            self.end()
+        for _ in range(self.random.choice((1, 2, 3))):
+            candidates = self.candidates()
+            chosen = candidates and self.random.random() < 0.85
+            self.say(self.who(self.random.choice(candidates) if chosen else self.some_node()), b"tick", self.moment())
+            self.end()
+        if self.random.random() < 0.4:
+            self.say(self.who(self.some_node()), b"drain", self.name_of(node), b"false")
+        elif self.random.random() < 0.5:
+            self.line(self.who(node), "crash")
+        self.end()
+
     def come_back(self, node: int) -> None:
         """A node comes back, and is then asked about others that it had forgotten."""
         if not self.world.is_on(node):
             self.come(node)
             self.end()
         for _ in range(self.random.choice((0, 1, 3))):
-            self.line(self.who(node), self.random.choice(("start", "permit", "stop", "takeover", "down")))
+            self.line(self.who(node), self.random.choice(("start", "permit", "stop", "drain", "takeover", "down")))
         self.end()
 
     def holders(self) -> set[int]:
@@ -470,14 +504,15 @@ class LiveMaker:
         for _ in range(self.random.choice((0, 1, 3, 6, 9))):
             if self.random.random() < 0.15:
                 self.feed()
-            self.random.choice((self.crowd, self.crowd, self.lone, self.lone, self.lone, self.loss, self.loss, self.arrive))()
+            crowds, losses = (self.crowd, self.crowd, self.arrive), (self.loss, self.loss, self.drained, self.drained)
+            self.random.choice((*crowds, self.lone, self.lone, self.lone, *losses))()
 
 
 # Whole inputs
 
 
 def live_config(random: Random, seed: int, number: int) -> bytes:
-    """A configuration to run: one of the chosen ones, or any that is valid. Few have too many nodes."""
+    """A configuration to run: one of the chosen ones, or any that is valid. Few have too many nodes, and then not very many."""
     if random.random() < 0.7:
         return random.choice(CONFIGS)
     has_too_many = random.random() < 0.1
@@ -487,7 +522,7 @@ def live_config(random: Random, seed: int, number: int) -> bytes:
             config = read_config(text)
         except ConfigFault:
             continue
-        is_small = len(text) < 4_000 and len(config.apps) < 12 and b"--" not in text
+        is_small = len(text) < 4_000 and len(config.apps) < 12 and len(config.nodes) <= 16 and b"--" not in text
         is_chosen = is_small and has_too_many == (len(config.nodes) > MOST_NODES)
         if is_chosen and any(b" " not in name for name in config.nodes):
             return text + b"\n"

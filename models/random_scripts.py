@@ -33,15 +33,25 @@ CONFIGS = (
     b"[{kernel,[{distributed,[{a,[{x,y}]},{b,[{x,y}]},{c,[{x,y}]},{d,[y,x]},{e,3,[x,y]}]}]}].\n",
 )
 
-CALM = {"share": 10, "tick": 16, "start": 6, "stop": 1, "permit": 3, "crash": 1, "boot": 1, "down": 2, "takeover": 4, "page": 2}
-LETTERS = {"ship": 14, "hear": 18, "start": 4, "permit": 3, "boot": 1, "crash": 1, "tick": 4, "bytes": 2, "down": 1, "same": 1}
-HANDS = {"hand": 16, "start": 6, "stop": 4, "permit": 6, "page": 3, "state": 2, "ship": 3, "hear": 3, "boot": 1, "tick": 1}
-FEEDS = {"feed": 16, "start": 3, "permit": 3, "tick": 2, "ship": 3, "bytes": 3, "share": 1}
-PAUSES = {"tick": 24, "crash": 2, "down": 2, "boot": 1, "share": 8, "start": 4, "permit": 2, "page": 2, "takeover": 1}
+
+def weighted(text: str) -> dict[str, int]:
+    """Verbs with their weights, as a text has them one after the other."""
+    words = text.split()
+    return {verb: int(weight) for verb, weight in zip(words[::2], words[1::2])}
+
+
+CALM = weighted("share 10 tick 16 start 6 stop 1 permit 3 drain 4 crash 1 boot 1 down 2 takeover 4 page 2")
+LETTERS = weighted("ship 14 hear 18 start 4 permit 3 drain 2 boot 1 crash 1 tick 4 bytes 2 down 1 same 1")
+HANDS = weighted("hand 16 start 6 stop 4 permit 6 drain 6 page 3 state 2 ship 3 hear 3 boot 1 tick 1")
+FEEDS = weighted("feed 16 start 3 permit 3 drain 3 tick 2 ship 3 bytes 3 share 1")
+PAUSES = weighted("tick 24 crash 2 down 2 boot 1 share 8 start 4 permit 2 drain 2 page 2 takeover 1")
+DRAINS = weighted("drain 16 tick 12 share 8 start 3 permit 1 stop 1 takeover 4 crash 1 boot 1 hand 2 page 3 state 1")
 ALL = dict.fromkeys(
-    "boot crash down permit start stop takeover tick ship hear hand share page state same bytes feed".split(), 1
+    "boot crash down permit start stop drain takeover tick ship hear hand share page state same bytes feed".split(), 1
 )
-PROFILES = (CALM, CALM, LETTERS, LETTERS, HANDS, FEEDS, PAUSES, PAUSES, ALL)
+PROFILES = (CALM, CALM, LETTERS, LETTERS, HANDS, FEEDS, FEEDS, PAUSES, PAUSES, DRAINS, ALL)
+
+FEW_NODES = 8
 
 ODD_WORDS = (
     *b"'true' True 01 -1 4611686018427387904 4611686018427387905 99999999999999999999999 1x fun 'fun' Zz ' '' 'a'b'".split(),
@@ -157,6 +167,14 @@ class ScriptMaker:
         words = [verb, self.on(), word, self.about(app)]
         self.add(*words, *([self.random.choice((b"true", b"true", b"false"))] if verb == b"permit" else []))
 
+    def drain(self) -> None:
+        """The word that a node is drained, most often of one that runs, or that it isn't."""
+        self.add(b"drain", self.on(), self.drained(), self.random.choice((b"true", b"true", b"false")))
+
+    def drained(self) -> bytes:
+        """A node to drain, most often one that runs."""
+        return self.on() if self.random.random() < 0.7 else self.about(self.random.randrange(len(self.config.apps) + 1))
+
     def ship(self) -> None:
         """A ship."""
         self.add(b"ship", self.on(), self.about(self.random.randrange(len(self.config.apps) + 1)))
@@ -202,7 +220,7 @@ class ScriptMaker:
     def feed(self) -> None:
         """The bytes of a packet, most often changed a little."""
         data = random_packet(self.random, self.world)
-        for _ in range(self.random.choice((0, 1, 1, 1, 2))):
+        for _ in range(self.random.choice((0, 0, 1, 1, 1, 2))):
             data = changed_bytes(self.random, data)
         self.add(b"feed", (data or b"D").hex().encode())
 
@@ -235,14 +253,31 @@ class ScriptMaker:
             self.add(b"state", self.name_of(node))
         self.add(b"bytes", b"%d" % len(self.world.messages))
 
+    def tick_all(self) -> None:
+        """Each node looks after its applications, and all is shared. Where there are many nodes it is shared once."""
+        last = len(self.config.nodes) - 1
+        for node in range(last + 1):
+            self.add(b"tick", self.name_of(node), self.moment())
+            if last < FEW_NODES or node == last:
+                self.add(b"share")
+
+    def holder(self) -> bytes:
+        """A node that has an application, by what a running node knows, or any."""
+        running = [node for node in range(len(self.config.nodes)) if self.world.is_on(node)]
+        holders = {claim.node for node in running for claim in self.world.state(node).claims.values()}
+        return self.name_of(self.random.choice(sorted(holders))) if holders else self.node()
+
     def burst(self, count: int) -> None:
         """Many commands at one node, whose oldest deltas are then dropped."""
         node = self.on()
         for _ in range(count):
             app, word = self.app()
             about = self.about(app)
-            if self.random.random() < 0.5:
+            roll = self.random.random()
+            if roll < 0.4:
                 self.add(b"permit", node, word, about, self.random.choice((b"true", b"false")))
+            elif roll < 0.6:
+                self.add(b"drain", node, about, self.random.choice((b"true", b"false")))
             else:
                 self.add(b"start", node, word, about)
 
@@ -274,35 +309,41 @@ def dropped_fronts(maker: ScriptMaker) -> None:
 
 
 def standing_dots(maker: ScriptMaker) -> None:
-    """Some standing starts of one key, each of another incarnation."""
+    """Some standing starts of one key, or drains of one node, each of another incarnation."""
     standing(maker, maker.random.choice((3, 20, 50)))
 
 
 def very_many_standing_dots(maker: ScriptMaker) -> None:
-    """As many standing starts of one key as may be replaced, or one more. Such a script takes the program long."""
+    """As many standing starts or drains as may be replaced, or one more. Such a script takes the program long."""
     standing(maker, maker.random.choice((1023, 1024, 1025, 1026)))
 
 
 def standing(maker: ScriptMaker, count: int) -> None:
-    """So many standing starts of one key."""
+    """So many standing starts of one key, or drains of one node, and a line that replaces them."""
     first, other = maker.name_of(0), maker.name_of(len(maker.config.nodes) - 1)
     app = next((app for app in maker.config.apps if app.group_of(0) is not None and b" " not in app.name), None)
     if app is None or first == other:
         usual(maker)
         return
-    word = spelled(app.name)
+    is_drain = maker.random.random() < 0.5
     maker.add(b"boot", first, b"0")
-    starts = []
+    said = []
     for _ in range(count):
         maker.add(b"boot", other, b"0")
         maker.add(b"hand", other, b"1")
-        maker.add(b"start", other, word, first)
-        starts.append(len(maker.world.operations))
+        if is_drain:
+            maker.add(b"drain", other, first, maker.random.choice((b"true", b"false")))
+        else:
+            maker.add(b"start", other, spelled(app.name), first)
+        said.append(len(maker.world.operations))
         maker.add(b"crash", other)
-    for number in starts:
+    for number in said:
         maker.add(b"hand", first, b"%d" % number)
-    verb = maker.random.choice((b"start", b"stop"))
-    maker.add(verb, first, word, first)
+    maker.add(b"page", first)
+    if is_drain:
+        maker.add(b"drain", first, first, maker.random.choice((b"true", b"false")))
+    else:
+        maker.add(maker.random.choice((b"start", b"stop")), first, spelled(app.name), first)
     maker.add(b"page", first)
 
 
@@ -320,24 +361,25 @@ def edge_of_buffer(maker: ScriptMaker) -> None:
     for one, to in ((first, other), (other, first), (first, other), (other, first)):
         maker.add(b"ship", one, to)
         maker.add(b"hear", to, b"%d" % len(maker.world.messages))
+    line = maker.random.choice(([b"permit", first, spelled(app.name), first], [b"drain", first, other]))
     for _ in range(maker.random.choice((254, 255, 256, 257, 258))):
-        maker.add(b"permit", first, spelled(app.name), first, maker.random.choice((b"true", b"false")))
+        maker.add(*line, maker.random.choice((b"true", b"false")))
     maker.add(b"ship", first, other)
     maker.add(b"hear", other, b"%d" % len(maker.world.messages))
     maker.add(b"same", first, other)
 
 
 def disputes(maker: ScriptMaker) -> None:
-    """Permits and starts of one key at several nodes that don't hear of each other, and then a share."""
+    """Permits, starts and drains of one key and its node, at several nodes that don't hear of each other, and then a share."""
     maker.open()
     maker.add(b"share")
     for _ in range(maker.random.randint(2, 6)):
         app, word = maker.app()
         about = maker.about(app)
         for node in range(len(maker.config.nodes)):
-            verb = maker.random.choice((b"permit", b"permit", b"start", b"stop"))
-            values = [maker.random.choice((b"true", b"false"))] if verb == b"permit" else []
-            maker.add(verb, maker.name_of(node), word, about, *values)
+            verb = maker.random.choice((b"permit", b"permit", b"start", b"stop", b"drain", b"drain"))
+            values = [maker.random.choice((b"true", b"false"))] if verb in (b"permit", b"drain") else []
+            maker.add(verb, maker.name_of(node), *([] if verb == b"drain" else [word]), about, *values)
         maker.add(b"share")
         maker.add(b"page", maker.on())
         maker.some(CALM, 4)
@@ -348,9 +390,7 @@ def rebooted_holders(maker: ScriptMaker) -> None:
     """Applications of tuples are claimed, some holders boot again, and the others are placed anew."""
     maker.open()
     for _ in range(maker.random.randint(1, 4)):
-        for node in range(len(maker.config.nodes)):
-            maker.add(b"tick", maker.name_of(node), maker.moment())
-            maker.add(b"share")
+        maker.tick_all()
         node = maker.random.randrange(len(maker.config.nodes))
         maker.add(b"crash", maker.name_of(node))
         maker.add(b"boot", maker.name_of(node), maker.moment())
@@ -358,6 +398,33 @@ def rebooted_holders(maker: ScriptMaker) -> None:
         maker.add(b"share")
         for node in range(len(maker.config.nodes)):
             maker.add(b"page", maker.name_of(node))
+    maker.close()
+
+
+def drained_holders(maker: ScriptMaker) -> None:
+    """Applications are claimed, some holders are drained, put back or booted again, and all is placed anew."""
+    maker.open()
+    for _ in range(maker.random.randint(1, 4)):
+        maker.tick_all()
+        holder = maker.holder()
+        maker.add(b"drain", maker.on(), holder, b"true")
+        if maker.random.random() < 0.3:
+            maker.add(b"drain", maker.on(), holder, b"false")
+        maker.add(b"share")
+        for _ in range(maker.random.choice((0, 1, 2))):
+            maker.simple(b"takeover")
+        maker.add(b"page", maker.on())
+        maker.tick_all()
+        roll = maker.random.random()
+        if roll < 0.4:
+            maker.add(b"drain", maker.on(), holder, b"false")
+        else:
+            maker.add(b"crash", holder)
+            maker.add(*((b"boot", holder, maker.moment()) if roll < 0.7 else (b"down", maker.on(), holder)))
+            maker.add(b"share")
+        maker.wish(b"start")
+        maker.add(b"share")
+        maker.add(b"page", maker.on())
     maker.close()
 
 
@@ -444,13 +511,14 @@ def script_config(random: Random, seed: int, number: int) -> bytes:
 
 
 KINDS: tuple[tuple[Callable[[ScriptMaker], None], int], ...] = (
-    (usual, 6_395),
+    (usual, 5_495),
     (quiet, 800),
     (dropped_fronts, 300),
     (standing_dots, 300),
     (edge_of_buffer, 400),
     (disputes, 900),
     (rebooted_holders, 900),
+    (drained_holders, 900),
     (very_many_standing_dots, 5),
 )
 

@@ -209,8 +209,8 @@ def changed_byte(random: Random, text: bytes) -> bytes:
 
 
 def too_many_nodes(random: Random) -> bytes:
-    """Sixteen nodes or seventeen, over lists of nodes and nodes to wait for."""
-    nodes = [b"n%d@h" % number for number in range(random.choice((16, 17)))]
+    """Sixty-four nodes or sixty-five, over lists of nodes and nodes to wait for."""
+    nodes = [b"n%d@h" % number for number in range(random.choice((64, 65)))]
     random.shuffle(nodes)
     cut = random.randint(1, len(nodes))
     entries = listed([tuple_of([[b"a"], listed([[node] for node in nodes[:cut]])])])

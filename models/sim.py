@@ -12,8 +12,8 @@ from dataclasses import dataclass
 
 import placement
 from check import MOST_INPUT, Config, ConfigFault, is_bare_atom, read_config, spelled
-from meaning import FAILOVER, NORMAL, TAKEOVER, ClaimAct, Key, Meaning
-from wire import INTERVAL, NOTHING, WHOLE, WireFault, message_bytes, read_packet, state_bytes
+from meaning import FAILOVER, NORMAL, TAKEOVER, ClaimAct, Key, Meaning, Origin
+from wire import INTERVAL, NOTHING, WHOLE, WireFault, packet_bytes, read_packet, state_bytes
 from world import NoSuch, Refused, World
 
 MOST_NUMBER = 2**62
@@ -30,10 +30,11 @@ SHAPES: dict[bytes, tuple[str, ...]] = {
     **dict.fromkeys((b"crash", b"page", b"state"), (ACTOR,)),
     **dict.fromkeys((b"down", b"ship"), (ACTOR, NODE)),
     **dict.fromkeys((b"start", b"stop"), (ACTOR, APP, NODE)),
-    **{b"permit": (ACTOR, APP, NODE, TRUTH), b"takeover": (ACTOR, APP), b"same": (ACTOR, ACTOR)},
+    **{b"permit": (ACTOR, APP, NODE, TRUTH), b"drain": (ACTOR, NODE, TRUTH)},
+    **{b"takeover": (ACTOR, APP), b"same": (ACTOR, ACTOR)},
     **{b"share": (), b"bytes": (NUMBER,), b"feed": (HEX,)},
 }
-COMMANDS = (b"down", b"permit", b"start", b"stop", b"takeover")
+COMMANDS = (b"down", b"permit", b"start", b"stop", b"drain", b"takeover")
 
 
 class InputFault(Exception):
@@ -240,11 +241,14 @@ class Printer:
         return b"node %s off" % self.node(node)
 
     def life(self, state: Meaning, node: int) -> bytes:
-        """The line of a node's life."""
+        """The line of a node's life. Of one that is live it says too whether it is drained."""
         life = state.lives.get(node)
         if life is None:
             return b"node %s unknown" % self.node(node)
-        return b"node %s %s %d" % (self.node(node), b"down" if life.is_down else b"up", life.inc)
+        if life.is_down:
+            return b"node %s down %d" % (self.node(node), life.inc)
+        drained = b" drained" if placement.is_drained(state, Origin(node, life.inc)) else b""
+        return b"node %s up %d%s" % (self.node(node), life.inc, drained)
 
     def app_line(self, state: Meaning, app: int) -> bytes:
         """The line of an application: who holds it, and what is to become of it."""
@@ -270,6 +274,8 @@ class Printer:
         key = Key(app, node, inc)
         if not placement.is_permitted(self.config, state, key):
             return b"barred"
+        if placement.is_drained(state, Origin(node, inc)):
+            return b"drained"
         return b"ok" if placement.is_wished(state, key) else b"idle"
 
 
@@ -344,7 +350,7 @@ class Player:
 
     def bytes(self, number: int) -> list[bytes]:
         """The bytes of a message."""
-        return [message_bytes(self.world.config, self.world.message(number)).hex().encode()]
+        return [packet_bytes(self.world.config, self.world.message(number)).hex().encode()]
 
     def feed(self, data: bytes) -> list[bytes]:
         """Bytes that are read as a packet."""

@@ -1,16 +1,25 @@
-"""The bytes of states, messages and single operations, written and read."""
+"""The bytes of states, messages and single operations, written and read.
+
+There are two versions. In the second an incarnation has eight bytes and not four, and there are drains.
+"""
 
 from __future__ import annotations
 
+from collections.abc import Callable
 from dataclasses import dataclass
+from typing import TypeVar
 
 from check import Config, Fault
-from meaning import NORMAL, Act, Claim, ClaimAct, Dot, Down, Key, Life, Meaning, Operation, Origin, Permit, Start, Stop, Up
+from meaning import NORMAL, Act, Claim, ClaimAct, Dot, Down, Drain, Key, Life, Meaning, Operation, Origin, Permit, Start
+from meaning import Stop, Up
 
 MOST_NUMBER, MOST_BYTES, MOST_OVER = 2**62, 4_194_304, 1_024
-MAGIC, VERSION = b"DAC", 1
+MAGIC, FIRST, SECOND = b"DAC", 1, 2
+INC_SIZES = {FIRST: 4, SECOND: 8}
+MOST_INCS = {FIRST: 2**32 - 1, SECOND: MOST_NUMBER}
 WHOLE, INTERVAL, NOTHING, SINGLE = 1, 2, 3, 4
-ACT_CODES = {Up: 1, Down: 2, Permit: 3, Start: 4, Stop: 5, ClaimAct: 6}
+ACT_CODES = {Up: 1, Down: 2, Permit: 3, Start: 4, Stop: 5, ClaimAct: 6, Drain: 7}
+LAST_ACTS = {FIRST: ACT_CODES[ClaimAct], SECOND: ACT_CODES[Drain]}
 
 PACKET_FAULTS = (
     "TooLong BadMagic BadVersion OtherConfig Short BadNumber BadOrder BadName NotInList NotKnown Trailing"
@@ -22,6 +31,45 @@ class WireFault(Fault):
 
     word = "wire fault"
     kinds = PACKET_FAULTS
+
+
+# For each origin how far its dots go unbroken from the first on, and the further counters in order.
+Rows = dict[Origin, tuple[int, list[int]]]
+
+
+def rows_of(dots: set[Dot]) -> Rows:
+    """How a set of dots is spelled."""
+    counters: dict[Origin, list[int]] = {}
+    for dot in sorted(dots):
+        counters.setdefault(dot.origin, []).append(dot.n)
+    return {origin: row_of(counters[origin]) for origin in counters}
+
+
+def row_of(counters: list[int]) -> tuple[int, list[int]]:
+    """How the dots of one origin are spelled, by their counters in order."""
+    unbroken = 0
+    while unbroken < len(counters) and counters[unbroken] == unbroken + 1:
+        unbroken += 1
+    return unbroken, counters[unbroken:]
+
+
+@dataclass(frozen=True)
+class SpelledState:
+    """A state with its sets of dots as they are spelled."""
+
+    heard: Rows
+    known: Rows
+    permits: dict[Key, dict[Dot, bool]]
+    starts: dict[Key, set[Dot]]
+    lives: dict[int, Life]
+    claims: dict[int, Claim]
+    drains: dict[Origin, dict[Dot, bool]]
+
+    @classmethod
+    def of(cls, state: Meaning) -> SpelledState:
+        """A state, spelled."""
+        heard, known = rows_of(state.heard), rows_of(state.known)
+        return cls(heard, known, state.permits, state.starts, state.lives, state.claims, state.drains)
 
 
 @dataclass(frozen=True)
@@ -40,7 +88,10 @@ class Header:
 class Message(Header):
     """A message. Nothing has no body."""
 
-    body: Meaning | None
+    body: SpelledState | None
+
+
+Packet = Message | Operation
 
 
 # Writing
@@ -51,107 +102,119 @@ def u(size: int, number: int) -> bytes:
     return number.to_bytes(size, "big")
 
 
-def origin_bytes(origin: Origin) -> bytes:
-    """An incarnation of a node."""
-    return u(1, origin.node) + u(4, origin.inc)
+class Writer:
+    """Writes a version of the bytes. What it has no place for is left out."""
+
+    def __init__(self, version: int = SECOND) -> None:
+        self.version = version
+
+    def inc(self, inc: int) -> bytes:
+        """An incarnation, or its lowest bits."""
+        size = INC_SIZES[self.version]
+        return u(size, inc % 256**size)
+
+    def origin(self, origin: Origin) -> bytes:
+        """An incarnation of a node."""
+        return u(1, origin.node) + self.inc(origin.inc)
+
+    def dot(self, dot: Dot) -> bytes:
+        """A dot."""
+        return self.origin(dot.origin) + u(8, dot.n)
+
+    def key(self, key: Key) -> bytes:
+        """A key."""
+        return u(2, key.app) + u(1, key.node) + self.inc(key.inc)
+
+    def context(self, rows: Rows) -> bytes:
+        """A set of dots."""
+        return u(2, len(rows)) + b"".join(self.row(origin, *rows[origin]) for origin in sorted(rows))
+
+    def row(self, origin: Origin, unbroken: int, further: list[int]) -> bytes:
+        """The dots of one origin."""
+        return self.origin(origin) + u(8, unbroken) + u(4, len(further)) + b"".join(u(8, n) for n in further)
+
+    def votes(self, about: bytes, values: dict[Dot, bool]) -> bytes:
+        """What stands with values at a key, or at an incarnation of a node."""
+        return about + u(4, len(values)) + b"".join(self.dot(dot) + u(1, values[dot]) for dot in sorted(values))
+
+    def starts(self, key: Key, dots: set[Dot]) -> bytes:
+        """The starts that stand at a key."""
+        return self.key(key) + u(4, len(dots)) + b"".join(map(self.dot, sorted(dots)))
+
+    def life(self, node: int, life: Life) -> bytes:
+        """The life of a node."""
+        return u(1, node) + self.inc(life.inc) + u(1, life.is_down)
+
+    def claim(self, app: int, claim: Claim) -> bytes:
+        """The greatest claim of an application."""
+        return u(2, app) + u(8, claim.term) + self.origin(claim.origin) + u(1, claim.how) + u(1, claim.source + 1)
+
+    def state(self, state: SpelledState) -> bytes:
+        """A state."""
+        parts = [self.context(state.heard), self.context(state.known), u(4, len(state.permits))]
+        parts += [self.votes(self.key(key), state.permits[key]) for key in sorted(state.permits)]
+        parts.append(u(4, len(state.starts)))
+        parts += [self.starts(key, state.starts[key]) for key in sorted(state.starts)]
+        parts.append(u(1, len(state.lives)))
+        parts += [self.life(node, state.lives[node]) for node in sorted(state.lives)]
+        parts.append(u(2, len(state.claims)))
+        parts += [self.claim(app, state.claims[app]) for app in sorted(state.claims)]
+        if self.version >= SECOND:
+            parts.append(u(4, len(state.drains)))
+            parts += [self.votes(self.origin(about), state.drains[about]) for about in sorted(state.drains)]
+        return b"".join(parts)
+
+    def head(self, config: Config, kind: int) -> bytes:
+        """What every packet begins with."""
+        return MAGIC + u(1, self.version) + u(8, config.mark) + u(1, kind)
+
+    def message(self, config: Config, message: Message) -> bytes:
+        """A message."""
+        ack = b"\0" if message.ack is None else b"\1" + self.origin(message.ack[0]) + u(8, message.ack[1])
+        found = self.head(config, message.kind) + self.origin(message.sender) + u(1, message.to)
+        found += self.inc(message.only) + u(8, message.up_to) + ack
+        return found if message.body is None else found + self.state(message.body)
+
+    def operation(self, config: Config, operation: Operation) -> bytes:
+        """A single operation."""
+        act = operation.act
+        found = self.head(config, SINGLE) + self.dot(operation.dot) + u(1, ACT_CODES[type(act)])
+        if isinstance(act, Up):
+            return found
+        if isinstance(act, Down):
+            return found + u(1, act.node) + self.inc(act.inc)
+        if isinstance(act, ClaimAct):
+            return found + u(2, act.app) + u(8, act.term) + u(1, act.how) + u(1, act.source + 1)
+        about = self.origin(act.about) if isinstance(act, Drain) else self.key(act.key)
+        value = u(1, act.value) if isinstance(act, (Permit, Drain)) else b""
+        return found + about + value + u(2, len(act.over)) + b"".join(map(self.dot, act.over))
 
 
-def dot_bytes(dot: Dot) -> bytes:
-    """A dot."""
-    return origin_bytes(dot.origin) + u(8, dot.n)
-
-
-def key_bytes(key: Key) -> bytes:
-    """A key."""
-    return u(2, key.app) + u(1, key.node) + u(4, key.inc)
-
-
-def context_bytes(dots: set[Dot]) -> bytes:
-    """A set of dots."""
-    counters: dict[Origin, list[int]] = {}
-    for dot in sorted(dots):
-        counters.setdefault(dot.origin, []).append(dot.n)
-    rows = [row_bytes(origin, counters[origin]) for origin in sorted(counters)]
-    return u(2, len(rows)) + b"".join(rows)
-
-
-def row_bytes(origin: Origin, counters: list[int]) -> bytes:
-    """The dots of one origin, by their counters in order."""
-    unbroken = 0
-    while unbroken < len(counters) and counters[unbroken] == unbroken + 1:
-        unbroken += 1
-    further = counters[unbroken:]
-    return origin_bytes(origin) + u(8, unbroken) + u(4, len(further)) + b"".join(u(8, n) for n in further)
-
-
-def life_bytes(node: int, life: Life) -> bytes:
-    """The life of a node."""
-    return u(1, node) + u(4, life.inc) + u(1, life.is_down)
-
-
-def claim_bytes(app: int, claim: Claim) -> bytes:
-    """The greatest claim of an application."""
-    return u(2, app) + u(8, claim.term) + origin_bytes(claim.origin) + u(1, claim.how) + u(1, claim.source + 1)
-
-
-def state_bytes(state: Meaning) -> bytes:
+def state_bytes(state: Meaning, version: int = SECOND) -> bytes:
     """A state."""
-    parts = [context_bytes(state.heard), context_bytes(state.known), u(4, len(state.permits))]
-    for key in sorted(state.permits):
-        values = state.permits[key]
-        parts += [key_bytes(key), u(4, len(values))]
-        parts += [dot_bytes(dot) + u(1, values[dot]) for dot in sorted(values)]
-    parts.append(u(4, len(state.starts)))
-    for key in sorted(state.starts):
-        parts += [key_bytes(key), u(4, len(state.starts[key]))]
-        parts += [dot_bytes(dot) for dot in sorted(state.starts[key])]
-    parts.append(u(1, len(state.lives)))
-    parts += [life_bytes(node, state.lives[node]) for node in sorted(state.lives)]
-    parts.append(u(2, len(state.claims)))
-    parts += [claim_bytes(app, state.claims[app]) for app in sorted(state.claims)]
-    return b"".join(parts)
+    return Writer(version).state(SpelledState.of(state))
 
 
-def head_bytes(config: Config, kind: int) -> bytes:
-    """What every packet begins with."""
-    return MAGIC + u(1, VERSION) + u(8, config.mark) + u(1, kind)
-
-
-def message_bytes(config: Config, message: Message) -> bytes:
-    """A message."""
-    ack = b"\0" if message.ack is None else b"\1" + origin_bytes(message.ack[0]) + u(8, message.ack[1])
-    found = head_bytes(config, message.kind) + origin_bytes(message.sender) + u(1, message.to)
-    found += u(4, message.only) + u(8, message.up_to) + ack
-    found += b"" if message.body is None else state_bytes(message.body)
+def packet_bytes(config: Config, packet: Packet, version: int = SECOND) -> bytes:
+    """A message or a single operation."""
+    writer = Writer(version)
+    found = writer.operation(config, packet) if isinstance(packet, Operation) else writer.message(config, packet)
     if len(found) > MOST_BYTES:
         raise WireFault("TooLong", MOST_BYTES)
     return found
-
-
-def operation_bytes(config: Config, operation: Operation) -> bytes:
-    """A single operation."""
-    act = operation.act
-    found = head_bytes(config, SINGLE) + dot_bytes(operation.dot) + u(1, ACT_CODES[type(act)])
-    if isinstance(act, Down):
-        return found + u(1, act.node) + u(4, act.inc)
-    if isinstance(act, ClaimAct):
-        return found + u(2, act.app) + u(8, act.term) + u(1, act.how) + u(1, act.source + 1)
-    if isinstance(act, Up):
-        return found
-    value = u(1, act.value) if isinstance(act, Permit) else b""
-    return found + key_bytes(act.key) + value + u(2, len(act.over)) + b"".join(map(dot_bytes, act.over))
 
 
 # Reading
 
 
 class Fields:
-    """Reads field after field. Places are counted from the first byte of all."""
+    """Reads field after field of a version. Places are counted from the first byte of all."""
 
-    def __init__(self, config: Config, data: bytes, at: int) -> None:
+    def __init__(self, config: Config, data: bytes, at: int, version: int) -> None:
         self.config = config
         self.data = data
         self.at = at
+        self.version = version
 
     def number(self, size: int, least: int, most: int, otherwise: str = "BadNumber") -> int:
         """A number of so many bytes, within a range; or else the fault of that kind."""
@@ -181,7 +244,15 @@ class Fields:
 
     def inc(self) -> int:
         """An incarnation."""
-        return self.number(4, 1, 2**32 - 1)
+        return self.number(INC_SIZES[self.version], 1, MOST_INCS[self.version])
+
+    def only(self, kind: int) -> int:
+        """The incarnation that a message is for. One with a whole state is for any."""
+        return self.number(INC_SIZES[self.version], 0, 0) if kind == WHOLE else self.inc()
+
+    def truth(self) -> bool:
+        """Whether something holds."""
+        return bool(self.number(1, 0, 1))
 
     def origin(self) -> Origin:
         """An incarnation of a node."""
@@ -218,7 +289,7 @@ class Fields:
             raise WireFault("Trailing", self.at)
 
 
-Rows = dict[Origin, tuple[int, list[int]]]
+K = TypeVar("K", Key, Origin)
 
 
 def above(found: object, last: object | None, at: int) -> None:
@@ -272,30 +343,21 @@ def is_within(rows: Rows, others: Rows) -> bool:
     return True
 
 
-def dots_of(rows: Rows) -> set[Dot]:
-    """All dots of a spelled set."""
-    return {
-        Dot(origin.node, origin.inc, n)
-        for origin, (unbroken, further) in rows.items()
-        for n in [*range(1, unbroken + 1), *further]
-    }
-
-
-def read_stores(fields: Fields, known: Rows, has_value: bool) -> dict[Key, dict[Dot, bool]]:
-    """What stands at each key: permits with their values, or starts."""
-    stores: dict[Key, dict[Dot, bool]] = {}
+def read_stores(fields: Fields, read: Callable[[], K], known: Rows, has_value: bool) -> dict[K, dict[Dot, bool]]:
+    """What stands at each key, or at each incarnation of a node: permits or drains with their values, or starts."""
+    stores: dict[K, dict[Dot, bool]] = {}
     last = None
     for _ in range(fields.count(4)):
         at = fields.at
-        key = fields.key()
-        above(key, last, at)
-        last = key
-        stores[key] = read_standing(fields, known, has_value)
+        about = read()
+        above(about, last, at)
+        last = about
+        stores[about] = read_standing(fields, known, has_value)
     return stores
 
 
 def read_standing(fields: Fields, known: Rows, has_value: bool) -> dict[Dot, bool]:
-    """The dots that stand at one key."""
+    """The dots that stand at one key, or at one incarnation."""
     standing: dict[Dot, bool] = {}
     last = None
     for _ in range(fields.number(4, 1, 2**32 - 1)):
@@ -305,7 +367,7 @@ def read_standing(fields: Fields, known: Rows, has_value: bool) -> dict[Dot, boo
         last = dot
         if not has_dot(known, dot):
             raise WireFault("NotKnown", at)
-        standing[dot] = bool(fields.number(1, 0, 1)) if has_value else True
+        standing[dot] = fields.truth() if has_value else True
     return standing
 
 
@@ -318,7 +380,7 @@ def read_lives(fields: Fields) -> dict[int, Life]:
         node = fields.node()
         above(node, last, at)
         last = node
-        lives[node] = Life(fields.inc(), bool(fields.number(1, 0, 1)))
+        lives[node] = Life(fields.inc(), fields.truth())
     return lives
 
 
@@ -339,37 +401,22 @@ def read_claims(fields: Fields) -> dict[int, Claim]:
     return claims
 
 
-@dataclass(frozen=True)
-class ReadState:
-    """A state as it is read, its sets of dots as they are spelled."""
-
-    heard: Rows
-    known: Rows
-    permits: dict[Key, dict[Dot, bool]]
-    starts: dict[Key, dict[Dot, bool]]
-    lives: dict[int, Life]
-    claims: dict[int, Claim]
-
-    def meaning(self) -> Meaning:
-        """The state with all its dots listed."""
-        starts = {key: set(dots) for key, dots in self.starts.items()}
-        return Meaning(dots_of(self.heard), dots_of(self.known), self.permits, starts, self.lives, self.claims)
-
-
-def read_parts(fields: Fields) -> ReadState:
+def read_parts(fields: Fields) -> SpelledState:
     """A state, whatever comes after it."""
     heard = read_context(fields)
     known = read_context(fields)
     if not is_within(heard, known):
         raise WireFault("NotKnown", fields.at)
-    permits = read_stores(fields, known, True)
-    starts = read_stores(fields, known, False)
-    return ReadState(heard, known, permits, starts, read_lives(fields), read_claims(fields))
+    permits = read_stores(fields, fields.key, known, True)
+    starts = {key: set(dots) for key, dots in read_stores(fields, fields.key, known, False).items()}
+    lives, claims = read_lives(fields), read_claims(fields)
+    drains = read_stores(fields, fields.origin, known, True) if fields.version >= SECOND else {}
+    return SpelledState(heard, known, permits, starts, lives, claims, drains)
 
 
-def read_state(config: Config, data: bytes) -> ReadState:
+def read_state(config: Config, data: bytes, version: int = SECOND) -> SpelledState:
     """The state that some bytes are, or the first fault."""
-    fields = Fields(config, data, 0)
+    fields = Fields(config, data, 0, version)
     state = read_parts(fields)
     fields.end()
     return state
@@ -388,16 +435,18 @@ def read_over(fields: Fields) -> tuple[Dot, ...]:
 
 def read_act(fields: Fields, dot: Dot) -> Act:
     """What an operation does."""
-    code = fields.number(1, 1, 6)
+    code = fields.number(1, 1, LAST_ACTS[fields.version])
     if code == ACT_CODES[Up]:
         return Up()
     if code == ACT_CODES[Down]:
         return Down(fields.node(), fields.inc())
     if code == ACT_CODES[ClaimAct]:
         return read_claim(fields, dot)
+    if code == ACT_CODES[Drain]:
+        return Drain(fields.origin(), fields.truth(), read_over(fields))
     key = fields.key()
     if code == ACT_CODES[Permit]:
-        return Permit(key, bool(fields.number(1, 0, 1)), read_over(fields))
+        return Permit(key, fields.truth(), read_over(fields))
     return Start(key, read_over(fields)) if code == ACT_CODES[Start] else Stop(key, read_over(fields))
 
 
@@ -428,27 +477,23 @@ def read_operation(fields: Fields) -> Operation:
     return operation
 
 
-def read_message(fields: Fields, kind: int) -> tuple[Message, ReadState | None]:
-    """A message of a kind without its body, and its body."""
-    sender, to = fields.origin(), fields.node()
-    only = fields.number(4, 0, 0) if kind == WHOLE else fields.inc()
+def read_message(fields: Fields, kind: int) -> Message:
+    """A message of a kind."""
+    sender, to, only = fields.origin(), fields.node(), fields.only(kind)
     up_to = fields.number(8, 0, MOST_NUMBER)
-    ack = None
-    if fields.number(1, 0, 1):
-        ack = (fields.origin(), fields.number(8, 0, MOST_NUMBER))
-    body = read_parts(fields) if kind != NOTHING else None
-    return Message(kind, sender, to, only, up_to, ack, None), body
+    ack = (fields.origin(), fields.number(8, 0, MOST_NUMBER)) if fields.truth() else None
+    return Message(kind, sender, to, only, up_to, ack, None if kind == NOTHING else read_parts(fields))
 
 
-def read_packet(config: Config, data: bytes) -> tuple[Message, ReadState | None] | Operation:
-    """The packet that some bytes are, or the first fault."""
+def read_packet(config: Config, data: bytes) -> Packet:
+    """The packet that some bytes of either version are, or the first fault."""
     if len(data) > MOST_BYTES:
         raise WireFault("TooLong", MOST_BYTES)
     if data[:3] != MAGIC:
         raise WireFault("BadMagic", 0)
-    if data[3:4] != u(1, VERSION):
+    if data[3:4] not in (u(1, FIRST), u(1, SECOND)):
         raise WireFault("BadVersion", 3)
-    fields = Fields(config, data, 4)
+    fields = Fields(config, data, 4, data[3])
     if fields.count(8) != config.mark:
         raise WireFault("OtherConfig", 4)
     kind = fields.number(1, WHOLE, SINGLE)

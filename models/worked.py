@@ -13,17 +13,24 @@ from dataclasses import dataclass
 
 from check import Config, check, read_config
 from live import run_live
-from meaning import NORMAL, Claim, ClaimAct, Dot, Down, Key, Meaning, Operation, Start, Up, meaning_of
+from meaning import NORMAL, Claim, ClaimAct, Dot, Down, Drain, Key, Meaning, Operation, Origin, Start, Up, meaning_of
 from placement import load, verdict
 from random_live import outputs
 from sim import LineReader, Player, simulate
-from wire import WireFault, claim_bytes, context_bytes, is_operation, read_packet, read_state, state_bytes
+from wire import FIRST, MAGIC, SECOND, WireFault, Writer, is_operation, packet_bytes, read_packet, read_state, rows_of
+from wire import state_bytes
+from world import World
 
 EXAMPLE = b"""[{kernel, [{distributed, [{myapp, 5000, [cp1@cave, {cp2@cave, cp3@cave}]}]},
  {sync_nodes_mandatory, [cp2@cave, cp3@cave]}, {sync_nodes_timeout, 5000}]}].
 """
 TWO_APPLICATIONS = b"[{kernel,[{distributed,[{a,5000,[c1@h,{c2@h,c3@h}]},{b,[c2@h]}]}]}].\n"
 ONE_APPLICATION = b"[{kernel,[{distributed,[{a,[c1@h,{c2@h,c3@h}]}]}]}].\n"
+
+CONTEXT_HEX = "0001" + "01" + "0000000000000001" + "0000000000000001" + "00000000"
+FRESH_HEX = CONTEXT_HEX * 2 + "00000000" * 2 + "01" + "01" + "0000000000000001" + "00" + "0000" + "00000000"
+FIRST_CONTEXT_HEX = "0001" + "01" + "00000001" + "0000000000000001" + "00000000"
+FIRST_FRESH_HEX = FIRST_CONTEXT_HEX * 2 + "00000000" * 2 + "01" + "01" + "00000001" + "00" + "0000"
 
 SHORT = {"p": "cp1@cave", "q": "cp2@cave", "r": "cp3@cave", "x": "c1@h", "y": "c2@h", "z": "c3@h", "m": "myapp"}
 ANY_LINES = ".."
@@ -106,6 +113,46 @@ PERMISSIONS = (
     "+3 x 1 2;+4 y 1 2;+5 y 1 3;differ;same",
 )
 
+DRAINING = (
+    "start x a x;start y a y;share;tick x 0;share;drain y x true;drain x x false;share;tick y 5;page y;drain y x false;share;"
+    "tick x 6;drain x zz@h true;drain x z true",
+    "+3 x 1 2;+4 y 1 2;ticked;claim 5 a term 1 normal;+6 y 1 3;+7 x 1 4;ticked;claim 8 a term 2 normal;node y 1;"
+    "heard 8 known 8;node x up 1 drained;node y up 1;node z unknown;app a holder y 1 term 2 normal verdict kept y;"
+    "list x=drained y=ok z=down;+9 y 1 5;ticked;claim 10 a term 3 takeover from y;refused 5 UnknownNode;refused 9 NotLive",
+)
+
+DRAINED_ALONE = (
+    "drain x x true;takeover x a;start x a x;tick x 0;page x;permit x a x false;page x;drain x x false;page x;"
+    "permit x a x true;tick x 0;drain x x true;tick x 0;page x;crash x;drain x x true;boot x 9;start x a x;tick x 9;page x",
+    "+2 x 1 2;refused 11 NotEligible;+3 x 1 3;ticked;node x 1;heard 3 known 3;node x up 1 drained;node y unknown;"
+    "node z unknown;app a holder none verdict nobody;list x=drained y=down z=down;+4 x 1 4;node x 1;heard 4 known 4;"
+    "node x up 1 drained;node y unknown;node z unknown;app a holder none verdict nobody;list x=barred y=down z=down;"
+    "+5 x 1 5;node x 1;heard 5 known 5;node x up 1;node y unknown;node z unknown;app a holder none verdict nobody;"
+    "list x=barred y=down z=down;+6 x 1 6;ticked;claim 7 a term 1 normal;+8 x 1 8;ticked;node x 1;heard 8 known 8;"
+    "node x up 1 drained;node y unknown;node z unknown;app a holder x 1 term 1 normal verdict nobody;"
+    "list x=drained y=down z=down;crashed;refused 1 Off;booted 2 op 9;+10 x 2 2;ticked;claim 11 a term 1 normal;node x 2;"
+    "heard 3 known 3;node x up 2;node y unknown;node z unknown;app a holder x 2 term 1 normal verdict kept x;"
+    "list x=ok y=down z=down",
+)
+DRAINED_REBOOT = (
+    "share;drain x y true;share;page x;crash y;down x y;drain x y false;page x;boot y 1;start y a y;share;page x;"
+    "down x y;share;drain y zz@h true;drain y z true",
+    "+3 x 1 2;node x 1;heard 3 known 3;node x up 1;node y up 1 drained;node z unknown;app a holder none verdict nobody;"
+    "list x=idle y=drained z=down;crashed;+4 x 1 3;refused 9 NotLive;node x 1;heard 4 known 4;node x up 1;node y down 1;"
+    "node z unknown;app a holder none verdict nobody;list x=idle y=down z=down;booted 2 op 5;+6 y 2 2;node x 1;"
+    "heard 6 known 6;node x up 1;"
+    "node y up 2;node z unknown;app a holder none verdict start y;list x=idle y=ok z=down;+7 x 1 4;refused 3 DeclaredDown;"
+    "refused 3 DeclaredDown",
+)
+DRAINED_HOLDER = (
+    "start y a y;start z a z;share;tick y 0;share;drain z y true;takeover z a;tick z 0;drain y y false;takeover z a;share;"
+    "takeover y a;drain y y false;page y;takeover y a;page y",
+    "+3 y 1 2;+4 z 1 2;ticked;claim 5 a term 1 normal;+6 z 1 3;refused 12 NotRunning;ticked;claim 7 a term 2 normal;+8 y 1 4;"
+    "refused 13 AlreadyHolder;refused 11 NotEligible;+9 y 1 5;node y 1;heard 9 known 9;node x unknown;node y up 1;node z up 1;"
+    "app a holder z 1 term 2 normal verdict kept z;list x=down y=ok z=ok;+10 y 1 6;node y 1;heard 10 known 10;node x unknown;"
+    "node y up 1;node z up 1;app a holder y 1 term 3 takeover from z verdict kept y;list x=down y=ok z=ok",
+)
+
 ROWS = (
     Row("first path", EXAMPLE, "p q", FIRST_PATH, FIRST_PATH_OUT),
     Row(
@@ -130,8 +177,7 @@ ROWS = (
         "q",
         "page q;state q",
         "node q 1;heard 1 known 1;node p unknown;node q up 1;node r unknown;app m holder none verdict nobody;"
-        "list p=down q=idle r=down;"
-        "00010100000001000000000000000100000000000101000000010000000000000001000000000000000000000000010100000001000000",
+        f"list p=down q=idle r=down;{FRESH_HEX}",
     ),
     Row("handed out of order", EXAMPLE, "p q", OUT_OF_ORDER, OUT_OF_ORDER_OUT),
     Row("gate gives up", EXAMPLE, "p", "tick p 4999;tick p 5000;page p;boot p 6000", "held;gave up;node p off;booted 2 op 2"),
@@ -218,8 +264,28 @@ ROWS = (
         "booted 1 op 1;refused 8 MomentBack;refused 6 OnSelf;refused 9 NotLive;refused 4 UnknownApp;refused 5 UnknownNode;"
         "refused 7 NotInList;refused 11 NotEligible;+2 y 1 2;refused 12 NotRunning;no message 1;no operation 3",
     ),
+    Row("draining", ONE_APPLICATION, "x y", *DRAINING),
+    Row("the only node drained", ONE_APPLICATION, "x", *DRAINED_ALONE),
+    Row("a drained node boots again", ONE_APPLICATION, "x y", *DRAINED_REBOOT),
+    Row("takeovers and a drained holder", ONE_APPLICATION, "y z", *DRAINED_HOLDER),
+    Row("the gate and a drained node", EXAMPLE, "p q r", "share;drain p q true;tick p 0", "+4 p 1 2;ticked"),
+    Row(
+        "a drained holder is lost",
+        TWO_APPLICATIONS,
+        "x z",
+        "start x a x;share;tick x 0;share;drain z x true;tick z 1000;crash x;down z x;start z a z;tick z 2000;tick z 6999;"
+        "tick z 7000",
+        "+3 x 1 2;ticked;claim 4 a term 1 normal;+5 z 1 2;ticked;crashed;+6 z 1 3;+7 z 1 4;ticked;ticked;ticked;"
+        "claim 8 a term 2 failover from x",
+    ),
+    Row(
+        "two rounds",
+        TWO_APPLICATIONS,
+        "y z",
+        "start y a y;start z a z;start y b y;share;tick z 0;tick y 0;share;tick z 0;tick y 0;page z",
+        "..;node z 1;..;app a holder y 1 term 1 normal verdict kept y;..;app b holder y 1 term 1 normal verdict kept y;..",
+    ),
 )
-
 
 
 @dataclass(frozen=True)
@@ -252,6 +318,10 @@ FAILOVER_PAGE = (
 REBOOT_PAGE = (
     "heard 6 known 6;node x unknown;node y up 1;node z up 2;app a holder y 1 term 1 normal verdict kept y;"
     "list x=down y=ok z=idle;"
+)
+DRAINED_PAGE = (
+    "heard 7 known 7;node x up 1 drained;node y up 1;node z unknown;app a holder y 1 term 2 normal verdict kept y;"
+    "list x=drained y=ok z=down;"
 )
 CLOSED = "close ok;weave ok"
 
@@ -301,16 +371,27 @@ LIVE_ROWS = (
         "node z 1;heard 3 known 3;node x unknown;node y up 1;node z down 1;app a holder none verdict nobody;"
         f"list x=down y=idle z=down;{CLOSED}",
     ),
+    LiveRow(
+        "a drain over phases",
+        ONE_APPLICATION,
+        "1 boot x 0;1 boot y 0;phase;1 start x a x;1 start y a y;phase;1 tick x 0;phase;2 drain y x true;3 drain y zz@h true;"
+        "3 drain y z true;phase;1 tick y 5;2 read y;phase;4 drain z x true",
+        "phase 1;x 1 ok;y 1 ok;phase 2;x 1 ok;y 1 ok;phase 3;x 1 ok;phase 4;y 2 ok;y 3 refused 5 UnknownNode;"
+        "y 3 refused 9 NotLive;phase 5;y 1 ok;y 2 fresh;phase 6;z 4 refused 1 Off;"
+        f"node x 1;{DRAINED_PAGE};node y 1;{DRAINED_PAGE};node z off;{CLOSED}",
+    ),
 )
 
 FIVE_NODES = b"[{kernel,[{distributed,[{a,[{n1,n2,n3},n4]}]},{sync_nodes_optional,[n5]}]}].\n"
 LIVE_FAULTS = {
-    "1 BadWord": "2 ship x y;boot x 0;1 phase;1 feed 00;-1 boot x 0;9 jump;read x;a1 read x;'1' read x".split(";"),
-    "2 BadCount": "1;9;00;phase 1;1 read;9 tick x;feed;feed 00 00;1 permit x a x;1 crash x 0".split(";"),
-    "3 BadName": "1 start x A x;01 permit x a x 'true';1 boot 'x 0;9 tick A 01;1 read x'".split(";"),
-    "4 BadNumber": "0 boot x 0;5 read x;01 tick x 0;9 boot zz@h 0;1 tick x 4611686018427387905;1 boot zz@h 01".split(";"),
-    "5 UnknownActor": ["4 read zz@h", "1 boot 'Zz' 7", "1 down zz@h zz@h"],
-    "6 BadHex": "feed 0;feed 0A;feed 0g;feed '00'".split(";"),
+    "1 BadWord": "2 ship x y;boot x 0;drain x x true;1 phase;1 feed 00;-1 boot x 0;9 jump;read x;a1 read x;'1' read x",
+    "2 BadCount": "1;9;00;phase 1;1 read;9 tick x;feed;feed 00 00;1 permit x a x;1 drain x x;1 crash x 0",
+    "3 BadName": (
+        "1 start x A x;1 drain x x 'true';1 drain zz@h A true;01 permit x a x 'true';1 boot 'x 0;9 tick A 01;1 read x'"
+    ),
+    "4 BadNumber": "0 boot x 0;5 drain x x true;01 tick x 0;9 boot zz@h 0;1 tick x 4611686018427387905;1 boot zz@h 01",
+    "5 UnknownActor": "4 read zz@h;1 boot 'Zz' 7;1 down zz@h zz@h;1 drain zz@h x true",
+    "6 BadHex": "feed 0;feed 0A;feed 0g;feed '00'",
 }
 RACE = ONE_APPLICATION + b"--\n1 boot c1@h 0\n1 boot c2@h 0\nphase\n1 permit c1@h a c1@h false\n1 permit c2@h a c1@h true\n"
 
@@ -330,6 +411,11 @@ def one_entry(entries: bytes) -> bytes:
     return b"[{kernel,[{distributed,[%s]}]}]." % entries
 
 
+def many_nodes(count: int) -> bytes:
+    """The names of so many nodes, each of three bytes."""
+    return b",".join(b"n%d" % number for number in range(10, 10 + count))
+
+
 TEXTS = (
     (b"%% cp1.config\n" + EXAMPLE.replace(b"{cp2@cave, cp3@cave}", b"{cp3@cave, cp2@cave}"), CANONICAL),
     (QUOTED, QUOTED_CANONICAL),
@@ -347,22 +433,17 @@ TEXTS = (
     (b'[{kernel,[{f,~"a"}]}].', b"config fault 3 Unsupported at 13\n"),
     (b" " * 65_537, b"config fault 1 TooLong at 65536\n"),
     (one_entry(b",".join(b"{a%d,[n@h]}" % number for number in range(65))), b"config fault 11 TooManyApps at 783\n"),
+    (one_entry(b"{a,[%s]}" % many_nodes(65)), b"config fault 10 TooManyNodes at 284\n"),
+    (
+        one_entry(b"{a,[%s]}" % many_nodes(64)),
+        b"[{kernel,[{distributed,[{a,0,[%s]}]},{permissions,[]},{sync_nodes_mandatory,[]},{sync_nodes_optional,[]}]}].\n"
+        % many_nodes(64),
+    ),
 )
 
-CONTEXT_HEX = "00010100000001000000000000000100000000"
-FRESH_HEX = CONTEXT_HEX * 2 + "0000000000000000" + "01010000000100" + "0000"
-FRESH = bytes.fromhex(FRESH_HEX)
+FRESH, FIRST_FRESH = bytes.fromhex(FRESH_HEX), bytes.fromhex(FIRST_FRESH_HEX)
 D1, D2 = Dot(0, 1, 1), Dot(0, 1, 2)
-
-
-def fresh_message(config: Config) -> bytes:
-    """The whole state of the first node, which has just come up, for the second."""
-    head = bytes.fromhex("44414301") + config.mark.to_bytes(8, "big")
-    fields = bytes.fromhex("01" + "0000000001" + "01" + "00000000" + "0000000000000001" + "00")
-    state = bytearray(FRESH)
-    for at in (2, 21, 47):
-        state[at] = 0
-    return head + fields + bytes(state)
+Fault = tuple[str, int]
 
 
 def with_byte(data: bytes, at: int, byte: int) -> bytes:
@@ -370,7 +451,7 @@ def with_byte(data: bytes, at: int, byte: int) -> bytes:
     return data[:at] + bytes((byte,)) + data[at + 1 :]
 
 
-def fault_of(read: Callable[[], object]) -> tuple[str, int] | None:
+def fault_of(read: Callable[[], object]) -> Fault | None:
     """The fault of a reading."""
     try:
         read()
@@ -379,51 +460,192 @@ def fault_of(read: Callable[[], object]) -> tuple[str, int] | None:
     return None
 
 
-SHORT_FIELDS = (4, 12, 13, 14, 18, 19, 23, 31, 32, 34)
+def state_checks(config: Config) -> Iterator[tuple[str, bool]]:
+    """The bytes of a state, whole and changed."""
+    def fault(data: bytes) -> Fault | None:
+        return fault_of(lambda: read_state(config, data))
+
+    yield "a fresh state is read", Writer().state(read_state(config, FRESH)) == FRESH and len(FRESH) == 71
+    yield "a fresh state, cut", fault(FRESH[:70]) == ("Short", 67)
+    yield "a fresh state and a byte", fault(FRESH + b"\0") == ("Trailing", 71)
+    yield "a fresh state, neither up nor down", fault(with_byte(FRESH, 64, 2)) == ("BadNumber", 64)
+    yield "a fresh state, no such node", fault(with_byte(FRESH, 55, 3)) == ("BadName", 55)
+    yield "a fresh state, nothing known", fault(FRESH[:23] + b"\0\0" + FRESH[46:]) == ("NotKnown", 25)
+    most = bytes.fromhex("4000000000000000")
+    large = FRESH[:11] + most + FRESH[19:34] + most + FRESH[42:]
+    read = read_state(config, large)
+    yield "a state with very many dots", read.heard == read.known == {(1, 1): (2**62, [])}
+    yield "a state with very many dots is written again", Writer().state(read) == large
 
 
-def fault_of_prefix(length: int) -> tuple[str, int]:
+def first_state_checks(config: Config) -> Iterator[tuple[str, bool]]:
+    """The bytes of a state in the first version, whole and changed."""
+    def fault(data: bytes) -> Fault | None:
+        return fault_of(lambda: read_state(config, data, FIRST))
+
+    read = read_state(config, FIRST_FRESH, FIRST)
+    yield "a fresh state of the first version", read == read_state(config, FRESH) and len(FIRST_FRESH) == 55
+    yield "a fresh state is written in the first version", Writer(FIRST).state(read) == FIRST_FRESH
+    yield "a fresh state of the first version, cut", fault(FIRST_FRESH[:54]) == ("Short", 53)
+    yield "a fresh state of the first version and a byte", fault(FIRST_FRESH + b"\0") == ("Trailing", 55)
+    yield "of the first version, neither up nor down", fault(with_byte(FIRST_FRESH, 52, 2)) == ("BadNumber", 52)
+    yield "of the first version, no such node", fault(with_byte(FIRST_FRESH, 47, 3)) == ("BadName", 47)
+    without = FIRST_FRESH[:19] + b"\0\0" + FIRST_FRESH[38:]
+    yield "of the first version, nothing known", fault(without) == ("NotKnown", 21)
+
+
+# A state of a node's first three operations: it comes up, isn't drained, and is drained. The two drains stand together.
+DRAINED_HEX = (
+    ("0001" + "00" + "0000000000000001" + "0000000000000003" + "00000000") * 2
+    + "00000000" * 2
+    + ("01" + "00" + "0000000000000001" + "00")
+    + "0000"
+    + ("00000001" + "00" + "0000000000000001" + "00000002")
+    + ("00" + "0000000000000001" + "0000000000000002" + "00")
+    + ("00" + "0000000000000001" + "0000000000000003" + "01")
+)
+FIRST_DRAINED_HEX = (
+    ("0001" + "00" + "00000001" + "0000000000000003" + "00000000") * 2
+    + "00000000" * 2
+    + ("01" + "00" + "00000001" + "00")
+    + "0000"
+)
+TWO_DRAINS_HEX = (
+    "00000002"
+    + ("00" + "0000000000000002" + "00000001" + "02" + "0000000000000001" + "0000000000000003" + "00")
+    + ("01" + "0000000000000001" + "00000001" + "02" + "0000000000000001" + "0000000000000002" + "01")
+)
+DRAINED = bytes.fromhex(DRAINED_HEX)
+DRAINED_FAULTS: tuple[tuple[str, bytes, Fault], ...] = (
+    ("of no such node", with_byte(DRAINED, 71, 3), ("BadName", 71)),
+    ("of no incarnation", with_byte(DRAINED, 79, 0), ("BadNumber", 72)),
+    ("of too high an incarnation", with_byte(DRAINED, 72, 0x40), ("BadNumber", 72)),
+    ("of no dots", with_byte(DRAINED, 83, 0), ("BadNumber", 80)),
+    ("neither true nor false", with_byte(DRAINED, 101, 2), ("BadNumber", 101)),
+    ("by no such node", with_byte(DRAINED, 102, 3), ("BadName", 102)),
+    ("of one dot twice", with_byte(DRAINED, 118, 2), ("BadOrder", 102)),
+    ("of a dot that isn't known", with_byte(DRAINED, 118, 4), ("NotKnown", 102)),
+    ("of a node twice", with_byte(DRAINED, 70, 2) + DRAINED[71:], ("BadOrder", 120)),
+    ("without its number of nodes", DRAINED[:70], ("Short", 67)),
+    ("without its number of dots", DRAINED[:82], ("Short", 80)),
+    ("without its last value", DRAINED[:119], ("Short", 119)),
+    ("and a byte", DRAINED + b"\0", ("Trailing", 120)),
+)
+
+
+def drained_checks(config: Config) -> Iterator[tuple[str, bool]]:
+    """The bytes of a state with drains, whole and changed."""
+    drains = {Origin(0, 1): {D2: False, Dot(0, 1, 3): True}}
+    operations = [Operation(D1, Up())]
+    operations += [Operation(dot, Drain(Origin(0, 1), value, ())) for dot, value in drains[Origin(0, 1)].items()]
+    state = meaning_of(operations)
+    yield "drains that stand together", state.drains == drains
+    yield "a drained state is written", state_bytes(state) == DRAINED
+    yield "a drained state is read", read_state(config, DRAINED).drains == drains
+    for name, data, expected in DRAINED_FAULTS:
+        yield f"drains {name}", fault_of(lambda data=data: read_state(config, data)) == expected
+    dots = (Dot(2, 1, 2), Dot(2, 1, 3))
+    both = meaning_of([Operation(dots[0], Drain(Origin(1, 1), True, ())), Operation(dots[1], Drain(Origin(0, 2), False, ()))])
+    yield "drains of two nodes", state_bytes(both).hex().endswith(TWO_DRAINS_HEX)
+    yield "drains of two nodes are read", read_state(config, state_bytes(both)).drains == both.drains
+    five = read_config(FIVE_NODES)
+    unlisted = with_byte(DRAINED, 71, 4)
+    yield "drains of a node in no list", read_state(five, unlisted).drains == {Origin(4, 1): drains[Origin(0, 1)]}
+    yield "a drained state of the first version", state_bytes(state, FIRST).hex() == FIRST_DRAINED_HEX
+
+
+def message_of(config: Config, version: int) -> bytes:
+    """The whole state of the first node, which has just come up, for the second."""
+    inc, none = ("0000000000000001", "0" * 16) if version == SECOND else ("00000001", "0" * 8)
+    head = MAGIC + bytes((version,)) + config.mark.to_bytes(8, "big")
+    fields = bytes.fromhex("01" + "00" + inc + "01" + none + "0000000000000001" + "00")
+    state = bytearray(FRESH if version == SECOND else FIRST_FRESH)
+    for at in (2, 25, 55) if version == SECOND else (2, 21, 47):
+        state[at] = 0
+    return head + fields + bytes(state)
+
+
+# Where the first fields of a message begin, and a place behind them.
+MESSAGE_FIELDS = {FIRST: (4, 12, 13, 14, 18, 19, 23, 31, 32, 34), SECOND: (4, 12, 13, 14, 22, 23, 31, 39, 40, 42)}
+
+
+def fault_of_prefix(length: int, version: int) -> Fault:
     """The fault of so many bytes of a message: after its first bytes, a field that isn't whole."""
     if length < 4:
         return ("BadMagic", 0) if length < 3 else ("BadVersion", 3)
-    return "Short", max(at for at in SHORT_FIELDS if at <= length)
+    return "Short", max(at for at in MESSAGE_FIELDS[version] if at <= length)
 
 
-def state_checks(config: Config) -> Iterator[tuple[str, bool]]:
-    """The bytes of a state, whole and changed."""
-    def fault(data: bytes) -> tuple[str, int] | None:
-        return fault_of(lambda: read_state(config, data))
-
-    yield "a fresh state is read", state_bytes(read_state(config, FRESH).meaning()) == FRESH and len(FRESH) == 55
-    yield "a fresh state, cut", fault(FRESH[:54]) == ("Short", 53)
-    yield "a fresh state and a byte", fault(FRESH + b"\0") == ("Trailing", 55)
-    yield "a fresh state, neither up nor down", fault(with_byte(FRESH, 52, 2)) == ("BadNumber", 52)
-    yield "a fresh state, no such node", fault(with_byte(FRESH, 47, 3)) == ("BadName", 47)
-    yield "a fresh state, nothing known", fault(FRESH[:19] + b"\0\0" + FRESH[38:]) == ("NotKnown", 21)
-    most = bytes.fromhex("4000000000000000")
-    large = FRESH[:7] + most + FRESH[15:26] + most + FRESH[34:]
-    read = read_state(config, large)
-    yield "a state with very many dots", read.heard == read.known == {(1, 1): (2**62, [])}
-
-
-def packet_checks(config: Config) -> Iterator[tuple[str, bool]]:
+def message_checks(config: Config) -> Iterator[tuple[str, bool]]:
     """The bytes of a message, whole and changed."""
-    def fault(data: bytes) -> tuple[str, int] | None:
+    def fault(data: bytes) -> Fault | None:
         return fault_of(lambda: read_packet(config, data))
 
-    packet = fresh_message(config)
+    packet, first = message_of(config, SECOND), message_of(config, FIRST)
     script = EXAMPLE + b"--\nboot cp1@cave 0\nboot cp2@cave 0\nship cp1@cave cp2@cave\nbytes 1\n"
-    yield "a message", simulate(script)[0].splitlines()[-1] == packet.hex().encode() and len(packet) == 87
-    yield "a message is read", fault(packet) is None
+    yield "a message", simulate(script)[0].splitlines()[-1] == packet.hex().encode() and len(packet) == 111
+    yield "a message is read", packet_bytes(config, read_packet(config, packet)) == packet
+    yield "a message of the first version", read_packet(config, first) == read_packet(config, packet) and len(first) == 87
     yield "a message, cut", fault(packet[:12]) == ("Short", 12)
     yield "a message with another magic", fault(with_byte(packet, 0, 0x45)) == ("BadMagic", 0)
-    yield "a message of another version", fault(with_byte(packet, 3, 2)) == ("BadVersion", 3)
-    for length in range(34):
-        yield f"{length} bytes of a message", fault(packet[:length]) == fault_of_prefix(length)
-    yield "longer parts of a message are short", all(
-        (found := fault(packet[:length])) is not None and found[0] == "Short" for length in range(34, 87)
-    )
+    for byte in (0, 3):
+        yield f"a message of version {byte}", fault(with_byte(packet, 3, byte)) == ("BadVersion", 3)
+    interval, first_interval = with_byte(packet, 12, 2), with_byte(first, 12, 2)
+    yield "an interval for too high an incarnation", fault(with_byte(interval, 23, 0x80)) == ("BadNumber", 23)
+    yield "intervals for any incarnation", (fault(interval), fault(first_interval)) == (("BadNumber", 23), ("BadNumber", 19))
+    others = (with_byte(packet, 3, FIRST), with_byte(first, 3, SECOND))
+    yield "messages that say that they are of the other version", None not in map(fault, others)
+    for version, data in ((FIRST, first), (SECOND, packet)):
+        behind = MESSAGE_FIELDS[version][-1]
+        for length in range(behind):
+            expected = fault_of_prefix(length, version)
+            yield f"{length} bytes of a message of version {version}", fault(data[:length]) == expected
+        yield f"longer parts of a message of version {version} are short", all(
+            (found := fault(data[:length])) is not None and found[0] == "Short" for length in range(behind, len(data))
+        )
+        yield f"each byte of a message of version {version} changed", all(
+            is_spelled_once(config, with_byte(data, at, byte)) for at in range(len(data)) for byte in range(256)
+        )
     yield "a packet that is too long", fault(bytes(4_194_305)) == ("TooLong", 4_194_304)
+
+
+def is_spelled_once(config: Config, data: bytes) -> bool:
+    """Whether some bytes are refused, or are how their version spells what they are read as."""
+    try:
+        return packet_bytes(config, read_packet(config, data), data[3]) == data
+    except WireFault:
+        return True
+
+
+def single_checks(config: Config) -> Iterator[tuple[str, bool]]:
+    """The bytes of single operations."""
+    def fault(data: bytes) -> Fault | None:
+        return fault_of(lambda: read_packet(config, data))
+
+    def single(version: int, text: str) -> bytes:
+        return MAGIC + bytes((version,)) + config.mark.to_bytes(8, "big") + b"\4" + bytes.fromhex(text)
+
+    dot, other = "00" + "0000000000000001" + "0000000000000002", "01" + "0000000000000001" + "0000000000000002"
+    about = "01" + "0000000000000001"
+    drain = single(SECOND, dot + "07" + about + "01" + "0001" + other)
+    operation = Operation(D2, Drain(Origin(1, 1), True, (Dot(1, 1, 2),)))
+    yield "a drain is read", read_packet(config, drain) == operation
+    yield "a drain is written", packet_bytes(config, operation) == drain
+    yield "a drain of its own dot", fault(single(SECOND, dot + "07" + about + "01" + "0001" + dot)) == ("BadNumber", 13)
+    first = single(SECOND, dot[:-1] + "1" + "07" + about + "01" + "0000")
+    yield "a drain that is the first", fault(first) == ("BadNumber", 13)
+    yield "a drain of no such node", fault(with_byte(drain, 31, 3)) == ("BadName", 31)
+    yield "a drain neither true nor false", fault(with_byte(drain, 40, 2)) == ("BadNumber", 40)
+    yield "an act past a drain", fault(with_byte(drain, 30, 8)) == ("BadNumber", 30)
+    old = single(FIRST, "00" + "00000001" + "0000000000000002" + "07" + "01" + "00000001" + "01" + "0000")
+    yield "a drain of the first version", fault(old) == ("BadNumber", 26)
+    for version, most in ((FIRST, "ffffffff"), (SECOND, "4000000000000000")):
+        up = read_packet(config, single(version, "00" + most + "0000000000000001" + "01"))
+        yield f"the greatest incarnation of version {version}", up == Operation(Dot(0, int(most, 16), 1), Up())
+        none = single(version, "00" + "0" * len(most) + "0000000000000001" + "01")
+        yield f"no incarnation in version {version}", fault(none) == ("BadNumber", 14)
+    past = single(SECOND, "00" + "4000000000000001" + "0000000000000001" + "01")
+    yield "an incarnation past the greatest", fault(past) == ("BadNumber", 14)
 
 
 def operation_checks() -> Iterator[tuple[str, bool]]:
@@ -437,10 +659,18 @@ def operation_checks() -> Iterator[tuple[str, bool]]:
     later = Dot(0, 1, 3)
     both = meaning_of([Operation(D2, Start(key, ())), Operation(later, Start(key, (D2,)))])
     yield "a start in the place of another", both.starts == {key: {later}} and both.known == {D2, later}
+    yield "a drain of its own node", is_operation(Operation(D2, Drain(Origin(0, 1), True, ())))
+    over = meaning_of([Operation(later, Drain(Origin(1, 1), True, (D2,)))])
+    yield "a drain in the place of another", over.known == {D2, later} and over.drains == {Origin(1, 1): {later: True}}
+    world = World(read_config(ONE_APPLICATION))
+    world.boot(0, 0)
+    overs = [world.operations[world.drain(0, 0, True) - 1].over for _ in range(2)]
+    yield "a drain that says the same again", overs == [(), (D2,)]
     gap = {D1, D2, Dot(0, 1, 4)}
-    spelled_gap = "0001" "0000000001" "0000000000000002" "00000001" "0000000000000004"
-    yield "a context with a gap", context_bytes(gap).hex() == spelled_gap
-    yield "a context without", context_bytes(gap | {later}).hex() == "0001" "0000000001" "0000000000000004" "00000000"
+    spelled_gap = "0001" "000000000000000001" "0000000000000002" "00000001" "0000000000000004"
+    whole_row = "0001" "000000000000000001" "0000000000000004" "00000000"
+    yield "a context with a gap", Writer().context(rows_of(gap)).hex() == spelled_gap
+    yield "a context without", Writer().context(rows_of(gap | {later})).hex() == whole_row
 
 
 def verdicts_of(config: Config, state: Meaning) -> tuple[str, str, int]:
@@ -463,29 +693,55 @@ def placement_checks() -> Iterator[tuple[str, bool]]:
     down = Operation(Dot(2, 1, 3), Down(0, 1))
     other_down = Operation(Dot(2, 1, 4), Down(1, 1))
     claimed = Operation(Dot(0, 1, 3), ClaimAct(0, 1, NORMAL, -1))
+    drained, kept = (Operation(Dot(2, 1, 3), Drain(Origin(0, 1), value, ())) for value in (True, False))
+    own_drained, own_kept = (Operation(Dot(0, 1, 4), Drain(Origin(0, 1), value, ())) for value in (True, False))
+    put_back = Operation(Dot(0, 1, 4), Drain(Origin(0, 1), False, (drained.dot,)))
+    later = Operation(Dot(2, 1, 3), Drain(Origin(0, 2), True, ()))
     for name, operations, expected in (
         ("all are up", base, ("start 1", "kept 2", 1)),
         ("the first is down", [*base, down], ("start 3", "kept 2", 1)),
         ("the first had it and is down", [*base, down, claimed], ("failover 3", "kept 2", 1)),
         ("two are down", [*base, down, other_down], ("start 3", "nobody", 0)),
+        ("the first is drained", [*base, drained], ("start 3", "kept 2", 1)),
+        ("the first had it and is drained", [*base, drained, claimed], ("move 3", "kept 2", 1)),
+        ("the first is drained by another", [*base, drained, claimed, own_kept], ("move 3", "kept 2", 1)),
+        ("the first is drained by itself", [*base, kept, claimed, own_drained], ("move 3", "kept 2", 1)),
+        ("the first is kept by both", [*base, kept, claimed, own_kept], ("kept 1", "kept 2", 1)),
+        ("the first is put back", [*base, drained, claimed, put_back], ("kept 1", "kept 2", 1)),
+        ("the first is halted and drained", [*ups, *starts[1:], claim, claimed, drained], ("halted 1", "kept 2", 1)),
+        ("another incarnation is drained", [*base, later, claimed], ("kept 1", "kept 2", 1)),
     ):
         yield name, verdicts_of(config, meaning_of(operations)) == expected
+
+
+def many_drains_checks() -> Iterator[tuple[str, bool]]:
+    """As many drains that stand together as may be replaced, and one more."""
+    drains = range(3, 3 + 2 * 1025, 2)
+    lines = ["boot x 0", *["boot y 0", "hand y 1", "drain y x true", "crash y"] * 1025]
+    lines += [*(f"hand x {number}" for number in drains[:-1]), "drain x x false"]
+    lines += ["boot z 0", "hand z 1", *(f"hand z {number}" for number in drains), "drain z x false"]
+    source = ONE_APPLICATION + b"--\n" + "\n".join(whole(";".join(lines))).encode()
+    answers = [line for line in simulate(source)[0].splitlines() if not line.startswith((b"boot", b"heard", b"crash"))]
+    issued = [b"issued %d c2@h %d 2" % (number, at) for at, number in enumerate(drains, 1)]
+    yield "very many drains", answers == [*issued, b"issued 2052 c1@h 1 2", b"refused 17 TooManyDots"]
 
 
 def two_fault_checks() -> Iterator[tuple[str, bool]]:
     """Inputs with two faults, of which the one that is looked for first is answered."""
     source = TWO_APPLICATIONS + b"--\nboot zz@h 01\n"
     yield "a line with two faults", simulate(source) == (b"script fault 1 4 BadNumber\n", 1)
-    claims = [claim_bytes(1, Claim(1, node, 1, NORMAL, -1)) for node in (1, 0)]
+    source = TWO_APPLICATIONS + b"--\ndrain zz@h c1@h True\n"
+    yield "a drain with two faults", simulate(source) == (b"script fault 1 3 BadName\n", 1)
+    claims = [Writer().claim(1, Claim(1, node, 1, NORMAL, -1)) for node in (1, 0)]
     state = bytes(13) + b"\0\2" + b"".join(claims)
     config = read_config(TWO_APPLICATIONS)
-    yield "a claim with two faults", fault_of(lambda: read_state(config, state)) == ("NotInList", 32)
+    yield "a claim with two faults", fault_of(lambda: read_state(config, state)) == ("NotInList", 36)
 
 
 def live_fault_checks() -> Iterator[tuple[str, bool]]:
     """Live scripts with a fault, and what comes before what."""
     for fault, lines in LIVE_FAULTS.items():
-        for line in [line.replace(" x", " c1@h") for line in lines]:
+        for line in lines.replace(" x", " c1@h").split(";"):
             source = ONE_APPLICATION + f"--\n\n% note\n4 read c3@h\n{line}\n7\n".encode()
             yield f"live line {line!r}", run_live(source) == (f"script fault 4 {fault}\n".encode(), 1)
     blank = ONE_APPLICATION + b"--\nphase\n  \n"
@@ -509,9 +765,13 @@ def run_all() -> Iterator[tuple[str, bool]]:
         yield f"text {text[:60]!r}", output == expected and status == expected.startswith(b"config fault")
     config = read_config(EXAMPLE)
     yield from state_checks(config)
-    yield from packet_checks(config)
+    yield from first_state_checks(config)
+    yield from drained_checks(config)
+    yield from message_checks(config)
+    yield from single_checks(config)
     yield from operation_checks()
     yield from placement_checks()
+    yield from many_drains_checks()
     yield from two_fault_checks()
     yield from live_fault_checks()
 

@@ -11,9 +11,9 @@ from dataclasses import dataclass, field
 
 import placement
 from check import Config
-from meaning import FAILOVER, NORMAL, TAKEOVER, Act, Claim, ClaimAct, Dot, Down, Key, Meaning, Operation, Origin, Permit
-from meaning import Start, Stop, Up, meaning_of
-from wire import INTERVAL, MOST_OVER, NOTHING, WHOLE, Header, Message
+from meaning import FAILOVER, NORMAL, TAKEOVER, Act, Claim, ClaimAct, Dot, Down, Drain, Key, Meaning, Operation, Origin
+from meaning import Permit, Start, Stop, Up, meaning_of
+from wire import INTERVAL, MOST_OVER, NOTHING, WHOLE, Header, Message, SpelledState
 
 MOST_DELTAS, MOST_CACHED = 256, 64
 
@@ -148,9 +148,9 @@ class World:
         return self.nodes[node].running is not None
 
     def message(self, number: int) -> Message:
-        """The message of a number, with the meaning of its body."""
+        """The message of a number, with its body spelled."""
         shipped = self.shipped(number)
-        body = None if shipped.kind == NOTHING else self.meaning(shipped.body)
+        body = None if shipped.kind == NOTHING else SpelledState.of(self.meaning(shipped.body))
         return Message(shipped.kind, shipped.sender, shipped.to, shipped.only, shipped.up_to, shipped.ack, body)
 
     def shipped(self, number: int) -> Shipped:
@@ -194,10 +194,14 @@ class World:
         self.active(node)
         refuse("UnknownNode", about >= len(self.nodes))
         refuse("OnSelf", about == node)
+        return self.issue(node, Down(about, self.live_inc(node, about)))
+
+    def live_inc(self, node: int, about: int) -> int:
+        """The incarnation at which a node has to be live, by what another one knows."""
         inc = self.state(node).live(about)
         if inc is None:
             raise Refused("NotLive")
-        return self.issue(node, Down(about, inc))
+        return inc
 
     def key(self, node: int, app: int, about: int) -> Key:
         """The key of an application at the live incarnation of a node."""
@@ -205,22 +209,19 @@ class World:
         refuse("UnknownApp", app >= len(self.config.apps))
         refuse("UnknownNode", about >= len(self.nodes))
         refuse("NotInList", self.config.apps[app].group_of(about) is None)
-        inc = self.state(node).live(about)
-        if inc is None:
-            raise Refused("NotLive")
-        return Key(app, about, inc)
+        return Key(app, about, self.live_inc(node, about))
 
     def permit(self, node: int, app: int, about: int, value: bool) -> int:
         """A permission, in the place of all that stand at the key."""
         key = self.key(node, app, about)
-        over = self.state(node).standing(key, permits=True)
+        over = self.state(node).standing_permits(key)
         refuse("TooManyDots", len(over) > MOST_OVER)
         return self.issue(node, Permit(key, value, over))
 
     def start(self, node: int, app: int, about: int, is_stop: bool = False) -> int:
         """A start wish in the place of all that stand at the key, or their end."""
         key = self.key(node, app, about)
-        over = self.state(node).standing(key, permits=False)
+        over = self.state(node).standing_starts(key)
         refuse("NotStarted", is_stop and not over)
         refuse("TooManyDots", len(over) > MOST_OVER)
         return self.issue(node, Stop(key, over) if is_stop else Start(key, over))
@@ -228,6 +229,15 @@ class World:
     def stop(self, node: int, app: int, about: int) -> int:
         """The end of all start wishes that stand at the key."""
         return self.start(node, app, about, is_stop=True)
+
+    def drain(self, node: int, about: int, value: bool) -> int:
+        """The word that a node is drained or isn't, in the place of all that stand at its live incarnation."""
+        self.active(node)
+        refuse("UnknownNode", about >= len(self.nodes))
+        origin = Origin(about, self.live_inc(node, about))
+        over = self.state(node).standing_drains(origin)
+        refuse("TooManyDots", len(over) > MOST_OVER)
+        return self.issue(node, Drain(origin, value, over))
 
     def takeover(self, node: int, app: int) -> int:
         """The node takes an application over from where it runs."""

@@ -1,7 +1,7 @@
 //! Numbers, dots and contexts in bytes.
 use crate::sample::{dot, origin};
 use dac_base::{NoMemory, NodeId};
-use dac_bytes::{ByteReader, ByteWriter, ReadFault, ReadFaultKind};
+use dac_bytes::{ByteReader, ByteWriter, ReadFault, ReadFaultKind, Version};
 use dac_contexts::Context;
 use dac_dots::{Dot, Origin};
 use std::alloc::Global;
@@ -78,32 +78,32 @@ fn counts_are_written_by_their_lowest_bits(rt: HostRuntime) {
     assert!(rt; are_bytes(bytes, b"\x02\x02\x03\x02\x03\x04\x05"));
 }
 
-const DOT: &[u8] = b"\x02\x00\x00\x01\x02\x00\x00\x00\x00\x00\x00\x00\x05";
+const DOT: &[u8] = b"\x02\x00\x00\x00\x00\x00\x00\x01\x02\x00\x00\x00\x00\x00\x00\x00\x05";
 
 /// The fields of a dot.
-fn fields(bytes: &[u8]) -> Result<(NodeId, u32, u64), ReadFault> {
+fn fields(bytes: &[u8]) -> Result<(NodeId, u64, u64), ReadFault> {
     let (node, reader) = ByteReader::new(bytes).read_node(3)?;
-    let (inc, reader) = reader.read_incarnation()?;
+    let (inc, reader) = reader.read_incarnation(Version::Two)?;
     let (n, _) = reader.read_counter()?;
     Ok((node, inc, n))
 }
 
 /// An origin, read after none and again by itself.
 fn origins(bytes: &[u8]) -> Result<(Origin, Origin), ReadFault> {
-    let (first, _) = ByteReader::new(bytes).read_origin_above(3, None)?;
-    let (second, _) = ByteReader::new(bytes).read_origin(3)?;
+    let (first, _) = ByteReader::new(bytes).read_origin_above(Version::Two, 3, None)?;
+    let (second, _) = ByteReader::new(bytes).read_origin(Version::Two, 3)?;
     Ok((first, second))
 }
 
 /// A dot that is read.
 fn read_dot(bytes: &[u8], nodes: u8) -> Result<Dot, ReadFault> {
-    let (dot, _) = ByteReader::new(bytes).read_dot(nodes)?;
+    let (dot, _) = ByteReader::new(bytes).read_dot(Version::Two, nodes)?;
     Ok(dot)
 }
 
 /// A dot that is read after another.
 fn dot_above(bytes: &[u8], before: Dot) -> Result<Dot, ReadFault> {
-    let (dot, _) = ByteReader::new(bytes).read_dot_above(3, Some(before))?;
+    let (dot, _) = ByteReader::new(bytes).read_dot_above(Version::Two, 3, Some(before))?;
     Ok(dot)
 }
 
@@ -118,35 +118,69 @@ fn dots_and_their_parts(rt: HostRuntime) {
 
 #[test]
 fn faults_of_a_dot(rt: HostRuntime) {
-    let (short, _) = DOT.split_at(12);
-    assert!(rt; read_dot(short, 3) == Err(ReadFault::new(ReadFaultKind::Short, 5)));
+    let (short, _) = DOT.split_at(16);
+    assert!(rt; read_dot(short, 3) == Err(ReadFault::new(ReadFaultKind::Short, 9)));
     assert!(rt; read_dot(DOT, 2) == Err(ReadFault::new(ReadFaultKind::BadName, 0)));
     let same = dot_above(DOT, dot(2, 258, 5));
     assert!(rt; same == Err(ReadFault::new(ReadFaultKind::BadOrder, 0)));
 }
 
+/// Counter 5 of the greatest incarnation of node 2, and of one above it.
+const LAST: &[u8] = b"\x02\x40\x00\x00\x00\x00\x00\x00\x00\x00\x00\x00\x00\x00\x00\x00\x05";
+
+const PAST: &[u8] = b"\x02\x40\x00\x00\x00\x00\x00\x00\x01\x00\x00\x00\x00\x00\x00\x00\x05";
+
+#[test]
+fn incarnations_end(rt: HostRuntime) {
+    assert!(rt; read_dot(LAST, 3) == Ok(dot(2, 1 << 62, 5)));
+    assert!(rt; read_dot(PAST, 3) == Err(ReadFault::new(ReadFaultKind::BadNumber, 1)));
+}
+
+/// Counter 5 of the greatest incarnation of node 2 that version one has.
+const FOUR: &[u8] = b"\x02\xff\xff\xff\xff\x00\x00\x00\x00\x00\x00\x00\x05";
+
+/// A dot that is read of version one.
+fn read_first(bytes: &[u8]) -> Result<Dot, ReadFault> {
+    let (dot, _) = ByteReader::new(bytes).read_dot(Version::One, 3)?;
+    Ok(dot)
+}
+
+#[test]
+fn version_one_has_incarnations_of_four_bytes(rt: HostRuntime) {
+    let last = dot(2, 4_294_967_295, 5);
+    assert!(rt; read_first(FOUR) == Ok(last));
+    let written = written(rt.alloc(), Version::One, last.origin, last);
+    assert!(rt;
+        are_bytes(
+            written,
+            b"\x02\xff\xff\xff\xff\x02\xff\xff\xff\xff\x00\x00\x00\x00\x00\x00\x00\x05"
+        )
+    );
+}
+
 /// An origin and a dot as bytes.
-fn written(alloc: Global, origin: Origin, dot: Dot) -> Result<Vec<u8>, NoMemory> {
-    let writer = ByteWriter::new(alloc).write_origin(origin)?;
-    Ok(writer.write_dot(dot)?.into_bytes())
+fn written(alloc: Global, version: Version, origin: Origin, dot: Dot) -> Result<Vec<u8>, NoMemory> {
+    let writer = ByteWriter::new(alloc).write_origin(version, origin)?;
+    Ok(writer.write_dot(version, dot)?.into_bytes())
 }
 
 #[test]
 fn origin_and_dot(rt: HostRuntime) {
-    let bytes = written(rt.alloc(), origin(2, 1), dot(2, 1, 258));
-    let wanted = b"\x02\x00\x00\x00\x01\x02\x00\x00\x00\x01\x00\x00\x00\x00\x00\x00\x01\x02";
+    let bytes = written(rt.alloc(), Version::Two, origin(2, 1), dot(2, 1, 258));
+    let wanted =
+        b"\x02\x00\x00\x00\x00\x00\x00\x00\x01\x02\x00\x00\x00\x00\x00\x00\x00\x01\x00\x00\x00\x00\x00\x00\x01\x02";
     assert!(rt; are_bytes(bytes, wanted));
 }
 
 /// Contexts as bytes, each with the node, incarnation and counter of each of its dots. Counter 0 is a further one.
-const CONTEXTS: &[(&[u8], &[(u8, u32, u64)])] = &[
+const CONTEXTS: &[(&[u8], &[(u8, u64, u64)])] = &[
     (b"\x00\x00", &[]),
     (
-        b"\x00\x01\x01\x00\x00\x00\x01\x00\x00\x00\x00\x00\x00\x00\x01\x00\x00\x00\x00",
+        b"\x00\x01\x01\x00\x00\x00\x00\x00\x00\x00\x01\x00\x00\x00\x00\x00\x00\x00\x01\x00\x00\x00\x00",
         &[(1, 1, 1)],
     ),
     (
-        b"\x00\x01\x01\x00\x00\x00\x01\x00\x00\x00\x00\x00\x00\x00\x02\x00\x00\x00\x01\x00\x00\x00\x00\x00\x00\x00\x00",
+        b"\x00\x01\x01\x00\x00\x00\x00\x00\x00\x00\x01\x00\x00\x00\x00\x00\x00\x00\x02\x00\x00\x00\x01\x00\x00\x00\x00\x00\x00\x00\x00",
         &[(1, 1, 0), (1, 1, 1), (1, 1, 2)],
     ),
     (
@@ -156,13 +190,13 @@ const CONTEXTS: &[(&[u8], &[(u8, u32, u64)])] = &[
 ];
 
 const GAPS: &[u8] = b"\x00\x02\
-    \x00\x00\x00\x00\x01\x00\x00\x00\x00\x00\x00\x00\x02\x00\x00\x00\x02\
+    \x00\x00\x00\x00\x00\x00\x00\x00\x01\x00\x00\x00\x00\x00\x00\x00\x02\x00\x00\x00\x02\
     \x00\x00\x00\x00\x00\x00\x00\x04\x00\x00\x00\x00\x00\x00\x00\x07\
-    \x02\x00\x00\x01\x02\x00\x00\x00\x00\x00\x00\x00\x00\x00\x00\x00\x01\
+    \x02\x00\x00\x00\x00\x00\x00\x01\x02\x00\x00\x00\x00\x00\x00\x00\x00\x00\x00\x00\x01\
     \x00\x00\x00\x00\x00\x00\x00\x05";
 
 /// The context of some dots.
-fn context(alloc: Global, dots: &[(u8, u32, u64)]) -> Result<Context, NoMemory> {
+fn context(alloc: Global, dots: &[(u8, u64, u64)]) -> Result<Context, NoMemory> {
     let mut context = Context::empty(alloc);
     for (node, inc, n) in dots {
         context.insert(dot(*node, *inc, *n))?;
@@ -171,8 +205,8 @@ fn context(alloc: Global, dots: &[(u8, u32, u64)]) -> Result<Context, NoMemory> 
 }
 
 /// The context of some dots as bytes.
-fn context_bytes(alloc: Global, dots: &[(u8, u32, u64)]) -> Result<Vec<u8>, NoMemory> {
-    let writer = ByteWriter::new(alloc).write_context(&context(alloc, dots)?)?;
+fn context_bytes(alloc: Global, dots: &[(u8, u64, u64)]) -> Result<Vec<u8>, NoMemory> {
+    let writer = ByteWriter::new(alloc).write_context(Version::Two, &context(alloc, dots)?)?;
     Ok(writer.into_bytes())
 }
 
@@ -184,8 +218,8 @@ fn contexts_as_bytes(rt: HostRuntime) {
 }
 
 /// Whether the bytes are read as the context of some dots.
-fn is_read(alloc: Global, bytes: &[u8], dots: &[(u8, u32, u64)]) -> Result<bool, ReadFault> {
-    let (read, _) = ByteReader::new(bytes).read_context(alloc, 3)?;
+fn is_read(alloc: Global, bytes: &[u8], dots: &[(u8, u64, u64)]) -> Result<bool, ReadFault> {
+    let (read, _) = ByteReader::new(bytes).read_context(alloc, Version::Two, 3)?;
     let wanted = context(alloc, dots)?;
     Ok(read.len() == wanted.len() && read.is_subset(&wanted))
 }
@@ -205,24 +239,24 @@ fn contexts_from_bytes(rt: HostRuntime) {
 /// counter that continues, an origin without dots, and counter 0.
 const FAULTS: &[(&[u8], ReadFaultKind, usize)] = &[
     (
-        b"\x00\x01\x01\x00\x00\x00\x01\x00\x00\x00\x00\x00\x00\x00\x00\xff\xff\xff\xff",
+        b"\x00\x01\x01\x00\x00\x00\x00\x00\x00\x00\x01\x00\x00\x00\x00\x00\x00\x00\x00\xff\xff\xff\xff",
         ReadFaultKind::Short,
-        19,
+        23,
     ),
     (
-        b"\x00\x01\x01\x00\x00\x00\x01\x00\x00\x00\x00\x00\x00\x00\x01\x00\x00\x00\x01\x00\x00\x00\x00\x00\x00\x00\x02",
+        b"\x00\x01\x01\x00\x00\x00\x00\x00\x00\x00\x01\x00\x00\x00\x00\x00\x00\x00\x01\x00\x00\x00\x01\x00\x00\x00\x00\x00\x00\x00\x02",
         ReadFaultKind::BadOrder,
+        23,
+    ),
+    (
+        b"\x00\x01\x01\x00\x00\x00\x00\x00\x00\x00\x01\x00\x00\x00\x00\x00\x00\x00\x00\x00\x00\x00\x00",
+        ReadFaultKind::BadNumber,
         19,
     ),
     (
-        b"\x00\x01\x01\x00\x00\x00\x01\x00\x00\x00\x00\x00\x00\x00\x00\x00\x00\x00\x00",
+        b"\x00\x01\x01\x00\x00\x00\x00\x00\x00\x00\x01\x00\x00\x00\x00\x00\x00\x00\x02\x00\x00\x00\x01\x00\x00\x00\x00\x00\x00\x00\x00",
         ReadFaultKind::BadNumber,
-        15,
-    ),
-    (
-        b"\x00\x01\x01\x00\x00\x00\x01\x00\x00\x00\x00\x00\x00\x00\x02\x00\x00\x00\x01\x00\x00\x00\x00\x00\x00\x00\x00",
-        ReadFaultKind::BadNumber,
-        19,
+        23,
     ),
 ];
 

@@ -1,4 +1,5 @@
-//! Messages and single operations as bytes: a message of a node that booted, each kind of packet, and bytes that spell none.
+//! Messages and single operations as bytes: a message of a node that booted in both versions, each kind of packet, and
+//! bytes that spell none.
 use crate::sample::{EXAMPLE, config, dot, origin};
 use dac_base::{AppId, NoMemory, NodeId};
 use dac_chains::How;
@@ -12,35 +13,54 @@ use std::alloc::Global;
 
 /// The first node booted, and has heard of nothing else.
 const BOOTED: &[u8] =
-    b"\x00\x01\x00\x00\x00\x00\x01\x00\x00\x00\x00\x00\x00\x00\x01\x00\x00\x00\x00\
+    b"\x00\x01\x00\x00\x00\x00\x00\x00\x00\x00\x01\x00\x00\x00\x00\x00\x00\x00\x01\x00\x00\x00\x00\
+    \x00\x01\x00\x00\x00\x00\x00\x00\x00\x00\x01\x00\x00\x00\x00\x00\x00\x00\x01\x00\x00\x00\x00\
+    \x00\x00\x00\x00\x00\x00\x00\x00\
+    \x01\x00\x00\x00\x00\x00\x00\x00\x00\x01\x00\
+    \x00\x00\
+    \x00\x00\x00\x00";
+
+/// The fields of its message to the second node: kind 1; shipped by node 0, incarnation 1; for node 1, any incarnation;
+/// one delta; nothing got. Its state follows.
+const WHOLE: &[u8] =
+    b"\x01\x00\x00\x00\x00\x00\x00\x00\x00\x01\x01\x00\x00\x00\x00\x00\x00\x00\x00\x00\x00\x00\x00\x00\x00\x00\x01\x00";
+
+/// The fields of an interval: kind 2; shipped by node 1, incarnation 258; for node 0, incarnation 2; seven deltas; three
+/// deltas got of node 0, incarnation 2. A state follows.
+const INTERVAL: &[u8] =
+    b"\x02\x01\x00\x00\x00\x00\x00\x00\x01\x02\x00\x00\x00\x00\x00\x00\x00\x00\x02\x00\x00\x00\x00\x00\x00\x00\x07\
+    \x01\x00\x00\x00\x00\x00\x00\x00\x00\x02\x00\x00\x00\x00\x00\x00\x00\x03";
+
+/// The fields of a message that brings nothing: kind 3, and then as in the interval. No state follows.
+const NOTHING: &[u8] =
+    b"\x03\x01\x00\x00\x00\x00\x00\x00\x01\x02\x00\x00\x00\x00\x00\x00\x00\x00\x02\x00\x00\x00\x00\x00\x00\x00\x07\
+    \x01\x00\x00\x00\x00\x00\x00\x00\x00\x02\x00\x00\x00\x00\x00\x00\x00\x03";
+
+/// What each packet under the example begins with: `DAC`, version 2 and the mark. The mark is 15451059380765602643, the
+/// 64-bit FNV-1a value of the example's canonical text.
+const FRONT: &[u8] = b"DAC\x02\xd6\x6d\x30\xa4\xc2\x00\x33\x53";
+
+/// The same in version 1.
+const FRONT_ONE: &[u8] = b"DAC\x01\xd6\x6d\x30\xa4\xc2\x00\x33\x53";
+
+/// The message of the first node in version 1, after its mark. It has incarnations in four bytes, and its state has no
+/// drains.
+const WHOLE_ONE: &[u8] =
+    b"\x01\x00\x00\x00\x00\x01\x01\x00\x00\x00\x00\x00\x00\x00\x00\x00\x00\x00\x01\x00\
+    \x00\x01\x00\x00\x00\x00\x01\x00\x00\x00\x00\x00\x00\x00\x01\x00\x00\x00\x00\
     \x00\x01\x00\x00\x00\x00\x01\x00\x00\x00\x00\x00\x00\x00\x01\x00\x00\x00\x00\
     \x00\x00\x00\x00\x00\x00\x00\x00\
     \x01\x00\x00\x00\x00\x01\x00\
     \x00\x00";
 
-/// The fields of its message to the second node: kind 1; shipped by node 0, incarnation 1; for node 1, any incarnation;
-/// one delta; nothing got. Its state follows.
-const WHOLE: &[u8] =
-    b"\x01\x00\x00\x00\x00\x01\x01\x00\x00\x00\x00\x00\x00\x00\x00\x00\x00\x00\x01\x00";
-
-/// The fields of an interval: kind 2; shipped by node 1, incarnation 258; for node 0, incarnation 2; seven deltas; three
-/// deltas got of node 0, incarnation 2. A state follows.
-const INTERVAL: &[u8] =
-    b"\x02\x01\x00\x00\x01\x02\x00\x00\x00\x00\x02\x00\x00\x00\x00\x00\x00\x00\x07\
-    \x01\x00\x00\x00\x00\x02\x00\x00\x00\x00\x00\x00\x00\x03";
-
-/// The fields of a message that brings nothing: kind 3, and then as in the interval. No state follows.
-const NOTHING: &[u8] =
-    b"\x03\x01\x00\x00\x01\x02\x00\x00\x00\x00\x02\x00\x00\x00\x00\x00\x00\x00\x07\
-    \x01\x00\x00\x00\x00\x02\x00\x00\x00\x00\x00\x00\x00\x03";
-
-/// What each packet under the example begins with: `DAC`, version 1 and the mark. The mark is 15451059380765602643, the
-/// 64-bit FNV-1a value of the example's canonical text.
-const FRONT: &[u8] = b"DAC\x01\xd6\x6d\x30\xa4\xc2\x00\x33\x53";
-
 /// The bytes of a packet that has these fields after its mark.
 fn packet_bytes(alloc: Global, fields: &[&[u8]]) -> Result<Vec<u8>, NoMemory> {
-    let mut bytes = Vec::from_slice(alloc, FRONT)?;
+    bytes_after(alloc, FRONT, fields)
+}
+
+/// These fields after what comes before them.
+fn bytes_after(alloc: Global, front: &[u8], fields: &[&[u8]]) -> Result<Vec<u8>, NoMemory> {
+    let mut bytes = Vec::from_slice(alloc, front)?;
     for part in fields {
         bytes.extend_from_slice(part)?;
     }
@@ -50,6 +70,11 @@ fn packet_bytes(alloc: Global, fields: &[&[u8]]) -> Result<Vec<u8>, NoMemory> {
 /// The bytes of the message of a node that booted.
 fn booted(alloc: Global) -> Result<Vec<u8>, NoMemory> {
     packet_bytes(alloc, &[WHOLE, BOOTED])
+}
+
+/// The bytes of the same message in version 1.
+fn booted_one(alloc: Global) -> Result<Vec<u8>, NoMemory> {
+    bytes_after(alloc, FRONT_ONE, &[WHOLE_ONE])
 }
 
 /// Whether the two are one packet.
@@ -123,7 +148,20 @@ fn every_message(rt: HostRuntime) {
     assert!(rt; are_messages_spelled(rt.alloc()) == Some(true));
 }
 
-/// What an operation does. Of a permit it has the value; of a claim the term, how, and from which node.
+/// Whether the bytes of version 1 are read as the message whose bytes are those of version 2.
+fn is_read_in_version_one(alloc: Global) -> Option<bool> {
+    let config = config(alloc, EXAMPLE)?;
+    let packet = decode(alloc, &config, &booted_one(alloc).ok()?).ok()?;
+    let newer = booted(alloc).ok()?;
+    Some(are_equal(&packet, &whole(state(alloc)?)) && has_bytes(alloc, &config, &packet, &newer))
+}
+
+#[test]
+fn a_message_in_version_one(rt: HostRuntime) {
+    assert!(rt; is_read_in_version_one(rt.alloc()) == Some(true));
+}
+
+/// What an operation does. Of a permit and of a drain it has the value; of a claim the term, how, and from which node.
 #[derive(Clone, Copy)]
 enum Kind {
     Up,
@@ -132,6 +170,7 @@ enum Kind {
     Start,
     Stop,
     Claim(u64, How, Option<NodeId>),
+    Drain(bool),
 }
 
 /// The first application at the third node, incarnation 3.
@@ -165,6 +204,12 @@ fn act(kind: Kind, over: DotList) -> Act {
             how,
             from,
         },
+        Kind::Drain(value) => Act::Drain {
+            node: NodeId(2),
+            inc: 3,
+            value,
+            over,
+        },
     }
 }
 
@@ -173,68 +218,85 @@ fn act(kind: Kind, over: DotList) -> Act {
 /// - of a Down node 2, incarnation 4;
 /// - of a Permit application 0, node 2, incarnation 3; the value; two replaced dots, (0, 1, 2) and (1, 258, 3);
 /// - of a Start and a Stop the same without the value;
-/// - of a Claim application 0, the term, how, and the number after that of the node it was taken from.
+/// - of a Claim application 0, the term, how, and the number after that of the node it was taken from;
+/// - of a Drain node 2, incarnation 3; the value; the two replaced dots.
 const OPERATIONS: &[(&[u8], u64, Kind)] = &[
     (
-        b"\x04\x01\x00\x00\x01\x02\x00\x00\x00\x00\x00\x00\x00\x01\x01",
+        b"\x04\x01\x00\x00\x00\x00\x00\x00\x01\x02\x00\x00\x00\x00\x00\x00\x00\x01\x01",
         1,
         Kind::Up,
     ),
     (
-        b"\x04\x01\x00\x00\x01\x02\x00\x00\x00\x00\x00\x00\x00\x09\x02\
-        \x02\x00\x00\x00\x04",
+        b"\x04\x01\x00\x00\x00\x00\x00\x00\x01\x02\x00\x00\x00\x00\x00\x00\x00\x09\x02\
+        \x02\x00\x00\x00\x00\x00\x00\x00\x04",
         9,
         Kind::Down,
     ),
     (
-        b"\x04\x01\x00\x00\x01\x02\x00\x00\x00\x00\x00\x00\x00\x09\x03\
-        \x00\x00\x02\x00\x00\x00\x03\x01\x00\x02\
-        \x00\x00\x00\x00\x01\x00\x00\x00\x00\x00\x00\x00\x02\
-        \x01\x00\x00\x01\x02\x00\x00\x00\x00\x00\x00\x00\x03",
+        b"\x04\x01\x00\x00\x00\x00\x00\x00\x01\x02\x00\x00\x00\x00\x00\x00\x00\x09\x03\
+        \x00\x00\x02\x00\x00\x00\x00\x00\x00\x00\x03\x01\x00\x02\
+        \x00\x00\x00\x00\x00\x00\x00\x00\x01\x00\x00\x00\x00\x00\x00\x00\x02\
+        \x01\x00\x00\x00\x00\x00\x00\x01\x02\x00\x00\x00\x00\x00\x00\x00\x03",
         9,
         Kind::Permit(true),
     ),
     (
-        b"\x04\x01\x00\x00\x01\x02\x00\x00\x00\x00\x00\x00\x00\x09\x03\
-        \x00\x00\x02\x00\x00\x00\x03\x00\x00\x02\
-        \x00\x00\x00\x00\x01\x00\x00\x00\x00\x00\x00\x00\x02\
-        \x01\x00\x00\x01\x02\x00\x00\x00\x00\x00\x00\x00\x03",
+        b"\x04\x01\x00\x00\x00\x00\x00\x00\x01\x02\x00\x00\x00\x00\x00\x00\x00\x09\x03\
+        \x00\x00\x02\x00\x00\x00\x00\x00\x00\x00\x03\x00\x00\x02\
+        \x00\x00\x00\x00\x00\x00\x00\x00\x01\x00\x00\x00\x00\x00\x00\x00\x02\
+        \x01\x00\x00\x00\x00\x00\x00\x01\x02\x00\x00\x00\x00\x00\x00\x00\x03",
         9,
         Kind::Permit(false),
     ),
     (
-        b"\x04\x01\x00\x00\x01\x02\x00\x00\x00\x00\x00\x00\x00\x09\x04\
-        \x00\x00\x02\x00\x00\x00\x03\x00\x02\
-        \x00\x00\x00\x00\x01\x00\x00\x00\x00\x00\x00\x00\x02\
-        \x01\x00\x00\x01\x02\x00\x00\x00\x00\x00\x00\x00\x03",
+        b"\x04\x01\x00\x00\x00\x00\x00\x00\x01\x02\x00\x00\x00\x00\x00\x00\x00\x09\x04\
+        \x00\x00\x02\x00\x00\x00\x00\x00\x00\x00\x03\x00\x02\
+        \x00\x00\x00\x00\x00\x00\x00\x00\x01\x00\x00\x00\x00\x00\x00\x00\x02\
+        \x01\x00\x00\x00\x00\x00\x00\x01\x02\x00\x00\x00\x00\x00\x00\x00\x03",
         9,
         Kind::Start,
     ),
     (
-        b"\x04\x01\x00\x00\x01\x02\x00\x00\x00\x00\x00\x00\x00\x09\x05\
-        \x00\x00\x02\x00\x00\x00\x03\x00\x02\
-        \x00\x00\x00\x00\x01\x00\x00\x00\x00\x00\x00\x00\x02\
-        \x01\x00\x00\x01\x02\x00\x00\x00\x00\x00\x00\x00\x03",
+        b"\x04\x01\x00\x00\x00\x00\x00\x00\x01\x02\x00\x00\x00\x00\x00\x00\x00\x09\x05\
+        \x00\x00\x02\x00\x00\x00\x00\x00\x00\x00\x03\x00\x02\
+        \x00\x00\x00\x00\x00\x00\x00\x00\x01\x00\x00\x00\x00\x00\x00\x00\x02\
+        \x01\x00\x00\x00\x00\x00\x00\x01\x02\x00\x00\x00\x00\x00\x00\x00\x03",
         9,
         Kind::Stop,
     ),
     (
-        b"\x04\x01\x00\x00\x01\x02\x00\x00\x00\x00\x00\x00\x00\x09\x06\
+        b"\x04\x01\x00\x00\x00\x00\x00\x00\x01\x02\x00\x00\x00\x00\x00\x00\x00\x09\x06\
         \x00\x00\x00\x00\x00\x00\x00\x00\x00\x01\x01\x00",
         9,
         Kind::Claim(1, How::Normal, None),
     ),
     (
-        b"\x04\x01\x00\x00\x01\x02\x00\x00\x00\x00\x00\x00\x00\x09\x06\
+        b"\x04\x01\x00\x00\x00\x00\x00\x00\x01\x02\x00\x00\x00\x00\x00\x00\x00\x09\x06\
         \x00\x00\x00\x00\x00\x00\x00\x00\x00\x05\x02\x01",
         9,
         Kind::Claim(5, How::Failover, Some(NodeId(0))),
     ),
     (
-        b"\x04\x01\x00\x00\x01\x02\x00\x00\x00\x00\x00\x00\x00\x09\x06\
+        b"\x04\x01\x00\x00\x00\x00\x00\x00\x01\x02\x00\x00\x00\x00\x00\x00\x00\x09\x06\
         \x00\x00\x00\x00\x00\x00\x00\x00\x01\x02\x03\x03",
         9,
         Kind::Claim(258, How::Takeover, Some(NodeId(2))),
+    ),
+    (
+        b"\x04\x01\x00\x00\x00\x00\x00\x00\x01\x02\x00\x00\x00\x00\x00\x00\x00\x09\x07\
+        \x02\x00\x00\x00\x00\x00\x00\x00\x03\x01\x00\x02\
+        \x00\x00\x00\x00\x00\x00\x00\x00\x01\x00\x00\x00\x00\x00\x00\x00\x02\
+        \x01\x00\x00\x00\x00\x00\x00\x01\x02\x00\x00\x00\x00\x00\x00\x00\x03",
+        9,
+        Kind::Drain(true),
+    ),
+    (
+        b"\x04\x01\x00\x00\x00\x00\x00\x00\x01\x02\x00\x00\x00\x00\x00\x00\x00\x09\x07\
+        \x02\x00\x00\x00\x00\x00\x00\x00\x03\x00\x00\x02\
+        \x00\x00\x00\x00\x00\x00\x00\x00\x01\x00\x00\x00\x00\x00\x00\x00\x02\
+        \x01\x00\x00\x00\x00\x00\x00\x01\x02\x00\x00\x00\x00\x00\x00\x00\x03",
+        9,
+        Kind::Drain(false),
     ),
 ];
 
@@ -258,22 +320,22 @@ fn refused(alloc: Global, config: &Config, bytes: &[u8]) -> Option<WireFault> {
     decode(alloc, config, bytes).err()
 }
 
-/// Up to which length a front of the message is refused, and why.
+/// Below which length a front of the message is refused so, from the length in the row before on.
 const FRONTS: &[(usize, WireFaultKind, usize)] = &[
-    (2, WireFaultKind::BadMagic, 0),
-    (3, WireFaultKind::BadVersion, 3),
-    (11, WireFaultKind::Short, 4),
-    (12, WireFaultKind::Short, 12),
-    (13, WireFaultKind::Short, 13),
-    (17, WireFaultKind::Short, 14),
-    (18, WireFaultKind::Short, 18),
-    (22, WireFaultKind::Short, 19),
-    (30, WireFaultKind::Short, 23),
-    (31, WireFaultKind::Short, 31),
-    (33, WireFaultKind::Short, 32),
+    (3, WireFaultKind::BadMagic, 0),
+    (4, WireFaultKind::BadVersion, 3),
+    (12, WireFaultKind::Short, 4),
+    (13, WireFaultKind::Short, 12),
+    (14, WireFaultKind::Short, 13),
+    (22, WireFaultKind::Short, 14),
+    (23, WireFaultKind::Short, 22),
+    (31, WireFaultKind::Short, 23),
+    (39, WireFaultKind::Short, 31),
+    (40, WireFaultKind::Short, 39),
+    (42, WireFaultKind::Short, 40),
 ];
 
-/// Whether each front from one length to another has this fault.
+/// Whether each front from one length on and below another has this fault.
 fn are_refused(
     alloc: Global,
     config: &Config,
@@ -281,7 +343,7 @@ fn are_refused(
     lengths: (usize, usize),
     fault: WireFault,
 ) -> bool {
-    for length in lengths.0..=lengths.1 {
+    for length in lengths.0..lengths.1 {
         let (front, _) = bytes.split_at(length.min(bytes.len()));
         if refused(alloc, config, front) != Some(fault) {
             return false;
@@ -290,27 +352,55 @@ fn are_refused(
     true
 }
 
+/// The same for the message in version 1.
+const FRONTS_ONE: &[(usize, WireFaultKind, usize)] = &[
+    (3, WireFaultKind::BadMagic, 0),
+    (4, WireFaultKind::BadVersion, 3),
+    (12, WireFaultKind::Short, 4),
+    (13, WireFaultKind::Short, 12),
+    (14, WireFaultKind::Short, 13),
+    (18, WireFaultKind::Short, 14),
+    (19, WireFaultKind::Short, 18),
+    (23, WireFaultKind::Short, 19),
+    (31, WireFaultKind::Short, 23),
+    (32, WireFaultKind::Short, 31),
+    (34, WireFaultKind::Short, 32),
+];
+
 /// Whether each front has the fault of the list.
-fn are_fronts_refused(alloc: Global) -> Option<bool> {
+fn are_fronts_refused(
+    alloc: Global,
+    bytes: &[u8],
+    fronts: &[(usize, WireFaultKind, usize)],
+) -> Option<bool> {
     let config = config(alloc, EXAMPLE)?;
-    let bytes = booted(alloc).ok()?;
-    let mut least = 0;
-    for (most, kind, at) in FRONTS {
+    let mut start = 0;
+    for (end, kind, at) in fronts {
         let fault = WireFault {
             kind: *kind,
             at: *at,
         };
-        if !are_refused(alloc, &config, &bytes, (least, *most), fault) {
+        if !are_refused(alloc, &config, bytes, (start, *end), fault) {
             return Some(false);
         }
-        least = *most + 1;
+        start = *end;
     }
     Some(true)
 }
 
+/// Whether each front of the message has its fault, in both versions.
+fn are_all_fronts_refused(alloc: Global) -> Option<bool> {
+    let newer = booted(alloc).ok()?;
+    let older = booted_one(alloc).ok()?;
+    Some(
+        are_fronts_refused(alloc, &newer, FRONTS)?
+            && are_fronts_refused(alloc, &older, FRONTS_ONE)?,
+    )
+}
+
 #[test]
 fn fronts_of_a_message(rt: HostRuntime) {
-    assert!(rt; are_fronts_refused(rt.alloc()) == Some(true));
+    assert!(rt; are_all_fronts_refused(rt.alloc()) == Some(true));
 }
 
 /// These bytes with another one at a place.
@@ -325,23 +415,27 @@ fn changed(alloc: Global, bytes: &[u8], at: usize, byte: u8) -> Result<Vec<u8>, 
 /// A place, the byte that is put there, and the fault of the message at its place then.
 const CHANGES: &[(usize, u8, WireFaultKind, usize)] = &[
     (0, 0x45, WireFaultKind::BadMagic, 0),
-    (3, 2, WireFaultKind::BadVersion, 3),
+    (3, 0, WireFaultKind::BadVersion, 3),
+    (3, 3, WireFaultKind::BadVersion, 3),
+    // Read as version 1.
+    (3, 1, WireFaultKind::BadNumber, 14),
     (12, 0, WireFaultKind::BadNumber, 12),
     (12, 5, WireFaultKind::BadNumber, 12),
     // What needs an incarnation has none.
-    (12, 2, WireFaultKind::BadNumber, 19),
+    (12, 2, WireFaultKind::BadNumber, 23),
     (13, 3, WireFaultKind::BadName, 13),
-    (17, 0, WireFaultKind::BadNumber, 14),
-    (18, 3, WireFaultKind::BadName, 18),
+    (21, 0, WireFaultKind::BadNumber, 14),
+    (22, 3, WireFaultKind::BadName, 22),
     // A whole state is for any incarnation.
-    (22, 1, WireFaultKind::BadNumber, 19),
-    (23, 0x41, WireFaultKind::BadNumber, 23),
-    (31, 2, WireFaultKind::BadNumber, 31),
-    (31, 1, WireFaultKind::BadNumber, 48),
+    (30, 1, WireFaultKind::BadNumber, 23),
+    (31, 0x41, WireFaultKind::BadNumber, 31),
+    (39, 2, WireFaultKind::BadNumber, 39),
+    (39, 1, WireFaultKind::BadNumber, 83),
     // The state.
-    (84, 2, WireFaultKind::BadNumber, 84),
-    (79, 3, WireFaultKind::BadName, 79),
-    (86, 1, WireFaultKind::Short, 87),
+    (104, 2, WireFaultKind::BadNumber, 104),
+    (95, 3, WireFaultKind::BadName, 95),
+    (106, 1, WireFaultKind::Short, 109),
+    (110, 1, WireFaultKind::Short, 111),
 ];
 
 /// The fault of the message where one byte is another.
@@ -390,7 +484,7 @@ fn too_long(alloc: Global) -> Option<WireFault> {
 fn faults_of_all_bytes(rt: HostRuntime) {
     let trailing_at = WireFault {
         kind: WireFaultKind::Trailing,
-        at: 87,
+        at: 111,
     };
     let other_at = WireFault {
         kind: WireFaultKind::OtherConfig,
@@ -435,8 +529,8 @@ fn one_byte_changed_in_a_message(rt: HostRuntime) {
 }
 
 /// The bytes of a stop by a dot that replaces two others, up to the two.
-const STOP: &[u8] = b"\x04\x01\x00\x00\x00\x02\x00\x00\x00\x00\x00\x00\x00\x09\x05\
-    \x00\x00\x02\x00\x00\x00\x03\x00\x02";
+const STOP: &[u8] = b"\x04\x01\x00\x00\x00\x00\x00\x00\x00\x02\x00\x00\x00\x00\x00\x00\x00\x09\x05\
+    \x00\x00\x02\x00\x00\x00\x00\x00\x00\x00\x03\x00\x02";
 
 /// Why a stop that replaces these two dots is refused.
 fn fault_of_stop(alloc: Global, first: &[u8], second: &[u8]) -> Option<WireFault> {
@@ -446,19 +540,19 @@ fn fault_of_stop(alloc: Global, first: &[u8], second: &[u8]) -> Option<WireFault
 }
 
 /// A dot of the second node.
-const SECOND: &[u8] = b"\x01\x00\x00\x00\x01\x00\x00\x00\x00\x00\x00\x00\x02";
+const SECOND: &[u8] = b"\x01\x00\x00\x00\x00\x00\x00\x00\x01\x00\x00\x00\x00\x00\x00\x00\x02";
 
 /// A dot of the first node.
-const FIRST: &[u8] = b"\x00\x00\x00\x00\x01\x00\x00\x00\x00\x00\x00\x00\x02";
+const FIRST: &[u8] = b"\x00\x00\x00\x00\x00\x00\x00\x00\x01\x00\x00\x00\x00\x00\x00\x00\x02";
 
 /// The dot of the stop itself.
-const OWN: &[u8] = b"\x01\x00\x00\x00\x02\x00\x00\x00\x00\x00\x00\x00\x09";
+const OWN: &[u8] = b"\x01\x00\x00\x00\x00\x00\x00\x00\x02\x00\x00\x00\x00\x00\x00\x00\x09";
 
 #[test]
 fn faults_of_an_operation(rt: HostRuntime) {
     let order = WireFault {
         kind: WireFaultKind::BadOrder,
-        at: 49,
+        at: 61,
     };
     let no_operation = WireFault {
         kind: WireFaultKind::BadNumber,
@@ -467,4 +561,40 @@ fn faults_of_an_operation(rt: HostRuntime) {
     assert!(rt; fault_of_stop(rt.alloc(), FIRST, SECOND).is_none());
     assert!(rt; fault_of_stop(rt.alloc(), SECOND, FIRST) == Some(order));
     assert!(rt; fault_of_stop(rt.alloc(), FIRST, OWN) == Some(no_operation));
+}
+
+/// The bytes of a drain that replaces nothing, without its value: of the third node, incarnation 3.
+const DRAIN: &[u8] = b"\x04\x01\x00\x00\x00\x00\x00\x00\x00\x02\x00\x00\x00\x00\x00\x00\x00\x09\x07\
+    \x02\x00\x00\x00\x00\x00\x00\x00\x03";
+
+/// The same in version 1, up to what the act is.
+const DRAIN_ONE: &[u8] = b"\x04\x01\x00\x00\x00\x02\x00\x00\x00\x00\x00\x00\x00\x09\x07";
+
+/// Why a drain with these bytes after it is refused.
+fn fault_of_drain(alloc: Global, rest: &[u8]) -> Option<WireFault> {
+    let config = config(alloc, EXAMPLE)?;
+    let bytes = packet_bytes(alloc, &[DRAIN, rest]).ok()?;
+    refused(alloc, &config, &bytes)
+}
+
+/// Why the drain is refused in version 1.
+fn fault_in_version_one(alloc: Global) -> Option<WireFault> {
+    let config = config(alloc, EXAMPLE)?;
+    let bytes = bytes_after(alloc, FRONT_ONE, &[DRAIN_ONE]).ok()?;
+    refused(alloc, &config, &bytes)
+}
+
+#[test]
+fn faults_of_a_drain(rt: HostRuntime) {
+    let value = WireFault {
+        kind: WireFaultKind::BadNumber,
+        at: 40,
+    };
+    let act = WireFault {
+        kind: WireFaultKind::BadNumber,
+        at: 26,
+    };
+    assert!(rt; fault_of_drain(rt.alloc(), &[1, 0, 0]).is_none());
+    assert!(rt; fault_of_drain(rt.alloc(), &[2, 0, 0]) == Some(value));
+    assert!(rt; fault_in_version_one(rt.alloc()) == Some(act));
 }

@@ -14,7 +14,7 @@ pub fn config(alloc: Global, text: &[u8]) -> Option<Config> {
 }
 
 /// An incarnation of a node.
-pub fn origin(node: u8, inc: u32) -> Origin {
+pub fn origin(node: u8, inc: u64) -> Origin {
     Origin {
         node: NodeId(node),
         inc,
@@ -22,7 +22,7 @@ pub fn origin(node: u8, inc: u32) -> Origin {
 }
 
 /// A dot of an incarnation of a node.
-pub fn dot(node: u8, inc: u32, n: u64) -> Dot {
+pub fn dot(node: u8, inc: u64, n: u64) -> Dot {
     Dot {
         origin: origin(node, inc),
         n,

@@ -1,6 +1,7 @@
-//! States from bytes: the state of a node that booted, one with every part, and bytes that spell none.
+//! States from bytes: the state of a node that booted in both versions, one with every part, and bytes that spell none.
 use crate::sample::{EXAMPLE, config, dot, origin};
 use dac_base::{AppId, NoMemory, NodeId};
+use dac_bytes::{ByteWriter, Version};
 use dac_config::Config;
 use dac_dots::Dot;
 use dac_lattice::{Flag, Lattice};
@@ -9,6 +10,15 @@ use std::alloc::Global;
 
 /// The second node booted, and has heard of nothing else.
 const BOOTED: &[u8] =
+    b"\x00\x01\x01\x00\x00\x00\x00\x00\x00\x00\x01\x00\x00\x00\x00\x00\x00\x00\x01\x00\x00\x00\x00\
+    \x00\x01\x01\x00\x00\x00\x00\x00\x00\x00\x01\x00\x00\x00\x00\x00\x00\x00\x01\x00\x00\x00\x00\
+    \x00\x00\x00\x00\x00\x00\x00\x00\
+    \x01\x01\x00\x00\x00\x00\x00\x00\x00\x01\x00\
+    \x00\x00\
+    \x00\x00\x00\x00";
+
+/// The same in version one, which has no drains and incarnations in four bytes.
+const BOOTED_ONE: &[u8] =
     b"\x00\x01\x01\x00\x00\x00\x01\x00\x00\x00\x00\x00\x00\x00\x01\x00\x00\x00\x00\
     \x00\x01\x01\x00\x00\x00\x01\x00\x00\x00\x00\x00\x00\x00\x01\x00\x00\x00\x00\
     \x00\x00\x00\x00\x00\x00\x00\x00\
@@ -21,28 +31,34 @@ const LISTS: &[u8] = b"[{kernel,[{distributed,[{p,[a@h,b@h]},{q,[c@h]},{r,[a@h]}
 /// A state with every part, under the configuration of three applications.
 const FULL: &[u8] = b"\
     \x00\x02\
-    \x00\x00\x00\x00\x01\x00\x00\x00\x00\x00\x00\x00\x05\x00\x00\x00\x00\
-    \x01\x00\x00\x00\x01\x00\x00\x00\x00\x00\x00\x00\x03\x00\x00\x00\x00\
+    \x00\x00\x00\x00\x00\x00\x00\x00\x01\x00\x00\x00\x00\x00\x00\x00\x05\x00\x00\x00\x00\
+    \x01\x00\x00\x00\x00\x00\x00\x00\x01\x00\x00\x00\x00\x00\x00\x00\x03\x00\x00\x00\x00\
     \x00\x02\
-    \x00\x00\x00\x00\x01\x00\x00\x00\x00\x00\x00\x00\x05\x00\x00\x00\x00\
-    \x01\x00\x00\x00\x01\x00\x00\x00\x00\x00\x00\x00\x03\x00\x00\x00\x01\
+    \x00\x00\x00\x00\x00\x00\x00\x00\x01\x00\x00\x00\x00\x00\x00\x00\x05\x00\x00\x00\x00\
+    \x01\x00\x00\x00\x00\x00\x00\x00\x01\x00\x00\x00\x00\x00\x00\x00\x03\x00\x00\x00\x01\
     \x00\x00\x00\x00\x00\x00\x00\x05\
     \x00\x00\x00\x02\
-    \x00\x00\x01\x00\x00\x00\x01\x00\x00\x00\x02\
-    \x00\x00\x00\x00\x01\x00\x00\x00\x00\x00\x00\x00\x02\x01\
-    \x01\x00\x00\x00\x01\x00\x00\x00\x00\x00\x00\x00\x02\x00\
-    \x00\x02\x00\x00\x00\x01\x02\x00\x00\x00\x01\
-    \x00\x00\x00\x00\x01\x00\x00\x00\x00\x00\x00\x00\x03\x00\
+    \x00\x00\x01\x00\x00\x00\x00\x00\x00\x00\x01\x00\x00\x00\x02\
+    \x00\x00\x00\x00\x00\x00\x00\x00\x01\x00\x00\x00\x00\x00\x00\x00\x02\x01\
+    \x01\x00\x00\x00\x00\x00\x00\x00\x01\x00\x00\x00\x00\x00\x00\x00\x02\x00\
+    \x00\x02\x00\x00\x00\x00\x00\x00\x00\x01\x02\x00\x00\x00\x01\
+    \x00\x00\x00\x00\x00\x00\x00\x00\x01\x00\x00\x00\x00\x00\x00\x00\x03\x00\
     \x00\x00\x00\x02\
-    \x00\x00\x01\x00\x00\x00\x01\x00\x00\x00\x02\
-    \x00\x00\x00\x00\x01\x00\x00\x00\x00\x00\x00\x00\x04\
-    \x01\x00\x00\x00\x01\x00\x00\x00\x00\x00\x00\x00\x03\
-    \x00\x02\x00\x00\x00\x01\x02\x00\x00\x00\x01\
-    \x00\x00\x00\x00\x01\x00\x00\x00\x00\x00\x00\x00\x05\
-    \x02\x00\x00\x00\x00\x01\x01\x02\x00\x00\x01\x02\x00\
+    \x00\x00\x01\x00\x00\x00\x00\x00\x00\x00\x01\x00\x00\x00\x02\
+    \x00\x00\x00\x00\x00\x00\x00\x00\x01\x00\x00\x00\x00\x00\x00\x00\x04\
+    \x01\x00\x00\x00\x00\x00\x00\x00\x01\x00\x00\x00\x00\x00\x00\x00\x03\
+    \x00\x02\x00\x00\x00\x00\x00\x00\x00\x01\x02\x00\x00\x00\x01\
+    \x00\x00\x00\x00\x00\x00\x00\x00\x01\x00\x00\x00\x00\x00\x00\x00\x05\
+    \x02\x00\x00\x00\x00\x00\x00\x00\x00\x01\x01\x02\x00\x00\x00\x00\x00\x00\x01\x02\x00\
     \x00\x02\
-    \x00\x00\x00\x00\x00\x00\x00\x00\x00\x01\x00\x00\x00\x00\x01\x01\x00\
-    \x00\x01\x00\x00\x00\x00\x00\x00\x01\x02\x02\x00\x00\x00\x01\x03\x01";
+    \x00\x00\x00\x00\x00\x00\x00\x00\x00\x01\x00\x00\x00\x00\x00\x00\x00\x00\x01\x01\x00\
+    \x00\x01\x00\x00\x00\x00\x00\x00\x01\x02\x02\x00\x00\x00\x00\x00\x00\x00\x01\x03\x01\
+    \x00\x00\x00\x02\
+    \x00\x00\x00\x00\x00\x00\x00\x01\x02\x00\x00\x00\x02\
+    \x00\x00\x00\x00\x00\x00\x00\x00\x01\x00\x00\x00\x00\x00\x00\x00\x01\x01\
+    \x01\x00\x00\x00\x00\x00\x00\x00\x01\x00\x00\x00\x00\x00\x00\x00\x01\x00\
+    \x02\x00\x00\x00\x00\x00\x00\x00\x01\x00\x00\x00\x01\
+    \x01\x00\x00\x00\x00\x00\x00\x00\x01\x00\x00\x00\x00\x00\x00\x00\x05\x00";
 
 /// Whether the bytes spell a state whose bytes they are.
 fn is_spelled(alloc: Global, text: &[u8], bytes: &[u8]) -> Option<bool> {
@@ -134,6 +150,24 @@ fn has_claims(state: &State) -> bool {
     is_claimed(state, 0, normal) && is_claimed(state, 1, takeover)
 }
 
+/// Whether the drains of an incarnation are of these dots, with these values.
+fn are_drains(state: &State, node: u8, inc: u64, drains: &[(Dot, Flag)]) -> bool {
+    state.drains().dots(NodeId(node), inc) == drains
+}
+
+/// Whether the first node's incarnation 258 is drained, and no other.
+fn are_drained(state: &State) -> bool {
+    let drained = |node, inc| state.drains().drained(NodeId(node), inc);
+    drained(0, 258) && !drained(0, 1) && !drained(2, 1)
+}
+
+/// Whether the state has the drains of the bytes with every part.
+fn has_drains(state: &State) -> bool {
+    let both = [(dot(0, 1, 1), Flag::Down), (dot(1, 1, 1), Flag::Up)];
+    let undone = [(dot(1, 1, 5), Flag::Up)];
+    are_drains(state, 0, 258, &both) && are_drains(state, 2, 1, &undone) && are_drained(state)
+}
+
 /// Whether eight dots are heard and nine known.
 fn has_dots(state: &State) -> bool {
     state.heard().len() == 8 && state.known().len() == 9
@@ -152,6 +186,7 @@ fn is_full(state: &State) -> Result<bool, NoMemory> {
             && has_starts(state)
             && has_lives(state)
             && has_claims(state)
+            && has_drains(state)
             && state.join(state)?.equal(state),
     )
 }
@@ -194,11 +229,11 @@ fn replaced(alloc: Global, from: usize, others: &[u8], to: usize) -> Result<Vec<
 
 /// From which place to which the bytes are replaced, by what, and the fault at its place.
 const REPLACED: &[(usize, &[u8], usize, StateFaultKind, usize)] = &[
-    (54, &[], 55, StateFaultKind::Short, 53),
-    (55, &[0], 55, StateFaultKind::Trailing, 55),
-    (52, &[2], 53, StateFaultKind::BadNumber, 52),
-    (47, &[3], 48, StateFaultKind::BadName, 47),
-    (19, &[0, 0], 38, StateFaultKind::NotKnown, 21),
+    (70, &[], 71, StateFaultKind::Short, 67),
+    (71, &[0], 71, StateFaultKind::Trailing, 71),
+    (64, &[2], 65, StateFaultKind::BadNumber, 64),
+    (55, &[3], 56, StateFaultKind::BadName, 55),
+    (23, &[0, 0], 46, StateFaultKind::NotKnown, 25),
 ];
 
 #[test]
@@ -225,45 +260,56 @@ fn changed(alloc: Global, bytes: &[u8], at: usize, byte: u8) -> Result<Vec<u8>, 
 /// A place, the byte that is put there, and the fault of the state with every part at its place then.
 const CHANGES: &[(usize, u8, StateFaultKind, usize)] = &[
     // What was heard: an origin without dots, of no node, and one that doesn't ascend.
-    (14, 0, StateFaultKind::BadNumber, 15),
-    (19, 3, StateFaultKind::BadName, 19),
-    (19, 0, StateFaultKind::BadOrder, 19),
-    (7, 0x41, StateFaultKind::BadNumber, 7),
+    (18, 0, StateFaultKind::BadNumber, 19),
+    (23, 3, StateFaultKind::BadName, 23),
+    (23, 0, StateFaultKind::BadOrder, 23),
+    (11, 0x41, StateFaultKind::BadNumber, 11),
     // What is known: a counter that continues, and a dot too few.
-    (79, 4, StateFaultKind::BadOrder, 72),
-    (67, 2, StateFaultKind::NotKnown, 80),
+    (95, 4, StateFaultKind::BadOrder, 88),
+    (83, 2, StateFaultKind::NotKnown, 96),
     // Permits.
-    (84, 1, StateFaultKind::BadName, 84),
-    (86, 3, StateFaultKind::BadName, 86),
-    (90, 0, StateFaultKind::BadNumber, 87),
-    (86, 2, StateFaultKind::NotInList, 84),
-    (94, 0, StateFaultKind::BadNumber, 91),
-    (109, 0, StateFaultKind::BadOrder, 109),
-    (107, 9, StateFaultKind::NotKnown, 95),
-    (108, 2, StateFaultKind::BadNumber, 108),
-    (124, 0, StateFaultKind::BadOrder, 123),
-    (83, 3, StateFaultKind::BadOrder, 148),
+    (100, 1, StateFaultKind::BadName, 100),
+    (102, 3, StateFaultKind::BadName, 102),
+    (110, 0, StateFaultKind::BadNumber, 103),
+    (102, 2, StateFaultKind::NotInList, 100),
+    (114, 0, StateFaultKind::BadNumber, 111),
+    (133, 0, StateFaultKind::BadOrder, 133),
+    (131, 9, StateFaultKind::NotKnown, 115),
+    (132, 2, StateFaultKind::BadNumber, 132),
+    (152, 0, StateFaultKind::BadOrder, 151),
+    (99, 3, StateFaultKind::BadOrder, 184),
     // Starts.
-    (152, 1, StateFaultKind::BadName, 152),
-    (154, 2, StateFaultKind::NotInList, 152),
-    (162, 0, StateFaultKind::BadNumber, 159),
-    (175, 9, StateFaultKind::NotKnown, 163),
-    (175, 0, StateFaultKind::BadNumber, 168),
-    (176, 0, StateFaultKind::BadOrder, 176),
-    // Lives.
-    (214, 3, StateFaultKind::BadName, 214),
-    (218, 0, StateFaultKind::BadNumber, 215),
-    (219, 2, StateFaultKind::BadNumber, 219),
+    (188, 1, StateFaultKind::BadName, 188),
+    (190, 2, StateFaultKind::NotInList, 188),
+    (202, 0, StateFaultKind::BadNumber, 199),
+    (219, 9, StateFaultKind::NotKnown, 203),
+    (219, 0, StateFaultKind::BadNumber, 212),
     (220, 0, StateFaultKind::BadOrder, 220),
+    // Lives.
+    (270, 3, StateFaultKind::BadName, 270),
+    (278, 0, StateFaultKind::BadNumber, 271),
+    (279, 2, StateFaultKind::BadNumber, 279),
+    (280, 0, StateFaultKind::BadOrder, 280),
     // Claims.
-    (237, 0, StateFaultKind::BadNumber, 230),
-    (243, 0, StateFaultKind::BadNumber, 243),
-    (244, 1, StateFaultKind::BadNumber, 244),
-    (244, 4, StateFaultKind::BadName, 244),
-    (246, 0, StateFaultKind::NotInList, 245),
-    (261, 0, StateFaultKind::BadNumber, 261),
-    (227, 3, StateFaultKind::Short, 262),
-    (227, 1, StateFaultKind::Trailing, 245),
+    (301, 0, StateFaultKind::BadNumber, 294),
+    (311, 0, StateFaultKind::BadNumber, 311),
+    (312, 1, StateFaultKind::BadNumber, 312),
+    (312, 4, StateFaultKind::BadName, 312),
+    (314, 0, StateFaultKind::NotInList, 313),
+    (333, 0, StateFaultKind::BadNumber, 333),
+    (291, 3, StateFaultKind::BadNumber, 353),
+    (291, 1, StateFaultKind::BadNumber, 326),
+    // Drains.
+    (338, 3, StateFaultKind::BadName, 338),
+    (395, 0, StateFaultKind::BadNumber, 388),
+    (387, 0, StateFaultKind::BadOrder, 387),
+    (350, 0, StateFaultKind::BadNumber, 347),
+    (351, 3, StateFaultKind::BadName, 351),
+    (369, 0, StateFaultKind::BadOrder, 369),
+    (367, 9, StateFaultKind::NotKnown, 351),
+    (368, 2, StateFaultKind::BadNumber, 368),
+    (337, 3, StateFaultKind::Short, 418),
+    (337, 1, StateFaultKind::Trailing, 387),
 ];
 
 /// The fault of the state with every part where one byte is another.
@@ -347,11 +393,13 @@ fn one_byte_changed_in_every_part(rt: HostRuntime) {
 }
 
 /// The second node booted, and its counters go to the greatest that is issued.
-const MOST: &[u8] = b"\x00\x01\x01\x00\x00\x00\x01\x40\x00\x00\x00\x00\x00\x00\x00\x00\x00\x00\x00\
-    \x00\x01\x01\x00\x00\x00\x01\x40\x00\x00\x00\x00\x00\x00\x00\x00\x00\x00\x00\
+const MOST: &[u8] =
+    b"\x00\x01\x01\x00\x00\x00\x00\x00\x00\x00\x01\x40\x00\x00\x00\x00\x00\x00\x00\x00\x00\x00\x00\
+    \x00\x01\x01\x00\x00\x00\x00\x00\x00\x00\x01\x40\x00\x00\x00\x00\x00\x00\x00\x00\x00\x00\x00\
     \x00\x00\x00\x00\x00\x00\x00\x00\
-    \x01\x01\x00\x00\x00\x01\x00\
-    \x00\x00";
+    \x01\x01\x00\x00\x00\x00\x00\x00\x00\x01\x00\
+    \x00\x00\
+    \x00\x00\x00\x00";
 
 /// Whether as many counters as there can be are heard.
 fn are_used_up(state: &State) -> bool {
@@ -369,4 +417,61 @@ fn is_read(alloc: Global) -> Option<bool> {
 fn as_many_counters_as_there_can_be(rt: HostRuntime) {
     assert!(rt; is_read(rt.alloc()) == Some(true));
     assert!(rt; is_spelled(rt.alloc(), EXAMPLE, MOST) == Some(true));
+}
+
+/// The bytes of a state in version one.
+fn in_version_one(alloc: Global, state: &State) -> Result<Vec<u8>, NoMemory> {
+    let written = state.write(ByteWriter::new(alloc), Version::One)?;
+    Ok(written.into_bytes())
+}
+
+/// Whether the older bytes of the node that booted spell the state that the newer ones do, and are those of version one.
+fn is_read_in_version_one(alloc: Global) -> Option<bool> {
+    let config = config(alloc, EXAMPLE)?;
+    let state = State::decode_1(alloc, &config, BOOTED_ONE).ok()?;
+    let newer = State::decode(alloc, &config, BOOTED).ok()?;
+    let bytes = in_version_one(alloc, &state).ok()?;
+    Some(state.equal(&newer) && bytes.as_slice() == BOOTED_ONE)
+}
+
+#[test]
+fn a_node_that_booted_in_version_one(rt: HostRuntime) {
+    assert!(rt; is_read_in_version_one(rt.alloc()) == Some(true));
+}
+
+/// Why the bytes are refused in version one, if they are.
+fn refused_in_version_one(alloc: Global, bytes: &[u8]) -> Option<StateFault> {
+    State::decode_1(alloc, &config(alloc, EXAMPLE)?, bytes).err()
+}
+
+/// The fault of version one where one byte is another.
+fn fault_in_version_one(alloc: Global, place: usize, byte: u8) -> Option<StateFault> {
+    let bytes = changed(alloc, BOOTED_ONE, place, byte).ok()?;
+    refused_in_version_one(alloc, &bytes)
+}
+
+/// The fault of version one where no drains follow, as version two spells that.
+fn fault_of_drains_in_version_one(alloc: Global) -> Option<StateFault> {
+    let mut bytes = Vec::from_slice(alloc, BOOTED_ONE).ok()?;
+    bytes.extend_from_slice(&[0, 0, 0, 0]).ok()?;
+    refused_in_version_one(alloc, &bytes)
+}
+
+#[test]
+fn faults_in_version_one(rt: HostRuntime) {
+    let number = StateFault {
+        kind: StateFaultKind::BadNumber,
+        at: 52,
+    };
+    let name = StateFault {
+        kind: StateFaultKind::BadName,
+        at: 47,
+    };
+    let trailing = StateFault {
+        kind: StateFaultKind::Trailing,
+        at: 55,
+    };
+    assert!(rt; fault_in_version_one(rt.alloc(), 52, 2) == Some(number));
+    assert!(rt; fault_in_version_one(rt.alloc(), 47, 3) == Some(name));
+    assert!(rt; fault_of_drains_in_version_one(rt.alloc()) == Some(trailing));
 }

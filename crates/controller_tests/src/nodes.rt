@@ -36,6 +36,11 @@ const STOP: Command = Command::Stop {
     node: SECOND,
 };
 
+const DRAIN: Command = Command::Drain {
+    node: SECOND,
+    value: true,
+};
+
 const TAKEOVER: Command = Command::Takeover { app: APP };
 
 /// One application at either of two nodes.
@@ -79,6 +84,17 @@ fn permit(alloc: Global) -> Act {
     }
 }
 
+/// A drain of the second node that replaces nothing.
+fn drain(alloc: Global) -> Act {
+    let over = DotList::new(Vec::new(alloc));
+    Act::Drain {
+        node: SECOND,
+        inc: 1,
+        value: true,
+        over,
+    }
+}
+
 /// What comes of an event at the second node.
 pub fn step(config: &Config, node: &mut Node, event: Event) -> Result<Reply, Refusal> {
     node.step(config, SECOND, event)
@@ -110,7 +126,7 @@ fn accepts(config: &Config, node: &Node, command: Command) -> bool {
 
 /// Whether this is why the node refuses each command.
 fn refuses_all(config: &Config, node: &Node, why: Refusal) -> bool {
-    [DOWN, PERMIT, START, STOP]
+    [DOWN, PERMIT, START, STOP, DRAIN]
         .iter()
         .all(|command| refuses(config, node, *command, why))
 }
@@ -136,6 +152,16 @@ pub fn hears_starts(alloc: Global, config: &Config, node: &mut Node, end: u64) -
 fn hears_permits(alloc: Global, config: &Config, node: &mut Node) -> bool {
     for n in 2..1_027 {
         if !hears(config, node, dot(0, 1, n), permit(alloc)) {
+            return false;
+        }
+    }
+    true
+}
+
+/// Whether the node hears a drain by each operation of the first node from the second one on, below this counter.
+fn hears_drains(alloc: Global, config: &Config, node: &mut Node, end: u64) -> bool {
+    for n in 2..end {
+        if !hears(config, node, dot(0, 1, n), drain(alloc)) {
             return false;
         }
     }
@@ -175,6 +201,24 @@ fn permits_are_too_many(alloc: Global) -> Option<bool> {
 #[test]
 fn too_many_permits(rt: HostRuntime) {
     assert!(rt; permits_are_too_many(rt.alloc()) == Some(true));
+}
+
+/// Whether 1,024 drains are replaced by another, and one more is too many.
+fn drains_are_too_many(alloc: Global) -> Option<bool> {
+    let config = read_config(alloc, ONE).ok()?;
+    let mut node = booted(alloc, &config)?;
+    let most = hears_drains(alloc, &config, &mut node, 1_026) && accepts(&config, &node, DRAIN);
+    let more = hears(&config, &mut node, dot(0, 1, 1_026), drain(alloc));
+    Some(
+        most && more
+            && refuses(&config, &node, DRAIN, Refusal::TooManyDots)
+            && accepts(&config, &node, PERMIT),
+    )
+}
+
+#[test]
+fn too_many_drains(rt: HostRuntime) {
+    assert!(rt; drains_are_too_many(rt.alloc()) == Some(true));
 }
 
 /// Whether a node that heard of an operation of its own with the last counter refuses each command.
@@ -286,7 +330,7 @@ fn declared_down_by_another(rt: HostRuntime) {
 }
 
 /// What comes of a boot after this last incarnation: the next one, or why there is none.
-fn next(alloc: Global, config: &Config, last: u32) -> Result<Option<u32>, Refusal> {
+fn next(alloc: Global, config: &Config, last: u64) -> Result<Option<u64>, Refusal> {
     let mut node = Node::off(alloc, last);
     let _reply = step(config, &mut node, Event::Boot { now: 0 })?;
     match node.origin() {
@@ -298,8 +342,9 @@ fn next(alloc: Global, config: &Config, last: u32) -> Result<Option<u32>, Refusa
 /// Whether incarnations go on by one, and end.
 fn go_on_and_end(alloc: Global) -> Option<bool> {
     let config = read_config(alloc, ONE).ok()?;
-    let ended = next(alloc, &config, u32::MAX) == Err(Refusal::IncarnationsUsedUp);
-    Some(ended && next(alloc, &config, 4) == Ok(Some(5)))
+    let ended = next(alloc, &config, 1 << 62) == Err(Refusal::IncarnationsUsedUp);
+    let wide = next(alloc, &config, 4_294_967_295) == Ok(Some(4_294_967_296));
+    Some(ended && wide && next(alloc, &config, 4) == Ok(Some(5)))
 }
 
 #[test]

@@ -42,6 +42,15 @@ const REPLACED: &[Step] = &[
     (0, 1, Kind::Claim(0, 2, How::Failover, Some(NodeId(2)))),
 ];
 
+/// Two nodes are drained, and the second goes down.
+const DRAINED: &[Step] = &[
+    (0, 1, Kind::Up),
+    (1, 1, Kind::Up),
+    (0, 1, Kind::Drain),
+    (1, 1, Kind::Drain),
+    (2, 1, Kind::Down(1, 1)),
+];
+
 /// Nodes that the configuration hasn't.
 const UNKNOWN: &[Step] = &[(200, 1, Kind::Claim(0, 1, How::Takeover, Some(NodeId(16))))];
 
@@ -61,6 +70,11 @@ const PAGES: &[(&[u8], &[Step], &str)] = &[
         TURNED,
         REPLACED,
         "heard 6 known 7\nnode 'c-2@h' up 1\nnode c1@h unknown\nnode c3@h down 1\napp a holder 'c-2@h' 1 term 2 failover from c3@h verdict kept 'c-2@h'\nlist 'c-2@h'=ok c3@h=down c1@h=down\n",
+    ),
+    (
+        TWO,
+        DRAINED,
+        "heard 5 known 5\nnode c1@h up 1 drained\nnode c2@h down 1\nnode c3@h unknown\napp a holder none verdict nobody\nlist c1@h=drained c2@h=down c3@h=down\napp b holder none verdict nobody\nlist c2@h=down\n",
     ),
     (
         TWO,
@@ -117,8 +131,13 @@ fn headers(rt: HostRuntime) {
     assert!(rt; has_headers(rt.alloc()) == Some(true));
 }
 
-/// The first node came up and is barred, and the second came up.
-const BARRED: &[Step] = &[(0, 1, Kind::Up), (0, 1, Kind::Forbid(0)), (1, 1, Kind::Up)];
+/// The first node came up, is barred and is drained, and the second came up.
+const BARRED: &[Step] = &[
+    (0, 1, Kind::Up),
+    (0, 1, Kind::Forbid(0)),
+    (0, 1, Kind::Drain),
+    (1, 1, Kind::Up),
+];
 
 /// Whether this is the mark of a node for the first application.
 fn is_mark(config: &Config, state: &State, node: u8, wanted: Mark) -> bool {
@@ -130,8 +149,10 @@ fn is_mark(config: &Config, state: &State, node: u8, wanted: Mark) -> bool {
 fn has_marks(alloc: Global) -> Option<bool> {
     let config = read_config(alloc, TWO).ok()?;
     let state = state_after(alloc, BARRED, &[])?;
+    let drained = state_after(alloc, BARRED, &[(1, 1, Kind::Drain)])?;
     Some(
         is_mark(&config, &state, 0, Mark::Barred)
+            && is_mark(&config, &drained, 1, Mark::Drained)
             && is_mark(&config, &state, 1, Mark::Idle)
             && is_mark(&config, &state, 2, Mark::Down),
     )

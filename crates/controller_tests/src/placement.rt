@@ -111,6 +111,37 @@ const VERDICTS: &[(&[Step], &[Step], Verdict, Verdict, u32)] = &[
         Verdict::Kept(C2),
         1,
     ),
+    // A drained node keeps nothing.
+    (
+        RUNNING,
+        &[
+            (0, 1, Kind::Claim(0, 1, How::Normal, None)),
+            (0, 1, Kind::Drain),
+        ],
+        Verdict::Move(C3),
+        Verdict::Kept(C2),
+        1,
+    ),
+    // It is passed over. Its claims are no load, also where nobody else can have the application.
+    (
+        RUNNING,
+        &[FIRST_DOWN, (1, 1, Kind::Drain)],
+        Verdict::Start(C3),
+        Verdict::Nobody,
+        0,
+    ),
+    // A drain is of one incarnation.
+    (
+        RUNNING,
+        &[
+            (0, 1, Kind::Drain),
+            (0, 2, Kind::Up),
+            (0, 2, Kind::Start(0)),
+        ],
+        Verdict::Start(C1),
+        Verdict::Kept(C2),
+        1,
+    ),
 ];
 
 /// Whether this is the verdict on an application of the configuration.

@@ -206,3 +206,68 @@ fn as_many_rounds_as_applications_may_be_needed(rt: HostRuntime) {
         );
     }
 }
+
+/// An application at c1@h, or else at c2@h or c3@h, and one at c2@h alone.
+const TWO: &[u8] = b"[{kernel,[{distributed,[{a,5000,[c1@h,{c2@h,c3@h}]},{b,[c2@h]}]}]}].";
+
+/// C2@h and c3@h are up and know the same. Both may run the first application, and c2@h the second; nobody claimed one.
+const UNCLAIMED: &[Case] = &[
+    (C2, BOOT),
+    (C3, BOOT),
+    (C2, START_AT_2),
+    (
+        C2,
+        What::Command(Command::Start {
+            app: AppId(1),
+            node: C2,
+        }),
+    ),
+    (C3, START_AT_3),
+    (C2, TO_3),
+    (C3, What::Deliver(1)),
+    (C3, TO_2),
+    (C2, What::Deliver(2)),
+];
+
+/// Both tick before they hear of each other's claims.
+const FIRST_ROUND: &[Case] = &[
+    (C2, TICK),
+    (C3, TICK),
+    (C2, TO_3),
+    (C3, TO_2),
+    (C3, What::Deliver(3)),
+    (C2, What::Deliver(4)),
+];
+
+const SECOND_ROUND: &[Case] = &[(C2, TICK), (C3, TICK)];
+
+/// Whether the node knows that c2@h keeps each application.
+fn knows_all_kept(config: &Config, node: &Node) -> bool {
+    match node.state() {
+        Some(state) => {
+            let mut apps = 0..config.apps();
+            apps.all(|app| verdict(config, state, AppId(app)) == Verdict::Kept(C2))
+        }
+        None => false,
+    }
+}
+
+/// Whether two rounds leave every application kept, where each event is accepted.
+fn are_kept(alloc: Global) -> Option<bool> {
+    let config = read_config(alloc, TWO).ok()?;
+    let mut events = Vec::new(alloc);
+    for part in [UNCLAIMED, FIRST_ROUND, SECOND_ROUND] {
+        push_all(&mut events, part)?;
+    }
+    let (world, answers) = World::run(alloc, &config, &events).ok()?;
+    let accepted = answers.iter().all(|answer| answer.is_ok());
+    let kept = config.nodes() > C3.0
+        && knows_all_kept(&config, world.node(C2))
+        && knows_all_kept(&config, world.node(C3));
+    Some(accepted && kept)
+}
+
+#[test]
+fn two_rounds_settle_two_applications(rt: HostRuntime) {
+    assert!(rt; are_kept(rt.alloc()) == Some(true));
+}

@@ -4,6 +4,7 @@ use crate::steps::dot;
 use dac_base::NodeId;
 use dac_config::{Config, read_config};
 use dac_core::{Body, Event, Message, Node, Refusal, Reply};
+use dac_wire::{Packet, decode, encode};
 use std::alloc::Global;
 
 /// A message of the first node to the second that brings nothing, and acknowledges so many deltas.
@@ -53,7 +54,7 @@ fn an_acknowledgement_of_more_deltas_than_there_are_is_passed_over(rt: HostRunti
 }
 
 /// Whether the second node refuses a message to this node and to this incarnation alone, as it is for another one.
-fn is_for_another(alloc: Global, last: u32, to: NodeId, only: Option<u32>) -> Option<bool> {
+fn is_for_another(alloc: Global, last: u64, to: NodeId, only: Option<u64>) -> Option<bool> {
     let config = read_config(alloc, ONE).ok()?;
     let mut node = Node::off(alloc, last);
     let _up = step(&config, &mut node, Event::Boot { now: 0 }).ok()?;
@@ -69,4 +70,33 @@ fn messages_for_others_are_refused(rt: HostRuntime) {
     assert!(rt; is_for_another(rt.alloc(), 0, FIRST, None) == Some(true));
     assert!(rt; is_for_another(rt.alloc(), 1, SECOND, Some(1)) == Some(true));
     assert!(rt; is_for_another(rt.alloc(), 1, SECOND, Some(2)) == Some(false));
+}
+
+/// The whole state that the second node ships once it boots after this last incarnation.
+fn shipped(alloc: Global, config: &Config, last: u64) -> Option<Message> {
+    let mut node = Node::off(alloc, last);
+    let _up = step(config, &mut node, Event::Boot { now: 0 }).ok()?;
+    match step(config, &mut node, Event::Ship { to: FIRST }).ok()? {
+        Reply::Shipped(message) => Some(message),
+        _ => None,
+    }
+}
+
+/// Whether that message is of this incarnation, and is read from its bytes again.
+fn is_read_again(alloc: Global, last: u64, inc: u64) -> Option<bool> {
+    let config = read_config(alloc, ONE).ok()?;
+    let message = shipped(alloc, &config, last)?;
+    let bytes = encode(alloc, &config, &Packet::Msg(message.copy().ok()?)).ok()?;
+    match decode(alloc, &config, &bytes).ok()? {
+        Packet::Msg(read) => Some(read.from.inc == inc && read.equal(&message)),
+        Packet::Single(_) => Some(false),
+    }
+}
+
+#[test]
+fn messages_of_late_incarnations_are_read(rt: HostRuntime) {
+    let past_four_bytes = is_read_again(rt.alloc(), 4_294_967_295, 4_294_967_296);
+    assert!(rt; past_four_bytes == Some(true));
+    let last = is_read_again(rt.alloc(), (1 << 62) - 1, 1 << 62);
+    assert!(rt; last == Some(true));
 }

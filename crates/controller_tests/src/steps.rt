@@ -14,22 +14,24 @@ pub enum Kind {
     /// It comes up.
     Up,
     /// It declares this incarnation of a node down.
-    Down(u8, u32),
+    Down(u8, u64),
     /// The application is to be started there.
     Start(u16),
     /// It is to be stopped there.
     Stop(u16),
     /// It isn't permitted there.
     Forbid(u16),
+    /// It is drained.
+    Drain,
     /// It claims the application at a term.
     Claim(u16, u64, How, Option<NodeId>),
 }
 
 /// A step at an incarnation of a node.
-pub type Step = (u8, u32, Kind);
+pub type Step = (u8, u64, Kind);
 
 /// A dot of an incarnation of a node.
-pub fn dot(node: u8, inc: u32, n: u64) -> Dot {
+pub fn dot(node: u8, inc: u64, n: u64) -> Dot {
     let node = NodeId(node);
     Dot {
         origin: Origin { node, inc },
@@ -50,7 +52,8 @@ fn counter_of(kind: Kind) -> u64 {
         Kind::Stop(app) => 20 + u64::from(app),
         Kind::Forbid(app) => 30 + u64::from(app),
         Kind::Claim(app, _, _, _) => 40 + u64::from(app),
-        Kind::Down(node, inc) => 50 + 4 * u64::from(node) + u64::from(inc),
+        Kind::Drain => 45,
+        Kind::Down(node, inc) => (50 + 4 * u64::from(node)).wrapping_add(inc),
     }
 }
 
@@ -65,7 +68,7 @@ fn over(alloc: Global, step: Step) -> Result<DotList, NoMemory> {
 }
 
 /// An application at an incarnation of a node.
-fn key(app: u16, node: u8, inc: u32) -> Key {
+fn key(app: u16, node: u8, inc: u64) -> Key {
     Key {
         app: AppId(app),
         node: NodeId(node),
@@ -93,6 +96,12 @@ fn act(step: Step, over: DotList) -> Act {
         Kind::Forbid(app) => Act::Permit {
             key: key(app, node, inc),
             value: false,
+            over,
+        },
+        Kind::Drain => Act::Drain {
+            node: NodeId(node),
+            inc,
+            value: true,
             over,
         },
         Kind::Claim(app, term, how, from) => Act::Claim {

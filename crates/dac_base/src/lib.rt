@@ -5,7 +5,7 @@
 //! the other.
 #![tactic(auto)]
 
-pub use limits::{MAX_APPS, MAX_COUNTER, MAX_NODES, MAX_REPLACED};
+pub use limits::{MAX_APPS, MAX_COUNTER, MAX_INCARNATION, MAX_NODES, MAX_REPLACED};
 use std::alloc::{AllocError, AllocFailed};
 
 mod limits;

@@ -13,6 +13,7 @@ use Rattle.dac_dots.specs.Dots.{Dots, dot_cmp, origin_cmp, origins_total, exact_
 use Rattle.dac_dots.specs.declared.dot.Origin.{Origin}
 use Rattle.dac_contexts.specs.laws.RowSets.{rises_to, is_dots_in, kept_are, dots_back}
 use Rattle.dac_contexts.specs.Rows.{Row, rows_of, dots_in, origins, rises_on, HasSome, EndBefore, CanFollow}
+use Rattle.dac_bytes.specs.declared.version.Version.{Version}
 use Rattle.dac_bytes.specs.declared.fault.ReadFaultKind.TheVariants.{BadOrder, BadNumber}
 use Rattle.dac_bytes.specs.Reading.{Rest, Field, Gives, ◌>>=◌, fault, rows_at, context_at, is_above, number_at, range_at, counter_at, origin_at, origin_above_at, items_at, further_at, further_count_at, row_at}
 use Rattle.dac_bytes.specs.declared.fault.ReadFault.{ReadFault}
@@ -44,10 +45,10 @@ count_some upto r count e none =
     let one : low ≡ 1 = ap (λ u. cond (nat_eq u 0) 1 0) none in
     subst (λ (n : ℕ × Rest). 1 ≤ n.0) t.1 (omega arith)
 
-origin_above : (nodes : ℕ) (before : Option Origin) (r : Rest) (origin : Origin × Rest) → origin_above_at nodes before r ≡ Ok origin → is_above origin_cmp before origin.0 ≡ true
+origin_above : (version : Version) (nodes : ℕ) (before : Option Origin) (r : Rest) (origin : Origin × Rest) → origin_above_at version nodes before r ≡ Ok origin → is_above origin_cmp before origin.0 ≡ true
 unfolding origin_above_at
-origin_above nodes before r origin e =
-    let a = bind_ok (origin_at nodes r) (λ origin. cond (is_above origin_cmp before origin.0) (Ok origin) (fault BadOrder r)) origin e in
+origin_above version nodes before r origin e =
+    let a = bind_ok (origin_at version nodes r) (λ origin. cond (is_above origin_cmp before origin.0) (Ok origin) (fault BadOrder r)) origin e in
     let t = wanted_ok (is_above origin_cmp before a.0.0) BadOrder r a.0 origin a.2 in
     subst (λ (o : Origin × Rest). is_above origin_cmp before o.0 ≡ true) t.1 t.0
 
@@ -57,18 +58,18 @@ pub record CanCome (before : Option Origin) (row : Row) : Type 0 where
   pub rises : rises_on (row.upto + 1) row.further ≡ true
   pub some : HasSome row
 
-pub row_comes : (nodes : ℕ) (before : Option Origin) (r : Rest) (x : Row × Rest) → row_at nodes before r ≡ Ok x → CanCome before x.0
+pub row_comes : (version : Version) (nodes : ℕ) (before : Option Origin) (r : Rest) (x : Row × Rest) → row_at version nodes before r ≡ Ok x → CanCome before x.0
 unfolding row_at
-row_comes nodes before r x e =
+row_comes version nodes before r x e =
     let made = λ (o : Origin) (v : ℕ) (ns : List ℕ). let row : Row = record { origin = o; upto = v; further = ns } in row in
-    let a = bind_ok (origin_above_at nodes before r) (λ origin. range_at w64 0 MAX_COUNTER origin.1 >>= λ upto. further_count_at upto.0 upto.1 >>= λ count. items_at further_at (λ n. n) count.0 (upto.0 + 1) count.1 >>= λ further. Ok (made origin.0 upto.0 further.0, further.1)) x e in
+    let a = bind_ok (origin_above_at version nodes before r) (λ origin. range_at w64 0 MAX_COUNTER origin.1 >>= λ upto. further_count_at upto.0 upto.1 >>= λ count. items_at further_at (λ n. n) count.0 (upto.0 + 1) count.1 >>= λ further. Ok (made origin.0 upto.0 further.0, further.1)) x e in
     let b = bind_ok (range_at w64 0 MAX_COUNTER a.0.1) (λ upto. further_count_at upto.0 upto.1 >>= λ count. items_at further_at (λ n. n) count.0 (upto.0 + 1) count.1 >>= λ further. Ok (made a.0.0 upto.0 further.0, further.1)) x a.2 in
     let c = bind_ok (further_count_at b.0.0 b.0.1) (λ count. items_at further_at (λ n. n) count.0 (b.0.0 + 1) count.1 >>= λ further. Ok (made a.0.0 b.0.0 further.0, further.1)) x b.2 in
     let d = bind_ok (items_at further_at (λ n. n) c.0.0 (b.0.0 + 1) c.0.1) (λ further. Ok (made a.0.0 b.0.0 further.0, further.1)) x c.2 in
     let rise = further_rise c.0.0 (b.0.0 + 1) c.0.1 d.0 d.1 in
     let count = count_some b.0.0 b.0.1 c.0 c.1 in
     let some : HasSome (made a.0.0 b.0.0 d.0.0) = elim (cases_lt 0 b.0.0) [ inl more ↦ inl more | inr none ↦ inr (let one = count (omega arith) in omega (arith, rise.1)) ] in
-    subst (λ (x : Row × Rest). CanCome before x.0) (ok_is (made a.0.0 b.0.0 d.0.0, d.0.1) x d.2) (record { above = origin_above nodes before r a.0 a.1; rises = rise.0; some = some })
+    subst (λ (x : Row × Rest). CanCome before x.0) (ok_is (made a.0.0 b.0.0 d.0.0, d.0.1) x d.2) (record { above = origin_above version nodes before r a.0 a.1; rises = rise.0; some = some })
 
 -- ---- the rows so far
 
@@ -107,17 +108,17 @@ front_none (Ok x) = refl
 front_none (Err e) = refl
 
 -- before any row
-pub starts : (nodes count : ℕ) (r : Rest) (dots : Dots) → dots ≡ set.empty → with_front (rows_of dots) (items_at (row_at nodes) (λ (row : Row). Some row.origin) (count - 0) None r) ≡ items_at (row_at nodes) (λ (row : Row). Some row.origin) count None r
-starts nodes count r dots is =
+pub starts : (version : Version) (nodes count : ℕ) (r : Rest) (dots : Dots) → dots ≡ set.empty → with_front (rows_of dots) (items_at (row_at version nodes) (λ (row : Row). Some row.origin) (count - 0) None r) ≡ items_at (row_at version nodes) (λ (row : Row). Some row.origin) count None r
+starts version nodes count r dots is =
     let none : rows_of dots ≡ [] = ap rows_of is ∙ no_rows in
     let all : count - 0 ≡ count = omega arith in
-    (λ i. with_front (none i) (items_at (row_at nodes) (λ (row : Row). Some row.origin) (all i) None r)) ∙ front_none (items_at (row_at nodes) (λ (row : Row). Some row.origin) count None r)
+    (λ i. with_front (none i) (items_at (row_at version nodes) (λ (row : Row). Some row.origin) (all i) None r)) ∙ front_none (items_at (row_at version nodes) (λ (row : Row). Some row.origin) count None r)
 
 -- one row more was read and pushed
 pub pushed : (before : Option Origin) (old new : Dots) (row : Row) (b : Bool) → IsLast before (rows_of old) → CanCome before row → (IsTrue b ↔ CanFollow (rows_of old) row) → rows_of new ≡ cond b (rows_of old ++ row ∷ []) (rows_of old) → rows_of new ≡ rows_of old ++ row ∷ []
 pushed before old new row b last can says is = is ∙ ap (λ b. cond b (rows_of old ++ row ∷ []) (rows_of old)) (says.1 (can_follow before (rows_of old) row last can))
 
-pub given_set : (nodes : ℕ) (r : Rest) (result : Result (Dots × Rest) ReadFault) → Gives (λ x. (rows_of x.0, x.1)) result (rows_at nodes r) → Gives (λ x. x) result (context_at nodes r)
+pub given_set : (version : Version) (nodes : ℕ) (r : Rest) (result : Result (Dots × Rest) ReadFault) → Gives (λ x. (rows_of x.0, x.1)) result (rows_at version nodes r) → Gives (λ x. x) result (context_at version nodes r)
 unfolding context_at
-given_set nodes r (Ok x) h = ap (λ f. f >>= λ rows. Ok (dots_in rows.0, rows.1)) h ∙ ap (λ (d : Dots). Ok (d, x.1)) (dots_back x.0)
-given_set nodes r (Err e) h = Fails-on e.kind e (rows_at nodes r) (context_at nodes r) h (λ is. ap (λ f. f >>= λ rows. Ok (dots_in rows.0, rows.1)) is)
+given_set version nodes r (Ok x) h = ap (λ f. f >>= λ rows. Ok (dots_in rows.0, rows.1)) h ∙ ap (λ (d : Dots). Ok (d, x.1)) (dots_back x.0)
+given_set version nodes r (Err e) h = Fails-on e.kind e (rows_at version nodes r) (context_at version nodes r) h (λ is. ap (λ f. f >>= λ rows. Ok (dots_in rows.0, rows.1)) is)

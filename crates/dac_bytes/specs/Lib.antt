@@ -7,3 +7,4 @@ pub mod Reading
 pub mod Spelling
 pub mod Takes
 pub mod laws
+pub mod Versions

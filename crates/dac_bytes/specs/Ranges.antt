@@ -6,21 +6,23 @@ use Rattle.dac_base.specs.declared.limits.TheConstants.{MAX_COUNTER}
 use Rattle.dac_dots.specs.Dots.{Dots}
 use Rattle.dac_dots.specs.declared.dot.Origin.{Origin}
 use Rattle.dac_dots.specs.declared.dot.Dot.{Dot}
+use Rattle.dac_bytes.specs.declared.version.Version.{Version}
+use Rattle.dac_bytes.specs.Versions.{highest_incarnation}
 use Rattle.dac_bytes.specs.Items.{Chain}
 use Rattle.dac_contexts.specs.Rows.{Row, rows_of}
 
--- an incarnation: from 1, and within its field
-abbrev pub IsIncarnation : ℕ → Type 0
-IsIncarnation n = (1 ≤ n) × (n < 2 ^ 32)
+-- an incarnation: from 1 to the greatest that the version has
+abbrev pub IsIncarnation : Version → ℕ → Type 0
+IsIncarnation version n = (1 ≤ n) × (n ≤ highest_incarnation version)
 
 -- a node that there is, and an incarnation
-pub record IsOrigin (nodes : ℕ) (o : Origin) : Type 0 where
+pub record IsOrigin (version : Version) (nodes : ℕ) (o : Origin) : Type 0 where
   pub node : o.node.0 < nodes
-  pub inc : IsIncarnation o.inc
+  pub inc : IsIncarnation version o.inc
 
 -- an origin's dot, with a counter that can be issued
-pub record IsDot (nodes : ℕ) (d : Dot) : Type 0 where
-  pub origin : IsOrigin nodes d.origin
+pub record IsDot (version : Version) (nodes : ℕ) (d : Dot) : Type 0 where
+  pub origin : IsOrigin version nodes d.origin
   pub first : 1 ≤ d.n
   pub last : d.n ≤ MAX_COUNTER
 
@@ -32,16 +34,16 @@ pub record IsFurther (low n : ℕ) : Type 0 where
 
 -- the dots of an origin as they can be written: 1 to upto, and further ones that don't continue these. There is one
 -- at least
-pub record IsRow (nodes : ℕ) (row : Row) : Type 0 where
-  pub origin : IsOrigin nodes row.origin
+pub record IsRow (version : Version) (nodes : ℕ) (row : Row) : Type 0 where
+  pub origin : IsOrigin version nodes row.origin
   pub upto : row.upto ≤ MAX_COUNTER
   pub further : Chain IsFurther (λ n. n) (row.upto + 1) row.further
   pub count : length row.further < 2 ^ 32
   pub some : row.upto ≡ 0 → 1 ≤ length row.further
 
 -- each dot is one that there can be
-abbrev pub InRange : ℕ → Dots → Type 0
-InRange nodes dots = (d : Dot) → set.contains dots d ≡ true → IsDot nodes d
+abbrev pub InRange : Version → ℕ → Dots → Type 0
+InRange version nodes dots = (d : Dot) → set.contains dots d ≡ true → IsDot version nodes d
 
 -- the counts fit the fields that they are written in
 pub record CountsFit (dots : Dots) : Type 0 where
@@ -49,5 +51,5 @@ pub record CountsFit (dots : Dots) : Type 0 where
   pub further : AllByRecursion (λ (row : Row). length row.further < 2 ^ 32) (rows_of dots)
 
 -- a context that can be read
-abbrev pub IsContext : ℕ → Dots → Type 0
-IsContext nodes dots = InRange nodes dots × CountsFit dots
+abbrev pub IsContext : Version → ℕ → Dots → Type 0
+IsContext version nodes dots = InRange version nodes dots × CountsFit dots

@@ -11,6 +11,8 @@ use Rattle.dac_dots.specs.Dots.{Dots, dot_cmp, origin_cmp}
 use Rattle.dac_bytes.specs.declared.fault.ReadFaultKind.{ReadFaultKind}
 use Rattle.dac_bytes.specs.declared.fault.ReadFaultKind.TheVariants.{Short, BadNumber, BadOrder, BadName, NoMemory}
 use Rattle.dac_bytes.specs.declared.fault.ReadFault.{ReadFault}
+use Rattle.dac_bytes.specs.declared.version.Version.{Version}
+use Rattle.dac_bytes.specs.Versions.{incarnation_width, highest_incarnation}
 use Rattle.dac_contexts.specs.Rows.{Row, dots_in}
 
 -- the rest of a text of bytes, and the place of its first byte in that text
@@ -82,25 +84,29 @@ node_at nodes r = do
   n ← number_at w8 r
   if nat_lt n.0 nodes then Ok (record { 0 = n.0 }, n.1) else fault BadName r
 
--- an incarnation, from 1
-abbrev pub incarnation_at : Rest → Field ℕ
-incarnation_at r = range_at w32 1 (2 ^ 32 - 1) r
+-- an incarnation, from 1 to the greatest that the version has
+abbrev pub incarnation_at : Version → Rest → Field ℕ
+incarnation_at version r = range_at (incarnation_width version) 1 (highest_incarnation version) r
+
+-- an incarnation, or 0
+abbrev pub incarnation_or_zero_at : Version → Rest → Field ℕ
+incarnation_or_zero_at version r = range_at (incarnation_width version) 0 (highest_incarnation version) r
 
 -- a counter of a dot, 1 to 2^62
 abbrev pub counter_at : Rest → Field ℕ
 counter_at r = range_at w64 1 MAX_COUNTER r
 
 -- node and incarnation
-unfoldable pub origin_at : ℕ → Rest → Field Origin
-origin_at nodes r = do
+unfoldable pub origin_at : Version → ℕ → Rest → Field Origin
+origin_at version nodes r = do
   node ← node_at nodes r
-  inc ← incarnation_at node.1
+  inc ← incarnation_at version node.1
   Ok (record { node = node.0; inc = inc.0 }, inc.1)
 
 -- origin and counter
-unfoldable pub dot_at : ℕ → Rest → Field Dot
-dot_at nodes r = do
-  origin ← origin_at nodes r
+unfoldable pub dot_at : Version → ℕ → Rest → Field Dot
+dot_at version nodes r = do
+  origin ← origin_at version nodes r
   n ← counter_at origin.1
   Ok (record { origin = origin.0; n = n.0 }, n.1)
 
@@ -112,15 +118,15 @@ is_above R None k = true
 is_above R (Some before) k = is_lt (R before k)
 
 -- an origin above the one before it
-unfoldable pub origin_above_at : ℕ → Option Origin → Rest → Field Origin
-origin_above_at nodes before r = do
-  origin ← origin_at nodes r
+unfoldable pub origin_above_at : Version → ℕ → Option Origin → Rest → Field Origin
+origin_above_at version nodes before r = do
+  origin ← origin_at version nodes r
   if is_above origin_cmp before origin.0 then Ok origin else fault BadOrder r
 
 -- a dot above the one before it
-unfoldable pub dot_above_at : ℕ → Option Dot → Rest → Field Dot
-dot_above_at nodes before r = do
-  d ← dot_at nodes r
+unfoldable pub dot_above_at : Version → ℕ → Option Dot → Rest → Field Dot
+dot_above_at version nodes before r = do
+  d ← dot_at version nodes r
   if is_above dot_cmp before d.0 then Ok d else fault BadOrder r
 
 -- so many items, one after the other; of the item before it each needs to know what next says
@@ -151,22 +157,22 @@ abbrev pub further_count_at : ℕ → Rest → Field ℕ
 further_count_at upto r = range_at w32 (if upto == 0 then 1 else 0) (2 ^ 32 - 1) r
 
 -- the dots of an origin above the one before it; their further counters don't continue 1 to upto
-unfoldable pub row_at : ℕ → Option Origin → Rest → Field Row
-row_at nodes before r = do
-  origin ← origin_above_at nodes before r
+unfoldable pub row_at : Version → ℕ → Option Origin → Rest → Field Row
+row_at version nodes before r = do
+  origin ← origin_above_at version nodes before r
   upto ← range_at w64 0 MAX_COUNTER origin.1
   count ← further_count_at upto.0 upto.1
   further ← items_at further_at (λ n. n) count.0 (upto.0 + 1) count.1
   Ok (record { origin = origin.0; upto = upto.0; further = further.0 }, further.1)
 
 -- the number of origins that have dots, and the dots of each
-unfoldable pub rows_at : ℕ → Rest → Field (List Row)
-rows_at nodes r = do
+unfoldable pub rows_at : Version → ℕ → Rest → Field (List Row)
+rows_at version nodes r = do
   count ← number_at w16 r
-  items_at (row_at nodes) (λ (row : Row). Some row.origin) count.0 None count.1
+  items_at (row_at version nodes) (λ (row : Row). Some row.origin) count.0 None count.1
 
 -- a set of dots, by its rows
-unfoldable pub context_at : ℕ → Rest → Field Dots
-context_at nodes r = do
-  rows ← rows_at nodes r
+unfoldable pub context_at : Version → ℕ → Rest → Field Dots
+context_at version nodes r = do
+  rows ← rows_at version nodes r
   Ok (dots_in rows.0, rows.1)

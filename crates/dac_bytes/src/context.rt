@@ -5,6 +5,7 @@ ghost use Rattle.dac_bytes.specs.Spelling.{context_bytes, row_bytes};
 ghost use Rattle.dac_bytes.specs.Numbers.{u64_bytes};
 ghost use Rattle.std.specs.List.{flat_map};
 
+use crate::version::Version;
 use crate::writer::ByteWriter;
 use dac_base::NoMemory;
 use dac_contexts::{Context, Further};
@@ -23,15 +24,16 @@ fn write_numbers(mut writer: ByteWriter, numbers: &[u64]) -> Result<ByteWriter, 
 #[tactic(auto, unfolding(crate::specs::Spelling::row_bytes))]
 fn write_row(
     writer: ByteWriter,
+    version: Version,
     origin: Origin,
     upto: u64,
     further: Further<'_>,
 ) -> Result<ByteWriter, NoMemory>
-    ensures { IfOk result (λ written. written ≡ writer ++ row_bytes (record { origin = origin; upto = upto; further = further.entry })) }
+    ensures { IfOk result (λ written. written ≡ writer ++ row_bytes version (record { origin = origin; upto = upto; further = further.entry })) }
 {
     let further = further.list(writer.allocator())?;
     let head = writer
-        .write_origin(origin)?
+        .write_origin(version, origin)?
         .write_u64(upto)?
         .write_count_u32(further.len())?;
     let written = write_numbers(head, &further)?;
@@ -41,15 +43,16 @@ fn write_row(
 /// The rows of a context, of which there are so many.
 fn write_rows(
     mut writer: ByteWriter,
+    version: Version,
     context: &Context,
     rows: usize,
 ) -> Result<ByteWriter, NoMemory>
     requires { rows ≡ length (rows_of context.now) }
-    ensures { IfOk result (λ written. written ≡ writer ++ flat_map row_bytes (rows_of context.now)) }
+    ensures { IfOk result (λ written. written ≡ writer ++ flat_map (row_bytes version) (rows_of context.now)) }
 {
     for i in 0..rows {
         if let Some((origin, upto, further)) = context.row(i) {
-            writer = write_row(writer, origin, upto, further)?;
+            writer = write_row(writer, version, origin, upto, further)?;
         }
     }
     Ok(writer)
@@ -60,13 +63,13 @@ impl ByteWriter {
     /// counters go 1, 2, 3, .. without a gap, and the further ones in rising order. So each set of dots is written in
     /// one way.
     #[tactic(auto, unfolding(crate::specs::Spelling::context_bytes))]
-    pub fn write_context(self, context: &Context) -> Result<Self, NoMemory>
-        ensures ok { IfOk result (λ written. written ≡ self ++ context_bytes context.now) }
+    pub fn write_context(self, version: Version, context: &Context) -> Result<Self, NoMemory>
+        ensures ok { IfOk result (λ written. written ≡ self ++ context_bytes version context.now) }
         ensures rows { OnOk result (AreRowsOf context.now (rows_of context.now)) }
     {
         let rows = context.rows();
         let counted = self.write_count_u16(rows)?;
-        let written = write_rows(counted, context, rows)?;
+        let written = write_rows(counted, version, context, rows)?;
         Ok(written)
     }
 }

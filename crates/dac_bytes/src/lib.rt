@@ -1,9 +1,10 @@
 //! Numbers, origins, dots and causal contexts as bytes, written and read.
 //!
-//! All numbers are big-endian. An origin is five bytes, a dot thirteen. A context is a version vector with the dots
-//! beyond it. By origin it says how far the counters go 1, 2, 3, .. without a gap, and the further ones. Each call of
-//! [`ByteWriter`] appends exactly the bytes that this crate's `specs/` give the value, so a value has one spelling.
-//! Of a context it is proved that its rows tell which dots it has.
+//! All numbers are big-endian. An origin is five bytes, a dot thirteen; in [`Version::Two`] they are nine and
+//! seventeen. A context is a version vector with the dots beyond it. By origin it says how far the counters go 1,
+//! 2, 3, .. without a gap, and the further ones. Each call of [`ByteWriter`] appends exactly the bytes that this
+//! crate's `specs/` give the value, so a value has one spelling. Of a context it is proved that its rows tell which
+//! dots it has.
 //!
 //! Each call of [`ByteReader`] gives exactly the value that its bytes spell, or the first fault from left to right.
 //! The fault and the place of its byte are as the reading functions of `specs/` have them. The contract of
@@ -20,8 +21,10 @@ mod fault;
 pub mod laws;
 mod reader;
 mod rows;
+mod version;
 mod writer;
 
 pub use fault::{ReadFault, ReadFaultKind};
 pub use reader::ByteReader;
+pub use version::Version;
 pub use writer::ByteWriter;

@@ -1,10 +1,12 @@
 //! Bytes that are being read: numbers, nodes, origins and dots.
 ghost use Rattle.std.specs.Prelude.{◌≡◌, ◌↔◌, ◌≤◌, IfOk, IsTrue, [], length};
 ghost use Rattle.std.specs.Int.{w8, w16, w32, w64};
-ghost use Rattle.dac_bytes.specs.Reading.{IsOfBytes, Reads, after, taken, number_at, range_at, node_at, incarnation_at, counter_at, origin_at, dot_at, origin_above_at, dot_above_at, whole};
+ghost use Rattle.dac_bytes.specs.Versions.{highest_incarnation, incarnation_width};
+ghost use Rattle.dac_bytes.specs.Reading.{IsOfBytes, Reads, after, taken, number_at, range_at, node_at, incarnation_at, incarnation_or_zero_at, counter_at, origin_at, dot_at, origin_above_at, dot_above_at, whole};
 
 use crate::fault::{ReadFault, ReadFaultKind};
-use dac_base::{MAX_COUNTER, NodeId};
+use crate::version::Version;
+use dac_base::{MAX_COUNTER, MAX_INCARNATION, NodeId};
 use dac_dots::{Dot, Origin};
 use std::marker::Model;
 
@@ -176,12 +178,47 @@ impl<'a> ByteReader<'a> {
         }
     }
 
-    /// An incarnation in four bytes. 0 is `BadNumber` at its first byte.
-    pub fn read_incarnation(self) -> Result<(u32, ByteReader<'a>), ReadFault>
-        ensures exact { result ≡ incarnation_at self.entry }
+    /// An incarnation from a least one on, in four or in eight bytes.
+    fn read_incarnation_from(
+        self,
+        version: Version,
+        least: u8,
+    ) -> Result<(u64, ByteReader<'a>), ReadFault>
+        ensures exact { result ≡ range_at (incarnation_width version) least (highest_incarnation version) self.entry }
         ensures real { IsOfBytes result }
     {
-        let read = self.read_u32_in(1, u32::MAX)?;
+        match version {
+            Version::One => {
+                let (inc, rest) = self.read_u32_in(u32::from(least), u32::MAX)?;
+                Ok((u64::from(inc), rest))
+            }
+            Version::Two => {
+                let read = self.read_u64_in(u64::from(least), MAX_INCARNATION)?;
+                Ok(read)
+            }
+        }
+    }
+
+    /// An incarnation, in four or in eight bytes. 0, and one above the greatest, is `BadNumber` at its
+    /// first byte.
+    pub fn read_incarnation(self, version: Version) -> Result<(u64, ByteReader<'a>), ReadFault>
+        ensures exact { result ≡ incarnation_at version self.entry }
+        ensures real { IsOfBytes result }
+    {
+        let read = self.read_incarnation_from(version, 1)?;
+        Ok(read)
+    }
+
+    /// An incarnation, or 0, in four or in eight bytes. One above the greatest is `BadNumber` at its first
+    /// byte.
+    pub fn read_incarnation_or_zero(
+        self,
+        version: Version,
+    ) -> Result<(u64, ByteReader<'a>), ReadFault>
+        ensures exact { result ≡ incarnation_or_zero_at version self.entry }
+        ensures real { IsOfBytes result }
+    {
+        let read = self.read_incarnation_from(version, 0)?;
         Ok(read)
     }
 
@@ -194,24 +231,28 @@ impl<'a> ByteReader<'a> {
         Ok(read)
     }
 
-    /// Who issued an operation: the node in one byte and its incarnation in four.
+    /// Who issued an operation: the node in one byte and its incarnation.
     #[tactic(auto, unfolding(crate::specs::Reading::origin_at))]
-    pub fn read_origin(self, nodes: u8) -> Result<(Origin, ByteReader<'a>), ReadFault>
-        ensures exact { result ≡ origin_at nodes self.entry }
+    pub fn read_origin(
+        self,
+        version: Version,
+        nodes: u8,
+    ) -> Result<(Origin, ByteReader<'a>), ReadFault>
+        ensures exact { result ≡ origin_at version nodes self.entry }
         ensures real { IsOfBytes result }
     {
         let (node, rest) = self.read_node(nodes)?;
-        let (inc, rest) = rest.read_incarnation()?;
+        let (inc, rest) = rest.read_incarnation(version)?;
         Ok((Origin { node, inc }, rest))
     }
 
-    /// The name of an operation: its origin in five bytes and its counter in eight.
+    /// The name of an operation: its origin and its counter in eight.
     #[tactic(auto, unfolding(crate::specs::Reading::dot_at))]
-    pub fn read_dot(self, nodes: u8) -> Result<(Dot, ByteReader<'a>), ReadFault>
-        ensures exact { result ≡ dot_at nodes self.entry }
+    pub fn read_dot(self, version: Version, nodes: u8) -> Result<(Dot, ByteReader<'a>), ReadFault>
+        ensures exact { result ≡ dot_at version nodes self.entry }
         ensures real { IsOfBytes result }
     {
-        let (origin, rest) = self.read_origin(nodes)?;
+        let (origin, rest) = self.read_origin(version, nodes)?;
         let (n, rest) = rest.read_counter()?;
         Ok((Dot { origin, n }, rest))
     }
@@ -221,14 +262,15 @@ impl<'a> ByteReader<'a> {
     #[tactic(auto, unfolding(crate::specs::Reading::origin_above_at))]
     pub fn read_origin_above(
         self,
+        version: Version,
         nodes: u8,
         before: Option<Origin>,
     ) -> Result<(Origin, ByteReader<'a>), ReadFault>
-        ensures exact { result ≡ origin_above_at nodes before self.entry }
+        ensures exact { result ≡ origin_above_at version nodes before self.entry }
         ensures real { IsOfBytes result }
     {
         let at = self.at();
-        let (origin, rest) = self.read_origin(nodes)?;
+        let (origin, rest) = self.read_origin(version, nodes)?;
         if before.is_none_or(|before| before < origin) {
             Ok((origin, rest))
         } else {
@@ -240,14 +282,15 @@ impl<'a> ByteReader<'a> {
     #[tactic(auto, unfolding(crate::specs::Reading::dot_above_at))]
     pub fn read_dot_above(
         self,
+        version: Version,
         nodes: u8,
         before: Option<Dot>,
     ) -> Result<(Dot, ByteReader<'a>), ReadFault>
-        ensures exact { result ≡ dot_above_at nodes before self.entry }
+        ensures exact { result ≡ dot_above_at version nodes before self.entry }
         ensures real { IsOfBytes result }
     {
         let at = self.at();
-        let (dot, rest) = self.read_dot(nodes)?;
+        let (dot, rest) = self.read_dot(version, nodes)?;
         if before.is_none_or(|before| before < dot) {
             Ok((dot, rest))
         } else {

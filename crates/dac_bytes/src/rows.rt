@@ -9,6 +9,7 @@ ghost use Rattle.dac_bytes.specs.Takes.{IsBytes, Takes};
 
 use crate::fault::{ReadFault, ReadFaultKind};
 use crate::reader::ByteReader;
+use crate::version::Version;
 use dac_base::{MAX_COUNTER, NoMemory};
 use dac_contexts::Context;
 use dac_dots::Origin;
@@ -62,12 +63,13 @@ fn read_counters<'a>(
 fn read_row<'a>(
     reader: ByteReader<'a>,
     alloc: Global,
+    version: Version,
     nodes: u8,
     before: Option<Origin>,
 ) -> Result<(ReadRow, ByteReader<'a>), ReadFault>
-    ensures { Gives (λ x. (record { origin = x.0.origin; upto = x.0.upto; further = x.0.further.items }, x.1)) result (row_at nodes before reader.entry) }
+    ensures { Gives (λ x. (record { origin = x.0.origin; upto = x.0.upto; further = x.0.further.items }, x.1)) result (row_at version nodes before reader.entry) }
 {
-    let (origin, rest) = reader.read_origin_above(nodes, before)?;
+    let (origin, rest) = reader.read_origin_above(version, nodes, before)?;
     let (upto, rest) = rest.read_u64_in(0, MAX_COUNTER)?;
     let least = if upto == 0 { 1 } else { 0 };
     let (count, rest) = rest.read_u32_in(least, u32::MAX)?;
@@ -84,16 +86,17 @@ fn read_row<'a>(
 fn read_counted_rows<'a>(
     reader: ByteReader<'a>,
     alloc: Global,
+    version: Version,
     nodes: u8,
     count: u16,
 ) -> Result<(Context, ByteReader<'a>), ReadFault>
-    ensures { Gives (λ x. (rows_of x.0, x.1)) result (items_at (row_at nodes) (λ row. Some row.origin) count None reader.entry) }
+    ensures { Gives (λ x. (rows_of x.0, x.1)) result (items_at (row_at version nodes) (λ row. Some row.origin) count None reader.entry) }
 {
     let mut context = Context::empty(alloc);
     let mut before = None;
     let mut rest = reader;
     for _ in 0..count {
-        let (row, after) = read_row(rest, alloc, nodes, before)?;
+        let (row, after) = read_row(rest, alloc, version, nodes, before)?;
         before = Some(row.origin);
         let _pushed = context.push_row(row.origin, row.upto, &row.further)?;
         rest = after;
@@ -106,12 +109,13 @@ fn read_counted_rows<'a>(
 fn read_rows<'a>(
     reader: ByteReader<'a>,
     alloc: Global,
+    version: Version,
     nodes: u8,
 ) -> Result<(Context, ByteReader<'a>), ReadFault>
-    ensures { Gives (λ x. (rows_of x.0, x.1)) result (rows_at nodes reader.entry) }
+    ensures { Gives (λ x. (rows_of x.0, x.1)) result (rows_at version nodes reader.entry) }
 {
     let (count, rest) = reader.read_u16()?;
-    let rows = read_counted_rows(rest, alloc, nodes, count)?;
+    let rows = read_counted_rows(rest, alloc, version, nodes, count)?;
     Ok(rows)
 }
 
@@ -119,11 +123,12 @@ fn read_rows<'a>(
 fn read_set<'a>(
     reader: ByteReader<'a>,
     alloc: Global,
+    version: Version,
     nodes: u8,
 ) -> Result<(Context, ByteReader<'a>), ReadFault>
-    ensures { Gives (λ x. x) result (context_at nodes reader.entry) }
+    ensures { Gives (λ x. x) result (context_at version nodes reader.entry) }
 {
-    read_rows(reader, alloc, nodes)
+    read_rows(reader, alloc, version, nodes)
 }
 
 impl<'a> ByteReader<'a> {
@@ -136,16 +141,17 @@ impl<'a> ByteReader<'a> {
     pub fn read_context(
         self,
         alloc: Global,
+        version: Version,
         nodes: u8,
     ) -> Result<(Context, ByteReader<'a>), ReadFault>
         // Which context or fault it is, unless memory runs out.
-        ensures exact { Gives (λ x. x) result (context_at nodes self.entry) }
+        ensures exact { Gives (λ x. x) result (context_at version nodes self.entry) }
         // What is read of bytes is spelled so, and its dots and counts are in range.
-        ensures found { IsBytes self.entry.bytes → IfOk result (λ x. Takes self.entry (context_bytes x.0) x.1 × IsContext nodes x.0) }
+        ensures found { IsBytes self.entry.bytes → IfOk result (λ x. Takes self.entry (context_bytes version x.0) x.1 × IsContext version nodes x.0) }
         // What is spelled so is read, unless memory runs out.
-        ensures again { (dots : Dots) (rest : List ℕ) → IsContext nodes dots → self.entry.bytes ≡ context_bytes dots ++ rest
-            → Gives (λ x. x) result (Ok (dots, record { at = self.entry.at + length (context_bytes dots); bytes = rest })) }
+        ensures again { (dots : Dots) (rest : List ℕ) → IsContext version nodes dots → self.entry.bytes ≡ context_bytes version dots ++ rest
+            → Gives (λ x. x) result (Ok (dots, record { at = self.entry.at + length (context_bytes version dots); bytes = rest })) }
     {
-        read_set(self, alloc, nodes)
+        read_set(self, alloc, version, nodes)
     }
 }

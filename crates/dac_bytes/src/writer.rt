@@ -3,6 +3,7 @@ ghost use Rattle.std.specs.Prelude.{◌≡◌, [], ◌∷◌, ◌++◌, IfOk};
 ghost use Rattle.dac_bytes.specs.Numbers.{u8_bytes, u16_bytes, u32_bytes, u64_bytes};
 ghost use Rattle.dac_bytes.specs.Spelling.{dot_bytes, incarnation_bytes, origin_bytes};
 
+use crate::version::Version;
 use dac_base::NoMemory;
 use dac_dots::{Dot, Origin};
 use std::alloc::Global;
@@ -119,30 +120,40 @@ impl ByteWriter {
         Ok(written)
     }
 
-    /// An incarnation in four bytes.
-    #[tactic(auto, unfolding(crate::specs::Spelling::incarnation_bytes))]
-    pub fn write_incarnation(self, inc: u32) -> Result<Self, NoMemory>
-        ensures { IfOk result (λ written. written ≡ self ++ incarnation_bytes inc) }
+    /// An incarnation: its lowest 32 bits in four bytes, or all of it in eight.
+    #[tactic(auto, unfolding(crate::specs::Spelling::incarnation_bytes, crate::specs::Numbers::u32_bytes, crate::specs::Numbers::u64_bytes))]
+    pub fn write_incarnation(self, version: Version, inc: u64) -> Result<Self, NoMemory>
+        ensures { IfOk result (λ written. written ≡ self ++ incarnation_bytes version inc) }
     {
-        let written = self.write_u32(inc)?;
-        Ok(written)
+        match version {
+            Version::One => {
+                let written = self.write_bytes(&inc.to_be_bytes()[4..])?;
+                Ok(written)
+            }
+            Version::Two => {
+                let written = self.write_u64(inc)?;
+                Ok(written)
+            }
+        }
     }
 
-    /// Who issued an operation: the node in one byte and its incarnation in four.
+    /// Who issued an operation: the node in one byte and its incarnation.
     #[tactic(auto, unfolding(crate::specs::Spelling::origin_bytes))]
-    pub fn write_origin(self, origin: Origin) -> Result<Self, NoMemory>
-        ensures { IfOk result (λ written. written ≡ self ++ origin_bytes origin) }
+    pub fn write_origin(self, version: Version, origin: Origin) -> Result<Self, NoMemory>
+        ensures { IfOk result (λ written. written ≡ self ++ origin_bytes version origin) }
     {
-        let written = self.write_u8(origin.node.0)?.write_incarnation(origin.inc)?;
+        let written = self
+            .write_u8(origin.node.0)?
+            .write_incarnation(version, origin.inc)?;
         Ok(written)
     }
 
-    /// The name of an operation: its origin in five bytes and its counter in eight.
+    /// The name of an operation: its origin and its counter in eight bytes.
     #[tactic(auto, unfolding(crate::specs::Spelling::dot_bytes))]
-    pub fn write_dot(self, dot: Dot) -> Result<Self, NoMemory>
-        ensures { IfOk result (λ written. written ≡ self ++ dot_bytes dot) }
+    pub fn write_dot(self, version: Version, dot: Dot) -> Result<Self, NoMemory>
+        ensures { IfOk result (λ written. written ≡ self ++ dot_bytes version dot) }
     {
-        let written = self.write_origin(dot.origin)?.write_u64(dot.n)?;
+        let written = self.write_origin(version, dot.origin)?.write_u64(dot.n)?;
         Ok(written)
     }
 }

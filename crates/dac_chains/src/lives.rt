@@ -16,7 +16,7 @@ use std::marker::Model;
 #[derive(Clone, Copy, Debug, PartialEq, Eq, PartialOrd, Ord, Hash)]
 pub struct Life {
     /// Which of its incarnations.
-    pub inc: u32,
+    pub inc: u64,
     /// Whether that one is up.
     pub flag: Flag,
 }
@@ -39,7 +39,7 @@ pub enum LifeAct {
         /// The node.
         node: NodeId,
         /// Which of its incarnations.
-        inc: u32,
+        inc: u64,
     },
     /// Nothing.
     Other,
@@ -93,7 +93,7 @@ impl Lives {
     }
 
     /// The incarnation of a node that is live: the one of its life, if it is up.
-    pub fn live(&self, node: NodeId) -> Option<u32>
+    pub fn live(&self, node: NodeId) -> Option<u64>
         ensures value { result ≡ live_at self.now node }
         ensures exact { (i : ℕ) → (result ≡ Some i) ↔ IsLive self.now node i }
     {

@@ -15,21 +15,22 @@ use Rattle.dac_dots.specs.InOrder.{in_order-rising, has_key-in_order}
 use Rattle.dac_chains.specs.declared.claims.How.{How}
 use Rattle.dac_chains.specs.declared.claims.How.TheVariants.{Takeover as TakenOver}
 use Rattle.dac_wishes.specs.declared.key.Key.{Key}
+use Rattle.dac_wishes.specs.KeyedWrites.{keyed_write}
 use Rattle.dac_wishes.specs.Writes.{write, dots_at, contains-dots_at}
 use Rattle.dac_operations.specs.declared.act.Act.{Act}
-use Rattle.dac_operations.specs.declared.act.Act.TheVariants.{Down as Downs, Permit as Permits, Start as Starts, Stop as Stops, Claim as Claims}
+use Rattle.dac_operations.specs.declared.act.Act.TheVariants.{Down as Downs, Permit as Permits, Start as Starts, Stop as Stops, Drain as Drains, Claim as Claims}
 use Rattle.dac_operations.specs.declared.op.OpFault.TheVariants.{OwnDot, BadOver, BadCounter, OnSelf as AboutItself}
 use Rattle.dac_operations.specs.Operations.{fault_of, replaces_itself, has_bad_over, has_bad_counter, is_on_self, over_list}
 use Rattle.dac_placement.specs.StateValue.{StateValue, IsState}
 use Rattle.dac_config.specs.Table.{Table, app_count}
 use Rattle.dac_placement.specs.Placement.{runner_of}
 use Rattle.dac_events.specs.declared.Command.{Command}
-use Rattle.dac_events.specs.declared.Command.TheVariants.{Down, Permit, Start, Stop, Takeover}
-use Rattle.dac_commands.specs.Commands.{KnowsItself, standing_starts, standing_permits, greatest_counter, next_term, claim_act, next_operation, live_or_none, live_key, act_of}
+use Rattle.dac_events.specs.declared.Command.TheVariants.{Down, Permit, Start, Stop, Drain, Takeover}
+use Rattle.dac_commands.specs.Commands.{KnowsItself, standing_starts, standing_permits, standing_drains, greatest_counter, next_term, claim_act, next_operation, live_or_none, live_key, live_origin, act_of}
 use Rattle.dac_commands.specs.Causes.{refusal_of_command, too_many, terms_used_up, used_up}
 use Rattle.dac_commands.specs.laws.Written.{none_is, all_causes}
 use Rattle.dac_commands.specs.laws.Counters.{counter-greatest, next_none, next-is}
-use Rattle.dac_commands.specs.laws.Standing.{permits_at-rising, permits_at-has}
+use Rattle.dac_commands.specs.laws.Standing.{permits_at-rising, permits_at-has, drains_at-rising, drains_at-has}
 
 -- ---- causes that don't hold
 -- an operation may be issued that replaces these dots
@@ -61,6 +62,11 @@ may_stop : (t : Table) (own : Origin) (s : StateValue) (app : AppId) (node : Nod
 may_stop t own s app node e =
     let none = none_is (all_causes t own s (Stop app node)) e in
     record { few = none.1.1.1.1.1.1.0; left = none.1.1.1.1.1.1.1.0 }
+
+may_drain : (t : Table) (own : Origin) (s : StateValue) (node : NodeId) (value : Bool) → refusal_of_command t own s (Drain node value) ≡ None → MayIssue own s (standing_drains s (live_origin s node))
+may_drain t own s node value e =
+    let none = none_is (all_causes t own s (Drain node value)) e in
+    record { few = none.1.1.1.0; left = none.1.1.1.1.0 }
 
 -- the application of an accepted takeover is in the configuration, and a term and a counter are left
 pub record MayTake (t : Table) (own : Origin) (s : StateValue) (app : AppId) : Type 0 where
@@ -122,6 +128,9 @@ starts_apart own s key is = false_from_ne_true _ (λ t.
 permits_apart : (own : Origin) (s : StateValue) (key : Key) → IsState s → has_key dot_cmp (standing_permits s key) (next_of own s) ≡ false
 permits_apart own s key is = false_from_ne_true _ (λ t. next_unknown own s (is.permits (write key (next_of own s)) (sym (permits_at-has key s.permits (next_of own s)) ∙ t)))
 
+drains_apart : (own : Origin) (s : StateValue) (at : Origin) → IsState s → has_key dot_cmp (standing_drains s at) (next_of own s) ≡ false
+drains_apart own s at is = false_from_ne_true _ (λ t. next_unknown own s (is.drains (keyed_write at (next_of own s)) (sym (drains_at-has at s.drains (next_of own s)) ∙ t)))
+
 starts_rising : (s : StateValue) (key : Key) → IsRising dot_cmp (standing_starts s key)
 starts_rising s key = in_order-rising dots_total exact_dots (dots_at key s.starts)
 
@@ -150,5 +159,9 @@ issues t own s (Stop app node) is knows e =
     let key = live_key s app node in
     let may = may_stop t own s app node e in
     record { left = may.left; sound = fault_none (next_of own s) (Stops key (standing_starts s key)) (starts_apart own s key is) (good_over own s _ (starts_rising s key) may) (next_later own s knows) refl }
+issues t own s (Drain node value) is knows e =
+    let at = live_origin s node in
+    let may = may_drain t own s node value e in
+    record { left = may.left; sound = fault_none (next_of own s) (Drains node (live_or_none s node) value (standing_drains s at)) (drains_apart own s at is) (good_over own s _ (drains_at-rising at s.drains) may) (next_later own s knows) refl }
 issues t own s (Takeover app) is knows e =
     record { left = (may_take t own s app e).left; sound = claims_soundly own s app TakenOver (runner_of t s app) knows }

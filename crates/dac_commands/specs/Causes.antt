@@ -11,10 +11,10 @@ use Rattle.dac_placement.specs.StateValue.{StateValue, wishes_of}
 use Rattle.dac_config.specs.Table.{Table, node_count, app_count, group_of}
 use Rattle.dac_placement.specs.Placement.{is_up, is_eligible, is_earlier, runs_at, runner_of}
 use Rattle.dac_events.specs.declared.Command.{Command}
-use Rattle.dac_events.specs.declared.Command.TheVariants.{Down, Permit, Start, Stop, Takeover}
+use Rattle.dac_events.specs.declared.Command.TheVariants.{Down, Permit, Start, Stop, Drain, Takeover}
 use Rattle.dac_commands.specs.declared.refusal.Refusal.{Refusal}
 use Rattle.dac_commands.specs.declared.refusal.Refusal.TheVariants.{DeclaredDown, UnknownApp, UnknownNode, OnSelf, NotInList, NotLive, NotStarted, NotEligible, NotRunning, AlreadyHolder, LowerPriority, TooManyDots, TermsUsedUp, DotsUsedUp}
-use Rattle.dac_commands.specs.Commands.{live, live_key, standing_starts, standing_permits, greatest_counter, next_term}
+use Rattle.dac_commands.specs.Commands.{live, live_key, live_origin, standing_starts, standing_permits, standing_drains, greatest_counter, next_term}
 
 -- the first of these causes that holds
 abbrev pub first : List (Bool × Refusal) → Option Refusal
@@ -69,6 +69,10 @@ causes_to_issue own s count = (too_many count, TooManyDots) ∷ (used_up s own, 
 abbrev pub causes_to_permit : Table → Origin → StateValue → AppId → NodeId → List (Bool × Refusal)
 causes_to_permit t own s app node = causes_to_name t s app node ++ causes_to_issue own s (length (standing_permits s (live_key s app node)))
 
+-- why nothing is said of whether a node is drained
+abbrev pub causes_to_drain : Table → Origin → StateValue → NodeId → List (Bool × Refusal)
+causes_to_drain t own s node = (no_node t node, UnknownNode) ∷ (not_live s node, NotLive) ∷ causes_to_issue own s (length (standing_drains s (live_origin s node)))
+
 -- why no claim is issued
 abbrev pub causes_to_claim : Origin → StateValue → AppId → List (Bool × Refusal)
 causes_to_claim own s app = (terms_used_up s app, TermsUsedUp) ∷ (used_up s own, DotsUsedUp) ∷ []
@@ -87,6 +91,7 @@ causes_of t own s (Start app node) = causes_to_name t s app node ++ causes_to_is
 causes_of t own s (Stop app node) =
     let key = live_key s app node in
     causes_to_name t s app node ++ (not_wished s key, NotStarted) ∷ causes_to_issue own s (length (standing_starts s key))
+causes_of t own s (Drain node value) = causes_to_drain t own s node
 causes_of t own s (Takeover app) = causes_to_take t own s app
 
 -- why a running node refuses a command, if it does

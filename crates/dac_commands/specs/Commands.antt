@@ -18,14 +18,15 @@ use Rattle.dac_chains.specs.declared.claims.How.TheVariants.{Takeover as TakenOv
 use Rattle.dac_wishes.specs.declared.key.Key.{Key}
 use Rattle.dac_wishes.specs.Writes.{dots_at}
 use Rattle.dac_wishes.specs.PermissionsValue.{permits_at}
+use Rattle.dac_wishes.specs.DrainsValue.{origin, drains_at}
 use Rattle.dac_operations.specs.declared.act.Act.{Act}
-use Rattle.dac_operations.specs.declared.act.Act.TheVariants.{Down as Downs, Permit as Permits, Start as Starts, Stop as Stops, Claim as Claims}
+use Rattle.dac_operations.specs.declared.act.Act.TheVariants.{Down as Downs, Permit as Permits, Start as Starts, Stop as Stops, Drain as Drains, Claim as Claims}
 use Rattle.dac_operations.specs.Operations.{Operation, operation}
 use Rattle.dac_placement.specs.StateValue.{StateValue}
 use Rattle.dac_config.specs.Table.{Table}
 use Rattle.dac_placement.specs.Placement.{runner_of}
 use Rattle.dac_events.specs.declared.Command.{Command}
-use Rattle.dac_events.specs.declared.Command.TheVariants.{Down, Permit, Start, Stop, Takeover}
+use Rattle.dac_events.specs.declared.Command.TheVariants.{Down, Permit, Start, Stop, Drain, Takeover}
 
 -- ---- what a state tells
 -- the state knows the operation of the incarnation's own boot
@@ -52,6 +53,14 @@ standing_starts s key = in_order (dots_at key s.starts)
 abbrev pub standing_permits : StateValue → Key → List Dot
 standing_permits s key = list_map (λ (p : Dot × Flag). p.0) (permits_at key s.permits)
 
+-- the live incarnation of a node as an origin
+abbrev pub live_origin : StateValue → NodeId → Origin
+live_origin s node = origin node (live_or_none s node)
+
+-- the dots of the drains that stand at an origin, in rising order
+abbrev pub standing_drains : StateValue → Origin → List Dot
+standing_drains s at = list_map (λ (p : Dot × Flag). p.0) (drains_at at s.drains)
+
 -- the greatest counter among those dots that are of an origin, 0 where there are none
 abbrev pub greatest_among : Origin → List Dot → ℕ
 greatest_among o [] = 0
@@ -74,10 +83,11 @@ abbrev pub next_operation : StateValue → Origin → Act → Operation
 next_operation s own act = operation (dot own (greatest_counter own s.known + 1)) act
 
 -- What a command issues. A Down is of the live incarnation, and a takeover claims from where the application runs.
--- The others replace exactly what stands of their kind at the key.
+-- The others replace exactly what stands of their kind at the key; a drain is of the live incarnation.
 abbrev pub act_of : Table → StateValue → Command → Act
 act_of t s (Down node) = Downs node (live_or_none s node)
 act_of t s (Permit app node value) = let key = live_key s app node in Permits key value (standing_permits s key)
 act_of t s (Start app node) = let key = live_key s app node in Starts key (standing_starts s key)
 act_of t s (Stop app node) = let key = live_key s app node in Stops key (standing_starts s key)
+act_of t s (Drain node value) = Drains node (live_or_none s node) value (standing_drains s (live_origin s node))
 act_of t s (Takeover app) = claim_act s app TakenOver (runner_of t s app)

@@ -1,5 +1,5 @@
 -- What the operation of an accepted command is, in words.
-use Rattle.std.specs.Prelude.{◌≡◌, ◌↔◌, ℕ, ◌+◌, ◌≤◌, true, List, Option, None, Some, MatchOption, is_some}
+use Rattle.std.specs.Prelude.{◌≡◌, ◌↔◌, ℕ, ◌+◌, ◌≤◌, Bool, true, List, Option, None, Some, MatchOption, is_some}
 use Rattle.std.specs.FinSet as set
 use Rattle.std.specs.FinMap as map
 use Rattle.dac_base.specs.declared.limits.TheConstants.{MAX_COUNTER}
@@ -14,15 +14,17 @@ use Rattle.dac_chains.specs.declared.claims.Claim.{Claim}
 use Rattle.dac_chains.specs.declared.claims.How.{How}
 use Rattle.dac_chains.specs.declared.claims.How.TheVariants.{Takeover as TakenOver}
 use Rattle.dac_wishes.specs.declared.key.Key.{Key}
+use Rattle.dac_wishes.specs.KeyedWrites.{keyed_write}
 use Rattle.dac_wishes.specs.Writes.{write}
+use Rattle.dac_wishes.specs.DrainsValue.{origin}
 use Rattle.dac_operations.specs.declared.act.Act.{Act}
-use Rattle.dac_operations.specs.declared.act.Act.TheVariants.{Down as Downs, Permit as Permits, Start as Starts, Stop as Stops, Claim as Claims}
+use Rattle.dac_operations.specs.declared.act.Act.TheVariants.{Down as Downs, Permit as Permits, Start as Starts, Stop as Stops, Drain as Drains, Claim as Claims}
 use Rattle.dac_operations.specs.Operations.{Operation}
 use Rattle.dac_placement.specs.StateValue.{StateValue}
 use Rattle.dac_config.specs.Table.{Table}
 use Rattle.dac_placement.specs.Placement.{RunsAt}
 use Rattle.dac_events.specs.declared.Command.{Command}
-use Rattle.dac_events.specs.declared.Command.TheVariants.{Down, Permit, Start, Stop, Takeover}
+use Rattle.dac_events.specs.declared.Command.TheVariants.{Down, Permit, Start, Stop, Drain, Takeover}
 use Rattle.dac_commands.specs.Commands.{next_operation, act_of}
 use Rattle.dac_commands.specs.Causes.{refusal_of_command}
 
@@ -40,6 +42,10 @@ StartStands s key d = set.contains s.starts (write key d) ≡ true
 abbrev pub PermitStands : StateValue → Key → Dot → Type 0
 PermitStands s key d = is_some (map.get s.permits (write key d)) ≡ true
 
+-- a drain of the origin with this dot stands
+abbrev pub DrainStands : StateValue → Origin → Dot → Type 0
+DrainStands s at d = is_some (map.get s.drains (keyed_write at d)) ≡ true
+
 -- exactly those dots are listed that stand
 abbrev pub AreThose : (Dot → Type 0) → List Dot → Type 0
 AreThose Stands over = (d : Dot) → (has_key dot_cmp over d ≡ true) ↔ Stands d
@@ -51,6 +57,14 @@ pub record WritesAt (s : StateValue) (app : AppId) (node : NodeId) (Stands : Key
   pub is : act ≡ made key over
   pub at : IsKeyAt s app node key
   pub replaces : AreThose (Stands key) over
+
+-- the act drains the live incarnation of the node, or ends that, and replaces exactly what stands of its drains
+pub record DrainsLive (s : StateValue) (node : NodeId) (value : Bool) (act : Act) : Type 0 where
+  pub inc : ℕ
+  pub over : List Dot
+  pub is : act ≡ Drains node inc value over
+  pub live : IsLive s.lives node inc
+  pub replaces : AreThose (DrainStands s (origin node inc)) over
 
 -- the term is the next of the application's claims: 1 where there is none, and else the greatest one's and one
 abbrev pub IsNextTerm : StateValue → AppId → ℕ → Type 0
@@ -81,6 +95,7 @@ Says t s (Down node) act = (inc : ℕ) × ((act ≡ Downs node inc) × IsLive s.
 Says t s (Permit app node value) act = WritesAt s app node (PermitStands s) (λ key over. Permits key value over) act
 Says t s (Start app node) act = WritesAt s app node (StartStands s) Starts act
 Says t s (Stop app node) act = WritesAt s app node (StartStands s) Stops act
+Says t s (Drain node value) act = DrainsLive s node value act
 Says t s (Takeover app) act = TakesOver t s app act
 
 -- an operation of this incarnation under its next dot that says the command

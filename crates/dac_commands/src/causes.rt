@@ -1,10 +1,10 @@
 //! Why a running controller refuses a command.
 
 ghost use Rattle.std.specs.Prelude.{◌≡◌};
-ghost use Rattle.dac_commands.specs.Causes.{first, causes_of, causes_to_permit, causes_to_issue, too_many, refusal_of_command};
+ghost use Rattle.dac_commands.specs.Causes.{first, causes_of, causes_to_permit, causes_to_drain, causes_to_issue, too_many, refusal_of_command};
 
 use crate::counters::dots_used_up;
-use crate::keys::{key_of, refusal_to_name};
+use crate::keys::{key_of, live_of, refusal_to_name};
 use crate::refusal::Refusal;
 use crate::taking::refusal_to_take;
 use dac_base::{AppId, MAX_REPLACED, NodeId};
@@ -32,6 +32,7 @@ pub fn refusal_of(config: &Config, own: Origin, state: &State, command: Command)
         } => refusal_to_permit(config, own, state, app, node),
         Command::Start { app, node } => refusal_to_start(config, own, state, app, node),
         Command::Stop { app, node } => refusal_to_stop(config, own, state, app, node),
+        Command::Drain { node, value: _ } => refusal_to_drain(config, own, state, node),
         Command::Takeover { app } => refusal_to_take(config, own, state, app),
     }
 }
@@ -107,6 +108,20 @@ fn refusal_to_stop(
         return Some(Refusal::NotStarted);
     }
     refusal_to_issue(own, state, state.wishes().dots(key).len())
+}
+
+/// Why a drain is refused, if it is.
+fn refusal_to_drain(config: &Config, own: Origin, state: &State, node: NodeId) -> Option<Refusal>
+    ensures { result ≡ first (causes_to_drain config.now own state.now node) }
+{
+    if node.0 >= config.nodes() {
+        return Some(Refusal::UnknownNode);
+    }
+    if state.lives().live(node).is_none() {
+        return Some(Refusal::NotLive);
+    }
+    let standing = state.drains().dots(node, live_of(state, node)).len();
+    refusal_to_issue(own, state, standing)
 }
 
 /// Why no operation is issued that replaces so many dots, if none is.

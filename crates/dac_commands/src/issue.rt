@@ -3,7 +3,8 @@
 ghost use Rattle.std.specs.Prelude.{◌≡◌, IfOk, map, false, None};
 ghost use Rattle.dac_dots.specs.declared.dot.Origin.{Origin as Incarnation};
 ghost use Rattle.dac_operations.specs.Operations.{operation, fault_of};
-ghost use Rattle.dac_commands.specs.Commands.{KnowsItself, next_operation, standing_starts as starts_standing, standing_permits as permits_standing, claim_act, act_of as said_by};
+ghost use Rattle.dac_commands.specs.Commands.{KnowsItself, next_operation, standing_starts as starts_standing, standing_permits as permits_standing, standing_drains as drains_standing, claim_act, act_of as said_by};
+ghost use Rattle.dac_wishes.specs.DrainsValue.{origin};
 ghost use Rattle.dac_commands.specs.Causes.{refusal_of_command, terms_used_up, used_up};
 ghost use Rattle.dac_commands.specs.Written.{IsWritten};
 
@@ -101,6 +102,16 @@ fn act_of(alloc: Global, config: &Config, state: &State, command: Command) -> Re
             let over = standing_starts(alloc, state, key)?;
             Ok(Act::Stop { key, over })
         }
+        Command::Drain { node, value } => {
+            let inc = live_of(state, node);
+            let over = standing_drains(alloc, state, node, inc)?;
+            Ok(Act::Drain {
+                node,
+                inc,
+                value,
+                over,
+            })
+        }
         Command::Takeover { app } => {
             let from = runner(config, state, app);
             Ok(claim_act(state, app, How::Takeover, from))
@@ -138,9 +149,22 @@ fn standing_permits(alloc: Global, state: &State, key: Key) -> Result<DotList, N
     Ok(DotList::new(dots))
 }
 
-/// The dots of permits, in their order.
-fn dots_of(alloc: Global, permits: &[(Dot, Flag)]) -> Result<Vec<Dot>, AllocError>
-    ensures { IfOk result (λ dots. dots.items ≡ map (λ permit. permit.0) permits.now) }
+/// The dots of the drains that stand at an incarnation of a node.
+fn standing_drains(
+    alloc: Global,
+    state: &State,
+    node: NodeId,
+    inc: u64,
+) -> Result<DotList, NoMemory>
+    ensures { IfOk result (λ over. over ≡ drains_standing state.now (origin node inc)) }
 {
-    permits.iter().map(|permit| permit.0).collect(alloc)
+    let dots = dots_of(alloc, state.drains().dots(node, inc))?;
+    Ok(DotList::new(dots))
+}
+
+/// The dots of votes, in their order.
+fn dots_of(alloc: Global, votes: &[(Dot, Flag)]) -> Result<Vec<Dot>, AllocError>
+    ensures { IfOk result (λ dots. dots.items ≡ map (λ vote. vote.0) votes.now) }
+{
+    votes.iter().map(|vote| vote.0).collect(alloc)
 }

@@ -11,7 +11,7 @@ use dac_placement::State;
 use dac_wishes::Key;
 
 /// The live incarnation of a node, 0 where none is live.
-pub(crate) fn live_of(state: &State, node: NodeId) -> u32
+pub(crate) fn live_of(state: &State, node: NodeId) -> u64
     ensures { result ≡ live_or_none state.now node }
 {
     state.lives().live(node).unwrap_or(0)

@@ -19,6 +19,7 @@ use Rattle.std.proofs.lemmas.List.Sorted.{list_any-IsPermutation}
 use Rattle.std.proofs.lemmas.Map.Lookups.{btree_set_from_contains}
 use Rattle.std.proofs.lemmas.Map.Views.{All-insert_key, list_any-from_Contains}
 use Rattle.std.proofs.lemmas.Simd.{map-map}
+use Rattle.dac_base.specs.declared.limits.TheConstants.{MAX_NODES}
 use Rattle.dac_shapes.specs.Written.{App, Permission, Written}
 use Rattle.dac_shapes.specs.Limits.{is_among}
 use Rattle.dac_shapes.specs.Views.{names_of}
@@ -215,7 +216,7 @@ length-inserted ks [] = omega arith
 length-inserted ks (name ∷ names) = omega (arith, length-inserted (insert_key name_cmp ks name) names, length-insert_key ks name)
 
 -- no more nodes than names
-pub few_numbered : (w : Written) (nodes : List Node) → length w.nodes ≤ 16 → map node_row nodes ≡ numbered_nodes w → length nodes ≤ 16
+pub few_numbered : (w : Written) (nodes : List Node) → length w.nodes ≤ MAX_NODES → map node_row nodes ≡ numbered_nodes w → length nodes ≤ MAX_NODES
 few_numbered w nodes few rows =
     omega (arith, few, length-inserted [] w.nodes, length-map nodes node_row, ap length rows, length-map (in_byte_order w.nodes) (numbered_node w))
 
@@ -231,7 +232,7 @@ pub small_numbered : (w : Written) → IsWithinLimits w → (text : List ℕ) ×
 small_numbered w limits spelled = record {
   nodes = omega (arith, limits.few, length-inserted [] w.nodes, length-map (in_byte_order w.nodes) (numbered_node w));
   apps = omega (arith, limits.apps.few, length-map w.apps (numbered_app w.permissions (numbered_nodes w)));
-  groups = All-map (λ row. length row.groups ≤ 16) (numbered_app w.permissions (numbered_nodes w)) w.apps (λ i d within. subst (λ n. n ≤ 16) (sym (length-map (get_or w.apps i d).groups (numbers_from 0 (numbered_nodes w)))) (limits.groups i d within));
+  groups = All-map (λ row. length row.groups ≤ MAX_NODES) (numbered_app w.permissions (numbered_nodes w)) w.apps (λ i d within. subst (λ n. n ≤ MAX_NODES) (sym (length-map (get_or w.apps i d).groups (numbers_from 0 (numbered_nodes w)))) (limits.groups i d within));
   members = (let below : ℕ → Type 0 = λ number. number < length (numbered_nodes w) in
       All-map (λ row. All (λ group. All below group) row.groups) (numbered_app w.permissions (numbered_nodes w)) w.apps (λ i d _.
       All-map (All below) (numbers_from 0 (numbered_nodes w)) (get_or w.apps i d).groups (λ j e _. numbers_below 0 (length (numbered_nodes w)) (numbered_nodes w) (get_or (get_or w.apps i d).groups j e) (omega arith))));

@@ -9,6 +9,7 @@ use Rattle.std.proofs.lemmas.Bool.{or_parts}
 use Rattle.std.proofs.lemmas.Cmp.{nat_list_eq_equiv}
 use Rattle.std.proofs.lemmas.List.{drop_more, length-map, map_push}
 use Rattle.std.proofs.lemmas.Option.{slice_get-map, slice_get-get_or, slice_get_within, get_or_from_slice_get}
+use Rattle.dac_base.specs.declared.limits.TheConstants.{MAX_NODES}
 use Rattle.indexmap.specs.IndexMap.{IndexMap, insert_entry}
 use Rattle.indexmap.proofs.CallerLemmas.{insert_entry-new}
 use Rattle.dac_base.specs.declared.NodeId.{NodeId}
@@ -74,8 +75,8 @@ group_found table id node name app e groups at place kept =
     rw e (place ∙ ap (position (λ (group : Vec ℕ). list_any (λ other. eqb other node.0) group.items)) kept ∙ sym (position-map (λ group. group.items) (λ group. list_any (λ other. eqb other node.0) group) app.groups.items))
 
 -- no application has many groups
-pub few_groups : (apps : List AppRow) (i : ℕ) (name : List ℕ) (app : App) → All (λ row. length row.groups ≤ 16) apps → slice_get apps i ≡ Some (named_row name app) → length app.groups.items ≤ 16
-few_groups apps i name app small e = omega (arith, length-map app.groups.items (λ group. group.items), all_at (λ (row : AppRow). length row.groups ≤ 16) apps i (named_row name app) small e)
+pub few_groups : (apps : List AppRow) (i : ℕ) (name : List ℕ) (app : App) → All (λ row. length row.groups ≤ MAX_NODES) apps → slice_get apps i ≡ Some (named_row name app) → length app.groups.items ≤ MAX_NODES
+few_groups apps i name app small e = omega (arith, length-map app.groups.items (λ group. group.items), all_at (λ (row : AppRow). length row.groups ≤ MAX_NODES) apps i (named_row name app) small e)
 
 -- the groups of an application are of nodes that there are
 pub kept_members : (count : ℕ) (apps : List AppRow) (i : ℕ) (name : List ℕ) (app : App) → All (λ row. All (λ group. All (λ node. node < count) group) row.groups) apps → slice_get apps i ≡ Some (named_row name app) → HasMembersBelow count app

@@ -11,7 +11,7 @@ pub struct Origin {
     /// The node.
     pub node: NodeId,
     /// Which of its incarnations.
-    pub inc: u32,
+    pub inc: u64,
 }
 
 /// The name of one operation: the `n`-th of its origin. Counters begin at 1.

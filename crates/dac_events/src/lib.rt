@@ -41,6 +41,13 @@ pub enum Command {
         /// The node that it is about.
         node: NodeId,
     },
+    /// The node is drained: it is to run no application. Or that ends.
+    Drain {
+        /// The node that it is about.
+        node: NodeId,
+        /// Whether it is drained.
+        value: bool,
+    },
     /// The application is taken over from where it runs by the node at which the command is given (after
     /// `application:takeover/2`). Only a node of the same group or an earlier one may.
     Takeover {

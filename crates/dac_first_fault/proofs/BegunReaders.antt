@@ -2,6 +2,7 @@
 use Rattle.std.proofs.Common.{◌≡◌, ℕ, Bool, true, false, cond, not, ◌&&◌, eqb, ltb, leb, List, [], ◌∷◌, ◌++◌, length, map, Result, Ok, Err, refl, sym, ap, subst, ◌∙◌, codes, inl, inr}
 use Rattle.std.specs.Str.{bytes_eq}
 use Rattle.std.proofs.lemmas.Bool.{ltb-true, eqb-true}
+use Rattle.dac_base.specs.declared.limits.TheConstants.{MAX_NODES}
 use Rattle.dac_tokens.specs.declared.fault.ConfigFault.{ConfigFault}
 use Rattle.dac_tokens.specs.declared.fault.FaultKind.TheVariants.{BadShape, EmptyList, EmptyTuple, TwiceInList, TwiceApp, TooManyApps, TooManyNodes, NumberTooLarge, NameTooLong}
 use Rattle.dac_tokens.specs.declared.token.Symbol.TheVariants.{OpenList, CloseList, OpenTuple, CloseTuple, Comma}
@@ -109,7 +110,7 @@ unfolding node_of
 node_sees repeats t s short =
     look_then (IsName t.word) by_pair Node ws (short_name_of t) (λ name. cond (not repeats && is_among name s.seen.listed) (fails TwiceInList t.at) (few name)) (short_looks t)
     (λ name e. chosen by_pair Node ws (not repeats && is_among name s.seen.listed) (fails TwiceInList t.at) (few name) (λ twice h. absurd h)
-    (λ once. chosen by_pair Node ws (not (is_among name s.seen.met) && leb 16 (length s.seen.met)) (fails TooManyNodes t.at) (Ok (name, record s { seen = with_node s.seen name })) (λ many h. absurd h) (λ known. record { own = t.word ∷ []; whole = refl; is = ap (λ (w : Word). w ∷ []) e; short = short })))
+    (λ once. chosen by_pair Node ws (not (is_among name s.seen.met) && leb MAX_NODES (length s.seen.met)) (fails TooManyNodes t.at) (Ok (name, record s { seen = with_node s.seen name })) (λ many h. absurd h) (λ known. record { own = t.word ∷ []; whole = refl; is = ap (λ (w : Word). w ∷ []) e; short = short })))
   where
     Node : List Word → List ℕ × State → Type 0
     Node own x = IsNode own x.0
@@ -118,7 +119,7 @@ node_sees repeats t s short =
     ws = t.word ∷ words_in s
 
     few : List ℕ → Result (List ℕ × State) ConfigFault
-    few name = cond (not (is_among name s.seen.met) && leb 16 (length s.seen.met)) (fails TooManyNodes t.at) (Ok (name, record s { seen = with_node s.seen name }))
+    few name = cond (not (is_among name s.seen.met) && leb MAX_NODES (length s.seen.met)) (fails TooManyNodes t.at) (Ok (name, record s { seen = with_node s.seen name }))
 
 -- ---- items of node lists
 

@@ -5,6 +5,7 @@ use Rattle.std.specs.Str.{bytes_eq}
 use Rattle.std.proofs.lemmas.Bool.{ltb-true, ltb-false, leb-false, eqb-true}
 use Rattle.std.proofs.lemmas.Slice.Eq.{bytes_eq-Decides}
 use Rattle.std.proofs.lemmas.List.Elements.{All-nil}
+use Rattle.dac_base.specs.declared.limits.TheConstants.{MAX_NODES}
 use Rattle.dac_tokens.specs.declared.fault.ConfigFault.{ConfigFault}
 use Rattle.dac_tokens.specs.declared.fault.FaultKind.{FaultKind}
 use Rattle.dac_tokens.specs.declared.fault.FaultKind.TheVariants.{BadShape, EmptyList, EmptyTuple, TwiceInList, TwiceApp, TooManyApps, TooManyNodes, NumberTooLarge, NameTooLong}
@@ -153,7 +154,7 @@ module _ (bad : ℕ) (Bound : FaultKind → Type 0) where
       (shortly_shows (Held Node ws) t (λ name e h. breaks name e h.0 (record { short = λ b. absurd (h.1 NameTooLong (omega arith) (omega arith) b); once = λ b. absurd (h.1 TwiceInList (omega arith) (omega arith) b); few = λ b. absurd (h.1 TooManyNodes (omega arith) (omega arith) b) })))
       (λ name k. held_if bad Bound by_pair Node ws (not repeats && is_among name s.seen.listed) (fails TwiceInList t.at) (few name)
       (λ twice h. breaks name k.0 h.0 (record { short = λ b. k.1; once = λ b. absurd (h.1 TwiceInList (omega arith) (omega arith) b); few = λ b. absurd (h.1 TooManyNodes (omega arith) (omega arith) b) }))
-      (λ once. held_if bad Bound by_pair Node ws (not (is_among name s.seen.met) && leb 16 (length s.seen.met)) (fails TooManyNodes t.at) (Ok (name, record s { seen = with_node s.seen name }))
+      (λ once. held_if bad Bound by_pair Node ws (not (is_among name s.seen.met) && leb MAX_NODES (length s.seen.met)) (fails TooManyNodes t.at) (Ok (name, record s { seen = with_node s.seen name }))
       (λ many h. breaks name k.0 h.0 (record { short = λ b. k.1; once = λ b e. unless_first repeats (is_among name s.seen.listed) once e; few = λ b. absurd (h.1 TooManyNodes (omega arith) (omega arith) b) }))
       (λ known. record { own = t.word ∷ []; whole = refl; is = (ap (λ (w : Word). w ∷ []) k.0, may name k once known, refl); short = short })))
     where
@@ -164,13 +165,13 @@ module _ (bad : ℕ) (Bound : FaultKind → Type 0) where
       ws = t.word ∷ words_in s
 
       few : List ℕ → Result (List ℕ × State) ConfigFault
-      few name = cond (not (is_among name s.seen.met) && leb 16 (length s.seen.met)) (fails TooManyNodes t.at) (Ok (name, record s { seen = with_node s.seen name }))
+      few name = cond (not (is_among name s.seen.met) && leb MAX_NODES (length s.seen.met)) (fails TooManyNodes t.at) (Ok (name, record s { seen = with_node s.seen name }))
 
       breaks : (name : List ℕ) → t.word ≡ Name name → t.at ≡ bad → NodeKeeps Bound repeats s.seen name → Held Node ws
       breaks name e place keep = broken bad Bound Node t s.left.tokens alone name e place (record { more = []; x = (name, at (Err halt) [] (with_node s.seen name)); is = (ap (λ (w : Word). w ∷ []) e, keep, refl) })
 
-      may : (name : List ℕ) → IsShortly t.word name → (not repeats && is_among name s.seen.listed) ≡ false → (not (is_among name s.seen.met) && leb 16 (length s.seen.met)) ≡ false → NodeKeeps Bound repeats s.seen name
-      may name k once known = record { short = λ b. k.1; once = λ b e. unless_first repeats (is_among name s.seen.listed) once e; few = λ b e. leb-false 16 (length s.seen.met) (unless_first (is_among name s.seen.met) (leb 16 (length s.seen.met)) known e) }
+      may : (name : List ℕ) → IsShortly t.word name → (not repeats && is_among name s.seen.listed) ≡ false → (not (is_among name s.seen.met) && leb MAX_NODES (length s.seen.met)) ≡ false → NodeKeeps Bound repeats s.seen name
+      may name k once known = record { short = λ b. k.1; once = λ b e. unless_first repeats (is_among name s.seen.listed) once e; few = λ b e. leb-false MAX_NODES (length s.seen.met) (unless_first (is_among name s.seen.met) (leb MAX_NODES (length s.seen.met)) known e) }
 
   abbrev pub Any : Seen → Type 0
   Any seen = Unit {0}

@@ -1,6 +1,7 @@
 -- Nodes, node lists, applications and permissions are read, or their fault is of a limit or shape that isn't kept.
 use Rattle.std.proofs.Common.{◌≡◌, ℕ, ◌<◌, ◌≤◌, Bool, true, false, not, ◌&&◌, cond, eqb, ltb, leb, List, [], ◌∷◌, ◌++◌, length, map, Result, Ok, refl, sym, ap, subst, ◌∙◌, append_assoc, arith, codes, inl, inr}
 use Rattle.std.proofs.lemmas.Bool.{lt-ltb, le-ltb, eq-eqb, ltb-true, leb-true}
+use Rattle.dac_base.specs.declared.limits.TheConstants.{MAX_NODES}
 use Rattle.dac_tokens.specs.declared.fault.ConfigFault.{ConfigFault}
 use Rattle.dac_tokens.specs.declared.fault.FaultKind.{FaultKind}
 use Rattle.dac_tokens.specs.declared.fault.FaultKind.TheVariants.{TwiceApp, TwiceInList, TooManyNodes, TooManyApps, NameTooLong, EmptyList, EmptyTuple, NumberTooLarge}
@@ -66,12 +67,12 @@ module _ (last : Result Located ConfigFault) (Bad : ℕ → Type 0) (Kept : Faul
   node_met repeats t us seen name w keep =
       let after = with_node seen name in
       let read : Result (List ℕ × State) ConfigFault = Ok (name, at last us after) in
-      let few = cond (not (is_among name seen.met) && leb 16 (length seen.met)) (fails TooManyNodes t.at) read in
+      let few = cond (not (is_among name seen.met) && leb MAX_NODES (length seen.met)) (fails TooManyNodes t.at) read in
       said_then last Bad Kept name name us after (short_name_of t)
-      (λ name. cond (not repeats && is_among name seen.listed) (fails TwiceInList t.at) (cond (not (is_among name seen.met) && leb 16 (length seen.met)) (fails TooManyNodes t.at) (Ok (name, at last us (with_node seen name))))) (short_said t name keep.short w)
+      (λ name. cond (not repeats && is_among name seen.listed) (fails TwiceInList t.at) (cond (not (is_among name seen.met) && leb MAX_NODES (length seen.met)) (fails TooManyNodes t.at) (Ok (name, at last us (with_node seen name))))) (short_said t name keep.short w)
       (met_if last Bad Kept name us after (not repeats && is_among name seen.listed) (fails TwiceInList t.at) few (λ twice kept. let b = both repeats (is_among name seen.listed) twice in apart (is_among name seen.listed) b.1 (keep.once kept b.0))
-      (λ once. met_if last Bad Kept name us after (not (is_among name seen.met) && leb 16 (length seen.met)) (fails TooManyNodes t.at) read
-      (λ many kept. let b = both (is_among name seen.met) (leb 16 (length seen.met)) many in absurd (omega (arith, keep.few kept b.0, leb-true 16 (length seen.met) b.1))) (λ known. refl)))
+      (λ once. met_if last Bad Kept name us after (not (is_among name seen.met) && leb MAX_NODES (length seen.met)) (fails TooManyNodes t.at) read
+      (λ many kept. let b = both (is_among name seen.met) (leb MAX_NODES (length seen.met)) many in absurd (omega (arith, keep.few kept b.0, leb-true MAX_NODES (length seen.met) b.1))) (λ known. refl)))
 
   pub nodes_met : (repeats : Bool) (before : List (List ℕ)) (t : Located) (ts us : List Located) (seen : Seen) (name : List ℕ) → IsNode (words_of (t ∷ ts)) name → Fine Bad (t ∷ ts) → NodeKeeps Kept repeats seen name → Met last Bad Kept name us (with_node seen name) (node_of repeats t (at last (ts ++ us) seen))
   nodes_met repeats before t ts us seen name is fine keep =

@@ -2,6 +2,7 @@
 use Rattle.std.proofs.Common.{◌≡◌, ℕ, Bool, true, false, not, ◌&&◌, ◌≤◌, cond, eqb, ltb, leb, List, [], ◌∷◌, length, map, Result, Ok, Err, refl, sym, ap, ◌∙◌, arith, codes}
 use Rattle.std.specs.Str.{bytes_eq}
 use Rattle.std.proofs.lemmas.Bool.{ltb-true, ltb-false, ne_eqb}
+use Rattle.dac_base.specs.declared.limits.TheConstants.{MAX_NODES}
 use Rattle.dac_tokens.specs.declared.fault.ConfigFault.{ConfigFault}
 use Rattle.dac_tokens.specs.declared.fault.FaultKind.TheVariants.{BadShape, EmptyList, EmptyTuple, TwiceInList, TwiceApp, TooManyApps, TooManyNodes, NumberTooLarge, NameTooLong}
 use Rattle.dac_tokens.specs.declared.token.Symbol.TheVariants.{OpenList, CloseList, OpenTuple, CloseTuple, Comma}
@@ -126,7 +127,7 @@ module _ (repeats : Bool) where
   node s = token s >>= λ q. node_of repeats q.0 q.1
 
   abbrev met : Located → State → List ℕ → Result (List ℕ × State) ConfigFault
-  met t s name = cond (not repeats && is_among name s.seen.listed) (fails TwiceInList t.at) (cond (not (is_among name s.seen.met) && leb 16 (length s.seen.met)) (fails TooManyNodes t.at) (Ok (name, record s { seen = with_node s.seen name })))
+  met t s name = cond (not repeats && is_among name s.seen.listed) (fails TwiceInList t.at) (cond (not (is_among name s.seen.met) && leb MAX_NODES (length s.seen.met)) (fails TooManyNodes t.at) (Ok (name, record s { seen = with_node s.seen name })))
 
   node_is : (t : Located) (s : State) → node_of repeats t s ≡ (short_name_of t >>= met t s)
   unfolding node_of
@@ -139,13 +140,13 @@ module _ (repeats : Bool) where
   node_wants seen = wants_token (λ q. node_of repeats q.0 q.1) node_end seen
 
   module _ (t : Located) (b : List Located) (seen : Seen) where
-    node_met : (name : List ℕ) → short_name_of t ≡ Ok name → (x y : Bool) → (not repeats && is_among name seen.listed) ≡ x → (not (is_among name seen.met) && leb 16 (length seen.met)) ≡ y → Gives node (t ∷ b) seen
+    node_met : (name : List ℕ) → short_name_of t ≡ Ok name → (x y : Bool) → (not repeats && is_among name seen.listed) ≡ x → (not (is_among name seen.met) && leb MAX_NODES (length seen.met)) ≡ y → Gives node (t ∷ b) seen
     node_met name e true y is f = first_fails node t b seen (record { kind = TwiceInList; at = t.at }) (λ last rest. node_is t (at last rest seen) ∙ ap (λ r. r >>= met t (at last rest seen)) e ∙ rw is refl) (Itself refl (short_is t name e)) (node_wants seen)
     node_met name e false true is f = first_fails node t b seen (record { kind = TooManyNodes; at = t.at }) (λ last rest. node_is t (at last rest seen) ∙ ap (λ r. r >>= met t (at last rest seen)) e ∙ rw (is, f) refl) (Itself refl (short_is t name e)) (node_wants seen)
     node_met name e false false is f = first_taken node t b seen name (with_node seen name) (λ last rest. node_is t (at last rest seen) ∙ ap (λ r. r >>= met t (at last rest seen)) e ∙ rw (is, f) refl)
 
     node_by : (r : Result (List ℕ) ConfigFault) → short_name_of t ≡ r → Gives node (t ∷ b) seen
-    node_by (Ok name) e = node_met name e (not repeats && is_among name seen.listed) (not (is_among name seen.met) && leb 16 (length seen.met)) refl refl
+    node_by (Ok name) e = node_met name e (not repeats && is_among name seen.listed) (not (is_among name seen.met) && leb MAX_NODES (length seen.met)) refl refl
     node_by (Err d) e = first_fails node t b seen d (λ last rest. node_is t (at last rest seen) ∙ ap (λ r. r >>= met t (at last rest seen)) e) (short_here t d e) (node_wants seen)
 
   pub node_reader : IsReader node

@@ -11,7 +11,7 @@ use std::marker::Model;
 pub struct Closed {
     pub(crate) config: Config,
     pub(crate) node: NodeId,
-    pub(crate) last: u32,
+    pub(crate) last: u64,
     pub(crate) records: Vec<Record>,
 }
 
@@ -59,7 +59,7 @@ impl Closed {
     }
 
     /// The number of its last incarnation before the site was opened.
-    pub fn last(&self) -> u32
+    pub fn last(&self) -> u64
         ensures { result ≡ self.now.opening.last }
     {
         self.last

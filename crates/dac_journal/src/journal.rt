@@ -23,7 +23,7 @@ use std::marker::Model;
 pub struct Journal {
     config: Config,
     me: NodeId,
-    last: u32,
+    last: u64,
     records: Vec<Record>,
     node: Node,
 }
@@ -61,7 +61,7 @@ impl Journal {
     ghost use Rattle.dac_journal.specs.Journals.{AreHistory};
 
     /// A journal with no records, of a node that is off.
-    pub fn new(alloc: Global, config: Config, me: NodeId, last: u32) -> Self
+    pub fn new(alloc: Global, config: Config, me: NodeId, last: u64) -> Self
         ensures opening { result.opening ≡ opening_of config me last }
         ensures records { result.records ≡ [] }
     {

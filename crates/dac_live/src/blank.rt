@@ -96,7 +96,7 @@ pub fn blank_site<R: Wait>(
     alloc: Global,
     config: &Config,
     me: NodeId,
-    last: u32,
+    last: u64,
     seats: u16,
     readers: u16,
 ) -> Result<SiteBlank, OpenFault>

@@ -45,7 +45,7 @@ pub fn replay(
     alloc: Global,
     config: &Config,
     me: NodeId,
-    last: u32,
+    last: u64,
     records: &[Record],
 ) -> Result<Page, NoMemory>
     ensures { IfOk result (λ page. page ≡ page_after (opening_of config.now me last) records.now) }

@@ -17,14 +17,14 @@ use Rattle.dac_script.specs.declared.fault.ScriptFaultKind.TheVariants.{BadWord,
 use Rattle.dac_script.specs.declared.line.ScriptLine.{ScriptLine}
 use Rattle.dac_script.specs.Faults.{script_number}
 use Rattle.dac_script.specs.Words.{bytes_in}
-use Rattle.dac_script.specs.Asked.{◌>>=◌, one, three, four, named, truth, actor, node_and_number, node_and_about, node_and_app, wish_in}
+use Rattle.dac_script.specs.Asked.{◌>>=◌, one, three, four, named, truth, actor, node_and_number, nodes_in, node_and_about, node_and_app, wish_in}
 use Rattle.dac_script.specs.Line as sim
 use Rattle.dac_script.specs.LineFaults.{Role, AreWrong, IsLeast}
 use Rattle.dac_live_script.specs.declared.line.Deed.{Deed}
 use Rattle.dac_live_script.specs.declared.line.LiveLine.{LiveLine}
 use Rattle.dac_live_script.specs.LiveLines.{deed_in, is_caller_word, caller_of, tail_of, with_caller, phase_line, fed, live_line_of}
 use Rattle.dac_live_script.specs.LiveFaults.{plain_roles, asked_roles, IsForCaller, IsNoCaller, IsAskedWrong, IsCallerWrong, IsOtherWrong, HasFault, IsFaultless}
-use Rattle.dac_live_script.proofs.Roles.{Judges, said, none_left, are_low, miscounted, number_judged, about_judged, app_judged, one_judged, command_judged, permit_judged, feed_judged}
+use Rattle.dac_live_script.proofs.Roles.{Judges, said, none_left, are_low, miscounted, number_judged, about_judged, app_judged, one_judged, command_judged, permit_judged, drain_judged, feed_judged}
 
 -- ---- what follows what was read
 
@@ -137,6 +137,10 @@ module _ (table : Table) (words : List (List ℕ)) where
   unfolding sim.line_of
   stop_judged = taken _ deed_in (sim.stop_line table words) (if_ok _ (three words) _ (λ all. if_ok _ (wish_in table all.0 all.1 all.2) _ (λ wish. tt))) (command_judged table _ words)
 
+  drain_is_judged : Asked (codes "drain")
+  unfolding sim.line_of
+  drain_is_judged = taken _ deed_in (sim.drain_line table words) (if_ok _ (three words) _ (λ all. if_ok _ (truth all.2) _ (λ value. if_ok _ (nodes_in table all.0 all.1) _ (λ both. tt)))) (drain_judged table words)
+
   takeover_judged : Asked (codes "takeover")
   unfolding sim.line_of
   takeover_judged = taken _ deed_in (sim.takeover_line table words) (if_ok _ (node_and_app table words) _ (λ both. tt)) (said _ _ (node_and_app table words) (app_judged table words))
@@ -151,9 +155,10 @@ module _ (table : Table) (words : List (List ℕ)) where
       choose Asked word (codes "permit") permit_is_judged (λ permit.
       choose Asked word (codes "start") start_judged (λ start.
       choose Asked word (codes "stop") stop_judged (λ stop.
+      choose Asked word (codes "drain") drain_is_judged (λ drain.
       choose Asked word (codes "takeover") takeover_judged (λ takeover.
-      no_roles table words (λ kind. kind ≡ BadWord) (asked_roles word) (tail_of table (word ∷ words)) (Err BadWord) (rw (read, boot, crash, tick, down, permit, start, stop, takeover) refl) (rw (read, boot, crash, tick, down, permit, start, stop, takeover) refl)
-      (record { has = refl; least = λ kind h. omega (arith, ap script_number h) }))))))))))
+      no_roles table words (λ kind. kind ≡ BadWord) (asked_roles word) (tail_of table (word ∷ words)) (Err BadWord) (rw (read, boot, crash, tick, down, permit, start, stop, drain, takeover) refl) (rw (read, boot, crash, tick, down, permit, start, stop, drain, takeover) refl)
+      (record { has = refl; least = λ kind h. omega (arith, ap script_number h) })))))))))))
 
   phase_judged : Judges (AreWrong table [] words) (phase_line words)
   phase_judged = by words

@@ -18,8 +18,8 @@ use Rattle.dac_script.specs.declared.fault.ScriptFaultKind.TheVariants.{BadWord,
 use Rattle.dac_script.specs.declared.line.ScriptLine.{ScriptLine}
 use Rattle.dac_script.specs.Faults.{script_number}
 use Rattle.dac_script.specs.Words.{name_in, number_in, bytes_in}
-use Rattle.dac_script.specs.Asked.{◌>>=◌, one, three, named, truth, actor, node_and_number, node_and_about, node_and_app, wish_in}
-use Rattle.dac_script.specs.Line.{permit_line, feed_line}
+use Rattle.dac_script.specs.Asked.{◌>>=◌, one, three, named, truth, actor, node_and_number, nodes_in, node_and_about, node_and_app, wish_in}
+use Rattle.dac_script.specs.Line.{permit_line, drain_line, feed_line}
 use Rattle.dac_script.specs.LineFaults.{Role, IsNoFlag, IsNoHex, IsWrong, AreWrong, IsLeast}
 use Rattle.dac_script.specs.LineFaults.Role.{Actor, Application, About, Number, Flag, Hex}
 use Rattle.dac_live_script.proofs.Digits.{no_bytes, some_bytes}
@@ -154,6 +154,17 @@ module _ (table : Table) where
       none_left P (are_low 7 roles words refl (actor_known a name is node known, (given BadNumber (number_in b) n also, tt))))))
   number_judged (a ∷ b ∷ c ∷ words) = miscounted (Actor ∷ Number ∷ []) (a ∷ b ∷ c ∷ words) (λ e. absurd (omega (arith, e)))
 
+  -- two nodes, among other words
+  nodes_judged : (P : ScriptFaultKind → Type 0) (a b : List ℕ) → Low 3 P → (name_in a ≡ None → P BadName) → (name_in b ≡ None → P BadName) → (IsWrong table Actor a UnknownActor → P UnknownActor)
+      → (Low 5 (IsWrong table Actor a) → Low 7 (IsWrong table About b) → Low 5 P) → (Low 7 (IsWrong table Actor a) → Low 7 (IsWrong table About b) → Low 7 P)
+      → Judges P (nodes_in table a b)
+  nodes_judged P a b low first second unknown five six =
+      look P BadName (name_in a) _ low first (λ name is.
+      look P BadName (name_in b) _ low second (λ subject also.
+      let subjects = given BadName (name_in b) subject also in
+      look P UnknownActor (node_named table name) _ (five (actor_named a name is) subjects) (λ none. unknown (actor_unknown a name is none)) (λ node known.
+      none_left P (six (actor_known a name is node known) subjects))))
+
   pub about_judged : (words : List (List ℕ)) → Judges (AreWrong table (Actor ∷ About ∷ []) words) (node_and_about table words)
   about_judged [] = miscounted (Actor ∷ About ∷ []) [] (λ e. absurd (omega (arith, e)))
   about_judged (a ∷ []) = miscounted (Actor ∷ About ∷ []) (a ∷ []) (λ e. absurd (omega (arith, e)))
@@ -161,11 +172,10 @@ module _ (table : Table) where
       let roles = Actor ∷ About ∷ [] in
       let words = a ∷ b ∷ [] in
       let P = AreWrong table roles words in
-      let low = are_low 3 roles words refl (all_low roles words) in
-      look P BadName (name_in a) _ low (λ none. inr (0, (Actor, a), omega arith, refl, inl (refl, none))) (λ name is.
-      look P BadName (name_in b) _ low (λ none. inr (1, (About, b), omega arith, refl, (refl, none))) (λ other also.
-      look P UnknownActor (node_named table name) _ (are_low 5 roles words refl (actor_named a name is, (higher 5 7 _ (omega arith) (given BadName (name_in b) other also), tt))) (λ none. inr (0, (Actor, a), omega arith, refl, actor_unknown a name is none)) (λ node known.
-      none_left P (are_low 7 roles words refl (actor_known a name is node known, (given BadName (name_in b) other also, tt))))))
+      nodes_judged P a b (are_low 3 roles words refl (all_low roles words))
+      (λ none. inr (0, (Actor, a), omega arith, refl, inl (refl, none))) (λ none. inr (1, (About, b), omega arith, refl, (refl, none)))
+      (λ wrong. inr (0, (Actor, a), omega arith, refl, wrong))
+      (λ p q. are_low 5 roles words refl (p, (higher 5 7 _ (omega arith) q, tt))) (λ p q. are_low 7 roles words refl (p, (q, tt)))
   about_judged (a ∷ b ∷ c ∷ words) = miscounted (Actor ∷ About ∷ []) (a ∷ b ∷ c ∷ words) (λ e. absurd (omega (arith, e)))
 
   pub app_judged : (words : List (List ℕ)) → Judges (AreWrong table (Actor ∷ Application ∷ []) words) (node_and_app table words)
@@ -237,6 +247,23 @@ module _ (table : Table) where
       (λ wrong. inr (0, (Actor, a), omega arith, refl, wrong))
       (λ p q r. are_low 5 roles words refl (p, (higher 5 7 _ (omega arith) q, (higher 5 7 _ (omega arith) r, (higher 5 7 _ (omega arith) flags, tt))))) (λ p q r. are_low 7 roles words refl (p, (q, (r, (flags, tt)))))))
   permit_judged (a ∷ b ∷ c ∷ d ∷ e ∷ words) = miscounted (Actor ∷ Application ∷ About ∷ Flag ∷ []) (a ∷ b ∷ c ∷ d ∷ e ∷ words) (λ e. absurd (omega (arith, e)))
+
+  pub drain_judged : (words : List (List ℕ)) → Judges (AreWrong table (Actor ∷ About ∷ Flag ∷ []) words) (drain_line table words)
+  drain_judged [] = miscounted (Actor ∷ About ∷ Flag ∷ []) [] (λ e. absurd (omega (arith, e)))
+  drain_judged (a ∷ []) = miscounted (Actor ∷ About ∷ Flag ∷ []) (a ∷ []) (λ e. absurd (omega (arith, e)))
+  drain_judged (a ∷ b ∷ []) = miscounted (Actor ∷ About ∷ Flag ∷ []) (a ∷ b ∷ []) (λ e. absurd (omega (arith, e)))
+  drain_judged (a ∷ b ∷ c ∷ []) =
+      let roles = Actor ∷ About ∷ Flag ∷ [] in
+      let words = a ∷ b ∷ c ∷ [] in
+      let P = AreWrong table roles words in
+      let low = are_low 3 roles words refl (all_low roles words) in
+      look_flag P c _ low (λ none. inr (2, (Flag, c), omega arith, refl, (refl, none))) (λ value is.
+      let flags = flag_given c is in
+      said P _ (nodes_in table a b) (nodes_judged P a b low
+      (λ none. inr (0, (Actor, a), omega arith, refl, inl (refl, none))) (λ none. inr (1, (About, b), omega arith, refl, (refl, none)))
+      (λ wrong. inr (0, (Actor, a), omega arith, refl, wrong))
+      (λ p q. are_low 5 roles words refl (p, (higher 5 7 _ (omega arith) q, (higher 5 7 _ (omega arith) flags, tt)))) (λ p q. are_low 7 roles words refl (p, (q, (flags, tt))))))
+  drain_judged (a ∷ b ∷ c ∷ d ∷ words) = miscounted (Actor ∷ About ∷ Flag ∷ []) (a ∷ b ∷ c ∷ d ∷ words) (λ e. absurd (omega (arith, e)))
 
   hex_low : (word : List ℕ) → Low 6 (IsWrong table Hex word)
   hex_low word kind h = omega (arith, ap script_number h.0)

@@ -28,8 +28,9 @@ asked_roles word =
     else (if bytes_eq word (codes "permit") then Some (Actor ∷ Application ∷ About ∷ Flag ∷ [])
     else (if bytes_eq word (codes "start") then Some (Actor ∷ Application ∷ About ∷ [])
     else (if bytes_eq word (codes "stop") then Some (Actor ∷ Application ∷ About ∷ [])
+    else (if bytes_eq word (codes "drain") then Some (Actor ∷ About ∷ Flag ∷ [])
     else (if bytes_eq word (codes "takeover") then Some (Actor ∷ Application ∷ [])
-    else None))))))))
+    else None)))))))))
 
 -- a first word that is there for a caller: it has digits alone
 abbrev pub IsForCaller : List ℕ → Type 0

@@ -47,7 +47,7 @@ deed_in (says.Feed bytes) = Err BadWord
 abbrev pub is_deed_verb : List ℕ → Bool
 is_deed_verb word =
     bytes_eq word (codes "boot") || (bytes_eq word (codes "crash") || (bytes_eq word (codes "tick") || (bytes_eq word (codes "down") || (bytes_eq word (codes "permit")
-    || (bytes_eq word (codes "start") || (bytes_eq word (codes "stop") || bytes_eq word (codes "takeover")))))))
+    || (bytes_eq word (codes "start") || (bytes_eq word (codes "stop") || (bytes_eq word (codes "drain") || bytes_eq word (codes "takeover"))))))))
 
 -- digits alone
 abbrev pub is_caller_word : List ℕ → Bool

@@ -93,6 +93,7 @@ fn is_deed_verb(word: &[u8]) -> bool
         || word == b"permit".as_slice()
         || word == b"start".as_slice()
         || word == b"stop".as_slice()
+        || word == b"drain".as_slice()
         || word == b"takeover".as_slice()
 }
 

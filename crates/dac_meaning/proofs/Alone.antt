@@ -1,34 +1,45 @@
 -- The delta of one operation is what it means alone.
 use Rattle.std.proofs.Common.{◌≡◌, Bool, true, false, not, cond, ◌&&◌, ◌||◌, List, [], ◌∷◌, Option, None, Some, refl, sym, ap, ◌∙◌}
+use Rattle.std.specs.declared.cmp.Ordering.{Ordering}
+use Rattle.std.specs.Ordering.{eq_by_cmp}
+use Rattle.std.specs.Cmp.{IsTotalOrder}
+use Rattle.std.proofs.lemmas.Map.Lookups.{CmpEqualImpliesEq}
 use Rattle.std.specs.FinSet as set
 use Rattle.std.specs.FinMap as map
 use Rattle.dac_base.specs.Ids.{nodes_total, exact_nodes, apps_total, exact_apps}
 use Rattle.dac_dots.specs.declared.dot.Dot.{Dot}
-use Rattle.dac_dots.specs.Dots.{Dots, dot_cmp, dots_total, exact_dots}
+use Rattle.dac_dots.specs.Dots.{Dots, dot_cmp, dots_total, exact_dots, origins_total, exact_origins}
 use Rattle.dac_dots.specs.Keys.{has_key}
 use Rattle.dac_lattice.specs.declared.flags.Flag.{Flag}
+use Rattle.dac_lattice.specs.declared.flags.Flag.TheVariants.{Up as IsUp, Down as IsDown}
 use Rattle.dac_lattice.specs.Flags.{flag_cmp, flags_exact}
 use Rattle.dac_chains.specs.Lives.{lives_total, exact_lives}
 use Rattle.dac_chains.specs.Claims.{claims_total, exact_claims, exact_hows, how_cmp}
 use Rattle.dac_wishes.specs.declared.wish_act.WishAct.TheVariants.{Other as NoWish}
 use Rattle.dac_wishes.specs.declared.permit_act.PermitAct.TheVariants.{Other as NoPermit}
 use Rattle.dac_wishes.specs.declared.key.Key.{Key}
-use Rattle.dac_wishes.specs.Keys.{same_key}
+use Rattle.dac_wishes.specs.Keys.{keys_total, exact_keys}
+use Rattle.dac_wishes.specs.KeyedWrites.{KeyedWrite}
+use Rattle.dac_wishes.specs.Votes.{VotesValue, same_votes}
+use Rattle.dac_wishes.specs.VoteMeaning.{says_of, vote_in, vote_delta, get-vote_delta}
 use Rattle.dac_wishes.specs.Writes.{Write, same_dot, same_dot_is}
 use Rattle.dac_wishes.specs.Replacing.{contains-named_by}
 use Rattle.dac_wishes.specs.WishesValue.{same_wishes}
-use Rattle.dac_wishes.specs.PermissionsValue.{same_permissions, flag_of}
+use Rattle.dac_wishes.specs.PermissionsValue.{flag_of}
 use Rattle.dac_wishes.specs.WishMeaning as wish
 use Rattle.dac_wishes.specs.PermitMeaning as permit
+use Rattle.dac_wishes.specs.DrainMeaning as drain
+use Rattle.dac_wishes.specs.DrainsValue.{flag_of as drain_flag}
+use Rattle.dac_wishes.specs.declared.drain_act.DrainAct.TheVariants.{Other as NoDrain}
 use Rattle.dac_operations.specs.declared.act.Act.{Act}
-use Rattle.dac_operations.specs.declared.act.Act.TheVariants.{Up, Down, Permit, Start, Stop, Claim}
+use Rattle.dac_operations.specs.declared.act.Act.TheVariants.{Up, Down, Permit, Start, Stop, Drain, Claim}
 use Rattle.dac_operations.specs.Operations.{Operation, over_list, replaces_itself}
-use Rattle.dac_operations.specs.Seen.{wish_in, permit_in, without, seen_wish, seen_permit}
-use Rattle.dac_meaning.specs.StateValue.{permissions_of, wishes_of}
-use Rattle.dac_meaning.specs.Meaning.{meaning_of, has_dot, replaces, names, wishes, is_start, is_same, says, flag_said, life_said, claim_said}
+use Rattle.dac_operations.specs.Seen.{wish_in, permit_in, drain_in, without, seen_by, seen_wish}
+use Rattle.dac_meaning.specs.StateValue.{permissions_of, wishes_of, drains_of}
+use Rattle.dac_meaning.specs.Meaning.{meaning_of, has_dot, replaces, names, wishes, is_start, is_same, flag_said, told, vote_at, permit_vote, drain_vote, life_said, claim_said}
 use Rattle.dac_meaning.specs.Chained.{greatest-one}
-use Rattle.dac_meaning.specs.laws.Readers.{or-false, heard-meaning, known-meaning, starts-meaning, permits-meaning, lives-meaning, claims-meaning}
-use Rattle.dac_meaning.specs.DeltaLaws.{OneIsHeard, PermitDeltaIsMeaning, WishDeltaIsMeaning, LifeDeltaIsMeaning, ClaimDeltaIsMeaning}
+use Rattle.dac_meaning.specs.laws.Readers.{or-false, heard-meaning, known-meaning, starts-meaning, permits-meaning, lives-meaning, claims-meaning, drains-meaning}
+use Rattle.dac_meaning.specs.DeltaLaws.{OneIsHeard, PermitDeltaIsMeaning, DrainDeltaIsMeaning, WishDeltaIsMeaning, LifeDeltaIsMeaning, ClaimDeltaIsMeaning}
 
 pub one_is_heard : OneIsHeard
 one_is_heard o = set.same_set dots_total exact_dots _ _ (λ d.
@@ -63,6 +74,7 @@ wish_over (Down n i) = refl
 wish_over (Permit k v over) = refl
 wish_over (Start k over) = refl
 wish_over (Stop k over) = refl
+wish_over (Drain n i v over) = refl
 wish_over (Claim app term how from) = refl
 
 permit_over : (a : Act) → permit.over_of (permit_in a) ≡ over_list a
@@ -71,19 +83,17 @@ permit_over (Down n i) = refl
 permit_over (Permit k v over) = refl
 permit_over (Start k over) = refl
 permit_over (Stop k over) = refl
+permit_over (Drain n i v over) = refl
 permit_over (Claim app term how from) = refl
 
-wish_names : (d x : Dot) (a : Act) → (same_dot x d || has_key dot_cmp (wish.over_of (seen_wish d a)) x) ≡ (same_dot x d || has_key dot_cmp (over_list a) x)
-wish_names d x a = elim (replaces_itself d a) as (λ b. (same_dot x d || has_key dot_cmp (wish.over_of (cond b (NoWish (without d (over_list a))) (wish_in a))) x) ≡ (same_dot x d || has_key dot_cmp (over_list a) x)) [
-  | true ↦ without_names d x (over_list a)
-  | false ↦ ap (λ l. same_dot x d || has_key dot_cmp l x) (wish_over a)
-]
-
-permit_names : (d x : Dot) (a : Act) → (same_dot x d || has_key dot_cmp (permit.over_of (seen_permit d a)) x) ≡ (same_dot x d || has_key dot_cmp (over_list a) x)
-permit_names d x a = elim (replaces_itself d a) as (λ b. (same_dot x d || has_key dot_cmp (permit.over_of (cond b (NoPermit (without d (over_list a))) (permit_in a))) x) ≡ (same_dot x d || has_key dot_cmp (over_list a) x)) [
-  | true ↦ without_names d x (over_list a)
-  | false ↦ ap (λ l. same_dot x d || has_key dot_cmp l x) (permit_over a)
-]
+-- what a piece sees of an act names what the act does
+seen_names : {A : Type 0} (over_of : A → List Dot) (nothing : List Dot → A) (sees : Act → A) → ((ds : List Dot) → over_of (nothing ds) ≡ ds) → ((a : Act) → over_of (sees a) ≡ over_list a) → (d x : Dot) (a : Act)
+    → (same_dot x d || has_key dot_cmp (over_of (seen_by nothing sees d a)) x) ≡ (same_dot x d || has_key dot_cmp (over_list a) x)
+seen_names over_of nothing sees of_nothing of_seen d x a =
+    elim (replaces_itself d a) as (λ b. (same_dot x d || has_key dot_cmp (over_of (cond b (nothing (without d (over_list a))) (sees a))) x) ≡ (same_dot x d || has_key dot_cmp (over_list a) x)) [
+      | true ↦ ap (λ l. same_dot x d || has_key dot_cmp l x) (of_nothing (without d (over_list a))) ∙ without_names d x (over_list a)
+      | false ↦ ap (λ l. same_dot x d || has_key dot_cmp l x) (of_seen a)
+    ]
 
 -- the dots that one operation names are known in its meaning
 known_alone : (o : Operation) (known : Dots) → ((x : Dot) → set.contains known x ≡ names x o) → known ≡ (meaning_of (o ∷ [])).known
@@ -97,6 +107,7 @@ wish_wishes key (Down n i) = refl
 wish_wishes key (Permit k v over) = refl
 wish_wishes key (Start k over) = refl
 wish_wishes key (Stop k over) = refl
+wish_wishes key (Drain n i v over) = refl
 wish_wishes key (Claim app term how from) = refl
 
 -- b: the act replaces its own dot; k: it wishes the key; e: it has the dot; r: it replaces the dot
@@ -128,35 +139,22 @@ module _ (o : Operation) (w : Write) where
 
 pub wish_delta_is_meaning : WishDeltaIsMeaning
 wish_delta_is_meaning o = same_wishes (wish.wish_delta o.dot (seen_wish o.dot o.act)) (wishes_of (meaning_of (o ∷ [])))
-    (known_alone o _ (λ x. contains-named_by wish.over_of o.dot (seen_wish o.dot o.act) x ∙ wish_names o.dot x o.act))
+    (known_alone o _ (λ x. contains-named_by wish.over_of o.dot (seen_wish o.dot o.act) x ∙ seen_names wish.over_of NoWish wish_in (λ _. refl) wish_over o.dot x o.act))
     (λ w. wish.contains-delta o.dot (seen_wish o.dot o.act) w ∙ start_here o w)
 
--- ---- permits
+-- ---- votes
 
--- what is said of a key, from what the act says
-one_said : (k v : Bool) → cond k (Some (flag_of v)) None ≡ flag_said (k && is_same v false) (k && is_same v true)
-one_said true true = refl
-one_said true false = refl
-one_said false v = refl
-
-permit_says : (key : Key) (a : Act) → permit.says key (permit_in a) ≡ flag_said (says key false a) (says key true a)
-permit_says key (Permit k v over) = one_said (same_key key k) v
-permit_says key Up = refl
-permit_says key (Down n i) = refl
-permit_says key (Start k over) = refl
-permit_says key (Stop k over) = refl
-permit_says key (Claim app term how from) = refl
-
--- b: the act replaces its own dot; n, y: it says false or true of the key. e: it has the dot; r: it replaces the dot
-permit_alone : (b n y e r : Bool) → (e ≡ true → r ≡ b) → cond e (cond b None (flag_said n y)) None ≡ cond (r || false) None (flag_said ((n && e) || false) ((y && e) || false))
-permit_alone b n y true r h = (λ i. cond (sym (h refl) i) None (flag_said n y)) ∙ sides n y r
+-- b: the act replaces its own dot; n, y: it says what is Down or what is Up of the key. e: it has the dot; r: it
+-- replaces the dot
+vote_alone : (b n y e r : Bool) → (e ≡ true → r ≡ b) → cond e (cond b None (flag_said n y)) None ≡ cond (r || false) None (flag_said ((n && e) || false) ((y && e) || false))
+vote_alone b n y true r h = (λ i. cond (sym (h refl) i) None (flag_said n y)) ∙ sides n y r
   where
     sides : (n y r : Bool) → cond r None (flag_said n y) ≡ cond (r || false) None (flag_said ((n && true) || false) ((y && true) || false))
     sides n y true = refl
     sides true y false = refl
     sides false true false = refl
     sides false false false = refl
-permit_alone b n y false r h = nothing n y r
+vote_alone b n y false r h = nothing n y r
   where
     nothing : (n y r : Bool) → ◌≡◌ {A = Option Flag} None (cond (r || false) None (flag_said ((n && false) || false) ((y && false) || false)))
     nothing n y true = refl
@@ -165,23 +163,87 @@ permit_alone b n y false r h = nothing n y r
     nothing false true false = refl
     nothing false false false = refl
 
-module _ (o : Operation) (w : Write) where
-  seen_says : permit.says w.key (seen_permit o.dot o.act) ≡ cond (replaces_itself o.dot o.act) None (flag_said (says w.key false o.act) (says w.key true o.act))
-  seen_says = elim (replaces_itself o.dot o.act) as (λ b. permit.says w.key (cond b (NoPermit (without o.dot (over_list o.act))) (permit_in o.act)) ≡ cond b None (flag_said (says w.key false o.act) (says w.key true o.act))) [
-    | true ↦ refl
-    | false ↦ permit_says w.key o.act
+-- what is said of a key, from what a vote says
+one_said : (down : Bool) (flag : Bool → Flag) → flag down ≡ IsDown → flag (not down) ≡ IsUp → (k v : Bool) → cond k (Some (flag v)) None ≡ flag_said (k && is_same v down) (k && is_same v (not down))
+one_said true flag p q true true = ap (λ f. Some f) p
+one_said true flag p q true false = ap (λ f. Some f) q
+one_said false flag p q true true = ap (λ f. Some f) q
+one_said false flag p q true false = ap (λ f. Some f) p
+one_said down flag p q false v = refl
+
+-- a vote with its value as a flag
+abbrev pub as_flag : {K : Type 0} → (Bool → Flag) → Option (K × Bool) → Option (K × Flag)
+as_flag flag None = None
+as_flag flag (Some u) = Some (u.0, flag u.1)
+
+-- A piece sees the votes of acts: `vote` is what an act says, `down` the value that is Down, `votes` what the piece sees
+module _ {K : Type 0} {R : K → K → Ordering} (total : IsTotalOrder R) (exact : CmpEqualImpliesEq R) (vote : Act → Option (K × Bool)) (down : Bool) (flag : Bool → Flag) (is_down : flag down ≡ IsDown) (is_up : flag (not down) ≡ IsUp)
+    {A : Type 0} (over_of : A → List Dot) (votes : A → Option (K × Flag)) (nothing : List Dot → A) (sees : Act → A)
+    (of_nothing : (ds : List Dot) → over_of (nothing ds) ≡ ds) (of_seen : (a : Act) → over_of (sees a) ≡ over_list a)
+    (no_vote : (ds : List Dot) → votes (nothing ds) ≡ None) (same_vote : (a : Act) → votes (sees a) ≡ as_flag flag (vote a)) where
+  one_told : (key : K) (u : Option (K × Bool)) → says_of R key (as_flag flag u) ≡ flag_said (told R key down u) (told R key (not down) u)
+  one_told key None = refl
+  one_told key (Some u) = one_said down flag is_down is_up (eq_by_cmp R key u.0) u.1
+
+  seen_says : (o : Operation) (key : K) → says_of R key (votes (seen_by nothing sees o.dot o.act)) ≡ cond (replaces_itself o.dot o.act) None (flag_said (told R key down (vote o.act)) (told R key (not down) (vote o.act)))
+  seen_says o key = elim (replaces_itself o.dot o.act) as (λ b. says_of R key (votes (cond b (nothing (without o.dot (over_list o.act))) (sees o.act))) ≡ cond b None (flag_said (told R key down (vote o.act)) (told R key (not down) (vote o.act)))) [
+    | true ↦ ap (says_of R key) (no_vote (without o.dot (over_list o.act)))
+    | false ↦ ap (says_of R key) (same_vote o.act) ∙ one_told key (vote o.act)
   ]
 
-  permit_here : permit.permit_in w (o.dot, seen_permit o.dot o.act) ≡ map.get (meaning_of (o ∷ [])).permits w
-  permit_here =
-      ap (λ v. cond (has_dot w.dot o) v None) seen_says
-      ∙ permit_alone (replaces_itself o.dot o.act) (says w.key false o.act) (says w.key true o.act) (has_dot w.dot o) (replaces w.dot o) (own o w)
-      ∙ sym (permits-meaning (o ∷ []) w)
+  vote_here : (o : Operation) (w : KeyedWrite K) → vote_in R votes w (o.dot, seen_by nothing sees o.dot o.act) ≡ vote_at R vote down (o ∷ []) w
+  vote_here o w =
+      ap (λ v. cond (has_dot w.dot o) v None) (seen_says o w.key)
+      ∙ vote_alone (replaces_itself o.dot o.act) (told R w.key down (vote o.act)) (told R w.key (not down) (vote o.act)) (has_dot w.dot o) (replaces w.dot o)
+      (λ e. ap (λ d. replaces d o) (same_dot_is w.dot o.dot e))
+
+  -- the delta of an operation is what it means alone
+  pub delta_alone : (o : Operation) (z : VotesValue R) → z.known ≡ (meaning_of (o ∷ [])).known → ((w : KeyedWrite K) → map.get z.standing w ≡ vote_at R vote down (o ∷ []) w)
+      → vote_delta R over_of votes o.dot (seen_by nothing sees o.dot o.act) ≡ z
+  delta_alone o z known standing = same_votes total exact (vote_delta R over_of votes o.dot (seen_by nothing sees o.dot o.act)) z
+      (known_alone o _ (λ x. contains-named_by over_of o.dot (seen_by nothing sees o.dot o.act) x ∙ seen_names over_of nothing sees of_nothing of_seen o.dot x o.act) ∙ sym known)
+      (λ w. get-vote_delta total exact over_of votes o.dot (seen_by nothing sees o.dot o.act) w ∙ vote_here o w ∙ sym (standing w))
+
+-- ---- permits
+
+seen_permit_vote : (a : Act) → permit.vote_of (permit_in a) ≡ as_flag flag_of (permit_vote a)
+seen_permit_vote Up = refl
+seen_permit_vote (Down n i) = refl
+seen_permit_vote (Permit k v over) = refl
+seen_permit_vote (Start k over) = refl
+seen_permit_vote (Stop k over) = refl
+seen_permit_vote (Drain n i v over) = refl
+seen_permit_vote (Claim app term how from) = refl
 
 pub permit_delta_is_meaning : PermitDeltaIsMeaning
-permit_delta_is_meaning o = same_permissions (permit.permit_delta o.dot (seen_permit o.dot o.act)) (permissions_of (meaning_of (o ∷ [])))
-    (known_alone o _ (λ x. contains-named_by permit.over_of o.dot (seen_permit o.dot o.act) x ∙ permit_names o.dot x o.act))
-    (λ w. permit.get-delta o.dot (seen_permit o.dot o.act) w ∙ permit_here o w)
+permit_delta_is_meaning o =
+    delta_alone keys_total exact_keys permit_vote false flag_of refl refl permit.over_of permit.vote_of NoPermit permit_in (λ _. refl) permit_over (λ _. refl) seen_permit_vote
+    o (permissions_of (meaning_of (o ∷ []))) refl (permits-meaning (o ∷ []))
+
+-- ---- drains
+
+drain_over : (a : Act) → drain.over_of (drain_in a) ≡ over_list a
+drain_over Up = refl
+drain_over (Down n i) = refl
+drain_over (Permit k v over) = refl
+drain_over (Start k over) = refl
+drain_over (Stop k over) = refl
+drain_over (Drain n i v over) = refl
+drain_over (Claim app term how from) = refl
+
+seen_drain_vote : (a : Act) → drain.vote_of (drain_in a) ≡ as_flag drain_flag (drain_vote a)
+seen_drain_vote Up = refl
+seen_drain_vote (Down n i) = refl
+seen_drain_vote (Permit k v over) = refl
+seen_drain_vote (Start k over) = refl
+seen_drain_vote (Stop k over) = refl
+seen_drain_vote (Drain n i v over) = refl
+seen_drain_vote (Claim app term how from) = refl
+
+pub drain_delta_is_meaning : DrainDeltaIsMeaning
+drain_delta_is_meaning o =
+    delta_alone origins_total exact_origins drain_vote true drain_flag refl refl drain.over_of drain.vote_of NoDrain drain_in (λ _. refl) drain_over (λ _. refl) seen_drain_vote
+    o (drains_of (meaning_of (o ∷ []))) refl (drains-meaning (o ∷ []))
 
 -- ---- lives and claims
 

@@ -6,13 +6,15 @@ use Rattle.dac_dots.specs.declared.dot.Dot.{Dot}
 use Rattle.dac_lattice.specs.declared.flags.Flag.{Flag}
 use Rattle.dac_lattice.specs.declared.flags.Flag.TheVariants.{Up as IsUp, Down as IsDown}
 use Rattle.dac_wishes.specs.declared.key.Key.{Key}
+use Rattle.dac_wishes.specs.KeyedWrites.{keyed_write}
+use Rattle.dac_wishes.specs.DrainsValue.{origin}
 use Rattle.dac_wishes.specs.Writes.{write}
 use Rattle.dac_wishes.specs.PermissionsValue.{says_true, NoneStands, SomePermitStands, AllSayTrue}
 use Rattle.dac_operations.specs.Operations.{Operation}
 use Rattle.dac_meaning.specs.StateValue.{permissions_of}
 use Rattle.dac_meaning.specs.Meaning.{meaning_of, Agree, Stands}
-use Rattle.dac_meaning.specs.MeaningLaws.{WishedHaveStarts, StandsSaying, PermittedAreSaid}
-use Rattle.dac_meaning.proofs.Membership.{starts_are_unreplaced, permits_are_unreplaced}
+use Rattle.dac_meaning.specs.MeaningLaws.{WishedHaveStarts, StandsSaying, PermittedAreSaid, DrainedAreSaid}
+use Rattle.dac_meaning.proofs.Membership.{starts_are_unreplaced, permits_are_unreplaced, drains_are_unreplaced}
 
 pub wished_have_starts : WishedHaveStarts
 wished_have_starts os key = (
@@ -67,4 +69,12 @@ permitted_are_said os agree key default = (
     | inl none ↦ inl (none_stands os agree key none.0, none.1)
     | inr some ↦ inr (say_all os agree key some)
   ],
+)
+
+pub drained_are_said : DrainedAreSaid
+drained_are_said os agree n i = (
+  λ s.
+      let p = (drains_are_unreplaced os agree (keyed_write (origin n i) s.0) IsDown).0 s.1 in
+      (p.0.0, (p.0.1.0, (p.0.1.1.1, subst (λ d. Stands d os) (sym p.0.1.1.0) p.1))),
+  λ f. (f.0.dot, (drains_are_unreplaced os agree (keyed_write (origin n i) f.0.dot) IsDown).1 ((f.0, (f.1.0, (refl, f.1.1.0))), f.1.1.1)),
 )

@@ -3,9 +3,11 @@ use Rattle.std.proofs.Common.{◌≡◌, ◌≤◌, ◌<◌, ℕ, Bool, true, fa
 use Rattle.std.specs.List.{list_any}
 use Rattle.std.specs.declared.cmp.Ordering.{Ordering}
 use Rattle.std.specs.declared.cmp.Ordering.TheVariants.{Less, Equal, Greater}
-use Rattle.std.specs.Ordering.{MatchOrdering, is_le, nat_cmp, ordering_then}
-use Rattle.std.specs.Cmp.{ranks}
+use Rattle.std.specs.Ordering.{MatchOrdering, eq_by_cmp, is_eq, is_le, nat_cmp, ordering_then}
+use Rattle.std.specs.Cmp.{IsTotalOrder, ranks, tied_itself}
+use Rattle.std.proofs.lemmas.Map.Lookups.{CmpEqualImpliesEq}
 use Rattle.std.specs.FinMap as map
+use Rattle.std.specs.Prelude.{◌↔◌}
 use Rattle.std.proofs.lemmas.Bool.{false≢true, or_cases, or_left, or_right, and_parts, and_from, not-true, not_from_false, false_from_ne_true}
 use Rattle.dac_base.specs.declared.NodeId.{NodeId}
 use Rattle.dac_base.specs.declared.AppId.{AppId}
@@ -20,17 +22,20 @@ use Rattle.dac_chains.specs.Greatest.{IsGreatest, greatest_same, IsSaid}
 use Rattle.dac_chains.specs.Lives.{life_cmp, lives_total, exact_lives}
 use Rattle.dac_chains.specs.Claims.{claim_cmp, claims_total, exact_claims, exact_hows, how_cmp}
 use Rattle.dac_wishes.specs.declared.key.Key.{Key}
-use Rattle.dac_wishes.specs.Keys.{same_key, same_key_is, same_key_itself}
+use Rattle.dac_wishes.specs.Keys.{same_key_is, same_key_itself, keys_total, exact_keys}
+use Rattle.dac_wishes.specs.KeyedWrites.{KeyedWrite, tied_is}
 use Rattle.dac_wishes.specs.Writes.{Write, same_dot, same_dot_is, same_dot_itself}
 use Rattle.dac_wishes.specs.PermissionsValue.{says_true}
+use Rattle.dac_wishes.specs.DrainsValue.{origin, says_drained}
+use Rattle.dac_dots.specs.Dots.{origins_total, exact_origins}
 use Rattle.dac_operations.specs.declared.act.Act.{Act}
-use Rattle.dac_operations.specs.declared.act.Act.TheVariants.{Up, Down, Permit, Start, Stop, Claim}
+use Rattle.dac_operations.specs.declared.act.Act.TheVariants.{Up, Down, Permit, Start, Stop, Drain, Claim}
 use Rattle.dac_operations.specs.Operations.{Operation}
-use Rattle.dac_meaning.specs.Meaning.{meaning_of, has_dot, replaces, is_replaced, names, wishes, is_start, says, is_same, is_permit, flag_said, said, pairs, life_said, claim_said, In, Agree, Stands}
-use Rattle.dac_meaning.specs.MeaningLaws.{HeardAreDots, KnownAreNamed, Names, IsStart, StartsAreUnreplaced, IsPermit, PermitsAreUnreplaced, SaysLife, LivesAreGreatest, DownStaysDown, IsClaim, ClaimsAreGreatest}
+use Rattle.dac_meaning.specs.Meaning.{meaning_of, has_dot, replaces, is_replaced, names, wishes, is_start, is_same, flag_said, told, value_of, is_vote, vote_said, vote_at, permit_vote, drain_vote, pairs, life_said, claim_said, In, Agree, Stands}
+use Rattle.dac_meaning.specs.MeaningLaws.{HeardAreDots, KnownAreNamed, Names, IsStart, StartsAreUnreplaced, IsVote, PermitsAreUnreplaced, DrainsAreUnreplaced, SaysLife, LivesAreGreatest, DownStaysDown, IsClaim, ClaimsAreGreatest}
 use Rattle.dac_meaning.specs.laws.Members.{found, finds}
 use Rattle.dac_meaning.specs.Chained.{of_said, is_said}
-use Rattle.dac_meaning.specs.laws.Readers.{heard-meaning, known-meaning, starts-meaning, permits-meaning, lives-meaning, claims-meaning, lives_are, claims_are}
+use Rattle.dac_meaning.specs.laws.Readers.{heard-meaning, known-meaning, starts-meaning, permits-meaning, drains-meaning, lives-meaning, claims-meaning, lives_are, claims_are}
 
 -- ---- dots
 
@@ -74,6 +79,7 @@ start_act key Up t = absurd (false≢true t)
 start_act key (Down n i) t = absurd (false≢true t)
 start_act key (Permit k v over) t = absurd (false≢true t)
 start_act key (Stop k over) t = absurd (false≢true t)
+start_act key (Drain n i v over) t = absurd (false≢true t)
 start_act key (Claim app term how from) t = absurd (false≢true t)
 
 start_of : (w : Write) (o : Operation) → IsStart w o → is_start w o ≡ true
@@ -93,7 +99,10 @@ starts_are_unreplaced os w = (
       starts-meaning os w ∙ and_from (list_any (is_start w) os) (not (is_replaced w.dot os)) (finds (is_start w) os f.0 f.1.0 (start_of w f.0 f.1.1)) (not_from_false (is_replaced w.dot os) (of_stands w.dot os p.1)),
 )
 
--- ---- permits
+some_pair : {K T : Type 0} (a b : K × T) → Some a ≡ Some b → a ≡ b
+some_pair a b e = ap (λ o. unwrap_or o a) e
+
+-- ---- votes
 
 same_itself : (v : Bool) → is_same v v ≡ true
 same_itself true = refl
@@ -104,69 +113,124 @@ same_is true u t = sym t
 same_is false true t = absurd (false≢true t)
 same_is false false t = refl
 
-permit_act : (key : Key) (v : Bool) (a : Act) → says key v a ≡ true → (over : List Dot) × (a ≡ Permit key v over)
-permit_act key v (Permit k u over) t =
-    let parts = and_parts (same_key key k) (is_same u v) t in
-    (over, λ i. Permit (sym (same_key_is key k parts.0) i) (same_is u v parts.1 i) over)
-permit_act key v Up t = absurd (false≢true t)
-permit_act key v (Down n i) t = absurd (false≢true t)
-permit_act key v (Start k over) t = absurd (false≢true t)
-permit_act key v (Stop k over) t = absurd (false≢true t)
-permit_act key v (Claim app term how from) t = absurd (false≢true t)
-
-permit_of : (w : Write) (f : Flag) (o : Operation) → IsPermit w f o → is_permit w (says_true f) o ≡ true
-permit_of w f o s =
-    and_from (says w.key (says_true f) o.act) (has_dot w.dot o)
-    (ap (says w.key (says_true f)) s.1.1 ∙ and_from (same_key w.key w.key) (is_same (says_true f) (says_true f)) (same_key_itself w.key) (same_itself (says_true f)))
-    (has_dot_of w.dot o s.0)
-
-of_permit : (w : Write) (f : Flag) (o : Operation) → is_permit w (says_true f) o ≡ true → IsPermit w f o
-of_permit w f o t = let parts = and_parts (says w.key (says_true f) o.act) (has_dot w.dot o) t in (dot_of w.dot o parts.1, permit_act w.key (says_true f) o.act parts.0)
-
--- what is said is said by an operation
-said_there : (w : Write) (os : List Operation) (f : Flag) → said w os ≡ Some f → list_any (is_permit w (says_true f)) os ≡ true
-said_there w os f h = there (list_any (is_permit w false) os) (list_any (is_permit w true) os) refl refl f h
-  where
-    there : (a b : Bool) → list_any (is_permit w false) os ≡ a → list_any (is_permit w true) os ≡ b → (f : Flag) → flag_said a b ≡ Some f → list_any (is_permit w (says_true f)) os ≡ true
-    there true b p q f h = ap (λ (o : Option Flag). list_any (is_permit w (says_true (unwrap_or o IsUp))) os) (sym h) ∙ p
-    there false true p q f h = ap (λ (o : Option Flag). list_any (is_permit w (says_true (unwrap_or o IsUp))) os) (sym h) ∙ q
-    there false false p q f h = absurd (false≢true (ap is_some h))
-
--- operations that have their dots alone don't say both
-not_both : (w : Write) (os : List Operation) → Agree os → list_any (is_permit w true) os ≡ true → list_any (is_permit w false) os ≡ false
-not_both w os agree t = false_from_ne_true (list_any (is_permit w false) os) (λ n.
-    let p = found (is_permit w true) os t in
-    let q = found (is_permit w false) os n in
-    let yes = of_permit w IsUp p.0 p.1.1 in
-    let no = of_permit w IsDown q.0 q.1.1 in
-    let same : p.0 ≡ q.0 = agree p.0 q.0 p.1.0 q.1.0 (yes.0 ∙ sym no.0) in
-    let said_true : says w.key true q.0.act ≡ true = ap (λ (o : Operation). says w.key true o.act) (sym same) ∙ (and_parts (says w.key true p.0.act) (has_dot w.dot p.0) p.1.1).0 in
-    false≢true (and_parts (same_key w.key w.key) false (sym (ap (says w.key true) no.1.1) ∙ said_true)).1)
-
--- what an operation says is said
-there_said : (w : Write) (os : List Operation) → Agree os → (f : Flag) → list_any (is_permit w (says_true f)) os ≡ true → said w os ≡ Some f
-there_said w os agree IsDown t = ap (λ b. flag_said b (list_any (is_permit w true) os)) t
-there_said w os agree IsUp t = λ i. flag_said (not_both w os agree t i) (t i)
-
 stands_some : (b : Bool) (v : Option Flag) (f : Flag) → cond b None v ≡ Some f → (b ≡ false) × (v ≡ Some f)
 stands_some true v f h = absurd (false≢true (ap is_some h))
 stands_some false v f h = (refl, h)
 
+differs : (b : Bool) → ¬ (not b ≡ b)
+differs true e = false≢true e
+differs false e = false≢true (sym e)
+
+module _ {K : Type 0} {R : K → K → Ordering} (total : IsTotalOrder R) (exact : CmpEqualImpliesEq R) (vote : Act → Option (K × Bool)) (down : Bool) where
+  told_is : (key : K) (v : Bool) (u : Option (K × Bool)) → told R key v u ≡ true → u ≡ Some (key, v)
+  told_is key v None t = absurd (false≢true t)
+  told_is key v (Some u) t =
+      let parts = and_parts (eq_by_cmp R key u.0) (is_same u.1 v) t in
+      λ i. Some (sym (tied_is exact key u.0 parts.0) i, same_is u.1 v parts.1 i)
+
+  is_told : (key : K) (v : Bool) → told R key v (Some (key, v)) ≡ true
+  is_told key v = and_from (eq_by_cmp R key key) (is_same v v) (ap is_eq (tied_itself total key)) (same_itself v)
+
+  vote_of : (w : KeyedWrite K) (v : Bool) (o : Operation) → IsVote vote w v o → is_vote R vote w v o ≡ true
+  vote_of w v o s = and_from (told R w.key v (vote o.act)) (has_dot w.dot o) (ap (told R w.key v) s.1 ∙ is_told w.key v) (has_dot_of w.dot o s.0)
+
+  of_vote : (w : KeyedWrite K) (v : Bool) (o : Operation) → is_vote R vote w v o ≡ true → IsVote vote w v o
+  of_vote w v o t = let parts = and_parts (told R w.key v (vote o.act)) (has_dot w.dot o) t in (dot_of w.dot o parts.1, told_is w.key v (vote o.act) parts.0)
+
+  -- what is said is said by an operation
+  said_there : (w : KeyedWrite K) (os : List Operation) (f : Flag) → vote_said R vote down w os ≡ Some f → list_any (is_vote R vote w (value_of down f)) os ≡ true
+  said_there w os f h = there (list_any (is_vote R vote w down) os) (list_any (is_vote R vote w (not down)) os) refl refl f h
+    where
+      there : (a b : Bool) → list_any (is_vote R vote w down) os ≡ a → list_any (is_vote R vote w (not down)) os ≡ b → (f : Flag) → flag_said a b ≡ Some f → list_any (is_vote R vote w (value_of down f)) os ≡ true
+      there true b p q f h = ap (λ (o : Option Flag). list_any (is_vote R vote w (value_of down (unwrap_or o IsUp))) os) (sym h) ∙ p
+      there false true p q f h = ap (λ (o : Option Flag). list_any (is_vote R vote w (value_of down (unwrap_or o IsUp))) os) (sym h) ∙ q
+      there false false p q f h = absurd (false≢true (ap is_some h))
+
+  -- operations that have their dots alone don't say both
+  not_both : (w : KeyedWrite K) (os : List Operation) → Agree os → list_any (is_vote R vote w (not down)) os ≡ true → list_any (is_vote R vote w down) os ≡ false
+  not_both w os agree t = false_from_ne_true (list_any (is_vote R vote w down) os) (λ n.
+      let p = found (is_vote R vote w (not down)) os t in
+      let q = found (is_vote R vote w down) os n in
+      let yes = of_vote w (not down) p.0 p.1.1 in
+      let no = of_vote w down q.0 q.1.1 in
+      let same : p.0 ≡ q.0 = agree p.0 q.0 p.1.0 q.1.0 (yes.0 ∙ sym no.0) in
+      differs down (ap value_in (sym yes.1 ∙ ap (λ (o : Operation). vote o.act) same ∙ no.1)))
+    where
+      value_in : Option (K × Bool) → Bool
+      value_in None = false
+      value_in (Some u) = u.1
+
+  -- what an operation says is said
+  there_said : (w : KeyedWrite K) (os : List Operation) → Agree os → (f : Flag) → list_any (is_vote R vote w (value_of down f)) os ≡ true → vote_said R vote down w os ≡ Some f
+  there_said w os agree IsDown t = ap (λ b. flag_said b (list_any (is_vote R vote w (not down)) os)) t
+  there_said w os agree IsUp t = λ i. flag_said (not_both w os agree t i) (t i)
+
+  -- a vote stands with a value exactly if an operation is it with this value and none replaces it
+  pub votes_are_unreplaced : (os : List Operation) → Agree os → (w : KeyedWrite K) (f : Flag) → (vote_at R vote down os w ≡ Some f) ↔ (((o : Operation) × (In o os × IsVote vote w (value_of down f) o)) × Stands w.dot os)
+  votes_are_unreplaced os agree w f = (
+    λ h.
+        let parts = stands_some (is_replaced w.dot os) (vote_said R vote down w os) f h in
+        let o = found (is_vote R vote w (value_of down f)) os (said_there w os f parts.1) in
+        ((o.0, (o.1.0, of_vote w (value_of down f) o.0 o.1.1)), stands_of w.dot os parts.0),
+    λ p.
+        let o = p.0 in
+        ap (λ b. cond b None (vote_said R vote down w os)) (of_stands w.dot os p.1)
+        ∙ there_said w os agree f (finds (is_vote R vote w (value_of down f)) os o.0 o.1.0 (vote_of w (value_of down f) o.0 o.1.1)),
+  )
+
+-- ---- permits
+
+permit_act : (key : Key) (v : Bool) (a : Act) → permit_vote a ≡ Some (key, v) → (over : List Dot) × (a ≡ Permit key v over)
+permit_act key v (Permit k u over) t = let p = some_pair (k, u) (key, v) t in (over, λ i. Permit (p i).0 (p i).1 over)
+permit_act key v Up t = absurd (false≢true (ap is_some t))
+permit_act key v (Down n i) t = absurd (false≢true (ap is_some t))
+permit_act key v (Start k over) t = absurd (false≢true (ap is_some t))
+permit_act key v (Stop k over) t = absurd (false≢true (ap is_some t))
+permit_act key v (Drain n i u over) t = absurd (false≢true (ap is_some t))
+permit_act key v (Claim app term how from) t = absurd (false≢true (ap is_some t))
+
+permit_value : (f : Flag) → value_of false f ≡ says_true f
+permit_value IsUp = refl
+permit_value IsDown = refl
+
 pub permits_are_unreplaced : PermitsAreUnreplaced
-permits_are_unreplaced os agree w f = (
-  λ h.
-      let parts = stands_some (is_replaced w.dot os) (said w os) f (sym (permits-meaning os w) ∙ h) in
-      let o = found (is_permit w (says_true f)) os (said_there w os f parts.1) in
-      ((o.0, (o.1.0, of_permit w f o.0 o.1.1)), stands_of w.dot os parts.0),
-  λ p.
-      let o = p.0 in
-      permits-meaning os w ∙ ap (λ b. cond b None (said w os)) (of_stands w.dot os p.1) ∙ there_said w os agree f (finds (is_permit w (says_true f)) os o.0 o.1.0 (permit_of w f o.0 o.1.1)),
-)
+permits_are_unreplaced os agree w f =
+    let stand = votes_are_unreplaced keys_total exact_keys permit_vote false os agree w f in (
+      λ h.
+          let p = stand.0 (sym (permits-meaning os w) ∙ h) in
+          ((p.0.0, (p.0.1.0, (p.0.1.1.0, permit_act w.key (says_true f) p.0.0.act (p.0.1.1.1 ∙ ap (λ v. Some (w.key, v)) (permit_value f))))), p.1),
+      λ p.
+          permits-meaning os w
+          ∙ stand.1 ((p.0.0, (p.0.1.0, (p.0.1.1.0, ap permit_vote p.0.1.1.1.1 ∙ ap (λ v. Some (w.key, v)) (sym (permit_value f))))), p.1),
+    )
+
+-- ---- drains
+
+drain_act : (n : NodeId) (i : ℕ) (v : Bool) (a : Act) → drain_vote a ≡ Some (origin n i, v) → (over : List Dot) × (a ≡ Drain n i v over)
+drain_act n i v (Drain m j u over) t = let p = some_pair (origin m j, u) (origin n i, v) t in (over, λ k. Drain (p k).0.node (p k).0.inc (p k).1 over)
+drain_act n i v Up t = absurd (false≢true (ap is_some t))
+drain_act n i v (Down m j) t = absurd (false≢true (ap is_some t))
+drain_act n i v (Permit k u over) t = absurd (false≢true (ap is_some t))
+drain_act n i v (Start k over) t = absurd (false≢true (ap is_some t))
+drain_act n i v (Stop k over) t = absurd (false≢true (ap is_some t))
+drain_act n i v (Claim app term how from) t = absurd (false≢true (ap is_some t))
+
+drain_value : (f : Flag) → value_of true f ≡ says_drained f
+drain_value IsUp = refl
+drain_value IsDown = refl
+
+pub drains_are_unreplaced : DrainsAreUnreplaced
+drains_are_unreplaced os agree w f =
+    let stand = votes_are_unreplaced origins_total exact_origins drain_vote true os agree w f in (
+      λ h.
+          let p = stand.0 (sym (drains-meaning os w) ∙ h) in
+          ((p.0.0, (p.0.1.0, (p.0.1.1.0, drain_act w.key.node w.key.inc (says_drained f) p.0.0.act (p.0.1.1.1 ∙ ap (λ v. Some (w.key, v)) (drain_value f))))), p.1),
+      λ p.
+          drains-meaning os w
+          ∙ stand.1 ((p.0.0, (p.0.1.0, (p.0.1.1.0, ap drain_vote p.0.1.1.1.1 ∙ ap (λ v. Some (w.key, v)) (sym (drain_value f))))), p.1),
+    )
 
 -- ---- lives
-
-some_pair : {K T : Type 0} (a b : K × T) → Some a ≡ Some b → a ≡ b
-some_pair a b e = ap (λ o. unwrap_or o a) e
 
 life_of : (n : NodeId) (l : Life) (o : Operation) → life_said o.dot o.act ≡ Some (n, l) → SaysLife n l o
 life_of n l o h = by_act o.act refl h
@@ -177,6 +241,7 @@ life_of n l o h = by_act o.act refl h
     by_act (Permit k v over) e h = absurd (false≢true (ap is_some h))
     by_act (Start k over) e h = absurd (false≢true (ap is_some h))
     by_act (Stop k over) e h = absurd (false≢true (ap is_some h))
+    by_act (Drain m j v over) e h = absurd (false≢true (ap is_some h))
     by_act (Claim app term how from) e h = absurd (false≢true (ap is_some h))
 
 of_life : (n : NodeId) (l : Life) (o : Operation) → SaysLife n l o → life_said o.dot o.act ≡ Some (n, l)
@@ -218,6 +283,7 @@ claim_of app c o h = by_act o.act refl h
     by_act (Permit k v over) e h = absurd (false≢true (ap is_some h))
     by_act (Start k over) e h = absurd (false≢true (ap is_some h))
     by_act (Stop k over) e h = absurd (false≢true (ap is_some h))
+    by_act (Drain m j v over) e h = absurd (false≢true (ap is_some h))
 
 of_claim : (app : AppId) (c : ClaimValue) (o : Operation) → IsClaim app c o → claim_said o.dot o.act ≡ Some (app, c)
 of_claim app c o s = ap (claim_said o.dot) s.1 ∙ (λ i. Some (app, record { term = c.term; origin = s.0 i; how = c.how; from = c.from }))

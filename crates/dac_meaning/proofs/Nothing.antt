@@ -2,15 +2,17 @@
 use Rattle.std.proofs.Common.{[], sym, ◌∙◌}
 use Rattle.std.specs.FinSet as set
 use Rattle.std.specs.FinMap as map
-use Rattle.dac_dots.specs.Dots.{dot_cmp, dots_total, exact_dots}
+use Rattle.dac_dots.specs.Dots.{dot_cmp, dots_total, exact_dots, origin_cmp}
+use Rattle.dac_wishes.specs.KeyedWrites.{keyed_write_cmp}
+use Rattle.dac_wishes.specs.DrainsValue.{same_drains}
 use Rattle.dac_wishes.specs.Writes.{write_cmp}
 use Rattle.dac_wishes.specs.WishesValue.{same_wishes}
 use Rattle.dac_wishes.specs.PermissionsValue.{same_permissions}
 use Rattle.dac_meaning.specs.laws.StateLaws.{same_state}
-use Rattle.dac_meaning.specs.StateValue.{bottom, permissions_of, wishes_of}
+use Rattle.dac_meaning.specs.StateValue.{bottom, permissions_of, wishes_of, drains_of}
 use Rattle.dac_meaning.specs.Meaning.{meaning_of}
 use Rattle.dac_meaning.specs.MeaningLaws.{NothingMeansBottom}
-use Rattle.dac_meaning.specs.laws.Readers.{heard-meaning, known-meaning, starts-meaning, permits-meaning, lives-meaning, claims-meaning}
+use Rattle.dac_meaning.specs.laws.Readers.{heard-meaning, known-meaning, starts-meaning, permits-meaning, lives-meaning, claims-meaning, drains-meaning}
 
 pub nothing_means_bottom : NothingMeansBottom
 nothing_means_bottom =
@@ -21,3 +23,4 @@ nothing_means_bottom =
     (same_wishes (wishes_of (meaning_of [])) (wishes_of bottom) known (λ w. starts-meaning [] w ∙ sym (set.contains-empty write_cmp w)))
     (lives-meaning [])
     (claims-meaning [])
+    (same_drains (drains_of (meaning_of [])) (drains_of bottom) known (λ w. drains-meaning [] w ∙ sym (map.get-empty (keyed_write_cmp origin_cmp) w)))

@@ -11,15 +11,17 @@ use Rattle.dac_wishes.specs.WishesValue.{join_wishes, no_wishes}
 use Rattle.dac_wishes.specs.WishMeaning.{wish_delta}
 use Rattle.dac_wishes.specs.PermissionsValue.{join_permissions, no_permissions}
 use Rattle.dac_wishes.specs.PermitMeaning.{permit_delta}
+use Rattle.dac_wishes.specs.DrainsValue.{join_drains, no_drains}
+use Rattle.dac_wishes.specs.DrainMeaning.{drain_delta}
 use Rattle.dac_operations.specs.declared.act.Act.{Act}
 use Rattle.dac_operations.specs.Operations.{Operation}
-use Rattle.dac_operations.specs.Seen.{seen_wish, seen_permit, seen_life, seen_claim}
-use Rattle.dac_meaning.specs.StateValue.{StateValue, bottom, join, permissions_of, wishes_of}
-use Rattle.dac_meaning.specs.laws.StateLaws.{permissions-join, wishes-join, lives-join, claims-join}
+use Rattle.dac_operations.specs.Seen.{seen_wish, seen_permit, seen_drain, seen_life, seen_claim}
+use Rattle.dac_meaning.specs.StateValue.{StateValue, bottom, join, permissions_of, wishes_of, drains_of}
+use Rattle.dac_meaning.specs.laws.StateLaws.{permissions-join, wishes-join, lives-join, claims-join, drains-join}
 use Rattle.dac_meaning.specs.Meaning.{In, Within, Agree, meaning_of}
 use Rattle.dac_meaning.specs.laws.Joins.{join-meaning, meaning-same}
-use Rattle.dac_meaning.specs.PieceParts.{as_seen, PermitsAreJoined, WishesAreJoined, LivesAreJoined, ClaimsAreJoined}
-use Rattle.dac_meaning.proofs.Alone.{permit_delta_is_meaning, wish_delta_is_meaning, life_delta_is_meaning, claim_delta_is_meaning}
+use Rattle.dac_meaning.specs.PieceParts.{as_seen, PermitsAreJoined, WishesAreJoined, DrainsAreJoined, LivesAreJoined, ClaimsAreJoined}
+use Rattle.dac_meaning.proofs.Alone.{permit_delta_is_meaning, drain_delta_is_meaning, wish_delta_is_meaning, life_delta_is_meaning, claim_delta_is_meaning}
 use Rattle.dac_meaning.proofs.Nothing.{nothing_means_bottom}
 
 -- an operation put last is among those where it was put first
@@ -62,6 +64,9 @@ permits_are_joined = are_joined join_permissions no_permissions permit_delta per
 
 pub wishes_are_joined : WishesAreJoined
 wishes_are_joined = are_joined join_wishes no_wishes wish_delta wishes_of seen_wish refl wishes-join wish_delta_is_meaning
+
+pub drains_are_joined : DrainsAreJoined
+drains_are_joined = are_joined join_drains no_drains drain_delta drains_of seen_drain refl drains-join drain_delta_is_meaning
 
 pub lives_are_joined : LivesAreJoined
 lives_are_joined = are_joined (greater life_cmp) map.empty (λ d a. alone (said_life d a)) (λ s. s.lives) (λ _ a. seen_life a) refl lives-join life_delta_is_meaning

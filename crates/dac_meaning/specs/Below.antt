@@ -10,7 +10,7 @@ use Rattle.std.specs.Cmp.{Equal-is}
 use Rattle.std.specs.FinSet as set
 use Rattle.std.specs.FinMap as map
 use Rattle.dac_base.specs.Ids.{exact_nodes, exact_apps}
-use Rattle.dac_dots.specs.Dots.{IsSubset, dots_total}
+use Rattle.dac_dots.specs.Dots.{Dots, IsSubset, dots_total, origin_cmp, exact_origins}
 use Rattle.dac_lattice.specs.declared.flags.Flag.{Flag}
 use Rattle.dac_lattice.specs.declared.flags.Flag.TheVariants.{Up, Down}
 use Rattle.dac_lattice.specs.Flags.{IsFlagBelow}
@@ -20,6 +20,9 @@ use Rattle.dac_wishes.specs.AtDot.{StandsBelow}
 use Rattle.dac_chains.specs.Greatest.{AreNotAbove}
 use Rattle.dac_chains.specs.Lives.{life_cmp}
 use Rattle.dac_chains.specs.Claims.{claim_cmp}
+use Rattle.dac_wishes.specs.Keys.{key_cmp, exact_keys}
+use Rattle.dac_wishes.specs.KeyedWrites.{KeyedWrite, exact_keyed_writes}
+use Rattle.dac_wishes.specs.Votes.{Votes}
 use Rattle.dac_wishes.specs.Writes.{Write, writes_total, exact_writes}
 use Rattle.dac_meaning.specs.StateValue.{StateValue, IsBelow}
 
@@ -45,9 +48,17 @@ stands_below x None = true
 stands_below None (Some y) = false
 stands_below (Some x) (Some y) = is_flag_below x y
 
+-- what stands in y and is among the dots known stands in x, with a value that isn't above
+abbrev pub votes_below : {K : Type 0} (R : K → K → Ordering) → Dots → Votes R → Votes R → Bool
+votes_below {K = K} R known x y = list_all (λ (w : KeyedWrite K). not (set.contains known w.dot) || stands_below (map.get x w) (map.get y w)) (map.keys y)
+
 -- what stands in y and x knows stands in x, with a value that isn't above
 abbrev pub permits_below : StateValue → StateValue → Bool
-permits_below x y = list_all (λ (w : Write). not (set.contains x.known w.dot) || stands_below (map.get x.permits w) (map.get y.permits w)) (map.keys y.permits)
+permits_below x y = votes_below key_cmp x.known x.permits y.permits
+
+-- the same of drains
+abbrev pub drains_below : StateValue → StateValue → Bool
+drains_below x y = votes_below origin_cmp x.known x.drains y.drains
 
 -- the start wishes that stand in y and x knows stand in x
 abbrev pub starts_below : StateValue → StateValue → Bool
@@ -60,7 +71,8 @@ is_below x y =
     && (set.is_subset x.known y.known
     && (permits_below x y
     && (starts_below x y
-    && (are_not_above life_cmp x.lives y.lives && are_not_above claim_cmp x.claims y.claims))))
+    && (are_not_above life_cmp x.lives y.lives
+    && (are_not_above claim_cmp x.claims y.claims && drains_below x y)))))
 
 -- ---- laws
 
@@ -114,17 +126,18 @@ known_then : (a b : Bool) → a ≡ true → (not a || b) ≡ true → b ≡ tru
 known_then true b k h = h
 known_then false b k h = absurd (true≢false (sym k))
 
+module _ {K : Type 0} {R : K → K → Ordering} (exact : CmpEqualImpliesEq R) (known : Dots) (x y : Votes R) where
+  vote_at_write : (w : KeyedWrite K) (o : Option Flag) → map.get y w ≡ o → votes_below R known x y ≡ true → set.contains known w.dot ≡ true → StandsBelow IsFlagBelow (map.get x w) o
+  vote_at_write w None e h k = tt
+  vote_at_write w (Some g) e h k =
+      subst (λ o. StandsBelow IsFlagBelow (map.get x w) o) e
+      ((stands_below-is (map.get x w) (map.get y w)).1 (known_then (set.contains known w.dot) _ k
+      (passes (exact_keyed_writes exact) (λ (u : KeyedWrite K). not (set.contains known u.dot) || stands_below (map.get x u) (map.get y u)) w (map.keys y) h (sym (map.contains_key-keys y w) ∙ ap is_some e))))
+
+  votes_test : ((w : KeyedWrite K) → set.contains known w.dot ≡ true → StandsBelow IsFlagBelow (map.get x w) (map.get y w)) → votes_below R known x y ≡ true
+  votes_test h = all_pass (λ (w : KeyedWrite K). not (set.contains known w.dot) || stands_below (map.get x w) (map.get y w)) (λ w. if_known (set.contains known w.dot) _ (λ k. (stands_below-is (map.get x w) (map.get y w)).0 (h w k))) (map.keys y)
+
 module _ (x y : StateValue) where
-  permits_at_write : (w : Write) (o : Option Flag) → map.get y.permits w ≡ o → permits_below x y ≡ true → set.contains x.known w.dot ≡ true → StandsBelow IsFlagBelow (map.get x.permits w) o
-  permits_at_write w None e h k = tt
-  permits_at_write w (Some g) e h k =
-      subst (λ o. StandsBelow IsFlagBelow (map.get x.permits w) o) e
-      ((stands_below-is (map.get x.permits w) (map.get y.permits w)).1 (known_then (set.contains x.known w.dot) _ k
-      (passes exact_writes (λ (u : Write). not (set.contains x.known u.dot) || stands_below (map.get x.permits u) (map.get y.permits u)) w (map.keys y.permits) h (sym (map.contains_key-keys y.permits w) ∙ ap is_some e))))
-
-  permits_test : ((w : Write) → set.contains x.known w.dot ≡ true → StandsBelow IsFlagBelow (map.get x.permits w) (map.get y.permits w)) → permits_below x y ≡ true
-  permits_test h = all_pass (λ (w : Write). not (set.contains x.known w.dot) || stands_below (map.get x.permits w) (map.get y.permits w)) (λ w. if_known (set.contains x.known w.dot) _ (λ k. (stands_below-is (map.get x.permits w) (map.get y.permits w)).0 (h w k))) (map.keys y.permits)
-
   -- ---- start wishes
 
   kept : (w : Write) → set.contains (set.retain y.starts (λ (u : Write). set.contains x.known u.dot)) w ≡ (set.contains y.starts w && set.contains x.known w.dot)
@@ -142,21 +155,24 @@ unfolding is_below
 is_below-is x y = (
   λ h. and_from _ _ (set.contains-is_subset dots_total x.heard y.heard h.heard)
       (and_from _ _ (set.contains-is_subset dots_total x.known y.known h.permits.known)
-      (and_from _ _ (permits_test x y h.permits.standing)
+      (and_from _ _ (votes_test exact_keys x.known x.permits y.permits h.permits.standing)
       (and_from _ _ (starts_test x y h.starts.standing)
-      (and_from _ _ ((not_above-is exact_nodes life_cmp x.lives y.lives).0 h.lives) ((not_above-is exact_apps claim_cmp x.claims y.claims).0 h.claims))))),
+      (and_from _ _ ((not_above-is exact_nodes life_cmp x.lives y.lives).0 h.lives)
+      (and_from _ _ ((not_above-is exact_apps claim_cmp x.claims y.claims).0 h.claims) (votes_test exact_origins x.known x.drains y.drains h.drains.standing)))))),
   λ t.
       let a = and_parts _ _ t in
       let b = and_parts _ _ a.1 in
       let c = and_parts _ _ b.1 in
       let d = and_parts _ _ c.1 in
       let e = and_parts _ _ d.1 in
+      let f = and_parts _ _ e.1 in
       let known : IsSubset x.known y.known = set.is_subset-contains dots_total x.known y.known b.0 in
       record {
         heard = set.is_subset-contains dots_total x.heard y.heard a.0;
-        permits = record { known = known; standing = λ w k. permits_at_write x y w (map.get y.permits w) refl c.0 k };
+        permits = record { known = known; standing = λ w k. vote_at_write exact_keys x.known x.permits y.permits w (map.get y.permits w) refl c.0 k };
         starts = record { known = known; standing = start_at_write x y d.0 };
         lives = (not_above-is exact_nodes life_cmp x.lives y.lives).1 e.0;
-        claims = (not_above-is exact_apps claim_cmp x.claims y.claims).1 e.1;
+        claims = (not_above-is exact_apps claim_cmp x.claims y.claims).1 f.0;
+        drains = record { known = known; standing = λ w k. vote_at_write exact_origins x.known x.drains y.drains w (map.get y.drains w) refl f.1 k };
       },
 )

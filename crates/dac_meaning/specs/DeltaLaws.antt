@@ -6,9 +6,10 @@ use Rattle.dac_chains.specs.Lives.{said_life}
 use Rattle.dac_chains.specs.Claims.{said_claim}
 use Rattle.dac_wishes.specs.WishMeaning.{wish_delta}
 use Rattle.dac_wishes.specs.PermitMeaning.{permit_delta}
+use Rattle.dac_wishes.specs.DrainMeaning.{drain_delta}
 use Rattle.dac_operations.specs.Operations.{Operation}
-use Rattle.dac_operations.specs.Seen.{seen_wish, seen_permit, seen_life, seen_claim}
-use Rattle.dac_meaning.specs.StateValue.{permissions_of, wishes_of}
+use Rattle.dac_operations.specs.Seen.{seen_wish, seen_permit, seen_drain, seen_life, seen_claim}
+use Rattle.dac_meaning.specs.StateValue.{permissions_of, wishes_of, drains_of}
 use Rattle.dac_meaning.specs.Meaning.{meaning_of}
 
 -- its dot alone is heard
@@ -20,6 +21,9 @@ PermitDeltaIsMeaning = (o : Operation) → permit_delta o.dot (seen_permit o.dot
 
 abbrev pub WishDeltaIsMeaning : Type 0
 WishDeltaIsMeaning = (o : Operation) → wish_delta o.dot (seen_wish o.dot o.act) ≡ wishes_of (meaning_of (o ∷ []))
+
+abbrev pub DrainDeltaIsMeaning : Type 0
+DrainDeltaIsMeaning = (o : Operation) → drain_delta o.dot (seen_drain o.dot o.act) ≡ drains_of (meaning_of (o ∷ []))
 
 abbrev pub LifeDeltaIsMeaning : Type 0
 LifeDeltaIsMeaning = (o : Operation) → alone (said_life o.dot (seen_life o.act)) ≡ (meaning_of (o ∷ [])).lives

@@ -2,15 +2,17 @@
 use Rattle.std.specs.Prelude.{◌≡◌, Bool, true, false, not, ◌&&◌, ◌||◌, List, [], ◌∷◌, map as list_map, Option, None, Some, if◌then◌else◌, ◌⊎◌}
 use Rattle.std.specs.declared.cmp.Ordering.{Ordering}
 use Rattle.std.specs.List.{list_any, flat_map}
+use Rattle.std.specs.Ordering.{eq_by_cmp}
 use Rattle.std.specs.FinSet as set
 use Rattle.std.specs.FinMap as map
 use Rattle.dac_base.specs.declared.NodeId.{NodeId}
 use Rattle.dac_base.specs.declared.AppId.{AppId}
 use Rattle.dac_dots.specs.declared.dot.Dot.{Dot}
-use Rattle.dac_dots.specs.Dots.{Dots, dot_cmp}
+use Rattle.dac_dots.specs.declared.dot.Origin.{Origin}
+use Rattle.dac_dots.specs.Dots.{Dots, dot_cmp, origin_cmp}
 use Rattle.dac_dots.specs.Keys.{has_key}
 use Rattle.dac_lattice.specs.declared.flags.Flag.{Flag}
-use Rattle.dac_lattice.specs.declared.flags.Flag.TheVariants.{Up as SaysTrue, Down as SaysFalse}
+use Rattle.dac_lattice.specs.declared.flags.Flag.TheVariants.{Up, Down}
 use Rattle.dac_lattice.specs.Pieces.{joined}
 use Rattle.dac_chains.specs.declared.lives.Life.{Life}
 use Rattle.dac_chains.specs.declared.claims.Claim.{Claim as ClaimValue}
@@ -18,11 +20,14 @@ use Rattle.dac_chains.specs.Greatest.{alone, greater}
 use Rattle.dac_chains.specs.Lives.{Lives, life_cmp, said_life}
 use Rattle.dac_chains.specs.Claims.{Claims, claim_cmp, said_claim}
 use Rattle.dac_wishes.specs.declared.key.Key.{Key}
-use Rattle.dac_wishes.specs.Keys.{same_key}
-use Rattle.dac_wishes.specs.Writes.{Write, Writes, write, write_cmp, same_dot}
+use Rattle.dac_wishes.specs.Keys.{key_cmp, same_key}
+use Rattle.dac_wishes.specs.KeyedWrites.{KeyedWrite, keyed_write, keyed_write_cmp}
+use Rattle.dac_wishes.specs.Writes.{Write, Writes, write, same_dot}
+use Rattle.dac_wishes.specs.Votes.{Votes}
 use Rattle.dac_wishes.specs.PermissionsValue.{Permits}
+use Rattle.dac_wishes.specs.DrainsValue.{Drains, DrainWrite, origin}
 use Rattle.dac_operations.specs.declared.act.Act.{Act}
-use Rattle.dac_operations.specs.declared.act.Act.TheVariants.{Permit, Start}
+use Rattle.dac_operations.specs.declared.act.Act.TheVariants.{Permit, Start, Drain}
 use Rattle.dac_operations.specs.Operations.{Operation, over_list}
 use Rattle.dac_operations.specs.Seen.{seen_life, seen_claim}
 use Rattle.dac_meaning.specs.StateValue.{StateValue}
@@ -76,44 +81,95 @@ starts_in d _ = []
 abbrev pub starts_of : List Operation → Writes
 starts_of os = set.retain (set.from_list (flat_map (λ (o : Operation). starts_in o.dot o.act) os)) (λ (w : Write). not (is_replaced w.dot os))
 
--- ---- permits
+-- ---- votes: what says yes or no of a key
 
 -- one and the same value
 abbrev pub is_same : Bool → Bool → Bool
 is_same true v = v
 is_same false v = not v
 
+-- what is said, from whether what is Down and whether what is Up; operations that have their dots alone don't say both of
+-- one vote
+abbrev pub flag_said : Bool → Bool → Option Flag
+flag_said true b = Some Down
+flag_said false true = Some Up
+flag_said false false = None
+
+-- a vote says this of the key
+abbrev pub told : {K : Type 0} → (K → K → Ordering) → K → Bool → Option (K × Bool) → Bool
+told R key v None = false
+told R key v (Some u) = eq_by_cmp R key u.0 && is_same u.1 v
+
+-- the value that a flag stands for
+abbrev pub value_of : Bool → Flag → Bool
+value_of down Down = down
+value_of down Up = not down
+
+-- the write of a vote
+abbrev pub told_in : {K : Type 0} → Dot → Option (K × Bool) → List (KeyedWrite K)
+told_in d None = []
+told_in d (Some u) = keyed_write u.0 d ∷ []
+
+-- `vote` is what an act says of which key, if it does; `down` is the value that is Down
+module _ {K : Type 0} (R : K → K → Ordering) (vote : Act → Option (K × Bool)) where
+  -- the operation is this vote, with this value
+  abbrev pub is_vote : KeyedWrite K → Bool → Operation → Bool
+  is_vote w v o = told R w.key v (vote o.act) && has_dot w.dot o
+
+  module _ (down : Bool) where
+    -- what the operations say that are this vote
+    abbrev pub vote_said : KeyedWrite K → List Operation → Option Flag
+    vote_said w os = flag_said (list_any (is_vote w down) os) (list_any (is_vote w (not down)) os)
+
+    -- the vote that stands, if it does
+    abbrev pub vote_at : List Operation → KeyedWrite K → Option Flag
+    vote_at os w = if is_replaced w.dot os then None else vote_said w os
+
+    -- the votes that stand
+    abbrev pub votes_of : List Operation → Votes R
+    votes_of os = table (keyed_write_cmp R) (flat_map (λ (o : Operation). told_in o.dot (vote o.act)) os) (vote_at os)
+
+-- ---- permits
+
+-- what an act says of which key, if it permits or forbids
+abbrev pub permit_vote : Act → Option (Key × Bool)
+permit_vote (Permit key value over) = Some (key, value)
+permit_vote _ = None
+
 -- the act says this of the key
 abbrev pub says : Key → Bool → Act → Bool
-says key v (Permit k value over) = same_key key k && is_same value v
-says key v _ = false
+says key v a = told key_cmp key v (permit_vote a)
 
 -- the operation is this permit, with this value
 abbrev pub is_permit : Write → Bool → Operation → Bool
-is_permit w v o = says w.key v o.act && has_dot w.dot o
+is_permit = is_vote key_cmp permit_vote
 
--- what is said, from whether false and whether true is; operations that have their dots alone don't say both of one permit
-abbrev pub flag_said : Bool → Bool → Option Flag
-flag_said true b = Some SaysFalse
-flag_said false true = Some SaysTrue
-flag_said false false = None
-
--- what the operations say that are this permit
+-- what the operations say that are this permit: false is Down
 abbrev pub said : Write → List Operation → Option Flag
-said w os = flag_said (list_any (is_permit w false) os) (list_any (is_permit w true) os)
+said = vote_said key_cmp permit_vote false
 
 -- the permit that stands, if it does
 abbrev pub permit_at : List Operation → Write → Option Flag
-permit_at os w = if is_replaced w.dot os then None else said w os
-
--- the permit in an operation
-abbrev pub permits_in : Dot → Act → List Write
-permits_in d (Permit key value over) = write key d ∷ []
-permits_in d _ = []
+permit_at = vote_at key_cmp permit_vote false
 
 -- the permits that stand
 abbrev pub permits_of : List Operation → Permits
-permits_of os = table write_cmp (flat_map (λ (o : Operation). permits_in o.dot o.act) os) (permit_at os)
+permits_of = votes_of key_cmp permit_vote false
+
+-- ---- drains
+
+-- what an act says of which incarnation of a node, if it drains it or ends that
+abbrev pub drain_vote : Act → Option (Origin × Bool)
+drain_vote (Drain node inc value over) = Some (origin node inc, value)
+drain_vote _ = None
+
+-- the drain that stands, if it does: true is Down
+abbrev pub drain_at : List Operation → DrainWrite → Option Flag
+drain_at = vote_at origin_cmp drain_vote true
+
+-- the drains that stand
+abbrev pub standing_drains : List Operation → Drains
+standing_drains = votes_of origin_cmp drain_vote true
 
 -- ---- lives and claims
 
@@ -145,7 +201,7 @@ claims_of os = greatest_of claim_cmp claim_said os
 
 -- a set of operations as a state
 unfoldable pub meaning_of : List Operation → StateValue
-meaning_of os = record { heard = heard_of os; known = known_of os; permits = permits_of os; starts = starts_of os; lives = lives_of os; claims = claims_of os }
+meaning_of os = record { heard = heard_of os; known = known_of os; permits = permits_of os; starts = starts_of os; lives = lives_of os; claims = claims_of os; drains = standing_drains os }
 
 -- the operation has this dot, or replaces it
 abbrev pub names : Dot → Operation → Bool

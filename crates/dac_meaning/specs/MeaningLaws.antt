@@ -1,5 +1,5 @@
 -- The laws of meanings, in terms of the operations.
-use Rattle.std.specs.Prelude.{Bool, false, ◌≡◌, ◌≤◌, ◌↔◌, ℕ, true, Some, List, [], ◌++◌, ◌⊎◌}
+use Rattle.std.specs.Prelude.{Bool, false, ◌≡◌, ◌≤◌, ◌↔◌, ℕ, true, Option, Some, List, [], ◌++◌, ◌⊎◌}
 use Rattle.std.specs.FinSet as set
 use Rattle.std.specs.FinMap as map
 use Rattle.dac_base.specs.declared.NodeId.{NodeId}
@@ -13,12 +13,15 @@ use Rattle.dac_chains.specs.Greatest.{IsGreatest}
 use Rattle.dac_chains.specs.Lives.{life_cmp, IsLive}
 use Rattle.dac_chains.specs.Claims.{claim_cmp}
 use Rattle.dac_wishes.specs.declared.key.Key.{Key}
+use Rattle.dac_wishes.specs.KeyedWrites.{KeyedWrite}
 use Rattle.dac_wishes.specs.Writes.{Write}
 use Rattle.dac_wishes.specs.WishesValue.{SomeStands}
 use Rattle.dac_wishes.specs.PermissionsValue.{says_true, IsPermitted}
-use Rattle.dac_operations.specs.declared.act.Act.TheVariants.{Up, Down, Permit, Start, Claim}
+use Rattle.dac_wishes.specs.DrainsValue.{DrainWrite, origin, says_drained, IsDrained}
+use Rattle.dac_operations.specs.declared.act.Act.{Act}
+use Rattle.dac_operations.specs.declared.act.Act.TheVariants.{Up, Down, Permit, Start, Drain, Claim}
 use Rattle.dac_operations.specs.Operations.{Operation}
-use Rattle.dac_meaning.specs.StateValue.{IsState, permissions_of, wishes_of, bottom, join}
+use Rattle.dac_meaning.specs.StateValue.{IsState, permissions_of, wishes_of, drains_of, bottom, join}
 use Rattle.dac_meaning.specs.Meaning.{meaning_of, replaces, In, Within, Agree, Stands}
 
 -- a dot is heard exactly if it is an operation's
@@ -45,6 +48,10 @@ IsStart w o = (o.dot ≡ w.dot) × Starts w.key o
 abbrev pub StartsAreUnreplaced : Type 0
 StartsAreUnreplaced = (os : List Operation) (w : Write) → (set.contains (meaning_of os).starts w ≡ true) ↔ (((o : Operation) × (In o os × IsStart w o)) × Stands w.dot os)
 
+-- the operation is the vote, with this value
+abbrev pub IsVote : {K : Type 0} → (Act → Option (K × Bool)) → KeyedWrite K → Bool → Operation → Type 0
+IsVote vote w v o = (o.dot ≡ w.dot) × (vote o.act ≡ Some (w.key, v))
+
 -- the operation permits the key, or forbids it
 abbrev pub Permits : Key → Bool → Operation → Type 0
 Permits key value o = (over : List Dot) × (o.act ≡ Permit key value over)
@@ -57,6 +64,19 @@ IsPermit w f o = (o.dot ≡ w.dot) × Permits w.key (says_true f) o
 -- two different operations have one dot
 abbrev pub PermitsAreUnreplaced : Type 0
 PermitsAreUnreplaced = (os : List Operation) → Agree os → (w : Write) (f : Flag) → (map.get (meaning_of os).permits w ≡ Some f) ↔ (((o : Operation) × (In o os × IsPermit w f o)) × Stands w.dot os)
+
+-- the operation drains the incarnation of the node, or ends that
+abbrev pub DrainsSo : NodeId → ℕ → Bool → Operation → Type 0
+DrainsSo n i value o = (over : List Dot) × (o.act ≡ Drain n i value over)
+
+-- the operation is the drain, with this value
+abbrev pub IsDrain : DrainWrite → Flag → Operation → Type 0
+IsDrain w f o = (o.dot ≡ w.dot) × DrainsSo w.key.node w.key.inc (says_drained f) o
+
+-- a drain stands with a value exactly if an operation is it with this value and none replaces it. This asks that no
+-- two different operations have one dot
+abbrev pub DrainsAreUnreplaced : Type 0
+DrainsAreUnreplaced = (os : List Operation) → Agree os → (w : DrainWrite) (f : Flag) → (map.get (meaning_of os).drains w ≡ Some f) ↔ (((o : Operation) × (In o os × IsDrain w f o)) × Stands w.dot os)
 
 -- an incarnation of the node came up by the operation
 abbrev pub IsUpOf : NodeId → ℕ → Operation → Type 0
@@ -113,3 +133,8 @@ IsPermittedBy key default os = (((value : Bool) → ¬ (StandsSaying key value o
 -- a key is permitted in a meaning exactly if the operations permit it, where no two different ones have one dot
 abbrev pub PermittedAreSaid : Type 0
 PermittedAreSaid = (os : List Operation) → Agree os → (key : Key) (default : Bool) → IsPermitted key default (permissions_of (meaning_of os)) ↔ IsPermittedBy key default os
+
+-- an incarnation of a node is drained in a meaning exactly if an operation drains it that none replaces, where no two
+-- different ones have one dot
+abbrev pub DrainedAreSaid : Type 0
+DrainedAreSaid = (os : List Operation) → Agree os → (n : NodeId) (i : ℕ) → IsDrained (origin n i) (drains_of (meaning_of os)) ↔ ((o : Operation) × (In o os × (DrainsSo n i true o × Stands o.dot os)))

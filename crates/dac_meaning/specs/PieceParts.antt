@@ -11,10 +11,12 @@ use Rattle.dac_wishes.specs.WishesValue.{join_wishes, no_wishes}
 use Rattle.dac_wishes.specs.WishMeaning.{wish_delta}
 use Rattle.dac_wishes.specs.PermissionsValue.{join_permissions, no_permissions}
 use Rattle.dac_wishes.specs.PermitMeaning.{permit_delta}
+use Rattle.dac_wishes.specs.DrainsValue.{join_drains, no_drains}
+use Rattle.dac_wishes.specs.DrainMeaning.{drain_delta}
 use Rattle.dac_operations.specs.declared.act.Act.{Act}
 use Rattle.dac_operations.specs.Operations.{Operation}
-use Rattle.dac_operations.specs.Seen.{seen_wish, seen_permit, seen_life, seen_claim}
-use Rattle.dac_meaning.specs.StateValue.{permissions_of, wishes_of}
+use Rattle.dac_operations.specs.Seen.{seen_wish, seen_permit, seen_drain, seen_life, seen_claim}
+use Rattle.dac_meaning.specs.StateValue.{permissions_of, wishes_of, drains_of}
 use Rattle.dac_meaning.specs.Meaning.{Agree, meaning_of}
 
 -- what a piece sees of the operations
@@ -26,6 +28,9 @@ PermitsAreJoined = (os : List Operation) → Agree os → joined join_permission
 
 abbrev pub WishesAreJoined : Type 0
 WishesAreJoined = (os : List Operation) → Agree os → joined join_wishes no_wishes wish_delta (as_seen seen_wish os) ≡ wishes_of (meaning_of os)
+
+abbrev pub DrainsAreJoined : Type 0
+DrainsAreJoined = (os : List Operation) → Agree os → joined join_drains no_drains drain_delta (as_seen seen_drain os) ≡ drains_of (meaning_of os)
 
 abbrev pub LivesAreJoined : Type 0
 LivesAreJoined = (os : List Operation) → Agree os → joined (greater life_cmp) map.empty (λ d a. alone (said_life d a)) (as_seen (λ _ a. seen_life a) os) ≡ (meaning_of os).lives

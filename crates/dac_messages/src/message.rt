@@ -71,7 +71,7 @@ pub struct Message {
     /// The node that it is for.
     pub to: NodeId,
     /// The incarnation of that node that it is for, where it is for one alone. A whole state is for any.
-    pub only: Option<u32>,
+    pub only: Option<u64>,
     /// How many deltas the sender had when it was shipped.
     pub up_to: u64,
     /// What it brings.

@@ -1,6 +1,7 @@
 //! What an accepted event does, prepared before anything changes.
 
-ghost use Rattle.std.specs.Prelude.{◌≡◌, ◌<◌, ◌-◌, ◌^◌, ◌∷◌, [], IfOk, IfErr, None};
+ghost use Rattle.std.specs.Prelude.{◌≡◌, ◌<◌, ◌∷◌, [], IfOk, IfErr, None};
+ghost use Rattle.dac_base.specs.declared.limits.TheConstants.{MAX_INCARNATION};
 ghost use Rattle.dac_config.specs.Table.{Table};
 ghost use Rattle.dac_meaning.specs.Meaning.{meaning_of};
 ghost use Rattle.dac_rules.specs.EventRefusals.{refusal_on, refusal_to_obey};
@@ -33,7 +34,7 @@ pub(crate) enum After {
 /// [`Node::prepare`](crate::Node::prepare) makes it, and [`Node::apply`](crate::Node::apply) does it.
 #[derive(Drop)]
 pub struct Change {
-    pub(crate) last: u32,
+    pub(crate) last: u64,
     pub(crate) after: After,
     pub(crate) reply: Reply,
 }
@@ -62,7 +63,7 @@ impl Change {
     }
 
     /// What ran goes on so, with this reply.
-    pub(crate) fn going_on(last: u32, next: Next, reply: Reply) -> Self
+    pub(crate) fn going_on(last: u64, next: Next, reply: Reply) -> Self
         ensures { result ≡ record { last = last; after = After.GoesOn next; reply = reply } }
     {
         Change {
@@ -77,10 +78,10 @@ impl Change {
         alloc: Global,
         config: &Config,
         node: NodeId,
-        last: u32,
+        last: u64,
         now: u64,
     ) -> Result<Self, NoMemory>
-        requires { last < 2 ^ 32 - 1 }
+        requires { last < MAX_INCARNATION }
         ensures { IfOk result (BootsBy config.now node last now) }
     {
         let origin = Origin {
@@ -98,7 +99,7 @@ impl Change {
     /// What an event that isn't refused does at a running controller. A crash takes no memory.
     pub(crate) fn of(
         config: &Config,
-        last: u32,
+        last: u64,
         run: &Running,
         event: &Event,
     ) -> Result<Self, NoMemory>
@@ -122,7 +123,7 @@ impl Change {
     }
 
     /// What a command that isn't refused does at a running controller.
-    fn obey(config: &Config, last: u32, run: &Running, command: Command) -> Result<Self, NoMemory>
+    fn obey(config: &Config, last: u64, run: &Running, command: Command) -> Result<Self, NoMemory>
         requires { refusal_to_obey config.now run.now command ≡ None }
         ensures { IfOk result (Effect config.now last run.now (Event.Command command)) }
     {
@@ -131,7 +132,7 @@ impl Change {
     }
 
     /// What a ship that isn't refused does at a running controller.
-    fn ship(last: u32, run: &Running, to: NodeId) -> Result<Self, NoMemory>
+    fn ship(last: u64, run: &Running, to: NodeId) -> Result<Self, NoMemory>
         ensures { IfOk result (λ change. (t : Table) → Effect t last run.now (Event.Ship to) change) }
     {
         let (next, message) = run.ship(to)?;
@@ -141,7 +142,7 @@ impl Change {
     /// What a message that isn't refused does at a running controller.
     pub(crate) fn hear(
         config: &Config,
-        last: u32,
+        last: u64,
         run: &Running,
         message: &Message,
     ) -> Result<Self, NoMemory>
@@ -153,7 +154,7 @@ impl Change {
     }
 
     /// What an operation that comes by itself does at a running controller.
-    pub(crate) fn hear_op(last: u32, run: &Running, operation: &Op) -> Result<Self, NoMemory>
+    pub(crate) fn hear_op(last: u64, run: &Running, operation: &Op) -> Result<Self, NoMemory>
         ensures effect { IfOk result (λ change. (t : Table) → Effect t last run.now (Event.HearOp operation.now) change) }
         ensures after { IfOk result (λ change. change.after ≡ After.GoesOn (hearing (knowledge_of run.now) (meaning_of (operation.now ∷ [])) run.now.peers)) }
     {

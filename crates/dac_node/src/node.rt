@@ -7,7 +7,7 @@ ghost use Rattle.dac_rules.specs.Deeds.{moment_of};
 
 use crate::change::{After, Change};
 use crate::running::Running;
-use dac_base::{NoMemory, NodeId};
+use dac_base::{MAX_INCARNATION, NoMemory, NodeId};
 use dac_config::Config;
 use dac_dots::Origin;
 use dac_messages::{Event, Message, Reply};
@@ -24,7 +24,7 @@ use std::marker::Model;
 /// newest of the deltas that made its state. Beside these it has what is kept of its peers.
 pub struct Node {
     alloc: Global,
-    last: u32,
+    last: u64,
     run: Option<Running>,
 }
 
@@ -62,7 +62,7 @@ impl Node {
     ghost use Rattle.dac_rules.specs.Refused.{IsAnsweredBy, IsFree};
 
     /// A controller that is off and whose last incarnation had this number; 0 for one that never booted.
-    pub fn off(alloc: Global, last: u32) -> Self
+    pub fn off(alloc: Global, last: u64) -> Self
         ensures value { result ≡ off last }
         // Under each configuration some model node shows as it, so what a step promises of each such node says something.
         ensures shown { (t : Table) → IsShown t result }
@@ -243,11 +243,11 @@ impl Node {
 }
 
 /// Why a controller that is off refuses the event, if it does.
-fn refusal_off(last: u32, event: &Event) -> Option<Refusal>
+fn refusal_off(last: u64, event: &Event) -> Option<Refusal>
     ensures { result ≡ refused_off last event.now }
 {
     match event {
-        Event::Boot { now: _ } if last == u32::MAX => Some(Refusal::IncarnationsUsedUp),
+        Event::Boot { now: _ } if last >= MAX_INCARNATION => Some(Refusal::IncarnationsUsedUp),
         Event::Boot { now: _ } => None,
         _ => Some(Refusal::Off),
     }

@@ -26,7 +26,7 @@ use dac_state::{Op, State};
 use std::alloc::Global;
 
 /// What a tick that isn't refused does at a running controller. Where it gives up, that takes no memory.
-pub(crate) fn tick(config: &Config, last: u32, run: &Running, now: u64) -> Result<Change, NoMemory>
+pub(crate) fn tick(config: &Config, last: u64, run: &Running, now: u64) -> Result<Change, NoMemory>
     requires { refusal_to_tick config.now run.now now ≡ None }
     ensures { IfOk result (Effect config.now last run.now (Tick now)) }
 {
@@ -45,7 +45,7 @@ pub(crate) fn tick(config: &Config, last: u32, run: &Running, now: u64) -> Resul
 }
 
 /// What a tick that isn't refused does where the start gate is open.
-fn look_after(config: &Config, last: u32, run: &Running, now: u64) -> Result<Change, NoMemory>
+fn look_after(config: &Config, last: u64, run: &Running, now: u64) -> Result<Change, NoMemory>
     requires accepted { refusal_to_tick config.now run.now now ≡ None }
     requires open { opening_at config.now run.now now ≡ Opening.Opened }
     ensures { IfOk result (Effect config.now last run.now (Tick now)) }

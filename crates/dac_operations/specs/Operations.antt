@@ -5,7 +5,7 @@ use Rattle.dac_dots.specs.declared.dot.Dot.{Dot}
 use Rattle.dac_dots.specs.Dots.{dot_cmp}
 use Rattle.dac_dots.specs.Keys.{is_rising, IsRising, has_key}
 use Rattle.dac_operations.specs.declared.act.Act.{Act}
-use Rattle.dac_operations.specs.declared.act.Act.TheVariants.{Up, Down, Permit, Start, Stop, Claim}
+use Rattle.dac_operations.specs.declared.act.Act.TheVariants.{Up, Down, Permit, Start, Stop, Drain, Claim}
 use Rattle.dac_operations.specs.declared.op.OpFault.{OpFault}
 use Rattle.dac_operations.specs.declared.op.OpFault.TheVariants.{OwnDot, BadOver, BadCounter, OnSelf}
 
@@ -23,6 +23,7 @@ abbrev pub over_list : Act → List Dot
 over_list (Permit key value over) = over
 over_list (Start key over) = over
 over_list (Stop key over) = over
+over_list (Drain node inc value over) = over
 over_list _ = []
 
 -- a node came up

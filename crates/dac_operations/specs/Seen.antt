@@ -5,13 +5,16 @@ use Rattle.dac_wishes.specs.declared.wish_act.WishAct.{WishAct}
 use Rattle.dac_wishes.specs.declared.wish_act.WishAct.TheVariants.{Start as SeenStart, Other as NoWish}
 use Rattle.dac_wishes.specs.declared.permit_act.PermitAct.{PermitAct}
 use Rattle.dac_wishes.specs.declared.permit_act.PermitAct.TheVariants.{Permit as SeenPermit, Other as NoPermit}
+use Rattle.dac_wishes.specs.declared.drain_act.DrainAct.{DrainAct}
+use Rattle.dac_wishes.specs.declared.drain_act.DrainAct.TheVariants.{Drain as SeenDrain, Other as NoDrain}
+use Rattle.dac_wishes.specs.DrainsValue.{origin}
 use Rattle.dac_wishes.specs.Writes.{same_dot}
 use Rattle.dac_chains.specs.declared.lives.LifeAct.{LifeAct}
 use Rattle.dac_chains.specs.declared.lives.LifeAct.TheVariants.{Up as SeenUp, Down as SeenDown, Other as NoLife}
 use Rattle.dac_chains.specs.declared.claims.ClaimAct.{ClaimAct}
 use Rattle.dac_chains.specs.declared.claims.ClaimAct.TheVariants.{Claim as SeenClaim, Other as NoClaim}
 use Rattle.dac_operations.specs.declared.act.Act.{Act}
-use Rattle.dac_operations.specs.declared.act.Act.TheVariants.{Up, Down, Permit, Start, Stop, Claim}
+use Rattle.dac_operations.specs.declared.act.Act.TheVariants.{Up, Down, Permit, Start, Drain, Claim}
 use Rattle.dac_operations.specs.Operations.{over_list, replaces_itself}
 
 -- what start wishes see of an act that doesn't replace its own dot
@@ -24,17 +27,31 @@ abbrev pub permit_in : Act → PermitAct
 permit_in (Permit key value over) = SeenPermit key value over
 permit_in a = NoPermit (over_list a)
 
+-- what drains see of an act that doesn't replace its own dot
+abbrev pub drain_in : Act → DrainAct
+drain_in (Drain node inc value over) = SeenDrain (origin node inc) value over
+drain_in a = NoDrain (over_list a)
+
 -- the dots of a list but one
 abbrev pub without : Dot → List Dot → List Dot
 without d over = filter (λ (x : Dot). not (same_dot d x)) over
 
--- What start wishes see of an act under a dot. No operation replaces itself; one that did would wish nothing.
-abbrev pub seen_wish : Dot → Act → WishAct
-seen_wish d a = if replaces_itself d a then NoWish (without d (over_list a)) else wish_in a
+-- What a piece sees of an act under a dot, where `sees` is what it sees of one that doesn't replace its own dot. No
+-- operation replaces itself; one that did would be nothing but the other dots that it replaces.
+abbrev pub seen_by : {A : Type 0} → (List Dot → A) → (Act → A) → Dot → Act → A
+seen_by nothing sees d a = if replaces_itself d a then nothing (without d (over_list a)) else sees a
 
--- What permissions see of an act under a dot. No operation replaces itself; one that did would say nothing.
+-- what start wishes see of an act under a dot
+abbrev pub seen_wish : Dot → Act → WishAct
+seen_wish = seen_by NoWish wish_in
+
+-- what permissions see of an act under a dot
 abbrev pub seen_permit : Dot → Act → PermitAct
-seen_permit d a = if replaces_itself d a then NoPermit (without d (over_list a)) else permit_in a
+seen_permit = seen_by NoPermit permit_in
+
+-- what drains see of an act under a dot
+abbrev pub seen_drain : Dot → Act → DrainAct
+seen_drain = seen_by NoDrain drain_in
 
 -- what lives see of an act
 abbrev pub seen_life : Act → LifeAct

@@ -17,7 +17,7 @@ pub enum Act {
         /// The node.
         node: NodeId,
         /// Which of its incarnations.
-        inc: u32,
+        inc: u64,
     },
     /// The application of the key is permitted or not at the key's node and incarnation. This permit takes
     /// the place of the operations that `over` names.
@@ -41,6 +41,18 @@ pub enum Act {
     Stop {
         /// The application, and where it was wished.
         key: Key,
+        /// The operations that this one replaces, in ascending order.
+        over: DotList,
+    },
+    /// The incarnation of the node is drained or not: a drained one is to run no application. This drain takes
+    /// the place of the operations that `over` names.
+    Drain {
+        /// The node.
+        node: NodeId,
+        /// Which of its incarnations.
+        inc: u64,
+        /// Whether it is drained.
+        value: bool,
         /// The operations that this one replaces, in ascending order.
         over: DotList,
     },
@@ -69,6 +81,12 @@ impl Act {
                 over,
             } => over.as_slice(),
             Act::Start { key: _, over } | Act::Stop { key: _, over } => over.as_slice(),
+            Act::Drain {
+                node: _,
+                inc: _,
+                value: _,
+                over,
+            } => over.as_slice(),
             Act::Up | Act::Down { .. } | Act::Claim { .. } => &[],
         }
     }
@@ -119,6 +137,25 @@ impl Act {
                 },
             ) => key == other_key && over.equal(other_over),
             (
+                Act::Drain {
+                    node,
+                    inc,
+                    value,
+                    over,
+                },
+                Act::Drain {
+                    node: other_node,
+                    inc: other_inc,
+                    value: other_value,
+                    over: other_over,
+                },
+            ) => {
+                node == other_node
+                    && inc == other_inc
+                    && value == other_value
+                    && over.equal(other_over)
+            }
+            (
                 Act::Claim {
                     app,
                     term,
@@ -161,6 +198,20 @@ impl Act {
             Act::Stop { key, over } => {
                 let over = over.copy()?;
                 Ok(Act::Stop { key: *key, over })
+            }
+            Act::Drain {
+                node,
+                inc,
+                value,
+                over,
+            } => {
+                let over = over.copy()?;
+                Ok(Act::Drain {
+                    node: *node,
+                    inc: *inc,
+                    value: *value,
+                    over,
+                })
             }
             Act::Claim {
                 app,

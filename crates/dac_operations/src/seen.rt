@@ -1,13 +1,14 @@
 //! What each part of a state sees of an operation.
 ghost use Rattle.std.specs.Prelude.{◌≡◌, IfOk};
 ghost use Rattle.dac_operations.specs.Operations.{over_list};
-ghost use Rattle.dac_operations.specs.Seen.{permit_in, seen_claim, seen_life, seen_permit, seen_wish, wish_in};
+ghost use Rattle.dac_operations.specs.Seen.{drain_in, permit_in, seen_claim, seen_drain, seen_life, seen_permit, seen_wish, wish_in};
 
 use crate::act::Act;
 use crate::op::Op;
 use dac_base::NoMemory;
 use dac_chains::{ClaimAct, LifeAct};
-use dac_wishes::{DotList, PermitAct, WishAct};
+use dac_dots::Origin;
+use dac_wishes::{DotList, DrainAct, PermitAct, WishAct};
 use std::alloc::Global;
 
 impl Op {
@@ -28,6 +29,16 @@ impl Op {
     {
         self.known();
         let seen = permit_in(alloc, self.act())?;
+        Ok(seen)
+    }
+
+    /// What drains see of the operation: the drain that it writes, if it is one, and the dots that it replaces.
+    /// [`NoMemory`] is the only error.
+    pub fn drain_act(&self, alloc: Global) -> Result<DrainAct, NoMemory>
+        ensures { IfOk result (λ seen. seen ≡ seen_drain self.now.dot self.now.act) }
+    {
+        self.known();
+        let seen = drain_in(alloc, self.act())?;
         Ok(seen)
     }
 
@@ -93,6 +104,29 @@ fn permit_in(alloc: Global, act: &Act) -> Result<PermitAct, NoMemory>
             over,
         }),
         _ => Ok(PermitAct::Other { over }),
+    }
+}
+
+/// What drains see of an act.
+fn drain_in(alloc: Global, act: &Act) -> Result<DrainAct, NoMemory>
+    ensures { IfOk result (λ seen. seen ≡ drain_in act.now) }
+{
+    let over = over_in(alloc, act)?;
+    match act {
+        Act::Drain {
+            node,
+            inc,
+            value,
+            over: _,
+        } => Ok(DrainAct::Drain {
+            at: Origin {
+                node: *node,
+                inc: *inc,
+            },
+            value: *value,
+            over,
+        }),
+        _ => Ok(DrainAct::Other { over }),
     }
 }
 

@@ -23,7 +23,7 @@ last_of (p ∷ q ∷ ps) = last_of (q ∷ ps)
 
 -- of no pages
 abbrev pub no_pages : PagesValue
-no_pages = record { shown = record { place = 0; origin = None; summary = record { heard = 0; known = 0; lives = []; apps = [] } }; ready = None }
+no_pages = record { shown = record { place = 0; origin = None; summary = record { heard = 0; known = 0; lives = []; drained = []; apps = [] } }; ready = None }
 
 module _ {P A S : Type 0} {g : Ghosts Page Page S} where
   -- what readers take, and what was appended last

@@ -24,6 +24,7 @@ use Rattle.dac_part_bytes.specs.ChainForm.{IsFromFor, IsClaimInForm}
 use Rattle.dac_part_bytes.specs.Reading.{app_at, is_listed, how_of, how_at, from_code_at, is_from_of, fitting_code_at, from_of, from_at, manner_at, claimer_at, claim_of, term_and_claimer_at, claim_fields_at, listed_claim_at, claim_at}
 use Rattle.dac_part_bytes.specs.Spelling.{app_bytes, how_code, from_code, manner_bytes, claim_bytes}
 use Rattle.dac_part_bytes.proofs.Apps.{app_takes, app_again}
+use Rattle.dac_bytes.specs.declared.version.Version.{Version}
 
 -- ---- how an application came to its node
 
@@ -157,50 +158,50 @@ module _ (nodes : ℕ) where
 regroup : (a b c d : List ℕ) → a ++ (b ++ (c ++ d)) ≡ ((a ++ b) ++ c) ++ d
 regroup a b c d = sym (simp append_assoc)
 
-abbrev claimer_bytes : Origin × (How × Option NodeId) → List ℕ
-claimer_bytes c = origin_bytes c.0 ++ manner_bytes c.1.0 c.1.1
+abbrev claimer_bytes : Version → Origin × (How × Option NodeId) → List ℕ
+claimer_bytes version c = origin_bytes version c.0 ++ manner_bytes c.1.0 c.1.1
 
-abbrev term_and_claimer_bytes : Claim → List ℕ
-term_and_claimer_bytes c = u64_bytes c.term ++ (origin_bytes c.origin ++ manner_bytes c.how c.from)
+abbrev term_and_claimer_bytes : Version → Claim → List ℕ
+term_and_claimer_bytes version c = u64_bytes c.term ++ (origin_bytes version c.origin ++ manner_bytes c.how c.from)
 
-abbrev IsClaimer : ℕ → Origin × (How × Option NodeId) → Type 0
-IsClaimer nodes c = IsOrigin nodes c.0 × IsFromFor nodes c.1.0 c.1.1
+abbrev IsClaimer : Version → ℕ → Origin × (How × Option NodeId) → Type 0
+IsClaimer version nodes c = IsOrigin version nodes c.0 × IsFromFor nodes c.1.0 c.1.1
 
-abbrev IsTermAndClaimer : ℕ → Claim → Type 0
-IsTermAndClaimer nodes c = ((1 ≤ c.term) × (c.term ≤ MAX_COUNTER)) × (IsOrigin nodes c.origin × IsFromFor nodes c.how c.from)
+abbrev IsTermAndClaimer : Version → ℕ → Claim → Type 0
+IsTermAndClaimer version nodes c = ((1 ≤ c.term) × (c.term ≤ MAX_COUNTER)) × (IsOrigin version nodes c.origin × IsFromFor nodes c.how c.from)
 
-module _ (nodes : ℕ) where
-  claimer_takes : TakesAs (claimer_at nodes) claimer_bytes (IsClaimer nodes)
+module _ (version : Version) (nodes : ℕ) where
+  claimer_takes : TakesAs (claimer_at version nodes) (claimer_bytes version) (IsClaimer version nodes)
   unfolding claimer_at
   claimer_takes =
-      TakesAs-both (origin_at nodes) origin_bytes (IsOrigin nodes) (λ _ r. manner_at nodes r) (λ _ m. manner_bytes m.0 m.1) (λ _ m. IsFromFor nodes m.0 m.1)
-      (λ origin m. (origin, m)) claimer_bytes (IsClaimer nodes)
-      (origin_takes nodes) (λ _ _. manner_takes nodes) (λ origin m p q. (refl, (p, q)))
+      TakesAs-both (origin_at version nodes) (origin_bytes version) (IsOrigin version nodes) (λ _ r. manner_at nodes r) (λ _ m. manner_bytes m.0 m.1) (λ _ m. IsFromFor nodes m.0 m.1)
+      (λ origin m. (origin, m)) (claimer_bytes version) (IsClaimer version nodes)
+      (origin_takes version nodes) (λ _ _. manner_takes nodes) (λ origin m p q. (refl, (p, q)))
 
-  term_and_claimer_takes : TakesAs (term_and_claimer_at nodes) term_and_claimer_bytes (IsTermAndClaimer nodes)
+  term_and_claimer_takes : TakesAs (term_and_claimer_at version nodes) (term_and_claimer_bytes version) (IsTermAndClaimer version nodes)
   unfolding term_and_claimer_at
   term_and_claimer_takes =
-      TakesAs-both counter_at u64_bytes (λ n. (1 ≤ n) × (n ≤ MAX_COUNTER)) (λ _ r. claimer_at nodes r) (λ _. claimer_bytes) (λ _. IsClaimer nodes)
-      claim_of term_and_claimer_bytes (IsTermAndClaimer nodes)
+      TakesAs-both counter_at u64_bytes (λ n. (1 ≤ n) × (n ≤ MAX_COUNTER)) (λ _ r. claimer_at version nodes r) (λ _. claimer_bytes version) (λ _. IsClaimer version nodes)
+      claim_of (term_and_claimer_bytes version) (IsTermAndClaimer version nodes)
       counter_takes (λ _ _. claimer_takes) (λ term c p q. (refl, (p, q)))
 
   module _ (one_byte_each : nodes < 2 ^ 8) where
-    claimer_again : (c : Origin × (How × Option NodeId)) → IsClaimer nodes c → Again (claimer_at nodes) (claimer_bytes c) c
+    claimer_again : (c : Origin × (How × Option NodeId)) → IsClaimer version nodes c → Again (claimer_at version nodes) (claimer_bytes version c) c
     unfolding claimer_at
     claimer_again c is =
-        Again-both (origin_at nodes) (λ _ r. manner_at nodes r) (λ origin m. (origin, m)) (origin_bytes c.0) (manner_bytes c.1.0 c.1.1) c.0 c.1
-        (origin_again nodes (omega arith) c.0 is.0) (manner_again nodes one_byte_each c.1 is.1)
+        Again-both (origin_at version nodes) (λ _ r. manner_at nodes r) (λ origin m. (origin, m)) (origin_bytes version c.0) (manner_bytes c.1.0 c.1.1) c.0 c.1
+        (origin_again version nodes (omega arith) c.0 is.0) (manner_again nodes one_byte_each c.1 is.1)
 
-    term_and_claimer_again : (c : Claim) → IsTermAndClaimer nodes c → Again (term_and_claimer_at nodes) (term_and_claimer_bytes c) c
+    term_and_claimer_again : (c : Claim) → IsTermAndClaimer version nodes c → Again (term_and_claimer_at version nodes) (term_and_claimer_bytes version c) c
     unfolding term_and_claimer_at
     term_and_claimer_again c is =
         let claimer : Origin × (How × Option NodeId) = (c.origin, (c.how, c.from)) in
-        Again-both counter_at (λ _ r. claimer_at nodes r) claim_of (u64_bytes c.term) (claimer_bytes claimer) c.term claimer
+        Again-both counter_at (λ _ r. claimer_at version nodes r) claim_of (u64_bytes c.term) (claimer_bytes version claimer) c.term claimer
         (counter_again c.term is.0.0 is.0.1) (claimer_again claimer is.1)
 
-module _ (t : Table) where
+module _ (version : Version) (t : Table) where
   abbrev HasFields : AppId × Claim → Type 0
-  HasFields e = (e.0.0 < app_count t) × IsTermAndClaimer (node_count t) e.1
+  HasFields e = (e.0.0 < app_count t) × IsTermAndClaimer version (node_count t) e.1
 
   abbrev is_claimer_listed : AppId × Claim → Bool
   is_claimer_listed e = is_listed t e.0 e.1.origin.node
@@ -208,41 +209,41 @@ module _ (t : Table) where
   abbrev is_app_above : Option AppId → AppId × Claim → Bool
   is_app_above before e = is_above app_cmp before e.0
 
-  claim_fields_takes : TakesAs (claim_fields_at t) claim_bytes HasFields
+  claim_fields_takes : TakesAs (claim_fields_at version t) (claim_bytes version) HasFields
   unfolding claim_fields_at claim_bytes
   claim_fields_takes =
-      TakesAs-both (app_at (app_count t)) app_bytes (λ app. app.0 < app_count t) (λ _ r. term_and_claimer_at (node_count t) r) (λ _. term_and_claimer_bytes) (λ _. IsTermAndClaimer (node_count t))
-      (λ app claim. (app, claim)) claim_bytes HasFields
-      (app_takes (app_count t)) (λ _ _. term_and_claimer_takes (node_count t))
-      (λ app c p q. (regroup (u16_bytes app.0) (u64_bytes c.term) (origin_bytes c.origin) (manner_bytes c.how c.from), (p, q)))
+      TakesAs-both (app_at (app_count t)) app_bytes (λ app. app.0 < app_count t) (λ _ r. term_and_claimer_at version (node_count t) r) (λ _. term_and_claimer_bytes version) (λ _. IsTermAndClaimer version (node_count t))
+      (λ app claim. (app, claim)) (claim_bytes version) HasFields
+      (app_takes (app_count t)) (λ _ _. term_and_claimer_takes version (node_count t))
+      (λ app c p q. (regroup (u16_bytes app.0) (u64_bytes c.term) (origin_bytes version c.origin) (manner_bytes c.how c.from), (p, q)))
 
-  listed_claim_takes : TakesAs (listed_claim_at t) claim_bytes (λ e. HasFields e × (is_claimer_listed e ≡ true))
+  listed_claim_takes : TakesAs (listed_claim_at version t) (claim_bytes version) (λ e. HasFields e × (is_claimer_listed e ≡ true))
   unfolding listed_claim_at
-  listed_claim_takes = TakesAs-wanted (claim_fields_at t) claim_bytes HasFields is_claimer_listed NotInList claim_fields_takes
+  listed_claim_takes = TakesAs-wanted (claim_fields_at version t) (claim_bytes version) HasFields is_claimer_listed NotInList claim_fields_takes
 
-  has_all : (e : AppId × Claim) → HasFields e × (is_claimer_listed e ≡ true) → IsClaimInForm t e
+  has_all : (e : AppId × Claim) → HasFields e × (is_claimer_listed e ≡ true) → IsClaimInForm version t e
   has_all e is = record { app = is.0.0; first = is.0.1.0.0; last = is.0.1.0.1; origin = is.0.1.1.0; listed = is.1; from = is.0.1.1.1 }
 
   -- What is read is spelled so, and is the claim of an application above the one before.
-  pub claim_takes : (before : Option AppId) → TakesAs (claim_at t before) claim_bytes (IsNext app_cmp (λ (e : AppId × Claim). e.0) (IsClaimInForm t) before)
+  pub claim_takes : (before : Option AppId) → TakesAs (claim_at version t before) (claim_bytes version) (IsNext app_cmp (λ (e : AppId × Claim). e.0) (IsClaimInForm version t) before)
   unfolding claim_at
   claim_takes before =
-      let read = λ (r : Rest). listed_claim_at t r >>= λ e. cond (is_app_above before e.0) (Ok e) (fault BadOrder r) in
-      TakesAs-more read claim_bytes (λ e. (HasFields e × (is_claimer_listed e ≡ true)) × (is_app_above before e ≡ true)) (IsNext app_cmp (λ (e : AppId × Claim). e.0) (IsClaimInForm t) before)
-      (TakesAs-wanted (listed_claim_at t) claim_bytes (λ e. HasFields e × (is_claimer_listed e ≡ true)) (is_app_above before) BadOrder listed_claim_takes) (λ e is. (has_all e is.0, is.1))
+      let read = λ (r : Rest). listed_claim_at version t r >>= λ e. cond (is_app_above before e.0) (Ok e) (fault BadOrder r) in
+      TakesAs-more read (claim_bytes version) (λ e. (HasFields e × (is_claimer_listed e ≡ true)) × (is_app_above before e ≡ true)) (IsNext app_cmp (λ (e : AppId × Claim). e.0) (IsClaimInForm version t) before)
+      (TakesAs-wanted (listed_claim_at version t) (claim_bytes version) (λ e. HasFields e × (is_claimer_listed e ≡ true)) (is_app_above before) BadOrder listed_claim_takes) (λ e is. (has_all e is.0, is.1))
 
   module _ (nodes_fit : node_count t < 2 ^ 8) (apps_fit : app_count t ≤ 2 ^ 16) where
-    claim_fields_again : (e : AppId × Claim) → IsClaimInForm t e → Again (claim_fields_at t) (claim_bytes e) e
+    claim_fields_again : (e : AppId × Claim) → IsClaimInForm version t e → Again (claim_fields_at version t) (claim_bytes version e) e
     unfolding claim_fields_at claim_bytes
     claim_fields_again e is =
         let c = e.1 in
-        subst (λ (text : List ℕ). Again (claim_fields_at t) text e) (regroup (u16_bytes e.0.0) (u64_bytes c.term) (origin_bytes c.origin) (manner_bytes c.how c.from))
-        (Again-both (app_at (app_count t)) (λ _ r. term_and_claimer_at (node_count t) r) (λ app claim. (app, claim)) (app_bytes e.0) (term_and_claimer_bytes c) e.0 c
-        (app_again (app_count t) apps_fit e.0 is.app) (term_and_claimer_again (node_count t) nodes_fit c ((is.first, is.last), (is.origin, is.from))))
+        subst (λ (text : List ℕ). Again (claim_fields_at version t) text e) (regroup (u16_bytes e.0.0) (u64_bytes c.term) (origin_bytes version c.origin) (manner_bytes c.how c.from))
+        (Again-both (app_at (app_count t)) (λ _ r. term_and_claimer_at version (node_count t) r) (λ app claim. (app, claim)) (app_bytes e.0) (term_and_claimer_bytes version c) e.0 c
+        (app_again (app_count t) apps_fit e.0 is.app) (term_and_claimer_again version (node_count t) nodes_fit c ((is.first, is.last), (is.origin, is.from))))
 
     -- And it is read again.
-    pub claim_again : (before : Option AppId) (e : AppId × Claim) → IsNext app_cmp (λ (e : AppId × Claim). e.0) (IsClaimInForm t) before e → Again (claim_at t before) (claim_bytes e) e
+    pub claim_again : (before : Option AppId) (e : AppId × Claim) → IsNext app_cmp (λ (e : AppId × Claim). e.0) (IsClaimInForm version t) before e → Again (claim_at version t before) (claim_bytes version e) e
     unfolding claim_at listed_claim_at
     claim_again before e is =
-        Again-wanted (listed_claim_at t) (is_app_above before) BadOrder (claim_bytes e) e
-        (Again-wanted (claim_fields_at t) is_claimer_listed NotInList (claim_bytes e) e (claim_fields_again e is.0) is.0.listed) is.1
+        Again-wanted (listed_claim_at version t) (is_app_above before) BadOrder (claim_bytes version e) e
+        (Again-wanted (claim_fields_at version t) is_claimer_listed NotInList (claim_bytes version e) e (claim_fields_again e is.0) is.0.listed) is.1

@@ -17,31 +17,32 @@ use Rattle.dac_part_bytes.specs.ChainForm.{IsLifeInForm, AreLivesInForm, IsClaim
 use Rattle.dac_part_bytes.proofs.ChainLives.{life_takes, life_again}
 use Rattle.dac_part_bytes.specs.Reading.{life_at, lives_in_order_at, all_lives_at, claim_at, claims_in_order_at, all_claims_at}
 use Rattle.dac_part_bytes.specs.Spelling.{life_bytes, lives_bytes, claim_bytes, claims_bytes}
+use Rattle.dac_bytes.specs.declared.version.Version.{Version}
 
 -- What is read as lives is spelled so, and is in form.
-pub lives_takes : (nodes : ℕ) → TakesAs (all_lives_at nodes) lives_bytes (AreLivesInForm nodes)
+pub lives_takes : (version : Version) (nodes : ℕ) → TakesAs (all_lives_at version nodes) (lives_bytes version) (AreLivesInForm version nodes)
 unfolding all_lives_at lives_in_order_at lives_bytes
-lives_takes nodes =
-    TakesAs-more (all_lives_at nodes) lives_bytes (λ lives. (length (map.entries lives) < 2 ^ 8) × AllByRecursion (IsLifeInForm nodes) (map.entries lives)) (AreLivesInForm nodes)
-    (map_takes nodes_total exact_nodes (IsLifeInForm nodes) (life_at nodes) (number_at w8) u8_bytes life_bytes (λ n. n < 2 ^ 8) u8_takes (life_takes nodes)) (λ lives is. record { each = is.1; count = is.0 })
+lives_takes version nodes =
+    TakesAs-more (all_lives_at version nodes) (lives_bytes version) (λ lives. (length (map.entries lives) < 2 ^ 8) × AllByRecursion (IsLifeInForm version nodes) (map.entries lives)) (AreLivesInForm version nodes)
+    (map_takes nodes_total exact_nodes (IsLifeInForm version nodes) (life_at version nodes) (number_at w8) u8_bytes (life_bytes version) (λ n. n < 2 ^ 8) u8_takes (life_takes version nodes)) (λ lives is. record { each = is.1; count = is.0 })
 
 -- Lives in form are read from their spelling, wherever it stands.
-pub lives_again : (nodes : ℕ) → nodes ≤ 2 ^ 8 → (lives : Lives) → AreLivesInForm nodes lives → Again (all_lives_at nodes) (lives_bytes lives) lives
+pub lives_again : (version : Version) (nodes : ℕ) → nodes ≤ 2 ^ 8 → (lives : Lives) → AreLivesInForm version nodes lives → Again (all_lives_at version nodes) (lives_bytes version lives) lives
 unfolding all_lives_at lives_in_order_at lives_bytes
-lives_again nodes fit lives is =
-    map_again nodes_total exact_nodes (IsLifeInForm nodes) (life_at nodes) (number_at w8) u8_bytes life_bytes (λ n. n < 2 ^ 8) lives
-    (u8_again (length (map.entries lives)) is.count) (λ before. life_again nodes before fit) is.each
+lives_again version nodes fit lives is =
+    map_again nodes_total exact_nodes (IsLifeInForm version nodes) (life_at version nodes) (number_at w8) u8_bytes (life_bytes version) (λ n. n < 2 ^ 8) lives
+    (u8_again (length (map.entries lives)) is.count) (λ before. life_again version nodes before fit) is.each
 
 -- What is read as claims is spelled so, and is in form.
-pub claims_takes : (t : Table) → TakesAs (all_claims_at t) claims_bytes (AreClaimsInForm t)
+pub claims_takes : (version : Version) (t : Table) → TakesAs (all_claims_at version t) (claims_bytes version) (AreClaimsInForm version t)
 unfolding all_claims_at claims_in_order_at claims_bytes
-claims_takes t =
-    TakesAs-more (all_claims_at t) claims_bytes (λ claims. (length (map.entries claims) < 2 ^ 16) × AllByRecursion (IsClaimInForm t) (map.entries claims)) (AreClaimsInForm t)
-    (map_takes apps_total exact_apps (IsClaimInForm t) (claim_at t) (number_at w16) u16_bytes claim_bytes (λ n. n < 2 ^ 16) u16_takes (claim_takes t)) (λ claims is. record { each = is.1; count = is.0 })
+claims_takes version t =
+    TakesAs-more (all_claims_at version t) (claims_bytes version) (λ claims. (length (map.entries claims) < 2 ^ 16) × AllByRecursion (IsClaimInForm version t) (map.entries claims)) (AreClaimsInForm version t)
+    (map_takes apps_total exact_apps (IsClaimInForm version t) (claim_at version t) (number_at w16) u16_bytes (claim_bytes version) (λ n. n < 2 ^ 16) u16_takes (claim_takes version t)) (λ claims is. record { each = is.1; count = is.0 })
 
 -- Claims in form are read from their spelling, wherever it stands.
-pub claims_again : (t : Table) → node_count t < 2 ^ 8 → app_count t ≤ 2 ^ 16 → (claims : Claims) → AreClaimsInForm t claims → Again (all_claims_at t) (claims_bytes claims) claims
+pub claims_again : (version : Version) (t : Table) → node_count t < 2 ^ 8 → app_count t ≤ 2 ^ 16 → (claims : Claims) → AreClaimsInForm version t claims → Again (all_claims_at version t) (claims_bytes version claims) claims
 unfolding all_claims_at claims_in_order_at claims_bytes
-claims_again t nodes_fit apps_fit claims is =
-    map_again apps_total exact_apps (IsClaimInForm t) (claim_at t) (number_at w16) u16_bytes claim_bytes (λ n. n < 2 ^ 16) claims
-    (u16_again (length (map.entries claims)) is.count) (claim_again t nodes_fit apps_fit) is.each
+claims_again version t nodes_fit apps_fit claims is =
+    map_again apps_total exact_apps (IsClaimInForm version t) (claim_at version t) (number_at w16) u16_bytes (claim_bytes version) (λ n. n < 2 ^ 16) claims
+    (u16_again (length (map.entries claims)) is.count) (claim_again version t nodes_fit apps_fit) is.each

@@ -18,6 +18,7 @@ use Rattle.dac_bytes.specs.laws.Ascending.{IsNext}
 use Rattle.dac_part_bytes.specs.ChainForm.{IsLifeInForm}
 use Rattle.dac_part_bytes.specs.Reading.{node_above_at, flag_of, inc_and_flag_at, life_at}
 use Rattle.dac_part_bytes.specs.Spelling.{down_code, life_bytes}
+use Rattle.dac_bytes.specs.declared.version.Version.{Version}
 
 -- ---- up and down
 
@@ -37,55 +38,55 @@ code_fits Down = omega arith
 -- ---- lives
 
 -- an incarnation, and whether it is up
-abbrev inc_and_flag_bytes : Life → List ℕ
-inc_and_flag_bytes life = incarnation_bytes life.inc ++ u8_bytes (down_code life.flag)
+abbrev inc_and_flag_bytes : Version → Life → List ℕ
+inc_and_flag_bytes version life = incarnation_bytes version life.inc ++ u8_bytes (down_code life.flag)
 
-abbrev IsInc : Life → Type 0
-IsInc life = IsIncarnation life.inc
+abbrev IsInc : Version → Life → Type 0
+IsInc version life = IsIncarnation version life.inc
 
-inc_and_flag_takes : TakesAs inc_and_flag_at inc_and_flag_bytes IsInc
+inc_and_flag_takes : (version : Version) → TakesAs (inc_and_flag_at version) (inc_and_flag_bytes version) (IsInc version)
 unfolding inc_and_flag_at
-inc_and_flag_takes =
-    TakesAs-both incarnation_at incarnation_bytes IsIncarnation (λ _ r. range_at w8 0 1 r) (λ _. u8_bytes) (λ _ n. (0 ≤ n) × (n ≤ 1))
-    (λ inc n. record { inc = inc; flag = flag_of n }) inc_and_flag_bytes IsInc
-    incarnation_takes (λ _ _. u8_in_takes 0 1) (λ inc n p q. (ap (λ m. incarnation_bytes inc ++ u8_bytes m) (flag_code n q.1), p))
+inc_and_flag_takes version =
+    TakesAs-both (incarnation_at version) (incarnation_bytes version) (IsIncarnation version) (λ _ r. range_at w8 0 1 r) (λ _. u8_bytes) (λ _ n. (0 ≤ n) × (n ≤ 1))
+    (λ inc n. record { inc = inc; flag = flag_of n }) (inc_and_flag_bytes version) (IsInc version)
+    (incarnation_takes version) (λ _ _. u8_in_takes 0 1) (λ inc n p q. (ap (λ m. incarnation_bytes version inc ++ u8_bytes m) (flag_code n q.1), p))
 
-inc_and_flag_again : (life : Life) → IsInc life → Again inc_and_flag_at (inc_and_flag_bytes life) life
+inc_and_flag_again : (version : Version) (life : Life) → IsInc version life → Again (inc_and_flag_at version) (inc_and_flag_bytes version life) life
 unfolding inc_and_flag_at
-inc_and_flag_again life is =
+inc_and_flag_again version life is =
     let code = down_code life.flag in
-    subst (λ (flag : Flag). Again inc_and_flag_at (inc_and_flag_bytes life) (record { inc = life.inc; flag = flag })) (code_flag life.flag)
-    (Again-both incarnation_at (λ _ r. range_at w8 0 1 r) (λ inc n. record { inc = inc; flag = flag_of n }) (incarnation_bytes life.inc) (u8_bytes code) life.inc code
-    (incarnation_again life.inc is) (u8_in_again 0 1 (omega arith) code (omega arith) (code_fits life.flag)))
+    subst (λ (flag : Flag). Again (inc_and_flag_at version) (inc_and_flag_bytes version life) (record { inc = life.inc; flag = flag })) (code_flag life.flag)
+    (Again-both (incarnation_at version) (λ _ r. range_at w8 0 1 r) (λ inc n. record { inc = inc; flag = flag_of n }) (incarnation_bytes version life.inc) (u8_bytes code) life.inc code
+    (incarnation_again version life.inc is) (u8_in_again 0 1 (omega arith) code (omega arith) (code_fits life.flag)))
 
 abbrev node_bytes : NodeId → List ℕ
 node_bytes node = u8_bytes node.0
 
-module _ (nodes : ℕ) (before : Option NodeId) where
+module _ (version : Version) (nodes : ℕ) (before : Option NodeId) where
   abbrev IsNodeAbove : NodeId → Type 0
   IsNodeAbove node = (node.0 < nodes) × (is_above node_cmp before node ≡ true)
 
   node_above_takes : TakesAs (node_above_at nodes before) node_bytes IsNodeAbove
   unfolding node_above_at
-  node_above_takes = TakesAs-wanted (node_at nodes) node_bytes (λ node. node.0 < nodes) (is_above node_cmp before) BadOrder (node_takes nodes)
+  node_above_takes = TakesAs-wanted (node_at nodes) node_bytes (λ node. node.0 < nodes) (is_above node_cmp before) BadOrder (node_takes version nodes)
 
   node_above_again : nodes ≤ 2 ^ 8 → (node : NodeId) → IsNodeAbove node → Again (node_above_at nodes before) (node_bytes node) node
   unfolding node_above_at
-  node_above_again fit node is = Again-wanted (node_at nodes) (is_above node_cmp before) BadOrder (node_bytes node) node (node_again nodes fit node is.0) is.1
+  node_above_again fit node is = Again-wanted (node_at nodes) (is_above node_cmp before) BadOrder (node_bytes node) node (node_again version nodes fit node is.0) is.1
 
   -- What is read is spelled so, and is the life of a node above the one before.
-  pub life_takes : TakesAs (life_at nodes before) life_bytes (IsNext node_cmp (λ (e : NodeId × Life). e.0) (IsLifeInForm nodes) before)
+  pub life_takes : TakesAs (life_at version nodes before) (life_bytes version) (IsNext node_cmp (λ (e : NodeId × Life). e.0) (IsLifeInForm version nodes) before)
   unfolding life_at life_bytes
   life_takes =
-      TakesAs-both (node_above_at nodes before) node_bytes IsNodeAbove (λ _ r. inc_and_flag_at r) (λ _. inc_and_flag_bytes) (λ _. IsInc)
-      (λ node life. (node, life)) life_bytes (IsNext node_cmp (λ (e : NodeId × Life). e.0) (IsLifeInForm nodes) before)
-      node_above_takes (λ _ _. inc_and_flag_takes)
-      (λ node life p q. (sym (append_assoc (u8_bytes node.0) (incarnation_bytes life.inc) (u8_bytes (down_code life.flag))), (record { node = p.0; inc = q }, p.1)))
+      TakesAs-both (node_above_at nodes before) node_bytes IsNodeAbove (λ _ r. inc_and_flag_at version r) (λ _. inc_and_flag_bytes version) (λ _. IsInc version)
+      (λ node life. (node, life)) (life_bytes version) (IsNext node_cmp (λ (e : NodeId × Life). e.0) (IsLifeInForm version nodes) before)
+      node_above_takes (λ _ _. inc_and_flag_takes version)
+      (λ node life p q. (sym (append_assoc (u8_bytes node.0) (incarnation_bytes version life.inc) (u8_bytes (down_code life.flag))), (record { node = p.0; inc = q }, p.1)))
 
   -- And it is read again.
-  pub life_again : nodes ≤ 2 ^ 8 → (e : NodeId × Life) → IsNext node_cmp (λ (e : NodeId × Life). e.0) (IsLifeInForm nodes) before e → Again (life_at nodes before) (life_bytes e) e
+  pub life_again : nodes ≤ 2 ^ 8 → (e : NodeId × Life) → IsNext node_cmp (λ (e : NodeId × Life). e.0) (IsLifeInForm version nodes) before e → Again (life_at version nodes before) (life_bytes version e) e
   unfolding life_at life_bytes
   life_again fit e is =
-      subst (λ (t : List ℕ). Again (life_at nodes before) t e) (sym (append_assoc (u8_bytes e.0.0) (incarnation_bytes e.1.inc) (u8_bytes (down_code e.1.flag))))
-      (Again-both (node_above_at nodes before) (λ _ r. inc_and_flag_at r) (λ node life. (node, life)) (node_bytes e.0) (inc_and_flag_bytes e.1) e.0 e.1
-      (node_above_again fit e.0 (is.0.node, is.1)) (inc_and_flag_again e.1 is.0.inc))
+      subst (λ (t : List ℕ). Again (life_at version nodes before) t e) (sym (append_assoc (u8_bytes e.0.0) (incarnation_bytes version e.1.inc) (u8_bytes (down_code e.1.flag))))
+      (Again-both (node_above_at nodes before) (λ _ r. inc_and_flag_at version r) (λ node life. (node, life)) (node_bytes e.0) (inc_and_flag_bytes version e.1) e.0 e.1
+      (node_above_again fit e.0 (is.0.node, is.1)) (inc_and_flag_again version e.1 is.0.inc))

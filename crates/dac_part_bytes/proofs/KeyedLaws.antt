@@ -1,50 +1,90 @@
--- The laws of permits and start wishes. What is read is spelled so and in form, and what is in form is read from its
--- spelling.
-use Rattle.std.specs.Prelude.{◌^◌, ◌≤◌}
-use Rattle.std.proofs.Common.{sym, ap, subst}
-use Rattle.dac_dots.specs.Dots.{Dots}
+-- The laws of permits, drains and start wishes. What is read is spelled so and in form, and what is in form is read
+-- from its spelling.
+use Rattle.std.specs.Prelude.{◌≡◌, ℕ, ◌+◌, ◌^◌, ◌≤◌, List, Option, Ok, refl}
+use Rattle.std.proofs.Common.{sym, ap, subst, arith}
+use Rattle.std.specs.declared.cmp.Ordering.{Ordering}
+use Rattle.std.specs.Cmp.{IsTotalOrder}
+use Rattle.std.specs.FinMap as map
+use Rattle.std.proofs.lemmas.Map.Lookups.{CmpEqualImpliesEq}
+use Rattle.dac_dots.specs.Dots.{Dots, origins_total, exact_origins}
+use Rattle.dac_lattice.specs.declared.flags.Flag.{Flag}
+use Rattle.dac_lattice.specs.declared.flags.Flag.TheVariants.{Up, Down}
+use Rattle.dac_wishes.specs.Keys.{keys_total, exact_keys}
 use Rattle.dac_wishes.specs.Writes.{Writes}
-use Rattle.dac_wishes.specs.PermissionsValue.{Permits}
-use Rattle.dac_wishes.specs.StoredPermits.{permits_of}
+use Rattle.dac_wishes.specs.DrainsValue.{Drains}
+use Rattle.dac_wishes.specs.StoredVotes.{votes_of}
+use Rattle.dac_wishes.specs.VotesByKey.{votes_by_key, votes_by_key_again}
 use Rattle.dac_wishes.specs.StoredWishes.{writes_of}
-use Rattle.dac_wishes.specs.PermitsByKey.{permits_by_key, by_key_again}
 use Rattle.dac_wishes.specs.StartsByKey.{starts_by_key, writes_again}
 use Rattle.dac_config.specs.Table.{Table, node_count, app_count}
-use Rattle.dac_bytes.specs.Takes.{TakesAs, TakesAs-made, Again, Again-made}
-use Rattle.dac_part_bytes.specs.Reading.{permits_by_key_at, all_permits_at, starts_by_key_at, all_starts_at}
-use Rattle.dac_part_bytes.specs.Spelling.{permits_bytes, starts_bytes}
-use Rattle.dac_part_bytes.specs.KeyedForm.{ArePermitsInForm, AreStartsInForm}
-use Rattle.dac_part_bytes.proofs.KeyedLists.{ArePermitsByKey, AreStartsByKey, permits_list_bytes, starts_list_bytes, permits_list_takes, permits_list_again, starts_list_takes, starts_list_again}
-use Rattle.dac_part_bytes.proofs.KeyedPermits as permits_parts
+use Rattle.dac_bytes.specs.FieldCodecs.{FieldCodecs}
+use Rattle.dac_bytes.specs.Ranges.{IsOrigin}
+use Rattle.dac_bytes.specs.Reading.{Rest, Field, is_above, origin_above_at}
+use Rattle.dac_bytes.specs.Spelling.{origin_bytes}
+use Rattle.dac_bytes.specs.Takes.{IsCodec, Passes, Takes, Takes-none, TakesAs, TakesAs-made, Again, Again-made, ok_is}
+use Rattle.dac_bytes.specs.declared.version.Version.{Version}
+use Rattle.dac_bytes.specs.declared.version.Version.TheVariants.{One, Two}
+use Rattle.dac_bytes.specs.laws.Codecs.{codec_made}
+use Rattle.dac_part_bytes.specs.Reading.{key_above_at, votes_of_key_at, votes_by_key_at, all_votes_at, all_permits_at, all_drains_at, starts_by_key_at, all_starts_at}
+use Rattle.dac_part_bytes.specs.Spelling.{key_bytes, votes_bytes, permits_bytes, drains_bytes, starts_bytes}
+use Rattle.dac_part_bytes.specs.KeyedForm.{IsKey, AreVotesInForm, ArePermitsInForm, AreDrainsInForm, AreStartsInForm}
+use Rattle.dac_part_bytes.proofs.KeyFields.{key_takes, key_again}
+use Rattle.dac_part_bytes.proofs.KeyedLists.{AreStartsByKey, starts_list_bytes, starts_list_takes, starts_list_again}
+use Rattle.dac_part_bytes.proofs.VoteLists.{AreVotesByKey, votes_list_bytes, votes_list_codec}
+use Rattle.dac_part_bytes.proofs.KeyedVotes as votes_parts
 use Rattle.dac_part_bytes.proofs.KeyedStarts as starts_parts
 
-module _ (t : Table) (known : Dots) where
-  -- What is read is spelled so, and can be read.
-  pub permits_takes : TakesAs (all_permits_at t known) permits_bytes (ArePermitsInForm t known)
-  unfolding all_permits_at permits_bytes
-  permits_takes =
-      TakesAs-made (permits_by_key_at t known) permits_list_bytes (ArePermitsByKey t known) (λ m. permits_of m) permits_bytes (ArePermitsInForm t known)
-      (permits_list_takes t known) (λ m is. (ap permits_list_bytes (sym (permits_parts.list_again t known m is)), permits_parts.permits_in_form t known m is))
+-- ---- votes
 
-  pub starts_takes : TakesAs (all_starts_at t known) starts_bytes (AreStartsInForm t known)
+module _ {K : Type 0} {R : K → K → Ordering} (total : IsTotalOrder R) (exact : CmpEqualImpliesEq R) (key_above : Option K → Rest → Field K) (key_text : K → List ℕ) (IsKeyOf : K → Type 0)
+    (keys : (before : Option K) → IsCodec (key_above before) key_text (Passes IsKeyOf (is_above R before))) where
+  -- Votes and their spellings are one to one, where their keys are.
+  pub votes_codec : (version : Version) (t : Table) (known : Dots) (truth : Flag) → node_count t ≤ 2 ^ 8
+      → IsCodec (all_votes_at R key_above (votes_of_key_at version (node_count t) known truth)) (votes_bytes R key_text version truth) (AreVotesInForm R IsKeyOf version t known)
+  unfolding all_votes_at votes_bytes
+  votes_codec version t known truth few_nodes =
+      codec_made (votes_by_key_at key_above (votes_of_key_at version (node_count t) known truth)) (votes_list_bytes key_text version truth) (AreVotesByKey R IsKeyOf version t known)
+      (votes_list_codec version t known truth few_nodes total key_above key_text IsKeyOf keys)
+      (λ m. votes_of R m) (votes_bytes R key_text version truth) (AreVotesInForm R IsKeyOf version t known)
+      (λ m is. (ap (votes_list_bytes key_text version truth) (sym (votes_parts.list_again total exact IsKeyOf version t known m is)), votes_parts.votes_in_form total exact IsKeyOf version t known m is))
+      (λ votes is. (votes_by_key R votes, votes_parts.list_in_form total exact IsKeyOf version t known votes is, votes_by_key_again total exact votes))
+
+module _ (t : Table) (known : Dots) (few_nodes : node_count t ≤ 2 ^ 8) where
+  pub permits_codec : (version : Version) → app_count t ≤ 2 ^ 16 → IsCodec (all_permits_at version t known) (permits_bytes version) (ArePermitsInForm version t known)
+  permits_codec version few_apps =
+      votes_codec keys_total exact_keys (key_above_at version t) (key_bytes version) (IsKey version t)
+      (λ before. record { takes = key_takes version t before; again = key_again version t few_nodes few_apps before }) version t known Up few_nodes
+
+  -- version one has no drains, and no byte of them
+  no_drains_codec : IsCodec (all_drains_at One t known) (drains_bytes One) (AreDrainsInForm One t known)
+  no_drains_codec = record {
+    takes = λ r x fits e. subst (λ (x : Drains × Rest). Takes r (drains_bytes One x.0) x.1 × AreDrainsInForm One t known x.0) (ok_is (map.empty, r) x e) (Takes-none r fits, refl);
+    again = λ drains none at rest.
+        let start : at ≡ at + 0 = omega arith in
+        λ i. Ok (sym none i, record { at = start i; bytes = rest });
+  }
+
+  -- Drains and their spellings are one to one in each version.
+  pub drains_codec : (version : Version) → FieldCodecs version (node_count t) → IsCodec (all_drains_at version t known) (drains_bytes version) (AreDrainsInForm version t known)
+  drains_codec One fields = no_drains_codec
+  drains_codec Two fields = votes_codec origins_total exact_origins (origin_above_at Two (node_count t)) (origin_bytes Two) (IsOrigin Two (node_count t)) fields.origin_above Two t known Down few_nodes
+
+-- ---- start wishes
+
+module _ (version : Version) (t : Table) (known : Dots) where
+  -- What is read is spelled so, and can be read.
+  pub starts_takes : TakesAs (all_starts_at version t known) (starts_bytes version) (AreStartsInForm version t known)
   unfolding all_starts_at starts_bytes
   starts_takes =
-      TakesAs-made (starts_by_key_at t known) starts_list_bytes (AreStartsByKey t known) (λ m. writes_of m) starts_bytes (AreStartsInForm t known)
-      (starts_list_takes t known) (λ m is. (ap starts_list_bytes (sym (starts_parts.list_again t known m is)), starts_parts.starts_in_form t known m is))
+      TakesAs-made (starts_by_key_at version t known) (starts_list_bytes version) (AreStartsByKey version t known) (λ m. writes_of m) (starts_bytes version) (AreStartsInForm version t known)
+      (starts_list_takes version t known) (λ m is. (ap (starts_list_bytes version) (sym (starts_parts.list_again version t known m is)), starts_parts.starts_in_form version t known m is))
 
   -- nodes are numbered in one byte, and applications in two
   module _ (few_nodes : node_count t ≤ 2 ^ 8) (few_apps : app_count t ≤ 2 ^ 16) where
     -- What can be read is read from its spelling.
-    pub permits_again : (permits : Permits) → ArePermitsInForm t known permits → Again (all_permits_at t known) (permits_bytes permits) permits
-    unfolding all_permits_at permits_bytes
-    permits_again permits is =
-        let m = permits_by_key permits in
-        subst (λ (p : Permits). Again (all_permits_at t known) (permits_bytes permits) p) (by_key_again permits)
-        (Again-made (permits_by_key_at t known) (λ m. permits_of m) (permits_list_bytes m) m (permits_list_again t known few_nodes few_apps m (permits_parts.list_in_form t known permits is)))
-
-    pub starts_again : (writes : Writes) → AreStartsInForm t known writes → Again (all_starts_at t known) (starts_bytes writes) writes
+    pub starts_again : (writes : Writes) → AreStartsInForm version t known writes → Again (all_starts_at version t known) (starts_bytes version writes) writes
     unfolding all_starts_at starts_bytes
     starts_again writes is =
         let m = starts_by_key writes in
-        subst (λ (w : Writes). Again (all_starts_at t known) (starts_bytes writes) w) (writes_again writes)
-        (Again-made (starts_by_key_at t known) (λ m. writes_of m) (starts_list_bytes m) m (starts_list_again t known few_nodes few_apps m (starts_parts.list_in_form t known writes is)))
+        subst (λ (w : Writes). Again (all_starts_at version t known) (starts_bytes version writes) w) (writes_again writes)
+        (Again-made (starts_by_key_at version t known) (λ m. writes_of m) (starts_list_bytes version m) m (starts_list_again version t known few_nodes few_apps m (starts_parts.list_in_form version t known writes is)))

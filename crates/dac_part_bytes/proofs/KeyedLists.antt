@@ -1,4 +1,4 @@
--- The laws of permits and start wishes by key, as the lists that are read.
+-- The laws of start wishes by key, as the lists that are read.
 use Rattle.std.specs.Prelude.{◌≡◌, ℕ, ◌-◌, ◌^◌, ◌<◌, ◌≤◌, List, ◌++◌, length, map as list_map, Option, refl}
 use Rattle.std.specs.List.{flat_map, AllByRecursion}
 use Rattle.std.specs.Int.{w32}
@@ -8,10 +8,8 @@ use Rattle.dac_dots.specs.declared.dot.Dot.{Dot}
 use Rattle.dac_dots.specs.Dots.{Dots, dot_cmp, dots_total, exact_dots}
 use Rattle.dac_dots.specs.Keys.{IsRising}
 use Rattle.dac_dots.specs.InOrder.{in_order, in_order-one, in_order-same}
-use Rattle.dac_lattice.specs.declared.flags.Flag.{Flag}
 use Rattle.dac_wishes.specs.declared.key.Key.{Key}
 use Rattle.dac_wishes.specs.Keys.{key_cmp, keys_total}
-use Rattle.dac_wishes.specs.StoredPermits.{DotFlags}
 use Rattle.dac_config.specs.Table.{Table, node_count, app_count}
 use Rattle.dac_bytes.specs.Numbers.{u32_bytes}
 use Rattle.dac_bytes.specs.Reading.{number_at}
@@ -20,114 +18,71 @@ use Rattle.dac_bytes.specs.Takes.{TakesAs, TakesAs-both, Again, Again-both}
 use Rattle.dac_bytes.specs.laws.Fields.{u32_takes, u32_again, u32_in_takes, u32_in_again}
 use Rattle.std.proofs.lemmas.List.{map-id}
 use Rattle.dac_bytes.specs.laws.Ascending.{IsNext, counted_takes, counted_again}
-use Rattle.dac_part_bytes.specs.Reading.{key_above_at, some_at, known_dot_at, permit_at, permits_of_key_at, keyed_permits_at, permits_by_key_at, dots_of_key_at, keyed_dots_at, starts_by_key_at}
-use Rattle.dac_part_bytes.specs.Spelling.{key_bytes, permit_bytes, keyed_permits_bytes, keyed_dots_bytes}
+use Rattle.dac_part_bytes.specs.Reading.{key_above_at, some_at, known_dot_at, dots_of_key_at, keyed_dots_at, starts_by_key_at}
+use Rattle.dac_part_bytes.specs.Spelling.{key_bytes, keyed_dots_bytes}
 use Rattle.dac_part_bytes.specs.KeyedForm.{IsKey, IsKeyAbove, IsKnownDot}
-use Rattle.dac_part_bytes.proofs.KeyFields.{key_takes, key_again, known_dot_takes, known_dot_again, permit_takes, permit_again}
+use Rattle.dac_part_bytes.proofs.KeyFields.{key_takes, key_again, known_dot_takes, known_dot_again}
+use Rattle.dac_bytes.specs.declared.version.Version.{Version}
 
 -- some, and a number that fits its field
 abbrev pub IsSome : ℕ → Type 0
 IsSome n = (1 ≤ n) × (n ≤ 2 ^ 32 - 1)
 
--- the permits of a key: some, by known dots that rise
-abbrev pub ArePermitsOfKey : Table → Dots → DotFlags → Type 0
-ArePermitsOfKey t known ps = IsSome (length ps) × AllByRecursion (λ (p : Dot × Flag). IsKnownDot t known p.0) ps × IsRising dot_cmp (list_map (λ (p : Dot × Flag). p.0) ps)
-
--- a key with its permits
-abbrev pub IsKeyedPermits : Table → Dots → Key × DotFlags → Type 0
-IsKeyedPermits t known e = IsKey t e.0 × ArePermitsOfKey t known e.1
-
--- keys that rise, each with its permits
-abbrev pub ArePermitsByKey : Table → Dots → List (Key × DotFlags) → Type 0
-ArePermitsByKey t known m = (length m < 2 ^ 32) × AllByRecursion (IsKeyedPermits t known) m × IsRising key_cmp (list_map (λ (e : Key × DotFlags). e.0) m)
-
 -- the dots of a key: some, known, and rising
-abbrev pub AreDotsOfKey : Table → Dots → List Dot → Type 0
-AreDotsOfKey t known ds = IsSome (length ds) × AllByRecursion (IsKnownDot t known) ds × IsRising dot_cmp (list_map (λ (d : Dot). d) ds)
+abbrev pub AreDotsOfKey : Version → Table → Dots → List Dot → Type 0
+AreDotsOfKey version t known ds = IsSome (length ds) × AllByRecursion (IsKnownDot version t known) ds × IsRising dot_cmp (list_map (λ (d : Dot). d) ds)
 
 -- a key with its dots
-abbrev pub IsKeyedDots : Table → Dots → Key × Dots → Type 0
-IsKeyedDots t known e = IsKey t e.0 × AreDotsOfKey t known (in_order e.1)
+abbrev pub IsKeyedDots : Version → Table → Dots → Key × Dots → Type 0
+IsKeyedDots version t known e = IsKey version t e.0 × AreDotsOfKey version t known (in_order e.1)
 
 -- keys that rise, each with its dots
-abbrev pub AreStartsByKey : Table → Dots → List (Key × Dots) → Type 0
-AreStartsByKey t known m = (length m < 2 ^ 32) × AllByRecursion (IsKeyedDots t known) m × IsRising key_cmp (list_map (λ (e : Key × Dots). e.0) m)
+abbrev pub AreStartsByKey : Version → Table → Dots → List (Key × Dots) → Type 0
+AreStartsByKey version t known m = (length m < 2 ^ 32) × AllByRecursion (IsKeyedDots version t known) m × IsRising key_cmp (list_map (λ (e : Key × Dots). e.0) m)
 
-abbrev permits_of_key_bytes : DotFlags → List ℕ
-permits_of_key_bytes ps = u32_bytes (length ps) ++ flat_map permit_bytes ps
+abbrev dots_of_key_bytes : Version → List Dot → List ℕ
+dots_of_key_bytes version ds = u32_bytes (length ds) ++ flat_map (dot_bytes version) ds
 
-abbrev pub permits_list_bytes : List (Key × DotFlags) → List ℕ
-permits_list_bytes m = u32_bytes (length m) ++ flat_map keyed_permits_bytes m
+abbrev keyed_starts_bytes : Version → Key × Dots → List ℕ
+keyed_starts_bytes version e = keyed_dots_bytes version (e.0, in_order e.1)
 
-abbrev dots_of_key_bytes : List Dot → List ℕ
-dots_of_key_bytes ds = u32_bytes (length ds) ++ flat_map dot_bytes ds
+abbrev pub starts_list_bytes : Version → List (Key × Dots) → List ℕ
+starts_list_bytes version m = u32_bytes (length m) ++ flat_map (keyed_starts_bytes version) m
 
-abbrev keyed_starts_bytes : Key × Dots → List ℕ
-keyed_starts_bytes e = keyed_dots_bytes (e.0, in_order e.1)
-
-abbrev pub starts_list_bytes : List (Key × Dots) → List ℕ
-starts_list_bytes m = u32_bytes (length m) ++ flat_map keyed_starts_bytes m
-
-permits_regroup : (key : Key) (ps : DotFlags) → key_bytes key ++ permits_of_key_bytes ps ≡ keyed_permits_bytes (key, ps)
-unfolding keyed_permits_bytes
-permits_regroup key ps = sym (append_assoc (key_bytes key) (u32_bytes (length ps)) (flat_map permit_bytes ps))
-
-dots_regroup : (key : Key) (ds : List Dot) → key_bytes key ++ dots_of_key_bytes ds ≡ keyed_dots_bytes (key, ds)
+dots_regroup : (version : Version) (key : Key) (ds : List Dot) → key_bytes version key ++ dots_of_key_bytes version ds ≡ keyed_dots_bytes version (key, ds)
 unfolding keyed_dots_bytes
-dots_regroup key ds = sym (append_assoc (key_bytes key) (u32_bytes (length ds)) (flat_map dot_bytes ds))
+dots_regroup version key ds = sym (append_assoc (key_bytes version key) (u32_bytes (length ds)) (flat_map (dot_bytes version) ds))
 
 -- dots that rise are those of their set, in order
 pub dots_again : (ds : List Dot) → IsRising dot_cmp (list_map (λ (d : Dot). d) ds) → ds ≡ in_order (set.from_list {R = dot_cmp} ds)
 dots_again ds rising = in_order-one dots_total exact_dots (set.from_list ds) ds (subst (λ (ds : List Dot). IsRising dot_cmp ds) (map-id ds) rising) refl
 
-module _ (t : Table) (known : Dots) where
+module _ (version : Version) (t : Table) (known : Dots) where
   abbrev nodes : ℕ
   nodes = node_count t
 
-  permits_of_key_takes : TakesAs (permits_of_key_at nodes known) permits_of_key_bytes (ArePermitsOfKey t known)
-  unfolding permits_of_key_at
-  permits_of_key_takes =
-      counted_takes dots_total (λ (p : Dot × Flag). p.0) (λ (p : Dot × Flag). IsKnownDot t known p.0) (permit_at nodes known) some_at u32_bytes permit_bytes IsSome
-      (u32_in_takes 1 (2 ^ 32 - 1)) (permit_takes t known)
-
-  dots_of_key_takes : TakesAs (dots_of_key_at nodes known) dots_of_key_bytes (AreDotsOfKey t known)
+  dots_of_key_takes : TakesAs (dots_of_key_at version nodes known) (dots_of_key_bytes version) (AreDotsOfKey version t known)
   unfolding dots_of_key_at
   dots_of_key_takes =
-      counted_takes dots_total (λ (d : Dot). d) (IsKnownDot t known) (known_dot_at nodes known) some_at u32_bytes dot_bytes IsSome
-      (u32_in_takes 1 (2 ^ 32 - 1)) (known_dot_takes t known)
-
-  abbrev IsPermitsAbove : Option Key → Key × DotFlags → Type 0
-  IsPermitsAbove = IsNext key_cmp (λ (e : Key × DotFlags). e.0) (IsKeyedPermits t known)
+      counted_takes dots_total (λ (d : Dot). d) (IsKnownDot version t known) (known_dot_at version nodes known) some_at u32_bytes (dot_bytes version) IsSome
+      (u32_in_takes 1 (2 ^ 32 - 1)) (known_dot_takes version t known)
 
   abbrev IsDotsAbove : Option Key → Key × Dots → Type 0
-  IsDotsAbove = IsNext key_cmp (λ (e : Key × Dots). e.0) (IsKeyedDots t known)
+  IsDotsAbove = IsNext key_cmp (λ (e : Key × Dots). e.0) (IsKeyedDots version t known)
 
-  keyed_permits_takes : (before : Option Key) → TakesAs (keyed_permits_at t known before) keyed_permits_bytes (IsPermitsAbove before)
-  unfolding keyed_permits_at
-  keyed_permits_takes before =
-      TakesAs-both (key_above_at t before) key_bytes (IsKeyAbove t before) (λ _ r. permits_of_key_at nodes known r) (λ _. permits_of_key_bytes) (λ _ ps. ArePermitsOfKey t known ps)
-      (λ key ps. (key, ps)) keyed_permits_bytes (IsPermitsAbove before)
-      (key_takes t before) (λ _ _. permits_of_key_takes) (λ key ps p q. (permits_regroup key ps, ((p.0, q), p.1)))
-
-  keyed_dots_takes : (before : Option Key) → TakesAs (keyed_dots_at t known before) keyed_starts_bytes (IsDotsAbove before)
+  keyed_dots_takes : (before : Option Key) → TakesAs (keyed_dots_at version t known before) (keyed_starts_bytes version) (IsDotsAbove before)
   unfolding keyed_dots_at
   keyed_dots_takes before =
-      TakesAs-both (key_above_at t before) key_bytes (IsKeyAbove t before) (λ _ r. dots_of_key_at nodes known r) (λ _. dots_of_key_bytes) (λ _ ds. AreDotsOfKey t known ds)
-      (λ key ds. (key, set.from_list ds)) keyed_starts_bytes (IsDotsAbove before)
-      (key_takes t before) (λ _ _. dots_of_key_takes) (λ key ds p q.
+      TakesAs-both (key_above_at version t before) (key_bytes version) (IsKeyAbove version t before) (λ _ r. dots_of_key_at version nodes known r) (λ _. dots_of_key_bytes version) (λ _ ds. AreDotsOfKey version t known ds)
+      (λ key ds. (key, set.from_list ds)) (keyed_starts_bytes version) (IsDotsAbove before)
+      (key_takes version t before) (λ _ _. dots_of_key_takes) (λ key ds p q.
       let same = dots_again ds q.2 in
-      (dots_regroup key ds ∙ ap (λ (ds : List Dot). keyed_dots_bytes (key, ds)) same, ((p.0, subst (AreDotsOfKey t known) same q), p.1)))
+      (dots_regroup version key ds ∙ ap (λ (ds : List Dot). keyed_dots_bytes version (key, ds)) same, ((p.0, subst (AreDotsOfKey version t known) same q), p.1)))
 
-  pub permits_list_takes : TakesAs (permits_by_key_at t known) permits_list_bytes (ArePermitsByKey t known)
-  unfolding permits_by_key_at
-  permits_list_takes =
-      counted_takes keys_total (λ (e : Key × DotFlags). e.0) (IsKeyedPermits t known) (keyed_permits_at t known) (number_at w32) u32_bytes keyed_permits_bytes (λ n. n < 2 ^ 32)
-      u32_takes keyed_permits_takes
-
-  pub starts_list_takes : TakesAs (starts_by_key_at t known) starts_list_bytes (AreStartsByKey t known)
+  pub starts_list_takes : TakesAs (starts_by_key_at version t known) (starts_list_bytes version) (AreStartsByKey version t known)
   unfolding starts_by_key_at
   starts_list_takes =
-      counted_takes keys_total (λ (e : Key × Dots). e.0) (IsKeyedDots t known) (keyed_dots_at t known) (number_at w32) u32_bytes keyed_starts_bytes (λ n. n < 2 ^ 32)
+      counted_takes keys_total (λ (e : Key × Dots). e.0) (IsKeyedDots version t known) (keyed_dots_at version t known) (number_at w32) u32_bytes (keyed_starts_bytes version) (λ n. n < 2 ^ 32)
       u32_takes keyed_dots_takes
 
   -- nodes are numbered in one byte, and applications in two
@@ -135,43 +90,24 @@ module _ (t : Table) (known : Dots) where
     some_again : (n : ℕ) → IsSome n → Again some_at (u32_bytes n) n
     some_again n is = u32_in_again 1 (2 ^ 32 - 1) (omega arith) n is.0 is.1
 
-    permits_of_key_again : (ps : DotFlags) → ArePermitsOfKey t known ps → Again (permits_of_key_at nodes known) (permits_of_key_bytes ps) ps
-    unfolding permits_of_key_at
-    permits_of_key_again ps is =
-        counted_again dots_total (λ (p : Dot × Flag). p.0) (λ (p : Dot × Flag). IsKnownDot t known p.0) (permit_at nodes known) some_at u32_bytes permit_bytes IsSome ps
-        (some_again (length ps) is.0) (permit_again t known few_nodes) is.1 is.2
-
-    dots_of_key_again : (ds : List Dot) → AreDotsOfKey t known ds → Again (dots_of_key_at nodes known) (dots_of_key_bytes ds) ds
+    dots_of_key_again : (ds : List Dot) → AreDotsOfKey version t known ds → Again (dots_of_key_at version nodes known) (dots_of_key_bytes version ds) ds
     unfolding dots_of_key_at
     dots_of_key_again ds is =
-        counted_again dots_total (λ (d : Dot). d) (IsKnownDot t known) (known_dot_at nodes known) some_at u32_bytes dot_bytes IsSome ds
-        (some_again (length ds) is.0) (known_dot_again t known few_nodes) is.1 is.2
+        counted_again dots_total (λ (d : Dot). d) (IsKnownDot version t known) (known_dot_at version nodes known) some_at u32_bytes (dot_bytes version) IsSome ds
+        (some_again (length ds) is.0) (known_dot_again version t known few_nodes) is.1 is.2
 
-    keyed_permits_again : (before : Option Key) (e : Key × DotFlags) → IsPermitsAbove before e → Again (keyed_permits_at t known before) (keyed_permits_bytes e) e
-    unfolding keyed_permits_at
-    keyed_permits_again before e is =
-        subst (λ (text : List ℕ). Again (keyed_permits_at t known before) text e) (permits_regroup e.0 e.1)
-        (Again-both (key_above_at t before) (λ _ r. permits_of_key_at nodes known r) (λ key ps. (key, ps)) (key_bytes e.0) (permits_of_key_bytes e.1) e.0 e.1
-        (key_again t few_nodes few_apps before e.0 (is.0.0, is.1)) (permits_of_key_again e.1 is.0.1))
-
-    keyed_dots_again : (before : Option Key) (e : Key × Dots) → IsDotsAbove before e → Again (keyed_dots_at t known before) (keyed_starts_bytes e) e
+    keyed_dots_again : (before : Option Key) (e : Key × Dots) → IsDotsAbove before e → Again (keyed_dots_at version t known before) (keyed_starts_bytes version e) e
     unfolding keyed_dots_at
     keyed_dots_again before e is =
         let ds = in_order e.1 in
-        let read : Again (keyed_dots_at t known before) (key_bytes e.0 ++ dots_of_key_bytes ds) (e.0, set.from_list ds) =
-        Again-both (key_above_at t before) (λ _ r. dots_of_key_at nodes known r) (λ key ds. (key, set.from_list ds)) (key_bytes e.0) (dots_of_key_bytes ds) e.0 ds
-        (key_again t few_nodes few_apps before e.0 (is.0.0, is.1)) (dots_of_key_again ds is.0.1) in
-        let spelled = subst (λ (text : List ℕ). Again (keyed_dots_at t known before) text (e.0, set.from_list ds)) (dots_regroup e.0 ds) read in
-        subst (λ (s : Dots). Again (keyed_dots_at t known before) (keyed_starts_bytes e) (e.0, s)) (in_order-same dots_total exact_dots e.1) spelled
+        let read : Again (keyed_dots_at version t known before) (key_bytes version e.0 ++ dots_of_key_bytes version ds) (e.0, set.from_list ds) =
+        Again-both (key_above_at version t before) (λ _ r. dots_of_key_at version nodes known r) (λ key ds. (key, set.from_list ds)) (key_bytes version e.0) (dots_of_key_bytes version ds) e.0 ds
+        (key_again version t few_nodes few_apps before e.0 (is.0.0, is.1)) (dots_of_key_again ds is.0.1) in
+        let spelled = subst (λ (text : List ℕ). Again (keyed_dots_at version t known before) text (e.0, set.from_list ds)) (dots_regroup version e.0 ds) read in
+        subst (λ (s : Dots). Again (keyed_dots_at version t known before) (keyed_starts_bytes version e) (e.0, s)) (in_order-same dots_total exact_dots e.1) spelled
 
-    pub permits_list_again : (m : List (Key × DotFlags)) → ArePermitsByKey t known m → Again (permits_by_key_at t known) (permits_list_bytes m) m
-    unfolding permits_by_key_at
-    permits_list_again m is =
-        counted_again keys_total (λ (e : Key × DotFlags). e.0) (IsKeyedPermits t known) (keyed_permits_at t known) (number_at w32) u32_bytes keyed_permits_bytes (λ n. n < 2 ^ 32) m
-        (u32_again (length m) is.0) keyed_permits_again is.1 is.2
-
-    pub starts_list_again : (m : List (Key × Dots)) → AreStartsByKey t known m → Again (starts_by_key_at t known) (starts_list_bytes m) m
+    pub starts_list_again : (m : List (Key × Dots)) → AreStartsByKey version t known m → Again (starts_by_key_at version t known) (starts_list_bytes version m) m
     unfolding starts_by_key_at
     starts_list_again m is =
-        counted_again keys_total (λ (e : Key × Dots). e.0) (IsKeyedDots t known) (keyed_dots_at t known) (number_at w32) u32_bytes keyed_starts_bytes (λ n. n < 2 ^ 32) m
+        counted_again keys_total (λ (e : Key × Dots). e.0) (IsKeyedDots version t known) (keyed_dots_at version t known) (number_at w32) u32_bytes (keyed_starts_bytes version) (λ n. n < 2 ^ 32) m
         (u32_again (length m) is.0) keyed_dots_again is.1 is.2

@@ -20,10 +20,11 @@ use Rattle.dac_wishes.specs.Writes.{Write, Writes, write, dots_at, contains-dots
 use Rattle.dac_wishes.specs.StoredWishes.{writes_of}
 use Rattle.dac_wishes.specs.StartsByKey.{starts_by_key, AreStarts, contains-writes_of, dots_stored, are_starts, starts_again, writes_again}
 use Rattle.dac_config.specs.Table.{Table}
-use Rattle.dac_part_bytes.specs.KeyedForm.{IsKnownDot, IsKnownWrite, AreStartsInForm}
+use Rattle.dac_part_bytes.specs.KeyedForm.{IsKey, IsKnownDot, IsKnownWrite, AreStartsInForm}
 use Rattle.dac_part_bytes.proofs.Entries.{sorted_of, rising_keys, all_has, has_all, found, all_found}
 use Rattle.dac_part_bytes.proofs.KeyedLists.{IsKeyedDots, AreStartsByKey}
 use Rattle.dac_part_bytes.proofs.InOrder.{no_dots, not_empty_set}
+use Rattle.dac_bytes.specs.declared.version.Version.{Version}
 
 -- ---- sets and their dots in order
 
@@ -54,13 +55,13 @@ some_from s (d ∷ ds) e h =
       some = subst (λ (ds : List Dot). 1 ≤ length ds) (sym e) (omega arith);
     }
 
-module _ (t : Table) (known : Dots) where
+module _ (version : Version) (t : Table) (known : Dots) where
   -- ---- of a list by key
 
-  module _ (m : List (Key × Dots)) (is : AreStartsByKey t known m) where
+  module _ (m : List (Key × Dots)) (is : AreStartsByKey version t known m) where
     -- what is found at a key is in form
-    at_key : (key : Key) (s : Dots) → find key_cmp key m ≡ Some s → IsKeyedDots t known (key, s)
-    at_key key s e = found keys_total exact_keys (IsKeyedDots t known) m is.1 key s e
+    at_key : (key : Key) (s : Dots) → find key_cmp key m ≡ Some s → IsKeyedDots version t known (key, s)
+    at_key key s e = found keys_total exact_keys (IsKeyedDots version t known) m is.1 key s e
 
     kept_at : (key : Key) (v : Option Dots) → find key_cmp key m ≡ v → IsKept IsAny is_empty_set v
     kept_at key None e = tt
@@ -74,18 +75,18 @@ module _ (t : Table) (known : Dots) where
     pub list_again : starts_by_key (writes_of m) ≡ m
     list_again = starts_again m are_kept
 
-    known_at : (w : Write) (v : Option Dots) → find key_cmp w.key m ≡ v → set.contains (store_at set.empty v) w.dot ≡ true → IsKnownWrite t known w
+    known_at : (w : Write) (v : Option Dots) → find key_cmp w.key m ≡ v → set.contains (store_at set.empty v) w.dot ≡ true → IsKnownWrite (IsKey version t) version t known w
     known_at w None e h = absurd (false≢true (sym (set.contains-empty dot_cmp w.dot) ∙ h))
     known_at w (Some s) e h =
         let at = at_key w.key s e in
-        record { key = at.0; dot = has_all dots_total exact_dots (IsKnownDot t known) (in_order s) at.1.1 w.dot (has_key-in_order dots_total exact_dots s w.dot ∙ h) }
+        record { key = at.0; dot = has_all dots_total exact_dots (IsKnownDot version t known) (in_order s) at.1.1 w.dot (has_key-in_order dots_total exact_dots s w.dot ∙ h) }
 
     few_at : (key : Key) (v : Option Dots) → find key_cmp key m ≡ v → length (in_order (store_at set.empty v)) < 2 ^ 32
     few_at key None e = subst (λ (ds : List Dot). length ds < 2 ^ 32) no_dots (omega arith)
     few_at key (Some s) e = omega (arith, (at_key key s e).1.0.1)
 
     -- its writes are in form
-    pub starts_in_form : AreStartsInForm t known (writes_of m)
+    pub starts_in_form : AreStartsInForm version t known (writes_of m)
     starts_in_form = record {
       each = λ w h. known_at w (find key_cmp w.key m) refl (sym (contains-writes_of m are_kept.in_order w) ∙ h);
       keys = subst (λ (l : List (Key × Dots)). length l < 2 ^ 32) (sym list_again) is.0;
@@ -94,28 +95,28 @@ module _ (t : Table) (known : Dots) where
 
   -- ---- of start wishes in form
 
-  module _ (writes : Writes) (is : AreStartsInForm t known writes) where
+  module _ (writes : Writes) (is : AreStartsInForm version t known writes) where
     -- what the list by key has at a key are the dots there
     stored_at : (key : Key) (s : Dots) → find key_cmp key (starts_by_key writes) ≡ Some s → s ≡ dots_at key writes
     stored_at key s e =
         ap (store_at set.empty) (sym e) ∙ dots_stored (starts_by_key writes) (are_starts writes).in_order key ∙ ap (dots_at key) (writes_again writes)
 
-    stands : (key : Key) (s : Dots) → s ≡ dots_at key writes → (d : Dot) → set.contains s d ≡ true → IsKnownWrite t known (write key d)
+    stands : (key : Key) (s : Dots) → s ≡ dots_at key writes → (d : Dot) → set.contains s d ≡ true → IsKnownWrite (IsKey version t) version t known (write key d)
     stands key s same d h = is.each (write key d) (sym (ap (λ (s : Dots). set.contains s d) same ∙ contains-dots_at key writes d) ∙ h)
 
-    keyed : (key : Key) (s : Dots) → find key_cmp key (starts_by_key writes) ≡ Some s → IsKeyedDots t known (key, s)
+    keyed : (key : Key) (s : Dots) → find key_cmp key (starts_by_key writes) ≡ Some s → IsKeyedDots version t known (key, s)
     keyed key s e =
         let same = stored_at key s e in
         let kept : IsKept IsAny is_empty_set (Some s) = subst (IsKept IsAny is_empty_set) e ((are_starts writes).stores key) in
         let has = some_from s (in_order s) refl kept.1 in
         let few : length (in_order s) < 2 ^ 32 = subst (λ (s : Dots). length (in_order s) < 2 ^ 32) (sym same) (is.dots key) in
-        let each = all_has dots_total exact_dots (IsKnownDot t known) (in_order s)
+        let each = all_has dots_total exact_dots (IsKnownDot version t known) (in_order s)
         (λ d h. (stands key s same d (sym (has_key-in_order dots_total exact_dots s d) ∙ h)).dot) in
         let rising = subst (λ (ds : List Dot). IsRising dot_cmp ds) (sym (map-id (in_order s))) (in_order-rising dots_total exact_dots s) in
         ((stands key s same has.one has.held).key, ((has.some, omega (arith, few)), each, rising))
 
     -- their list by key is in form
-    pub list_in_form : AreStartsByKey t known (starts_by_key writes)
+    pub list_in_form : AreStartsByKey version t known (starts_by_key writes)
     list_in_form =
         let sorted = (are_starts writes).in_order in
-        (is.keys, all_found keys_total exact_keys (IsKeyedDots t known) (starts_by_key writes) sorted keyed, rising_keys key_cmp (starts_by_key writes) sorted)
+        (is.keys, all_found keys_total exact_keys (IsKeyedDots version t known) (starts_by_key writes) sorted keyed, rising_keys key_cmp (starts_by_key writes) sorted)

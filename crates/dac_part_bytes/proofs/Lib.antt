@@ -9,8 +9,9 @@ pub mod Kept
 pub mod KeyFields
 pub mod KeyedLaws
 pub mod KeyedLists
-pub mod KeyedPermits
 pub mod KeyedStarts
+pub mod KeyedVotes
 pub mod PartCodecs
 pub mod ReadFacts
 pub mod ReadLoops
+pub mod VoteLists

@@ -9,17 +9,19 @@ use Rattle.dac_part_bytes.proofs.Apps.{app_takes, app_again}
 use Rattle.dac_part_bytes.proofs.ChainClaims.{manner_takes, manner_again}
 use Rattle.dac_part_bytes.proofs.ChainLaws.{lives_takes, lives_again, claims_takes, claims_again}
 use Rattle.dac_part_bytes.proofs.KeyFields.{key_takes, key_again}
-use Rattle.dac_part_bytes.proofs.KeyedLaws.{permits_takes, permits_again, starts_takes, starts_again}
+use Rattle.dac_part_bytes.proofs.KeyedLaws.{permits_codec, drains_codec, starts_takes, starts_again}
+use Rattle.dac_bytes.specs.declared.version.Version.{Version}
 
-module _ (t : Table) (few_nodes : node_count t < 2 ^ 8) (few_apps : app_count t ≤ 2 ^ 16) where
-  pub part_codecs : FieldCodecs (node_count t) → PartCodecs t
+module _ (version : Version) (t : Table) (few_nodes : node_count t < 2 ^ 8) (few_apps : app_count t ≤ 2 ^ 16) where
+  pub part_codecs : FieldCodecs version (node_count t) → PartCodecs version t
   part_codecs fields = record {
     fields = fields;
     app = record { takes = app_takes (app_count t); again = app_again (app_count t) few_apps };
-    key = λ before. record { takes = key_takes t before; again = key_again t (omega arith) few_apps before };
+    key = λ before. record { takes = key_takes version t before; again = key_again version t (omega arith) few_apps before };
     manner = record { takes = manner_takes (node_count t); again = manner_again (node_count t) few_nodes };
-    permits = λ known. record { takes = permits_takes t known; again = permits_again t known (omega arith) few_apps };
-    starts = λ known. record { takes = starts_takes t known; again = starts_again t known (omega arith) few_apps };
-    lives = record { takes = lives_takes (node_count t); again = lives_again (node_count t) (omega arith) };
-    claims = record { takes = claims_takes t; again = claims_again t few_nodes few_apps };
+    permits = λ known. permits_codec t known (omega arith) version few_apps;
+    starts = λ known. record { takes = starts_takes version t known; again = starts_again version t known (omega arith) few_apps };
+    lives = record { takes = lives_takes version (node_count t); again = lives_again version (node_count t) (omega arith) };
+    claims = record { takes = claims_takes version t; again = claims_again version t few_nodes few_apps };
+    drains = λ known. drains_codec t known (omega arith) version fields;
   }

@@ -15,20 +15,21 @@ use Rattle.dac_chains.specs.Claims.{Claims}
 use Rattle.dac_config.specs.Table.{Table, node_count, app_count}
 use Rattle.dac_bytes.specs.Ranges.{IsIncarnation, IsOrigin}
 use Rattle.dac_part_bytes.specs.Reading.{is_listed}
+use Rattle.dac_bytes.specs.declared.version.Version.{Version}
 
 -- ---- lives
 
 -- the life of a node
-pub record IsLifeInForm (nodes : ℕ) (e : NodeId × Life) : Type 0 where
+pub record IsLifeInForm (version : Version) (nodes : ℕ) (e : NodeId × Life) : Type 0 where
   -- there is such a node
   pub node : e.0.0 < nodes
   -- its incarnation is one that there can be
-  pub inc : IsIncarnation e.1.inc
+  pub inc : IsIncarnation version e.1.inc
 
 -- the lives of some nodes
-pub record AreLivesInForm (nodes : ℕ) (lives : Lives) : Type 0 where
+pub record AreLivesInForm (version : Version) (nodes : ℕ) (lives : Lives) : Type 0 where
   -- each is in form
-  pub each : AllByRecursion (IsLifeInForm nodes) (map.entries lives)
+  pub each : AllByRecursion (IsLifeInForm version nodes) (map.entries lives)
   -- and their number fits its field
   pub count : length (map.entries lives) < 2 ^ 8
 
@@ -41,22 +42,22 @@ IsFromFor nodes Failover from = (node : NodeId) × (from ≡ Some node) × (node
 IsFromFor nodes Takeover from = (node : NodeId) × (from ≡ Some node) × (node.0 < nodes)
 
 -- the claim of an application
-pub record IsClaimInForm (t : Table) (e : AppId × Claim) : Type 0 where
+pub record IsClaimInForm (version : Version) (t : Table) (e : AppId × Claim) : Type 0 where
   -- there is such an application
   pub app : e.0.0 < app_count t
   -- its term is one that can be issued
   pub first : 1 ≤ e.1.term
   pub last : e.1.term ≤ MAX_COUNTER
   -- who claims it is an incarnation of a node that there is
-  pub origin : IsOrigin (node_count t) e.1.origin
+  pub origin : IsOrigin version (node_count t) e.1.origin
   -- and that node is in the application's list
   pub listed : is_listed t e.0 e.1.origin.node ≡ true
   -- where it came from fits how it came
   pub from : IsFromFor (node_count t) e.1.how e.1.from
 
 -- the claims of some applications
-pub record AreClaimsInForm (t : Table) (claims : Claims) : Type 0 where
+pub record AreClaimsInForm (version : Version) (t : Table) (claims : Claims) : Type 0 where
   -- each is in form
-  pub each : AllByRecursion (IsClaimInForm t) (map.entries claims)
+  pub each : AllByRecursion (IsClaimInForm version t) (map.entries claims)
   -- and their number fits its field
   pub count : length (map.entries claims) < 2 ^ 16

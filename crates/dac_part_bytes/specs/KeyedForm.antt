@@ -1,56 +1,71 @@
--- What permits and start wishes have to be so that they can be read. They are of keys that the configuration has, by
--- dots that are known, and so many that the counts fit their fields.
+-- What permits, drains and start wishes have to be so that they can be read. They are of keys that the configuration
+-- has, by dots that are known, and so many that the counts fit their fields.
 use Rattle.std.specs.Prelude.{◌≡◌, ◌<◌, ◌^◌, true, length, Option, is_some}
+use Rattle.std.specs.declared.cmp.Ordering.{Ordering}
 use Rattle.std.specs.FinSet as set
 use Rattle.std.specs.FinMap as map
 use Rattle.dac_dots.specs.declared.dot.Dot.{Dot}
-use Rattle.dac_dots.specs.Dots.{Dots}
+use Rattle.dac_dots.specs.Dots.{Dots, origin_cmp}
 use Rattle.dac_dots.specs.InOrder.{in_order}
 use Rattle.dac_wishes.specs.declared.key.Key.{Key}
 use Rattle.dac_wishes.specs.Keys.{key_cmp}
+use Rattle.dac_wishes.specs.KeyedWrites.{KeyedWrite}
 use Rattle.dac_wishes.specs.Writes.{Write, Writes, dots_at}
-use Rattle.dac_wishes.specs.PermissionsValue.{Permits, permits_at}
-use Rattle.dac_wishes.specs.PermitsByKey.{permits_by_key}
+use Rattle.dac_wishes.specs.PermissionsValue.{Permits}
+use Rattle.dac_wishes.specs.DrainsValue.{Drains}
 use Rattle.dac_wishes.specs.StartsByKey.{starts_by_key}
+use Rattle.dac_wishes.specs.Votes.{Votes, votes_at}
+use Rattle.dac_wishes.specs.VotesByKey.{votes_by_key}
 use Rattle.dac_config.specs.Table.{Table, node_count, app_count}
 use Rattle.dac_bytes.specs.Ranges.{IsOrigin, IsDot}
 use Rattle.dac_bytes.specs.Reading.{is_above}
 use Rattle.dac_part_bytes.specs.Reading.{is_listed}
 use Rattle.dac_part_bytes.specs.Spelling.{key_origin}
+use Rattle.dac_bytes.specs.declared.version.Version.{Version}
+use Rattle.dac_bytes.specs.declared.version.Version.TheVariants.{One, Two}
 
 -- an application that there is, a node that there is with an incarnation from 1, and the node in the application's list
-pub record IsKey (t : Table) (key : Key) : Type 0 where
+pub record IsKey (version : Version) (t : Table) (key : Key) : Type 0 where
   pub app : key.app.0 < app_count t
-  pub origin : IsOrigin (node_count t) (key_origin key)
+  pub origin : IsOrigin version (node_count t) (key_origin key)
   pub listed : is_listed t key.app key.node ≡ true
 
 -- a key above the one before it
-abbrev pub IsKeyAbove : Table → Option Key → Key → Type 0
-IsKeyAbove t before key = IsKey t key × (is_above key_cmp before key ≡ true)
+abbrev pub IsKeyAbove : Version → Table → Option Key → Key → Type 0
+IsKeyAbove version t before key = IsKey version t key × (is_above key_cmp before key ≡ true)
 
 -- a dot that there can be, and that is known
-pub record IsKnownDot (t : Table) (known : Dots) (d : Dot) : Type 0 where
-  pub dot : IsDot (node_count t) d
+pub record IsKnownDot (version : Version) (t : Table) (known : Dots) (d : Dot) : Type 0 where
+  pub dot : IsDot version (node_count t) d
   pub among : set.contains known d ≡ true
 
--- the write of such a key by such a dot
-pub record IsKnownWrite (t : Table) (known : Dots) (w : Write) : Type 0 where
-  pub key : IsKey t w.key
-  pub dot : IsKnownDot t known w.dot
+-- the write of a key that there can be, by such a dot
+pub record IsKnownWrite {K : Type 0} (IsKeyOf : K → Type 0) (version : Version) (t : Table) (known : Dots) (w : KeyedWrite K) : Type 0 where
+  pub key : IsKeyOf w.key
+  pub dot : IsKnownDot version t known w.dot
 
--- permits that can be read
-pub record ArePermitsInForm (t : Table) (known : Dots) (permits : Permits) : Type 0 where
-  -- each is of a key that the configuration has, by a dot that is known
-  pub each : (w : Write) → is_some (map.get permits w) ≡ true → IsKnownWrite t known w
-  -- how many keys have permits fits its field
-  pub keys : length (permits_by_key permits) < 2 ^ 32
-  -- and so does how many permits a key has
-  pub dots : (key : Key) → length (permits_at key permits) < 2 ^ 32
+-- votes that can be read
+pub record AreVotesInForm {K : Type 0} (R : K → K → Ordering) (IsKeyOf : K → Type 0) (version : Version) (t : Table) (known : Dots) (votes : Votes R) : Type 0 where
+  -- each is of a key that there can be, by a dot that is known
+  pub each : (w : KeyedWrite K) → is_some (map.get votes w) ≡ true → IsKnownWrite IsKeyOf version t known w
+  -- how many keys have votes fits its field
+  pub keys : length (votes_by_key R votes) < 2 ^ 32
+  -- and so does how many votes a key has
+  pub dots : (key : K) → length (votes_at R key votes) < 2 ^ 32
+
+-- permits that can be read: of keys that the configuration has
+abbrev pub ArePermitsInForm : Version → Table → Dots → Permits → Type 0
+ArePermitsInForm version t known = AreVotesInForm key_cmp (IsKey version t) version t known
+
+-- drains that can be read: of incarnations of the configuration's nodes. Version one has none
+abbrev pub AreDrainsInForm : Version → Table → Dots → Drains → Type 0
+AreDrainsInForm One t known drains = drains ≡ map.empty
+AreDrainsInForm Two t known drains = AreVotesInForm origin_cmp (IsOrigin Two (node_count t)) Two t known drains
 
 -- start wishes that can be read
-pub record AreStartsInForm (t : Table) (known : Dots) (writes : Writes) : Type 0 where
+pub record AreStartsInForm (version : Version) (t : Table) (known : Dots) (writes : Writes) : Type 0 where
   -- each is of a key that the configuration has, by a dot that is known
-  pub each : (w : Write) → set.contains writes w ≡ true → IsKnownWrite t known w
+  pub each : (w : Write) → set.contains writes w ≡ true → IsKnownWrite (IsKey version t) version t known w
   -- how many keys have wishes fits its field
   pub keys : length (starts_by_key writes) < 2 ^ 32
   -- and so does how many wishes a key has

@@ -2,6 +2,7 @@
 -- are those of a configuration, and the dots that stand are among those that are known.
 use Rattle.std.specs.Prelude.{ℕ, zero, suc, ◌-◌, ◌^◌, Bool, ◌==◌, List, Option, Some, None, is_some, Ok, nat_lt, if◌then◌else◌}
 use Rattle.std.specs.Int.{w8, w16, w32}
+use Rattle.std.specs.declared.cmp.Ordering.{Ordering}
 use Rattle.std.specs.FinSet as set
 use Rattle.std.specs.FinMap as map
 use Rattle.dac_base.specs.declared.NodeId.{NodeId}
@@ -9,7 +10,7 @@ use Rattle.dac_base.specs.declared.AppId.{AppId}
 use Rattle.dac_base.specs.Ids.{app_cmp, node_cmp}
 use Rattle.dac_dots.specs.declared.dot.Dot.{Dot}
 use Rattle.dac_dots.specs.declared.dot.Origin.{Origin}
-use Rattle.dac_dots.specs.Dots.{Dots}
+use Rattle.dac_dots.specs.Dots.{Dots, origin_cmp}
 use Rattle.dac_lattice.specs.declared.flags.Flag.{Flag}
 use Rattle.dac_lattice.specs.declared.flags.Flag.TheVariants.{Up, Down}
 use Rattle.dac_chains.specs.declared.lives.Life.{Life}
@@ -22,11 +23,15 @@ use Rattle.dac_wishes.specs.declared.key.Key.{Key}
 use Rattle.dac_wishes.specs.Keys.{key_cmp}
 use Rattle.dac_wishes.specs.Writes.{Writes}
 use Rattle.dac_wishes.specs.PermissionsValue.{Permits}
-use Rattle.dac_wishes.specs.StoredPermits.{DotFlags, permits_of}
+use Rattle.dac_wishes.specs.DrainsValue.{Drains}
+use Rattle.dac_wishes.specs.StoredVotes.{DotFlags, votes_of}
+use Rattle.dac_wishes.specs.Votes.{Votes}
 use Rattle.dac_wishes.specs.StoredWishes.{writes_of}
 use Rattle.dac_config.specs.Table.{Table, node_count, app_count, group_of}
 use Rattle.dac_bytes.specs.declared.fault.ReadFaultKind.TheVariants.{BadNumber, BadOrder, BadName, NotInList, NotKnown}
-use Rattle.dac_bytes.specs.Reading.{Rest, Field, fault, ◌>>=◌, number_at, range_at, node_at, incarnation_at, counter_at, origin_at, dot_above_at, is_above, counted_at}
+use Rattle.dac_bytes.specs.Reading.{Rest, Field, fault, ◌>>=◌, number_at, range_at, node_at, incarnation_at, counter_at, origin_at, origin_above_at, dot_above_at, is_above, counted_at}
+use Rattle.dac_bytes.specs.declared.version.Version.{Version}
+use Rattle.dac_bytes.specs.declared.version.Version.TheVariants.{One, Two}
 
 -- ---- keys
 
@@ -45,90 +50,109 @@ abbrev pub is_listed : Table → AppId → NodeId → Bool
 is_listed t app node = is_some (group_of t app node)
 
 -- the fields of a key
-unfoldable pub key_fields_at : Table → Rest → Field Key
-key_fields_at t r = do
+unfoldable pub key_fields_at : Version → Table → Rest → Field Key
+key_fields_at version t r = do
   app ← app_at (app_count t) r
-  origin ← origin_at (node_count t) app.1
+  origin ← origin_at version (node_count t) app.1
   Ok (key_of app.0 origin.0, origin.1)
 
 -- a key, whose node is in the application's list
-unfoldable pub listed_key_at : Table → Rest → Field Key
-listed_key_at t r = do
-  key ← key_fields_at t r
+unfoldable pub listed_key_at : Version → Table → Rest → Field Key
+listed_key_at version t r = do
+  key ← key_fields_at version t r
   if is_listed t key.0.app key.0.node then Ok key else fault NotInList r
 
 -- a key above the one before it
-unfoldable pub key_above_at : Table → Option Key → Rest → Field Key
-key_above_at t before r = do
-  key ← listed_key_at t r
+unfoldable pub key_above_at : Version → Table → Option Key → Rest → Field Key
+key_above_at version t before r = do
+  key ← listed_key_at version t r
   if is_above key_cmp before key.0 then Ok key else fault BadOrder r
 
--- ---- permits
+-- ---- votes: permits and drains
 
 -- a dot above the one before it, which is known
-unfoldable pub known_dot_at : ℕ → Dots → Option Dot → Rest → Field Dot
-known_dot_at nodes known before r = do
-  d ← dot_above_at nodes before r
+unfoldable pub known_dot_at : Version → ℕ → Dots → Option Dot → Rest → Field Dot
+known_dot_at version nodes known before r = do
+  d ← dot_above_at version nodes before r
   if set.contains known d.0 then Ok d else fault NotKnown r
 
--- what a permit says, by its code
-abbrev pub value_of : ℕ → Flag
-value_of zero = Down
-value_of (suc n) = Up
+-- the flag of a vote, by the code of what it says, where the first flag stands for true
+abbrev pub said_flag : Flag → ℕ → Flag
+said_flag Up zero = Down
+said_flag Up (suc n) = Up
+said_flag Down zero = Up
+said_flag Down (suc n) = Down
 
--- a permit: its dot, and what it says
-unfoldable pub permit_at : ℕ → Dots → Option Dot → Rest → Field (Dot × Flag)
-permit_at nodes known before r = do
-  d ← known_dot_at nodes known before r
+-- a vote: its dot, and what it says
+unfoldable pub vote_at : Version → ℕ → Dots → Flag → Option Dot → Rest → Field (Dot × Flag)
+vote_at version nodes known truth before r = do
+  d ← known_dot_at version nodes known before r
   value ← range_at w8 0 1 d.1
-  Ok ((d.0, value_of value.0), value.1)
+  Ok ((d.0, said_flag truth value.0), value.1)
 
 -- a count of at least one
 abbrev pub some_at : Rest → Field ℕ
 some_at r = range_at w32 1 (2 ^ 32 - 1) r
 
--- the permits of a key, at least one
-unfoldable pub permits_of_key_at : ℕ → Dots → Rest → Field DotFlags
-permits_of_key_at nodes known r = counted_at some_at (permit_at nodes known) (λ (p : Dot × Flag). p.0) r
+-- the votes of a key, at least one
+unfoldable pub votes_of_key_at : Version → ℕ → Dots → Flag → Rest → Field DotFlags
+votes_of_key_at version nodes known truth r = counted_at some_at (vote_at version nodes known truth) (λ (p : Dot × Flag). p.0) r
 
--- a key above the one before it, with its permits
-unfoldable pub keyed_permits_at : Table → Dots → Option Key → Rest → Field (Key × DotFlags)
-keyed_permits_at t known before r = do
-  key ← key_above_at t before r
-  permits ← permits_of_key_at (node_count t) known key.1
-  Ok ((key.0, permits.0), permits.1)
+-- a key above the one before it, with its votes
+unfoldable pub keyed_votes_at : {K : Type 0} → (Option K → Rest → Field K) → (Rest → Field DotFlags) → Option K → Rest → Field (K × DotFlags)
+keyed_votes_at key_above votes before r = do
+  key ← key_above before r
+  ps ← votes key.1
+  Ok ((key.0, ps.0), ps.1)
 
--- the permits, by key
-unfoldable pub permits_by_key_at : Table → Dots → Rest → Field (List (Key × DotFlags))
-permits_by_key_at t known r = counted_at (number_at w32) (keyed_permits_at t known) (λ (e : Key × DotFlags). e.0) r
+-- the votes, by key
+unfoldable pub votes_by_key_at : {K : Type 0} → (Option K → Rest → Field K) → (Rest → Field DotFlags) → Rest → Field (List (K × DotFlags))
+votes_by_key_at {K = K} key_above votes r = counted_at (number_at w32) (keyed_votes_at key_above votes) (λ (e : K × DotFlags). e.0) r
+
+-- the votes
+unfoldable pub all_votes_at : {K : Type 0} (R : K → K → Ordering) → (Option K → Rest → Field K) → (Rest → Field DotFlags) → Rest → Field (Votes R)
+all_votes_at R key_above votes r = do
+  keyed ← votes_by_key_at key_above votes r
+  Ok (votes_of R keyed.0, keyed.1)
+
+-- the permits of a key, of which Up says true
+abbrev pub permits_of_key_at : Version → Table → Dots → Rest → Field DotFlags
+permits_of_key_at version t known = votes_of_key_at version (node_count t) known Up
 
 -- the permits
-unfoldable pub all_permits_at : Table → Dots → Rest → Field Permits
-all_permits_at t known r = do
-  keyed ← permits_by_key_at t known r
-  Ok (permits_of keyed.0, keyed.1)
+abbrev pub all_permits_at : Version → Table → Dots → Rest → Field Permits
+all_permits_at version t known = all_votes_at key_cmp (key_above_at version t) (permits_of_key_at version t known)
+
+-- the drains of an incarnation of a node, of which Down says true
+abbrev pub drains_of_key_at : Table → Dots → Rest → Field DotFlags
+drains_of_key_at t known = votes_of_key_at Two (node_count t) known Down
+
+-- the drains; version one has none
+abbrev pub all_drains_at : Version → Table → Dots → Rest → Field Drains
+all_drains_at One t known r = Ok (map.empty, r)
+all_drains_at Two t known r = all_votes_at origin_cmp (origin_above_at Two (node_count t)) (drains_of_key_at t known) r
 
 -- ---- start wishes
 
 -- the dots of the start wishes of a key, at least one
-unfoldable pub dots_of_key_at : ℕ → Dots → Rest → Field (List Dot)
-dots_of_key_at nodes known r = counted_at some_at (known_dot_at nodes known) (λ (d : Dot). d) r
+unfoldable pub dots_of_key_at : Version → ℕ → Dots → Rest → Field (List Dot)
+dots_of_key_at version nodes known r = counted_at some_at (known_dot_at version nodes known) (λ (d : Dot). d) r
 
 -- a key above the one before it, with the dots of its start wishes
-unfoldable pub keyed_dots_at : Table → Dots → Option Key → Rest → Field (Key × Dots)
-keyed_dots_at t known before r = do
-  key ← key_above_at t before r
-  dots ← dots_of_key_at (node_count t) known key.1
+unfoldable pub keyed_dots_at : Version → Table → Dots → Option Key → Rest → Field (Key × Dots)
+keyed_dots_at version t known before r = do
+  key ← key_above_at version t before r
+  dots ← dots_of_key_at version (node_count t) known key.1
   Ok ((key.0, set.from_list dots.0), dots.1)
 
 -- the start wishes, by key
-unfoldable pub starts_by_key_at : Table → Dots → Rest → Field (List (Key × Dots))
-starts_by_key_at t known r = counted_at (number_at w32) (keyed_dots_at t known) (λ (e : Key × Dots). e.0) r
+unfoldable pub starts_by_key_at : Version → Table → Dots → Rest → Field (List (Key × Dots))
+starts_by_key_at version t known r = counted_at (number_at w32) (keyed_dots_at version t known) (λ (e : Key × Dots). e.0) r
 
 -- the start wishes
-unfoldable pub all_starts_at : Table → Dots → Rest → Field Writes
-all_starts_at t known r = do
-  keyed ← starts_by_key_at t known r
+unfoldable pub all_starts_at : Version → Table → Dots → Rest → Field Writes
+all_starts_at version t known r = do
+  keyed ← starts_by_key_at version t known r
   Ok (writes_of keyed.0, keyed.1)
 
 -- ---- lives
@@ -145,27 +169,27 @@ flag_of zero = Up
 flag_of (suc n) = Down
 
 -- an incarnation, and whether it is up
-unfoldable pub inc_and_flag_at : Rest → Field Life
-inc_and_flag_at r = do
-  inc ← incarnation_at r
+unfoldable pub inc_and_flag_at : Version → Rest → Field Life
+inc_and_flag_at version r = do
+  inc ← incarnation_at version r
   down ← range_at w8 0 1 inc.1
   Ok (record { inc = inc.0; flag = flag_of down.0 }, down.1)
 
 -- the life of a node above the one before it
-unfoldable pub life_at : ℕ → Option NodeId → Rest → Field (NodeId × Life)
-life_at nodes before r = do
+unfoldable pub life_at : Version → ℕ → Option NodeId → Rest → Field (NodeId × Life)
+life_at version nodes before r = do
   node ← node_above_at nodes before r
-  life ← inc_and_flag_at node.1
+  life ← inc_and_flag_at version node.1
   Ok ((node.0, life.0), life.1)
 
 -- the lives, in order
-unfoldable pub lives_in_order_at : ℕ → Rest → Field (List (NodeId × Life))
-lives_in_order_at nodes r = counted_at (number_at w8) (life_at nodes) (λ (e : NodeId × Life). e.0) r
+unfoldable pub lives_in_order_at : Version → ℕ → Rest → Field (List (NodeId × Life))
+lives_in_order_at version nodes r = counted_at (number_at w8) (life_at version nodes) (λ (e : NodeId × Life). e.0) r
 
 -- the lives
-unfoldable pub all_lives_at : ℕ → Rest → Field Lives
-all_lives_at nodes r = do
-  lives ← lives_in_order_at nodes r
+unfoldable pub all_lives_at : Version → ℕ → Rest → Field Lives
+all_lives_at version nodes r = do
+  lives ← lives_in_order_at version nodes r
   Ok (map.from_entries lives.0, lives.1)
 
 -- ---- claims
@@ -220,9 +244,9 @@ manner_at nodes r = do
   Ok ((how.0, from.0), from.1)
 
 -- who claims an application, and how it came there
-unfoldable pub claimer_at : ℕ → Rest → Field (Origin × (How × Option NodeId))
-claimer_at nodes r = do
-  origin ← origin_at nodes r
+unfoldable pub claimer_at : Version → ℕ → Rest → Field (Origin × (How × Option NodeId))
+claimer_at version nodes r = do
+  origin ← origin_at version nodes r
   manner ← manner_at nodes origin.1
   Ok ((origin.0, manner.0), manner.1)
 
@@ -231,37 +255,37 @@ abbrev pub claim_of : ℕ → Origin × (How × Option NodeId) → Claim
 claim_of term claimer = record { term = term; origin = claimer.0; how = claimer.1.0; from = claimer.1.1 }
 
 -- a claim, its term first
-unfoldable pub term_and_claimer_at : ℕ → Rest → Field Claim
-term_and_claimer_at nodes r = do
+unfoldable pub term_and_claimer_at : Version → ℕ → Rest → Field Claim
+term_and_claimer_at version nodes r = do
   term ← counter_at r
-  claimer ← claimer_at nodes term.1
+  claimer ← claimer_at version nodes term.1
   Ok (claim_of term.0 claimer.0, claimer.1)
 
 -- the fields of an application's claim
-unfoldable pub claim_fields_at : Table → Rest → Field (AppId × Claim)
-claim_fields_at t r = do
+unfoldable pub claim_fields_at : Version → Table → Rest → Field (AppId × Claim)
+claim_fields_at version t r = do
   app ← app_at (app_count t) r
-  claim ← term_and_claimer_at (node_count t) app.1
+  claim ← term_and_claimer_at version (node_count t) app.1
   Ok ((app.0, claim.0), claim.1)
 
 -- an application's claim by a node in its list
-unfoldable pub listed_claim_at : Table → Rest → Field (AppId × Claim)
-listed_claim_at t r = do
-  e ← claim_fields_at t r
+unfoldable pub listed_claim_at : Version → Table → Rest → Field (AppId × Claim)
+listed_claim_at version t r = do
+  e ← claim_fields_at version t r
   if is_listed t e.0.0 e.0.1.origin.node then Ok e else fault NotInList r
 
 -- the claim of an application above the one before it
-unfoldable pub claim_at : Table → Option AppId → Rest → Field (AppId × Claim)
-claim_at t before r = do
-  e ← listed_claim_at t r
+unfoldable pub claim_at : Version → Table → Option AppId → Rest → Field (AppId × Claim)
+claim_at version t before r = do
+  e ← listed_claim_at version t r
   if is_above app_cmp before e.0.0 then Ok e else fault BadOrder r
 
 -- the claims, in order
-unfoldable pub claims_in_order_at : Table → Rest → Field (List (AppId × Claim))
-claims_in_order_at t r = counted_at (number_at w16) (claim_at t) (λ (e : AppId × Claim). e.0) r
+unfoldable pub claims_in_order_at : Version → Table → Rest → Field (List (AppId × Claim))
+claims_in_order_at version t r = counted_at (number_at w16) (claim_at version t) (λ (e : AppId × Claim). e.0) r
 
 -- the claims
-unfoldable pub all_claims_at : Table → Rest → Field Claims
-all_claims_at t r = do
-  claims ← claims_in_order_at t r
+unfoldable pub all_claims_at : Version → Table → Rest → Field Claims
+all_claims_at version t r = do
+  claims ← claims_in_order_at version t r
   Ok (map.from_entries claims.0, claims.1)

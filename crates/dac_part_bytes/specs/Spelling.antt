@@ -1,13 +1,14 @@
--- The parts of a state as bytes: permits, start wishes, lives and claims. Numbers are written as in `dac_bytes`, the
+-- The parts of a state as bytes: permits, start wishes, lives, claims and drains. Numbers are written as in `dac_bytes`, the
 -- highest byte first, and one that doesn't fit by its lowest bits.
-use Rattle.std.specs.Prelude.{ℕ, ◌+◌, List, ◌++◌, length, Option, None, Some}
+use Rattle.std.specs.Prelude.{ℕ, ◌+◌, List, [], ◌++◌, length, Option, None, Some}
+use Rattle.std.specs.declared.cmp.Ordering.{Ordering}
 use Rattle.std.specs.List.{flat_map}
 use Rattle.std.specs.FinMap as map
 use Rattle.dac_base.specs.declared.NodeId.{NodeId}
 use Rattle.dac_base.specs.declared.AppId.{AppId}
 use Rattle.dac_dots.specs.declared.dot.Dot.{Dot}
 use Rattle.dac_dots.specs.declared.dot.Origin.{Origin}
-use Rattle.dac_dots.specs.Dots.{Dots}
+use Rattle.dac_dots.specs.Dots.{Dots, origin_cmp}
 use Rattle.dac_dots.specs.InOrder.{in_order}
 use Rattle.dac_lattice.specs.declared.flags.Flag.{Flag}
 use Rattle.dac_lattice.specs.declared.flags.Flag.TheVariants.{Up, Down}
@@ -18,13 +19,18 @@ use Rattle.dac_chains.specs.declared.claims.How.TheVariants.{Normal, Failover, T
 use Rattle.dac_chains.specs.Lives.{Lives}
 use Rattle.dac_chains.specs.Claims.{Claims}
 use Rattle.dac_wishes.specs.declared.key.Key.{Key}
+use Rattle.dac_wishes.specs.Keys.{key_cmp}
 use Rattle.dac_wishes.specs.Writes.{Writes}
 use Rattle.dac_wishes.specs.PermissionsValue.{Permits}
-use Rattle.dac_wishes.specs.StoredPermits.{DotFlags}
+use Rattle.dac_wishes.specs.DrainsValue.{Drains}
 use Rattle.dac_wishes.specs.StartsByKey.{starts_by_key}
-use Rattle.dac_wishes.specs.PermitsByKey.{permits_by_key}
+use Rattle.dac_wishes.specs.StoredVotes.{DotFlags}
+use Rattle.dac_wishes.specs.Votes.{Votes}
+use Rattle.dac_wishes.specs.VotesByKey.{votes_by_key}
 use Rattle.dac_bytes.specs.Numbers.{u8_bytes, u16_bytes, u32_bytes, u64_bytes}
 use Rattle.dac_bytes.specs.Spelling.{dot_bytes, incarnation_bytes, origin_bytes}
+use Rattle.dac_bytes.specs.declared.version.Version.{Version}
+use Rattle.dac_bytes.specs.declared.version.Version.TheVariants.{One, Two}
 
 -- an application, in two bytes
 abbrev pub app_bytes : AppId → List ℕ
@@ -34,36 +40,53 @@ app_bytes app = u16_bytes app.0
 abbrev pub key_origin : Key → Origin
 key_origin key = record { node = key.node; inc = key.inc }
 
--- application, node and incarnation, in seven bytes
-unfoldable pub key_bytes : Key → List ℕ
-key_bytes key = app_bytes key.app ++ origin_bytes (key_origin key)
+-- application, node and incarnation, in seven or in eleven bytes
+unfoldable pub key_bytes : Version → Key → List ℕ
+key_bytes version key = app_bytes key.app ++ origin_bytes version (key_origin key)
 
--- ---- permits and start wishes
+-- ---- votes: permits and drains
 
--- what a permit says: 0 for false, 1 for true
-abbrev pub value_code : Flag → ℕ
-value_code Up = 1
-value_code Down = 0
+-- what a vote says, 0 for false and 1 for true, where the first flag stands for true
+abbrev pub said_code : Flag → Flag → ℕ
+said_code Up Up = 1
+said_code Up Down = 0
+said_code Down Up = 0
+said_code Down Down = 1
 
--- a permit: its dot, and what it says
-unfoldable pub permit_bytes : Dot × Flag → List ℕ
-permit_bytes p = dot_bytes p.0 ++ u8_bytes (value_code p.1)
+-- a vote: its dot, and what it says
+unfoldable pub vote_bytes : Version → Flag → Dot × Flag → List ℕ
+vote_bytes version truth p = dot_bytes version p.0 ++ u8_bytes (said_code truth p.1)
 
--- a key, how many permits it has, and these
-unfoldable pub keyed_permits_bytes : Key × DotFlags → List ℕ
-keyed_permits_bytes e = key_bytes e.0 ++ u32_bytes (length e.1) ++ flat_map permit_bytes e.1
+-- how many votes a key has, and these
+unfoldable pub votes_of_key_bytes : Version → Flag → DotFlags → List ℕ
+votes_of_key_bytes version truth ps = u32_bytes (length ps) ++ flat_map (vote_bytes version truth) ps
 
--- how many keys have permits, and the permits of each, in ascending order
-unfoldable pub permits_bytes : Permits → List ℕ
-permits_bytes permits = u32_bytes (length (permits_by_key permits)) ++ flat_map keyed_permits_bytes (permits_by_key permits)
+-- a key by its own text, and its votes
+unfoldable pub keyed_votes_bytes : {K : Type 0} → (K → List ℕ) → Version → Flag → K × DotFlags → List ℕ
+keyed_votes_bytes key_text version truth e = key_text e.0 ++ votes_of_key_bytes version truth e.1
+
+-- how many keys have votes, and the votes of each, in ascending order
+unfoldable pub votes_bytes : {K : Type 0} (R : K → K → Ordering) → (K → List ℕ) → Version → Flag → Votes R → List ℕ
+votes_bytes R key_text version truth votes = u32_bytes (length (votes_by_key R votes)) ++ flat_map (keyed_votes_bytes key_text version truth) (votes_by_key R votes)
+
+-- permits, of which Up says true
+abbrev pub permits_bytes : Version → Permits → List ℕ
+permits_bytes version = votes_bytes key_cmp (key_bytes version) version Up
+
+-- drains, of which Down says true; version one has no bytes for them
+abbrev pub drains_bytes : Version → Drains → List ℕ
+drains_bytes One drains = []
+drains_bytes Two drains = votes_bytes origin_cmp (origin_bytes Two) Two Down drains
+
+-- ---- start wishes
 
 -- a key, how many start wishes it has, and their dots
-unfoldable pub keyed_dots_bytes : Key × List Dot → List ℕ
-keyed_dots_bytes e = key_bytes e.0 ++ u32_bytes (length e.1) ++ flat_map dot_bytes e.1
+unfoldable pub keyed_dots_bytes : Version → Key × List Dot → List ℕ
+keyed_dots_bytes version e = key_bytes version e.0 ++ u32_bytes (length e.1) ++ flat_map (dot_bytes version) e.1
 
 -- how many keys have start wishes, and the dots of each, in ascending order
-unfoldable pub starts_bytes : Writes → List ℕ
-starts_bytes writes = u32_bytes (length (starts_by_key writes)) ++ flat_map (λ (e : Key × Dots). keyed_dots_bytes (e.0, in_order e.1)) (starts_by_key writes)
+unfoldable pub starts_bytes : Version → Writes → List ℕ
+starts_bytes version writes = u32_bytes (length (starts_by_key writes)) ++ flat_map (λ (e : Key × Dots). keyed_dots_bytes version (e.0, in_order e.1)) (starts_by_key writes)
 
 -- ---- lives
 
@@ -73,12 +96,12 @@ down_code Up = 0
 down_code Down = 1
 
 -- a node, its incarnation, and whether that one is up
-unfoldable pub life_bytes : NodeId × Life → List ℕ
-life_bytes e = u8_bytes e.0.0 ++ incarnation_bytes e.1.inc ++ u8_bytes (down_code e.1.flag)
+unfoldable pub life_bytes : Version → NodeId × Life → List ℕ
+life_bytes version e = u8_bytes e.0.0 ++ incarnation_bytes version e.1.inc ++ u8_bytes (down_code e.1.flag)
 
 -- how many nodes have a life, and each life, in ascending order
-unfoldable pub lives_bytes : Lives → List ℕ
-lives_bytes lives = u8_bytes (length (map.entries lives)) ++ flat_map life_bytes (map.entries lives)
+unfoldable pub lives_bytes : Version → Lives → List ℕ
+lives_bytes version lives = u8_bytes (length (map.entries lives)) ++ flat_map (life_bytes version) (map.entries lives)
 
 -- ---- claims
 
@@ -98,9 +121,9 @@ unfoldable pub manner_bytes : How → Option NodeId → List ℕ
 manner_bytes how from = u8_bytes (how_code how) ++ u8_bytes (from_code from)
 
 -- an application, the term of its claim, who claims it, and how it came there
-unfoldable pub claim_bytes : AppId × Claim → List ℕ
-claim_bytes e = app_bytes e.0 ++ u64_bytes e.1.term ++ origin_bytes e.1.origin ++ manner_bytes e.1.how e.1.from
+unfoldable pub claim_bytes : Version → AppId × Claim → List ℕ
+claim_bytes version e = app_bytes e.0 ++ u64_bytes e.1.term ++ origin_bytes version e.1.origin ++ manner_bytes e.1.how e.1.from
 
 -- how many applications are claimed, and each claim, in ascending order
-unfoldable pub claims_bytes : Claims → List ℕ
-claims_bytes claims = u16_bytes (length (map.entries claims)) ++ flat_map claim_bytes (map.entries claims)
+unfoldable pub claims_bytes : Version → Claims → List ℕ
+claims_bytes version claims = u16_bytes (length (map.entries claims)) ++ flat_map (claim_bytes version) (map.entries claims)

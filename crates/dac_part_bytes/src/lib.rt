@@ -1,7 +1,7 @@
-//! The parts of a state as bytes: permits, start wishes, lives and claims.
+//! The parts of a state as bytes: permits, start wishes, lives, claims and drains.
 //!
 //! All numbers are big-endian. A part is a count and its items in ascending order, so equal parts have equal
-//! bytes. Of permits and start wishes an item is a key with the dots that stand there, at least one. Each
+//! bytes. Of permits, start wishes and drains an item is a key with the dots that stand there, at least one. Each
 //! call that writes appends exactly the bytes that this crate's `specs/` give the part.
 //!
 //! A count that doesn't fit its field is written by its lowest bits.
@@ -18,13 +18,16 @@
 pub use dac_config::Config;
 pub use reading_chains::{read_claims, read_lives};
 pub use reading_fields::{read_app, read_key, read_manner};
-pub use reading_keyed::{read_permissions, read_wishes};
+pub use reading_starts::read_wishes;
+pub use reading_votes::{read_drains, read_permissions};
 pub use writing::{
-    write_claims, write_key, write_lives, write_manner, write_permissions, write_wishes,
+    write_claims, write_drains, write_key, write_lives, write_manner, write_permissions,
+    write_wishes,
 };
 
 pub mod laws;
 mod reading_chains;
 mod reading_fields;
-mod reading_keyed;
+mod reading_starts;
+mod reading_votes;
 mod writing;

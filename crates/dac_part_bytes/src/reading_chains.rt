@@ -10,7 +10,7 @@ ghost use Rattle.dac_part_bytes.specs.Reading.{all_claims_at, all_lives_at, clai
 
 use crate::reading_fields::{is_listed, read_app, read_inc_and_flag, read_manner, read_node_above};
 use dac_base::{AppId, MAX_COUNTER, NodeId};
-use dac_bytes::{ByteReader, ReadFault, ReadFaultKind};
+use dac_bytes::{ByteReader, ReadFault, ReadFaultKind, Version};
 use dac_chains::{Claim, Claims, How, Life, Lives};
 use dac_config::Config;
 use dac_dots::Origin;
@@ -21,14 +21,15 @@ use std::alloc::Global;
 #[tactic(auto, unfolding(crate::specs::Reading::life_at))]
 fn read_life<'a>(
     reader: ByteReader<'a>,
+    version: Version,
     nodes: u8,
     before: Option<NodeId>,
 ) -> Result<((NodeId, Life), ByteReader<'a>), ReadFault>
-    ensures exact { result ≡ life_at nodes before reader.entry }
+    ensures exact { result ≡ life_at version nodes before reader.entry }
     ensures real { IsOfBytes result }
 {
     let (node, rest) = read_node_above(reader, nodes, before)?;
-    let (life, rest) = read_inc_and_flag(rest)?;
+    let (life, rest) = read_inc_and_flag(rest, version)?;
     Ok(((node, life), rest))
 }
 
@@ -36,16 +37,17 @@ fn read_life<'a>(
 fn read_counted_lives<'a>(
     reader: ByteReader<'a>,
     alloc: Global,
+    version: Version,
     nodes: u8,
     count: u8,
 ) -> Result<(Lives, ByteReader<'a>), ReadFault>
-    ensures { Gives (λ x. (map.entries x.0, x.1)) result (items_at (life_at nodes) (λ e. Some e.0) count None reader.entry) }
+    ensures { Gives (λ x. (map.entries x.0, x.1)) result (items_at (life_at version nodes) (λ e. Some e.0) count None reader.entry) }
 {
     let mut lives = Lives::bottom(alloc);
     let mut before = None;
     let mut rest = reader;
     for _ in 0..count {
-        let (entry, after) = read_life(rest, nodes, before)?;
+        let (entry, after) = read_life(rest, version, nodes, before)?;
         let (node, life) = entry;
         lives = lives.join(&Lives::one(alloc, node, life)?)?;
         before = Some(node);
@@ -59,12 +61,13 @@ fn read_counted_lives<'a>(
 fn read_all_lives<'a>(
     reader: ByteReader<'a>,
     alloc: Global,
+    version: Version,
     config: &Config,
 ) -> Result<(Lives, ByteReader<'a>), ReadFault>
-    ensures { Gives (λ x. x) result (all_lives_at (node_count config.now) reader.entry) }
+    ensures { Gives (λ x. x) result (all_lives_at version (node_count config.now) reader.entry) }
 {
     let (count, rest) = reader.read_u8()?;
-    let read = read_counted_lives(rest, alloc, config.nodes(), count)?;
+    let read = read_counted_lives(rest, alloc, version, config.nodes(), count)?;
     Ok(read)
 }
 
@@ -77,28 +80,30 @@ fn read_all_lives<'a>(
 pub fn read_lives<'a>(
     reader: ByteReader<'a>,
     alloc: Global,
+    version: Version,
     config: &Config,
 ) -> Result<(Lives, ByteReader<'a>), ReadFault>
-    ensures exact { Gives (λ x. x) result (all_lives_at (node_count config.now) reader.entry) }
+    ensures exact { Gives (λ x. x) result (all_lives_at version (node_count config.now) reader.entry) }
     // What is read is spelled so, and in form.
-    ensures found { IsFoundAs (λ x. x) lives_bytes (AreLivesInForm (node_count config.now)) reader.entry result }
+    ensures found { IsFoundAs (λ x. x) (lives_bytes version) (AreLivesInForm version (node_count config.now)) reader.entry result }
     // What is spelled so and in form is read, unless memory runs out.
-    ensures again { IsReadAgain (λ x. x) lives_bytes (AreLivesInForm (node_count config.now)) reader.entry result }
+    ensures again { IsReadAgain (λ x. x) (lives_bytes version) (AreLivesInForm version (node_count config.now)) reader.entry result }
 {
     // Nodes are numbered in one byte.
     let _nodes = config.nodes();
-    read_all_lives(reader, alloc, config)
+    read_all_lives(reader, alloc, version, config)
 }
 
 #[tactic(auto, unfolding(crate::specs::Reading::claimer_at))]
 fn read_claimer<'a>(
     reader: ByteReader<'a>,
+    version: Version,
     nodes: u8,
 ) -> Result<((Origin, (How, Option<NodeId>)), ByteReader<'a>), ReadFault>
-    ensures exact { result ≡ claimer_at nodes reader.entry }
+    ensures exact { result ≡ claimer_at version nodes reader.entry }
     ensures real { IsOfBytes result }
 {
-    let (origin, rest) = reader.read_origin(nodes)?;
+    let (origin, rest) = reader.read_origin(version, nodes)?;
     let (manner, rest) = read_manner(rest, nodes)?;
     Ok(((origin, manner), rest))
 }
@@ -106,13 +111,14 @@ fn read_claimer<'a>(
 #[tactic(auto, unfolding(crate::specs::Reading::term_and_claimer_at))]
 fn read_term_and_claimer<'a>(
     reader: ByteReader<'a>,
+    version: Version,
     nodes: u8,
 ) -> Result<(Claim, ByteReader<'a>), ReadFault>
-    ensures exact { result ≡ term_and_claimer_at nodes reader.entry }
+    ensures exact { result ≡ term_and_claimer_at version nodes reader.entry }
     ensures real { IsOfBytes result }
 {
     let (term, rest) = reader.read_u64_in(1, MAX_COUNTER)?;
-    let (claimer, rest) = read_claimer(rest, nodes)?;
+    let (claimer, rest) = read_claimer(rest, version, nodes)?;
     let (origin, (how, from)) = claimer;
     let claim = Claim {
         term,
@@ -126,27 +132,29 @@ fn read_term_and_claimer<'a>(
 #[tactic(auto, unfolding(crate::specs::Reading::claim_fields_at))]
 fn read_claim_fields<'a>(
     reader: ByteReader<'a>,
+    version: Version,
     config: &Config,
 ) -> Result<((AppId, Claim), ByteReader<'a>), ReadFault>
-    ensures exact { result ≡ claim_fields_at config.now reader.entry }
+    ensures exact { result ≡ claim_fields_at version config.now reader.entry }
     ensures real { IsOfBytes result }
     ensures below { IfOk result (λ x. x.0.0.0 < app_count config.now) }
 {
     let (app, rest) = read_app(reader, config.apps())?;
-    let (claim, rest) = read_term_and_claimer(rest, config.nodes())?;
+    let (claim, rest) = read_term_and_claimer(rest, version, config.nodes())?;
     Ok(((app, claim), rest))
 }
 
 #[tactic(auto, unfolding(crate::specs::Reading::listed_claim_at))]
 fn read_listed_claim<'a>(
     reader: ByteReader<'a>,
+    version: Version,
     config: &Config,
 ) -> Result<((AppId, Claim), ByteReader<'a>), ReadFault>
-    ensures exact { result ≡ listed_claim_at config.now reader.entry }
+    ensures exact { result ≡ listed_claim_at version config.now reader.entry }
     ensures real { IsOfBytes result }
 {
     let at = reader.at();
-    let (entry, rest) = read_claim_fields(reader, config)?;
+    let (entry, rest) = read_claim_fields(reader, version, config)?;
     let (app, claim) = entry;
     if is_listed(config, app, claim.origin.node) {
         Ok(((app, claim), rest))
@@ -162,14 +170,15 @@ fn read_listed_claim<'a>(
 #[tactic(auto, unfolding(crate::specs::Reading::claim_at))]
 fn read_claim<'a>(
     reader: ByteReader<'a>,
+    version: Version,
     config: &Config,
     before: Option<AppId>,
 ) -> Result<((AppId, Claim), ByteReader<'a>), ReadFault>
-    ensures exact { result ≡ claim_at config.now before reader.entry }
+    ensures exact { result ≡ claim_at version config.now before reader.entry }
     ensures real { IsOfBytes result }
 {
     let at = reader.at();
-    let (entry, rest) = read_listed_claim(reader, config)?;
+    let (entry, rest) = read_listed_claim(reader, version, config)?;
     let (app, claim) = entry;
     if before.is_none_or(|before| before < app) {
         Ok(((app, claim), rest))
@@ -185,16 +194,17 @@ fn read_claim<'a>(
 fn read_counted_claims<'a>(
     reader: ByteReader<'a>,
     alloc: Global,
+    version: Version,
     config: &Config,
     count: u16,
 ) -> Result<(Claims, ByteReader<'a>), ReadFault>
-    ensures { Gives (λ x. (map.entries x.0, x.1)) result (items_at (claim_at config.now) (λ e. Some e.0) count None reader.entry) }
+    ensures { Gives (λ x. (map.entries x.0, x.1)) result (items_at (claim_at version config.now) (λ e. Some e.0) count None reader.entry) }
 {
     let mut claims = Claims::bottom(alloc);
     let mut before = None;
     let mut rest = reader;
     for _ in 0..count {
-        let (entry, after) = read_claim(rest, config, before)?;
+        let (entry, after) = read_claim(rest, version, config, before)?;
         let (app, claim) = entry;
         claims = claims.join(&Claims::one(alloc, app, claim)?)?;
         before = Some(app);
@@ -208,12 +218,13 @@ fn read_counted_claims<'a>(
 fn read_all_claims<'a>(
     reader: ByteReader<'a>,
     alloc: Global,
+    version: Version,
     config: &Config,
 ) -> Result<(Claims, ByteReader<'a>), ReadFault>
-    ensures { Gives (λ x. x) result (all_claims_at config.now reader.entry) }
+    ensures { Gives (λ x. x) result (all_claims_at version config.now reader.entry) }
 {
     let (count, rest) = reader.read_u16()?;
-    let read = read_counted_claims(rest, alloc, config, count)?;
+    let read = read_counted_claims(rest, alloc, version, config, count)?;
     Ok(read)
 }
 
@@ -228,16 +239,17 @@ fn read_all_claims<'a>(
 pub fn read_claims<'a>(
     reader: ByteReader<'a>,
     alloc: Global,
+    version: Version,
     config: &Config,
 ) -> Result<(Claims, ByteReader<'a>), ReadFault>
-    ensures exact { Gives (λ x. x) result (all_claims_at config.now reader.entry) }
+    ensures exact { Gives (λ x. x) result (all_claims_at version config.now reader.entry) }
     // What is read is spelled so, and in form.
-    ensures found { IsFoundAs (λ x. x) claims_bytes (AreClaimsInForm config.now) reader.entry result }
+    ensures found { IsFoundAs (λ x. x) (claims_bytes version) (AreClaimsInForm version config.now) reader.entry result }
     // What is spelled so and in form is read, unless memory runs out.
-    ensures again { IsReadAgain (λ x. x) claims_bytes (AreClaimsInForm config.now) reader.entry result }
+    ensures again { IsReadAgain (λ x. x) (claims_bytes version) (AreClaimsInForm version config.now) reader.entry result }
 {
     // Nodes are numbered in one byte, and applications in two.
     let _nodes = config.nodes();
     let _apps = config.apps();
-    read_all_claims(reader, alloc, config)
+    read_all_claims(reader, alloc, version, config)
 }

@@ -6,10 +6,10 @@ ghost use Rattle.dac_bytes.specs.Takes.{IsFoundAs, IsReadAgain};
 ghost use Rattle.dac_part_bytes.specs.ChainForm.{IsFromFor};
 ghost use Rattle.dac_part_bytes.specs.KeyedForm.{IsKeyAbove};
 ghost use Rattle.dac_part_bytes.specs.Spelling.{app_bytes, key_bytes, manner_bytes};
-ghost use Rattle.dac_part_bytes.specs.Reading.{app_at, fitting_code_at, flag_of, from_at, from_code_at, from_of, how_at, how_of, inc_and_flag_at, is_from_of, is_listed, key_above_at, key_fields_at, known_dot_at, listed_key_at, manner_at, node_above_at, permit_at, some_at, value_of};
+ghost use Rattle.dac_part_bytes.specs.Reading.{app_at, fitting_code_at, flag_of, from_at, from_code_at, from_of, how_at, how_of, inc_and_flag_at, is_from_of, is_listed, key_above_at, key_fields_at, known_dot_at, listed_key_at, manner_at, node_above_at, some_at};
 
 use dac_base::{AppId, NodeId};
-use dac_bytes::{ByteReader, ReadFault, ReadFaultKind};
+use dac_bytes::{ByteReader, ReadFault, ReadFaultKind, Version};
 use dac_chains::{How, Life};
 use dac_config::Config;
 use dac_dots::Dot;
@@ -63,14 +63,15 @@ pub(crate) fn is_listed(config: &Config, app: AppId, node: NodeId) -> bool
 #[tactic(auto, unfolding(crate::specs::Reading::key_fields_at))]
 fn read_key_fields<'a>(
     reader: ByteReader<'a>,
+    version: Version,
     config: &Config,
 ) -> Result<(Key, ByteReader<'a>), ReadFault>
-    ensures exact { result ≡ key_fields_at config.now reader.entry }
+    ensures exact { result ≡ key_fields_at version config.now reader.entry }
     ensures real { IsOfBytes result }
     ensures below { IfOk result (λ x. x.0.app.0 < app_count config.now) }
 {
     let (app, rest) = read_app(reader, config.apps())?;
-    let (origin, rest) = rest.read_origin(config.nodes())?;
+    let (origin, rest) = rest.read_origin(version, config.nodes())?;
     let key = Key {
         app,
         node: origin.node,
@@ -82,13 +83,14 @@ fn read_key_fields<'a>(
 #[tactic(auto, unfolding(crate::specs::Reading::listed_key_at))]
 fn read_listed_key<'a>(
     reader: ByteReader<'a>,
+    version: Version,
     config: &Config,
 ) -> Result<(Key, ByteReader<'a>), ReadFault>
-    ensures exact { result ≡ listed_key_at config.now reader.entry }
+    ensures exact { result ≡ listed_key_at version config.now reader.entry }
     ensures real { IsOfBytes result }
 {
     let at = reader.at();
-    let (key, rest) = read_key_fields(reader, config)?;
+    let (key, rest) = read_key_fields(reader, version, config)?;
     if is_listed(config, key.app, key.node) {
         Ok((key, rest))
     } else {
@@ -102,14 +104,15 @@ fn read_listed_key<'a>(
 #[tactic(auto, unfolding(crate::specs::Reading::key_above_at))]
 fn read_key_above<'a>(
     reader: ByteReader<'a>,
+    version: Version,
     config: &Config,
     before: Option<Key>,
 ) -> Result<(Key, ByteReader<'a>), ReadFault>
-    ensures exact { result ≡ key_above_at config.now before reader.entry }
+    ensures exact { result ≡ key_above_at version config.now before reader.entry }
     ensures real { IsOfBytes result }
 {
     let at = reader.at();
-    let (key, rest) = read_listed_key(reader, config)?;
+    let (key, rest) = read_listed_key(reader, version, config)?;
     if before.is_none_or(|before| before < key) {
         Ok((key, rest))
     } else {
@@ -126,35 +129,37 @@ fn read_key_above<'a>(
 /// there where it isn't above.
 pub fn read_key<'a>(
     reader: ByteReader<'a>,
+    version: Version,
     config: &Config,
     before: Option<Key>,
 ) -> Result<(Key, ByteReader<'a>), ReadFault>
-    ensures exact { result ≡ key_above_at config.now before reader.entry }
+    ensures exact { result ≡ key_above_at version config.now before reader.entry }
     ensures real { IsOfBytes result }
     // What is read is spelled so, and in form.
-    ensures found { IsFoundAs (λ x. x) key_bytes (IsKeyAbove config.now before) reader.entry result }
+    ensures found { IsFoundAs (λ x. x) (key_bytes version) (IsKeyAbove version config.now before) reader.entry result }
     // What is spelled so and in form is read.
-    ensures again { IsReadAgain (λ x. x) key_bytes (IsKeyAbove config.now before) reader.entry result }
+    ensures again { IsReadAgain (λ x. x) (key_bytes version) (IsKeyAbove version config.now before) reader.entry result }
 {
     // Nodes are numbered in one byte, and applications in two.
     let _nodes = config.nodes();
     let _apps = config.apps();
-    read_key_above(reader, config, before)
+    read_key_above(reader, version, config, before)
 }
 
 /// A dot above the one before it, which is known.
 #[tactic(auto, unfolding(crate::specs::Reading::known_dot_at))]
 pub(crate) fn read_known_dot<'a>(
     reader: ByteReader<'a>,
+    version: Version,
     nodes: u8,
     known: &Context,
     before: Option<Dot>,
 ) -> Result<(Dot, ByteReader<'a>), ReadFault>
-    ensures exact { result ≡ known_dot_at nodes known.now before reader.entry }
+    ensures exact { result ≡ known_dot_at version nodes known.now before reader.entry }
     ensures real { IsOfBytes result }
 {
     let at = reader.at();
-    let (dot, rest) = reader.read_dot_above(nodes, before)?;
+    let (dot, rest) = reader.read_dot_above(version, nodes, before)?;
     if known.contains(dot) {
         Ok((dot, rest))
     } else {
@@ -172,31 +177,6 @@ pub(crate) fn read_some<'a>(reader: ByteReader<'a>) -> Result<(u32, ByteReader<'
 {
     let read = reader.read_u32_in(1, u32::MAX)?;
     Ok(read)
-}
-
-fn value_of(code: u8) -> Flag
-    ensures { result ≡ value_of code }
-{
-    match code {
-        0 => Flag::Down,
-        _ => Flag::Up,
-    }
-}
-
-/// A permit with a dot above the one before it.
-#[tactic(auto, unfolding(crate::specs::Reading::permit_at))]
-pub(crate) fn read_permit<'a>(
-    reader: ByteReader<'a>,
-    nodes: u8,
-    known: &Context,
-    before: Option<Dot>,
-) -> Result<((Dot, Flag), ByteReader<'a>), ReadFault>
-    ensures exact { result ≡ permit_at nodes known.now before reader.entry }
-    ensures real { IsOfBytes result }
-{
-    let (dot, rest) = read_known_dot(reader, nodes, known, before)?;
-    let (value, rest) = rest.read_u8_in(0, 1)?;
-    Ok(((dot, value_of(value)), rest))
 }
 
 /// A node above the one before it.
@@ -234,11 +214,12 @@ fn flag_of(code: u8) -> Flag
 #[tactic(auto, unfolding(crate::specs::Reading::inc_and_flag_at))]
 pub(crate) fn read_inc_and_flag<'a>(
     reader: ByteReader<'a>,
+    version: Version,
 ) -> Result<(Life, ByteReader<'a>), ReadFault>
-    ensures exact { result ≡ inc_and_flag_at reader.entry }
+    ensures exact { result ≡ inc_and_flag_at version reader.entry }
     ensures real { IsOfBytes result }
 {
-    let (inc, rest) = reader.read_incarnation()?;
+    let (inc, rest) = reader.read_incarnation(version)?;
     let (code, rest) = rest.read_u8_in(0, 1)?;
     let flag = flag_of(code);
     Ok((Life { inc, flag }, rest))

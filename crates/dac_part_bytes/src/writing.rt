@@ -2,89 +2,178 @@
 ghost use Rattle.std.specs.Prelude.{◌≡◌, ◌++◌, IfOk};
 ghost use Rattle.std.specs.List.{flat_map};
 ghost use Rattle.dac_bytes.specs.Spelling.{dot_bytes};
-ghost use Rattle.dac_part_bytes.specs.Spelling.{claim_bytes, claims_bytes, down_code, from_code, how_code, key_bytes, keyed_dots_bytes, keyed_permits_bytes, life_bytes, lives_bytes, manner_bytes, permit_bytes, permits_bytes, starts_bytes, value_code};
+ghost use Rattle.dac_part_bytes.specs.Spelling.{claim_bytes, claims_bytes, down_code, drains_bytes, from_code, how_code, key_bytes, keyed_dots_bytes, keyed_votes_bytes, life_bytes, lives_bytes, manner_bytes, permits_bytes, said_code, starts_bytes, vote_bytes, votes_bytes, votes_of_key_bytes};
+ghost use Rattle.dac_bytes.specs.declared.version.Version.TheVariants.{Two};
+ghost use Rattle.dac_bytes.specs.Spelling.{origin_bytes};
+ghost use Rattle.dac_dots.specs.Dots.{origin_cmp};
+ghost use Rattle.dac_lattice.specs.declared.flags.Flag.TheVariants.{Down, Up};
 
 use dac_base::{AppId, NoMemory, NodeId};
-use dac_bytes::ByteWriter;
+use dac_bytes::{ByteWriter, Version};
 use dac_chains::{Claim, Claims, How, Life, Lives};
 use dac_dots::{Dot, Origin};
 use dac_lattice::Flag;
-use dac_wishes::{Key, Permissions, Wishes};
+use dac_wishes::{Drains, Key, Permissions, Wishes};
 
-/// A key: its application in two bytes, its node in one and the incarnation in four. [`NoMemory`] is the
+/// A key: its application in two bytes, its node in one, and the incarnation as the version has it. [`NoMemory`] is the
 /// only error; the writer is gone then.
 #[tactic(auto, unfolding(crate::specs::Spelling::key_bytes))]
-pub fn write_key(writer: ByteWriter, key: Key) -> Result<ByteWriter, NoMemory>
-    ensures { IfOk result (λ written. written ≡ writer ++ key_bytes key) }
+pub fn write_key(writer: ByteWriter, version: Version, key: Key) -> Result<ByteWriter, NoMemory>
+    ensures { IfOk result (λ written. written ≡ writer ++ key_bytes version key) }
 {
-    let written = writer.write_u16(key.app.0)?.write_origin(Origin {
-        node: key.node,
-        inc: key.inc,
-    })?;
+    let written = writer.write_u16(key.app.0)?.write_origin(
+        version,
+        Origin {
+            node: key.node,
+            inc: key.inc,
+        },
+    )?;
     Ok(written)
 }
 
-fn value_code(flag: Flag) -> u8
-    ensures { result ≡ value_code flag }
+/// What a vote says, 0 for false and 1 for true, where `truth` is the flag that stands for true.
+fn said_code(truth: Flag, flag: Flag) -> u8
+    ensures { result ≡ said_code truth flag }
 {
-    match flag {
-        Flag::Up => 1,
-        Flag::Down => 0,
+    match truth {
+        Flag::Up => match flag {
+            Flag::Up => 1,
+            Flag::Down => 0,
+        },
+        Flag::Down => match flag {
+            Flag::Up => 0,
+            Flag::Down => 1,
+        },
     }
 }
 
-#[tactic(auto, unfolding(crate::specs::Spelling::permit_bytes))]
-fn write_permit(writer: ByteWriter, dot: Dot, flag: Flag) -> Result<ByteWriter, NoMemory>
-    ensures { IfOk result (λ written. written ≡ writer ++ permit_bytes (dot, flag)) }
+#[tactic(auto, unfolding(crate::specs::Spelling::vote_bytes))]
+fn write_vote(
+    writer: ByteWriter,
+    version: Version,
+    truth: Flag,
+    dot: Dot,
+    flag: Flag,
+) -> Result<ByteWriter, NoMemory>
+    ensures { IfOk result (λ written. written ≡ writer ++ vote_bytes version truth (dot, flag)) }
 {
-    let written = writer.write_dot(dot)?.write_u8(value_code(flag))?;
+    let written = writer
+        .write_dot(version, dot)?
+        .write_u8(said_code(truth, flag))?;
+    Ok(written)
+}
+
+/// How many votes a key has, and these.
+#[tactic(auto, unfolding(crate::specs::Spelling::votes_of_key_bytes))]
+fn write_votes(
+    writer: ByteWriter,
+    version: Version,
+    truth: Flag,
+    votes: &[(Dot, Flag)],
+) -> Result<ByteWriter, NoMemory>
+    ensures { IfOk result (λ written. written ≡ writer ++ votes_of_key_bytes version truth votes.now) }
+{
+    let mut written = writer.write_count_u32(votes.len())?;
+    for (dot, flag) in votes {
+        written = write_vote(written, version, truth, *dot, *flag)?;
+    }
     Ok(written)
 }
 
 /// A key and its permits.
-#[tactic(auto, unfolding(crate::specs::Spelling::keyed_permits_bytes))]
+#[tactic(auto, unfolding(crate::specs::Spelling::keyed_votes_bytes))]
 fn write_permits(
     writer: ByteWriter,
+    version: Version,
     key: Key,
     permits: &[(Dot, Flag)],
 ) -> Result<ByteWriter, NoMemory>
-    ensures { IfOk result (λ written. written ≡ writer ++ keyed_permits_bytes (key, permits.now)) }
+    ensures { IfOk result (λ written. written ≡ writer ++ keyed_votes_bytes (key_bytes version) version Up (key, permits.now)) }
 {
-    let head = write_key(writer, key)?;
-    let mut written = head.write_count_u32(permits.len())?;
-    for (dot, flag) in permits {
-        written = write_permit(written, *dot, *flag)?;
-    }
+    let head = write_key(writer, version, key)?;
+    let written = write_votes(head, version, Flag::Up, permits)?;
     Ok(written)
 }
 
 /// The permits that stand: how many keys have permits, and for each in ascending order an entry. An entry is the key,
 /// how many permits it has, and these, each a dot and 1 for true or 0 for false. [`NoMemory`] is the only error; the
 /// writer is gone then.
-#[tactic(auto, unfolding(crate::specs::Spelling::permits_bytes))]
+#[tactic(auto, unfolding(crate::specs::Spelling::votes_bytes))]
 pub fn write_permissions(
     writer: ByteWriter,
+    version: Version,
     permissions: &Permissions,
 ) -> Result<ByteWriter, NoMemory>
-    ensures { IfOk result (λ written. written ≡ writer ++ permits_bytes permissions.now.standing) }
+    ensures { IfOk result (λ written. written ≡ writer ++ permits_bytes version permissions.now.standing) }
 {
     let entries = permissions.entries();
     let mut written = writer.write_count_u32(entries.len())?;
     for (key, permits) in entries {
-        written = write_permits(written, *key, permits.entries())?;
+        written = write_permits(written, version, *key, permits.entries())?;
     }
     Ok(written)
 }
 
+/// An incarnation of a node and its drains.
+#[tactic(auto, unfolding(crate::specs::Spelling::keyed_votes_bytes))]
+fn write_drains_of(
+    writer: ByteWriter,
+    at: Origin,
+    drains: &[(Dot, Flag)],
+) -> Result<ByteWriter, NoMemory>
+    ensures { IfOk result (λ written. written ≡ writer ++ keyed_votes_bytes (origin_bytes Two) Two Down (at, drains.now)) }
+{
+    let head = writer.write_origin(Version::Two, at)?;
+    let written = write_votes(head, Version::Two, Flag::Down, drains)?;
+    Ok(written)
+}
+
+/// The drains that stand, as version two has them.
+#[tactic(auto, unfolding(crate::specs::Spelling::votes_bytes))]
+fn write_all_drains(writer: ByteWriter, drains: &Drains) -> Result<ByteWriter, NoMemory>
+    ensures { IfOk result (λ written. written ≡ writer ++ votes_bytes origin_cmp (origin_bytes Two) Two Down drains.now.standing) }
+{
+    let entries = drains.entries();
+    let mut written = writer.write_count_u32(entries.len())?;
+    for (at, votes) in entries {
+        written = write_drains_of(written, *at, votes.entries())?;
+    }
+    Ok(written)
+}
+
+/// The drains that stand: how many incarnations have drains, and for each in ascending order an entry. An entry is the
+/// node and the incarnation, how many drains it has, and these, each a dot and 1 for true or 0 for false. In
+/// [`Version::One`] there is no byte. [`NoMemory`] is the only error; the writer is gone then.
+pub fn write_drains(
+    writer: ByteWriter,
+    version: Version,
+    drains: &Drains,
+) -> Result<ByteWriter, NoMemory>
+    ensures { IfOk result (λ written. written ≡ writer ++ drains_bytes version drains.now.standing) }
+{
+    match version {
+        Version::One => Ok(writer),
+        Version::Two => {
+            let written = write_all_drains(writer, drains)?;
+            Ok(written)
+        }
+    }
+}
+
 /// A key and the dots of its start wishes.
 #[tactic(auto, unfolding(crate::specs::Spelling::keyed_dots_bytes))]
-fn write_dots(writer: ByteWriter, key: Key, dots: &[Dot]) -> Result<ByteWriter, NoMemory>
-    ensures { IfOk result (λ written. written ≡ writer ++ keyed_dots_bytes (key, dots.now)) }
+fn write_dots(
+    writer: ByteWriter,
+    version: Version,
+    key: Key,
+    dots: &[Dot],
+) -> Result<ByteWriter, NoMemory>
+    ensures { IfOk result (λ written. written ≡ writer ++ keyed_dots_bytes version (key, dots.now)) }
 {
-    let head = write_key(writer, key)?;
+    let head = write_key(writer, version, key)?;
     let mut written = head.write_count_u32(dots.len())?;
     for dot in dots {
-        written = written.write_dot(*dot)?;
+        written = written.write_dot(version, *dot)?;
     }
     Ok(written)
 }
@@ -92,13 +181,17 @@ fn write_dots(writer: ByteWriter, key: Key, dots: &[Dot]) -> Result<ByteWriter, 
 /// The start wishes that stand: how many keys have wishes, and for each in ascending order an entry. An entry is the
 /// key, how many wishes it has, and their dots. [`NoMemory`] is the only error; the writer is gone then.
 #[tactic(auto, unfolding(crate::specs::Spelling::starts_bytes))]
-pub fn write_wishes(writer: ByteWriter, wishes: &Wishes) -> Result<ByteWriter, NoMemory>
-    ensures { IfOk result (λ written. written ≡ writer ++ starts_bytes wishes.now.standing) }
+pub fn write_wishes(
+    writer: ByteWriter,
+    version: Version,
+    wishes: &Wishes,
+) -> Result<ByteWriter, NoMemory>
+    ensures { IfOk result (λ written. written ≡ writer ++ starts_bytes version wishes.now.standing) }
 {
     let entries = wishes.entries();
     let mut written = writer.write_count_u32(entries.len())?;
     for (key, dots) in entries {
-        written = write_dots(written, *key, dots.dots())?;
+        written = write_dots(written, version, *key, dots.dots())?;
     }
     Ok(written)
 }
@@ -113,12 +206,17 @@ fn down_code(flag: Flag) -> u8
 }
 
 #[tactic(auto, unfolding(crate::specs::Spelling::life_bytes))]
-fn write_life(writer: ByteWriter, node: NodeId, life: Life) -> Result<ByteWriter, NoMemory>
-    ensures { IfOk result (λ written. written ≡ writer ++ life_bytes (node, life)) }
+fn write_life(
+    writer: ByteWriter,
+    version: Version,
+    node: NodeId,
+    life: Life,
+) -> Result<ByteWriter, NoMemory>
+    ensures { IfOk result (λ written. written ≡ writer ++ life_bytes version (node, life)) }
 {
     let written = writer
         .write_u8(node.0)?
-        .write_incarnation(life.inc)?
+        .write_incarnation(version, life.inc)?
         .write_u8(down_code(life.flag))?;
     Ok(written)
 }
@@ -126,13 +224,17 @@ fn write_life(writer: ByteWriter, node: NodeId, life: Life) -> Result<ByteWriter
 /// The lives: how many nodes have one, and for each in ascending order its life. That is the node, its incarnation,
 /// and 0 for up or 1 for down. [`NoMemory`] is the only error; the writer is gone then.
 #[tactic(auto, unfolding(crate::specs::Spelling::lives_bytes))]
-pub fn write_lives(writer: ByteWriter, lives: &Lives) -> Result<ByteWriter, NoMemory>
-    ensures { IfOk result (λ written. written ≡ writer ++ lives_bytes lives.now) }
+pub fn write_lives(
+    writer: ByteWriter,
+    version: Version,
+    lives: &Lives,
+) -> Result<ByteWriter, NoMemory>
+    ensures { IfOk result (λ written. written ≡ writer ++ lives_bytes version lives.now) }
 {
     let entries = lives.entries();
     let mut written = writer.write_count_u8(entries.len())?;
     for (node, greatest) in entries {
-        written = write_life(written, *node, greatest.value)?;
+        written = write_life(written, version, *node, greatest.value)?;
     }
     Ok(written)
 }
@@ -173,13 +275,18 @@ pub fn write_manner(
 }
 
 #[tactic(auto, unfolding(crate::specs::Spelling::claim_bytes))]
-fn write_claim(writer: ByteWriter, app: AppId, claim: Claim) -> Result<ByteWriter, NoMemory>
-    ensures { IfOk result (λ written. written ≡ writer ++ claim_bytes (app, claim)) }
+fn write_claim(
+    writer: ByteWriter,
+    version: Version,
+    app: AppId,
+    claim: Claim,
+) -> Result<ByteWriter, NoMemory>
+    ensures { IfOk result (λ written. written ≡ writer ++ claim_bytes version (app, claim)) }
 {
     let head = writer
         .write_u16(app.0)?
         .write_u64(claim.term)?
-        .write_origin(claim.origin)?;
+        .write_origin(version, claim.origin)?;
     let written = write_manner(head, claim.how, claim.from)?;
     Ok(written)
 }
@@ -188,13 +295,17 @@ fn write_claim(writer: ByteWriter, app: AppId, claim: Claim) -> Result<ByteWrite
 /// the term of its claim, who claims it, and how it came there. [`NoMemory`] is the only error; the writer is gone
 /// then.
 #[tactic(auto, unfolding(crate::specs::Spelling::claims_bytes))]
-pub fn write_claims(writer: ByteWriter, claims: &Claims) -> Result<ByteWriter, NoMemory>
-    ensures { IfOk result (λ written. written ≡ writer ++ claims_bytes claims.now) }
+pub fn write_claims(
+    writer: ByteWriter,
+    version: Version,
+    claims: &Claims,
+) -> Result<ByteWriter, NoMemory>
+    ensures { IfOk result (λ written. written ≡ writer ++ claims_bytes version claims.now) }
 {
     let entries = claims.entries();
     let mut written = writer.write_count_u16(entries.len())?;
     for (app, greatest) in entries {
-        written = write_claim(written, *app, greatest.value)?;
+        written = write_claim(written, version, *app, greatest.value)?;
     }
     Ok(written)
 }

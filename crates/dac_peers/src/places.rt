@@ -12,7 +12,7 @@ use std::marker::Model;
 #[derive(Clone, Copy, Debug, PartialEq, Eq)]
 pub struct Place {
     /// Which of the node's incarnations.
-    pub inc: u32,
+    pub inc: u64,
     /// How many deltas it had.
     pub number: u64,
 }

@@ -17,7 +17,8 @@ use Rattle.dac_chains.specs.Lives.{IsLive, live_at}
 use Rattle.dac_state.specs.Key.{Key}
 use Rattle.dac_state.specs.PermissionsValue.{IsPermitted, is_permitted}
 use Rattle.dac_state.specs.WishesValue.{SomeStands, is_wished}
-use Rattle.dac_state.specs.StateValue.{StateValue, permissions_of, wishes_of}
+use Rattle.dac_state.specs.DrainsValue.{origin, IsDrained, is_drained}
+use Rattle.dac_state.specs.StateValue.{StateValue, permissions_of, wishes_of, drains_of}
 use Rattle.dac_placement.specs.declared.standing.Standing.{Standing}
 use Rattle.dac_placement.specs.declared.standing.Standing.TheVariants.{Unclaimed, Lost, Stopped, Barred, Upheld}
 use Rattle.dac_placement.specs.declared.verdicts.Verdict.{Verdict}
@@ -46,20 +47,36 @@ IsStartedAt s key = SomeStands key (wishes_of s)
 abbrev pub is_started_at : StateValue → Key → Bool
 is_started_at s key = is_wished key (wishes_of s)
 
--- The node may run the application. The application's list names it, and it is live at an incarnation at which the
--- application is permitted and started
+-- the incarnation of the node is drained: it is to run no application. (This project's own.)
+abbrev pub IsDrainedAt : StateValue → NodeId → ℕ → Type 0
+IsDrainedAt s node inc = IsDrained (origin node inc) (drains_of s)
+
+-- the same, as a test
+abbrev pub is_drained_at : StateValue → NodeId → ℕ → Bool
+is_drained_at s node inc = is_drained (origin node inc) (drains_of s)
+
+-- it is permitted there, and the incarnation isn't drained
+abbrev pub IsAllowedAt : Table → StateValue → Key → Type 0
+IsAllowedAt table s key = IsPermittedAt table s key × ¬ (IsDrainedAt s key.node key.inc)
+
+-- the same, as a test
+abbrev pub is_allowed_at : Table → StateValue → Key → Bool
+is_allowed_at table s key = is_permitted_at table s key && not (is_drained_at s key.node key.inc)
+
+-- The node may run the application. The application's list names it, and it is live at an incarnation that isn't
+-- drained, and at which the application is permitted and started
 pub record IsEligible (table : Table) (s : StateValue) (app : AppId) (node : NodeId) : Type 0 where
   pub listed : IsSome (group_of table app node)
   pub inc : ℕ
   pub live : IsLive s.lives node inc
-  pub permitted : IsPermittedAt table s (key_at app node inc)
+  pub allowed : IsAllowedAt table s (key_at app node inc)
   pub started : IsStartedAt s (key_at app node inc)
 
 -- the same, as a test
 abbrev pub is_eligible : Table → StateValue → AppId → NodeId → Bool
 is_eligible table s app node =
     is_some (group_of table app node)
-    && option_map_or (λ inc. is_permitted_at table s (key_at app node inc) && is_started_at s (key_at app node inc)) (live_at s.lives node) false
+    && option_map_or (λ inc. is_allowed_at table s (key_at app node inc) && is_started_at s (key_at app node inc)) (live_at s.lives node) false
 
 -- P holds of each node of the configuration that is eligible
 abbrev pub EachEligible : Table → StateValue → AppId → (NodeId → Type 0) → Type 0
@@ -160,13 +177,13 @@ abbrev pub key_of : AppId → Origin → Key
 key_of app o = key_at app o.node o.inc
 
 -- How an application stands at its holder, by what is the matter there first. It has no holder, its holder isn't
--- live, it was stopped there, or it isn't permitted there. Otherwise all is well.
+-- live, it was stopped there, or it isn't permitted there or its node is drained. Otherwise all is well.
 abbrev pub IsStanding : Table → StateValue → AppId → Standing → Type 0
 IsStanding table s app Unclaimed = holder_of s app ≡ None
 IsStanding table s app Lost = HeldBy s app (λ o. ¬ IsUp s o)
 IsStanding table s app (Stopped n) = HeldBy s app (λ o. (o.node ≡ n) × IsUp s o × ¬ IsStartedAt s (key_of app o))
-IsStanding table s app Barred = HeldBy s app (λ o. IsUp s o × IsStartedAt s (key_of app o) × ¬ IsPermittedAt table s (key_of app o))
-IsStanding table s app (Upheld n) = HeldBy s app (λ o. (o.node ≡ n) × IsUp s o × IsStartedAt s (key_of app o) × IsPermittedAt table s (key_of app o))
+IsStanding table s app Barred = HeldBy s app (λ o. IsUp s o × IsStartedAt s (key_of app o) × ¬ IsAllowedAt table s (key_of app o))
+IsStanding table s app (Upheld n) = HeldBy s app (λ o. (o.node ≡ n) × IsUp s o × IsStartedAt s (key_of app o) × IsAllowedAt table s (key_of app o))
 
 -- What is to become of the application. It is to be started, to fail over or to be moved at the first choice, where
 -- there is one. A stopped one is left alone. Where all is well, it is taken over exactly where an eligible node's
@@ -185,7 +202,7 @@ abbrev pub standing_at : Table → StateValue → AppId → Origin → Standing
 standing_at table s app o =
     if not (is_up s o) then Lost
     else if not (is_started_at s (key_of app o)) then Stopped o.node
-    else if not (is_permitted_at table s (key_of app o)) then Barred
+    else if not (is_allowed_at table s (key_of app o)) then Barred
     else Upheld o.node
 
 -- how the application stands, by its holder if it has one

@@ -1,14 +1,14 @@
 //! Who may run an application.
 ghost use Rattle.std.specs.Prelude.{◌≡◌, ◌↔◌, ◌<◌, ◌&&◌, IsTrue};
 ghost use Rattle.dac_config.specs.Table.{app_count};
-ghost use Rattle.dac_placement.specs.Placement.{IsEligible, is_eligible, IsPermittedAt, is_permitted_at, IsStartedAt, is_started_at};
+ghost use Rattle.dac_placement.specs.Placement.{IsEligible, is_eligible, IsPermittedAt, is_permitted_at, IsDrainedAt, is_drained_at, IsAllowedAt, is_allowed_at, IsStartedAt, is_started_at};
 
 use dac_base::{AppId, NodeId};
 use dac_config::Config;
 use dac_state::{Key, State};
 
-/// Whether a node may run an application. The application's list names it, and it is live at an incarnation at which
-/// the application is permitted and started. After OTP's kernel manual, parameters `distributed` and `permissions`,
+/// Whether a node may run an application. The application's list names it, and it is live at an incarnation that isn't
+/// drained, and at which the application is permitted and started. After OTP's kernel manual, parameters `distributed` and `permissions`,
 /// and application(3), `permit` and `start`. It takes no memory.
 pub fn eligible(config: &Config, state: &State, app: AppId, node: NodeId) -> bool
     requires { app.0 < app_count config.now }
@@ -24,15 +24,35 @@ pub fn eligible(config: &Config, state: &State, app: AppId, node: NodeId) -> boo
     }
 }
 
-/// Whether the application is permitted and started at this incarnation.
+/// Whether the application is allowed and started at this incarnation.
 fn is_wanted(config: &Config, state: &State, key: Key) -> bool
     requires { key.app.0 < app_count config.now }
-    ensures value { result ≡ (is_permitted_at config.now state.now key && is_started_at state.now key) }
-    ensures cases { IsTrue result ↔ (IsPermittedAt config.now state.now key × IsStartedAt state.now key) }
+    ensures value { result ≡ (is_allowed_at config.now state.now key && is_started_at state.now key) }
+    ensures cases { IsTrue result ↔ (IsAllowedAt config.now state.now key × IsStartedAt state.now key) }
+{
+    let allowed = is_allowed(config, state, key);
+    let started = is_started(state, key);
+    allowed && started
+}
+
+/// Whether the application is allowed at this incarnation: it is permitted there, and the incarnation isn't drained.
+/// It takes no memory.
+pub fn is_allowed(config: &Config, state: &State, key: Key) -> bool
+    requires { key.app.0 < app_count config.now }
+    ensures value { result ≡ is_allowed_at config.now state.now key }
+    ensures cases { IsTrue result ↔ IsAllowedAt config.now state.now key }
 {
     let permitted = is_permitted(config, state, key);
-    let started = is_started(state, key);
-    permitted && started
+    let drained = is_drained(state, key.node, key.inc);
+    permitted && !drained
+}
+
+/// Whether an incarnation of a node is drained: some drain of it stands that says so. It takes no memory.
+pub fn is_drained(state: &State, node: NodeId, inc: u64) -> bool
+    ensures value { result ≡ is_drained_at state.now node inc }
+    ensures cases { IsTrue result ↔ IsDrainedAt state.now node inc }
+{
+    state.drains().drained(node, inc)
 }
 
 /// Whether the application is permitted at this incarnation: by the permits that stand there, and by the configuration

@@ -20,6 +20,6 @@ mod verdicts;
 
 pub use dac_state::State;
 pub use deciding::{is_earlier, verdict};
-pub use eligibility::{eligible, is_permitted, is_started};
+pub use eligibility::{eligible, is_allowed, is_drained, is_permitted, is_started};
 pub use running::{holder, is_up, load, runner, runs_at};
 pub use verdicts::Verdict;

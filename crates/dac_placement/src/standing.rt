@@ -3,7 +3,7 @@ ghost use Rattle.std.specs.Prelude.{◌≡◌, ◌<◌};
 ghost use Rattle.dac_config.specs.Table.{app_count};
 ghost use Rattle.dac_placement.specs.Placement.{standing_of};
 
-use crate::eligibility::{is_permitted, is_started};
+use crate::eligibility::{is_allowed, is_started};
 use crate::running::{holder, is_up};
 use dac_base::{AppId, NodeId};
 use dac_config::Config;
@@ -18,7 +18,7 @@ pub(crate) enum Standing {
     Lost,
     /// It was stopped at this node, its holder.
     Stopped(NodeId),
-    /// It isn't permitted at its holder.
+    /// It isn't permitted at its holder, or that one is drained.
     Barred,
     /// All is well at this node, its holder.
     Upheld(NodeId),
@@ -42,7 +42,7 @@ pub(crate) fn standing_of(config: &Config, state: &State, app: AppId) -> Standin
     };
     if !is_started(state, key) {
         Standing::Stopped(holder.node)
-    } else if !is_permitted(config, state, key) {
+    } else if !is_allowed(config, state, key) {
         Standing::Barred
     } else {
         Standing::Upheld(holder.node)

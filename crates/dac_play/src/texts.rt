@@ -14,7 +14,7 @@ use std::alloc::Global;
 pub const OUT_OF_MEMORY: &str = "out of memory\n";
 
 /// A node booted under this incarnation, which issued the operation of this number.
-pub fn booted_line(alloc: Global, incarnation: u32, operation: usize) -> Result<Vec<u8>, NoMemory>
+pub fn booted_line(alloc: Global, incarnation: u64, operation: usize) -> Result<Vec<u8>, NoMemory>
     ensures { IfOk result (λ line. line.items ≡ booted_text incarnation operation) }
 {
     let line = format!(in alloc; "booted {incarnation} op {operation}\n")?;
@@ -26,7 +26,7 @@ pub fn issued_line(
     alloc: Global,
     operation: usize,
     node: &[u8],
-    incarnation: u32,
+    incarnation: u64,
     counter: u64,
 ) -> Result<Vec<u8>, NoMemory>
     ensures { IfOk result (λ line. line.items ≡ issued_text operation node.now incarnation counter) }

@@ -22,7 +22,7 @@ pub enum Request {
 /// What stands at the end of the program's help.
 const AFTER_HELP: &str =
     r"Lines of a script of `sim` begin with one of these verbs (`distac sim --help` says more):
-  boot crash down permit start stop takeover tick
+  boot crash down permit start stop drain takeover tick
   ship hear hand share page state same bytes feed
 Those of `live` are a caller's, or `feed` or `phase` (`distac live --help` says more).
 
@@ -67,6 +67,8 @@ const AFTER_SIM: &str =
                           At NODE, APP is permitted (or forbidden) at ABOUT
   start NODE APP ABOUT    At NODE, APP is started at ABOUT
   stop NODE APP ABOUT     At NODE, APP is stopped at ABOUT
+  drain NODE ABOUT true (or false)
+                          At NODE, ABOUT is to run nothing (or may run again)
   takeover NODE APP       NODE takes APP over from where it runs
   tick NODE NOW           NODE looks after its applications
   ship NODE ABOUT         NODE ships a message to ABOUT
@@ -103,6 +105,8 @@ const AFTER_LIVE: &str =
                             At NODE, APP is permitted (or forbidden) at ABOUT
   N start NODE APP ABOUT    At NODE, APP is started at ABOUT
   N stop NODE APP ABOUT     At NODE, APP is stopped at ABOUT
+  N drain NODE ABOUT true (or false)
+                            At NODE, ABOUT is to run nothing (or may run again)
   N takeover NODE APP       NODE takes APP over from where it runs
   N tick NODE NOW           NODE looks after its applications
   N read NODE               Whether the page of NODE has what this caller's last line did

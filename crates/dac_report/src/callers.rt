@@ -2,6 +2,7 @@
 
 ghost use Rattle.std.specs.Prelude.{◌≡◌, ◌≤◌, ◌++◌, ◌∷◌, ◌↔◌, [], true, map, length, IfOk, OnOk, IsTrue};
 ghost use Rattle.std.specs.Option.{option_copied};
+ghost use Rattle.dac_base.specs.declared.limits.TheConstants.{MAX_NODES};
 ghost use Rattle.dac_run.specs.Compared.{found};
 ghost use Rattle.dac_report.specs.Asked.{event_one, answer_one};
 ghost use Rattle.dac_report.specs.Lines.{AreAnswered, CallerHolds, NodeHolds, CallersHold};
@@ -180,7 +181,7 @@ pub fn strange_node(
     answers: &[Vec<LineAnswer>],
     closed: &[Closed],
 ) -> Result<Option<NodeId>, NoMemory>
-    requires few { length closed.now ≤ 16 }
+    requires few { length closed.now ≤ MAX_NODES }
     requires answered { AreAnswered phases.now answers.now }
     ensures { IfOk result (λ strange. strange ≡ None → CallersHold phases.now answers.now closed.now) }
 {

@@ -1,6 +1,7 @@
 //! A run, and its report.
 
 ghost use Rattle.std.specs.Prelude.{◌≡◌, ◌<◌, ◌≤◌, All, Err, IfOk, OnOk, length};
+ghost use Rattle.dac_base.specs.declared.limits.TheConstants.{MAX_NODES};
 ghost use Rattle.dac_config.specs.Table.{node_count};
 ghost use Rattle.dac_report.specs.Lines.{HasLines, AreAnswered, CallersHold};
 ghost use Rattle.dac_report.specs.Nodes.{AreNodes, PagesHold};
@@ -21,7 +22,7 @@ use std::thread::Threads;
 
 // Refuses journals in which a link carried something else than it was to carry.
 fn check_links(alloc: Global, phases: usize, closed: &[Closed]) -> Result<(), RunFault>
-    requires { length closed.now ≤ 16 }
+    requires { length closed.now ≤ MAX_NODES }
     ensures { OnOk result (LinksHold phases closed.now) }
 {
     match lost_link(alloc, phases, closed) {
@@ -38,7 +39,7 @@ fn check_callers(
     answers: &[Vec<LineAnswer>],
     closed: &[Closed],
 ) -> Result<(), RunFault>
-    requires { length closed.now ≤ 16 }
+    requires { length closed.now ≤ MAX_NODES }
     ensures lines { OnOk result (AreAnswered phases.now answers.now) }
     ensures callers { OnOk result (CallersHold phases.now answers.now closed.now) }
 {

@@ -1,6 +1,7 @@
 //! The journals and the last pages of all nodes.
 
 ghost use Rattle.std.specs.Prelude.{◌≡◌, ◌≤◌, IfOk, length};
+ghost use Rattle.dac_base.specs.declared.limits.TheConstants.{MAX_NODES};
 ghost use Rattle.dac_config.specs.Table.{node_count};
 ghost use Rattle.dac_report.specs.Nodes.{AreNodes, IsFirstOf, PagesHold, last_page_of};
 
@@ -44,7 +45,7 @@ pub fn last_pages(
 ) -> Result<Vec<Page>, RunFault>
     ensures pages { IfOk result (λ all. PagesHold config.now closed.now all.items) }
     ensures nodes { IfOk result (λ _. AreNodes (node_count config.now) closed.now) }
-    ensures few { IfOk result (λ _. length closed.now ≤ 16) }
+    ensures few { IfOk result (λ _. length closed.now ≤ MAX_NODES) }
 {
     let nodes = usize::from(config.nodes());
     if closed.len() != nodes {

@@ -1,6 +1,7 @@
 //! The links between closed journals.
 
 ghost use Rattle.std.specs.Prelude.{◌≡◌, ◌≢◌, ◌<◌, ◌≤◌, true, length, IfOk};
+ghost use Rattle.dac_base.specs.declared.limits.TheConstants.{MAX_NODES};
 ghost use Rattle.dac_run.specs.Compared.{Linked};
 ghost use Rattle.dac_report.specs.Pairs.{shipper_seat, worker_seat, RowHolds, LinksHold};
 
@@ -60,7 +61,7 @@ fn lost_to(
     sender: &[Record],
     closed: &[Closed],
 ) -> Result<Option<NodeId>, NoMemory>
-    requires { (from < length closed.now) × (length closed.now ≤ 16) }
+    requires { (from < length closed.now) × (length closed.now ≤ MAX_NODES) }
     ensures { IfOk result (λ lost. lost ≡ None → RowHolds phases from sender.now closed.now) }
 {
     for to in 0..closed.len() {
@@ -89,7 +90,7 @@ pub fn lost_link(
     phases: usize,
     closed: &[Closed],
 ) -> Result<Option<(NodeId, NodeId)>, NoMemory>
-    requires { length closed.now ≤ 16 }
+    requires { length closed.now ≤ MAX_NODES }
     ensures { IfOk result (λ lost. lost ≡ None → LinksHold phases closed.now) }
 {
     for from in 0..closed.len() {

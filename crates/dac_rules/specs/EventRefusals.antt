@@ -1,7 +1,7 @@
 -- Which events a node refuses, and why. Each list of causes is in the order of the refusals' numbers.
-use Rattle.std.specs.Prelude.{ℕ, ◌+◌, ◌-◌, ◌^◌, Bool, true, not, ◌&&◌, ◌||◌, nat_eq, nat_le, nat_lt, max, List, [], ◌∷◌, Option, Some, None}
+use Rattle.std.specs.Prelude.{ℕ, ◌+◌, Bool, true, not, ◌&&◌, ◌||◌, nat_eq, nat_le, nat_lt, max, List, [], ◌∷◌, Option, Some, None}
 use Rattle.std.specs.Option.{option_map_or}
-use Rattle.dac_base.specs.declared.limits.TheConstants.{MAX_COUNTER}
+use Rattle.dac_base.specs.declared.limits.TheConstants.{MAX_INCARNATION, MAX_COUNTER}
 use Rattle.dac_base.specs.declared.NodeId.{NodeId}
 use Rattle.dac_dots.specs.declared.dot.Origin.{Origin}
 use Rattle.dac_meaning.specs.StateValue.{StateValue}
@@ -85,7 +85,7 @@ refusal_on t r (HearOp o) = refusal_to_hear_op r
 
 -- why a node that is off refuses an event, if it does
 abbrev pub refusal_off : ℕ → Event → Option Refusal
-refusal_off last (Boot now) = first ((nat_le (2 ^ 32 - 1) last, IncarnationsUsedUp) ∷ [])
+refusal_off last (Boot now) = first ((nat_le MAX_INCARNATION last, IncarnationsUsedUp) ∷ [])
 refusal_off last Crash = Some Off
 refusal_off last (Told c) = Some Off
 refusal_off last (Tick now) = Some Off

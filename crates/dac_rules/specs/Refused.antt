@@ -1,9 +1,9 @@
 -- Why an event is refused, in words. They say which causes an event can have, when each holds, and that the least of
 -- those that hold is answered. (The causes and their order are this project's own.)
-use Rattle.std.specs.Prelude.{◌≡◌, ◌⊎◌, ℕ, ◌+◌, ◌-◌, ◌^◌, ◌<◌, ◌≤◌, true, false, List, [], ◌∷◌, length, Option, None, Some, IfSome}
+use Rattle.std.specs.Prelude.{◌≡◌, ◌⊎◌, ℕ, ◌+◌, ◌<◌, ◌≤◌, true, false, List, [], ◌∷◌, length, Option, None, Some, IfSome}
 use Rattle.std.specs.Option.{option_map}
 use Rattle.std.specs.FinSet as set
-use Rattle.dac_base.specs.declared.limits.TheConstants.{MAX_COUNTER, MAX_REPLACED}
+use Rattle.dac_base.specs.declared.limits.TheConstants.{MAX_INCARNATION, MAX_COUNTER, MAX_REPLACED}
 use Rattle.dac_base.specs.declared.NodeId.{NodeId}
 use Rattle.dac_base.specs.declared.AppId.{AppId}
 use Rattle.dac_dots.specs.declared.dot.Origin.{Origin}
@@ -17,14 +17,14 @@ use Rattle.dac_peers.specs.declared.places.Place.{Place}
 use Rattle.dac_messages.specs.Bodies.{content_of}
 use Rattle.dac_decide.specs.Placement.{IsEligible, RunsAt, IsEarlier}
 use Rattle.dac_events.specs.declared.Command.{Command}
-use Rattle.dac_events.specs.declared.Command.TheVariants.{Down, Permit, Start, Stop, Takeover}
+use Rattle.dac_events.specs.declared.Command.TheVariants.{Down, Permit, Start, Stop, Drain, Takeover}
 use Rattle.dac_messages.specs.declared.message.Message.{Message}
 use Rattle.dac_messages.specs.declared.event.Event.{Event}
 use Rattle.dac_messages.specs.declared.event.Event.TheVariants.{Boot, Crash, Command as Told, Tick, Ship, Hear, HearOp}
 use Rattle.dac_commands.specs.declared.refusal.Refusal.{Refusal}
 use Rattle.dac_commands.specs.declared.refusal.Refusal.TheVariants.{Off, AlreadyOn, DeclaredDown, UnknownApp, UnknownNode, OnSelf, NotInList, MomentBack, NotLive, NotStarted, NotEligible, NotRunning, AlreadyHolder, LowerPriority, NotForMe, UpToDate, TooManyDots, TermsUsedUp, DotsUsedUp, IncarnationsUsedUp, NoMemory}
 use Rattle.dac_commands.specs.Refusals.{number_of}
-use Rattle.dac_commands.specs.Commands.{live_key, standing_starts, standing_permits}
+use Rattle.dac_commands.specs.Commands.{live_key, live_origin, standing_starts, standing_permits, standing_drains}
 use Rattle.dac_commands.specs.Written.{HasLastTerm}
 use Rattle.dac_rules.specs.NodeValue.{NodeValue, RunValue}
 use Rattle.dac_rules.specs.EventRefusals.{needed, refusal_of}
@@ -37,6 +37,7 @@ causes_of_command (Down node) = Off ∷ DeclaredDown ∷ UnknownNode ∷ OnSelf 
 causes_of_command (Permit app node value) = Off ∷ DeclaredDown ∷ UnknownApp ∷ UnknownNode ∷ NotInList ∷ NotLive ∷ TooManyDots ∷ DotsUsedUp ∷ []
 causes_of_command (Start app node) = Off ∷ DeclaredDown ∷ UnknownApp ∷ UnknownNode ∷ NotInList ∷ NotLive ∷ TooManyDots ∷ DotsUsedUp ∷ []
 causes_of_command (Stop app node) = Off ∷ DeclaredDown ∷ UnknownApp ∷ UnknownNode ∷ NotInList ∷ NotLive ∷ NotStarted ∷ TooManyDots ∷ DotsUsedUp ∷ []
+causes_of_command (Drain node value) = Off ∷ DeclaredDown ∷ UnknownNode ∷ NotLive ∷ TooManyDots ∷ DotsUsedUp ∷ []
 causes_of_command (Takeover app) = Off ∷ DeclaredDown ∷ UnknownApp ∷ NotInList ∷ NotEligible ∷ NotRunning ∷ AlreadyHolder ∷ LowerPriority ∷ TermsUsedUp ∷ DotsUsedUp ∷ []
 
 abbrev pub causes_of_event : Event → List Refusal
@@ -64,6 +65,7 @@ node_in (Told (Down node)) = Some node
 node_in (Told (Permit app node value)) = Some node
 node_in (Told (Start app node)) = Some node
 node_in (Told (Stop app node)) = Some node
+node_in (Told (Drain node value)) = Some node
 node_in (Ship to) = Some to
 node_in _ = None
 
@@ -98,6 +100,7 @@ abbrev pub replaced_in : StateValue → Event → List Dot
 replaced_in s (Told (Permit app node value)) = standing_permits s (live_key s app node)
 replaced_in s (Told (Start app node)) = standing_starts s (live_key s app node)
 replaced_in s (Told (Stop app node)) = standing_starts s (live_key s app node)
+replaced_in s (Told (Drain node value)) = standing_drains s (live_origin s node)
 replaced_in s _ = []
 
 -- ---- when a cause holds
@@ -154,7 +157,7 @@ Holds t v e UpToDate = Some! v.run (λ (r : RunValue). Some! (node_in e) (λ to.
 Holds t v e TooManyDots = Running v (λ own s. MAX_REPLACED < length (replaced_in s e))
 Holds t v e TermsUsedUp = Running v (λ own s. Some! (app_in e) (λ app. HasLastTerm s app))
 Holds t v e DotsUsedUp = Some! v.run (λ (r : RunValue). Lacks t r e)
-Holds t v e IncarnationsUsedUp = 2 ^ 32 - 1 ≤ v.last
+Holds t v e IncarnationsUsedUp = MAX_INCARNATION ≤ v.last
 Holds t v e NoMemory = ⊥
 
 -- ---- what is answered

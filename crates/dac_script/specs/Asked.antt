@@ -84,13 +84,18 @@ node_and_number table words = do
   Ok (node, number)
 
 -- the node where something happens, and one that it is about
+abbrev pub nodes_in : Table → List ℕ → List ℕ → Result (NodeId × NodeId) ScriptFaultKind
+nodes_in table at subject = do
+  name ← named at
+  subject_name ← named subject
+  node ← actor table name
+  Ok (node, about table subject_name)
+
+-- these two nodes alone
 abbrev pub node_and_about : Table → List (List ℕ) → Result (NodeId × NodeId) ScriptFaultKind
 node_and_about table words = do
   both ← two words
-  name ← named both.0
-  subject ← named both.1
-  node ← actor table name
-  Ok (node, about table subject)
+  nodes_in table both.0 both.1
 
 -- the node where something happens, and the application that it is about
 abbrev pub node_and_app : Table → List (List ℕ) → Result (NodeId × AppId) ScriptFaultKind

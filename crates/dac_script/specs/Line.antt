@@ -14,7 +14,7 @@ use Rattle.dac_script.specs.declared.line.ScriptLine.TheVariants as says
 use Rattle.dac_script.specs.declared.line.Verb.{Verb}
 use Rattle.dac_script.specs.declared.line.Verb.TheVariants as verb
 use Rattle.dac_script.specs.Words.{bytes_in}
-use Rattle.dac_script.specs.Asked.{◌>>=◌, one, two, three, four, named, numbered, truth, actor, node_and_number, node_and_about, node_and_app, wish_in}
+use Rattle.dac_script.specs.Asked.{◌>>=◌, one, two, three, four, named, numbered, truth, actor, node_and_number, nodes_in, node_and_about, node_and_app, wish_in}
 
 -- the commands that operators give
 abbrev pub command_verb : List ℕ → Option Verb
@@ -23,8 +23,9 @@ command_verb word =
     else (if bytes_eq word (codes "permit") then Some verb.Permit
     else (if bytes_eq word (codes "start") then Some verb.Start
     else (if bytes_eq word (codes "stop") then Some verb.Stop
+    else (if bytes_eq word (codes "drain") then Some verb.Drain
     else (if bytes_eq word (codes "takeover") then Some verb.Takeover
-    else None))))
+    else None)))))
 
 -- the lines about bytes, and the commands
 abbrev pub wire_verb : List ℕ → Option Verb
@@ -93,6 +94,14 @@ stop_line table words = do
   all ← three words
   wish ← wish_in table all.0 all.1 all.2
   happens wish.at (what.Command (command.Stop wish.app wish.node))
+
+-- `drain NODE ABOUT true` or `false`
+abbrev pub drain_line : Table → List (List ℕ) → Result ScriptLine ScriptFaultKind
+drain_line table words = do
+  all ← three words
+  value ← truth all.2
+  both ← nodes_in table all.0 all.1
+  happens both.0 (what.Command (command.Drain both.1 value))
 
 -- `takeover NODE APP`
 abbrev pub takeover_line : Table → List (List ℕ) → Result ScriptLine ScriptFaultKind
@@ -177,6 +186,7 @@ said_by (Some verb.Down) table words = down_line table words
 said_by (Some verb.Permit) table words = permit_line table words
 said_by (Some verb.Start) table words = start_line table words
 said_by (Some verb.Stop) table words = stop_line table words
+said_by (Some verb.Drain) table words = drain_line table words
 said_by (Some verb.Takeover) table words = takeover_line table words
 said_by (Some verb.Tick) table words = tick_line table words
 said_by (Some verb.Ship) table words = ship_line table words

@@ -2,7 +2,7 @@
 
 ghost use Rattle.std.specs.Prelude.{◌≡◌, ◌<◌, IfOk, map};
 ghost use Rattle.dac_config.specs.Table.{node_count};
-ghost use Rattle.dac_script.specs.Asked.{seen, one, two, three, four, named, numbered, truth, actor, about, application, node_and_number, node_and_about, node_and_app, wish_in};
+ghost use Rattle.dac_script.specs.Asked.{seen, one, two, three, four, named, numbered, truth, actor, about, application, node_and_number, nodes_in, node_and_about, node_and_app, wish_in};
 
 use crate::fault::ScriptFaultKind;
 use crate::words::{name_in, number_in};
@@ -121,16 +121,28 @@ pub fn node_and_number(config: &Config, words: &[&[u8]]) -> Result<(NodeId, u64)
     Ok((node, number))
 }
 
+/// `NODE ABOUT`, among other words
+pub fn nodes_in(
+    config: &Config,
+    at: &[u8],
+    subject: &[u8],
+) -> Result<(NodeId, NodeId), ScriptFaultKind>
+    ensures words { result ≡ nodes_in config.now at.now subject.now }
+    ensures below { IfOk result (λ both. both.0.0 < node_count config.now) }
+{
+    let at = named(at)?;
+    let subject = named(subject)?;
+    let at = actor(config, at)?;
+    Ok((at, about(config, subject)))
+}
+
 /// `NODE ABOUT`
 pub fn node_and_about(config: &Config, words: &[&[u8]]) -> Result<(NodeId, NodeId), ScriptFaultKind>
     ensures words { result ≡ node_and_about config.now (map (λ word. word.now) words.now) }
     ensures below { IfOk result (λ both. both.0.0 < node_count config.now) }
 {
     let (node, subject) = two(words)?;
-    let node = named(node)?;
-    let subject = named(subject)?;
-    let node = actor(config, node)?;
-    Ok((node, about(config, subject)))
+    nodes_in(config, node, subject)
 }
 
 /// `NODE APP`

@@ -2,11 +2,11 @@
 
 ghost use Rattle.std.specs.Prelude.{◌≡◌, ℕ, IfOk, map};
 ghost use Rattle.dac_config.specs.Table.{node_count};
-ghost use Rattle.dac_script.specs.Line.{command_verb, wire_verb, verb_of, boot_line, crash_line, down_line, permit_line, start_line, stop_line, takeover_line, tick_line, ship_line, hear_line, hand_line, share_line, page_line, state_line, same_line, bytes_line, feed_line, line_of, HasActors};
+ghost use Rattle.dac_script.specs.Line.{command_verb, wire_verb, verb_of, boot_line, crash_line, down_line, permit_line, start_line, stop_line, drain_line, takeover_line, tick_line, ship_line, hear_line, hand_line, share_line, page_line, state_line, same_line, bytes_line, feed_line, line_of, HasActors};
 
 use crate::asked::{
-    actor, four, named, node_and_about, node_and_app, node_and_number, numbered, one, three, truth,
-    two, wish_in,
+    actor, four, named, node_and_about, node_and_app, node_and_number, nodes_in, numbered, one,
+    three, truth, two, wish_in,
 };
 use crate::byte_list::ByteList;
 use crate::fault::ScriptFaultKind;
@@ -44,6 +44,7 @@ enum Verb {
     Permit,
     Start,
     Stop,
+    Drain,
     Takeover,
     Tick,
     Ship,
@@ -72,6 +73,9 @@ fn command_verb(word: &[u8]) -> Option<Verb>
     }
     if word == b"stop".as_slice() {
         return Some(Verb::Stop);
+    }
+    if word == b"drain".as_slice() {
+        return Some(Verb::Drain);
     }
     if word == b"takeover".as_slice() {
         return Some(Verb::Takeover);
@@ -214,6 +218,20 @@ fn stop(config: &Config, words: &[&[u8]]) -> Result<ScriptLine, ScriptFaultKind>
             app: wish.app,
             node: wish.node,
         }),
+    }))
+}
+
+/// `drain NODE ABOUT true` or `drain NODE ABOUT false`
+fn drain(config: &Config, words: &[&[u8]]) -> Result<ScriptLine, ScriptFaultKind>
+    ensures line { result ≡ drain_line config.now (map (λ word. word.now) words.now) }
+    ensures actors { IfOk result (HasActors (node_count config.now)) }
+{
+    let (node, about, value) = three(words)?;
+    let value = truth(value)?;
+    let (node, about) = nodes_in(config, node, about)?;
+    Ok(ScriptLine::Event(WorldEvent {
+        node,
+        what: What::Command(Command::Drain { node: about, value }),
     }))
 }
 
@@ -368,6 +386,7 @@ pub fn line_of(
         Some(Verb::Permit) => Ok(permit(config, rest)),
         Some(Verb::Start) => Ok(start(config, rest)),
         Some(Verb::Stop) => Ok(stop(config, rest)),
+        Some(Verb::Drain) => Ok(drain(config, rest)),
         Some(Verb::Takeover) => Ok(takeover(config, rest)),
         Some(Verb::Tick) => Ok(tick(config, rest)),
         Some(Verb::Ship) => Ok(ship(config, rest)),

@@ -2,6 +2,7 @@
 use Rattle.std.proofs.Common.{◌≡◌, ℕ, ◌<◌, ◌≤◌, Bool, true, false, not, ◌&&◌, ◌≢◌, cond, eqb, ltb, leb, List, [], ◌∷◌, ◌++◌, length, map, Option, Some, None, Result, Ok, refl, sym, ap, subst, ◌∙◌, arith, inl, inr, codes, zero, suc, Err, bytes_eq, ltb-true, ltb-false, leb-false, eqb-true, ne_eqb, IfOk, IfErr, MatchResult, ◌↔◌}
 use Rattle.std.proofs.lemmas.Bool.{eqb-false}
 use Rattle.std.specs.List.{AllByRecursion}
+use Rattle.dac_base.specs.declared.limits.TheConstants.{MAX_NODES}
 use Rattle.dac_tokens.specs.declared.fault.ConfigFault.{ConfigFault}
 use Rattle.dac_tokens.specs.declared.token.Symbol.TheVariants.{OpenList, CloseList, OpenTuple, CloseTuple, Comma, FullStop}
 use Rattle.dac_tokens.specs.declared.fault.FaultKind.TheVariants.{BadShape, EmptyTuple, NumberTooLarge, NameTooLong, NoMemory}
@@ -64,7 +65,7 @@ node_found repeats before t s name u well e =
       may = record {
         short = w.1;
         once = unless_first repeats (is_among b.0 s.seen.listed) p.0;
-        few = λ f. leb-false 16 (length s.seen.met) (unless_first (is_among b.0 s.seen.met) (leb 16 (length s.seen.met)) q.0 f);
+        few = λ f. leb-false MAX_NODES (length s.seen.met) (unless_first (is_among b.0 s.seen.met) (leb MAX_NODES (length s.seen.met)) q.0 f);
       };
       seen = refl;
     })

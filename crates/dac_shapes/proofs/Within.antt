@@ -11,6 +11,7 @@ use Rattle.std.specs.Set.{is_member}
 use Rattle.std.specs.Cmp.Lexicographic.{same_text}
 use Rattle.std.proofs.lemmas.Cmp.{nat_list_eq_equiv}
 use Rattle.std.proofs.lemmas.Map.Made.{length-le_from_is_member}
+use Rattle.dac_base.specs.declared.limits.TheConstants.{MAX_NODES}
 use Rattle.dac_tokens.specs.Words.{Word}
 use Rattle.dac_shapes.specs.Limits.{Seen, AllMay, steps, is_among, with_name, with_node, MayNode, with_nodes, MayNodes, with_groups, nothing, number_of, is_named, has_param, is_kernel, has_kernel, listing, with_app, MayApp, with_permission, MayPermission, with_param, MayValue, MayParam, with_section, MaySection, MaySections}
 use Rattle.dac_shapes.specs.Within.{joined, params_in, names_of_app, names_of_param, names_in, nodes_in, AreAppsWithin, IsValueWithin, AreWithinLimits, ArePermissionsWithin, IsWithinLimits}
@@ -35,7 +36,7 @@ abbrev pub IsShort : List ℕ → Type 0
 IsShort name = length name ≤ 255
 
 abbrev pub IsFew : List (List ℕ) → Type 0
-IsFew names = length names ≤ 16
+IsFew names = length names ≤ MAX_NODES
 
 -- these names and the different ones of those
 abbrev pub with_all : List (List ℕ) → List (List ℕ) → List (List ℕ)
@@ -96,7 +97,7 @@ nodes_to repeats before seen (name ∷ names) few may =
     let rest = nodes_to repeats (before ++ name ∷ []) (with_node seen name) names here may.1 in
     (λ r. (may.0.once r, rest.0 r), ((may.0.short, rest.1.0), rest.1.1))
 
-few_before : (b : Bool) (met : List (List ℕ)) (name : List ℕ) → IsFew (cond b met (met ++ name ∷ [])) → b ≡ false → length met < 16
+few_before : (b : Bool) (met : List (List ℕ)) (name : List ℕ) → IsFew (cond b met (met ++ name ∷ [])) → b ≡ false → length met < MAX_NODES
 few_before true met name few e = absurd cc
 few_before false met name few e = omega (arith, few, length-append met (name ∷ []))
 
@@ -628,7 +629,7 @@ unfolding IsDistinct
 no_apps = record { few = omega arith; short = All-nil (λ app. length app.name ≤ 255); different = tt; once = All-nil (λ app. IsDistinct bytes_eq (names_of_app app)) }
 
 -- each application has few groups
-few_groups : (nodes : List (List ℕ)) (apps : List App) → length nodes ≤ 16 → Each (λ app. IsDistinct bytes_eq (names_of_app app)) apps → Each HasMembers apps → Each (IsOf nodes) (joined (map names_of_app apps)) → Each (λ app. length app.groups ≤ 16) apps
+few_groups : (nodes : List (List ℕ)) (apps : List App) → length nodes ≤ MAX_NODES → Each (λ app. IsDistinct bytes_eq (names_of_app app)) apps → Each HasMembers apps → Each (IsOf nodes) (joined (map names_of_app apps)) → Each (λ app. length app.groups ≤ MAX_NODES) apps
 few_groups nodes [] few once some of = tt
 few_groups nodes (app ∷ apps) few once some of =
     let here = few_of (names_of_app app) nodes once.0 (each_left (IsOf nodes) (names_of_app app) (joined (map names_of_app apps)) of) in
@@ -648,10 +649,10 @@ put_within sections within some =
     record {
       apps = k.apps;
       permissions = k.permissions;
-      few = subst (λ (l : List (List ℕ)). length l ≤ 16) (sym same) within.few;
+      few = subst (λ (l : List (List ℕ)). length l ≤ MAX_NODES) (sym same) within.few;
       short = subst (All IsShort) (sym same) (each_all IsShort nodes (all_short [] names tt (all_each IsShort names within.short)));
       different = subst (IsDistinct bytes_eq) (sym same) (new_distinct nodes (all_new [] names tt));
-      groups = each_all (λ app. length app.groups ≤ 16) w.apps (few_groups nodes w.apps within.few once k.some k.listed);
+      groups = each_all (λ app. length app.groups ≤ MAX_NODES) w.apps (few_groups nodes w.apps within.few once k.some k.listed);
       some = each_all (λ app. All HasMember app.groups) w.apps (each_by HasMembers (λ app. All HasMember app.groups) (λ app h. each_all HasMember app.groups h) w.apps k.some);
       all = subst (λ (l : List (List ℕ)). All (IsOf l) (listed ++ w.mandatory ++ w.optional)) (sym same) (each_all (IsOf nodes) (listed ++ w.mandatory ++ w.optional) all);
     }

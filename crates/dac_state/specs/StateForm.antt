@@ -1,22 +1,25 @@
--- Which states have bytes that are read under a configuration.
+-- Which states have bytes of a version that are read under a configuration.
 use Rattle.dac_part_bytes.specs.Table.{Table, node_count}
 use Rattle.dac_dots.specs.Dots.{IsSubset}
 use Rattle.dac_bytes.specs.Ranges.{IsContext}
-use Rattle.dac_part_bytes.specs.KeyedForm.{ArePermitsInForm, AreStartsInForm}
+use Rattle.dac_part_bytes.specs.KeyedForm.{ArePermitsInForm, AreStartsInForm, AreDrainsInForm}
 use Rattle.dac_part_bytes.specs.ChainForm.{AreLivesInForm, AreClaimsInForm}
 use Rattle.dac_meaning.specs.StateValue.{StateValue}
+use Rattle.dac_bytes.specs.declared.version.Version.{Version}
 
 -- The names, list places, numbers and counts of the state are those that its bytes can say.
-pub record IsInForm (t : Table) (s : StateValue) : Type 0 where
+pub record IsInForm (version : Version) (t : Table) (s : StateValue) : Type 0 where
   -- dots of the configuration's nodes
-  pub heard : IsContext (node_count t) s.heard
-  pub known : IsContext (node_count t) s.known
+  pub heard : IsContext version (node_count t) s.heard
+  pub known : IsContext version (node_count t) s.known
   -- what is heard is known
   pub within : IsSubset s.heard s.known
   -- known dots of listed nodes
-  pub permits : ArePermitsInForm t s.known s.permits
-  pub starts : AreStartsInForm t s.known s.starts
+  pub permits : ArePermitsInForm version t s.known s.permits
+  pub starts : AreStartsInForm version t s.known s.starts
   -- lives of the configuration's nodes
-  pub lives : AreLivesInForm (node_count t) s.lives
+  pub lives : AreLivesInForm version (node_count t) s.lives
   -- claims by listed nodes
-  pub claims : AreClaimsInForm t s.claims
+  pub claims : AreClaimsInForm version t s.claims
+  -- drains of the configuration's nodes, by known dots; version one has none
+  pub drains : AreDrainsInForm version t s.known s.drains

@@ -1,2 +1,3 @@
 pub use Rattle.dac_wishes.specs.laws.Permitted
 pub use Rattle.dac_wishes.specs.laws.Wished
+pub use Rattle.dac_wishes.specs.laws.Drained

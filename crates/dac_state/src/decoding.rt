@@ -5,18 +5,19 @@ ghost use Rattle.dac_bytes.specs.Reading.{Gives};
 ghost use Rattle.dac_bytes.specs.Takes.{IsFoundAs, IsReadAgain};
 ghost use Rattle.dac_meaning.specs.StateValue.{StateValue};
 ghost use Rattle.dac_state.specs.StateForm.{IsInForm};
-ghost use Rattle.dac_state.specs.StateSpelling.{spelling_of};
-ghost use Rattle.dac_state.specs.StateReading.{dots_at, standing_at, chains_at, pieces_at, parts_at, state_at};
+ghost use Rattle.dac_state.specs.StateSpelling.{spelling_of, state_bytes};
+ghost use Rattle.dac_bytes.specs.declared.version.Version.TheVariants.{One, Two};
+ghost use Rattle.dac_state.specs.StateReading.{dots_at, standing_at, chains_at, chains_and_drains_at, pieces_at, parts_at, state_at};
 
 use crate::laws::states_have_one_spelling;
 use crate::parts::Parts;
 use crate::state::State;
-use dac_bytes::{ByteReader, ReadFault, ReadFaultKind};
+use dac_bytes::{ByteReader, ReadFault, ReadFaultKind, Version};
 use dac_chains::{Claims, Lives};
 use dac_contexts::Context;
 use dac_lattice::Lattice;
-use dac_part_bytes::{Config, read_claims, read_lives, read_permissions, read_wishes};
-use dac_wishes::{Permissions, Wishes};
+use dac_part_bytes::{Config, read_claims, read_drains, read_lives, read_permissions, read_wishes};
+use dac_wishes::{Drains, Permissions, Wishes};
 use std::alloc::Global;
 
 /// The dots heard and the dots known.
@@ -24,13 +25,14 @@ use std::alloc::Global;
 fn read_dots<'a>(
     reader: ByteReader<'a>,
     alloc: Global,
+    version: Version,
     nodes: u8,
 ) -> Result<((Context, Context), ByteReader<'a>), ReadFault>
-    ensures exact { Gives (λ x. x) result (dots_at nodes reader.entry) }
+    ensures exact { Gives (λ x. x) result (dots_at version nodes reader.entry) }
     ensures within { IfOk result (λ x. IsSubset x.0.0 x.0.1) }
 {
-    let (heard, rest) = reader.read_context(alloc, nodes)?;
-    let (known, rest) = rest.read_context(alloc, nodes)?;
+    let (heard, rest) = reader.read_context(alloc, version, nodes)?;
+    let (known, rest) = rest.read_context(alloc, version, nodes)?;
     if heard.is_subset(&known) {
         return Ok(((heard, known), rest));
     }
@@ -45,15 +47,16 @@ fn read_dots<'a>(
 fn read_standing<'a>(
     reader: ByteReader<'a>,
     alloc: Global,
+    version: Version,
     config: &Config,
     known: &Context,
 ) -> Result<((Permissions, Wishes), ByteReader<'a>), ReadFault>
-    ensures exact { Gives (λ x. ((x.0.0.standing, x.0.1.standing), x.1)) result (standing_at config.now known.now reader.entry) }
+    ensures exact { Gives (λ x. ((x.0.0.standing, x.0.1.standing), x.1)) result (standing_at version config.now known.now reader.entry) }
     ensures permitted { IfOk result (λ x. x.0.0.known ≡ known.now) }
     ensures wished { IfOk result (λ x. x.0.1.known ≡ known.now) }
 {
-    let (permissions, rest) = read_permissions(reader, alloc, config, known)?;
-    let (wishes, rest) = read_wishes(rest, alloc, config, known)?;
+    let (permissions, rest) = read_permissions(reader, alloc, version, config, known)?;
+    let (wishes, rest) = read_wishes(rest, alloc, version, config, known)?;
     Ok(((permissions, wishes), rest))
 }
 
@@ -62,33 +65,53 @@ fn read_standing<'a>(
 fn read_chains<'a>(
     reader: ByteReader<'a>,
     alloc: Global,
+    version: Version,
     config: &Config,
 ) -> Result<((Lives, Claims), ByteReader<'a>), ReadFault>
-    ensures { Gives (λ x. x) result (chains_at config.now reader.entry) }
+    ensures { Gives (λ x. x) result (chains_at version config.now reader.entry) }
 {
-    let (lives, rest) = read_lives(reader, alloc, config)?;
-    let (claims, rest) = read_claims(rest, alloc, config)?;
+    let (lives, rest) = read_lives(reader, alloc, version, config)?;
+    let (claims, rest) = read_claims(rest, alloc, version, config)?;
     Ok(((lives, claims), rest))
 }
 
-/// What stands, and what only grows.
-type Pieces = ((Permissions, Wishes), (Lives, Claims));
+/// The lives, the claims, and the drains that stand among the dots known.
+#[tactic(auto, unfolding(crate::specs::StateReading::chains_and_drains_at))]
+fn read_chains_and_drains<'a>(
+    reader: ByteReader<'a>,
+    alloc: Global,
+    version: Version,
+    config: &Config,
+    known: &Context,
+) -> Result<(((Lives, Claims), Drains), ByteReader<'a>), ReadFault>
+    ensures exact { Gives (λ x. ((x.0.0, x.0.1.standing), x.1)) result (chains_and_drains_at version config.now known.now reader.entry) }
+    ensures drained { IfOk result (λ x. x.0.1.known ≡ known.now) }
+{
+    let (chains, rest) = read_chains(reader, alloc, version, config)?;
+    let (drains, rest) = read_drains(rest, alloc, version, config, known)?;
+    Ok(((chains, drains), rest))
+}
+
+/// Permits and start wishes, then lives and claims, and then drains.
+type Pieces = ((Permissions, Wishes), ((Lives, Claims), Drains));
 
 /// The pieces of a state that knows these dots.
 #[tactic(auto, unfolding(crate::specs::StateReading::pieces_at))]
 fn read_pieces<'a>(
     reader: ByteReader<'a>,
     alloc: Global,
+    version: Version,
     config: &Config,
     known: &Context,
 ) -> Result<(Pieces, ByteReader<'a>), ReadFault>
-    ensures exact { Gives (λ x. (((x.0.0.0.standing, x.0.0.1.standing), x.0.1), x.1)) result (pieces_at config.now known.now reader.entry) }
+    ensures exact { Gives (λ x. (((x.0.0.0.standing, x.0.0.1.standing), (x.0.1.0, x.0.1.1.standing)), x.1)) result (pieces_at version config.now known.now reader.entry) }
     ensures permitted { IfOk result (λ x. x.0.0.0.known ≡ known.now) }
     ensures wished { IfOk result (λ x. x.0.0.1.known ≡ known.now) }
+    ensures drained { IfOk result (λ x. x.0.1.1.known ≡ known.now) }
 {
-    let (standing, rest) = read_standing(reader, alloc, config, known)?;
-    let (chains, rest) = read_chains(rest, alloc, config)?;
-    Ok(((standing, chains), rest))
+    let (standing, rest) = read_standing(reader, alloc, version, config, known)?;
+    let (others, rest) = read_chains_and_drains(rest, alloc, version, config, known)?;
+    Ok(((standing, others), rest))
 }
 
 /// The parts of a state.
@@ -96,16 +119,18 @@ fn read_pieces<'a>(
 fn read_parts<'a>(
     reader: ByteReader<'a>,
     alloc: Global,
+    version: Version,
     config: &Config,
 ) -> Result<(Parts, ByteReader<'a>), ReadFault>
-    ensures { Gives (λ x. x) result (parts_at config.now reader.entry) }
+    ensures { Gives (λ x. x) result (parts_at version config.now reader.entry) }
 {
-    let ((heard, known), rest) = read_dots(reader, alloc, config.nodes())?;
-    let (pieces, rest) = read_pieces(rest, alloc, config, &known)?;
-    let ((permissions, wishes), (lives, claims)) = pieces;
+    let ((heard, known), rest) = read_dots(reader, alloc, version, config.nodes())?;
+    let (pieces, rest) = read_pieces(rest, alloc, version, config, &known)?;
+    let ((permissions, wishes), ((lives, claims), drains)) = pieces;
     Lattice::known(&permissions);
     Lattice::known(&wishes);
-    let parts = Parts::new(alloc, heard, permissions, wishes, lives, claims);
+    Lattice::known(&drains);
+    let parts = Parts::new(alloc, heard, permissions, wishes, lives, claims, drains);
     Ok((parts, rest))
 }
 
@@ -113,21 +138,27 @@ fn read_parts<'a>(
 fn read_next<'a>(
     reader: ByteReader<'a>,
     alloc: Global,
+    version: Version,
     config: &Config,
 ) -> Result<(State, ByteReader<'a>), ReadFault>
-    ensures { Gives (λ x. x) result (parts_at config.now reader.entry) }
+    ensures { Gives (λ x. x) result (parts_at version config.now reader.entry) }
 {
-    let (parts, rest) = read_parts(reader, alloc, config)?;
+    let (parts, rest) = read_parts(reader, alloc, version, config)?;
     let state = State::of(parts)?;
     Ok((state, rest))
 }
 
 /// A state, and no byte after it.
 #[tactic(auto, unfolding(crate::specs::StateReading::state_at))]
-fn read_state(alloc: Global, config: &Config, bytes: &[u8]) -> Result<State, ReadFault>
-    ensures { Gives (λ s. s) result (state_at config.now bytes.now) }
+fn read_state(
+    alloc: Global,
+    version: Version,
+    config: &Config,
+    bytes: &[u8],
+) -> Result<State, ReadFault>
+    ensures { Gives (λ s. s) result (state_at version config.now bytes.now) }
 {
-    let (parts, rest) = read_parts(ByteReader::new(bytes), alloc, config)?;
+    let (parts, rest) = read_parts(ByteReader::new(bytes), alloc, version, config)?;
     if rest.is_at_end() {
         let state = State::of(parts)?;
         return Ok(state);
@@ -138,40 +169,70 @@ fn read_state(alloc: Global, config: &Config, bytes: &[u8]) -> Result<State, Rea
     })
 }
 
+/// The state that the bytes spell in a version.
+fn decode_in(
+    alloc: Global,
+    version: Version,
+    config: &Config,
+    bytes: &[u8],
+) -> Result<State, ReadFault>
+    ensures found { IfOk result (λ s. IsInForm version config.now s × (bytes.now ≡ state_bytes version s)) }
+    ensures only { (s : StateValue) → IsInForm version config.now s → bytes.now ≡ state_bytes version s → Gives (λ s. s) result (Ok s) }
+    ensures exact { Gives (λ s. s) result (state_at version config.now bytes.now) }
+{
+    states_have_one_spelling(config);
+    read_state(alloc, version, config, bytes)
+}
+
 impl State {
-    /// The state that the next bytes spell, version 1, and what is after it.
+    /// The state that the next bytes spell in a version, and what is after it.
     ///
     /// The faults are those of [`State::decode`] but `Trailing`, each at its byte counted as the reader counts.
     pub fn read<'a>(
         reader: ByteReader<'a>,
         alloc: Global,
+        version: Version,
         config: &Config,
     ) -> Result<(Self, ByteReader<'a>), ReadFault>
-        ensures exact { Gives (λ x. x) result (parts_at config.now reader.entry) }
+        ensures exact { Gives (λ x. x) result (parts_at version config.now reader.entry) }
         // What is read is spelled so, and in form.
-        ensures found { IsFoundAs (λ x. x) spelling_of (IsInForm config.now) reader.entry result }
+        ensures found { IsFoundAs (λ x. x) (state_bytes version) (IsInForm version config.now) reader.entry result }
         // What is spelled so and in form is read, unless memory runs out.
-        ensures again { IsReadAgain (λ x. x) spelling_of (IsInForm config.now) reader.entry result }
+        ensures again { IsReadAgain (λ x. x) (state_bytes version) (IsInForm version config.now) reader.entry result }
     {
         states_have_one_spelling(config);
-        read_next(reader, alloc, config)
+        read_next(reader, alloc, version, config)
     }
 
-    /// The state that the bytes spell, version 1, under a configuration.
+    /// The state that the bytes spell, version 2, under a configuration.
     ///
     /// Each field is checked as it is read, so the fault is the first from left to right, with its byte counted from
     /// 0. `Short` comes where a field isn't whole. `BadNumber`, `BadName`, `NotInList`, `BadOrder` and `NotKnown`
     /// come as the parts say. `NotKnown` comes too after the dots known, where a heard one isn't among them.
-    /// `Trailing` comes at the first byte after the claims. `NoMemory` stands at 0, and says nothing of the bytes.
+    /// `Trailing` comes at the first byte after the drains. `NoMemory` stands at 0, and says nothing of the bytes.
     pub fn decode(alloc: Global, config: &Config, bytes: &[u8]) -> Result<Self, ReadFault>
         // What is read is spelled so, and in form.
-        ensures found { IfOk result (λ s. IsInForm config.now s × (bytes.now ≡ spelling_of s)) }
+        ensures found { IfOk result (λ s. IsInForm Two config.now s × (bytes.now ≡ spelling_of s)) }
         // What is spelled so and in form is read, unless memory runs out.
-        ensures only { (s : StateValue) → IsInForm config.now s → bytes.now ≡ spelling_of s → Gives (λ s. s) result (Ok s) }
+        ensures only { (s : StateValue) → IsInForm Two config.now s → bytes.now ≡ spelling_of s → Gives (λ s. s) result (Ok s) }
         // Which fault it is.
-        ensures exact { Gives (λ s. s) result (state_at config.now bytes.now) }
+        ensures exact { Gives (λ s. s) result (state_at Two config.now bytes.now) }
     {
-        states_have_one_spelling(config);
-        read_state(alloc, config, bytes)
+        decode_in(alloc, Version::Two, config, bytes)
+    }
+
+    /// The state that the bytes spell, version 1, under a configuration. Such a state has no drains, and no incarnation
+    /// above 4,294,967,295.
+    ///
+    /// The faults are those of [`State::decode`], with `Trailing` at the first byte after the claims.
+    pub fn decode_1(alloc: Global, config: &Config, bytes: &[u8]) -> Result<Self, ReadFault>
+        // What is read is spelled so, and in form.
+        ensures found { IfOk result (λ s. IsInForm One config.now s × (bytes.now ≡ state_bytes One s)) }
+        // What is spelled so and in form is read, unless memory runs out.
+        ensures only { (s : StateValue) → IsInForm One config.now s → bytes.now ≡ state_bytes One s → Gives (λ s. s) result (Ok s) }
+        // Which fault it is.
+        ensures exact { Gives (λ s. s) result (state_at One config.now bytes.now) }
+    {
+        decode_in(alloc, Version::One, config, bytes)
     }
 }

@@ -5,8 +5,8 @@
 //! alone. The state of one operation is what it means alone ([`State::delta_of`]). The join of what two sets mean is
 //! what both mean together, so nothing is lost. States are a lattice, for every value of the type.
 //!
-//! A state has one spelling in bytes ([`State::encode`]), and is read from it ([`State::decode`]). It keeps none of the
-//! operations.
+//! A state has one spelling in bytes ([`State::encode`]), and is read from it ([`State::decode`]). A state without
+//! drains has an older one too, in version 1 of the bytes ([`State::decode_1`]). A state keeps none of the operations.
 #![tactic(auto)]
 
 pub mod laws;
@@ -14,7 +14,7 @@ pub mod laws;
 pub use dac_bytes::{ReadFault as StateFault, ReadFaultKind as StateFaultKind};
 pub use dac_chains::{Claim, Claims, How, Life, Lives};
 pub use dac_meaning::{Act, Op, OpFault};
-pub use dac_wishes::{DotList, Key, Permissions, Wishes};
+pub use dac_wishes::{DotList, Drains, Key, Permissions, Wishes};
 pub use state::State;
 
 mod coding;

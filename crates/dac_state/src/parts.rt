@@ -1,17 +1,17 @@
 //! The parts of a state.
 ghost use Rattle.std.specs.Prelude.{◌≡◌, ◌↔◌, IsTrue, IfOk};
-ghost use Rattle.dac_meaning.specs.StateValue.{IsState, IsBelow, join, permissions_of, wishes_of};
+ghost use Rattle.dac_meaning.specs.StateValue.{IsState, IsBelow, drains_of, join, permissions_of, wishes_of};
 ghost use Rattle.dac_state.specs.Parts.{AreParts, state_of_parts};
 
 use dac_base::NoMemory;
 use dac_chains::{Claims, Lives};
 use dac_contexts::Context;
 use dac_lattice::Lattice;
-use dac_wishes::{Permissions, Wishes};
+use dac_wishes::{Drains, Permissions, Wishes};
 use std::alloc::Global;
 use std::marker::Model;
 
-/// The parts of a state. Permissions and wishes know the same dots.
+/// The parts of a state. Permissions, wishes and drains know the same dots.
 #[derive(Drop)]
 pub(crate) struct Parts {
     alloc: Global,
@@ -20,6 +20,7 @@ pub(crate) struct Parts {
     wishes: Wishes,
     lives: Lives,
     claims: Claims,
+    drains: Drains,
 }
 
 impl Model for Parts {
@@ -30,9 +31,9 @@ impl Model for Parts {
 
     ghost coded = { coded_state };
 
-    ghost view = { λ a. state_of_parts a.heard a.permissions a.wishes a.lives a.claims };
+    ghost view = { λ a. state_of_parts a.heard a.permissions a.wishes a.lives a.claims a.drains };
 
-    ghost invariant = { λ a. AreParts a.heard a.permissions a.wishes a.lives a.claims };
+    ghost invariant = { λ a. AreParts a.heard a.permissions a.wishes a.lives a.claims a.drains };
 }
 
 impl Parts {
@@ -44,9 +45,10 @@ impl Parts {
         wishes: Wishes,
         lives: Lives,
         claims: Claims,
+        drains: Drains,
     ) -> Self
-        requires { AreParts heard permissions wishes lives claims }
-        ensures { result ≡ state_of_parts heard permissions wishes lives claims }
+        requires { AreParts heard permissions wishes lives claims drains }
+        ensures { result ≡ state_of_parts heard permissions wishes lives claims drains }
     {
         Parts {
             alloc,
@@ -55,6 +57,7 @@ impl Parts {
             wishes,
             lives,
             claims,
+            drains,
         }
     }
 
@@ -105,6 +108,13 @@ impl Parts {
         &self.claims
     }
 
+    /// The drains that stand.
+    pub(crate) fn drains(&self) -> &Drains
+        ensures { result.now ≡ drains_of self.now }
+    {
+        &self.drains
+    }
+
     /// They are those of a state.
     pub(crate) fn are_of_state(&self)
         ensures { IsState self.now }
@@ -121,7 +131,16 @@ impl Parts {
         let wishes = self.wishes.join(&other.wishes)?;
         let lives = self.lives.join(&other.lives)?;
         let claims = self.claims.join(&other.claims)?;
-        Ok(Parts::new(self.alloc, heard, permissions, wishes, lives, claims))
+        let drains = self.drains.join(&other.drains)?;
+        Ok(Parts::new(
+            self.alloc,
+            heard,
+            permissions,
+            wishes,
+            lives,
+            claims,
+            drains,
+        ))
     }
 
     /// Whether each is below the other's.
@@ -137,7 +156,10 @@ impl Parts {
         if !self.wishes.leq(&other.wishes) {
             return false;
         }
-        self.lives.leq(&other.lives) && self.claims.leq(&other.claims)
+        if !self.lives.leq(&other.lives) {
+            return false;
+        }
+        self.claims.leq(&other.claims) && self.drains.leq(&other.drains)
     }
 
     /// Equal parts. They may share memory that never changes.
@@ -149,6 +171,15 @@ impl Parts {
         let wishes = self.wishes.copy()?;
         let lives = self.lives.copy()?;
         let claims = self.claims.copy()?;
-        Ok(Parts::new(self.alloc, heard, permissions, wishes, lives, claims))
+        let drains = self.drains.copy()?;
+        Ok(Parts::new(
+            self.alloc,
+            heard,
+            permissions,
+            wishes,
+            lives,
+            claims,
+            drains,
+        ))
     }
 }

@@ -1,6 +1,6 @@
 //! What a set of operations adds up to.
 ghost use Rattle.std.specs.Prelude.{◌≡◌, ◌∷◌, [], IfOk};
-ghost use Rattle.dac_meaning.specs.StateValue.{permissions_of, wishes_of};
+ghost use Rattle.dac_meaning.specs.StateValue.{drains_of, permissions_of, wishes_of};
 ghost use Rattle.dac_meaning.specs.Meaning.{meaning_of};
 
 use crate::parts::Parts;
@@ -9,13 +9,13 @@ use dac_chains::{Claims, Lives};
 use dac_contexts::Context;
 use dac_lattice::{Bottom, Lattice, Piece};
 use dac_meaning::{Op, laws};
-use dac_wishes::{Permissions, Wishes};
+use dac_wishes::{Drains, Permissions, Wishes};
 use std::alloc::Global;
 use std::marker::Model;
 use std::sync::Arc;
 
-/// What a controller keeps of the operations that it has heard. It has their dots, and the permits and the start
-/// wishes that none of them replaces. Both stand beside the dots that they name. It keeps the life of each node and
+/// What a controller keeps of the operations that it has heard. It has their dots, and the permits, the start
+/// wishes and the drains that none of them replaces. These stand beside the dots that they name. It keeps the life of each node and
 /// the greatest claim of each application too.
 ///
 /// States are a lattice. A join knows what either side knows. A permit or wish that one side has stands in it unless
@@ -66,7 +66,9 @@ impl State {
         let wishes = wishes_by(alloc, op)?;
         let lives = lives_by(alloc, op)?;
         let claims = claims_by(alloc, op)?;
-        let state = State::of(Parts::new(alloc, heard, permissions, wishes, lives, claims))?;
+        let drains = drains_by(alloc, op)?;
+        let parts = Parts::new(alloc, heard, permissions, wishes, lives, claims, drains);
+        let state = State::of(parts)?;
         Ok(state)
     }
 
@@ -136,6 +138,13 @@ impl State {
     {
         self.parts().claims()
     }
+
+    /// The drains that stand.
+    pub fn drains(&self) -> &Drains
+        ensures { result.now ≡ drains_of self.now }
+    {
+        self.parts().drains()
+    }
 }
 
 impl Lattice for State {
@@ -201,6 +210,7 @@ impl Bottom for State {
             Wishes::bottom(alloc),
             Lives::bottom(alloc),
             Claims::bottom(alloc),
+            Drains::bottom(alloc),
         );
         State {
             kept: Kept::Here(parts),
@@ -258,4 +268,15 @@ fn claims_by(alloc: Global, op: &Op) -> Result<Claims, NoMemory>
     let act = op.claim_act();
     let claims = Claims::delta(alloc, op.dot(), &act)?;
     Ok(claims)
+}
+
+/// What an operation drains and knows.
+fn drains_by(alloc: Global, op: &Op) -> Result<Drains, NoMemory>
+    ensures { IfOk result (λ drains. drains ≡ drains_of (meaning_of (op.now ∷ []))) }
+{
+    laws::delta_is_meaning();
+    op.known();
+    let act = op.drain_act(alloc)?;
+    let drains = Drains::delta(alloc, op.dot(), &act)?;
+    Ok(drains)
 }

@@ -1,6 +1,7 @@
 -- What a controller knows, in short: how much it has heard, and the life of each node. Of each application: who holds
 -- it, what is to become of it, and how each node stands for it. (This project's own.)
-use Rattle.std.specs.Prelude.{ℕ, ◌-◌, not, List, ◌++◌, length, map as list_map, replicate, Option, None, Some, if◌then◌else◌}
+use Rattle.std.specs.Prelude.{ℕ, ◌-◌, Bool, false, not, List, ◌++◌, length, map as list_map, replicate, Option, None, Some, if◌then◌else◌}
+use Rattle.std.specs.Option.{option_map_or}
 use Rattle.std.specs.FinSet as set
 use Rattle.std.specs.FinMap as map
 use Rattle.dac_base.specs.declared.limits.TheConstants.{MAX_APPS, MAX_NODES}
@@ -11,9 +12,9 @@ use Rattle.dac_chains.specs.declared.lives.Life.{Life}
 use Rattle.dac_chains.specs.Lives.{IsLive, live_at}
 use Rattle.dac_meaning.specs.StateValue.{StateValue}
 use Rattle.dac_placement.specs.declared.verdicts.Verdict.TheVariants.{Nobody}
-use Rattle.dac_placement.specs.Placement.{IsPermittedAt, is_permitted_at, IsStartedAt, is_started_at, key_at, nodes_of, apps_of, verdict_of}
+use Rattle.dac_placement.specs.Placement.{IsPermittedAt, is_permitted_at, IsDrainedAt, is_drained_at, IsStartedAt, is_started_at, key_at, nodes_of, apps_of, verdict_of}
 use Rattle.dac_status.specs.declared.marks.Mark.{Mark}
-use Rattle.dac_status.specs.declared.marks.Mark.TheVariants.{Down, Barred, Idle, Ok}
+use Rattle.dac_status.specs.declared.marks.Mark.TheVariants.{Down, Barred, Drained, Idle, Ok}
 use Rattle.dac_status.specs.declared.summary.AppSummary.{AppSummary}
 use Rattle.dac_status.specs.declared.summary.Summary.{Summary}
 
@@ -24,20 +25,22 @@ placed places blank items = items ++ replicate (places - length items) blank
 -- ---- marks
 
 -- What keeps an application from a node, by the first that does. The node isn't live, the application isn't permitted
--- there, or it wasn't started there. Where nothing does, all is well.
+-- there, the node is drained, or it wasn't started there. Where nothing does, all is well.
 abbrev pub IsMark : Table → StateValue → AppId → NodeId → Mark → Type 0
 IsMark table s app node Down = (inc : ℕ) → ¬ IsLive s.lives node inc
 IsMark table s app node Barred = (inc : ℕ) × IsLive s.lives node inc × ¬ IsPermittedAt table s (key_at app node inc)
-IsMark table s app node Idle = (inc : ℕ) × IsLive s.lives node inc × IsPermittedAt table s (key_at app node inc) × ¬ IsStartedAt s (key_at app node inc)
-IsMark table s app node Ok = (inc : ℕ) × IsLive s.lives node inc × IsPermittedAt table s (key_at app node inc) × IsStartedAt s (key_at app node inc)
+IsMark table s app node Drained = (inc : ℕ) × IsLive s.lives node inc × IsPermittedAt table s (key_at app node inc) × IsDrainedAt s node inc
+IsMark table s app node Idle = (inc : ℕ) × IsLive s.lives node inc × IsPermittedAt table s (key_at app node inc) × ¬ (IsDrainedAt s node inc) × ¬ IsStartedAt s (key_at app node inc)
+IsMark table s app node Ok = (inc : ℕ) × IsLive s.lives node inc × IsPermittedAt table s (key_at app node inc) × ¬ (IsDrainedAt s node inc) × IsStartedAt s (key_at app node inc)
 
 -- the mark of a node that is live at this incarnation, or isn't live
 abbrev pub mark_at : Table → StateValue → AppId → NodeId → Option ℕ → Mark
 mark_at table s app node None = Down
 mark_at table s app node (Some inc) =
     if not (is_permitted_at table s (key_at app node inc)) then Barred
+    else (if is_drained_at s node inc then Drained
     else (if not (is_started_at s (key_at app node inc)) then Idle
-    else Ok)
+    else Ok))
 
 abbrev pub mark_of : Table → StateValue → AppId → NodeId → Mark
 mark_of table s app node = mark_at table s app node (live_at s.lives node)
@@ -51,6 +54,14 @@ marks_of table s app = placed MAX_NODES Down (list_map (mark_of table s app) (no
 -- the lives of the nodes by their numbers
 abbrev pub lives_of : Table → StateValue → List (Option Life)
 lives_of table s = placed MAX_NODES None (list_map (map.get s.lives) (nodes_of table))
+
+-- the node is live at an incarnation that is drained
+abbrev pub drains_live : StateValue → NodeId → Bool
+drains_live s node = option_map_or (is_drained_at s node) (live_at s.lives node) false
+
+-- whether the nodes are, by their numbers
+abbrev pub drained_of : Table → StateValue → List Bool
+drained_of table s = placed MAX_NODES false (list_map (drains_live s) (nodes_of table))
 
 -- the greatest claim of an application, what is to become of it, and the mark of each node
 abbrev pub app_summary : Table → StateValue → AppId → AppSummary
@@ -67,4 +78,4 @@ app_summaries table s = placed MAX_APPS no_app (list_map (app_summary table s) (
 -- What a state says, in short: how many dots it has heard and knows, and the life of each node of the configuration.
 -- Then comes where each of its applications stands
 abbrev pub summary_of : Table → StateValue → Summary
-summary_of table s = record { heard = set.len s.heard; known = set.len s.known; lives = lives_of table s; apps = app_summaries table s }
+summary_of table s = record { heard = set.len s.heard; known = set.len s.known; lives = lives_of table s; drained = drained_of table s; apps = app_summaries table s }

@@ -1,5 +1,5 @@
 -- The page of a node: what is printed of a summary.
-use Rattle.std.specs.Prelude.{ℕ, false, nat_lt, ◌==◌, List, [], ◌++◌, Option, None, Some, codes, slice_index_or, if◌then◌else◌}
+use Rattle.std.specs.Prelude.{ℕ, false, nat_lt, ◌==◌, List, [], ◌++◌, Option, None, Some, codes, slice_index_or, if◌then◌else◌, Bool, true}
 use Rattle.std.specs.List.{flat_map, range_with_len}
 use Rattle.std.specs.Option.{option_map_or}
 use Rattle.std.specs.Fmt.{decimal}
@@ -39,10 +39,15 @@ abbrev pub flag_text : Flag → List ℕ
 flag_text Up = codes " up "
 flag_text Down = codes " down "
 
--- the life of a node of this name
-abbrev pub life_text : List ℕ → Option Life → List ℕ
-life_text node None = codes "node " ++ (name_text node ++ codes " unknown\n")
-life_text node (Some life) = codes "node " ++ (name_text node ++ (flag_text life.flag ++ (decimal life.inc ++ codes "\n")))
+-- behind the incarnation of a node that is up and drained
+abbrev pub drained_text : Flag → Bool → List ℕ
+drained_text Up true = codes " drained"
+drained_text _ _ = []
+
+-- the life of a node of this name, and whether it is drained
+abbrev pub life_text : List ℕ → Option Life → Bool → List ℕ
+life_text node None drained = codes "node " ++ (name_text node ++ codes " unknown\n")
+life_text node (Some life) drained = codes "node " ++ (name_text node ++ (flag_text life.flag ++ (decimal life.inc ++ (drained_text life.flag drained ++ codes "\n"))))
 
 -- ---- applications
 
@@ -87,6 +92,7 @@ standing_text table app claim verdict =
 abbrev pub mark_text : Mark → List ℕ
 mark_text mark.Down = codes "down"
 mark_text mark.Barred = codes "barred"
+mark_text mark.Drained = codes "drained"
 mark_text mark.Idle = codes "idle"
 mark_text mark.Ok = codes "ok"
 
@@ -115,19 +121,19 @@ list_text table app marks = codes "list" ++ (flat_map (group_text table app mark
 abbrev pub counts_text : ℕ → ℕ → List ℕ
 counts_text heard known = codes "heard " ++ (decimal heard ++ (codes " known " ++ (decimal known ++ codes "\n")))
 
--- the line of a node, whose life is among these by their numbers
-abbrev pub node_line : Table → List (Option Life) → NodeId → List ℕ
-node_line table lives node = life_text (node_name table node) (slice_index_or lives node.0 None)
+-- the line of a node, whose life is among these by their numbers, and whether it is drained among those
+abbrev pub node_line : Table → List (Option Life) → List Bool → NodeId → List ℕ
+node_line table lives drained node = life_text (node_name table node) (slice_index_or lives node.0 None) (slice_index_or drained node.0 false)
 
 -- the two lines of an application
 abbrev pub summary_text : Table → AppId → AppSummary → List ℕ
 summary_text table app summary = standing_text table app summary.claim summary.verdict ++ list_text table app summary.marks
 
 -- the lines of the application, of these by their numbers
-abbrev pub app_lines : Table → List AppSummary → AppId → List ℕ
+unfoldable pub app_lines : Table → List AppSummary → AppId → List ℕ
 app_lines table apps app = summary_text table app (slice_index_or apps app.0 no_app)
 
 -- how much was heard, then each node by its name, then each application in the order of the configuration file
 abbrev pub page_text : Table → Summary → List ℕ
 page_text table summary =
-    counts_text summary.heard summary.known ++ (flat_map (node_line table summary.lives) (nodes_of table) ++ flat_map (app_lines table summary.apps) (apps_of table))
+    counts_text summary.heard summary.known ++ (flat_map (node_line table summary.lives summary.drained) (nodes_of table) ++ flat_map (app_lines table summary.apps) (apps_of table))

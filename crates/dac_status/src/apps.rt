@@ -131,6 +131,7 @@ fn mark_text(mark: Mark) -> &'static str
     match mark {
         Mark::Down => "down",
         Mark::Barred => "barred",
+        Mark::Drained => "drained",
         Mark::Idle => "idle",
         Mark::Ok => "ok",
     }
@@ -239,6 +240,7 @@ fn summary_lines(
 }
 
 /// The lines of an application, which stands as these say by their numbers.
+#[tactic(auto, unfolding(crate::specs::Texts::app_lines))]
 pub fn app_lines(
     alloc: Global,
     config: &Config,

@@ -6,7 +6,7 @@ ghost use Rattle.dac_status.specs.Summaries.{IsMark, mark_of};
 
 use dac_base::{AppId, NodeId};
 use dac_config::Config;
-use dac_placement::{is_permitted, is_started};
+use dac_placement::{is_drained, is_permitted, is_started};
 use dac_state::{Key, State};
 
 /// How a node stands for an application: the first of these that holds.
@@ -16,6 +16,8 @@ pub enum Mark {
     Down,
     /// The application isn't permitted there.
     Barred,
+    /// The node is drained.
+    Drained,
     /// The application wasn't started there, or was stopped.
     Idle,
     /// Nothing keeps the application from there.
@@ -35,6 +37,9 @@ pub fn mark_of(config: &Config, state: &State, app: AppId, node: NodeId) -> Mark
     let key = Key { app, node, inc };
     if !is_permitted(config, state, key) {
         return Mark::Barred;
+    }
+    if is_drained(state, node, inc) {
+        return Mark::Drained;
     }
     if !is_started(state, key) {
         return Mark::Idle;

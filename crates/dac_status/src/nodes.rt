@@ -2,7 +2,7 @@
 
 ghost use Rattle.std.specs.Prelude.{◌≡◌, ◌<◌, IfOk};
 ghost use Rattle.dac_config.specs.Table.{node_count};
-ghost use Rattle.dac_status.specs.Texts.{node_text, flag_text, life_text, node_line};
+ghost use Rattle.dac_status.specs.Texts.{node_text, flag_text, drained_text, life_text, node_line};
 
 use dac_base::{MAX_NODES, NoMemory, NodeId};
 use dac_chains::Life;
@@ -31,9 +31,24 @@ fn flag_text(flag: Flag) -> &'static str
     }
 }
 
-/// The line of a node of this name and this life.
-fn life_line(alloc: Global, node: &[u8], life: Option<Life>) -> Result<Vec<u8>, NoMemory>
-    ensures { IfOk result (λ line. line.items ≡ life_text node.now life) }
+/// What stands behind the incarnation of a node that is up and drained.
+fn drained_text(flag: Flag, drained: bool) -> &'static str
+    ensures { result.now ≡ drained_text flag drained }
+{
+    match (flag, drained) {
+        (Flag::Up, true) => " drained",
+        _ => "",
+    }
+}
+
+/// The line of a node of this name and this life, drained or not.
+fn life_line(
+    alloc: Global,
+    node: &[u8],
+    life: Option<Life>,
+    drained: bool,
+) -> Result<Vec<u8>, NoMemory>
+    ensures { IfOk result (λ line. line.items ≡ life_text node.now life drained) }
 {
     let mut line = Vec::from_slice(alloc, b"node ")?;
     let name = printed_name(alloc, node)?;
@@ -43,24 +58,28 @@ fn life_line(alloc: Global, node: &[u8], life: Option<Life>) -> Result<Vec<u8>, 
         Some(life) => {
             line.extend_from_slice(flag_text(life.flag).as_bytes())?;
             let incarnation = life.inc;
-            let rest = format!(in alloc; "{incarnation}\n")?;
-            line.extend_from_slice(rest.as_bytes())?;
+            let number = format!(in alloc; "{incarnation}")?;
+            line.extend_from_slice(number.as_bytes())?;
+            line.extend_from_slice(drained_text(life.flag, drained).as_bytes())?;
+            line.push(b'\n')?;
         }
     }
     Ok(line)
 }
 
-/// The line of a node, whose life is among these by their numbers.
+/// The line of a node, whose life is among these by their numbers, and whether it is drained among those.
 pub fn node_line(
     alloc: Global,
     config: &Config,
     lives: &[Option<Life>; MAX_NODES],
+    drained: &[bool; MAX_NODES],
     node: NodeId,
 ) -> Result<Vec<u8>, NoMemory>
     requires node { node.0 < node_count config.now }
     requires place { node.0 < MAX_NODES }
-    ensures { IfOk result (λ line. line.items ≡ node_line config.now lives.now node) }
+    ensures { IfOk result (λ line. line.items ≡ node_line config.now lives.now drained.now node) }
 {
     let life = lives[node.0 as usize];
-    life_line(alloc, config.node_name(node), life)
+    let is_drained = drained[node.0 as usize];
+    life_line(alloc, config.node_name(node), life, is_drained)
 }

@@ -61,10 +61,16 @@ fn put_nodes(
     config: &Config,
     summary: &Summary,
 ) -> Result<(), NoMemory>
-    ensures { OnOk result (text.new.items ≡ text.old.items ++ flat_map (node_line config.now summary.now.lives) (nodes_of config.now)) }
+    ensures { OnOk result (text.new.items ≡ text.old.items ++ flat_map (node_line config.now summary.now.lives summary.now.drained) (nodes_of config.now)) }
 {
     for number in 0..config.nodes() {
-        let line = node_line(alloc, config, &summary.lives, NodeId(number))?;
+        let line = node_line(
+            alloc,
+            config,
+            &summary.lives,
+            &summary.drained,
+            NodeId(number),
+        )?;
         text.extend_from_slice(&line)?;
     }
     Ok(())

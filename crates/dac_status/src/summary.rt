@@ -2,13 +2,13 @@
 
 ghost use Rattle.std.specs.Prelude.{◌≡◌, ◌<◌};
 ghost use Rattle.dac_config.specs.Table.{app_count};
-ghost use Rattle.dac_status.specs.Summaries.{marks_of, lives_of, no_app, app_summary, app_summaries, summary_of};
+ghost use Rattle.dac_status.specs.Summaries.{marks_of, lives_of, drains_live, drained_of, no_app, app_summary, app_summaries, summary_of};
 
 use crate::marks::{Mark, mark_of};
 use dac_base::{AppId, MAX_APPS, MAX_NODES, NodeId};
 use dac_chains::{Claim, Life};
 use dac_config::Config;
-use dac_placement::{Verdict, verdict};
+use dac_placement::{Verdict, is_drained, verdict};
 use dac_state::State;
 
 /// Where an application stands.
@@ -33,6 +33,8 @@ pub struct Summary {
     /// The life of each node by its number, if anything was said of it. A place past the configuration's nodes
     /// is empty.
     pub lives: [Option<Life>; MAX_NODES],
+    /// Whether each node is live and drained, by its number. A place past the configuration's nodes says no.
+    pub drained: [bool; MAX_NODES],
     /// Each application by its number. A place past the configuration's applications says nothing: no claim,
     /// nobody, all down.
     pub apps: [AppSummary; MAX_APPS],
@@ -47,6 +49,7 @@ impl Summary {
             heard: state.heard().len(),
             known: state.known().len(),
             lives: lives_of(config, state),
+            drained: drained_of(config, state),
             apps: apps_of(config, state),
         }
     }
@@ -61,6 +64,27 @@ fn lives_of(config: &Config, state: &State) -> [Option<Life>; MAX_NODES]
         lives[number as usize] = state.lives().life(NodeId(number));
     }
     lives
+}
+
+/// Whether a node is live at an incarnation that is drained.
+fn drains_live(state: &State, node: NodeId) -> bool
+    ensures { result ≡ drains_live state.now node }
+{
+    match state.lives().live(node) {
+        Some(inc) => is_drained(state, node, inc),
+        None => false,
+    }
+}
+
+/// Whether each node of the configuration is live and drained, by its number.
+fn drained_of(config: &Config, state: &State) -> [bool; MAX_NODES]
+    ensures { result ≡ drained_of config.now state.now }
+{
+    let mut drained = [false; MAX_NODES];
+    for number in 0..config.nodes() {
+        drained[number as usize] = drains_live(state, NodeId(number));
+    }
+    drained
 }
 
 /// The mark of each node of the configuration, by its number.

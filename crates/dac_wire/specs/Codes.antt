@@ -1,13 +1,15 @@
 -- The codes that stand for what a packet and an act are.
-use Rattle.std.specs.Prelude.{ℕ, zero, suc, Bool, true, false, Option, None, Some}
+use Rattle.std.specs.Prelude.{ℕ, zero, suc, ◌≤◌, Bool, true, false, Option, None, Some}
+use Rattle.dac_bytes.specs.declared.version.Version.{Version}
+use Rattle.dac_bytes.specs.declared.version.Version.TheVariants.{One, Two}
 use Rattle.dac_messages.specs.declared.message.Body.{Body}
 use Rattle.dac_messages.specs.declared.message.Body.TheVariants.{Whole as WholeBody, Interval as IntervalBody, Nothing as NoBody}
 use Rattle.dac_operations.specs.declared.act.Act.{Act}
-use Rattle.dac_operations.specs.declared.act.Act.TheVariants.{Up as UpAct, Down as DownAct, Permit as PermitAct, Start as StartAct, Stop as StopAct, Claim as ClaimAct}
+use Rattle.dac_operations.specs.declared.act.Act.TheVariants.{Up as UpAct, Down as DownAct, Permit as PermitAct, Start as StartAct, Stop as StopAct, Drain as DrainAct, Claim as ClaimAct}
 use Rattle.dac_wire.specs.declared.codes.PacketKind.{PacketKind}
 use Rattle.dac_wire.specs.declared.codes.PacketKind.TheVariants.{Whole, Interval, Nothing, Single}
 use Rattle.dac_wire.specs.declared.codes.ActKind.{ActKind}
-use Rattle.dac_wire.specs.declared.codes.ActKind.TheVariants.{Up, Down, Permit, Start, Stop, Claim}
+use Rattle.dac_wire.specs.declared.codes.ActKind.TheVariants.{Up, Down, Permit, Start, Stop, Claim, Drain}
 use Rattle.dac_wire.specs.declared.packet.Packet.{Packet}
 use Rattle.dac_wire.specs.declared.packet.Packet.TheVariants as packet
 
@@ -48,8 +50,9 @@ act_code Permit = 3
 act_code Start = 4
 act_code Stop = 5
 act_code Claim = 6
+act_code Drain = 7
 
--- the kind of a code; reading refuses 0 and those above 6 before
+-- the kind of a code; reading refuses 0 and those above 7 before
 abbrev pub act_of_code : ℕ → ActKind
 act_of_code zero = Up
 act_of_code (suc zero) = Up
@@ -57,7 +60,8 @@ act_of_code (suc (suc zero)) = Down
 act_of_code (suc (suc (suc zero))) = Permit
 act_of_code (suc (suc (suc (suc zero)))) = Start
 act_of_code (suc (suc (suc (suc (suc zero))))) = Stop
-act_of_code (suc (suc (suc (suc (suc (suc n)))))) = Claim
+act_of_code (suc (suc (suc (suc (suc (suc zero)))))) = Claim
+act_of_code (suc (suc (suc (suc (suc (suc (suc n))))))) = Drain
 
 abbrev pub kind_of_act : Act → ActKind
 kind_of_act UpAct = Up
@@ -65,11 +69,21 @@ kind_of_act (DownAct node inc) = Down
 kind_of_act (PermitAct key value over) = Permit
 kind_of_act (StartAct key over) = Start
 kind_of_act (StopAct key over) = Stop
+kind_of_act (DrainAct node inc value over) = Drain
 kind_of_act (ClaimAct app term how from) = Claim
+
+-- the highest code of an act; version one has no drains
+abbrev pub highest_act : Version → ℕ
+highest_act One = 6
+highest_act Two = 7
+
+-- the version has such acts
+abbrev pub IsKindIn : Version → ActKind → Type 0
+IsKindIn version kind = act_code kind ≤ highest_act version
 
 -- ---- values
 
--- what a permit says: 0 for false, 1 for true
+-- what a permit or a drain says: 0 for false, 1 for true
 abbrev pub value_code : Bool → ℕ
 value_code false = 0
 value_code true = 1

@@ -1,4 +1,4 @@
--- Which packets have bytes that are read under a configuration.
+-- Which packets have bytes of a version that are read under a configuration.
 use Rattle.std.specs.Prelude.{◌≡◌, ℕ, ◌<◌, ◌≤◌, ◌^◌, Bool, true, false, List, length, Option, None, Some}
 use Rattle.std.specs.List.{AllByRecursion}
 use Rattle.dac_base.specs.declared.NodeId.{NodeId}
@@ -9,6 +9,7 @@ use Rattle.dac_dots.specs.declared.dot.Dot.{Dot}
 use Rattle.dac_dots.specs.declared.dot.Origin.{Origin}
 use Rattle.dac_dots.specs.Dots.{dot_cmp}
 use Rattle.dac_dots.specs.Keys.{IsRising}
+use Rattle.dac_wishes.specs.DrainsValue.{origin}
 use Rattle.dac_config.specs.Table.{Table, node_count, app_count}
 use Rattle.dac_bytes.specs.Ranges.{IsIncarnation, IsOrigin, IsDot}
 use Rattle.dac_part_bytes.specs.ChainForm.{IsFromFor}
@@ -19,10 +20,12 @@ use Rattle.dac_messages.specs.declared.message.Body.{Body}
 use Rattle.dac_messages.specs.declared.message.Body.TheVariants.{Whole, Interval, Nothing}
 use Rattle.dac_messages.specs.declared.message.Message.{Message}
 use Rattle.dac_operations.specs.declared.act.Act.{Act}
-use Rattle.dac_operations.specs.declared.act.Act.TheVariants.{Up, Down, Permit, Start, Stop, Claim}
+use Rattle.dac_operations.specs.declared.act.Act.TheVariants.{Up, Down, Permit, Start, Stop, Drain, Claim}
 use Rattle.dac_operations.specs.Operations.{Operation, fault_of}
+use Rattle.dac_wire.specs.Codes.{IsKindIn, kind_of_act}
 use Rattle.dac_wire.specs.declared.packet.Packet.{Packet}
 use Rattle.dac_wire.specs.declared.packet.Packet.TheVariants as packet
+use Rattle.dac_bytes.specs.declared.version.Version.{Version}
 
 -- ---- messages
 
@@ -33,38 +36,38 @@ is_whole (Interval s) = false
 is_whole Nothing = false
 
 -- a message is for any incarnation exactly where it brings a whole state, and else for one alone
-abbrev pub IsOnly : Bool → Option ℕ → Type 0
-IsOnly true only = only ≡ None
-IsOnly false only = (inc : ℕ) × (only ≡ Some inc) × IsIncarnation inc
+abbrev pub IsOnly : Version → Bool → Option ℕ → Type 0
+IsOnly version true only = only ≡ None
+IsOnly version false only = (inc : ℕ) × (only ≡ Some inc) × IsIncarnation version inc
 
 -- what was got, if anything, is of an incarnation of a node that there is, and a number that there can be
-abbrev pub IsAck : ℕ → Option (Origin × ℕ) → Type 0
-IsAck nodes None = Unit {0}
-IsAck nodes (Some ack) = IsOrigin nodes ack.0 × (ack.1 ≤ MAX_COUNTER)
+abbrev pub IsAck : Version → ℕ → Option (Origin × ℕ) → Type 0
+IsAck version nodes None = Unit {0}
+IsAck version nodes (Some ack) = IsOrigin version nodes ack.0 × (ack.1 ≤ MAX_COUNTER)
 
 -- the state that it brings, if any, is in form
-abbrev pub IsBody : Table → Body → Type 0
-IsBody t (Whole s) = IsInForm t s
-IsBody t (Interval s) = IsInForm t s
-IsBody t Nothing = Unit {0}
+abbrev pub IsBody : Version → Table → Body → Type 0
+IsBody version t (Whole s) = IsInForm version t s
+IsBody version t (Interval s) = IsInForm version t s
+IsBody version t Nothing = Unit {0}
 
 -- a message that can be read
-pub record IsMessage (t : Table) (m : Message) : Type 0 where
+pub record IsMessage (version : Version) (t : Table) (m : Message) : Type 0 where
   -- an incarnation of a node that there is
-  pub from : IsOrigin (node_count t) m.from
+  pub from : IsOrigin version (node_count t) m.from
   -- a node that there is
   pub to : m.to.0 < node_count t
-  pub only : IsOnly (is_whole m.body) m.only
+  pub only : IsOnly version (is_whole m.body) m.only
   -- a number of deltas that there can be
   pub up_to : m.up_to ≤ MAX_COUNTER
-  pub ack : IsAck (node_count t) m.ack
-  pub body : IsBody t m.body
+  pub ack : IsAck version (node_count t) m.ack
+  pub body : IsBody version t m.body
 
 -- ---- operations
 
 -- dots that there can be, in ascending order, and so many that their number fits its field
-pub record AreOver (nodes : ℕ) (over : List Dot) : Type 0 where
-  pub each : AllByRecursion (IsDot nodes) over
+pub record AreOver (version : Version) (nodes : ℕ) (over : List Dot) : Type 0 where
+  pub each : AllByRecursion (IsDot version nodes) over
   pub rising : IsRising dot_cmp over
   pub count : length over < 2 ^ 16
 
@@ -81,25 +84,28 @@ pub record IsClaim (t : Table) (issuer : NodeId) (claimed : AppId) (number : ℕ
   pub from : IsFromFor (node_count t) how taken
 
 -- the act of a node
-abbrev pub IsAct : Table → NodeId → Act → Type 0
-IsAct t issuer Up = Unit {0}
-IsAct t issuer (Down node inc) = (node.0 < node_count t) × IsIncarnation inc
-IsAct t issuer (Permit key value over) = IsKey t key × AreOver (node_count t) over
-IsAct t issuer (Start key over) = IsKey t key × AreOver (node_count t) over
-IsAct t issuer (Stop key over) = IsKey t key × AreOver (node_count t) over
-IsAct t issuer (Claim app term how from) = IsClaim t issuer app term how from
+abbrev pub IsAct : Version → Table → NodeId → Act → Type 0
+IsAct version t issuer Up = Unit {0}
+IsAct version t issuer (Down node inc) = (node.0 < node_count t) × IsIncarnation version inc
+IsAct version t issuer (Permit key value over) = IsKey version t key × AreOver version (node_count t) over
+IsAct version t issuer (Start key over) = IsKey version t key × AreOver version (node_count t) over
+IsAct version t issuer (Stop key over) = IsKey version t key × AreOver version (node_count t) over
+IsAct version t issuer (Drain node inc value over) = IsOrigin version (node_count t) (origin node inc) × AreOver version (node_count t) over
+IsAct version t issuer (Claim app term how from) = IsClaim t issuer app term how from
 
 -- an operation that can be read
-pub record IsOperation (t : Table) (o : Operation) : Type 0 where
+pub record IsOperation (version : Version) (t : Table) (o : Operation) : Type 0 where
   -- a dot that there can be
-  pub dot : IsDot (node_count t) o.dot
-  pub act : IsAct t o.dot.origin.node o.act
+  pub dot : IsDot version (node_count t) o.dot
+  -- an act that the version has
+  pub kind : IsKindIn version (kind_of_act o.act)
+  pub act : IsAct version t o.dot.origin.node o.act
   -- nothing keeps the two from being an operation
   pub sound : fault_of o.dot o.act ≡ None
 
 -- ---- packets
 
 -- The names, list places, numbers, orders and counts of the packet are those that its bytes can say.
-abbrev pub IsPacket : Table → Packet → Type 0
-IsPacket t (packet.Msg m) = IsMessage t m
-IsPacket t (packet.Single o) = IsOperation t o
+abbrev pub IsPacket : Version → Table → Packet → Type 0
+IsPacket version t (packet.Msg m) = IsMessage version t m
+IsPacket version t (packet.Single o) = IsOperation version t o

@@ -1,8 +1,9 @@
 //! The codes that stand for what a packet and an act are.
 ghost use Rattle.std.specs.Prelude.{◌≡◌};
-ghost use Rattle.dac_wire.specs.Codes.{act_code, act_of_code, kind_of_act, kind_of_packet, only_code, only_of_code, packet_code, packet_of_code, value_code, value_of_code};
+ghost use Rattle.dac_wire.specs.Codes.{act_code, act_of_code, highest_act, kind_of_act, kind_of_packet, only_code, only_of_code, packet_code, packet_of_code, value_code, value_of_code};
 
 use crate::packet::Packet;
+use dac_bytes::Version;
 use dac_messages::Body;
 use dac_operations::Act;
 
@@ -24,6 +25,7 @@ pub(crate) enum ActKind {
     Start,
     Stop,
     Claim,
+    Drain,
 }
 
 /// The kind of a packet, by its code. The reader refuses each code but 1 to 4 before this is asked. So 0 and those above
@@ -66,7 +68,7 @@ pub(crate) fn kind_of_packet(packet: &Packet) -> PacketKind
     }
 }
 
-/// The kind of an act, by its code. The reader refuses each code but 1 to 6 before this is asked. So 0 and those above 6
+/// The kind of an act, by its code. The reader refuses each code but 1 to 7 before this is asked. So 0 and those above 7
 /// don't come; their arms are there since a match covers all codes.
 pub(crate) fn act_of_code(code: u8) -> ActKind
     ensures { result ≡ act_of_code code }
@@ -78,7 +80,8 @@ pub(crate) fn act_of_code(code: u8) -> ActKind
         3 => ActKind::Permit,
         4 => ActKind::Start,
         5 => ActKind::Stop,
-        _ => ActKind::Claim,
+        6 => ActKind::Claim,
+        _ => ActKind::Drain,
     }
 }
 
@@ -93,6 +96,17 @@ pub(crate) fn act_code(kind: ActKind) -> u8
         ActKind::Start => 4,
         ActKind::Stop => 5,
         ActKind::Claim => 6,
+        ActKind::Drain => 7,
+    }
+}
+
+/// The highest code of an act. Version one has no drains.
+pub(crate) fn highest_act(version: Version) -> u8
+    ensures { result ≡ highest_act version }
+{
+    match version {
+        Version::One => 6,
+        Version::Two => 7,
     }
 }
 
@@ -106,11 +120,12 @@ pub(crate) fn kind_of_act(act: &Act) -> ActKind
         Act::Permit { .. } => ActKind::Permit,
         Act::Start { .. } => ActKind::Start,
         Act::Stop { .. } => ActKind::Stop,
+        Act::Drain { .. } => ActKind::Drain,
         Act::Claim { .. } => ActKind::Claim,
     }
 }
 
-/// What a permit says, by its code. The reader refuses codes above 1.
+/// What a permit or a drain says, by its code. The reader refuses codes above 1.
 pub(crate) fn value_of_code(code: u8) -> bool
     ensures { result ≡ value_of_code code }
 {
@@ -120,7 +135,7 @@ pub(crate) fn value_of_code(code: u8) -> bool
     }
 }
 
-/// The code of what a permit says.
+/// The code of what a permit or a drain says.
 pub(crate) fn value_code(value: bool) -> u8
     ensures { result ≡ value_code value }
 {
@@ -128,7 +143,7 @@ pub(crate) fn value_code(value: bool) -> u8
 }
 
 /// The incarnation that a message is for, by its code.
-pub(crate) fn only_of_code(code: u32) -> Option<u32>
+pub(crate) fn only_of_code(code: u64) -> Option<u64>
     ensures { result ≡ only_of_code code }
 {
     match code {
@@ -138,7 +153,7 @@ pub(crate) fn only_of_code(code: u32) -> Option<u32>
 }
 
 /// The code of the incarnation that a message is for.
-pub(crate) fn only_code(only: Option<u32>) -> u32
+pub(crate) fn only_code(only: Option<u64>) -> u64
     ensures { result ≡ only_code only }
 {
     match only {

@@ -1,12 +1,13 @@
 //! Packets as bytes, and from bytes.
 ghost use Rattle.std.specs.Prelude.{◌≡◌, ◌≤◌, ◌<◌, IfErr, IfOk, Ok, length};
-ghost use Rattle.dac_wire.specs.Decoding.{front_fault, packet_at};
+ghost use Rattle.dac_wire.specs.Decoding.{front_fault, packet_at, packet_in, version_in};
 ghost use Rattle.dac_bytes.specs.Reading.{after, whole};
 ghost use Rattle.dac_wire.specs.Encoding.{IsEncodeFault};
 ghost use Rattle.dac_wire.specs.Faults.{Gives, in_packet};
 ghost use Rattle.dac_wire.specs.Reading.{fields_at};
 ghost use Rattle.dac_wire.specs.Form.{IsPacket};
-ghost use Rattle.dac_wire.specs.Spelling.{preamble_bytes, spelling_of};
+ghost use Rattle.dac_wire.specs.Spelling.{name_bytes, packet_bytes, preamble_bytes, spelling_of, version_byte};
+ghost use Rattle.dac_bytes.specs.declared.version.Version.{Version};
 ghost use Rattle.dac_wire.specs.declared.packet.Packet.{Packet};
 
 use crate::codes::{kind_of_packet, packet_code};
@@ -15,7 +16,7 @@ use crate::packet::{MAX_MESSAGE, Packet};
 use crate::reading_messages::read_fields;
 use crate::writing::write_content;
 use dac_base::NoMemory;
-use dac_bytes::{ByteReader, ByteWriter};
+use dac_bytes::{ByteReader, ByteWriter, Version};
 use dac_config::Config;
 use dac_part_bytes::laws::parts_have_one_spelling;
 use dac_state::laws::states_have_one_spelling;
@@ -24,30 +25,43 @@ use std::alloc::Global;
 /// The name of the format.
 const MAGIC: [u8; 3] = *b"DAC";
 
-/// The version of the format.
-const VERSION: u8 = 1;
-
-/// The name of the format, and its version.
-const MAGIC_AND_VERSION: [u8; 4] = [MAGIC[0], MAGIC[1], MAGIC[2], VERSION];
-
 /// How many bytes come before what a packet is: the name, the version and the mark.
 const PREAMBLE: usize = 12;
 
-/// The name of the format, its version, and the mark of the configuration.
-#[tactic(auto, unfolding(crate::specs::Spelling::preamble_bytes, dac_bytes::specs::Numbers::u8_bytes, dac_bytes::specs::Numbers::u64_bytes))]
-fn preamble(config: &Config) -> [u8; PREAMBLE]
-    ensures { result ≡ preamble_bytes config.now }
+/// The byte of a version.
+fn version_byte(version: Version) -> u8
+    ensures { result ≡ version_byte version }
 {
+    match version {
+        Version::One => 1,
+        Version::Two => 2,
+    }
+}
+
+/// The name of the format, and the version.
+fn name(version: Version) -> [u8; 4]
+    ensures { result ≡ name_bytes version }
+{
+    let [d, a, c] = MAGIC;
+    [d, a, c, version_byte(version)]
+}
+
+/// The name of the format, the version, and the mark of the configuration.
+#[tactic(auto, unfolding(crate::specs::Spelling::preamble_bytes, dac_bytes::specs::Numbers::u64_bytes))]
+fn preamble(version: Version, config: &Config) -> [u8; PREAMBLE]
+    ensures { result ≡ preamble_bytes version config.now }
+{
+    let fourth = version_byte(version);
     let mark = config.mark().to_be_bytes();
     let [d, a, c] = MAGIC;
     [
-        d, a, c, VERSION, mark[0], mark[1], mark[2], mark[3], mark[4], mark[5], mark[6], mark[7],
+        d, a, c, fourth, mark[0], mark[1], mark[2], mark[3], mark[4], mark[5], mark[6], mark[7],
     ]
 }
 
-/// What is wrong with the front of the bytes, if anything.
-fn front_fault(config: &Config, bytes: &[u8]) -> Option<WireFault>
-    ensures { result ≡ front_fault config.now bytes.now }
+/// What is wrong with the front of bytes of a version, if anything.
+fn front_fault(version: Version, config: &Config, bytes: &[u8]) -> Option<WireFault>
+    ensures { result ≡ front_fault version config.now bytes.now }
 {
     if bytes.len() > MAX_MESSAGE {
         return Some(WireFault::new(WireFaultKind::TooLong, MAX_MESSAGE));
@@ -55,64 +69,98 @@ fn front_fault(config: &Config, bytes: &[u8]) -> Option<WireFault>
     if !bytes.starts_with(&MAGIC) {
         return Some(WireFault::new(WireFaultKind::BadMagic, 0));
     }
-    if !bytes.starts_with(&MAGIC_AND_VERSION) {
+    if !bytes.starts_with(&name(version)) {
         return Some(WireFault::new(WireFaultKind::BadVersion, 3));
     }
     if bytes.len() < PREAMBLE {
         return Some(WireFault::new(WireFaultKind::Short, 4));
     }
-    if !bytes.starts_with(&preamble(config)) {
+    if !bytes.starts_with(&preamble(version, config)) {
         return Some(WireFault::new(WireFaultKind::OtherConfig, 4));
     }
     None
 }
 
-/// The packet of bytes whose front is right.
-fn decode_fields(alloc: Global, config: &Config, bytes: &[u8]) -> Result<Packet, WireFault>
+/// The packet of bytes of a version whose front is right.
+fn decode_fields(
+    alloc: Global,
+    version: Version,
+    config: &Config,
+    bytes: &[u8],
+) -> Result<Packet, WireFault>
     requires { PREAMBLE ≤ length bytes.now }
-    ensures { Gives result (in_packet (fields_at config.now (after PREAMBLE (whole bytes.now)))) }
+    ensures { Gives result (in_packet (fields_at version config.now (after PREAMBLE (whole bytes.now)))) }
 {
-    match read_fields(ByteReader::behind(bytes, PREAMBLE), alloc, config) {
+    match read_fields(ByteReader::behind(bytes, PREAMBLE), alloc, version, config) {
         Ok(packet) => Ok(packet),
         Err(fault) => Err(WireFault::of_field(fault)),
     }
 }
 
-/// The packet that the bytes spell under a configuration.
-///
-/// More than 4,194,304 bytes are `TooLong` at 4,194,304. Bytes that don't begin with `DAC` are `BadMagic` at 0, and
-/// those whose fourth isn't 1 `BadVersion` at 3. A mark that isn't whole is `Short` at 4, and one of another
-/// configuration `OtherConfig` at 4. Then each field is checked as it is read. The fault, with its byte counted from
-/// 0, is the one that the reading function `packet_at` gives. `NoMemory` stands at 0, and says nothing of the bytes.
-pub fn decode(alloc: Global, config: &Config, bytes: &[u8]) -> Result<Packet, WireFault>
-    // What is read is spelled so, and in form.
-    ensures found { IfOk result (λ p. IsPacket config.now p × (bytes.now ≡ spelling_of config.now p) × (length bytes.now ≤ MAX_MESSAGE)) }
-    // What is spelled so and in form is read, unless memory runs out.
-    ensures only { (p : Packet) → IsPacket config.now p → bytes.now ≡ spelling_of config.now p → length bytes.now ≤ MAX_MESSAGE → Gives result (Ok p) }
-    // Which fault it is: the one that reading from left to right gives.
-    ensures exact { Gives result (packet_at config.now bytes.now) }
+/// The packet that bytes of a version spell under a configuration.
+fn decode_in(
+    alloc: Global,
+    version: Version,
+    config: &Config,
+    bytes: &[u8],
+) -> Result<Packet, WireFault>
+    ensures found { IfOk result (λ p. IsPacket version config.now p × (bytes.now ≡ packet_bytes version config.now p) × (length bytes.now ≤ MAX_MESSAGE)) }
+    ensures only { (p : Packet) → IsPacket version config.now p → bytes.now ≡ packet_bytes version config.now p → length bytes.now ≤ MAX_MESSAGE → Gives result (Ok p) }
+    ensures exact { Gives result (packet_in version config.now bytes.now) }
 {
     parts_have_one_spelling(config);
     states_have_one_spelling(config);
-    match front_fault(config, bytes) {
+    match front_fault(version, config, bytes) {
         Some(fault) => Err(fault),
-        None => decode_fields(alloc, config, bytes),
+        None => decode_fields(alloc, version, config, bytes),
     }
 }
 
+/// The version that bytes are read by: one where they name it, and else two.
+#[tactic(auto, unfolding(crate::specs::Decoding::version_in))]
+fn version_in(bytes: &[u8]) -> Version
+    ensures { result ≡ version_in bytes.now }
+{
+    if bytes.starts_with(&name(Version::One)) {
+        Version::One
+    } else {
+        Version::Two
+    }
+}
+
+/// The packet that the bytes spell under a configuration, in version 1 or 2.
+///
+/// More than 4,194,304 bytes are `TooLong` at 4,194,304. Bytes that don't begin with `DAC` are `BadMagic` at 0, and
+/// those whose fourth is neither 1 nor 2 `BadVersion` at 3. A mark that isn't whole is `Short` at 4, and one of another
+/// configuration `OtherConfig` at 4. Then each field is checked as it is read. The fault, with its byte counted from
+/// 0, is the one that the reading function `packet_at` gives. `NoMemory` stands at 0, and says nothing of the bytes.
+///
+/// Version 1 has incarnations in four bytes, and no drains.
+pub fn decode(alloc: Global, config: &Config, bytes: &[u8]) -> Result<Packet, WireFault>
+    // What is read is spelled so in some version, and in form for it.
+    ensures found { IfOk result (λ p. (version : Version) × IsPacket version config.now p × (bytes.now ≡ packet_bytes version config.now p) × (length bytes.now ≤ MAX_MESSAGE)) }
+    // What is spelled so and in form is read, unless memory runs out.
+    ensures only { (version : Version) (p : Packet) → IsPacket version config.now p → bytes.now ≡ packet_bytes version config.now p → length bytes.now ≤ MAX_MESSAGE → Gives result (Ok p) }
+    // Which fault it is: the one that reading from left to right gives.
+    ensures exact { Gives result (packet_at config.now bytes.now) }
+{
+    let version = version_in(bytes);
+    decode_in(alloc, version, config, bytes)
+}
+
 /// All bytes of a packet.
-#[tactic(auto, unfolding(crate::specs::Spelling::spelling_of))]
+#[tactic(auto, unfolding(crate::specs::Spelling::packet_bytes))]
 fn spell(alloc: Global, config: &Config, packet: &Packet) -> Result<Vec<u8>, NoMemory>
     ensures { IfOk result (λ bytes. bytes.items ≡ spelling_of config.now packet.now) }
 {
     let head = ByteWriter::new(alloc)
-        .write_bytes(&preamble(config))?
+        .write_bytes(&preamble(Version::Two, config))?
         .write_u8(packet_code(kind_of_packet(packet)))?;
     let written = write_content(head, packet)?;
     Ok(written.into_bytes())
 }
 
-/// The bytes of a packet under a configuration, version 1. Equal packets have equal bytes.
+/// The bytes of a packet under a configuration, version 2. Equal packets have equal bytes.
 ///
 /// More than 4,194,304 bytes are `TooLong` at 4,194,304, and memory that is refused is `NoMemory` at 0. There is no
 /// other fault. All bytes are written before they are counted, so memory may be refused for a packet that is too long.

@@ -11,7 +11,7 @@ pub(crate) struct Head {
     /// The node that it is for.
     pub to: NodeId,
     /// The incarnation of that node that it is for, where it is for one alone.
-    pub only: Option<u32>,
+    pub only: Option<u64>,
     /// How many deltas the sender had.
     pub up_to: u64,
     /// What the sender got of the receiver.

@@ -8,7 +8,7 @@ use crate::head::Head;
 use crate::packet::Packet;
 use crate::reading_operations::read_operation;
 use dac_base::{MAX_COUNTER, NodeId};
-use dac_bytes::{ByteReader, ReadFault, ReadFaultKind};
+use dac_bytes::{ByteReader, ReadFault, ReadFaultKind, Version};
 use dac_config::Config;
 use dac_dots::Origin;
 use dac_messages::{Body, Message};
@@ -19,18 +19,19 @@ use std::alloc::Global;
 #[tactic(auto, unfolding(crate::specs::Reading::route_at))]
 fn read_route<'a>(
     reader: ByteReader<'a>,
+    version: Version,
     nodes: u8,
 ) -> Result<((Origin, NodeId), ByteReader<'a>), ReadFault>
-    ensures exact { result ≡ route_at nodes reader.entry }
+    ensures exact { result ≡ route_at version nodes reader.entry }
     ensures real { IsOfBytes result }
 {
-    let (from, rest) = reader.read_origin(nodes)?;
+    let (from, rest) = reader.read_origin(version, nodes)?;
     let (to, rest) = rest.read_node(nodes)?;
     Ok(((from, to), rest))
 }
 
 /// Whether the code is 0 exactly where a whole state is brought.
-fn is_only_of(whole: bool, code: u32) -> bool
+fn is_only_of(whole: bool, code: u64) -> bool
     ensures { result ≡ is_only_of whole code }
 {
     if whole { code == 0 } else { 0 < code }
@@ -40,13 +41,14 @@ fn is_only_of(whole: bool, code: u32) -> bool
 #[tactic(auto, unfolding(crate::specs::Reading::only_code_at))]
 fn read_only_code<'a>(
     reader: ByteReader<'a>,
+    version: Version,
     whole: bool,
-) -> Result<(u32, ByteReader<'a>), ReadFault>
-    ensures exact { result ≡ only_code_at whole reader.entry }
+) -> Result<(u64, ByteReader<'a>), ReadFault>
+    ensures exact { result ≡ only_code_at version whole reader.entry }
     ensures real { IsOfBytes result }
 {
     let at = reader.at();
-    let (code, rest) = reader.read_u32()?;
+    let (code, rest) = reader.read_incarnation_or_zero(version)?;
     if is_only_of(whole, code) {
         Ok((code, rest))
     } else {
@@ -58,12 +60,13 @@ fn read_only_code<'a>(
 #[tactic(auto, unfolding(crate::specs::Reading::only_at))]
 fn read_only<'a>(
     reader: ByteReader<'a>,
+    version: Version,
     whole: bool,
-) -> Result<(Option<u32>, ByteReader<'a>), ReadFault>
-    ensures exact { result ≡ only_at whole reader.entry }
+) -> Result<(Option<u64>, ByteReader<'a>), ReadFault>
+    ensures exact { result ≡ only_at version whole reader.entry }
     ensures real { IsOfBytes result }
 {
-    let (code, rest) = read_only_code(reader, whole)?;
+    let (code, rest) = read_only_code(reader, version, whole)?;
     Ok((only_of_code(code), rest))
 }
 
@@ -71,12 +74,13 @@ fn read_only<'a>(
 #[tactic(auto, unfolding(crate::specs::Reading::got_at))]
 fn read_got<'a>(
     reader: ByteReader<'a>,
+    version: Version,
     nodes: u8,
 ) -> Result<((Origin, u64), ByteReader<'a>), ReadFault>
-    ensures exact { result ≡ got_at nodes reader.entry }
+    ensures exact { result ≡ got_at version nodes reader.entry }
     ensures real { IsOfBytes result }
 {
-    let (origin, rest) = reader.read_origin(nodes)?;
+    let (origin, rest) = reader.read_origin(version, nodes)?;
     let (count, rest) = rest.read_u64_in(0, MAX_COUNTER)?;
     Ok(((origin, count), rest))
 }
@@ -85,16 +89,17 @@ fn read_got<'a>(
 #[tactic(auto, unfolding(crate::specs::Reading::got_if_at))]
 fn read_got_if<'a>(
     reader: ByteReader<'a>,
+    version: Version,
     nodes: u8,
     code: u8,
 ) -> Result<(Option<(Origin, u64)>, ByteReader<'a>), ReadFault>
-    ensures exact { result ≡ got_if_at nodes code reader.entry }
+    ensures exact { result ≡ got_if_at version nodes code reader.entry }
     ensures real { IsOfBytes result }
 {
     match code {
         0 => Ok((None, reader)),
         _ => {
-            let (got, rest) = read_got(reader, nodes)?;
+            let (got, rest) = read_got(reader, version, nodes)?;
             Ok((Some(got), rest))
         }
     }
@@ -104,13 +109,14 @@ fn read_got_if<'a>(
 #[tactic(auto, unfolding(crate::specs::Reading::ack_at))]
 fn read_ack<'a>(
     reader: ByteReader<'a>,
+    version: Version,
     nodes: u8,
 ) -> Result<(Option<(Origin, u64)>, ByteReader<'a>), ReadFault>
-    ensures exact { result ≡ ack_at nodes reader.entry }
+    ensures exact { result ≡ ack_at version nodes reader.entry }
     ensures real { IsOfBytes result }
 {
     let (code, rest) = reader.read_u8_in(0, 1)?;
-    let read = read_got_if(rest, nodes, code)?;
+    let read = read_got_if(rest, version, nodes, code)?;
     Ok(read)
 }
 
@@ -119,12 +125,16 @@ type Counts = (u64, Option<(Origin, u64)>);
 
 /// How many deltas the sender had, and what it got.
 #[tactic(auto, unfolding(crate::specs::Reading::counts_at))]
-fn read_counts<'a>(reader: ByteReader<'a>, nodes: u8) -> Result<(Counts, ByteReader<'a>), ReadFault>
-    ensures exact { result ≡ counts_at nodes reader.entry }
+fn read_counts<'a>(
+    reader: ByteReader<'a>,
+    version: Version,
+    nodes: u8,
+) -> Result<(Counts, ByteReader<'a>), ReadFault>
+    ensures exact { result ≡ counts_at version nodes reader.entry }
     ensures real { IsOfBytes result }
 {
     let (up_to, rest) = reader.read_u64_in(0, MAX_COUNTER)?;
-    let (ack, rest) = read_ack(rest, nodes)?;
+    let (ack, rest) = read_ack(rest, version, nodes)?;
     Ok(((up_to, ack), rest))
 }
 
@@ -132,14 +142,15 @@ fn read_counts<'a>(reader: ByteReader<'a>, nodes: u8) -> Result<(Counts, ByteRea
 #[tactic(auto, unfolding(crate::specs::Reading::bound_at))]
 fn read_bound<'a>(
     reader: ByteReader<'a>,
+    version: Version,
     nodes: u8,
     whole: bool,
-) -> Result<((Option<u32>, Counts), ByteReader<'a>), ReadFault>
-    ensures exact { result ≡ bound_at nodes whole reader.entry }
+) -> Result<((Option<u64>, Counts), ByteReader<'a>), ReadFault>
+    ensures exact { result ≡ bound_at version nodes whole reader.entry }
     ensures real { IsOfBytes result }
 {
-    let (only, rest) = read_only(reader, whole)?;
-    let (counts, rest) = read_counts(rest, nodes)?;
+    let (only, rest) = read_only(reader, version, whole)?;
+    let (counts, rest) = read_counts(rest, version, nodes)?;
     Ok(((only, counts), rest))
 }
 
@@ -147,14 +158,15 @@ fn read_bound<'a>(
 #[tactic(auto, unfolding(crate::specs::Reading::head_at))]
 fn read_head<'a>(
     reader: ByteReader<'a>,
+    version: Version,
     nodes: u8,
     whole: bool,
 ) -> Result<(Head, ByteReader<'a>), ReadFault>
-    ensures exact { result ≡ head_at nodes whole reader.entry }
+    ensures exact { result ≡ head_at version nodes whole reader.entry }
     ensures real { IsOfBytes result }
 {
-    let ((from, to), rest) = read_route(reader, nodes)?;
-    let ((only, (up_to, ack)), rest) = read_bound(rest, nodes, whole)?;
+    let ((from, to), rest) = read_route(reader, version, nodes)?;
+    let ((only, (up_to, ack)), rest) = read_bound(rest, version, nodes, whole)?;
     let head = Head {
         from,
         to,
@@ -184,13 +196,14 @@ fn message_of(head: Head, body: Body) -> Message
 fn read_head_and_state<'a>(
     reader: ByteReader<'a>,
     alloc: Global,
+    version: Version,
     config: &Config,
     whole: bool,
 ) -> Result<((Head, State), ByteReader<'a>), ReadFault>
-    ensures { Gives (λ x. x) result (head_and_state_at config.now whole reader.entry) }
+    ensures { Gives (λ x. x) result (head_and_state_at version config.now whole reader.entry) }
 {
-    let (head, rest) = read_head(reader, config.nodes(), whole)?;
-    let (state, rest) = State::read(rest, alloc, config)?;
+    let (head, rest) = read_head(reader, version, config.nodes(), whole)?;
+    let (state, rest) = State::read(rest, alloc, version, config)?;
     Ok(((head, state), rest))
 }
 
@@ -209,26 +222,27 @@ fn read_packet_kind<'a>(reader: ByteReader<'a>) -> Result<(PacketKind, ByteReade
 fn read_content<'a>(
     reader: ByteReader<'a>,
     alloc: Global,
+    version: Version,
     config: &Config,
     kind: PacketKind,
 ) -> Result<(Packet, ByteReader<'a>), ReadFault>
-    ensures { Gives (λ x. x) result (content_at config.now kind reader.entry) }
+    ensures { Gives (λ x. x) result (content_at version config.now kind reader.entry) }
 {
     match kind {
         PacketKind::Whole => {
-            let ((head, state), rest) = read_head_and_state(reader, alloc, config, true)?;
+            let ((head, state), rest) = read_head_and_state(reader, alloc, version, config, true)?;
             Ok((Packet::Msg(message_of(head, Body::Whole(state))), rest))
         }
         PacketKind::Interval => {
-            let ((head, state), rest) = read_head_and_state(reader, alloc, config, false)?;
+            let ((head, state), rest) = read_head_and_state(reader, alloc, version, config, false)?;
             Ok((Packet::Msg(message_of(head, Body::Interval(state))), rest))
         }
         PacketKind::Nothing => {
-            let (head, rest) = read_head(reader, config.nodes(), false)?;
+            let (head, rest) = read_head(reader, version, config.nodes(), false)?;
             Ok((Packet::Msg(message_of(head, Body::Nothing)), rest))
         }
         PacketKind::Single => {
-            let (op, rest) = read_operation(reader, alloc, config)?;
+            let (op, rest) = read_operation(reader, alloc, version, config)?;
             Ok((Packet::Single(op), rest))
         }
     }
@@ -239,12 +253,13 @@ fn read_content<'a>(
 fn read_kind_and_content<'a>(
     reader: ByteReader<'a>,
     alloc: Global,
+    version: Version,
     config: &Config,
 ) -> Result<(Packet, ByteReader<'a>), ReadFault>
-    ensures { Gives (λ x. x) result (kind_and_content_at config.now reader.entry) }
+    ensures { Gives (λ x. x) result (kind_and_content_at version config.now reader.entry) }
 {
     let (kind, rest) = read_packet_kind(reader)?;
-    let read = read_content(rest, alloc, config, kind)?;
+    let read = read_content(rest, alloc, version, config, kind)?;
     Ok(read)
 }
 
@@ -253,11 +268,12 @@ fn read_kind_and_content<'a>(
 pub(crate) fn read_fields<'a>(
     reader: ByteReader<'a>,
     alloc: Global,
+    version: Version,
     config: &Config,
 ) -> Result<Packet, ReadFault>
-    ensures { Gives (λ p. p) result (fields_at config.now reader.entry) }
+    ensures { Gives (λ p. p) result (fields_at version config.now reader.entry) }
 {
-    let (packet, rest) = read_kind_and_content(reader, alloc, config)?;
+    let (packet, rest) = read_kind_and_content(reader, alloc, version, config)?;
     if rest.is_at_end() {
         Ok(packet)
     } else {

@@ -3,14 +3,14 @@ ghost use Rattle.std.specs.Prelude.{◌≡◌, ◌<◌, None, Some, IfOk};
 ghost use Rattle.dac_base.specs.declared.NodeId.{NodeId};
 ghost use Rattle.dac_config.specs.Table.{app_count};
 ghost use Rattle.dac_bytes.specs.Reading.{Gives, IsOfBytes, dot_above_at, items_at};
-ghost use Rattle.dac_wire.specs.Reading.{act_at, act_fields_at, act_kind_at, claim_fields_at, dot_and_act_at, keyed_over_at, listed_claim_at, operation_at, over_at, permit_fields_at, term_and_manner_at, valued_over_at};
+ghost use Rattle.dac_wire.specs.Reading.{act_at, act_fields_at, act_kind_at, claim_fields_at, dot_and_act_at, drain_fields_at, keyed_over_at, listed_claim_at, operation_at, over_at, permit_fields_at, term_and_manner_at, valued_over_at};
 
-use crate::codes::{ActKind, act_of_code, value_of_code};
+use crate::codes::{ActKind, act_of_code, highest_act, value_of_code};
 use dac_base::{AppId, MAX_COUNTER, NodeId};
-use dac_bytes::{ByteReader, ReadFault, ReadFaultKind};
+use dac_bytes::{ByteReader, ReadFault, ReadFaultKind, Version};
 use dac_chains::How;
 use dac_config::Config;
-use dac_dots::Dot;
+use dac_dots::{Dot, Origin};
 use dac_operations::{Act, Op};
 use dac_part_bytes::{read_app, read_key, read_manner};
 use dac_wishes::{DotList, Key};
@@ -20,16 +20,17 @@ use std::alloc::Global;
 fn read_dots<'a>(
     reader: ByteReader<'a>,
     alloc: Global,
+    version: Version,
     nodes: u8,
     count: u16,
 ) -> Result<(Vec<Dot>, ByteReader<'a>), ReadFault>
-    ensures { Gives (λ x. (x.0.items, x.1)) result (items_at (dot_above_at nodes) Some count None reader.entry) }
+    ensures { Gives (λ x. (x.0.items, x.1)) result (items_at (dot_above_at version nodes) Some count None reader.entry) }
 {
     let mut dots = Vec::new(alloc);
     let mut before = None;
     let mut rest = reader;
     for _ in 0..count {
-        let (dot, after) = rest.read_dot_above(nodes, before)?;
+        let (dot, after) = rest.read_dot_above(version, nodes, before)?;
         dots.push(dot)?;
         before = Some(dot);
         rest = after;
@@ -42,12 +43,13 @@ fn read_dots<'a>(
 fn read_over<'a>(
     reader: ByteReader<'a>,
     alloc: Global,
+    version: Version,
     nodes: u8,
 ) -> Result<(DotList, ByteReader<'a>), ReadFault>
-    ensures { Gives (λ x. x) result (over_at nodes reader.entry) }
+    ensures { Gives (λ x. x) result (over_at version nodes reader.entry) }
 {
     let (count, rest) = reader.read_u16()?;
-    let (dots, rest) = read_dots(rest, alloc, nodes, count)?;
+    let (dots, rest) = read_dots(rest, alloc, version, nodes, count)?;
     Ok((DotList::new(dots), rest))
 }
 
@@ -56,26 +58,28 @@ fn read_over<'a>(
 fn read_keyed_over<'a>(
     reader: ByteReader<'a>,
     alloc: Global,
+    version: Version,
     config: &Config,
 ) -> Result<((Key, DotList), ByteReader<'a>), ReadFault>
-    ensures { Gives (λ x. x) result (keyed_over_at config.now reader.entry) }
+    ensures { Gives (λ x. x) result (keyed_over_at version config.now reader.entry) }
 {
-    let (key, rest) = read_key(reader, config, None)?;
-    let (over, rest) = read_over(rest, alloc, config.nodes())?;
+    let (key, rest) = read_key(reader, version, config, None)?;
+    let (over, rest) = read_over(rest, alloc, version, config.nodes())?;
     Ok(((key, over), rest))
 }
 
-/// What a permit says, and the dots that it replaces.
+/// What a permit or a drain says, and the dots that it replaces.
 #[tactic(auto, unfolding(crate::specs::Reading::valued_over_at))]
 fn read_valued_over<'a>(
     reader: ByteReader<'a>,
     alloc: Global,
+    version: Version,
     nodes: u8,
 ) -> Result<((bool, DotList), ByteReader<'a>), ReadFault>
-    ensures { Gives (λ x. x) result (valued_over_at nodes reader.entry) }
+    ensures { Gives (λ x. x) result (valued_over_at version nodes reader.entry) }
 {
     let (code, rest) = reader.read_u8_in(0, 1)?;
-    let (over, rest) = read_over(rest, alloc, nodes)?;
+    let (over, rest) = read_over(rest, alloc, version, nodes)?;
     Ok(((value_of_code(code), over), rest))
 }
 
@@ -84,13 +88,29 @@ fn read_valued_over<'a>(
 fn read_permit_fields<'a>(
     reader: ByteReader<'a>,
     alloc: Global,
+    version: Version,
     config: &Config,
 ) -> Result<((Key, (bool, DotList)), ByteReader<'a>), ReadFault>
-    ensures { Gives (λ x. x) result (permit_fields_at config.now reader.entry) }
+    ensures { Gives (λ x. x) result (permit_fields_at version config.now reader.entry) }
 {
-    let (key, rest) = read_key(reader, config, None)?;
-    let (valued, rest) = read_valued_over(rest, alloc, config.nodes())?;
+    let (key, rest) = read_key(reader, version, config, None)?;
+    let (valued, rest) = read_valued_over(rest, alloc, version, config.nodes())?;
     Ok(((key, valued), rest))
+}
+
+/// The fields of a drain.
+#[tactic(auto, unfolding(crate::specs::Reading::drain_fields_at))]
+fn read_drain_fields<'a>(
+    reader: ByteReader<'a>,
+    alloc: Global,
+    version: Version,
+    config: &Config,
+) -> Result<((Origin, (bool, DotList)), ByteReader<'a>), ReadFault>
+    ensures { Gives (λ x. x) result (drain_fields_at version config.now reader.entry) }
+{
+    let (at, rest) = reader.read_origin(version, config.nodes())?;
+    let (valued, rest) = read_valued_over(rest, alloc, version, config.nodes())?;
+    Ok(((at, valued), rest))
 }
 
 /// How an application came to its node, and from which.
@@ -146,11 +166,14 @@ fn read_listed_claim<'a>(
 
 /// Which act it is.
 #[tactic(auto, unfolding(crate::specs::Reading::act_kind_at))]
-fn read_act_kind<'a>(reader: ByteReader<'a>) -> Result<(ActKind, ByteReader<'a>), ReadFault>
-    ensures exact { result ≡ act_kind_at reader.entry }
+fn read_act_kind<'a>(
+    reader: ByteReader<'a>,
+    version: Version,
+) -> Result<(ActKind, ByteReader<'a>), ReadFault>
+    ensures exact { result ≡ act_kind_at version reader.entry }
     ensures real { IsOfBytes result }
 {
-    let (code, rest) = reader.read_u8_in(1, 6)?;
+    let (code, rest) = reader.read_u8_in(1, highest_act(version))?;
     Ok((act_of_code(code), rest))
 }
 
@@ -159,16 +182,17 @@ fn read_act_kind<'a>(reader: ByteReader<'a>) -> Result<(ActKind, ByteReader<'a>)
 fn read_act_fields<'a>(
     reader: ByteReader<'a>,
     alloc: Global,
+    version: Version,
     config: &Config,
     issuer: NodeId,
     kind: ActKind,
 ) -> Result<(Act, ByteReader<'a>), ReadFault>
-    ensures { Gives (λ x. x) result (act_fields_at config.now issuer kind reader.entry) }
+    ensures { Gives (λ x. x) result (act_fields_at version config.now issuer kind reader.entry) }
 {
     match kind {
         ActKind::Up => Ok((Act::Up, reader)),
         ActKind::Down => {
-            let (about, rest) = reader.read_origin(config.nodes())?;
+            let (about, rest) = reader.read_origin(version, config.nodes())?;
             let down = Act::Down {
                 node: about.node,
                 inc: about.inc,
@@ -176,16 +200,26 @@ fn read_act_fields<'a>(
             Ok((down, rest))
         }
         ActKind::Permit => {
-            let ((key, (value, over)), rest) = read_permit_fields(reader, alloc, config)?;
+            let ((key, (value, over)), rest) = read_permit_fields(reader, alloc, version, config)?;
             Ok((Act::Permit { key, value, over }, rest))
         }
         ActKind::Start => {
-            let ((key, over), rest) = read_keyed_over(reader, alloc, config)?;
+            let ((key, over), rest) = read_keyed_over(reader, alloc, version, config)?;
             Ok((Act::Start { key, over }, rest))
         }
         ActKind::Stop => {
-            let ((key, over), rest) = read_keyed_over(reader, alloc, config)?;
+            let ((key, over), rest) = read_keyed_over(reader, alloc, version, config)?;
             Ok((Act::Stop { key, over }, rest))
+        }
+        ActKind::Drain => {
+            let ((at, (value, over)), rest) = read_drain_fields(reader, alloc, version, config)?;
+            let drain = Act::Drain {
+                node: at.node,
+                inc: at.inc,
+                value,
+                over,
+            };
+            Ok((drain, rest))
         }
         ActKind::Claim => {
             let ((app, (term, (how, from))), rest) = read_listed_claim(reader, config, issuer)?;
@@ -205,13 +239,14 @@ fn read_act_fields<'a>(
 fn read_act<'a>(
     reader: ByteReader<'a>,
     alloc: Global,
+    version: Version,
     config: &Config,
     issuer: NodeId,
 ) -> Result<(Act, ByteReader<'a>), ReadFault>
-    ensures { Gives (λ x. x) result (act_at config.now issuer reader.entry) }
+    ensures { Gives (λ x. x) result (act_at version config.now issuer reader.entry) }
 {
-    let (kind, rest) = read_act_kind(reader)?;
-    let read = read_act_fields(rest, alloc, config, issuer, kind)?;
+    let (kind, rest) = read_act_kind(reader, version)?;
+    let read = read_act_fields(rest, alloc, version, config, issuer, kind)?;
     Ok(read)
 }
 
@@ -220,12 +255,13 @@ fn read_act<'a>(
 fn read_dot_and_act<'a>(
     reader: ByteReader<'a>,
     alloc: Global,
+    version: Version,
     config: &Config,
 ) -> Result<((Dot, Act), ByteReader<'a>), ReadFault>
-    ensures { Gives (λ x. (record { dot = x.0.0; act = x.0.1 }, x.1)) result (dot_and_act_at config.now reader.entry) }
+    ensures { Gives (λ x. (record { dot = x.0.0; act = x.0.1 }, x.1)) result (dot_and_act_at version config.now reader.entry) }
 {
-    let (dot, rest) = reader.read_dot(config.nodes())?;
-    let (act, rest) = read_act(rest, alloc, config, dot.origin.node)?;
+    let (dot, rest) = reader.read_dot(version, config.nodes())?;
+    let (act, rest) = read_act(rest, alloc, version, config, dot.origin.node)?;
     Ok(((dot, act), rest))
 }
 
@@ -239,12 +275,13 @@ fn read_dot_and_act<'a>(
 pub(crate) fn read_operation<'a>(
     reader: ByteReader<'a>,
     alloc: Global,
+    version: Version,
     config: &Config,
 ) -> Result<(Op, ByteReader<'a>), ReadFault>
-    ensures { Gives (λ x. x) result (operation_at config.now reader.entry) }
+    ensures { Gives (λ x. x) result (operation_at version config.now reader.entry) }
 {
     let at = reader.at();
-    let ((dot, act), rest) = read_dot_and_act(reader, alloc, config)?;
+    let ((dot, act), rest) = read_dot_and_act(reader, alloc, version, config)?;
     match Op::new(dot, act) {
         Ok(op) => Ok((op, rest)),
         Err(_) => Err(ReadFault::new(ReadFaultKind::BadNumber, at)),

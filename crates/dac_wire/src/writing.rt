@@ -1,11 +1,12 @@
 //! The writing side: each part after what a writer has.
 ghost use Rattle.std.specs.Prelude.{◌≡◌, ◌++◌, IfOk};
+ghost use Rattle.dac_bytes.specs.declared.version.Version.TheVariants.{Two};
 ghost use Rattle.dac_wire.specs.Spelling.{ack_bytes, act_bytes, act_fields_bytes, body_bytes, content_bytes, message_bytes, operation_bytes, over_bytes};
 
 use crate::codes::{act_code, kind_of_act, only_code, value_code};
 use crate::packet::Packet;
 use dac_base::NoMemory;
-use dac_bytes::ByteWriter;
+use dac_bytes::{ByteWriter, Version};
 use dac_dots::{Dot, Origin};
 use dac_messages::{Body, Message};
 use dac_operations::{Act, Op};
@@ -14,7 +15,7 @@ use dac_part_bytes::{write_key, write_manner};
 /// What was got of the receiver, if anything.
 #[tactic(auto, unfolding(crate::specs::Spelling::ack_bytes))]
 fn write_ack(writer: ByteWriter, ack: Option<(Origin, u64)>) -> Result<ByteWriter, NoMemory>
-    ensures { IfOk result (λ written. written ≡ writer ++ ack_bytes ack) }
+    ensures { IfOk result (λ written. written ≡ writer ++ ack_bytes Two ack) }
 {
     match ack {
         None => {
@@ -22,7 +23,10 @@ fn write_ack(writer: ByteWriter, ack: Option<(Origin, u64)>) -> Result<ByteWrite
             Ok(written)
         }
         Some((origin, count)) => {
-            let written = writer.write_u8(1)?.write_origin(origin)?.write_u64(count)?;
+            let written = writer
+                .write_u8(1)?
+                .write_origin(Version::Two, origin)?
+                .write_u64(count)?;
             Ok(written)
         }
     }
@@ -31,11 +35,11 @@ fn write_ack(writer: ByteWriter, ack: Option<(Origin, u64)>) -> Result<ByteWrite
 /// The state that a message brings, if any.
 #[tactic(auto, unfolding(crate::specs::Spelling::body_bytes))]
 fn write_body(writer: ByteWriter, body: &Body) -> Result<ByteWriter, NoMemory>
-    ensures { IfOk result (λ written. written ≡ writer ++ body_bytes body.now) }
+    ensures { IfOk result (λ written. written ≡ writer ++ body_bytes Two body.now) }
 {
     match body {
         Body::Whole(state) | Body::Interval(state) => {
-            let written = state.write(writer)?;
+            let written = state.write(writer, Version::Two)?;
             Ok(written)
         }
         Body::Nothing => Ok(writer),
@@ -45,12 +49,12 @@ fn write_body(writer: ByteWriter, body: &Body) -> Result<ByteWriter, NoMemory>
 /// A message.
 #[tactic(auto, unfolding(crate::specs::Spelling::message_bytes))]
 fn write_message(writer: ByteWriter, message: &Message) -> Result<ByteWriter, NoMemory>
-    ensures { IfOk result (λ written. written ≡ writer ++ message_bytes message.now) }
+    ensures { IfOk result (λ written. written ≡ writer ++ message_bytes Two message.now) }
 {
     let head = writer
-        .write_origin(message.from)?
+        .write_origin(Version::Two, message.from)?
         .write_u8(message.to.0)?
-        .write_incarnation(only_code(message.only))?
+        .write_incarnation(Version::Two, only_code(message.only))?
         .write_u64(message.up_to)?;
     let acked = write_ack(head, message.ack)?;
     let written = write_body(acked, &message.body)?;
@@ -60,11 +64,11 @@ fn write_message(writer: ByteWriter, message: &Message) -> Result<ByteWriter, No
 /// How many dots, and these.
 #[tactic(auto, unfolding(crate::specs::Spelling::over_bytes))]
 fn write_over(writer: ByteWriter, over: &[Dot]) -> Result<ByteWriter, NoMemory>
-    ensures { IfOk result (λ written. written ≡ writer ++ over_bytes over.now) }
+    ensures { IfOk result (λ written. written ≡ writer ++ over_bytes Two over.now) }
 {
     let mut written = writer.write_count_u16(over.len())?;
     for dot in over {
-        written = written.write_dot(*dot)?;
+        written = written.write_dot(Version::Two, *dot)?;
     }
     Ok(written)
 }
@@ -72,21 +76,39 @@ fn write_over(writer: ByteWriter, over: &[Dot]) -> Result<ByteWriter, NoMemory>
 /// The fields of an act.
 #[tactic(auto, unfolding(crate::specs::Spelling::act_fields_bytes))]
 fn write_act_fields(writer: ByteWriter, act: &Act) -> Result<ByteWriter, NoMemory>
-    ensures { IfOk result (λ written. written ≡ writer ++ act_fields_bytes act.now) }
+    ensures { IfOk result (λ written. written ≡ writer ++ act_fields_bytes Two act.now) }
 {
     match act {
         Act::Up => Ok(writer),
         Act::Down { node, inc } => {
-            let written = writer.write_u8(node.0)?.write_incarnation(*inc)?;
+            let written = writer
+                .write_u8(node.0)?
+                .write_incarnation(Version::Two, *inc)?;
             Ok(written)
         }
         Act::Permit { key, value, over } => {
-            let head = write_key(writer, *key)?.write_u8(value_code(*value))?;
+            let head = write_key(writer, Version::Two, *key)?.write_u8(value_code(*value))?;
             let written = write_over(head, over.as_slice())?;
             Ok(written)
         }
         Act::Start { key, over } | Act::Stop { key, over } => {
-            let written = write_over(write_key(writer, *key)?, over.as_slice())?;
+            let written = write_over(write_key(writer, Version::Two, *key)?, over.as_slice())?;
+            Ok(written)
+        }
+        Act::Drain {
+            node,
+            inc,
+            value,
+            over,
+        } => {
+            let at = Origin {
+                node: *node,
+                inc: *inc,
+            };
+            let head = writer
+                .write_origin(Version::Two, at)?
+                .write_u8(value_code(*value))?;
+            let written = write_over(head, over.as_slice())?;
             Ok(written)
         }
         Act::Claim {
@@ -105,10 +127,10 @@ fn write_act_fields(writer: ByteWriter, act: &Act) -> Result<ByteWriter, NoMemor
 /// An operation.
 #[tactic(auto, unfolding(crate::specs::Spelling::operation_bytes, crate::specs::Spelling::act_bytes))]
 fn write_operation(writer: ByteWriter, op: &Op) -> Result<ByteWriter, NoMemory>
-    ensures { IfOk result (λ written. written ≡ writer ++ operation_bytes op.now) }
+    ensures { IfOk result (λ written. written ≡ writer ++ operation_bytes Two op.now) }
 {
     let head = writer
-        .write_dot(op.dot())?
+        .write_dot(Version::Two, op.dot())?
         .write_u8(act_code(kind_of_act(op.act())))?;
     let written = write_act_fields(head, op.act())?;
     Ok(written)
@@ -117,7 +139,7 @@ fn write_operation(writer: ByteWriter, op: &Op) -> Result<ByteWriter, NoMemory>
 /// What a packet holds after its kind.
 #[tactic(auto, unfolding(crate::specs::Spelling::content_bytes))]
 pub(crate) fn write_content(writer: ByteWriter, packet: &Packet) -> Result<ByteWriter, NoMemory>
-    ensures { IfOk result (λ written. written ≡ writer ++ content_bytes packet.now) }
+    ensures { IfOk result (λ written. written ≡ writer ++ content_bytes Two packet.now) }
 {
     match packet {
         Packet::Msg(message) => {

@@ -1,5 +1,5 @@
--- What the deltas of operations are, as they are stored.
-use Rattle.std.specs.Prelude.{◌≡◌, Bool, true, false, cond, ◌&&◌, ◌||◌, [], ◌∷◌, Option, Some, None, is_some, nat_eq, ◌+◌, refl}
+-- What the deltas of start wishes are, as they are stored.
+use Rattle.std.specs.Prelude.{◌≡◌, Bool, true, false, cond, ◌&&◌, ◌||◌, Some, None, nat_eq, ◌+◌, refl}
 use Rattle.std.proofs.Common.{sym, ap, ◌∙◌}
 use Rattle.std.specs.Ordering.{eq_by_cmp}
 use Rattle.std.specs.FinSet as set
@@ -7,32 +7,21 @@ use Rattle.std.specs.FinMap.{find}
 use Rattle.std.proofs.lemmas.Bool.{false≢true, or_left}
 use Rattle.dac_dots.specs.declared.dot.Dot.{Dot}
 use Rattle.dac_dots.specs.Dots.{dot_cmp, dots_total}
-use Rattle.dac_lattice.specs.declared.flags.Flag.{Flag}
 use Rattle.dac_lattice.specs.Chains.{IsAny}
-use Rattle.dac_lattice.specs.Lattices.{IsIn}
-use Rattle.dac_lattice.specs.Maps.{IsMap}
 use Rattle.dac_store.specs.Stores.{IsHeld}
 use Rattle.dac_store.specs.DotSets.{is_empty_set}
-use Rattle.dac_store.specs.DotFuns.{has_dot, is_empty_list}
 use Rattle.dac_store.specs.DotMaps.{has_in, store_at, IsKept, IsKeyed}
 use Rattle.dac_wishes.specs.declared.wish_act.WishAct.{WishAct}
-use Rattle.dac_wishes.specs.declared.permit_act.PermitAct.{PermitAct}
 use Rattle.dac_wishes.specs.declared.wish_act.WishAct.TheVariants.{Start, Other as OtherWish}
-use Rattle.dac_wishes.specs.declared.permit_act.PermitAct.TheVariants.{Permit, Other as OtherPermit}
 use Rattle.dac_wishes.specs.Keys.{key_cmp, same_key}
 use Rattle.dac_wishes.specs.Writes.{Write, same_dot}
 use Rattle.dac_wishes.specs.WishesValue.{same_wishes}
-use Rattle.dac_wishes.specs.PermissionsValue.{flag_of, same_permissions}
 use Rattle.dac_wishes.specs.Replacing.{named_by, contains-named_by, replaces}
 use Rattle.dac_wishes.specs.StoredWishes.{StoredDots, AreStoredDots, wishes_of}
 use Rattle.dac_wishes.specs.StartsByKey.{contains-writes_of}
-use Rattle.dac_wishes.specs.StoredPermits.{StoredFlags, AreStoredFlags, permissions_of}
-use Rattle.dac_wishes.specs.PermitsByKey.{get-permits_of}
 use Rattle.dac_wishes.specs.WishMeaning.{wish_delta, contains-delta, wishes}
-use Rattle.dac_wishes.specs.PermitMeaning.{permit_delta, get-delta, says}
 use Rattle.dac_wishes.specs.WishMeaning as wish
-use Rattle.dac_wishes.specs.PermitMeaning as permit
-use Rattle.dac_wishes.specs.StoredDeltas.{stored_start, stored_permit}
+use Rattle.dac_wishes.specs.StoredDeltas.{stored_start}
 
 or_false : (b : Bool) → (b || false) ≡ b
 or_false true = refl
@@ -84,51 +73,3 @@ start_there d (OtherWish over) w = set.contains-empty dot_cmp w.dot
 pub wishes_of-delta : (d : Dot) (a : WishAct) → wishes_of (stored_wish d a) ≡ wish_delta d a
 wishes_of-delta d a = same_wishes (wishes_of (stored_wish d a)) (wish_delta d a) refl (λ w.
     contains-writes_of (stored_start d a) (start_keyed d a).in_order w ∙ start_there d a w ∙ sym (contains-delta d a w))
-
--- ---- permits
-
-one_in : (b : Bool) (f : Flag) → IsIn IsAny (cond b (Some f) None)
-one_in true f = tt
-one_in false f = tt
-
-permit_kept : (d : Dot) (f : Flag) (b : Bool) → IsKept (IsMap dot_cmp IsAny) is_empty_list (cond b (Some ((d, f) ∷ [])) None)
-permit_kept d f true = (record { in_order = tt; values = λ x. one_in (same_dot x d) f }, refl)
-permit_kept d f false = tt
-
-permit_keyed : (d : Dot) (a : PermitAct) → IsKeyed key_cmp (IsMap dot_cmp IsAny) is_empty_list (stored_permit d a)
-permit_keyed d (Permit key value over) = record { in_order = tt; stores = λ k. permit_kept d (flag_of value) (eq_by_cmp key_cmp k key) }
-permit_keyed d (OtherPermit over) = record { in_order = tt; stores = λ k. tt }
-
-some_test : (b : Bool) (f : Flag) → (is_some (cond b (Some f) None) || false) ≡ true → b ≡ true
-some_test true f e = refl
-some_test false f e = e
-
-permit_held : (d : Dot) (a : PermitAct) (x : Dot) → has_in has_dot (stored_permit d a) x ≡ true → same_dot x d ≡ true
-permit_held d (Permit key value over) x e = some_test (same_dot x d) (flag_of value) e
-permit_held d (OtherPermit over) x e = absurd (false≢true e)
-
-pub permit_known : (d : Dot) (a : PermitAct) → IsHeld (has_in has_dot (stored_permit d a)) (named_by permit.over_of d a)
-permit_known d a x e = contains-named_by permit.over_of d a x ∙ or_left (same_dot x d) (replaces permit.over_of x (d, a)) (permit_held d a x e)
-
--- a permit's delta as it is stored
-abbrev pub stored_permission : Dot → PermitAct → StoredFlags
-stored_permission d a = record { store = stored_permit d a; context = named_by permit.over_of d a }
-
-pub permission_stored : (d : Dot) (a : PermitAct) → AreStoredFlags (stored_permission d a)
-permission_stored d a = record { store = permit_keyed d a; held = permit_known d a }
-
-permit_at : (d : Dot) (f : Flag) (k : Bool) (x : Dot) → find dot_cmp x (store_at [] (cond k (Some ((d, f) ∷ [])) None)) ≡ cond (same_dot x d) (cond k (Some f) None) None
-permit_at d f true x = refl
-permit_at d f false x = none_at (same_dot x d)
-  where
-    none_at : (b : Bool) → ◌≡◌ {A = Option Flag} None (cond b None None)
-    none_at true = refl
-    none_at false = refl
-
-permit_there : (d : Dot) (a : PermitAct) (w : Write) → find dot_cmp w.dot (store_at [] (find key_cmp w.key (stored_permit d a))) ≡ permit.permit_in w (d, a)
-permit_there d (Permit key value over) w = permit_at d (flag_of value) (same_key w.key key) w.dot
-permit_there d (OtherPermit over) w = permit_at d (flag_of true) false w.dot
-
-pub permissions_of-delta : (d : Dot) (a : PermitAct) → permissions_of (stored_permission d a) ≡ permit_delta d a
-permissions_of-delta d a = same_permissions (permissions_of (stored_permission d a)) (permit_delta d a) refl (λ w.
-    get-permits_of (stored_permit d a) (permit_keyed d a).in_order w ∙ permit_there d a w ∙ sym (get-delta d a w))

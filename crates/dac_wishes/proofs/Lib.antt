@@ -1,6 +1,6 @@
 pub mod Found
 pub mod Naming
 pub mod WishStoring
-pub mod PermitStoring
+pub mod VoteStoring
 pub mod DeltaStoring
 pub mod SameDots

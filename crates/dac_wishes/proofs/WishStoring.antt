@@ -1,12 +1,10 @@
 -- What start wishes are, as they are stored.
-use Rattle.std.specs.Prelude.{◌≡◌, ◌↔◌, true, false, not, cond, ◌&&◌, ◌||◌, List, [], ◌∷◌, None, Some, is_some, refl}
-use Rattle.std.proofs.Common.{sym, ap, ◌∙◌, inl, inr}
+use Rattle.std.specs.Prelude.{◌≡◌, true, false, not, cond, ◌&&◌, ◌||◌, List, [], ◌∷◌, None, Some, is_some, refl}
+use Rattle.std.proofs.Common.{sym, ap, ◌∙◌}
 use Rattle.std.specs.List.{list_any}
-use Rattle.std.specs.Ordering.{eq_by_cmp, is_eq}
-use Rattle.std.specs.Cmp.{Equal-is, tied_itself}
 use Rattle.std.specs.FinSet as set
 use Rattle.std.specs.FinMap.{find}
-use Rattle.std.proofs.lemmas.Bool.{false≢true, or_cases, or_left, or_right}
+use Rattle.std.proofs.lemmas.Bool.{false≢true, or_left, or_right}
 use Rattle.dac_dots.specs.declared.dot.Dot.{Dot}
 use Rattle.dac_dots.specs.Dots.{Dots, dot_cmp}
 use Rattle.dac_lattice.specs.Chains.{IsAny}
@@ -14,9 +12,9 @@ use Rattle.dac_store.specs.Stores.{IsStoredBelow, join_stored, causal_laws, both
 use Rattle.dac_store.specs.DotSets.{IsSetBelow, join_sets, is_empty_set, set_laws, contains_join}
 use Rattle.dac_store.specs.DotMaps.{has_in, store_at, IsKept, IsKeyedBelow, join_keyed, keyed_laws, at_join}
 use Rattle.dac_wishes.specs.declared.key.Key.{Key}
-use Rattle.dac_wishes.specs.Keys.{key_cmp, same_key, keys_total, exact_keys, same_key_is, same_key_itself}
-use Rattle.dac_wishes.specs.Writes.{Write, write, write_cmp, writes_total, exact_writes, same_dot, same_dot_itself}
-use Rattle.dac_wishes.specs.WishesValue.{WishesValue, AreWishes, AreWishesBelow, join_wishes, is_wished, SomeStands, known-join, standing-join, same_wishes}
+use Rattle.dac_wishes.specs.Keys.{key_cmp, same_key, keys_total, exact_keys}
+use Rattle.dac_wishes.specs.Writes.{Write, write, same_dot, same_dot_itself}
+use Rattle.dac_wishes.specs.WishesValue.{AreWishes, AreWishesBelow, join_wishes, is_wished, SomeStands, known-join, standing-join, same_wishes}
 use Rattle.dac_wishes.specs.StoredWishes.{StoredDots, AreStoredDots, writes_of, wishes_of}
 use Rattle.dac_wishes.specs.StartsByKey.{contains-writes_of}
 use Rattle.dac_wishes.specs.laws.Wished.{is_wished-some}

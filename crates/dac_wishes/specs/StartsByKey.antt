@@ -26,7 +26,7 @@ use Rattle.dac_wishes.specs.ByKey.{by_key, keys_in, keys_in-rising, none_if_abse
 
 -- the keys that have a wish, in ascending order
 unfoldable pub keys_of : Writes → List Key
-keys_of writes = keys_in (λ (w : Write). w.key) (set.items writes)
+keys_of writes = keys_in key_cmp (λ (w : Write). w.key) (set.items writes)
 
 -- each key that has a wish, with the dots of its wishes
 unfoldable pub starts_by_key : Writes → List (Key × Dots)
@@ -97,16 +97,16 @@ bare_list (d ∷ ds) = false_from_ne_true _ (λ e.
 bare_exactly : (writes : Writes) (key : Key) → is_empty_set (dots_at key writes) ≡ not (has_key key_cmp (keys_of writes) key)
 unfolding keys_of
 bare_exactly writes key =
-    bare_list (dots_among key (set.items writes)) ∙ none_if_absent (λ (w : Write). w.key) (λ (w : Write). w.dot) key (set.items writes)
+    bare_list (dots_among key (set.items writes)) ∙ none_if_absent keys_total exact_keys (λ (w : Write). w.key) (λ (w : Write). w.dot) key (set.items writes)
 
 find-starts : (writes : Writes) (key : Key) → find key_cmp key (starts_by_key writes) ≡ kept is_empty_set (dots_at key writes)
 unfolding starts_by_key
-find-starts writes key = find_kept (λ k. dots_at k writes) is_empty_set (keys_of writes) key (bare_exactly writes key)
+find-starts writes key = find_kept exact_keys (λ k. dots_at k writes) is_empty_set (keys_of writes) key (bare_exactly writes key)
 
 -- the wishes by key are kept so
 pub are_starts : (writes : Writes) → AreStarts (starts_by_key writes)
 unfolding starts_by_key keys_of
-are_starts writes = keyed_by_key (λ k. dots_at k writes) is_empty_set IsAny (λ k. tt) (keys_of writes) (keys_in-rising (λ (w : Write). w.key) (set.items writes)) (bare_exactly writes)
+are_starts writes = keyed_by_key exact_keys (λ k. dots_at k writes) is_empty_set IsAny (λ k. tt) (keys_of writes) (keys_in-rising keys_total exact_keys (λ (w : Write). w.key) (set.items writes)) (bare_exactly writes)
 
 -- what is kept so is its writes by key
 pub starts_again : (m : List (Key × Dots)) → AreStarts m → starts_by_key (writes_of m) ≡ m

@@ -3,34 +3,34 @@ use Rattle.std.specs.Prelude.{◌≡◌, Bool, true, false, cond, ◌||◌, ◌&
 use Rattle.std.proofs.Common.{ap, ◌∙◌, sym}
 use Rattle.std.specs.declared.cmp.Ordering.{Ordering}
 use Rattle.std.specs.List.{list_any}
-use Rattle.std.specs.Ordering.{ordering_then, eq_by_cmp, is_eq}
-use Rattle.std.specs.Cmp.{IsTotalOrder, tied_then, Equal-is, tied_itself}
-use Rattle.std.specs.Coded.{Coded, code_by, coded×}
+use Rattle.std.specs.Ordering.{eq_by_cmp}
+use Rattle.std.specs.Cmp.{IsTotalOrder}
+use Rattle.std.specs.Coded.{Coded}
 use Rattle.std.specs.FinSet as set
-use Rattle.std.proofs.lemmas.Cmp.{on_total, then_total, eq_by_cmp_equiv}
-use Rattle.std.proofs.lemmas.Map.Lookups.{CmpEqualImpliesEq, exact_pairs}
+use Rattle.std.proofs.lemmas.Map.Lookups.{CmpEqualImpliesEq}
 use Rattle.dac_dots.specs.declared.dot.Dot.{Dot}
-use Rattle.dac_dots.specs.Dots.{dot_cmp, Dots, dots_total, exact_dots, coded_dot}
+use Rattle.dac_dots.specs.Dots.{Dots, dots_total}
 use Rattle.dac_wishes.specs.declared.key.Key.{Key}
 use Rattle.dac_wishes.specs.Keys.{key_cmp, same_key, keys_total, exact_keys, coded_key}
+use Rattle.dac_wishes.specs.KeyedWrites.{KeyedWrite, keyed_write, keyed_write_cmp, coded_keyed_write, keyed_writes_total, exact_keyed_writes, same_keyed_write, at_keyed_write}
+pub use Rattle.dac_wishes.specs.KeyedWrites.{same_dot, same_dot_is, same_dot_itself}
 
 -- what is written, and the dot of the operation that writes it
-pub record Write : Type 0 where
-  pub key : Key
-  pub dot : Dot
+abbrev pub Write : Type 0
+Write = KeyedWrite Key
 
 -- by key, then by dot
 abbrev pub write_cmp : Write → Write → Ordering
-write_cmp a b = ordering_then (key_cmp a.key b.key) (dot_cmp a.dot b.dot)
+write_cmp = keyed_write_cmp key_cmp
 
 pub writes_total : IsTotalOrder write_cmp
-writes_total = then_total (on_total (λ (w : Write). w.key) keys_total) (on_total (λ (w : Write). w.dot) dots_total)
+writes_total = keyed_writes_total keys_total
 
 pub exact_writes : CmpEqualImpliesEq write_cmp
-exact_writes a b h = ap (λ (p : Key × Dot). record { key = p.0; dot = p.1 }) (exact_pairs key_cmp dot_cmp exact_keys exact_dots (a.key, a.dot) (b.key, b.dot) h)
+exact_writes = exact_keyed_writes exact_keys
 
 abbrev pub coded_write : Coded Write
-coded_write = code_by (Key × Dot) (coded× coded_key coded_dot) (λ w. (w.key, w.dot)) (λ p. record { key = p.0; dot = p.1 }) (λ _. refl)
+coded_write = coded_keyed_write coded_key
 
 -- a set of writes
 abbrev pub Writes : Type 0
@@ -38,21 +38,11 @@ Writes = set.FinSet write_cmp
 
 -- the write of a key by an operation
 abbrev pub write : Key → Dot → Write
-write key d = record { key = key; dot = d }
-
--- one and the same dot
-abbrev pub same_dot : Dot → Dot → Bool
-same_dot = eq_by_cmp dot_cmp
-
-pub same_dot_is : (d e : Dot) → same_dot d e ≡ true → d ≡ e
-same_dot_is d e h = exact_dots d e ((Equal-is (dot_cmp d e)).0 h)
-
-pub same_dot_itself : (d : Dot) → same_dot d d ≡ true
-same_dot_itself d = ap is_eq (tied_itself dots_total d)
+write key d = keyed_write key d
 
 -- two writes are one exactly if key and dot are
 pub same_write : (w : Write) (key : Key) (d : Dot) → eq_by_cmp write_cmp w (write key d) ≡ (same_key w.key key && same_dot w.dot d)
-same_write w key d = sym (tied_then (key_cmp w.key key) (dot_cmp w.dot d))
+same_write = same_keyed_write key_cmp
 
 -- the dots of those writes that are of a key
 abbrev pub dots_among : Key → List Write → List Dot
@@ -64,7 +54,7 @@ dots_at key writes = set.from_list (dots_among key (set.items writes))
 
 -- a write is that of a key and a dot exactly if its own are they
 pub at_write : (key : Key) (d : Dot) (w : Write) → eq_by_cmp write_cmp (write key d) w ≡ (same_key w.key key && same_dot d w.dot)
-at_write key d w = sym (tied_then (key_cmp key w.key) (dot_cmp d w.dot)) ∙ ap (λ b. b && same_dot d w.dot) ((eq_by_cmp_equiv keys_total).symm key w.key)
+at_write = at_keyed_write keys_total
 
 -- ---- the dots at a key
 

@@ -1,2 +1,3 @@
 pub mod Wished
 pub mod Permitted
+pub mod Drained

@@ -13,7 +13,7 @@ pub struct Key {
     /// The node.
     pub node: NodeId,
     /// The incarnation of the node.
-    pub inc: u32,
+    pub inc: u64,
 }
 
 impl MapKey for Key {

@@ -12,6 +12,8 @@
 #![tactic(auto)]
 
 pub use dot_list::DotList;
+pub use drain_act::DrainAct;
+pub use drains::Drains;
 pub use key::Key;
 pub use permissions::Permissions;
 pub use permit_act::PermitAct;
@@ -20,8 +22,11 @@ pub use wishes::Wishes;
 
 mod delta;
 mod dot_list;
+mod drain_act;
+mod drains;
 mod key;
 mod permissions;
 mod permit_act;
+mod votes;
 mod wish_act;
 mod wishes;

@@ -1,18 +1,17 @@
 //! Permissions.
-ghost use Rattle.std.specs.Prelude.{◌≡◌, ◌↔◌, IsTrue, IfOk};
+ghost use Rattle.std.specs.Prelude.{◌≡◌, ◌↔◌, IsTrue};
 ghost use Rattle.std.specs.List.{list_all};
 ghost use Rattle.dac_lattice.specs.declared.flags.Flag.{Flag as FlagValue};
 ghost use Rattle.dac_dots.specs.declared.dot.Dot.{Dot as DotValue};
-ghost use Rattle.dac_wishes.specs.PermissionsValue.{flag_of, says_true, is_permitted, is_permitted_by, IsPermitted, permits_at};
-ghost use Rattle.dac_wishes.specs.StoredDeltas.{stored_permit};
+ghost use Rattle.dac_wishes.specs.PermissionsValue.{says_true, is_permitted, is_permitted_by, IsPermitted, permits_at};
 
-use crate::delta::{beside, named_by};
 use crate::key::Key;
 use crate::permit_act::PermitAct;
+use crate::votes::{kept_at, kept_delta};
 use dac_base::NoMemory;
 use dac_dots::Dot;
 use dac_lattice::{Bottom, Flag, Lattice, Piece};
-use dac_store::{Causal, Context, DotFun, DotMap, DotStore};
+use dac_store::{Causal, Context, DotFun, DotMap};
 use std::alloc::Global;
 use std::marker::Model;
 
@@ -78,10 +77,7 @@ impl Permissions {
     pub fn dots(&self, key: Key) -> &[(Dot, Flag)]
         ensures { result.now ≡ permits_at key self.now.standing }
     {
-        match self.causal.store().get(key) {
-            Some(permits) => permits.entries(),
-            None => &[],
-        }
+        kept_at(&self.causal, key)
     }
 
     /// The dots of the operations, and those that they replace. It takes no memory.
@@ -118,35 +114,6 @@ fn all_say_true(permits: &[(Dot, Flag)]) -> bool
     ensures { result ≡ list_all (λ (p : DotValue × FlagValue). says_true p.1) permits.now }
 {
     permits.iter().all(|permit| says_true(permit.1))
-}
-
-/// A permission as a flag.
-fn flag_of(value: bool) -> Flag
-    ensures { result ≡ flag_of value }
-{
-    if value { Flag::Up } else { Flag::Down }
-}
-
-/// The permit in an operation.
-fn permit_in(
-    alloc: Global,
-    dot: Dot,
-    act: &PermitAct,
-) -> Result<DotMap<Key, DotFun<Flag>>, NoMemory>
-    ensures { IfOk result (λ store. store ≡ stored_permit dot act.now) }
-{
-    match act {
-        PermitAct::Permit {
-            key,
-            value,
-            over: _,
-        } => {
-            let one = DotFun::one(alloc, dot, flag_of(*value))?;
-            let store = DotMap::one(alloc, *key, one)?;
-            Ok(store)
-        }
-        PermitAct::Other { over: _ } => Ok(DotMap::empty(alloc)),
-    }
 }
 
 impl Lattice for Permissions {
@@ -216,9 +183,7 @@ impl Piece for Permissions {
     ghost piece_laws = { permit_piece };
 
     fn delta(alloc: Global, dot: Dot, act: &PermitAct) -> Result<Self, NoMemory> {
-        let store = permit_in(alloc, dot, act)?;
-        let named = named_by(alloc, dot, act.over())?;
-        let causal = beside(store, named);
+        let causal = kept_delta(alloc, dot, act.vote(), act.over())?;
         Ok(Permissions { causal })
     }
 }

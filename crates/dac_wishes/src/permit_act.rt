@@ -1,10 +1,12 @@
 //! What operations do to permissions.
 ghost use Rattle.std.specs.Prelude.{◌≡◌};
-ghost use Rattle.dac_wishes.specs.PermitMeaning.{over_of};
+ghost use Rattle.dac_wishes.specs.PermitMeaning.{over_of, vote_of};
+ghost use Rattle.dac_wishes.specs.PermissionsValue.{flag_of};
 
 use crate::dot_list::DotList;
 use crate::key::Key;
 use dac_dots::Dot;
+use dac_lattice::Flag;
 
 /// What an operation does, as far as permissions go: it may write one, and replaces dots.
 #[derive(Debug, Drop)]
@@ -39,4 +41,25 @@ impl PermitAct {
             | PermitAct::Other { over } => over.as_slice(),
         }
     }
+
+    /// What it says of which key, if it does.
+    pub(crate) fn vote(&self) -> Option<(Key, Flag)>
+        ensures { result ≡ vote_of self.now }
+    {
+        match self {
+            PermitAct::Permit {
+                key,
+                value,
+                over: _,
+            } => Some((*key, flag_of(*value))),
+            PermitAct::Other { over: _ } => None,
+        }
+    }
+}
+
+/// A permission as a flag.
+fn flag_of(value: bool) -> Flag
+    ensures { result ≡ flag_of value }
+{
+    if value { Flag::Up } else { Flag::Down }
 }

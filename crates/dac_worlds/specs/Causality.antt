@@ -3,14 +3,16 @@
 use Rattle.std.specs.Prelude.{◌≡◌, ◌⊎◌, ◌↔◌, ℕ, List, [], ◌∷◌, Some, Result, Ok}
 use Rattle.dac_base.specs.declared.NodeId.{NodeId}
 use Rattle.dac_dots.specs.declared.dot.Dot.{Dot}
+use Rattle.dac_dots.specs.declared.dot.Origin.{Origin}
 use Rattle.dac_dots.specs.Dots.{IsVector}
 use Rattle.dac_wishes.specs.declared.key.Key.{Key}
+use Rattle.dac_wishes.specs.DrainsValue.{origin}
 use Rattle.dac_operations.specs.declared.act.Act.{Act}
-use Rattle.dac_operations.specs.declared.act.Act.TheVariants.{Permit, Start, Stop}
+use Rattle.dac_operations.specs.declared.act.Act.TheVariants.{Permit, Start, Stop, Drain}
 use Rattle.dac_operations.specs.Operations.{Operation}
 use Rattle.dac_meaning.specs.StateValue.{StateValue}
 use Rattle.dac_meaning.specs.Meaning.{In}
-use Rattle.dac_commands.specs.Written.{PermitStands, StartStands}
+use Rattle.dac_commands.specs.Written.{PermitStands, StartStands, DrainStands}
 use Rattle.dac_events.specs.declared.WorldEvent.{WorldEvent}
 use Rattle.dac_events.specs.declared.What.{What}
 use Rattle.dac_events.specs.declared.What.TheVariants.{Hand}
@@ -54,6 +56,11 @@ abbrev pub IsStopOf : Key → Act → Type 0
 IsStopOf key (Stop k over) = k ≡ key
 IsStopOf key _ = ⊥
 
+-- the act drains the incarnation of a node, or ends that
+abbrev pub IsDrainOf : Origin → Act → Type 0
+IsDrainOf at (Drain node inc value over) = origin node inc ≡ at
+IsDrainOf at _ = ⊥
+
 -- one of the operations that writes so, where none of them that ends such a write comes after it
 pub record IsMaximal (Writes Ends : Act → Type 0) (w : SetWorld) (os : List Operation) (o : Operation) : Type 0 where
   pub there : In o os
@@ -71,6 +78,10 @@ EndsStart key act = IsStartOf key act ⊎ IsStopOf key act
 -- a start of the key after which no start and no stop of the key comes
 abbrev pub IsMaximalStart : SetWorld → List Operation → Key → Operation → Type 0
 IsMaximalStart w os key o = IsMaximal (IsStartOf key) (EndsStart key) w os o
+
+-- a drain of the incarnation after which no drain of it comes
+abbrev pub IsMaximalDrain : SetWorld → List Operation → Origin → Operation → Type 0
+IsMaximalDrain w os at o = IsMaximal (IsDrainOf at) (IsDrainOf at) w os o
 
 -- an operation that is so has this dot
 abbrev pub IsDotOfOne : (Operation → Type 0) → Dot → Type 0
@@ -94,10 +105,12 @@ pub record RunsHolding (v : WorldValue) (sets : SetWorld) (n : ℕ) (s : StateVa
   pub holds : sets.node (numbered n) ≡ Some held
 
 -- Each node's set is closed. A running node has heard the dots of each origin from 1 on with none missing, and knows no
--- other dot. What stands at a key are exactly the maximal writes of the key.
+-- other dot. What stands at a key are exactly the maximal writes of the key,
+-- and what stands of drains the maximal drains.
 pub record IsCausal (v : WorldValue) (sets : SetWorld) : Type 0 where
   pub closed : (n : NodeId) (held : NodeSet) → sets.node n ≡ Some held → IsClosed sets held.operations
   pub vector : (n : ℕ) (s : StateValue) → RunsWith v n s → IsVector s.heard
   pub known : (n : ℕ) (s : StateValue) → RunsWith v n s → s.heard ≡ s.known
   pub permits : (n : ℕ) (s : StateValue) (held : NodeSet) → RunsHolding v sets n s held → (key : Key) (d : Dot) → PermitStands s key d ↔ IsDotOfOne (IsMaximalPermit sets held.operations key) d
   pub starts : (n : ℕ) (s : StateValue) (held : NodeSet) → RunsHolding v sets n s held → (key : Key) (d : Dot) → StartStands s key d ↔ IsDotOfOne (IsMaximalStart sets held.operations key) d
+  pub drains : (n : ℕ) (s : StateValue) (held : NodeSet) → RunsHolding v sets n s held → (at : Origin) (d : Dot) → DrainStands s at d ↔ IsDotOfOne (IsMaximalDrain sets held.operations at) d

@@ -49,6 +49,127 @@ pub const EXAMPLES: &[(&str, &str, &str)] = &[
         r#"[{kernel,[{distributed,[{call_router,3000,['router@node-1.example.com','router@node-2.example.com']}]},{permissions,[]},{sync_nodes_mandatory,['router@node-2.example.com']},{sync_nodes_optional,[]},{sync_nodes_timeout,30000}]}].
 "#,
     ),
+    // drain.distac
+    (
+        "sim",
+        r#"[{kernel, [{distributed, [{shop, 5000, [main@h, {east@h, west@h}]}, {mail, 5000, [main@h, west@h]}]}]}].
+--
+boot east@h 0
+boot main@h 0
+boot west@h 0
+start main@h shop main@h
+start main@h mail main@h
+start east@h shop east@h
+start west@h shop west@h
+start west@h mail west@h
+share
+% Both applications run at the first node of their lists.
+tick main@h 0
+share
+% That node is to be repaired. Drained, it is to run nothing: both move at the next ticks, without the wait of a failover.
+drain west@h main@h true
+share
+tick west@h 10
+tick east@h 10
+share
+page main@h
+% The repair is over. The node comes first in both lists, so it takes them over by itself.
+drain main@h main@h false
+tick main@h 20
+share
+page west@h
+% With two nodes drained the one that is left has the shop. No node is left for the mail. Nothing stops it where it is.
+drain east@h main@h true
+drain east@h west@h true
+share
+tick east@h 30
+share
+page east@h
+% A drain is of one life of a node. Booted again, the first node isn't drained. The mail, once started there, is restarted.
+crash main@h
+boot main@h 40
+share
+start main@h mail main@h
+tick main@h 40
+share
+page west@h
+"#,
+        r#"booted 1 op 1
+booted 1 op 2
+booted 1 op 3
+issued 4 main@h 1 2
+issued 5 main@h 1 3
+issued 6 east@h 1 2
+issued 7 west@h 1 2
+issued 8 west@h 1 3
+shared 6
+ticked
+claim 9 shop term 1 normal
+claim 10 mail term 1 normal
+shared 6
+issued 11 west@h 1 4
+shared 6
+ticked
+claim 12 mail term 2 normal
+ticked
+claim 13 shop term 2 normal
+shared 6
+node main@h 1
+heard 13 known 13
+node east@h up 1
+node main@h up 1 drained
+node west@h up 1
+app shop holder east@h 1 term 2 normal verdict kept east@h
+list main@h=drained east@h=ok west@h=ok
+app mail holder west@h 1 term 2 normal verdict kept west@h
+list main@h=drained west@h=ok
+issued 14 main@h 1 6
+ticked
+claim 15 shop term 3 takeover from east@h
+claim 16 mail term 3 takeover from west@h
+shared 6
+node west@h 1
+heard 16 known 16
+node east@h up 1
+node main@h up 1
+node west@h up 1
+app shop holder main@h 1 term 3 takeover from east@h verdict kept main@h
+list main@h=ok east@h=ok west@h=ok
+app mail holder main@h 1 term 3 takeover from west@h verdict kept main@h
+list main@h=ok west@h=ok
+issued 17 east@h 1 4
+issued 18 east@h 1 5
+shared 6
+ticked
+claim 19 shop term 4 normal
+shared 6
+node east@h 1
+heard 19 known 19
+node east@h up 1
+node main@h up 1 drained
+node west@h up 1 drained
+app shop holder east@h 1 term 4 normal verdict kept east@h
+list main@h=drained east@h=ok west@h=drained
+app mail holder main@h 1 term 3 takeover from west@h verdict nobody
+list main@h=drained west@h=drained
+crashed
+booted 2 op 20
+shared 6
+issued 21 main@h 2 2
+ticked
+claim 22 mail term 4 failover from main@h
+shared 6
+node west@h 1
+heard 22 known 22
+node east@h up 1
+node main@h up 2
+node west@h up 1 drained
+app shop holder east@h 1 term 4 normal verdict kept east@h
+list main@h=idle east@h=ok west@h=drained
+app mail holder main@h 2 term 4 failover from main@h verdict kept main@h
+list main@h=ok west@h=drained
+"#,
+    ),
     // failover.distac
     (
         "sim",

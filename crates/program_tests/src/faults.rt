@@ -86,6 +86,24 @@ pub const SCRIPT_FAULTS: &[(&str, &str)] = &[
         "permit nobody myapp cp1@cave 'true'",
         "script fault 1 3 BadName\n",
     ),
+    ("drain cp1@cave cp2@cave", "script fault 1 2 BadCount\n"),
+    (
+        "drain cp1@cave myapp cp2@cave true",
+        "script fault 1 2 BadCount\n",
+    ),
+    (
+        "drain nobody cp1@cave 'false'",
+        "script fault 1 3 BadName\n",
+    ),
+    ("drain nobody Cp1 true", "script fault 1 3 BadName\n"),
+    (
+        "drain nobody cp1@cave true",
+        "script fault 1 5 UnknownActor\n",
+    ),
+    (
+        "drained cp1@cave cp2@cave true",
+        "script fault 1 1 BadWord\n",
+    ),
     ("share cp1@cave", "script fault 1 2 BadCount\n"),
     ("same cp1@cave nobody", "script fault 1 5 UnknownActor\n"),
     ("crash nobody", "script fault 1 5 UnknownActor\n"),

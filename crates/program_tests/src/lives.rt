@@ -1,5 +1,5 @@
 //! Scripts that are run in threads, each with its configuration and with what is printed.
-use crate::scripts::EXAMPLE;
+use crate::scripts::{EXAMPLE, PLAIN};
 
 /// One node and one application.
 const ONE: &str = "[{kernel,[{distributed,[{a,[b@h]}]}]}].\n";
@@ -25,6 +25,13 @@ pub const LIVES: &[(&str, &str, u8, &str)] = &[
         0,
         "phase 1\nb@h 1 refused 1 Off\nb@h 1 refused 1 Off\nb@h 3 fresh\nwire fault 2 BadMagic at 0\nphase 2\nnode b@h off\nclose ok\nweave ok\n",
     ),
+    // A node is drained and its application moves. Then it has the application back by takeover.
+    (
+        PLAIN,
+        "1 boot c1@h 0\n1 boot c2@h 0\nphase\n1 start c1@h a c1@h\n1 start c2@h a c2@h\nphase\n1 tick c1@h 0\nphase\n1 drain c2@h c1@h true\n2 drain c2@h c3@h true\n3 drain c3@h c1@h true\nphase\n1 tick c2@h 5\nphase\n1 drain c1@h c1@h false\n1 read c1@h\nphase\n1 tick c1@h 6\nphase\n1 drain c1@h c2@h true\n",
+        0,
+        "phase 1\nc1@h 1 ok\nc2@h 1 ok\nphase 2\nc1@h 1 ok\nc2@h 1 ok\nphase 3\nc1@h 1 ok\nphase 4\nc2@h 1 ok\nc2@h 2 refused 9 NotLive\nc3@h 3 refused 1 Off\nphase 5\nc2@h 1 ok\nphase 6\nc1@h 1 ok\nc1@h 1 fresh\nphase 7\nc1@h 1 ok\nphase 8\nc1@h 1 ok\nnode c1@h 1\nheard 10 known 10\nnode c1@h up 1\nnode c2@h up 1 drained\nnode c3@h unknown\napp a holder c1@h 1 term 3 takeover from c2@h verdict kept c1@h\nlist c1@h=ok c2@h=drained c3@h=down\nnode c2@h 1\nheard 10 known 10\nnode c1@h up 1\nnode c2@h up 1 drained\nnode c3@h unknown\napp a holder c1@h 1 term 3 takeover from c2@h verdict kept c1@h\nlist c1@h=ok c2@h=drained c3@h=down\nnode c3@h off\nclose ok\nweave ok\n",
+    ),
     // More nodes than can be run.
     (FIVE, "1 boot a@h 0\n", 1, "live fault 1 TooManyNodes\n"),
     // A caller that there isn't, a line without one, and a caller alone.
@@ -41,6 +48,31 @@ pub const LIVES: &[(&str, &str, u8, &str)] = &[
         "script fault 3 1 BadWord\n",
     ),
     (EXAMPLE, "1\n", 1, "script fault 1 2 BadCount\n"),
+    // Of the faults of a line the least.
+    (
+        EXAMPLE,
+        "5 drain nobody cp1@cave\n",
+        1,
+        "script fault 1 2 BadCount\n",
+    ),
+    (
+        EXAMPLE,
+        "5 drain nobody cp1@cave yes\n",
+        1,
+        "script fault 1 3 BadName\n",
+    ),
+    (
+        EXAMPLE,
+        "5 drain nobody cp1@cave true\n",
+        1,
+        "script fault 1 4 BadNumber\n",
+    ),
+    (
+        EXAMPLE,
+        "4 drain nobody cp1@cave true\n",
+        1,
+        "script fault 1 5 UnknownActor\n",
+    ),
     // A configuration with a fault.
     (
         "[].\n",

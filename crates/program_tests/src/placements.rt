@@ -45,6 +45,19 @@ pub const PLACEMENTS: &[(&str, &str, &str)] = &[
         "boot c1@h 0\nboot c3@h 0\nstart c1@h a c1@h\nstart c3@h a c3@h\nshare\ntick c1@h 0\npermit c1@h a c1@h false\nshare\ntick c3@h 0\npermit c3@h a c3@h false\npage c3@h\n",
         "booted 1 op 1\nbooted 1 op 2\nissued 3 c1@h 1 2\nissued 4 c3@h 1 2\nshared 2\nticked\nclaim 5 a term 1 normal\nissued 6 c1@h 1 4\nshared 2\nticked\nclaim 7 a term 2 normal\nissued 8 c3@h 1 4\nnode c3@h 1\nheard 8 known 8\nnode c1@h up 1\nnode c2@h unknown\nnode c3@h up 1\napp a holder c3@h 1 term 2 normal verdict nobody\nlist c1@h=barred c2@h=down c3@h=barred\napp b holder none verdict nobody\nlist c2@h=down\n",
     ),
+    // A node is drained, though another write says no at the same time. Its application moves without a wait. Once the node isn't
+    // drained any more, it takes the application over.
+    (
+        PLAIN,
+        "boot c1@h 0\nboot c2@h 0\nstart c1@h a c1@h\nstart c2@h a c2@h\nshare\ntick c1@h 0\nshare\ndrain c2@h c1@h true\ndrain c1@h c1@h false\nshare\ntick c2@h 5\npage c2@h\ndrain c2@h c1@h false\nshare\ntick c1@h 6\ndrain c1@h zz@h true\ndrain c1@h c3@h true\n",
+        "booted 1 op 1\nbooted 1 op 2\nissued 3 c1@h 1 2\nissued 4 c2@h 1 2\nshared 2\nticked\nclaim 5 a term 1 normal\nshared 2\nissued 6 c2@h 1 3\nissued 7 c1@h 1 4\nshared 2\nticked\nclaim 8 a term 2 normal\nnode c2@h 1\nheard 8 known 8\nnode c1@h up 1 drained\nnode c2@h up 1\nnode c3@h unknown\napp a holder c2@h 1 term 2 normal verdict kept c2@h\nlist c1@h=drained c2@h=ok c3@h=down\nissued 9 c2@h 1 5\nshared 2\nticked\nclaim 10 a term 3 takeover from c2@h\nrefused 5 UnknownNode\nrefused 9 NotLive\n",
+    ),
+    // No other node may run the application of a drained one, so nobody is named for it. The next incarnation isn't drained.
+    (
+        PLAIN,
+        "boot c1@h 0\nboot c2@h 0\nstart c1@h a c1@h\nshare\ntick c1@h 0\ndrain c1@h c1@h true\ntick c1@h 1\npage c1@h\nshare\ncrash c1@h\nboot c1@h 10\nshare\nstart c1@h a c1@h\ntick c1@h 10\npage c1@h\n",
+        "booted 1 op 1\nbooted 1 op 2\nissued 3 c1@h 1 2\nshared 2\nticked\nclaim 4 a term 1 normal\nissued 5 c1@h 1 4\nticked\nnode c1@h 1\nheard 5 known 5\nnode c1@h up 1 drained\nnode c2@h up 1\nnode c3@h unknown\napp a holder c1@h 1 term 1 normal verdict nobody\nlist c1@h=drained c2@h=idle c3@h=down\nshared 2\ncrashed\nbooted 2 op 6\nshared 2\nissued 7 c1@h 2 2\nticked\nclaim 8 a term 2 failover from c1@h\nnode c1@h 2\nheard 8 known 8\nnode c1@h up 2\nnode c2@h up 1\nnode c3@h unknown\napp a holder c1@h 2 term 2 failover from c1@h verdict kept c1@h\nlist c1@h=ok c2@h=idle c3@h=down\n",
+    ),
     // A stopped application isn't moved, but fails over once its node is down.
     (
         PLAIN,

@@ -49,11 +49,17 @@ pub const SCRIPTS: &[(&str, &str, &str)] = &[
         "boot cp2@cave 0\npage cp2@cave\npage cp1@cave\n",
         "booted 1 op 1\nnode cp2@cave 1\nheard 1 known 1\nnode cp1@cave unknown\nnode cp2@cave up 1\nnode cp3@cave unknown\napp myapp holder none verdict nobody\nlist cp1@cave=down cp2@cave=idle cp3@cave=down\nnode cp1@cave off\n",
     ),
-    // Heard and known: one incarnation's first dot. No permit and no start; one node that is up; no claim.
+    // Heard and known: one incarnation's first dot. No permit and no start; one node that is up; no claim and no drain.
     (
         EXAMPLE,
         "boot cp2@cave 0\nstate cp2@cave\nstate cp1@cave\n",
-        "booted 1 op 1\n00010100000001000000000000000100000000000101000000010000000000000001000000000000000000000000010100000001000000\nnode cp1@cave off\n",
+        "booted 1 op 1\n0001010000000000000001000000000000000100000000000101000000000000000100000000000000010000000000000000000000000101000000000000000100000000000000\nnode cp1@cave off\n",
+    ),
+    // A second dot, and one incarnation that it drains.
+    (
+        EXAMPLE,
+        "boot cp2@cave 0\ndrain cp2@cave cp2@cave true\nstate cp2@cave\n",
+        "booted 1 op 1\nissued 2 cp2@cave 1 2\n000101000000000000000100000000000000020000000000010100000000000000010000000000000002000000000000000000000000010100000000000000010000000000000101000000000000000100000001010000000000000001000000000000000201\n",
     ),
     (EXAMPLE, "start cp1@cave myapp cp1@cave", "refused 1 Off\n"),
     (
@@ -130,6 +136,12 @@ pub const SCRIPTS: &[(&str, &str, &str)] = &[
         "down c1@h zz@h\ncrash c1@h\nhand c1@h 4611686018427387904\nboot c1@h 0\ndown c1@h zz@h\ndown c1@h c1@h\ndown c1@h c2@h\n",
         "refused 1 Off\nrefused 1 Off\nno operation 4611686018427387904\nbooted 1 op 1\nrefused 5 UnknownNode\nrefused 6 OnSelf\nrefused 9 NotLive\n",
     ),
+    // Refusals of a drain in their order. A node may drain itself.
+    (
+        TWO,
+        "drain c1@h zz@h true\nboot c1@h 0\ndrain c1@h zz@h true\ndrain c1@h c2@h true\ndrain c1@h c1@h true\nboot c2@h 0\nhand c2@h 1\ndown c2@h c1@h\nhand c1@h 4\ndrain c1@h zz@h false\n",
+        "refused 1 Off\nbooted 1 op 1\nrefused 5 UnknownNode\nrefused 9 NotLive\nissued 2 c1@h 1 2\nbooted 1 op 3\nheard new\nissued 4 c2@h 1 2\nheard new\nrefused 3 DeclaredDown\n",
+    ),
     // Declared down until it boots.
     (
         TWO,
@@ -147,6 +159,25 @@ pub const SCRIPTS: &[(&str, &str, &str)] = &[
         EXAMPLE,
         "boot cp1@cave 0\nboot cp2@cave 0\nhand cp2@cave 1\npermit cp2@cave myapp cp1@cave false\npermit cp1@cave myapp cp1@cave false\nhand cp1@cave 3\npermit cp1@cave myapp cp1@cave true\npage cp1@cave\n",
         "booted 1 op 1\nbooted 1 op 2\nheard new\nissued 3 cp2@cave 1 2\nissued 4 cp1@cave 1 2\nheard new\nissued 5 cp1@cave 1 3\nnode cp1@cave 1\nheard 4 known 4\nnode cp1@cave up 1\nnode cp2@cave unknown\nnode cp3@cave unknown\napp myapp holder none verdict nobody\nlist cp1@cave=idle cp2@cave=down cp3@cave=down\n",
+    ),
+    // Of two drains of one incarnation that stand, true wins.
+    (
+        EXAMPLE,
+        "boot cp1@cave 0\nboot cp2@cave 0\nhand cp2@cave 1\ndrain cp1@cave cp1@cave false\ndrain cp2@cave cp1@cave true\nship cp1@cave cp2@cave\nship cp2@cave cp1@cave\nhear cp2@cave 1\nhear cp1@cave 2\nsame cp1@cave cp2@cave\npage cp1@cave\n",
+        "booted 1 op 1\nbooted 1 op 2\nheard new\nissued 3 cp1@cave 1 2\nissued 4 cp2@cave 1 2\nshipped 1 whole 2\nshipped 2 whole 3\nheard new\nheard new\nsame\nnode cp1@cave 1\nheard 4 known 4\nnode cp1@cave up 1 drained\nnode cp2@cave up 1\nnode cp3@cave unknown\napp myapp holder none verdict nobody\nlist cp1@cave=drained cp2@cave=idle cp3@cave=down\n",
+    ),
+    // A drain replaces all that stand.
+    (
+        EXAMPLE,
+        "boot cp1@cave 0\nboot cp2@cave 0\nhand cp2@cave 1\ndrain cp2@cave cp1@cave true\ndrain cp1@cave cp1@cave true\nhand cp1@cave 3\npage cp1@cave\ndrain cp1@cave cp1@cave false\npage cp1@cave\n",
+        "booted 1 op 1\nbooted 1 op 2\nheard new\nissued 3 cp2@cave 1 2\nissued 4 cp1@cave 1 2\nheard new\nnode cp1@cave 1\nheard 3 known 3\nnode cp1@cave up 1 drained\nnode cp2@cave unknown\nnode cp3@cave unknown\napp myapp holder none verdict nobody\nlist cp1@cave=drained cp2@cave=down cp3@cave=down\nissued 5 cp1@cave 1 3\nnode cp1@cave 1\nheard 4 known 4\nnode cp1@cave up 1\nnode cp2@cave unknown\nnode cp3@cave unknown\napp myapp holder none verdict nobody\nlist cp1@cave=idle cp2@cave=down cp3@cave=down\n",
+    ),
+    // What stands on a page of a node that is drained: it is barred where it is also not permitted, and not idle where it is
+    // also not started. A node that is down isn't called drained.
+    (
+        PLAIN,
+        "boot c1@h 0\nstart c1@h a c1@h\ndrain c1@h c1@h true\npage c1@h\npermit c1@h a c1@h false\npage c1@h\npermit c1@h a c1@h true\nstop c1@h a c1@h\npage c1@h\ndrain c1@h c1@h false\npage c1@h\ndrain c1@h c1@h true\nboot c2@h 0\nshare\ndown c2@h c1@h\npage c2@h\n",
+        "booted 1 op 1\nissued 2 c1@h 1 2\nissued 3 c1@h 1 3\nnode c1@h 1\nheard 3 known 3\nnode c1@h up 1 drained\nnode c2@h unknown\nnode c3@h unknown\napp a holder none verdict nobody\nlist c1@h=drained c2@h=down c3@h=down\nissued 4 c1@h 1 4\nnode c1@h 1\nheard 4 known 4\nnode c1@h up 1 drained\nnode c2@h unknown\nnode c3@h unknown\napp a holder none verdict nobody\nlist c1@h=barred c2@h=down c3@h=down\nissued 5 c1@h 1 5\nissued 6 c1@h 1 6\nnode c1@h 1\nheard 6 known 6\nnode c1@h up 1 drained\nnode c2@h unknown\nnode c3@h unknown\napp a holder none verdict nobody\nlist c1@h=drained c2@h=down c3@h=down\nissued 7 c1@h 1 7\nnode c1@h 1\nheard 7 known 7\nnode c1@h up 1\nnode c2@h unknown\nnode c3@h unknown\napp a holder none verdict nobody\nlist c1@h=idle c2@h=down c3@h=down\nissued 8 c1@h 1 8\nbooted 1 op 9\nshared 2\nissued 10 c2@h 1 2\nnode c2@h 1\nheard 10 known 10\nnode c1@h down 1\nnode c2@h up 1\nnode c3@h unknown\napp a holder none verdict nobody\nlist c1@h=down c2@h=idle c3@h=down\n",
     ),
     // Operations are handed out of order.
     (

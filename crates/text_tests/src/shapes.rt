@@ -259,10 +259,11 @@ fn one_more_than_may_be(rt: HostRuntime) {
     // The 65th application stands behind 64 of 8 bytes with their commas.
     let place = 24 + 64 * 9 + 1;
     assert!(rt; is_told(fault_of_apps(rt.alloc(), 65), FaultKind::TooManyApps, place));
-    let place = 28 + 16 * 3;
+    // So does the 65th node behind 64 of 2.
+    let place = 28 + 64 * 3;
     assert!(rt;
         is_told(
-            fault_of_nodes(rt.alloc(), 17),
+            fault_of_nodes(rt.alloc(), 65),
             FaultKind::TooManyNodes,
             place
         )

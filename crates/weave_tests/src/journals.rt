@@ -15,7 +15,7 @@ pub(crate) fn example(alloc: Global) -> Option<Config> {
 }
 
 /// A journal of a node after so many incarnations.
-pub(crate) fn journal(alloc: Global, node: u8, last: u32) -> Option<Journal> {
+pub(crate) fn journal(alloc: Global, node: u8, last: u64) -> Option<Journal> {
     let config = example(alloc)?;
     Some(Journal::new(alloc, config, NodeId(node), last))
 }

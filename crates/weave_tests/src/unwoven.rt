@@ -47,7 +47,7 @@ fn by_hand(alloc: Global) -> Option<WeaveFault> {
 }
 
 /// The fault of journals that are empty, of these nodes after so many incarnations.
-fn of_empty(alloc: Global, nodes: [u8; 3], lasts: [u32; 3]) -> Option<WeaveFault> {
+fn of_empty(alloc: Global, nodes: [u8; 3], lasts: [u64; 3]) -> Option<WeaveFault> {
     let first = journal(alloc, nodes[0], lasts[0])?;
     let second = journal(alloc, nodes[1], lasts[1])?;
     let third = journal(alloc, nodes[2], lasts[2])?;

@@ -7,6 +7,7 @@ use Rattle.std.proofs.lemmas.Bool.{ltb-true, lt-ltb, eqb-true, eqb-false}
 use Rattle.dac_base.specs.declared.limits.TheConstants.{MAX_COUNTER}
 use Rattle.dac_dots.specs.Dots.{Dots, origin_cmp, origins_total}
 use Rattle.dac_dots.specs.declared.dot.Origin.{Origin}
+use Rattle.dac_bytes.specs.declared.version.Version.{Version}
 use Rattle.dac_bytes.specs.declared.fault.ReadFaultKind.TheVariants.{BadOrder}
 use Rattle.dac_bytes.specs.laws.Fields.{u16_takes, u16_again, u32_in_takes, u32_in_again, u64_in_takes, u64_in_again, counter_takes, counter_again, origin_above_takes, origin_above_again}
 use Rattle.dac_bytes.specs.Items.{Chain, items_takes, items_again}
@@ -55,25 +56,25 @@ count_least upto count some = elim (nat_eq upto 0) as (λ b. nat_eq upto 0 ≡ b
 regroup : (a b c d : List ℕ) → a ++ (b ++ (c ++ d)) ≡ ((a ++ b) ++ c) ++ d
 regroup a b c d = sym (simp append_assoc)
 
-module _ (nodes : ℕ) where
+module _ (version : Version) (nodes : ℕ) where
   -- a row of an origin above the one before it
   abbrev IsNext : Option Origin → Row → Type 0
-  IsNext = IsNextAbove origin_cmp (λ (row : Row). row.origin) (IsRow nodes)
+  IsNext = IsNextAbove origin_cmp (λ (row : Row). row.origin) (IsRow version nodes)
 
   abbrev made : Origin → ℕ → List ℕ → Row
   made origin upto further = record { origin = origin; upto = upto; further = further }
 
   -- the four fields of a row, one after the other
   row_spelled : (origin : Origin) (upto : ℕ) (further : List ℕ) (r a b c end : Rest)
-      → Takes r (origin_bytes origin) a → Takes a (u64_bytes upto) b → Takes b (u32_bytes (length further)) c → Takes c (flat_map u64_bytes further) end → Takes r (row_bytes (made origin upto further)) end
+      → Takes r (origin_bytes version origin) a → Takes a (u64_bytes upto) b → Takes b (u32_bytes (length further)) c → Takes c (flat_map u64_bytes further) end → Takes r (row_bytes version (made origin upto further)) end
   unfolding row_bytes
   row_spelled origin upto further r a b c end p q s t =
-      let ab = Takes-then r (origin_bytes origin) a (u64_bytes upto) b p q in
-      let abc = Takes-then r (origin_bytes origin ++ u64_bytes upto) b (u32_bytes (length further)) c ab s in
-      Takes-then r (origin_bytes origin ++ u64_bytes upto ++ u32_bytes (length further)) c (flat_map u64_bytes further) end abc t
+      let ab = Takes-then r (origin_bytes version origin) a (u64_bytes upto) b p q in
+      let abc = Takes-then r (origin_bytes version origin ++ u64_bytes upto) b (u32_bytes (length further)) c ab s in
+      Takes-then r (origin_bytes version origin ++ u64_bytes upto ++ u32_bytes (length further)) c (flat_map u64_bytes further) end abc t
 
-  row_is : (origin : Origin) (upto count : ℕ) (further : List ℕ) → IsOrigin nodes origin → upto ≤ MAX_COUNTER → (least_count upto ≤ count) × (count ≤ 2 ^ 32 - 1)
-      → (length further ≡ count) × Chain IsFurther (λ n. n) (upto + 1) further → IsRow nodes (made origin upto further)
+  row_is : (origin : Origin) (upto count : ℕ) (further : List ℕ) → IsOrigin version nodes origin → upto ≤ MAX_COUNTER → (least_count upto ≤ count) × (count ≤ 2 ^ 32 - 1)
+      → (length further ≡ count) × Chain IsFurther (λ n. n) (upto + 1) further → IsRow version nodes (made origin upto further)
   row_is origin upto count further is most counts chain =
       record {
         origin = is;
@@ -84,9 +85,9 @@ module _ (nodes : ℕ) where
       }
 
   row_further : (before : Option Origin) (origin : Origin) (upto count : ℕ) (r a b c : Rest) (x : Row × Rest)
-      → Takes r (origin_bytes origin) a × (IsOrigin nodes origin × (is_above origin_cmp before origin ≡ true)) → Takes a (u64_bytes upto) b × ((0 ≤ upto) × (upto ≤ MAX_COUNTER))
+      → Takes r (origin_bytes version origin) a × (IsOrigin version nodes origin × (is_above origin_cmp before origin ≡ true)) → Takes a (u64_bytes upto) b × ((0 ≤ upto) × (upto ≤ MAX_COUNTER))
       → Takes b (u32_bytes count) c × ((least_count upto ≤ count) × (count ≤ 2 ^ 32 - 1))
-      → (items_at further_at (λ n. n) count (upto + 1) c >>= λ further. Ok (made origin upto further.0, further.1)) ≡ Ok x → Takes r (row_bytes x.0) x.1 × IsNext before x.0
+      → (items_at further_at (λ n. n) count (upto + 1) c >>= λ further. Ok (made origin upto further.0, further.1)) ≡ Ok x → Takes r (row_bytes version x.0) x.1 × IsNext before x.0
   row_further before origin upto count r a b c x ta tb tc e =
       let d = bind_ok (items_at further_at (λ n. n) count (upto + 1) c) (λ further. Ok (made origin upto further.0, further.1)) x e in
       let further = d.0.0 in
@@ -95,12 +96,12 @@ module _ (nodes : ℕ) where
       let counted : Takes b (u32_bytes (length further)) c = subst (λ (n : ℕ). Takes b (u32_bytes n) c) (sym td.1.0) tc.0 in
       let spelled = row_spelled origin upto further r a b c end ta.0 tb.0 counted td.0 in
       let is = row_is origin upto count further ta.1.0 tb.1.1 tc.1 td.1 in
-      subst (λ (x : Row × Rest). Takes r (row_bytes x.0) x.1 × IsNext before x.0) (ok_is (made origin upto further, end) x d.2) (spelled, (is, ta.1.1))
+      subst (λ (x : Row × Rest). Takes r (row_bytes version x.0) x.1 × IsNext before x.0) (ok_is (made origin upto further, end) x d.2) (spelled, (is, ta.1.1))
 
   row_rest : (before : Option Origin) (r : Rest) (origin : Origin × Rest) (x : Row × Rest)
-      → Takes r (origin_bytes origin.0) origin.1 × (IsOrigin nodes origin.0 × (is_above origin_cmp before origin.0 ≡ true))
+      → Takes r (origin_bytes version origin.0) origin.1 × (IsOrigin version nodes origin.0 × (is_above origin_cmp before origin.0 ≡ true))
       → (range_at w64 0 MAX_COUNTER origin.1 >>= λ upto. further_count_at upto.0 upto.1 >>= λ count. items_at further_at (λ n. n) count.0 (upto.0 + 1) count.1 >>= λ further. Ok (made origin.0 upto.0 further.0, further.1)) ≡ Ok x
-      → Takes r (row_bytes x.0) x.1 × IsNext before x.0
+      → Takes r (row_bytes version x.0) x.1 × IsNext before x.0
   unfolding least_count
   row_rest before r origin x ta e =
       let b = bind_ok (range_at w64 0 MAX_COUNTER origin.1) (λ upto. further_count_at upto.0 upto.1 >>= λ count. items_at further_at (λ n. n) count.0 (upto.0 + 1) count.1 >>= λ further. Ok (made origin.0 upto.0 further.0, further.1)) x e in
@@ -110,35 +111,35 @@ module _ (nodes : ℕ) where
       let tc = u32_in_takes (least_count upto) (2 ^ 32 - 1) b.0.1 c.0 tb.0.fits c.1 in
       row_further before origin.0 upto c.0.0 r origin.1 b.0.1 c.0.1 x ta tb tc c.2
 
-  row_takes : (before : Option Origin) → TakesAs (row_at nodes before) row_bytes (IsNext before)
+  row_takes : (before : Option Origin) → TakesAs (row_at version nodes before) (row_bytes version) (IsNext before)
   unfolding row_at least_count
   row_takes before r x fits e =
-      let a = bind_ok (origin_above_at nodes before r) (λ origin. range_at w64 0 MAX_COUNTER origin.1 >>= λ upto. further_count_at upto.0 upto.1 >>= λ count. items_at further_at (λ n. n) count.0 (upto.0 + 1) count.1 >>= λ further. Ok (made origin.0 upto.0 further.0, further.1)) x e in
-      row_rest before r a.0 x (origin_above_takes nodes before r a.0 fits a.1) a.2
+      let a = bind_ok (origin_above_at version nodes before r) (λ origin. range_at w64 0 MAX_COUNTER origin.1 >>= λ upto. further_count_at upto.0 upto.1 >>= λ count. items_at further_at (λ n. n) count.0 (upto.0 + 1) count.1 >>= λ further. Ok (made origin.0 upto.0 further.0, further.1)) x e in
+      row_rest before r a.0 x (origin_above_takes version nodes before r a.0 fits a.1) a.2
 
   -- the set of rows that were read is spelled by them
-  rows_are : (rows : List Row) → AreRising origin_cmp (λ (row : Row). row.origin) (IsRow nodes) None rows → rows_of (dots_in rows) ≡ rows
-  rows_are rows h = rows_are_read nodes rows h.each h.rising
+  rows_are : (rows : List Row) → AreRising origin_cmp (λ (row : Row). row.origin) (IsRow version nodes) None rows → rows_of (dots_in rows) ≡ rows
+  rows_are rows h = rows_are_read version nodes rows h.each h.rising
 
-  counts : (rows : List Row) → AllByRecursion (IsRow nodes) rows → AllByRecursion (λ (row : Row). length row.further < 2 ^ 32) rows
+  counts : (rows : List Row) → AllByRecursion (IsRow version nodes) rows → AllByRecursion (λ (row : Row). length row.further < 2 ^ 32) rows
   counts [] all = tt
   counts (row ∷ rows) all = (all.0.count, counts rows all.1)
 
   -- What is read is spelled so, and can be read.
-  pub context_takes : TakesAs (context_at nodes) context_bytes (IsContext nodes)
+  pub context_takes : TakesAs (context_at version nodes) (context_bytes version) (IsContext version nodes)
   unfolding context_at rows_at context_bytes
   context_takes r x fits e =
-      let a = bind_ok (rows_at nodes r) (λ rows. Ok (dots_in rows.0, rows.1)) x e in
+      let a = bind_ok (rows_at version nodes r) (λ rows. Ok (dots_in rows.0, rows.1)) x e in
       let rows = a.0.0 in
       let end = a.0.1 in
-      let b = bind_ok (number_at w16 r) (λ count. items_at (row_at nodes) (λ (row : Row). Some row.origin) count.0 None count.1) (rows, end) a.1 in
+      let b = bind_ok (number_at w16 r) (λ count. items_at (row_at version nodes) (λ (row : Row). Some row.origin) count.0 None count.1) (rows, end) a.1 in
       let tb = u16_takes r b.0 fits b.1 in
-      let ta = items_takes (row_at nodes) (λ (row : Row). Some row.origin) row_bytes IsNext row_takes b.0.0 None b.0.1 (rows, end) tb.0.fits b.2 in
-      let rising = rising_of origins_total (λ (row : Row). row.origin) (IsRow nodes) None rows ta.1.1 in
+      let ta = items_takes (row_at version nodes) (λ (row : Row). Some row.origin) (row_bytes version) IsNext row_takes b.0.0 None b.0.1 (rows, end) tb.0.fits b.2 in
+      let rising = rising_of origins_total (λ (row : Row). row.origin) (IsRow version nodes) None rows ta.1.1 in
       let same = rows_are rows rising in
       let counted : Takes r (u16_bytes (length rows)) b.0.1 = subst (λ (n : ℕ). Takes r (u16_bytes n) b.0.1) (sym ta.1.0) tb.0 in
-      let both = Takes-then r (u16_bytes (length rows)) b.0.1 (flat_map row_bytes rows) end counted ta.0 in
-      let spelled : Takes r (context_bytes (dots_in rows)) end = subst (λ (rows : List Row). Takes r (u16_bytes (length rows) ++ flat_map row_bytes rows) end) (sym same) both in
+      let both = Takes-then r (u16_bytes (length rows)) b.0.1 (flat_map (row_bytes version) rows) end counted ta.0 in
+      let spelled : Takes r (context_bytes version (dots_in rows)) end = subst (λ (rows : List Row). Takes r (u16_bytes (length rows) ++ flat_map (row_bytes version) rows) end) (sym same) both in
       let len : length rows ≡ b.0.0 = ta.1.0 in
       let most : b.0.0 < 2 ^ 16 = tb.1 in
       let few : length rows < 2 ^ 16 = omega arith in
@@ -146,10 +147,10 @@ module _ (nodes : ℕ) where
         origins = subst (λ (rows : List Row). length rows < 2 ^ 16) (sym same) few;
         further = subst (AllByRecursion (λ (row : Row). length row.further < 2 ^ 32)) (sym same) (counts rows rising.each);
       } in
-      subst (λ (x : Dots × Rest). Takes r (context_bytes x.0) x.1 × IsContext nodes x.0) (ok_is (dots_in rows, end) x a.2) (spelled, (rows_in_range nodes rows rising.each, fit))
+      subst (λ (x : Dots × Rest). Takes r (context_bytes version x.0) x.1 × IsContext version nodes x.0) (ok_is (dots_in rows, end) x a.2) (spelled, (rows_in_range version nodes rows rising.each, fit))
 
   module _ (one_byte_each : nodes ≤ 2 ^ 8) where
-    row_again : (before : Option Origin) (row : Row) → IsNext before row → Again (row_at nodes before) (row_bytes row) row
+    row_again : (before : Option Origin) (row : Row) → IsNext before row → Again (row_at version nodes before) (row_bytes version row) row
     unfolding row_at row_bytes least_count
     row_again before row h =
         let is = h.0 in
@@ -163,20 +164,20 @@ module _ (nodes : ℕ) where
         (u32_in_again (least_count v) (2 ^ 32 - 1) (omega arith) count (count_least v count is.some) few) further in
         let upto = Again-then (range_at w64 0 MAX_COUNTER) (λ upto. further_count_at upto.0 upto.1 >>= λ count. items_at further_at (λ n. n) count.0 (upto.0 + 1) count.1 >>= λ further. Ok (made o upto.0 further.0, further.1)) (u64_bytes v) (u32_bytes count ++ flat_map u64_bytes ns) v row
         (u64_in_again 0 MAX_COUNTER (omega arith) v (omega arith) is.upto) counted in
-        let read = Again-then (origin_above_at nodes before) (λ origin. range_at w64 0 MAX_COUNTER origin.1 >>= λ upto. further_count_at upto.0 upto.1 >>= λ count. items_at further_at (λ n. n) count.0 (upto.0 + 1) count.1 >>= λ further. Ok (made origin.0 upto.0 further.0, further.1)) (origin_bytes o) (u64_bytes v ++ (u32_bytes count ++ flat_map u64_bytes ns)) o row
-        (origin_above_again nodes one_byte_each before o is.origin h.1) upto in
-        subst (λ (t : List ℕ). Again (row_at nodes before) t row) (regroup (origin_bytes o) (u64_bytes v) (u32_bytes count) (flat_map u64_bytes ns)) read
+        let read = Again-then (origin_above_at version nodes before) (λ origin. range_at w64 0 MAX_COUNTER origin.1 >>= λ upto. further_count_at upto.0 upto.1 >>= λ count. items_at further_at (λ n. n) count.0 (upto.0 + 1) count.1 >>= λ further. Ok (made origin.0 upto.0 further.0, further.1)) (origin_bytes version o) (u64_bytes v ++ (u32_bytes count ++ flat_map u64_bytes ns)) o row
+        (origin_above_again version nodes one_byte_each before o is.origin h.1) upto in
+        subst (λ (t : List ℕ). Again (row_at version nodes before) t row) (regroup (origin_bytes version o) (u64_bytes v) (u32_bytes count) (flat_map u64_bytes ns)) read
 
     -- What can be read is read from its spelling.
-    pub context_again : (dots : Dots) → IsContext nodes dots → Again (context_at nodes) (context_bytes dots) dots
+    pub context_again : (dots : Dots) → IsContext version nodes dots → Again (context_at version nodes) (context_bytes version dots) dots
     unfolding context_at rows_at context_bytes
     context_again dots is =
         let rows = rows_of dots in
         let tell = rows_tell dots in
-        let each = are_rows dots nodes is.0 rows tell.each is.1.further in
-        let chain = chain_of origins_total (λ (row : Row). row.origin) (IsRow nodes) None rows (record { each = each; rising = tell.rising; above = refl }) in
-        let items = items_again (row_at nodes) (λ (row : Row). Some row.origin) row_bytes IsNext row_again rows None chain in
-        let counted = Again-then (number_at w16) (λ count. items_at (row_at nodes) (λ (row : Row). Some row.origin) count.0 None count.1) (u16_bytes (length rows)) (flat_map row_bytes rows) (length rows) rows
+        let each = are_rows dots version nodes is.0 rows tell.each is.1.further in
+        let chain = chain_of origins_total (λ (row : Row). row.origin) (IsRow version nodes) None rows (record { each = each; rising = tell.rising; above = refl }) in
+        let items = items_again (row_at version nodes) (λ (row : Row). Some row.origin) (row_bytes version) IsNext row_again rows None chain in
+        let counted = Again-then (number_at w16) (λ count. items_at (row_at version nodes) (λ (row : Row). Some row.origin) count.0 None count.1) (u16_bytes (length rows)) (flat_map (row_bytes version) rows) (length rows) rows
         (u16_again (length rows) is.1.origins) items in
-        let read = Again-made (rows_at nodes) dots_in (context_bytes dots) rows counted in
-        subst (λ (d : Dots). Again (context_at nodes) (context_bytes dots) d) (dots_back dots) read
+        let read = Again-made (rows_at version nodes) dots_in (context_bytes version dots) rows counted in
+        subst (λ (d : Dots). Again (context_at version nodes) (context_bytes version dots) d) (dots_back dots) read

@@ -1,5 +1,5 @@
 -- The laws of each field: what is read is spelled so and in range, and what is in range is read from its spelling.
-use Rattle.std.specs.Prelude.{◌≡◌, ℕ, ◌+◌, ◌-◌, ◌^◌, ◌<◌, ◌≤◌, Bool, true, false, ◌||◌, ◌%◌, cond, List, [], ◌∷◌, ◌++◌, length, take, Option, Ok, nat_lt, refl}
+use Rattle.std.specs.Prelude.{◌≡◌, ℕ, ◌+◌, ◌^◌, ◌<◌, ◌≤◌, Bool, true, false, ◌||◌, ◌%◌, cond, List, [], ◌∷◌, ◌++◌, length, take, Option, Ok, nat_lt, refl}
 use Rattle.std.specs.Int.{Width, w8, w16, w32, w64, byte_len, from_be_bytes, to_be_bytes}
 use Rattle.std.proofs.Common.{sym, ap, subst, ◌∙◌, arith}
 use Rattle.std.proofs.lemmas.Bool.{or_parts, or_from, ltb-true, ltb-false, lt-ltb, le-ltb}
@@ -11,9 +11,12 @@ use Rattle.dac_dots.specs.declared.dot.Origin.{Origin}
 use Rattle.dac_dots.specs.declared.dot.Dot.{Dot}
 use Rattle.dac_dots.specs.Dots.{dot_cmp, origin_cmp}
 use Rattle.dac_bytes.specs.declared.fault.ReadFaultKind.TheVariants.{Short, BadNumber, BadOrder, BadName}
+use Rattle.dac_bytes.specs.declared.version.Version.{Version}
+use Rattle.dac_bytes.specs.declared.version.Version.TheVariants.{One, Two}
+use Rattle.dac_bytes.specs.Versions.{incarnation_width, highest_incarnation}
 use Rattle.dac_bytes.specs.Numbers.{u8_bytes, u16_bytes, u32_bytes, u64_bytes}
 use Rattle.dac_bytes.specs.Ranges.{IsIncarnation, IsOrigin, IsDot}
-use Rattle.dac_bytes.specs.Reading.{Rest, ◌>>=◌, after, fault, number_at, range_at, node_at, incarnation_at, counter_at, origin_at, dot_at, is_above, origin_above_at, dot_above_at}
+use Rattle.dac_bytes.specs.Reading.{Rest, ◌>>=◌, after, fault, number_at, range_at, node_at, incarnation_at, incarnation_or_zero_at, counter_at, origin_at, dot_at, is_above, origin_above_at, dot_above_at}
 use Rattle.dac_bytes.specs.Spelling.{incarnation_bytes, origin_bytes, dot_bytes}
 use Rattle.dac_bytes.specs.Takes.{IsBytes, IsBytes-take, Takes, TakesAs, Again, Takes-front, bind_ok, guard_ok, wanted_ok, TakesAs-more, TakesAs-guard, TakesAs-wanted, TakesAs-both, Again-guard, Again-wanted, Again-both}
 
@@ -147,6 +150,11 @@ module _ (low high : ℕ) where
   unfolding u64_bytes
   u64_in_again = range_again w64 (2 ^ 64) wide64 low high
 
+-- what no number of an incarnation's bytes reaches
+abbrev pub beyond_incarnation : Version → ℕ
+beyond_incarnation One = 2 ^ 32
+beyond_incarnation Two = 2 ^ 64
+
 -- ---- names
 
 abbrev node_bytes : NodeId → List ℕ
@@ -155,14 +163,34 @@ node_bytes node = u8_bytes node.0
 abbrev named : ℕ → NodeId
 named n = record { 0 = n }
 
-pub incarnation_takes : TakesAs incarnation_at incarnation_bytes IsIncarnation
-unfolding incarnation_bytes
-incarnation_takes =
-    TakesAs-more incarnation_at incarnation_bytes (λ n. (1 ≤ n) × (n ≤ 2 ^ 32 - 1)) IsIncarnation (u32_in_takes 1 (2 ^ 32 - 1)) (λ n is. (is.0, omega (arith, is.1)))
+-- an incarnation is as wide as the version says, and within that
+pub wide_incarnation : (version : Version) → IsWide (incarnation_width version) (beyond_incarnation version)
+wide_incarnation One = wide32
+wide_incarnation Two = wide64
 
-pub incarnation_again : (n : ℕ) → IsIncarnation n → Again incarnation_at (incarnation_bytes n) n
+incarnation_fits : (version : Version) → highest_incarnation version < beyond_incarnation version
+incarnation_fits One = omega arith
+incarnation_fits Two = omega arith
+
+pub incarnation_takes : (version : Version) → TakesAs (incarnation_at version) (incarnation_bytes version) (IsIncarnation version)
 unfolding incarnation_bytes
-incarnation_again n is = u32_in_again 1 (2 ^ 32 - 1) (omega arith) n is.0 (omega (arith, is.1))
+incarnation_takes version = range_takes (incarnation_width version) (beyond_incarnation version) (wide_incarnation version) 1 (highest_incarnation version)
+
+pub incarnation_again : (version : Version) (n : ℕ) → IsIncarnation version n → Again (incarnation_at version) (incarnation_bytes version n) n
+unfolding incarnation_bytes
+incarnation_again version n is =
+    range_again (incarnation_width version) (beyond_incarnation version) (wide_incarnation version) 1 (highest_incarnation version) (incarnation_fits version) n is.0 is.1
+
+pub incarnation_or_zero_takes : (version : Version) → TakesAs (incarnation_or_zero_at version) (incarnation_bytes version) (λ n. n ≤ highest_incarnation version)
+unfolding incarnation_bytes
+incarnation_or_zero_takes version =
+    TakesAs-more (incarnation_or_zero_at version) (incarnation_bytes version) (λ n. (0 ≤ n) × (n ≤ highest_incarnation version)) (λ n. n ≤ highest_incarnation version)
+    (range_takes (incarnation_width version) (beyond_incarnation version) (wide_incarnation version) 0 (highest_incarnation version)) (λ n is. is.1)
+
+pub incarnation_or_zero_again : (version : Version) (n : ℕ) → n ≤ highest_incarnation version → Again (incarnation_or_zero_at version) (incarnation_bytes version n) n
+unfolding incarnation_bytes
+incarnation_or_zero_again version n le =
+    range_again (incarnation_width version) (beyond_incarnation version) (wide_incarnation version) 0 (highest_incarnation version) (incarnation_fits version) n (omega arith) le
 
 pub counter_takes : TakesAs counter_at u64_bytes (λ n. (1 ≤ n) × (n ≤ MAX_COUNTER))
 counter_takes = u64_in_takes 1 MAX_COUNTER
@@ -170,7 +198,7 @@ counter_takes = u64_in_takes 1 MAX_COUNTER
 pub counter_again : (n : ℕ) → 1 ≤ n → n ≤ MAX_COUNTER → Again counter_at (u64_bytes n) n
 counter_again = u64_in_again 1 MAX_COUNTER (omega arith)
 
-module _ (nodes : ℕ) where
+module _ (version : Version) (nodes : ℕ) where
   pub node_takes : TakesAs (node_at nodes) (λ (node : NodeId). u8_bytes node.0) (λ node. node.0 < nodes)
   unfolding node_at
   node_takes r x fits e =
@@ -179,27 +207,27 @@ module _ (nodes : ℕ) where
       let t = u8_takes r b.0 fits b.1 in
       subst (λ (x : NodeId × Rest). Takes r (node_bytes x.0) x.1 × (x.0.0 < nodes)) g.1 (t.0, ltb-true b.0.0 nodes g.0)
 
-  pub origin_takes : TakesAs (origin_at nodes) origin_bytes (IsOrigin nodes)
+  pub origin_takes : TakesAs (origin_at version nodes) (origin_bytes version) (IsOrigin version nodes)
   unfolding origin_at origin_bytes
   origin_takes =
-      TakesAs-both (node_at nodes) node_bytes (λ node. node.0 < nodes) (λ _ r. incarnation_at r) (λ _. incarnation_bytes) (λ _. IsIncarnation)
-      (λ node n. record { node = node; inc = n }) origin_bytes (IsOrigin nodes)
-      node_takes (λ _ _. incarnation_takes) (λ node n p q. (refl, record { node = p; inc = q }))
+      TakesAs-both (node_at nodes) node_bytes (λ node. node.0 < nodes) (λ _ r. incarnation_at version r) (λ _. incarnation_bytes version) (λ _. IsIncarnation version)
+      (λ node n. record { node = node; inc = n }) (origin_bytes version) (IsOrigin version nodes)
+      node_takes (λ _ _. incarnation_takes version) (λ node n p q. (refl, record { node = p; inc = q }))
 
-  pub dot_takes : TakesAs (dot_at nodes) dot_bytes (IsDot nodes)
+  pub dot_takes : TakesAs (dot_at version nodes) (dot_bytes version) (IsDot version nodes)
   unfolding dot_at dot_bytes
   dot_takes =
-      TakesAs-both (origin_at nodes) origin_bytes (IsOrigin nodes) (λ _ r. counter_at r) (λ _. u64_bytes) (λ _ n. (1 ≤ n) × (n ≤ MAX_COUNTER))
-      (λ origin n. record { origin = origin; n = n }) dot_bytes (IsDot nodes)
+      TakesAs-both (origin_at version nodes) (origin_bytes version) (IsOrigin version nodes) (λ _ r. counter_at r) (λ _. u64_bytes) (λ _ n. (1 ≤ n) × (n ≤ MAX_COUNTER))
+      (λ origin n. record { origin = origin; n = n }) (dot_bytes version) (IsDot version nodes)
       origin_takes (λ _ _. counter_takes) (λ origin n p q. (refl, record { origin = p; first = q.0; last = q.1 }))
 
-  pub origin_above_takes : (before : Option Origin) → TakesAs (origin_above_at nodes before) origin_bytes (λ o. IsOrigin nodes o × (is_above origin_cmp before o ≡ true))
+  pub origin_above_takes : (before : Option Origin) → TakesAs (origin_above_at version nodes before) (origin_bytes version) (λ o. IsOrigin version nodes o × (is_above origin_cmp before o ≡ true))
   unfolding origin_above_at
-  origin_above_takes before = TakesAs-wanted (origin_at nodes) origin_bytes (IsOrigin nodes) (is_above origin_cmp before) BadOrder origin_takes
+  origin_above_takes before = TakesAs-wanted (origin_at version nodes) (origin_bytes version) (IsOrigin version nodes) (is_above origin_cmp before) BadOrder origin_takes
 
-  pub dot_above_takes : (before : Option Dot) → TakesAs (dot_above_at nodes before) dot_bytes (λ d. IsDot nodes d × (is_above dot_cmp before d ≡ true))
+  pub dot_above_takes : (before : Option Dot) → TakesAs (dot_above_at version nodes before) (dot_bytes version) (λ d. IsDot version nodes d × (is_above dot_cmp before d ≡ true))
   unfolding dot_above_at
-  dot_above_takes before = TakesAs-wanted (dot_at nodes) dot_bytes (IsDot nodes) (is_above dot_cmp before) BadOrder dot_takes
+  dot_above_takes before = TakesAs-wanted (dot_at version nodes) (dot_bytes version) (IsDot version nodes) (is_above dot_cmp before) BadOrder dot_takes
 
   -- node numbers are of one byte
   module _ (one_byte_each : nodes ≤ 2 ^ 8) where
@@ -211,22 +239,22 @@ module _ (nodes : ℕ) where
         ap (λ f. f >>= λ n. cond (nat_lt n.0 nodes) (Ok (named n.0, n.1)) (fault BadName r)) (u8_again node.0 (omega arith) at rest)
         ∙ ap (λ (b : Bool). cond b (Ok (node, end)) (fault BadName r)) (lt-ltb node.0 nodes lt)
 
-    pub origin_again : (o : Origin) → IsOrigin nodes o → Again (origin_at nodes) (origin_bytes o) o
+    pub origin_again : (o : Origin) → IsOrigin version nodes o → Again (origin_at version nodes) (origin_bytes version o) o
     unfolding origin_at origin_bytes
     origin_again o is =
-        Again-both (node_at nodes) (λ _ r. incarnation_at r) (λ node n. record { node = node; inc = n }) (node_bytes o.node) (incarnation_bytes o.inc) o.node o.inc
-        (node_again o.node is.node) (incarnation_again o.inc is.inc)
+        Again-both (node_at nodes) (λ _ r. incarnation_at version r) (λ node n. record { node = node; inc = n }) (node_bytes o.node) (incarnation_bytes version o.inc) o.node o.inc
+        (node_again o.node is.node) (incarnation_again version o.inc is.inc)
 
-    pub dot_again : (d : Dot) → IsDot nodes d → Again (dot_at nodes) (dot_bytes d) d
+    pub dot_again : (d : Dot) → IsDot version nodes d → Again (dot_at version nodes) (dot_bytes version d) d
     unfolding dot_at dot_bytes
     dot_again d is =
-        Again-both (origin_at nodes) (λ _ r. counter_at r) (λ origin n. record { origin = origin; n = n }) (origin_bytes d.origin) (u64_bytes d.n) d.origin d.n
+        Again-both (origin_at version nodes) (λ _ r. counter_at r) (λ origin n. record { origin = origin; n = n }) (origin_bytes version d.origin) (u64_bytes d.n) d.origin d.n
         (origin_again d.origin is.origin) (counter_again d.n is.first is.last)
 
-    pub origin_above_again : (before : Option Origin) (o : Origin) → IsOrigin nodes o → is_above origin_cmp before o ≡ true → Again (origin_above_at nodes before) (origin_bytes o) o
+    pub origin_above_again : (before : Option Origin) (o : Origin) → IsOrigin version nodes o → is_above origin_cmp before o ≡ true → Again (origin_above_at version nodes before) (origin_bytes version o) o
     unfolding origin_above_at
-    origin_above_again before o is above = Again-wanted (origin_at nodes) (is_above origin_cmp before) BadOrder (origin_bytes o) o (origin_again o is) above
+    origin_above_again before o is above = Again-wanted (origin_at version nodes) (is_above origin_cmp before) BadOrder (origin_bytes version o) o (origin_again o is) above
 
-    pub dot_above_again : (before : Option Dot) (d : Dot) → IsDot nodes d → is_above dot_cmp before d ≡ true → Again (dot_above_at nodes before) (dot_bytes d) d
+    pub dot_above_again : (before : Option Dot) (d : Dot) → IsDot version nodes d → is_above dot_cmp before d ≡ true → Again (dot_above_at version nodes before) (dot_bytes version d) d
     unfolding dot_above_at
-    dot_above_again before d is above = Again-wanted (dot_at nodes) (is_above dot_cmp before) BadOrder (dot_bytes d) d (dot_again d is) above
+    dot_above_again before d is above = Again-wanted (dot_at version nodes) (is_above dot_cmp before) BadOrder (dot_bytes version d) d (dot_again d is) above

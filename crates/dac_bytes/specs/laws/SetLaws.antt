@@ -11,35 +11,36 @@ use Rattle.dac_dots.specs.Dots.{Dots, dot, origin_cmp, exact_origins}
 use Rattle.dac_dots.specs.declared.dot.Dot.{Dot}
 use Rattle.dac_contexts.specs.laws.RowSets.{contains-dots_in, kept_are, some_length}
 use Rattle.dac_contexts.specs.Rows.{Row, IsRowOf, rows_of, dots_in, has_counter, any_row, origins, IsKept, HasSome}
+use Rattle.dac_bytes.specs.declared.version.Version.{Version}
 use Rattle.dac_bytes.specs.laws.FurtherLaws.{further_of_chain, chain_of_further}
 use Rattle.dac_bytes.specs.Ranges.{IsOrigin, IsDot, InRange, IsRow, IsFurther}
 
 -- ---- rows that were read tell their set
 
-module _ (nodes : ℕ) where
-  kept_row : (row : Row) → IsRow nodes row → IsKept row × HasSome row
+module _ (version : Version) (nodes : ℕ) where
+  kept_row : (row : Row) → IsRow version nodes row → IsKept row × HasSome row
   kept_row row is =
       let further = further_of_chain (row.upto + 1) row.further is.further in (
         record { rising = further.rising; apart = λ n e. inr (further.each n e).above },
         elim (cases_lt 0 row.upto) [ inl more ↦ inl more | inr none ↦ inr (is.some (omega arith)) ],
       )
 
-  kept_rows : (rows : List Row) → AllByRecursion (IsRow nodes) rows → AllByRecursion (λ row. IsKept row × HasSome row) rows
+  kept_rows : (rows : List Row) → AllByRecursion (IsRow version nodes) rows → AllByRecursion (λ row. IsKept row × HasSome row) rows
   kept_rows [] is = tt
   kept_rows (row ∷ rows) is = (kept_row row is.0, kept_rows rows is.1)
 
   -- rows that were read are those of their set
-  pub rows_are_read : (rows : List Row) → AllByRecursion (IsRow nodes) rows → IsRising origin_cmp (origins rows) → rows_of (dots_in rows) ≡ rows
+  pub rows_are_read : (rows : List Row) → AllByRecursion (IsRow version nodes) rows → IsRising origin_cmp (origins rows) → rows_of (dots_in rows) ≡ rows
   rows_are_read rows is rising = kept_are rows (record { each = kept_rows rows is; rising = rising })
 
   -- each dot of rows that were read is one that there can be
-  dot_in_range : (rows : List Row) → AllByRecursion (IsRow nodes) rows → (q : Dot) → any_row rows q ≡ true → IsDot nodes q
+  dot_in_range : (rows : List Row) → AllByRecursion (IsRow version nodes) rows → (q : Dot) → any_row rows q ≡ true → IsDot version nodes q
   dot_in_range [] is q e = absurd (false≢true e)
   dot_in_range (row ∷ rows) is q e = elim (or_cases (eq_by_cmp origin_cmp q.origin row.origin && has_counter row q.n) (any_row rows q) e) [
     | inl here ↦
         let parts = and_parts _ _ here in
-        let first : IsRow nodes row = is.0 in
-        let origin : IsOrigin nodes q.origin = subst (IsOrigin nodes) (sym (exact_origins q.origin row.origin (tie _ parts.0))) first.origin in
+        let first : IsRow version nodes row = is.0 in
+        let origin : IsOrigin version nodes q.origin = subst (IsOrigin version nodes) (sym (exact_origins q.origin row.origin (tie _ parts.0))) first.origin in
         elim (or_cases (nat_le 1 q.n && nat_le q.n row.upto) (has_key nat_cmp row.further q.n) parts.1) [
           | inl inside ↦
               let range = and_parts _ _ inside in
@@ -54,13 +55,13 @@ module _ (nodes : ℕ) where
     | inr past ↦ dot_in_range rows is.1 q past
   ]
 
-  pub rows_in_range : (rows : List Row) → AllByRecursion (IsRow nodes) rows → InRange nodes (dots_in rows)
+  pub rows_in_range : (rows : List Row) → AllByRecursion (IsRow version nodes) rows → InRange version nodes (dots_in rows)
   rows_in_range rows is q e = dot_in_range rows is q (sym (contains-dots_in rows q) ∙ e)
 
 -- ---- the rows of a set in range can be read
 
 module _ (dots : Dots) where
-  module _ (nodes : ℕ) (range : InRange nodes dots) where
+  module _ (version : Version) (nodes : ℕ) (range : InRange version nodes dots) where
     is_further : (row : Row) → IsRowOf dots row → (n : ℕ) → has_key nat_cmp row.further n ≡ true → IsFurther (row.upto + 1) n
     is_further row h n e =
         let there = range (dot row.origin n) (h.exact n ∙ or_right _ _ e) in
@@ -85,7 +86,7 @@ module _ (dots : Dots) where
       | inr beyond ↦ some_length row.further h.some.0 beyond
     ]
 
-    is_row : (row : Row) → IsRowOf dots row → length row.further < 2 ^ 32 → IsRow nodes row
+    is_row : (row : Row) → IsRowOf dots row → length row.further < 2 ^ 32 → IsRow version nodes row
     is_row row h count =
         record {
           origin = (range (dot row.origin h.some.0) h.some.1).origin;
@@ -95,6 +96,6 @@ module _ (dots : Dots) where
           some = has_further row h;
         }
 
-    pub are_rows : (rows : List Row) → AllByRecursion (IsRowOf dots) rows → AllByRecursion (λ (row : Row). length row.further < 2 ^ 32) rows → AllByRecursion (IsRow nodes) rows
+    pub are_rows : (rows : List Row) → AllByRecursion (IsRowOf dots) rows → AllByRecursion (λ (row : Row). length row.further < 2 ^ 32) rows → AllByRecursion (IsRow version nodes) rows
     are_rows [] each counts = tt
     are_rows (row ∷ rows) each counts = (is_row row each.0 counts.0, are_rows rows each.1 counts.1)

@@ -16,14 +16,14 @@ use Rattle.dac_config.specs.Table.{Table}
 use Rattle.dac_placement.specs.Placement.{runner_of}
 use Rattle.dac_placement.specs.laws.Tests.{runner_is}
 use Rattle.dac_events.specs.declared.Command.{Command}
-use Rattle.dac_events.specs.declared.Command.TheVariants.{Down, Permit, Start, Stop, Takeover}
+use Rattle.dac_events.specs.declared.Command.TheVariants.{Down, Permit, Start, Stop, Drain, Takeover}
 use Rattle.dac_commands.specs.declared.refusal.Refusal.{Refusal}
 use Rattle.dac_commands.specs.declared.refusal.Refusal.TheVariants.{DeclaredDown}
-use Rattle.dac_commands.specs.Commands.{live, live_or_none, live_key, standing_starts, standing_permits, claim_act, act_of}
+use Rattle.dac_commands.specs.Commands.{live, live_or_none, live_key, live_origin, standing_starts, standing_permits, standing_drains, claim_act, act_of}
 use Rattle.dac_commands.specs.Causes.{first, causes_of, refusal_of_command, declared_down, not_live, terms_used_up, used_up}
-use Rattle.dac_commands.specs.Written.{IsKeyAt, StartStands, PermitStands, AreThose, TakesOver, Says, WritesWhatIsSaid}
+use Rattle.dac_commands.specs.Written.{IsKeyAt, StartStands, PermitStands, DrainStands, AreThose, TakesOver, Says, WritesWhatIsSaid}
 use Rattle.dac_commands.specs.laws.Counters.{next_of_is}
-use Rattle.dac_commands.specs.laws.Standing.{permits_at-has}
+use Rattle.dac_commands.specs.laws.Standing.{permits_at-has, drains_at-has}
 use Rattle.dac_commands.specs.laws.Terms.{next_claim_is}
 
 -- ---- causes that don't hold
@@ -52,6 +52,7 @@ module _ (t : Table) (own : Origin) (s : StateValue) where
   left (Permit app node value) e = (none_is (all_causes t own s (Permit app node value)) e).1.1.1.1.1.1.0
   left (Start app node) e = (none_is (all_causes t own s (Start app node)) e).1.1.1.1.1.1.0
   left (Stop app node) e = (none_is (all_causes t own s (Stop app node)) e).1.1.1.1.1.1.1.0
+  left (Drain node value) e = (none_is (all_causes t own s (Drain node value)) e).1.1.1.1.0
   left (Takeover app) e = (none_is (all_causes t own s (Takeover app)) e).1.1.1.1.1.1.1.1.0
 
   -- ---- what is said
@@ -76,6 +77,11 @@ module _ (t : Table) (own : Origin) (s : StateValue) where
       let e = permits_at-has key s.permits d in
       (λ h. sym e ∙ h, λ h. e ∙ h)
 
+  drains_are : (at : Origin) → AreThose (DrainStands s at) (standing_drains s at)
+  drains_are at d =
+      let e = drains_at-has at s.drains d in
+      (λ h. sym e ∙ h, λ h. e ∙ h)
+
   takes : (app : AppId) → not (is_some (runner_of t s app)) ≡ false → terms_used_up s app ≡ false → TakesOver t s app (act_of t s (Takeover app))
   takes app running terms = by_runner (runner_of t s app) refl running
     where
@@ -94,6 +100,9 @@ module _ (t : Table) (own : Origin) (s : StateValue) where
   says (Stop app node) e =
       let live = (none_is (all_causes t own s (Stop app node)) e).1.1.1.1.0 in
       record { key = live_key s app node; over = standing_starts s (live_key s app node); is = refl; at = key_is app node live; replaces = starts_are (live_key s app node) }
+  says (Drain node value) e =
+      let live = (none_is (all_causes t own s (Drain node value)) e).1.1.0 in
+      record { inc = live_or_none s node; over = standing_drains s (live_origin s node); is = refl; live = live_there node live; replaces = drains_are (live_origin s node) }
   says (Takeover app) e =
       let none = none_is (all_causes t own s (Takeover app)) e in
       takes app none.1.1.1.1.0 none.1.1.1.1.1.1.1.0

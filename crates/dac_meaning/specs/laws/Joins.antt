@@ -2,12 +2,16 @@
 -- of all operations together.
 use Rattle.std.proofs.Common.{◌≡◌, Bool, true, false, not, cond, ◌&&◌, ◌||◌, List, [], ◌∷◌, ◌++◌, Option, None, Some, is_some, refl, sym, ap, ◌∙◌, inl, inr}
 use Rattle.std.specs.List.{list_any}
+use Rattle.std.specs.declared.cmp.Ordering.{Ordering}
+use Rattle.std.specs.Cmp.{IsTotalOrder}
 use Rattle.std.specs.FinSet as set
+use Rattle.std.specs.FinMap as map
+use Rattle.std.proofs.lemmas.Map.Lookups.{CmpEqualImpliesEq}
 use Rattle.std.proofs.lemmas.Bool.{false≢true, and_parts, or_left, or_cases}
 use Rattle.std.proofs.lemmas.List.Folds.{list_any-append}
 use Rattle.dac_base.specs.Ids.{nodes_total, exact_nodes, apps_total, exact_apps}
 use Rattle.dac_dots.specs.declared.dot.Dot.{Dot}
-use Rattle.dac_dots.specs.Dots.{Dots, dots_total, exact_dots}
+use Rattle.dac_dots.specs.Dots.{Dots, dots_total, exact_dots, origin_cmp, origins_total, exact_origins}
 use Rattle.dac_lattice.specs.declared.flags.Flag.{Flag}
 use Rattle.dac_lattice.specs.Lattices.{join_options}
 use Rattle.dac_lattice.specs.Flags.{join_flags, flag_cmp, flags_exact}
@@ -17,15 +21,20 @@ use Rattle.dac_chains.specs.Greatest.{greater}
 use Rattle.dac_chains.specs.Lives.{life_cmp, lives_total, exact_lives}
 use Rattle.dac_chains.specs.Claims.{claim_cmp, how_cmp, claims_total, exact_hows, exact_claims}
 use Rattle.dac_wishes.specs.Writes.{Write}
+use Rattle.dac_wishes.specs.Keys.{key_cmp, keys_total, exact_keys}
+use Rattle.dac_wishes.specs.KeyedWrites.{KeyedWrite}
+use Rattle.dac_wishes.specs.Votes.{VotesValue, join_votes, known-join_votes, standing-join_votes, same_votes}
 use Rattle.dac_wishes.specs.WishesValue.{join_wishes, same_wishes, known-join as known-wishes, standing-join as standing-wishes}
-use Rattle.dac_wishes.specs.PermissionsValue.{join_permissions, same_permissions, known-join as known-permissions, standing-join as standing-permissions}
+use Rattle.dac_wishes.specs.PermissionsValue.{join_permissions, same_permissions}
+use Rattle.dac_wishes.specs.DrainsValue.{join_drains, same_drains}
+use Rattle.dac_operations.specs.declared.act.Act.{Act}
 use Rattle.dac_operations.specs.Operations.{Operation}
-use Rattle.dac_meaning.specs.StateValue.{IsState, permissions_of, wishes_of, join}
-use Rattle.dac_meaning.specs.laws.StateLaws.{same_state, heard-join, permissions-join, wishes-join, lives-join, claims-join}
-use Rattle.dac_meaning.specs.Meaning.{meaning_of, has_dot, replaces, is_replaced, names, wishes, is_start, says, is_permit, flag_said, said, permit_at, life_said, claim_said, Within, Agree}
+use Rattle.dac_meaning.specs.StateValue.{IsState, permissions_of, wishes_of, drains_of, join}
+use Rattle.dac_meaning.specs.laws.StateLaws.{same_state, heard-join, permissions-join, wishes-join, lives-join, claims-join, drains-join}
+use Rattle.dac_meaning.specs.Meaning.{meaning_of, has_dot, replaces, is_replaced, names, wishes, is_start, flag_said, told, is_vote, vote_said, vote_at, permit_vote, drain_vote, life_said, claim_said, Within, Agree}
 use Rattle.dac_meaning.specs.laws.Members.{In-append_left, In-append_right, list_any-same, list_any-wider, shared}
 use Rattle.dac_meaning.specs.Chained.{greatest-same, greatest-append}
-use Rattle.dac_meaning.specs.laws.Readers.{heard-meaning, known-meaning, starts-meaning, permits-meaning, lives-meaning, claims-meaning}
+use Rattle.dac_meaning.specs.laws.Readers.{heard-meaning, known-meaning, starts-meaning, permits-meaning, lives-meaning, claims-meaning, drains-meaning}
 
 -- sets of the same dots are equal
 same_dots : (a b : Dots) → ((d : Dot) → set.contains a d ≡ set.contains b d) → a ≡ b
@@ -36,18 +45,6 @@ same_dots a b h = set.same_set dots_total exact_dots a b h
 known-same : (os ps : List Operation) → Within os ps → Within ps os → (meaning_of os).known ≡ (meaning_of ps).known
 known-same os ps f g = same_dots _ _ (λ d. known-meaning os d ∙ list_any-same (names d) os ps f g ∙ sym (known-meaning ps d))
 
-permit_at-same : (os ps : List Operation) → Within os ps → Within ps os → (w : Write) → permit_at os w ≡ permit_at ps w
-permit_at-same os ps f g w = λ i. cond (list_any-same (replaces w.dot) os ps f g i) None (flag_said (list_any-same (is_permit w false) os ps f g i) (list_any-same (is_permit w true) os ps f g i))
-
--- the meaning depends on which operations there are, and on no more
-pub meaning-same : (os ps : List Operation) → Within os ps → Within ps os → meaning_of os ≡ meaning_of ps
-meaning-same os ps f g = same_state (meaning_of os) (meaning_of ps)
-    (same_dots _ _ (λ d. heard-meaning os d ∙ list_any-same (has_dot d) os ps f g ∙ sym (heard-meaning ps d)))
-    (same_permissions _ _ (known-same os ps f g) (λ w. permits-meaning os w ∙ permit_at-same os ps f g w ∙ sym (permits-meaning ps w)))
-    (same_wishes _ _ (known-same os ps f g) (λ w. starts-meaning os w ∙ (λ i. list_any-same (is_start w) os ps f g i && not (list_any-same (replaces w.dot) os ps f g i)) ∙ sym (starts-meaning ps w)))
-    (lives-meaning os ∙ greatest-same nodes_total exact_nodes lives_total (exact_lives flag_cmp flags_exact) life_said os ps f g ∙ sym (lives-meaning ps))
-    (claims-meaning os ∙ greatest-same apps_total exact_apps claims_total (exact_claims how_cmp exact_hows) claim_said os ps f g ∙ sym (claims-meaning ps))
-
 -- ---- a meaning is a state
 
 -- an operation's dot is known
@@ -57,31 +54,53 @@ known_own os d h = known-meaning os d ∙ list_any-wider (has_dot d) (names d) (
 pub start_has_dot : (w : Write) (o : Operation) → is_start w o ≡ true → has_dot w.dot o ≡ true
 start_has_dot w o t = (and_parts (wishes w.key o.act) (has_dot w.dot o) t).1
 
-pub permit_has_dot : (w : Write) (v : Bool) (o : Operation) → is_permit w v o ≡ true → has_dot w.dot o ≡ true
-permit_has_dot w v o t = (and_parts (says w.key v o.act) (has_dot w.dot o) t).1
+-- ---- votes
 
--- what is said has a dot of theirs
-said_has_dot : (w : Write) (os : List Operation) → is_some (said w os) ≡ true → list_any (has_dot w.dot) os ≡ true
-said_has_dot w os h = elim (or_cases _ _ (either (list_any (is_permit w false) os) (list_any (is_permit w true) os) h)) [
-  | inl a ↦ list_any-wider (is_permit w false) (has_dot w.dot) (permit_has_dot w false) os a
-  | inr b ↦ list_any-wider (is_permit w true) (has_dot w.dot) (permit_has_dot w true) os b
-]
-  where
-    either : (a b : Bool) → is_some (flag_said a b) ≡ true → (a || b) ≡ true
-    either true b h = refl
-    either false true h = refl
-    either false false h = h
+module _ {K : Type 0} (R : K → K → Ordering) (vote : Act → Option (K × Bool)) where
+  pub vote_has_dot : (w : KeyedWrite K) (v : Bool) (o : Operation) → is_vote R vote w v o ≡ true → has_dot w.dot o ≡ true
+  vote_has_dot w v o t = (and_parts (told R w.key v (vote o.act)) (has_dot w.dot o) t).1
+
+  module _ (down : Bool) where
+    -- what is said has a dot of theirs
+    said_has_dot : (w : KeyedWrite K) (os : List Operation) → is_some (vote_said R vote down w os) ≡ true → list_any (has_dot w.dot) os ≡ true
+    said_has_dot w os h = elim (or_cases _ _ (either (list_any (is_vote R vote w down) os) (list_any (is_vote R vote w (not down)) os) h)) [
+      | inl a ↦ list_any-wider (is_vote R vote w down) (has_dot w.dot) (vote_has_dot w down) os a
+      | inr b ↦ list_any-wider (is_vote R vote w (not down)) (has_dot w.dot) (vote_has_dot w (not down)) os b
+    ]
+      where
+        either : (a b : Bool) → is_some (flag_said a b) ≡ true → (a || b) ≡ true
+        either true b h = refl
+        either false true h = refl
+        either false false h = h
+
+    vote_at-same : (os ps : List Operation) → Within os ps → Within ps os → (w : KeyedWrite K) → vote_at R vote down os w ≡ vote_at R vote down ps w
+    vote_at-same os ps f g w = λ i. cond (list_any-same (replaces w.dot) os ps f g i) None (flag_said (list_any-same (is_vote R vote w down) os ps f g i) (list_any-same (is_vote R vote w (not down)) os ps f g i))
+
+    -- a vote that stands has its dot known
+    standing_known : (os : List Operation) (w : KeyedWrite K) → is_some (vote_at R vote down os w) ≡ true → set.contains (meaning_of os).known w.dot ≡ true
+    standing_known os w h = known_own os w.dot (said_has_dot w os (given (is_replaced w.dot os) (vote_said R vote down w os) h))
+      where
+        given : (b : Bool) (v : Option Flag) → is_some (cond b None v) ≡ true → is_some v ≡ true
+        given true v h = absurd (false≢true h)
+        given false v h = h
+
+-- the meaning depends on which operations there are, and on no more
+pub meaning-same : (os ps : List Operation) → Within os ps → Within ps os → meaning_of os ≡ meaning_of ps
+meaning-same os ps f g = same_state (meaning_of os) (meaning_of ps)
+    (same_dots _ _ (λ d. heard-meaning os d ∙ list_any-same (has_dot d) os ps f g ∙ sym (heard-meaning ps d)))
+    (same_permissions _ _ (known-same os ps f g) (λ w. permits-meaning os w ∙ vote_at-same key_cmp permit_vote false os ps f g w ∙ sym (permits-meaning ps w)))
+    (same_wishes _ _ (known-same os ps f g) (λ w. starts-meaning os w ∙ (λ i. list_any-same (is_start w) os ps f g i && not (list_any-same (replaces w.dot) os ps f g i)) ∙ sym (starts-meaning ps w)))
+    (lives-meaning os ∙ greatest-same nodes_total exact_nodes lives_total (exact_lives flag_cmp flags_exact) life_said os ps f g ∙ sym (lives-meaning ps))
+    (claims-meaning os ∙ greatest-same apps_total exact_apps claims_total (exact_claims how_cmp exact_hows) claim_said os ps f g ∙ sym (claims-meaning ps))
+    (same_drains _ _ (known-same os ps f g) (λ w. drains-meaning os w ∙ vote_at-same origin_cmp drain_vote true os ps f g w ∙ sym (drains-meaning ps w)))
 
 pub meaning-state : (os : List Operation) → IsState (meaning_of os)
 meaning-state os = record {
   heard = λ d h. known_own os d (sym (heard-meaning os d) ∙ h);
-  permits = λ w h. known_own os w.dot (said_has_dot w os (given (is_replaced w.dot os) (said w os) (ap is_some (sym (permits-meaning os w)) ∙ h)));
+  permits = λ w h. standing_known key_cmp permit_vote false os w (ap is_some (sym (permits-meaning os w)) ∙ h);
   starts = λ w h. known_own os w.dot (list_any-wider (is_start w) (has_dot w.dot) (start_has_dot w) os (and_parts (list_any (is_start w) os) (not (is_replaced w.dot os)) (sym (starts-meaning os w) ∙ h)).0);
+  drains = λ w h. standing_known origin_cmp drain_vote true os w (ap is_some (sym (drains-meaning os w)) ∙ h);
 }
-  where
-    given : (b : Bool) (v : Option Flag) → is_some (cond b None v) ≡ true → is_some v ≡ true
-    given true v h = absurd (false≢true h)
-    given false v h = h
 
 -- ---- a join of meanings
 
@@ -116,27 +135,27 @@ starts_stand false true false false false g f k = refl
 starts_stand false false r q h g f k = refl
 
 -- u, v: said in either; r, q: replaced there; h, g: heard there
-permits_stand : (r q h g : Bool) (u v : Option Flag) → (is_some u ≡ true → h ≡ true) → (is_some v ≡ true → g ≡ true) → (h ≡ true → g ≡ true → u ≡ v) →
+votes_stand : (r q h g : Bool) (u v : Option Flag) → (is_some u ≡ true → h ≡ true) → (is_some v ≡ true → g ≡ true) → (h ≡ true → g ≡ true → u ≡ v) →
     join_at join_flags (r || h) (q || g) (cond r None u) (cond q None v) ≡ cond (r || q) None (join_options join_flags u v)
-permits_stand true true h g u v a b same = refl
-permits_stand true false h g u None a b same = refl
-permits_stand true false h g u (Some y) a b same = refl
-permits_stand false true h g None v a b same = refl
-permits_stand false true h g (Some x) v a b same = refl
-permits_stand false false h g None None a b same = refl
-permits_stand false false h false (Some x) None a b same = refl
-permits_stand false false true true (Some x) None a b same = absurd (false≢true (sym (ap is_some (same refl refl))))
-permits_stand false false false true (Some x) None a b same = absurd (false≢true (a refl))
-permits_stand false false false g None (Some y) a b same = refl
-permits_stand false false true true None (Some y) a b same = absurd (false≢true (ap is_some (same refl refl)))
-permits_stand false false true false None (Some y) a b same = absurd (false≢true (b refl))
-permits_stand false false h g (Some x) (Some y) a b same = refl
+votes_stand true true h g u v a b same = refl
+votes_stand true false h g u None a b same = refl
+votes_stand true false h g u (Some y) a b same = refl
+votes_stand false true h g None v a b same = refl
+votes_stand false true h g (Some x) v a b same = refl
+votes_stand false false h g None None a b same = refl
+votes_stand false false h false (Some x) None a b same = refl
+votes_stand false false true true (Some x) None a b same = absurd (false≢true (sym (ap is_some (same refl refl))))
+votes_stand false false false true (Some x) None a b same = absurd (false≢true (a refl))
+votes_stand false false false g None (Some y) a b same = refl
+votes_stand false false true true None (Some y) a b same = absurd (false≢true (ap is_some (same refl refl)))
+votes_stand false false true false None (Some y) a b same = absurd (false≢true (b refl))
+votes_stand false false h g (Some x) (Some y) a b same = refl
 
 -- what is said by two lists together
-said-append : (w : Write) (os ps : List Operation) → said w (os ++ ps) ≡ join_options join_flags (said w os) (said w ps)
-said-append w os ps =
-    (λ i. flag_said (list_any-append (is_permit w false) os ps i) (list_any-append (is_permit w true) os ps i))
-    ∙ both (list_any (is_permit w false) os) (list_any (is_permit w true) os) (list_any (is_permit w false) ps) (list_any (is_permit w true) ps)
+said-append : {K : Type 0} (R : K → K → Ordering) (vote : Act → Option (K × Bool)) (down : Bool) (w : KeyedWrite K) (os ps : List Operation) → vote_said R vote down w (os ++ ps) ≡ join_options join_flags (vote_said R vote down w os) (vote_said R vote down w ps)
+said-append R vote down w os ps =
+    (λ i. flag_said (list_any-append (is_vote R vote w down) os ps i) (list_any-append (is_vote R vote w (not down)) os ps i))
+    ∙ both (list_any (is_vote R vote w down) os) (list_any (is_vote R vote w (not down)) os) (list_any (is_vote R vote w down) ps) (list_any (is_vote R vote w (not down)) ps)
   where
     both : (a b c e : Bool) → flag_said (a || c) (b || e) ≡ join_options join_flags (flag_said a b) (flag_said c e)
     both true b true e = refl
@@ -154,15 +173,6 @@ module _ (os ps : List Operation) (agree : Agree (os ++ ps)) where
   right : Within ps (os ++ ps)
   right o h = In-append_right o os ps h
 
-  -- where both have the dot, they say the same
-  same_said : (w : Write) → list_any (has_dot w.dot) os ≡ true → list_any (has_dot w.dot) ps ≡ true → said w os ≡ said w ps
-  same_said w h g = λ i. flag_said (alike false i) (alike true i)
-    where
-      alike : (v : Bool) → list_any (is_permit w v) os ≡ list_any (is_permit w v) ps
-      alike v = both_ways _ _
-          (λ t. shared (is_permit w v) w.dot (permit_has_dot w v) os ps (os ++ ps) left right agree t g)
-          (λ t. shared (is_permit w v) w.dot (permit_has_dot w v) ps os (os ++ ps) right left agree t h)
-
   known_together : set.union (meaning_of os).known (meaning_of ps).known ≡ (meaning_of (os ++ ps)).known
   known_together = same_dots _ _ (λ d.
       set.contains-union dots_total (meaning_of os).known (meaning_of ps).known d
@@ -175,24 +185,43 @@ module _ (os ps : List Operation) (agree : Agree (os ++ ps)) where
       ∙ (λ i. heard-meaning os d i || heard-meaning ps d i)
       ∙ sym (list_any-append (has_dot d) os ps) ∙ sym (heard-meaning (os ++ ps) d))
 
-  -- which dots of a write are known on either side
-  known_os : (w : Write) → set.contains (meaning_of os).known w.dot ≡ (is_replaced w.dot os || list_any (has_dot w.dot) os)
-  known_os w = known-meaning os w.dot ∙ names-or w.dot os
+  -- which dots are known on either side
+  known_os : (d : Dot) → set.contains (meaning_of os).known d ≡ (is_replaced d os || list_any (has_dot d) os)
+  known_os d = known-meaning os d ∙ names-or d os
 
-  known_ps : (w : Write) → set.contains (meaning_of ps).known w.dot ≡ (is_replaced w.dot ps || list_any (has_dot w.dot) ps)
-  known_ps w = known-meaning ps w.dot ∙ names-or w.dot ps
+  known_ps : (d : Dot) → set.contains (meaning_of ps).known d ≡ (is_replaced d ps || list_any (has_dot d) ps)
+  known_ps d = known-meaning ps d ∙ names-or d ps
+
+  module _ {K : Type 0} {R : K → K → Ordering} (total : IsTotalOrder R) (exact : CmpEqualImpliesEq R) (vote : Act → Option (K × Bool)) (down : Bool) where
+    -- where both have the dot, they say the same
+    same_said : (w : KeyedWrite K) → list_any (has_dot w.dot) os ≡ true → list_any (has_dot w.dot) ps ≡ true → vote_said R vote down w os ≡ vote_said R vote down w ps
+    same_said w h g = λ i. flag_said (alike down i) (alike (not down) i)
+      where
+        alike : (v : Bool) → list_any (is_vote R vote w v) os ≡ list_any (is_vote R vote w v) ps
+        alike v = both_ways _ _
+            (λ t. shared (is_vote R vote w v) w.dot (vote_has_dot R vote w v) os ps (os ++ ps) left right agree t g)
+            (λ t. shared (is_vote R vote w v) w.dot (vote_has_dot R vote w v) ps os (os ++ ps) right left agree t h)
+
+    -- what stands of votes in two meanings joined is what stands in both together
+    votes_together : (x y z : VotesValue R) → x.known ≡ (meaning_of os).known → y.known ≡ (meaning_of ps).known → z.known ≡ (meaning_of (os ++ ps)).known
+        → ((w : KeyedWrite K) → map.get x.standing w ≡ vote_at R vote down os w) → ((w : KeyedWrite K) → map.get y.standing w ≡ vote_at R vote down ps w)
+        → ((w : KeyedWrite K) → map.get z.standing w ≡ vote_at R vote down (os ++ ps) w) → join_votes R x y ≡ z
+    votes_together x y z kx ky kz sx sy sz =
+        same_votes total exact (join_votes R x y) z (known-join_votes R x y ∙ (λ i. set.union (kx i) (ky i)) ∙ known_together ∙ sym kz) (λ w.
+        standing-join_votes total exact x y w
+        ∙ (λ i. join_at join_flags ((ap (λ (s : Dots). set.contains s w.dot) kx ∙ known_os w.dot) i) ((ap (λ (s : Dots). set.contains s w.dot) ky ∙ known_ps w.dot) i) (sx w i) (sy w i))
+        ∙ votes_stand (is_replaced w.dot os) (is_replaced w.dot ps) (list_any (has_dot w.dot) os) (list_any (has_dot w.dot) ps) (vote_said R vote down w os) (vote_said R vote down w ps)
+        (said_has_dot R vote down w os) (said_has_dot R vote down w ps) (same_said w)
+        ∙ sym (λ i. cond (list_any-append (replaces w.dot) os ps i) None (said-append R vote down w os ps i))
+        ∙ sym (sz w))
 
   permits_together : join_permissions (permissions_of (meaning_of os)) (permissions_of (meaning_of ps)) ≡ permissions_of (meaning_of (os ++ ps))
-  permits_together =
-      let x = permissions_of (meaning_of os) in
-      let y = permissions_of (meaning_of ps) in
-      same_permissions (join_permissions x y) (permissions_of (meaning_of (os ++ ps))) (known-permissions x y ∙ known_together) (λ w.
-      standing-permissions x y w
-      ∙ (λ i. join_at join_flags (known_os w i) (known_ps w i) (permits-meaning os w i) (permits-meaning ps w i))
-      ∙ permits_stand (is_replaced w.dot os) (is_replaced w.dot ps) (list_any (has_dot w.dot) os) (list_any (has_dot w.dot) ps) (said w os) (said w ps)
-      (said_has_dot w os) (said_has_dot w ps) (same_said w)
-      ∙ sym (λ i. cond (list_any-append (replaces w.dot) os ps i) None (said-append w os ps i))
-      ∙ sym (permits-meaning (os ++ ps) w))
+  permits_together = votes_together keys_total exact_keys permit_vote false (permissions_of (meaning_of os)) (permissions_of (meaning_of ps)) (permissions_of (meaning_of (os ++ ps))) refl refl refl
+      (permits-meaning os) (permits-meaning ps) (permits-meaning (os ++ ps))
+
+  drains_together : join_drains (drains_of (meaning_of os)) (drains_of (meaning_of ps)) ≡ drains_of (meaning_of (os ++ ps))
+  drains_together = votes_together origins_total exact_origins drain_vote true (drains_of (meaning_of os)) (drains_of (meaning_of ps)) (drains_of (meaning_of (os ++ ps))) refl refl refl
+      (drains-meaning os) (drains-meaning ps) (drains-meaning (os ++ ps))
 
   starts_together : join_wishes (wishes_of (meaning_of os)) (wishes_of (meaning_of ps)) ≡ wishes_of (meaning_of (os ++ ps))
   starts_together =
@@ -200,7 +229,7 @@ module _ (os ps : List Operation) (agree : Agree (os ++ ps)) where
       let y = wishes_of (meaning_of ps) in
       same_wishes (join_wishes x y) (wishes_of (meaning_of (os ++ ps))) (known-wishes x y ∙ known_together) (λ w.
       standing-wishes x y w
-      ∙ (λ i. (starts-meaning os w i && (starts-meaning ps w i || not (known_ps w i))) || (starts-meaning ps w i && (starts-meaning os w i || not (known_os w i))))
+      ∙ (λ i. (starts-meaning os w i && (starts-meaning ps w i || not (known_ps w.dot i))) || (starts-meaning ps w i && (starts-meaning os w i || not (known_os w.dot i))))
       ∙ starts_stand (list_any (is_start w) os) (list_any (is_start w) ps) (is_replaced w.dot os) (is_replaced w.dot ps) (list_any (has_dot w.dot) os) (list_any (has_dot w.dot) ps)
       (shared (is_start w) w.dot (start_has_dot w) os ps (os ++ ps) left right agree) (shared (is_start w) w.dot (start_has_dot w) ps os (os ++ ps) right left agree)
       ∙ sym (λ i. list_any-append (is_start w) os ps i && not (list_any-append (replaces w.dot) os ps i))
@@ -218,3 +247,4 @@ module _ (os ps : List Operation) (agree : Agree (os ++ ps)) where
       ∙ greatest-append nodes_total exact_nodes lives_total (exact_lives flag_cmp flags_exact) life_said os ps ∙ sym (lives-meaning (os ++ ps)))
       (claims-join x y ∙ (λ i. greater claim_cmp (claims-meaning os i) (claims-meaning ps i))
       ∙ greatest-append apps_total exact_apps claims_total (exact_claims how_cmp exact_hows) claim_said os ps ∙ sym (claims-meaning (os ++ ps)))
+      (drains-join x y ∙ drains_together)

@@ -1,26 +1,31 @@
 -- What a meaning shows, part by part.
-use Rattle.std.proofs.Common.{◌≡◌, Bool, true, false, not, cond, ◌&&◌, ◌||◌, List, [], ◌∷◌, Option, None, map as list_map, refl, sym, ap, ◌∙◌}
+use Rattle.std.proofs.Common.{◌≡◌, Bool, true, false, not, cond, ◌&&◌, ◌||◌, List, [], ◌∷◌, Option, None, Some, map as list_map, refl, sym, ap, ◌∙◌}
 use Rattle.std.specs.List.{list_any, flat_map}
+use Rattle.std.specs.declared.cmp.Ordering.{Ordering}
 use Rattle.std.specs.Ordering.{eq_by_cmp}
+use Rattle.std.specs.Cmp.{IsTotalOrder}
 use Rattle.std.specs.FinSet as set
 use Rattle.std.specs.FinMap as map
 use Rattle.std.proofs.lemmas.Bool.{false≢true, and_parts, and_from, or_left}
 use Rattle.std.proofs.lemmas.List.Folds.{list_any-append}
+use Rattle.std.proofs.lemmas.Map.Lookups.{CmpEqualImpliesEq}
 use Rattle.dac_dots.specs.declared.dot.Dot.{Dot}
-use Rattle.dac_dots.specs.Dots.{dots_total}
+use Rattle.dac_dots.specs.Dots.{dots_total, origins_total, exact_origins}
 use Rattle.dac_lattice.specs.declared.flags.Flag.{Flag}
 use Rattle.dac_base.specs.Ids.{nodes_total, exact_nodes, apps_total, exact_apps}
 use Rattle.dac_lattice.specs.Flags.{flag_cmp, flags_exact}
 use Rattle.dac_chains.specs.Greatest.{AreGreatest}
 use Rattle.dac_chains.specs.Lives.{life_cmp, lives_total, exact_lives}
 use Rattle.dac_chains.specs.Claims.{claim_cmp, how_cmp, claims_total, exact_hows, exact_claims}
-use Rattle.dac_wishes.specs.Keys.{same_key}
+use Rattle.dac_wishes.specs.Keys.{keys_total, exact_keys}
+use Rattle.dac_wishes.specs.KeyedWrites.{KeyedWrite, keyed_write, keyed_write_cmp, keyed_writes_total, exact_keyed_writes, same_keyed_write}
 use Rattle.dac_wishes.specs.Writes.{Write, write_cmp, writes_total, exact_writes, same_dot, same_write, list_any-alike}
+use Rattle.dac_wishes.specs.DrainsValue.{DrainWrite}
 use Rattle.dac_operations.specs.declared.act.Act.{Act}
-use Rattle.dac_operations.specs.declared.act.Act.TheVariants.{Up, Down, Permit, Start, Stop, Claim}
+use Rattle.dac_operations.specs.declared.act.Act.TheVariants.{Up, Down, Permit, Start, Stop, Drain, Claim}
 use Rattle.dac_operations.specs.Operations.{Operation, over_list}
 use Rattle.dac_meaning.specs.Tables.{get-table, given_or_none}
-use Rattle.dac_meaning.specs.Meaning.{meaning_of, has_dot, is_replaced, names, starts_in, permits_in, wishes, is_start, is_same, says, is_permit, flag_said, permit_at, pairs, life_said, claim_said, lives_of, claims_of}
+use Rattle.dac_meaning.specs.Meaning.{meaning_of, has_dot, is_replaced, names, starts_in, wishes, is_start, is_same, flag_said, told, told_in, is_vote, vote_at, votes_of, permit_vote, permit_at, drain_vote, drain_at, pairs, life_said, claim_said, lives_of, claims_of}
 use Rattle.dac_meaning.specs.laws.Members.{list_any-narrower}
 use Rattle.dac_meaning.specs.Chained.{are_greatest}
 
@@ -54,6 +59,7 @@ starts_in-is w d Up = refl
 starts_in-is w d (Down node inc) = refl
 starts_in-is w d (Permit key value over) = refl
 starts_in-is w d (Stop key over) = refl
+starts_in-is w d (Drain node inc value over) = refl
 starts_in-is w d (Claim app term how from) = refl
 
 -- start wishes: some operation is the wish, and none replaces it
@@ -67,37 +73,49 @@ starts-meaning os w =
     ∙ list_any-flat_map (eq_by_cmp write_cmp w) (λ (o : Operation). starts_in o.dot o.act) os
     ∙ list_any-alike (λ (o : Operation). list_any (eq_by_cmp write_cmp w) (starts_in o.dot o.act)) (is_start w) (λ o. starts_in-is w o.dot o.act) os)
 
--- an operation that is a permit has its write
-permit_here : (w : Write) (v : Bool) (d : Dot) (a : Act) → (says w.key v a && same_dot w.dot d) ≡ true → list_any (eq_by_cmp write_cmp w) (permits_in d a) ≡ true
-permit_here w v d (Permit key value over) h =
-    let parts = and_parts (same_key w.key key && is_same value v) (same_dot w.dot d) h in
-    or_left (eq_by_cmp write_cmp w (record { key = key; dot = d })) false (same_write w key d ∙ and_from _ _ (and_parts (same_key w.key key) (is_same value v) parts.0).0 parts.1)
-permit_here w v d Up h = absurd (false≢true h)
-permit_here w v d (Down node inc) h = absurd (false≢true h)
-permit_here w v d (Start key over) h = absurd (false≢true h)
-permit_here w v d (Stop key over) h = absurd (false≢true h)
-permit_here w v d (Claim app term how from) h = absurd (false≢true h)
+-- ---- votes
 
--- where no operation has the write, no permit stands
-no_permit : (w : Write) (os : List Operation) → list_any (eq_by_cmp write_cmp w) (flat_map (λ (o : Operation). permits_in o.dot o.act) os) ≡ false → permit_at os w ≡ None
-no_permit w os none =
-    let none_here = sym (list_any-flat_map (eq_by_cmp write_cmp w) (λ (o : Operation). permits_in o.dot o.act) os) ∙ none in
-    (λ i. cond (is_replaced w.dot os) None (flag_said (not_said false none_here i) (not_said true none_here i)))
-    ∙ nothing (is_replaced w.dot os)
-  where
-    not_said : (v : Bool) → list_any (λ (o : Operation). list_any (eq_by_cmp write_cmp w) (permits_in o.dot o.act)) os ≡ false → list_any (is_permit w v) os ≡ false
-    not_said v h = list_any-narrower (is_permit w v) (λ o. list_any (eq_by_cmp write_cmp w) (permits_in o.dot o.act)) (λ o. permit_here w v o.dot o.act) os h
+module _ {K : Type 0} {R : K → K → Ordering} (total : IsTotalOrder R) (exact : CmpEqualImpliesEq R) (vote : Act → Option (K × Bool)) (down : Bool) where
+  -- an operation that is a vote has its write
+  vote_here : (w : KeyedWrite K) (v : Bool) (d : Dot) (u : Option (K × Bool)) → (told R w.key v u && same_dot w.dot d) ≡ true → list_any (eq_by_cmp (keyed_write_cmp R) w) (told_in d u) ≡ true
+  vote_here w v d None h = absurd (false≢true h)
+  vote_here w v d (Some u) h =
+      let parts = and_parts (eq_by_cmp R w.key u.0 && is_same u.1 v) (same_dot w.dot d) h in
+      or_left (eq_by_cmp (keyed_write_cmp R) w (keyed_write u.0 d)) false (same_keyed_write R w u.0 d ∙ and_from _ _ (and_parts (eq_by_cmp R w.key u.0) (is_same u.1 v) parts.0).0 parts.1)
 
-    nothing : (b : Bool) → ◌≡◌ {A = Option Flag} (cond b None None) None
-    nothing true = refl
-    nothing false = refl
+  -- the writes of the votes of operations
+  abbrev all_told : List Operation → List (KeyedWrite K)
+  all_told os = flat_map (λ (o : Operation). told_in o.dot (vote o.act)) os
+
+  -- where no operation has the write, no vote stands
+  no_vote : (w : KeyedWrite K) (os : List Operation) → list_any (eq_by_cmp (keyed_write_cmp R) w) (all_told os) ≡ false → vote_at R vote down os w ≡ None
+  no_vote w os none =
+      let none_here = sym (list_any-flat_map (eq_by_cmp (keyed_write_cmp R) w) (λ (o : Operation). told_in o.dot (vote o.act)) os) ∙ none in
+      (λ i. cond (is_replaced w.dot os) None (flag_said (not_said down none_here i) (not_said (not down) none_here i)))
+      ∙ nothing (is_replaced w.dot os)
+    where
+      not_said : (v : Bool) → list_any (λ (o : Operation). list_any (eq_by_cmp (keyed_write_cmp R) w) (told_in o.dot (vote o.act))) os ≡ false → list_any (is_vote R vote w v) os ≡ false
+      not_said v h = list_any-narrower (is_vote R vote w v) (λ o. list_any (eq_by_cmp (keyed_write_cmp R) w) (told_in o.dot (vote o.act))) (λ o. vote_here w v o.dot (vote o.act)) os h
+
+      nothing : (b : Bool) → ◌≡◌ {A = Option Flag} (cond b None None) None
+      nothing true = refl
+      nothing false = refl
+
+  -- what is said by the operations that are it, if none replaces it
+  pub get-votes_of : (os : List Operation) (w : KeyedWrite K) → map.get (votes_of R vote down os) w ≡ vote_at R vote down os w
+  get-votes_of os w =
+      get-table (keyed_writes_total total) (exact_keyed_writes exact) (vote_at R vote down os) w (all_told os)
+      ∙ given_or_none _ (vote_at R vote down os w) (no_vote w os)
 
 -- permits: what is said by the operations that are it, if none replaces it
 pub permits-meaning : (os : List Operation) (w : Write) → map.get (meaning_of os).permits w ≡ permit_at os w
 unfolding meaning_of
-permits-meaning os w =
-    get-table writes_total exact_writes (permit_at os) w (flat_map (λ (o : Operation). permits_in o.dot o.act) os)
-    ∙ given_or_none _ (permit_at os w) (no_permit w os)
+permits-meaning = get-votes_of keys_total exact_keys permit_vote false
+
+-- drains: the same
+pub drains-meaning : (os : List Operation) (w : DrainWrite) → map.get (meaning_of os).drains w ≡ drain_at os w
+unfolding meaning_of
+drains-meaning = get-votes_of origins_total exact_origins drain_vote true
 
 -- lives: each node has the greatest that was said of it
 pub lives-meaning : (os : List Operation) → (meaning_of os).lives ≡ lives_of os

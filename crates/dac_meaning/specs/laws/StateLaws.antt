@@ -13,7 +13,8 @@ use Rattle.dac_chains.specs.Lives.{Lives, life_cmp, lives_total, exact_lives}
 use Rattle.dac_chains.specs.Claims.{Claims, claim_cmp, how_cmp, claims_total, exact_hows, exact_claims}
 use Rattle.dac_wishes.specs.WishesValue.{AreWishes, AreWishesBelow, join_wishes, known-join as known-wishes, wishes_laws, no_wishes_value, no_wishes_least}
 use Rattle.dac_wishes.specs.PermissionsValue.{ArePermissions, IsPermissionsBelow, join_permissions, known-join as known-permissions, permissions_laws, no_permissions_value, no_permissions_least}
-use Rattle.dac_meaning.specs.StateValue.{StateValue, IsState, IsBelow, permissions_of, wishes_of, bottom, join}
+use Rattle.dac_wishes.specs.DrainsValue.{AreDrains, AreDrainsBelow, join_drains, known-join as known-drains, drains_laws, no_drains_value, no_drains_least}
+use Rattle.dac_meaning.specs.StateValue.{StateValue, IsState, IsBelow, permissions_of, wishes_of, drains_of, bottom, join}
 
 pub life_laws : IsLattice {T = Lives} IsAny (AreNotAbove life_cmp) (greater life_cmp)
 life_laws = greatest_laws nodes_total exact_nodes lives_total (exact_lives flag_cmp flags_exact)
@@ -47,9 +48,13 @@ pub wishes-join : (x y : StateValue) → wishes_of (join x y) ≡ join_wishes (w
 unfolding join
 wishes-join x y = λ i. record { known = sym (known-wishes (wishes_of x) (wishes_of y)) i; standing = (join_wishes (wishes_of x) (wishes_of y)).standing }
 
+pub drains-join : (x y : StateValue) → drains_of (join x y) ≡ join_drains (drains_of x) (drains_of y)
+unfolding join
+drains-join x y = λ i. record { known = sym (known-drains (drains_of x) (drains_of y)) i; standing = (join_drains (drains_of x) (drains_of y)).standing }
+
 -- two states of equal parts are equal
-pub same_state : (x y : StateValue) → x.heard ≡ y.heard → permissions_of x ≡ permissions_of y → wishes_of x ≡ wishes_of y → x.lives ≡ y.lives → x.claims ≡ y.claims → x ≡ y
-same_state x y heard permits starts lives claims = λ i. record { heard = heard i; known = (starts i).known; permits = (permits i).standing; starts = (starts i).standing; lives = lives i; claims = claims i }
+pub same_state : (x y : StateValue) → x.heard ≡ y.heard → permissions_of x ≡ permissions_of y → wishes_of x ≡ wishes_of y → x.lives ≡ y.lives → x.claims ≡ y.claims → drains_of x ≡ drains_of y → x ≡ y
+same_state x y heard permits starts lives claims drains = λ i. record { heard = heard i; known = (starts i).known; permits = (permits i).standing; starts = (starts i).standing; lives = lives i; claims = claims i; drains = (drains i).standing }
 
 -- ---- the laws
 
@@ -60,6 +65,7 @@ itself x u = record {
   starts = wishes_laws.refl (wishes_of x) u.starts;
   lives = life_laws.refl x.lives tt;
   claims = claim_laws.refl x.claims tt;
+  drains = drains_laws.refl (drains_of x) u.drains;
 }
 
 through : (x y z : StateValue) → IsState x → IsState y → IsState z → IsBelow x y → IsBelow y z → IsBelow x z
@@ -69,6 +75,7 @@ through x y z u v w p q = record {
   starts = wishes_laws.trans _ _ _ u.starts v.starts w.starts p.starts q.starts;
   lives = life_laws.trans x.lives y.lives z.lives tt tt tt p.lives q.lives;
   claims = claim_laws.trans x.claims y.claims z.claims tt tt tt p.claims q.claims;
+  drains = drains_laws.trans _ _ _ u.drains v.drains w.drains p.drains q.drains;
 }
 
 one_state : (x y : StateValue) → IsState x → IsState y → IsBelow x y → IsBelow y x → x ≡ y
@@ -77,6 +84,7 @@ one_state x y u v p q = same_state x y (same_context x.heard y.heard p.heard q.h
     (wishes_laws.antisymm _ _ u.starts v.starts p.starts q.starts)
     (life_laws.antisymm x.lives y.lives tt tt p.lives q.lives)
     (claim_laws.antisymm x.claims y.claims tt tt p.claims q.claims)
+    (drains_laws.antisymm _ _ u.drains v.drains p.drains q.drains)
 
 -- a join keeps what each state keeps
 joined_state : (x y : StateValue) → IsState x → IsState y → IsState (join x y)
@@ -87,6 +95,7 @@ joined_state x y u v = record {
       (λ d h. subset_right x.known y.known d (v.heard d h))));
   permits = subst ArePermissions (sym (permissions-join x y)) (permissions_laws.closed _ _ u.permits v.permits);
   starts = subst AreWishes (sym (wishes-join x y)) (wishes_laws.closed _ _ u.starts v.starts);
+  drains = subst AreDrains (sym (drains-join x y)) (drains_laws.closed _ _ u.drains v.drains);
 }
 
 above_left : (x y : StateValue) → IsState x → IsState y → IsBelow x (join x y)
@@ -96,6 +105,7 @@ above_left x y u v = record {
   starts = subst (AreWishesBelow (wishes_of x)) (sym (wishes-join x y)) (wishes_laws.left _ _ u.starts v.starts);
   lives = subst (AreNotAbove life_cmp x.lives) (sym (lives-join x y)) (life_laws.left x.lives y.lives tt tt);
   claims = subst (AreNotAbove claim_cmp x.claims) (sym (claims-join x y)) (claim_laws.left x.claims y.claims tt tt);
+  drains = subst (AreDrainsBelow (drains_of x)) (sym (drains-join x y)) (drains_laws.left _ _ u.drains v.drains);
 }
 
 above_right : (x y : StateValue) → IsState x → IsState y → IsBelow y (join x y)
@@ -105,6 +115,7 @@ above_right x y u v = record {
   starts = subst (AreWishesBelow (wishes_of y)) (sym (wishes-join x y)) (wishes_laws.right _ _ u.starts v.starts);
   lives = subst (AreNotAbove life_cmp y.lives) (sym (lives-join x y)) (life_laws.right x.lives y.lives tt tt);
   claims = subst (AreNotAbove claim_cmp y.claims) (sym (claims-join x y)) (claim_laws.right x.claims y.claims tt tt);
+  drains = subst (AreDrainsBelow (drains_of y)) (sym (drains-join x y)) (drains_laws.right _ _ u.drains v.drains);
 }
 
 below_both : (x y z : StateValue) → IsState x → IsState y → IsState z → IsBelow x z → IsBelow y z → IsBelow (join x y) z
@@ -114,6 +125,7 @@ below_both x y z u v w p q = record {
   starts = subst (λ j. AreWishesBelow j (wishes_of z)) (sym (wishes-join x y)) (wishes_laws.least _ _ _ u.starts v.starts w.starts p.starts q.starts);
   lives = subst (λ j. AreNotAbove life_cmp j z.lives) (sym (lives-join x y)) (life_laws.least x.lives y.lives z.lives tt tt tt p.lives q.lives);
   claims = subst (λ j. AreNotAbove claim_cmp j z.claims) (sym (claims-join x y)) (claim_laws.least x.claims y.claims z.claims tt tt tt p.claims q.claims);
+  drains = subst (λ j. AreDrainsBelow j (drains_of z)) (sym (drains-join x y)) (drains_laws.least _ _ _ u.drains v.drains w.drains p.drains q.drains);
 }
 
 pub state_laws : IsLattice IsState IsBelow join
@@ -130,7 +142,7 @@ state_laws = record {
 -- ---- the least state
 
 pub bottom_value : IsState bottom
-bottom_value = record { heard = λ d h. h; permits = no_permissions_value; starts = no_wishes_value }
+bottom_value = record { heard = λ d h. h; permits = no_permissions_value; starts = no_wishes_value; drains = no_drains_value }
 
 pub bottom_least : (x : StateValue) → IsState x → IsBelow bottom x
 bottom_least x u = record {
@@ -139,6 +151,7 @@ bottom_least x u = record {
   starts = no_wishes_least (wishes_of x);
   lives = empty_is_least nodes_total exact_nodes lives_total (exact_lives flag_cmp flags_exact) x.lives;
   claims = empty_is_least apps_total exact_apps claims_total (exact_claims how_cmp exact_hows) x.claims;
+  drains = no_drains_least (drains_of x);
 }
 
 -- nothing joined to a state leaves it

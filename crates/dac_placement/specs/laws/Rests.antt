@@ -13,8 +13,8 @@ use Rattle.dac_state.specs.StateValue.{StateValue}
 use Rattle.dac_placement.specs.declared.standing.Standing.{Standing}
 use Rattle.dac_placement.specs.declared.standing.Standing.TheVariants.{Unclaimed, Lost, Stopped, Barred, Upheld}
 use Rattle.dac_placement.specs.declared.verdicts.Verdict.TheVariants.{Takeover, Kept}
-use Rattle.dac_placement.specs.Placement.{IsPermittedAt, is_permitted_at, IsStartedAt, is_started_at, EachEligible, key_at, key_of, is_up, RunsAt, IsEarlier, is_earlier, IsFirst, first_choice, standing_at, standing_of, verdict_by, verdict_of, candidate_of}
-use Rattle.dac_placement.specs.laws.Tests.{up_is, permitted_is, started_is}
+use Rattle.dac_placement.specs.Placement.{IsAllowedAt, is_allowed_at, IsStartedAt, is_started_at, EachEligible, key_at, key_of, is_up, RunsAt, IsEarlier, is_earlier, IsFirst, first_choice, standing_at, standing_of, verdict_by, verdict_of, candidate_of}
+use Rattle.dac_placement.specs.laws.Tests.{up_is, allowed_is, started_is}
 use Rattle.dac_placement.specs.laws.FirstChoice.{first_is}
 use Rattle.dac_placement.specs.laws.Judged.{IsChoice, earlier_if, none_earlier}
 
@@ -99,6 +99,6 @@ module _ (table : Table) (s : StateValue) (app : AppId) where
       let o : Origin = record { node = n; inc = r.inc } in
       let same = same_inc r.eligible.inc r.inc _ ((live_is s.lives n r.eligible.inc).1 r.eligible.live) ((live_is s.lives n r.inc).1 r.up) in
       let started : IsStartedAt s (key_at app n r.inc) = subst (λ i. IsStartedAt s (key_at app n i)) same r.eligible.started in
-      let permitted : IsPermittedAt table s (key_at app n r.inc) = subst (λ i. IsPermittedAt table s (key_at app n i)) same r.eligible.permitted in
+      let permitted : IsAllowedAt table s (key_at app n r.inc) = subst (λ i. IsAllowedAt table s (key_at app n i)) same r.eligible.allowed in
       ap (λ h. option_map_or (standing_at table s app) h Unclaimed) r.holder
-      ∙ upheld_by n (is_up s o) (is_started_at s (key_of app o)) (is_permitted_at table s (key_of app o)) ((up_is s o).1 r.up) ((started_is table s app n r.inc).1 started) ((permitted_is table s app n r.inc).1 permitted)
+      ∙ upheld_by n (is_up s o) (is_started_at s (key_of app o)) (is_allowed_at table s (key_of app o)) ((up_is s o).1 r.up) ((started_is table s app n r.inc).1 started) ((allowed_is table s app n r.inc).1 permitted)

@@ -8,18 +8,18 @@ use Rattle.dac_dots.specs.declared.dot.Origin.{Origin}
 use Rattle.dac_config.specs.Table.{Table}
 use Rattle.dac_state.specs.StateValue.{StateValue}
 use Rattle.dac_placement.specs.declared.standing.Standing.TheVariants.{Unclaimed, Lost, Stopped, Barred, Upheld}
-use Rattle.dac_placement.specs.Placement.{is_permitted_at, is_started_at, holder_of, is_up, key_of, IsStanding, standing_at, standing_of}
-use Rattle.dac_placement.specs.laws.Tests.{up_is, permitted_is, started_is}
+use Rattle.dac_placement.specs.Placement.{is_allowed_at, is_started_at, holder_of, is_up, key_of, IsStanding, standing_at, standing_of}
+use Rattle.dac_placement.specs.laws.Tests.{up_is, allowed_is, started_is}
 
 module _ (table : Table) (s : StateValue) (app : AppId) where
   at_holder : (o : Origin) → holder_of s app ≡ Some o → IsStanding table s app (standing_at table s app o)
-  at_holder o is = elim (is_up s o) as (λ b. is_up s o ≡ b → IsStanding table s app (cond (not b) Lost (cond (not (is_started_at s (key_of app o))) (Stopped o.node) (cond (not (is_permitted_at table s (key_of app o))) Barred (Upheld o.node))))) [
+  at_holder o is = elim (is_up s o) as (λ b. is_up s o ≡ b → IsStanding table s app (cond (not b) Lost (cond (not (is_started_at s (key_of app o))) (Stopped o.node) (cond (not (is_allowed_at table s (key_of app o))) Barred (Upheld o.node))))) [
     | false ↦ λ down. (o, is, λ up. true≢false (sym ((up_is s o).1 up) ∙ down))
-    | true ↦ λ up. elim (is_started_at s (key_of app o)) as (λ b. is_started_at s (key_of app o) ≡ b → IsStanding table s app (cond (not b) (Stopped o.node) (cond (not (is_permitted_at table s (key_of app o))) Barred (Upheld o.node)))) [
+    | true ↦ λ up. elim (is_started_at s (key_of app o)) as (λ b. is_started_at s (key_of app o) ≡ b → IsStanding table s app (cond (not b) (Stopped o.node) (cond (not (is_allowed_at table s (key_of app o))) Barred (Upheld o.node)))) [
       | false ↦ λ stopped. (o, is, (refl, (up_is s o).0 up, λ started. true≢false (sym ((started_is table s app o.node o.inc).1 started) ∙ stopped)))
-      | true ↦ λ started. elim (is_permitted_at table s (key_of app o)) as (λ b. is_permitted_at table s (key_of app o) ≡ b → IsStanding table s app (cond (not b) Barred (Upheld o.node))) [
-        | false ↦ λ barred. (o, is, ((up_is s o).0 up, (started_is table s app o.node o.inc).0 started, λ permitted. true≢false (sym ((permitted_is table s app o.node o.inc).1 permitted) ∙ barred)))
-        | true ↦ λ permitted. (o, is, (refl, (up_is s o).0 up, (started_is table s app o.node o.inc).0 started, (permitted_is table s app o.node o.inc).0 permitted))
+      | true ↦ λ started. elim (is_allowed_at table s (key_of app o)) as (λ b. is_allowed_at table s (key_of app o) ≡ b → IsStanding table s app (cond (not b) Barred (Upheld o.node))) [
+        | false ↦ λ barred. (o, is, ((up_is s o).0 up, (started_is table s app o.node o.inc).0 started, λ permitted. true≢false (sym ((allowed_is table s app o.node o.inc).1 permitted) ∙ barred)))
+        | true ↦ λ permitted. (o, is, (refl, (up_is s o).0 up, (started_is table s app o.node o.inc).0 started, (allowed_is table s app o.node o.inc).0 permitted))
       ] refl
     ] refl
   ] refl

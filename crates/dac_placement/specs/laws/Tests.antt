@@ -1,8 +1,8 @@
 -- The tests of who may run an application and where one runs, in words, for every configuration and every state.
 use Rattle.std.specs.Prelude.{◌≡◌, ◌↔◌, ℕ, true, false, cond, ◌&&◌, ◌==◌, Option, None, Some, refl}
-use Rattle.std.proofs.Common.{Bool, ap, subst, ◌∙◌}
+use Rattle.std.proofs.Common.{Bool, ap, sym, subst, ◌∙◌}
 use Rattle.std.specs.Option.{is_some, option_map_or, option_and_then}
-use Rattle.std.proofs.lemmas.Bool.{false≢true, and_parts, and_from, eqb-true, eq-eqb}
+use Rattle.std.proofs.lemmas.Bool.{false≢true, and_parts, and_from, eqb-true, eq-eqb, not-true, not_from_false, false_from_ne_true}
 use Rattle.dac_base.specs.declared.NodeId.{NodeId}
 use Rattle.dac_base.specs.declared.AppId.{AppId}
 use Rattle.dac_dots.specs.declared.dot.Origin.{Origin}
@@ -11,8 +11,10 @@ use Rattle.dac_chains.specs.Lives.{live_at}
 use Rattle.dac_chains.specs.laws.Live.{live_is}
 use Rattle.dac_state.specs.laws.Wished.{is_wished-some}
 use Rattle.dac_state.specs.laws.Permitted.{is_permitted-is}
-use Rattle.dac_state.specs.StateValue.{StateValue, permissions_of, wishes_of}
-use Rattle.dac_placement.specs.Placement.{IsPermittedAt, is_permitted_at, IsStartedAt, is_started_at, IsEligible, is_eligible, holder_of, key_at, IsUp, is_up, RunsAt, runs_at, runner_of}
+use Rattle.dac_state.specs.laws.Drained.{is_drained-is}
+use Rattle.dac_state.specs.DrainsValue.{origin}
+use Rattle.dac_state.specs.StateValue.{StateValue, permissions_of, wishes_of, drains_of}
+use Rattle.dac_placement.specs.Placement.{IsPermittedAt, is_permitted_at, IsDrainedAt, is_drained_at, IsAllowedAt, is_allowed_at, IsStartedAt, is_started_at, IsEligible, is_eligible, holder_of, key_at, IsUp, is_up, RunsAt, runs_at, runner_of}
 
 itself : (n : ℕ) → (n == n) ≡ true
 itself n = eq-eqb n n refl
@@ -36,6 +38,17 @@ module _ (table : Table) (s : StateValue) where
   pub permitted_is : (app : AppId) (node : NodeId) (inc : ℕ) → (is_permitted_at table s (key_at app node inc) ≡ true) ↔ IsPermittedAt table s (key_at app node inc)
   permitted_is app node inc = is_permitted-is (key_at app node inc) (default_permission table app) (permissions_of s)
 
+  pub drained_is : (node : NodeId) (inc : ℕ) → (is_drained_at s node inc ≡ true) ↔ IsDrainedAt s node inc
+  drained_is node inc = is_drained-is (origin node inc) (drains_of s)
+
+  pub allowed_is : (app : AppId) (node : NodeId) (inc : ℕ) → (is_allowed_at table s (key_at app node inc) ≡ true) ↔ IsAllowedAt table s (key_at app node inc)
+  allowed_is app node inc =
+      let permitted = permitted_is app node inc in
+      let drained = drained_is node inc in (
+        λ h. let both = and_parts _ _ h in (permitted.0 both.0, λ d. false≢true (sym (not-true _ both.1) ∙ drained.1 d)),
+        λ p. and_from _ _ (permitted.1 p.0) (not_from_false _ (false_from_ne_true _ (λ t. p.1 (drained.0 t)))),
+      )
+
   pub started_is : (app : AppId) (node : NodeId) (inc : ℕ) → (is_started_at s (key_at app node inc) ≡ true) ↔ IsStartedAt s (key_at app node inc)
   started_is app node inc = is_wished-some (key_at app node inc) (wishes_of s)
 
@@ -43,18 +56,18 @@ module _ (table : Table) (s : StateValue) where
 
   module _ (app : AppId) (node : NodeId) where
     abbrev wanted : Option ℕ → Bool
-    wanted live = option_map_or (λ inc. is_permitted_at table s (key_at app node inc) && is_started_at s (key_at app node inc)) live false
+    wanted live = option_map_or (λ inc. is_allowed_at table s (key_at app node inc) && is_started_at s (key_at app node inc)) live false
 
     eligible_if : (live : Option ℕ) → live_at s.lives node ≡ live → is_some (group_of table app node) ≡ true → wanted live ≡ true → IsEligible table s app node
     eligible_if None is listed h = absurd (false≢true h)
     eligible_if (Some inc) is listed h =
         let both = and_parts _ _ h in
-        record { listed = listed; inc = inc; live = (live_is s.lives node inc).0 is; permitted = (permitted_is app node inc).0 both.0; started = (started_is app node inc).0 both.1 }
+        record { listed = listed; inc = inc; live = (live_is s.lives node inc).0 is; allowed = (allowed_is app node inc).0 both.0; started = (started_is app node inc).0 both.1 }
 
     pub eligible_is : (is_eligible table s app node ≡ true) ↔ IsEligible table s app node
     eligible_is = (
       λ h. let both = and_parts _ _ h in eligible_if (live_at s.lives node) refl both.0 both.1,
-      λ e. and_from _ _ e.listed (ap wanted ((live_is s.lives node e.inc).1 e.live) ∙ and_from _ _ ((permitted_is app node e.inc).1 e.permitted) ((started_is app node e.inc).1 e.started)),
+      λ e. and_from _ _ e.listed (ap wanted ((live_is s.lives node e.inc).1 e.live) ∙ and_from _ _ ((allowed_is app node e.inc).1 e.allowed) ((started_is app node e.inc).1 e.started)),
     )
 
     -- ---- where an application runs

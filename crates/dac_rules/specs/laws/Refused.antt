@@ -1,10 +1,10 @@
 -- The table of causes answers the least cause that holds. Each test is its cause in words, and the causes stand in
 -- the order of their numbers.
-use Rattle.std.specs.Prelude.{◌≡◌, ◌↔◌, ◌⊎◌, ℕ, ◌+◌, ◌-◌, ◌^◌, ◌<◌, ◌≤◌, Bool, true, false, not, ◌&&◌, ◌||◌, cond, nat_eq, nat_le, nat_lt, List, [], ◌∷◌, ◌++◌, length, Option, None, Some, is_some, unwrap_or, IfSome, refl}
+use Rattle.std.specs.Prelude.{◌≡◌, ◌↔◌, ◌⊎◌, ℕ, ◌+◌, ◌<◌, ◌≤◌, Bool, true, false, not, ◌&&◌, ◌||◌, cond, nat_eq, nat_le, nat_lt, List, [], ◌∷◌, ◌++◌, length, Option, None, Some, is_some, unwrap_or, IfSome, refl}
 use Rattle.std.specs.Option.{option_map_or}
 use Rattle.std.proofs.Common.{sym, ap, subst, ◌∙◌, inl, inr, arith}
 use Rattle.std.proofs.lemmas.Bool.{true≢false, false≢true, and_parts, le-leb, leb-true, lt-ltb, ltb-true, eqb-true, eq-eqb}
-use Rattle.dac_base.specs.declared.limits.TheConstants.{MAX_COUNTER, MAX_REPLACED}
+use Rattle.dac_base.specs.declared.limits.TheConstants.{MAX_INCARNATION, MAX_COUNTER, MAX_REPLACED}
 use Rattle.dac_base.specs.declared.NodeId.{NodeId}
 use Rattle.dac_dots.specs.declared.dot.Origin.{Origin}
 use Rattle.dac_dots.specs.Dots.{IsUsedUp}
@@ -20,7 +20,7 @@ use Rattle.dac_messages.specs.Bodies.{content_of}
 use Rattle.dac_decide.specs.Placement.{is_up, is_eligible, runs_at, runner_of}
 use Rattle.dac_decide.specs.laws.Tests.{up_is, eligible_is, runs_is}
 use Rattle.dac_events.specs.declared.Command.{Command}
-use Rattle.dac_events.specs.declared.Command.TheVariants.{Down, Permit, Start, Stop, Takeover}
+use Rattle.dac_events.specs.declared.Command.TheVariants.{Down, Permit, Start, Stop, Drain, Takeover}
 use Rattle.dac_messages.specs.declared.message.Message.{Message}
 use Rattle.dac_messages.specs.declared.event.Event.{Event}
 use Rattle.dac_messages.specs.declared.event.Event.TheVariants.{Boot, Crash, Command as Told, Tick, Ship, Hear, HearOp}
@@ -28,7 +28,7 @@ use Rattle.dac_commands.specs.declared.refusal.Refusal.{Refusal}
 use Rattle.dac_commands.specs.declared.refusal.Refusal.TheVariants.{Off, AlreadyOn, DeclaredDown, UnknownApp, UnknownNode, OnSelf, NotInList, MomentBack, NotLive, NotStarted, NotEligible, NotRunning, AlreadyHolder, LowerPriority, NotForMe, UpToDate, TooManyDots, TermsUsedUp, DotsUsedUp, IncarnationsUsedUp, NoMemory}
 use Rattle.dac_commands.specs.Refusals.{number_of}
 use Rattle.dac_commands.specs.Causes.{first, refusal_of_command, no_node, no_app, unlisted, not_live, not_wished, too_many, used_up, declared_down, terms_used_up, runs_earlier}
-use Rattle.dac_commands.specs.Commands.{live_key, standing_starts, standing_permits}
+use Rattle.dac_commands.specs.Commands.{live_key, live_origin, standing_starts, standing_permits, standing_drains}
 use Rattle.dac_commands.specs.laws.Counters.{used_up_is}
 use Rattle.dac_commands.specs.laws.Terms.{terms_used_up_is}
 use Rattle.dac_rules.specs.NodeValue.{NodeValue, RunValue}
@@ -215,6 +215,8 @@ module _ (t : Table) (last : ℕ) (r : RunValue) where
       (refl, (is_on r, λ _. (refl, (declared_down_is own s, λ _. (refl, (at_least (app_count t) app.0, λ _. (refl, (at_least (node_count t) node.0, λ _. (refl, (is_missing (group_of t app node), λ _. (refl, (not_live_is s node, λ _. (refl, (less MAX_REPLACED (length (standing_starts s (live_key s app node))), λ _. (refl, (used, λ _. tt)))))))))))))))))
   on_command (Stop app node) = obeys (Stop app node) ((declared_down own s, DeclaredDown) ∷ (no_app t app, UnknownApp) ∷ (no_node t node, UnknownNode) ∷ (unlisted t app node, NotInList) ∷ (not_live s node, NotLive) ∷ (not_wished s (live_key s app node), NotStarted) ∷ (too_many (length (standing_starts s (live_key s app node))), TooManyDots) ∷ []) refl (first_is (Holds t here (Told (Stop app node))) 0 ((false, Off) ∷ (declared_down own s, DeclaredDown) ∷ (no_app t app, UnknownApp) ∷ (no_node t node, UnknownNode) ∷ (unlisted t app node, NotInList) ∷ (not_live s node, NotLive) ∷ (not_wished s (live_key s app node), NotStarted) ∷ (too_many (length (standing_starts s (live_key s app node))), TooManyDots) ∷ (used_up s own || too_many_deltas r 1, DotsUsedUp) ∷ []) (causes_of_event (Told (Stop app node))) refl
       (refl, (is_on r, λ _. (refl, (declared_down_is own s, λ _. (refl, (at_least (app_count t) app.0, λ _. (refl, (at_least (node_count t) node.0, λ _. (refl, (is_missing (group_of t app node), λ _. (refl, (not_live_is s node, λ _. (refl, (fails (is_wished (live_key s app node) (wishes_of s)) (is_wished-some (live_key s app node) (wishes_of s)), λ _. (refl, (less MAX_REPLACED (length (standing_starts s (live_key s app node))), λ _. (refl, (used, λ _. tt)))))))))))))))))))
+  on_command (Drain node value) = obeys (Drain node value) ((declared_down own s, DeclaredDown) ∷ (no_node t node, UnknownNode) ∷ (not_live s node, NotLive) ∷ (too_many (length (standing_drains s (live_origin s node))), TooManyDots) ∷ []) refl (first_is (Holds t here (Told (Drain node value))) 0 ((false, Off) ∷ (declared_down own s, DeclaredDown) ∷ (no_node t node, UnknownNode) ∷ (not_live s node, NotLive) ∷ (too_many (length (standing_drains s (live_origin s node))), TooManyDots) ∷ (used_up s own || too_many_deltas r 1, DotsUsedUp) ∷ []) (causes_of_event (Told (Drain node value))) refl
+      (refl, (is_on r, λ _. (refl, (declared_down_is own s, λ _. (refl, (at_least (node_count t) node.0, λ _. (refl, (not_live_is s node, λ _. (refl, (less MAX_REPLACED (length (standing_drains s (live_origin s node))), λ _. (refl, (used, λ _. tt)))))))))))))
   on_command (Takeover app) = obeys (Takeover app) ((declared_down own s, DeclaredDown) ∷ (no_app t app, UnknownApp) ∷ (unlisted t app own.node, NotInList) ∷ (not (is_eligible t s app own.node), NotEligible) ∷ (not (is_some (runner_of t s app)), NotRunning) ∷ (runs_at t s app own.node, AlreadyHolder) ∷ (runs_earlier t s app own.node, LowerPriority) ∷ (terms_used_up s app, TermsUsedUp) ∷ []) refl (first_is (Holds t here (Told (Takeover app))) 0 ((false, Off) ∷ (declared_down own s, DeclaredDown) ∷ (no_app t app, UnknownApp) ∷ (unlisted t app own.node, NotInList) ∷ (not (is_eligible t s app own.node), NotEligible) ∷ (not (is_some (runner_of t s app)), NotRunning) ∷ (runs_at t s app own.node, AlreadyHolder) ∷ (runs_earlier t s app own.node, LowerPriority) ∷ (terms_used_up s app, TermsUsedUp) ∷ (used_up s own || too_many_deltas r 1, DotsUsedUp) ∷ []) (causes_of_event (Told (Takeover app))) refl
       (refl, (is_on r, λ _. (refl, (declared_down_is own s, λ _. (refl, (at_least (app_count t) app.0, λ _. (refl, (is_missing (group_of t app own.node), λ _. (refl, (fails (is_eligible t s app own.node) (eligible_is t s app own.node), λ _. (refl, (not_running_is t s app, λ _. (refl, (runs_is t s app own.node, λ _. (refl, (runs_earlier_is t s app own.node, λ _. (refl, (terms_used_up_is s app, λ _. (refl, (used, λ _. tt)))))))))))))))))))))
 
@@ -242,13 +244,14 @@ module _ (t : Table) (last : ℕ) where
   off_first e rs h = at_head (Holds t gone e) Off rs h refl
 
   off_event : (e : Event) → IsRight (Holds t gone e) (causes_of_event e) (refusal_by t last None e)
-  off_event (Boot now) = first_is (Holds t gone (Boot now)) 0 ((false, AlreadyOn) ∷ (nat_le (2 ^ 32 - 1) last, IncarnationsUsedUp) ∷ []) (causes_of_event (Boot now)) refl
-      (refl, ((λ e. absurd (false≢true e), λ e. absurd e), λ _. (refl, (at_least (2 ^ 32 - 1) last, λ _. tt))))
+  off_event (Boot now) = first_is (Holds t gone (Boot now)) 0 ((false, AlreadyOn) ∷ (nat_le MAX_INCARNATION last, IncarnationsUsedUp) ∷ []) (causes_of_event (Boot now)) refl
+      (refl, ((λ e. absurd (false≢true e), λ e. absurd e), λ _. (refl, (at_least MAX_INCARNATION last, λ _. tt))))
   off_event Crash = off_first Crash [] refl
   off_event (Told (Down node)) = off_first (Told (Down node)) (DeclaredDown ∷ UnknownNode ∷ OnSelf ∷ NotLive ∷ DotsUsedUp ∷ []) refl
   off_event (Told (Permit app node value)) = off_first (Told (Permit app node value)) (DeclaredDown ∷ UnknownApp ∷ UnknownNode ∷ NotInList ∷ NotLive ∷ TooManyDots ∷ DotsUsedUp ∷ []) refl
   off_event (Told (Start app node)) = off_first (Told (Start app node)) (DeclaredDown ∷ UnknownApp ∷ UnknownNode ∷ NotInList ∷ NotLive ∷ TooManyDots ∷ DotsUsedUp ∷ []) refl
   off_event (Told (Stop app node)) = off_first (Told (Stop app node)) (DeclaredDown ∷ UnknownApp ∷ UnknownNode ∷ NotInList ∷ NotLive ∷ NotStarted ∷ TooManyDots ∷ DotsUsedUp ∷ []) refl
+  off_event (Told (Drain node value)) = off_first (Told (Drain node value)) (DeclaredDown ∷ UnknownNode ∷ NotLive ∷ TooManyDots ∷ DotsUsedUp ∷ []) refl
   off_event (Told (Takeover app)) = off_first (Told (Takeover app)) (DeclaredDown ∷ UnknownApp ∷ NotInList ∷ NotEligible ∷ NotRunning ∷ AlreadyHolder ∷ LowerPriority ∷ TermsUsedUp ∷ DotsUsedUp ∷ []) refl
   off_event (Tick now) = off_first (Tick now) (DeclaredDown ∷ MomentBack ∷ DotsUsedUp ∷ []) refl
   off_event (Ship to) = off_first (Ship to) (UnknownNode ∷ OnSelf ∷ UpToDate ∷ []) refl

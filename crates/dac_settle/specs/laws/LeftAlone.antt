@@ -9,19 +9,20 @@ use Rattle.dac_base.specs.declared.AppId.{AppId}
 use Rattle.dac_dots.specs.declared.dot.Origin.{Origin}
 use Rattle.dac_chains.specs.Lives.{Lives, IsLive}
 use Rattle.dac_wishes.specs.PermissionsValue.{Permits}
+use Rattle.dac_wishes.specs.DrainsValue.{Drains}
 use Rattle.dac_wishes.specs.Writes.{Writes}
 use Rattle.dac_meaning.specs.StateValue.{StateValue}
 use Rattle.dac_config.specs.Table.{Table}
 use Rattle.dac_placement.specs.declared.verdicts.Verdict.{Verdict}
 use Rattle.dac_placement.specs.declared.verdicts.Verdict.TheVariants.{Start, Failover, Halted, Move, Takeover, Kept, Nobody}
-use Rattle.dac_placement.specs.Placement.{EachEligible, IsEligible, is_eligible, IsEarlier, IsUp, IsStartedAt, is_started_at, IsPermittedAt, is_permitted_at, HeldBy, holder_of, key_of, IsVerdict, verdict_of, candidate_of}
-use Rattle.dac_placement.specs.laws.Tests.{eligible_is, started_is, permitted_is}
+use Rattle.dac_placement.specs.Placement.{EachEligible, IsEligible, is_eligible, IsEarlier, IsUp, IsStartedAt, is_started_at, IsAllowedAt, is_allowed_at, HeldBy, holder_of, key_of, IsVerdict, verdict_of, candidate_of}
+use Rattle.dac_placement.specs.laws.Tests.{eligible_is, started_is, allowed_is}
 use Rattle.dac_placement.specs.laws.Judged.{verdict_in_words}
 use Rattle.dac_ticks.specs.laws.Claimed.{Alike, alike_back}
 
 -- at this incarnation the application is started and permitted, and no eligible node is of an earlier group
 abbrev pub IsWellAt : Table → StateValue → AppId → Origin → Type 0
-IsWellAt t s app o = IsStartedAt s (key_of app o) × IsPermittedAt t s (key_of app o) × EachEligible t s app (λ m. ¬ IsEarlier t app m o.node)
+IsWellAt t s app o = IsStartedAt s (key_of app o) × IsAllowedAt t s (key_of app o) × EachEligible t s app (λ m. ¬ IsEarlier t app m o.node)
 
 -- the incarnation is live, and the application was stopped there or is well there
 abbrev pub IsLeftAt : Table → StateValue → AppId → Origin → Type 0
@@ -71,7 +72,7 @@ module _ (t : Table) (s : StateValue) (app : AppId) where
       let same : held.0 ≡ is.0.0 = one (sym held.1 ∙ is.0.1) in
       elim held.2.1 [
         | inl stopped ↦ absurd (stopped (subst (λ (o : Origin). IsStartedAt s (key_of app o)) (sym same) is.0.2.1))
-        | inr well ↦ absurd (is.0.2.2 (subst (λ (o : Origin). IsPermittedAt t s (key_of app o)) same well.1))
+        | inr well ↦ absurd (is.0.2.2 (subst (λ (o : Origin). IsAllowedAt t s (key_of app o)) same well.1))
       ]
   held_by (Takeover n) is held =
       let same : held.0 ≡ is.1.0 = one (sym held.1 ∙ is.1.1) in
@@ -91,25 +92,25 @@ module _ (t : Table) (s : StateValue) (app : AppId) where
 -- ---- states that differ in claims alone
 
 -- a state of these places, and of no claims
-abbrev places : Lives → Permits → Writes → StateValue
-places lives permits starts = record { heard = set.empty; known = set.empty; permits = permits; starts = starts; lives = lives; claims = map.empty }
+abbrev places : Lives → Permits → Writes → Drains → StateValue
+places lives permits starts drains = record { heard = set.empty; known = set.empty; permits = permits; starts = starts; lives = lives; claims = map.empty; drains = drains }
 
 module _ (t : Table) (s u : StateValue) (a : Alike s u) (app : AppId) where
   eligible_alike : (n : NodeId) → is_eligible t s app n ≡ is_eligible t u app n
-  eligible_alike n = λ i. is_eligible t (places (a.lives i) (a.permits i) (a.starts i)) app n
+  eligible_alike n = λ i. is_eligible t (places (a.lives i) (a.permits i) (a.starts i) (a.drains i)) app n
 
   pub to_eligible : (n : NodeId) → IsEligible t s app n → IsEligible t u app n
   to_eligible n may = (eligible_is t u app n).0 (sym (eligible_alike n) ∙ (eligible_is t s app n).1 may)
 
   pub to_started : (o : Origin) → IsStartedAt s (key_of app o) → IsStartedAt u (key_of app o)
   to_started o is =
-      let alike : is_started_at s (key_of app o) ≡ is_started_at u (key_of app o) = λ i. is_started_at (places (a.lives i) (a.permits i) (a.starts i)) (key_of app o) in
+      let alike : is_started_at s (key_of app o) ≡ is_started_at u (key_of app o) = λ i. is_started_at (places (a.lives i) (a.permits i) (a.starts i) (a.drains i)) (key_of app o) in
       (started_is t u app o.node o.inc).0 (sym alike ∙ (started_is t s app o.node o.inc).1 is)
 
-  to_permitted : (o : Origin) → IsPermittedAt t s (key_of app o) → IsPermittedAt t u (key_of app o)
+  to_permitted : (o : Origin) → IsAllowedAt t s (key_of app o) → IsAllowedAt t u (key_of app o)
   to_permitted o is =
-      let alike : is_permitted_at t s (key_of app o) ≡ is_permitted_at t u (key_of app o) = λ i. is_permitted_at t (places (a.lives i) (a.permits i) (a.starts i)) (key_of app o) in
-      (permitted_is t u app o.node o.inc).0 (sym alike ∙ (permitted_is t s app o.node o.inc).1 is)
+      let alike : is_allowed_at t s (key_of app o) ≡ is_allowed_at t u (key_of app o) = λ i. is_allowed_at t (places (a.lives i) (a.permits i) (a.starts i) (a.drains i)) (key_of app o) in
+      (allowed_is t u app o.node o.inc).0 (sym alike ∙ (allowed_is t s app o.node o.inc).1 is)
 
   to_up : (o : Origin) → IsUp s o → IsUp u o
   to_up o up = subst (λ (l : Lives). IsLive l o.node o.inc) a.lives up

@@ -19,13 +19,16 @@ use Rattle.dac_chains.specs.declared.claims.Claim.{Claim as ClaimValue}
 use Rattle.dac_chains.specs.declared.claims.How.{How}
 use Rattle.dac_chains.specs.Lives.{lives_total, exact_lives}
 use Rattle.dac_chains.specs.Claims.{claim_cmp}
+use Rattle.dac_dots.specs.Dots.{origin_cmp, origins_total, exact_origins}
+use Rattle.dac_wishes.specs.Keys.{key_cmp}
+use Rattle.dac_wishes.specs.KeyedWrites.{KeyedWrite, keyed_writes_total, exact_keyed_writes}
 use Rattle.dac_wishes.specs.Writes.{Write, writes_total, exact_writes}
 use Rattle.dac_operations.specs.declared.act.Act.{Act}
-use Rattle.dac_operations.specs.declared.act.Act.TheVariants.{Up, Down, Permit, Start, Stop, Claim}
+use Rattle.dac_operations.specs.declared.act.Act.TheVariants.{Up, Down, Permit, Start, Stop, Drain, Claim}
 use Rattle.dac_operations.specs.Operations.{Operation, operation}
-use Rattle.dac_meaning.specs.Meaning.{In, Within, meaning_of, replaces, is_start, is_permit, permit_at, flag_said, pairs, life_said, claim_said}
+use Rattle.dac_meaning.specs.Meaning.{In, Within, meaning_of, has_dot, replaces, is_start, told, is_vote, vote_at, permit_vote, drain_vote, flag_said, pairs, life_said, claim_said}
 use Rattle.dac_meaning.specs.laws.Members.{found, finds}
-use Rattle.dac_meaning.specs.laws.Readers.{starts-meaning, permits-meaning, lives-meaning, lives_are, claims-meaning, claims_are}
+use Rattle.dac_meaning.specs.laws.Readers.{starts-meaning, permits-meaning, drains-meaning, lives-meaning, lives_are, claims-meaning, claims_are}
 use Rattle.dac_meaning.specs.Chained.{Says, of_said, is_said}
 use Rattle.dac_ticks.specs.laws.Claimed.{Alike}
 
@@ -48,6 +51,7 @@ by_claim P all (Down node inc) h = absurd (false≢true h)
 by_claim P all (Permit key value over) h = absurd (false≢true h)
 by_claim P all (Start key over) h = absurd (false≢true h)
 by_claim P all (Stop key over) h = absurd (false≢true h)
+by_claim P all (Drain node inc value over) h = absurd (false≢true h)
 by_claim P all (Claim app term how from) h = all app term how from
 
 no_replacing : (d e : Dot) (a : Act) → is_claim a ≡ true → replaces d (operation e a) ≡ false
@@ -56,8 +60,12 @@ no_replacing d e a h = by_claim (λ b. replaces d (operation e b) ≡ false) (λ
 no_start : (w : Write) (e : Dot) (a : Act) → is_claim a ≡ true → is_start w (operation e a) ≡ false
 no_start w e a h = by_claim (λ b. is_start w (operation e b) ≡ false) (λ app term how from. refl) a h
 
-no_permit : (w : Write) (v : Bool) (e : Dot) (a : Act) → is_claim a ≡ true → is_permit w v (operation e a) ≡ false
-no_permit w v e a h = by_claim (λ b. is_permit w v (operation e b) ≡ false) (λ app term how from. refl) a h
+-- a claim is no vote
+no_permit : (a : Act) → is_claim a ≡ true → permit_vote a ≡ None
+no_permit a h = by_claim (λ b. permit_vote b ≡ None) (λ app term how from. refl) a h
+
+no_drain : (a : Act) → is_claim a ≡ true → drain_vote a ≡ None
+no_drain a h = by_claim (λ b. drain_vote b ≡ None) (λ app term how from. refl) a h
 
 no_life : (e : Dot) (a : Act) → is_claim a ≡ true → life_said e a ≡ None
 no_life e a h = by_claim (λ b. life_said e b ≡ None) (λ app term how from. refl) a h
@@ -69,6 +77,7 @@ said_is_claim e (Down node inc) said h = cc
 said_is_claim e (Permit key value over) said h = cc
 said_is_claim e (Start key over) said h = cc
 said_is_claim e (Stop key over) said h = cc
+said_is_claim e (Drain node inc value over) said h = cc
 said_is_claim e (Claim app term how from) said h = refl
 
 -- ---- greatest values
@@ -100,11 +109,16 @@ module _ (s x : List Operation) (adds : AddsClaims s x) where
       ∙ (λ i. any_alike (is_start w) (λ o c. no_start w o.dot o.act c) i && not (replaced_alike w.dot i))
       ∙ sym (starts-meaning s w))
 
-  permit_alike : (w : Write) → permit_at x w ≡ permit_at s w
-  permit_alike w = λ i. cond (replaced_alike w.dot i) None (flag_said (any_alike (is_permit w false) (λ o c. no_permit w false o.dot o.act c) i) (any_alike (is_permit w true) (λ o c. no_permit w true o.dot o.act c) i))
+  vote_alike : {K : Type 0} (R : K → K → Ordering) (vote : Act → Option (K × Bool)) (down : Bool) → ((a : Act) → is_claim a ≡ true → vote a ≡ None) → (w : KeyedWrite K) → vote_at R vote down x w ≡ vote_at R vote down s w
+  vote_alike R vote down none w =
+      let no_vote = λ (v : Bool) (o : Operation) (c : is_claim o.act ≡ true). ap (λ u. told R w.key v u && has_dot w.dot o) (none o.act c) in
+      λ i. cond (replaced_alike w.dot i) None (flag_said (any_alike (is_vote R vote w down) (no_vote down) i) (any_alike (is_vote R vote w (not down)) (no_vote (not down)) i))
 
   permits_alike : (meaning_of x).permits ≡ (meaning_of s).permits
-  permits_alike = map.same_map writes_total exact_writes _ _ (λ w. permits-meaning x w ∙ permit_alike w ∙ sym (permits-meaning s w))
+  permits_alike = map.same_map writes_total exact_writes _ _ (λ w. permits-meaning x w ∙ vote_alike key_cmp permit_vote false no_permit w ∙ sym (permits-meaning s w))
+
+  drains_alike : (meaning_of x).drains ≡ (meaning_of s).drains
+  drains_alike = map.same_map (keyed_writes_total origins_total) (exact_keyed_writes exact_origins) _ _ (λ w. drains-meaning x w ∙ vote_alike origin_cmp drain_vote true no_drain w ∙ sym (drains-meaning s w))
 
   none_some : {X : Type 0} {v : X} {Y : Type 0} → ◌≡◌ {A = Option X} None (Some v) → Y
   none_some e = cc
@@ -119,9 +133,9 @@ module _ (s x : List Operation) (adds : AddsClaims s x) where
       (λ l said. let o = of_said life_said s n l said in is_said life_said x n l (o.0, (adds.keeps o.0 o.1.0, o.1.1)))
       (lives_are x n) (lives_are s n)) ∙ sym (lives-meaning s)
 
-  -- both mean the same lives, permits and starts
+  -- both mean the same lives, permits, starts and drains
   pub alike : Alike (meaning_of x) (meaning_of s)
-  alike = record { lives = lives_alike; permits = permits_alike; starts = starts_alike }
+  alike = record { lives = lives_alike; permits = permits_alike; starts = starts_alike; drains = drains_alike }
 
 -- the claim of an application is the greatest of its claims
 pub claim_greatest : (x : List Operation) (app : AppId) → IsGreatest claim_cmp (Says claim_said x app) (map.get (meaning_of x).claims app)

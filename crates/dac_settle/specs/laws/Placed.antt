@@ -23,7 +23,7 @@ use Rattle.dac_meaning.specs.Meaning.{In, meaning_of, claim_said}
 use Rattle.dac_meaning.specs.laws.Joins.{meaning-same}
 use Rattle.dac_meaning.specs.Chained.{Says}
 use Rattle.dac_config.specs.Table.{Table}
-use Rattle.dac_placement.specs.Placement.{IsStartedAt, IsPermittedAt, key_at, apps_of, verdict_of, candidate_of}
+use Rattle.dac_placement.specs.Placement.{IsStartedAt, IsAllowedAt, key_at, apps_of, verdict_of, candidate_of}
 use Rattle.dac_placement.specs.laws.Rests.{candidate_is}
 use Rattle.dac_commands.specs.Commands.{next_term}
 use Rattle.dac_ticks.specs.Ticks.{claim_of}
@@ -155,7 +155,7 @@ module _ (t : Table) where
           if_left t u app (inr (
             o,
             ap (option_map (λ (c : Claim). c.origin)) taken.greatest,
-            (fit.live, inr (subst (λ inc. IsStartedAt u (key_at app o.node inc)) same fit.eligible.started, subst (λ inc. IsPermittedAt t u (key_at app o.node inc)) same fit.eligible.permitted, fit.earliest)),
+            (fit.live, inr (subst (λ inc. IsStartedAt u (key_at app o.node inc)) same fit.eligible.started, subst (λ inc. IsAllowedAt t u (key_at app o.node inc)) same fit.eligible.allowed, fit.earliest)),
           ))
 
       pub stays : (placed t).candidate s app ≡ None → (placed t).candidate x app ≡ None

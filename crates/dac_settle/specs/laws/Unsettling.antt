@@ -15,6 +15,8 @@ use Rattle.dac_chains.specs.declared.claims.How.TheVariants.{Normal}
 use Rattle.dac_chains.specs.Greatest.{IsGreatest}
 use Rattle.dac_chains.specs.Claims.{claim_cmp}
 use Rattle.dac_chains.specs.Lives.{Lives, IsLive}
+use Rattle.dac_wishes.specs.KeyedWrites.{keyed_write}
+use Rattle.dac_wishes.specs.DrainsValue.{origin}
 use Rattle.dac_wishes.specs.Writes.{write}
 use Rattle.dac_operations.specs.declared.act.Act.TheVariants.{Claim as Claims}
 use Rattle.dac_operations.specs.Operations.{Operation, operation}
@@ -22,7 +24,7 @@ use Rattle.dac_meaning.specs.StateValue.{StateValue}
 use Rattle.dac_meaning.specs.Meaning.{meaning_of, claim_said}
 use Rattle.dac_meaning.specs.laws.Members.{In-append_left, In-append_right, In-append_cases}
 use Rattle.dac_meaning.specs.Chained.{Says}
-use Rattle.dac_meaning.specs.laws.Readers.{starts-meaning, permits-meaning}
+use Rattle.dac_meaning.specs.laws.Readers.{starts-meaning, permits-meaning, drains-meaning}
 use Rattle.dac_shapes.specs.declared.draft.SyncWait.TheVariants.{NoSync}
 use Rattle.dac_config.specs.Table.{Table, group_of}
 use Rattle.dac_placement.specs.declared.verdicts.Verdict.{Verdict}
@@ -134,7 +136,7 @@ a_at_first = record {
   listed = refl;
   inc = 1;
   live = is_live first_node (inl refl);
-  permitted = inl (λ d. permits-meaning s (write (key_at the_app first_node 1) d), refl);
+  allowed = (inl (λ d. permits-meaning s (write (key_at the_app first_node 1) d), refl), λ d. absurd (false≢true (ap is_some (sym (drains-meaning s (keyed_write (origin first_node 1) d.0)) ∙ d.1))));
   started = (dot (first_of first_node) 2, starts-meaning s (write (key_at the_app first_node 1) (dot (first_of first_node) 2)));
 }
 
@@ -143,7 +145,7 @@ a_at_second = record {
   listed = refl;
   inc = 1;
   live = is_live second_node (inr refl);
-  permitted = inl (λ d. permits-meaning s (write (key_at the_app second_node 1) d), refl);
+  allowed = (inl (λ d. permits-meaning s (write (key_at the_app second_node 1) d), refl), λ d. absurd (false≢true (ap is_some (sym (drains-meaning s (keyed_write (origin second_node 1) d.0)) ∙ d.1))));
   started = (dot (first_of second_node) 2, starts-meaning s (write (key_at the_app second_node 1) (dot (first_of second_node) 2)));
 }
 
@@ -152,7 +154,7 @@ b_at_first = record {
   listed = refl;
   inc = 1;
   live = is_live first_node (inl refl);
-  permitted = inl (λ d. permits-meaning s (write (key_at other_app first_node 1) d), refl);
+  allowed = (inl (λ d. permits-meaning s (write (key_at other_app first_node 1) d), refl), λ d. absurd (false≢true (ap is_some (sym (drains-meaning s (keyed_write (origin first_node 1) d.0)) ∙ d.1))));
   started = (dot (first_of first_node) 3, starts-meaning s (write (key_at other_app first_node 1) (dot (first_of first_node) 3)));
 }
 
@@ -168,7 +170,7 @@ unfolding a_at_first
 a_left = if_left two known the_app (inr (
   first_of first_node,
   ap (option_map (λ (c : Claim). c.origin)) a_claimed,
-  (is_live first_node (inl refl), inr (a_at_first.started, a_at_first.permitted, λ m lt may. none_earlier m)),
+  (is_live first_node (inl refl), inr (a_at_first.started, a_at_first.allowed, λ m lt may. none_earlier m)),
 ))
 
 -- ---- loads

@@ -9,11 +9,13 @@ use Rattle.dac_base.specs.declared.limits.TheConstants.{MAX_COUNTER}
 use Rattle.dac_dots.specs.Dots.{dot}
 use Rattle.dac_chains.specs.declared.claims.Claim.{Claim}
 use Rattle.dac_chains.specs.Lives.{IsLive}
+use Rattle.dac_wishes.specs.KeyedWrites.{keyed_write}
+use Rattle.dac_wishes.specs.DrainsValue.{origin}
 use Rattle.dac_wishes.specs.Writes.{write}
 use Rattle.dac_operations.specs.Operations.{Operation}
 use Rattle.dac_meaning.specs.Meaning.{In, Within, meaning_of}
 use Rattle.dac_meaning.specs.laws.Members.{In-append_left, In-append_right, In-append_cases}
-use Rattle.dac_meaning.specs.laws.Readers.{starts-meaning, permits-meaning}
+use Rattle.dac_meaning.specs.laws.Readers.{starts-meaning, permits-meaning, drains-meaning}
 use Rattle.dac_placement.specs.declared.verdicts.Verdict.{Verdict}
 use Rattle.dac_placement.specs.declared.verdicts.Verdict.TheVariants.{Start as ToStart, Failover, Halted, Move, Takeover, Kept, Nobody}
 use Rattle.dac_placement.specs.Placement.{IsEligible, key_at, verdict_of, candidate_of}
@@ -79,7 +81,7 @@ may_run = record {
   listed = refl;
   inc = 1;
   live = are_live the_starts are_starts first_node (inl refl);
-  permitted = inl (λ d. permits-meaning worked_set (write (key_at the_app first_node 1) d), refl);
+  allowed = (inl (λ d. permits-meaning worked_set (write (key_at the_app first_node 1) d), refl), λ d. none_some (sym (drains-meaning worked_set (keyed_write (origin first_node 1) d.0)) ∙ d.1));
   started = (dot (first_of first_node) 2, starts-meaning worked_set (write (key_at the_app first_node 1) (dot (first_of first_node) 2)));
 }
 

@@ -13,6 +13,7 @@ use Rattle.dac_shapes.specs.Limits.{Seen, AllMay, steps, is_among, has_param, wi
 use Rattle.dac_tokens.specs.Digits.{value_from}
 use Rattle.dac_shapes.specs.Shape.{State, is_mark, token, atom_of, short_name_of, node_of, names_at, item_at, items_at, groups_at, milliseconds_of, timeout_at, wait_of, app_name_of, app_value_at, app_at, flag_of, permission_value_at, permission_at, param_named, param_name_of, param_value_at, param_rest_at, param_at, names_kernel, kernel_at, section_rest_at, section_at, passed_at, pair_at, closed, list_of}
 use Rattle.std.specs.Str.{bytes_eq}
+use Rattle.dac_base.specs.declared.limits.TheConstants.{MAX_NODES}
 use Rattle.dac_shapes.specs.Grammar.{Parted, IsListOf, IsPair, IsNode, IsItem, IsNodeList, IsAppValue, IsApp, IsFlag, IsPermission, IsTerm, IsWait, IsParam, IsSection}
 use Rattle.dac_shapes.specs.laws.Names.{same_seen, is_named, param_is}
 use Rattle.dac_shapes.specs.laws.AgainLists.{words_of, cons_is, split, cut, none, Begins, at, symbol_again, whole_again, bracketed_again, rest_again, pair_again}
@@ -52,7 +53,7 @@ module _ (last : Result Located ConfigFault) where
   unfolding node_of
   node_again repeats t us seen name w may =
       let once : (not repeats && is_among name seen.listed) ≡ false = both_false repeats (is_among name seen.listed) may.once in
-      let few : (not (is_among name seen.met) && leb 16 (length seen.met)) ≡ false = both_false (is_among name seen.met) (leb 16 (length seen.met)) (λ f. lt-leb 16 (length seen.met) (may.few f)) in
+      let few : (not (is_among name seen.met) && leb MAX_NODES (length seen.met)) ≡ false = both_false (is_among name seen.met) (leb MAX_NODES (length seen.met)) (λ f. lt-leb MAX_NODES (length seen.met) (may.few f)) in
       rw (short_name_again t name w may.short, once, few) refl
 
   nodes_again : (repeats : Bool) (before : List (List ℕ)) (t : Located) (ts us : List Located) (seen : Seen) (name : List ℕ) → IsNode (words_of (t ∷ ts)) name → MayNode repeats seen name → node_of repeats t (at last (ts ++ us) seen) ≡ Ok (name, at last us (with_node seen name))

@@ -15,13 +15,14 @@ use Rattle.dac_chains.specs.Lives.{IsLive, Lives}
 use Rattle.dac_chains.specs.Claims.{Claims}
 use Rattle.dac_chains.specs.laws.Live.{live_is}
 use Rattle.dac_wishes.specs.PermissionsValue.{Permits}
+use Rattle.dac_wishes.specs.DrainsValue.{Drains}
 use Rattle.dac_wishes.specs.Writes.{Writes}
 use Rattle.dac_operations.specs.declared.act.Act.{Act}
 use Rattle.dac_meaning.specs.StateValue.{StateValue, IsState, join}
 use Rattle.dac_meaning.specs.Meaning.{meaning_of}
 use Rattle.dac_placement.specs.declared.verdicts.Verdict.{Verdict}
 use Rattle.dac_placement.specs.declared.verdicts.Verdict.TheVariants.{Start, Failover, Halted, Move, Takeover, Kept, Nobody}
-use Rattle.dac_placement.specs.Placement.{EachEligible, IsEligible, is_eligible, IsEarlier, IsUp, is_up, IsPermittedAt, key_at, runs_at, load_of, apps_of, IsFirst, first_choice, holder_of, key_of, standing_of, IsVerdict, verdict_by, verdict_of, candidate_of}
+use Rattle.dac_placement.specs.Placement.{EachEligible, IsEligible, is_eligible, IsEarlier, IsUp, is_up, IsAllowedAt, key_at, runs_at, load_of, apps_of, IsFirst, first_choice, holder_of, key_of, standing_of, IsVerdict, verdict_by, verdict_of, candidate_of}
 use Rattle.dac_placement.specs.laws.Tests.{eligible_is, runs_is}
 use Rattle.dac_placement.specs.laws.FirstChoice.{first_is}
 use Rattle.dac_placement.specs.laws.Judged.{verdict_in_words}
@@ -89,12 +90,12 @@ fewer p q within (x ∷ xs) = by_tests (p x) (q x) (within x) (filter p xs) (fil
 -- ---- states that differ in claims alone
 
 -- a state of these places and claims
-abbrev places : Lives → Permits → Writes → Claims → StateValue
-places lives permits starts claims = record { heard = set.empty; known = set.empty; permits = permits; starts = starts; lives = lives; claims = claims }
+abbrev places : Lives → Permits → Writes → Drains → Claims → StateValue
+places lives permits starts drains claims = record { heard = set.empty; known = set.empty; permits = permits; starts = starts; lives = lives; claims = claims; drains = drains }
 
 module _ (t : Table) (s u : StateValue) (a : Alike s u) (app : AppId) where
   eligible_alike : (n : NodeId) → is_eligible t s app n ≡ is_eligible t u app n
-  eligible_alike n = λ i. is_eligible t (places (a.lives i) (a.permits i) (a.starts i) map.empty) app n
+  eligible_alike n = λ i. is_eligible t (places (a.lives i) (a.permits i) (a.starts i) (a.drains i) map.empty) app n
 
   to_eligible : (n : NodeId) → IsEligible t s app n → IsEligible t u app n
   to_eligible n e = (eligible_is t u app n).0 (sym (eligible_alike n) ∙ (eligible_is t s app n).1 e)
@@ -104,15 +105,15 @@ module _ (t : Table) (s u : StateValue) (a : Alike s u) (app : AppId) where
     holder_alike = ap (option_map (λ (claim : Claim). claim.origin)) same
 
     standing_alike : standing_of t s app ≡ standing_of t u app
-    standing_alike = (λ i. standing_of t (places (a.lives i) (a.permits i) (a.starts i) s.claims) app) ∙ rw same refl
+    standing_alike = (λ i. standing_of t (places (a.lives i) (a.permits i) (a.starts i) (a.drains i) s.claims) app) ∙ rw same refl
 
     runs_alike : (n : NodeId) → runs_at t s app n ≡ runs_at t u app n
     runs_alike n = λ i.
-        option_map_or (λ (o : Origin). (o.node.0 == n.0) && is_up (places (a.lives i) (a.permits i) (a.starts i) map.empty) o) (holder_alike i) false
-        && is_eligible t (places (a.lives i) (a.permits i) (a.starts i) map.empty) app n
+        option_map_or (λ (o : Origin). (o.node.0 == n.0) && is_up (places (a.lives i) (a.permits i) (a.starts i) (a.drains i) map.empty) o) (holder_alike i) false
+        && is_eligible t (places (a.lives i) (a.permits i) (a.starts i) (a.drains i) map.empty) app n
 
     lost_alike : lost_in s app ≡ lost_in u app
-    lost_alike = λ i. option_and_then (lost_if (places (a.lives i) (a.permits i) (a.starts i) map.empty)) (same i)
+    lost_alike = λ i. option_and_then (lost_if (places (a.lives i) (a.permits i) (a.starts i) (a.drains i) map.empty)) (same i)
 
     due_alike : (noted : Option Noted) (now : ℕ) (verdict : Verdict) → is_due_by t noted s app now verdict ≡ is_due_by t noted u app now verdict
     due_alike noted now (Start n) = refl
@@ -152,8 +153,8 @@ module _ (t : Table) (own : Origin) where
     inc_is : takes.eligible.inc ≡ own.inc
     inc_is = one_inc (sym ((live_is s.lives own.node takes.eligible.inc).1 takes.eligible.live) ∙ (live_is s.lives own.node own.inc).1 up)
 
-    permitted : IsPermittedAt t s (key_at app own.node own.inc)
-    permitted = subst (λ inc. IsPermittedAt t s (key_at app own.node inc)) inc_is takes.eligible.permitted
+    allowed : IsAllowedAt t s (key_at app own.node own.inc)
+    allowed = subst (λ inc. IsAllowedAt t s (key_at app own.node inc)) inc_is takes.eligible.allowed
 
     holder_is : (o : Origin) → holder_of s app ≡ Some o → own ≡ o
     holder_is o is = one_origin (sym takes.holder ∙ is)
@@ -163,7 +164,7 @@ module _ (t : Table) (own : Origin) where
     kept_by (Start n) is = absurd (false≢true (ap is_some (sym is.0 ∙ takes.holder)))
     kept_by (Failover n) is = absurd (is.0.2 (subst (IsUp s) (holder_is is.0.0 is.0.1) up))
     kept_by (Halted n) is = refl
-    kept_by (Move n) is = absurd (is.0.2.2 (subst (λ (o : Origin). IsPermittedAt t s (key_of app o)) (holder_is is.0.0 is.0.1) permitted))
+    kept_by (Move n) is = absurd (is.0.2.2 (subst (λ (o : Origin). IsAllowedAt t s (key_of app o)) (holder_is is.0.0 is.0.1) allowed))
     kept_by (Takeover n) is = absurd (takes.earliest n is.2.node is.2.eligible (subst (λ m. IsEarlier t app n m) (sym (ap (λ (o : Origin). o.node) (holder_is is.1.0 is.1.1) ∙ is.1.2.0)) is.3))
     kept_by (Kept n) is = refl
     kept_by Nobody is = refl

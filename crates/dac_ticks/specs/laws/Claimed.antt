@@ -5,7 +5,8 @@ use Rattle.std.specs.Option.{option_map_or}
 use Rattle.std.specs.declared.cmp.Ordering.{Ordering}
 use Rattle.std.specs.declared.cmp.Ordering.TheVariants.{Greater}
 use Rattle.std.specs.Ordering.{eq_by_cmp, nat_cmp, ordering_then, is_eq, is_lt, ord_max}
-use Rattle.std.specs.Cmp.{Equal-is, nat_cmp_is}
+use Rattle.std.specs.Cmp.{IsTotalOrder, Equal-is, nat_cmp_is}
+use Rattle.std.proofs.lemmas.Map.Lookups.{CmpEqualImpliesEq}
 use Rattle.std.specs.FinSet as set
 use Rattle.std.specs.FinMap as map
 use Rattle.std.proofs.lemmas.Bool.{false≢true, false_from_ne_true, and_parts, and_from, or_cases, or_left}
@@ -15,7 +16,7 @@ use Rattle.dac_base.specs.declared.NodeId.{NodeId}
 use Rattle.dac_base.specs.Ids.{app_cmp, apps_total, exact_apps, nodes_total, exact_nodes}
 use Rattle.dac_dots.specs.declared.dot.Origin.{Origin}
 use Rattle.dac_dots.specs.declared.dot.Dot.{Dot}
-use Rattle.dac_dots.specs.Dots.{dot}
+use Rattle.dac_dots.specs.Dots.{dot, origins_total, exact_origins}
 use Rattle.dac_lattice.specs.declared.flags.Flag.{Flag}
 use Rattle.dac_lattice.specs.Flags.{flag_cmp, flags_exact}
 use Rattle.dac_lattice.specs.laws.Joins.{join_bottom}
@@ -28,14 +29,18 @@ use Rattle.dac_chains.specs.Lives.{life_cmp, lives_total, exact_lives}
 use Rattle.dac_chains.specs.Claims.{claim_cmp, how_cmp, claims_total, exact_hows, exact_claims}
 use Rattle.dac_wishes.specs.Writes.{Write, writes_total, exact_writes, same_dot_is}
 use Rattle.dac_wishes.specs.WishesValue.{WishesValue, may_stand, standing-join as standing-wishes}
-use Rattle.dac_wishes.specs.PermissionsValue.{PermissionsValue, joined_permit, standing-join as standing-permissions}
+use Rattle.dac_wishes.specs.PermissionsValue.{PermissionsValue}
+use Rattle.dac_wishes.specs.Keys.{keys_total, exact_keys}
+use Rattle.dac_wishes.specs.KeyedWrites.{KeyedWrite, keyed_writes_total, exact_keyed_writes}
+use Rattle.dac_wishes.specs.Votes.{VotesValue, joined_vote, join_votes, standing-join_votes}
+use Rattle.dac_wishes.specs.DrainsValue.{DrainsValue, DrainWrite}
 use Rattle.dac_operations.specs.Operations.{Operation}
-use Rattle.dac_meaning.specs.StateValue.{StateValue, IsState, join, permissions_of, wishes_of}
-use Rattle.dac_meaning.specs.laws.StateLaws.{state_laws, life_laws, lives-join, claims-join, wishes-join, permissions-join}
+use Rattle.dac_meaning.specs.StateValue.{StateValue, IsState, join, permissions_of, wishes_of, drains_of}
+use Rattle.dac_meaning.specs.laws.StateLaws.{state_laws, life_laws, lives-join, claims-join, wishes-join, permissions-join, drains-join}
 use Rattle.dac_meaning.specs.Meaning.{meaning_of, life_said, claim_said, is_replaced}
 use Rattle.dac_meaning.specs.Chained.{greatest-one}
 use Rattle.dac_meaning.specs.laws.Joins.{meaning-state}
-use Rattle.dac_meaning.specs.laws.Readers.{starts-meaning, permits-meaning, lives-meaning, claims-meaning}
+use Rattle.dac_meaning.specs.laws.Readers.{starts-meaning, permits-meaning, drains-meaning, lives-meaning, claims-meaning}
 use Rattle.dac_placement.specs.declared.verdicts.Verdict.{Verdict}
 use Rattle.dac_placement.specs.declared.verdicts.Verdict.TheVariants.{Start, Failover, Halted, Move, Takeover, Kept, Nobody}
 use Rattle.dac_commands.specs.Commands.{greatest_counter, next_term, claim_act, next_operation}
@@ -53,15 +58,27 @@ pub record Alike (s t : StateValue) : Type 0 where
   pub lives : s.lives ≡ t.lives
   pub permits : s.permits ≡ t.permits
   pub starts : s.starts ≡ t.starts
+  pub drains : s.drains ≡ t.drains
 
 pub alike_itself : (s : StateValue) → Alike s s
-alike_itself s = record { lives = refl; permits = refl; starts = refl }
+alike_itself s = record { lives = refl; permits = refl; starts = refl; drains = refl }
 
 pub alike_through : (s t u : StateValue) → Alike s t → Alike t u → Alike s u
-alike_through s t u a b = record { lives = a.lives ∙ b.lives; permits = a.permits ∙ b.permits; starts = a.starts ∙ b.starts }
+alike_through s t u a b = record { lives = a.lives ∙ b.lives; permits = a.permits ∙ b.permits; starts = a.starts ∙ b.starts; drains = a.drains ∙ b.drains }
 
 pub alike_back : (s t : StateValue) → Alike s t → Alike t s
-alike_back s t a = record { lives = sym a.lives; permits = sym a.permits; starts = sym a.starts }
+alike_back s t a = record { lives = sym a.lives; permits = sym a.permits; starts = sym a.starts; drains = sym a.drains }
+
+-- votes stay beside what has none and doesn't know their dots
+module _ {K : Type 0} {R : K → K → Ordering} (total : IsTotalOrder R) (exact : CmpEqualImpliesEq R) (x y : VotesValue R) (none : (w : KeyedWrite K) → map.get y.standing w ≡ None)
+    (apart : (w : KeyedWrite K) → is_some (map.get x.standing w) ≡ true → set.contains y.known w.dot ≡ false) where
+  vote_by : (w : KeyedWrite K) (old : Option Flag) → map.get x.standing w ≡ old → joined_vote R x y w old None ≡ old
+  vote_by w None at = refl
+  vote_by w (Some f) at = ap (λ b. cond b None (Some f)) (apart w (ap is_some at))
+
+  votes_stay : (join_votes R x y).standing ≡ x.standing
+  votes_stay = map.same_map (keyed_writes_total total) (exact_keyed_writes exact) (join_votes R x y).standing x.standing (λ w.
+      standing-join_votes total exact x y w ∙ ap (joined_vote R x y w (map.get x.standing w)) (none w) ∙ vote_by w (map.get x.standing w) refl)
 
 module _ (own : Origin) (s : StateValue) (app : AppId) (how : How) (from : Option NodeId) where
   abbrev o : Operation
@@ -90,7 +107,7 @@ module _ (own : Origin) (s : StateValue) (app : AppId) (how : How) (from : Optio
       lives-join s m ∙ ap (greater life_cmp s.lives) no_lives
       ∙ join_bottom life_laws map.empty tt (λ x u. empty_is_least nodes_total exact_nodes lives_total (exact_lives flag_cmp flags_exact) x) s.lives tt
 
-  -- ---- no start and no permit
+  -- ---- no start, no permit and no drain
 
   above : (g : ℕ) → g + 1 ≤ g → ⊥
   above g h = omega arith
@@ -121,28 +138,22 @@ module _ (own : Origin) (s : StateValue) (app : AppId) (how : How) (from : Optio
         ])
         (λ h. or_left (old_stays w) (new_stays w) (and_from (set.contains s.starts w) (may_stand (wishes_of m) w) h (λ i. no_start w i || not (apart w.dot (is.starts w h) i))))
 
+    unsaid : (b : Bool) → ◌≡◌ {A = Option Flag} (cond b None None) None
+    unsaid true = refl
+    unsaid false = refl
+
     no_permit : (w : Write) → map.get m.permits w ≡ None
     no_permit w = permits-meaning (o ∷ []) w ∙ unsaid (is_replaced w.dot (o ∷ []))
-      where
-        unsaid : (b : Bool) → ◌≡◌ {A = Option Flag} (cond b None None) None
-        unsaid true = refl
-        unsaid false = refl
 
-    permit_by : (w : Write) (old : Option Flag) → map.get s.permits w ≡ old → joined_permit (permissions_of s) (permissions_of m) w old None ≡ old
-    permit_by w None at = refl
-    permit_by w (Some f) at = ap (λ b. cond b None (Some f)) (apart w.dot (is.permits w (ap is_some at)))
-
-    permit_after : (w : Write) → map.get after.permits w ≡ map.get s.permits w
-    permit_after w =
-        ap (λ (v : PermissionsValue). map.get v.standing w) (permissions-join s m) ∙ standing-permissions (permissions_of s) (permissions_of m) w
-        ∙ ap (joined_permit (permissions_of s) (permissions_of m) w (map.get s.permits w)) (no_permit w)
-        ∙ permit_by w (map.get s.permits w) refl
+    no_drain : (w : DrainWrite) → map.get m.drains w ≡ None
+    no_drain w = drains-meaning (o ∷ []) w ∙ unsaid (is_replaced w.dot (o ∷ []))
 
     pub claim_alike : Alike s after
     claim_alike = record {
       lives = sym lives_after;
-      permits = sym (map.same_map writes_total exact_writes after.permits s.permits permit_after);
+      permits = sym (ap (λ (v : PermissionsValue). v.standing) (permissions-join s m) ∙ votes_stay keys_total exact_keys (permissions_of s) (permissions_of m) no_permit (λ w h. apart w.dot (is.permits w h)));
       starts = sym (set.same_set writes_total exact_writes after.starts s.starts start_after);
+      drains = sym (ap (λ (v : DrainsValue). v.standing) (drains-join s m) ∙ votes_stay origins_total exact_origins (drains_of s) (drains_of m) no_drain (λ w h. apart w.dot (is.drains w h)));
     }
 
     pub claim_state : IsState after

@@ -1,20 +1,23 @@
 -- Codes and what they stand for are one to one.
-use Rattle.std.specs.Prelude.{◌≡◌, ℕ, zero, suc, ◌<◌, ◌≤◌, ◌^◌, Bool, true, false, List, Option, None, Some, refl}
+use Rattle.std.specs.Prelude.{◌≡◌, ℕ, zero, suc, ◌≤◌, Bool, true, false, List, Option, None, Some, refl}
 use Rattle.std.specs.Int.{w8}
-use Rattle.std.proofs.Common.{ap, arith}
+use Rattle.std.proofs.Common.{ap, subst, arith}
 use Rattle.std.proofs.lemmas.Bool.{eqb-true, lt-ltb, false≢true}
 use Rattle.dac_bytes.specs.FieldCodecs.{FieldCodecs}
 use Rattle.dac_bytes.specs.Takes.{IsCodec}
+use Rattle.dac_bytes.specs.Versions.{highest_incarnation}
 use Rattle.dac_bytes.specs.laws.Codecs.{codec_made}
 use Rattle.dac_bytes.specs.Numbers.{u8_bytes}
 use Rattle.dac_bytes.specs.Reading.{range_at}
-use Rattle.dac_wire.specs.Codes.{packet_code, packet_of_code, act_code, act_of_code, value_code, value_of_code, only_code, only_of_code}
+use Rattle.dac_wire.specs.Codes.{packet_code, packet_of_code, act_code, highest_act, IsKindIn, act_of_code, value_code, value_of_code, only_code, only_of_code}
 use Rattle.dac_wire.specs.Form.{IsOnly}
 use Rattle.dac_wire.specs.Reading.{packet_kind_at, act_kind_at, is_only_of}
 use Rattle.dac_wire.specs.declared.codes.PacketKind.{PacketKind}
 use Rattle.dac_wire.specs.declared.codes.PacketKind.TheVariants.{Whole, Interval, Nothing, Single}
 use Rattle.dac_wire.specs.declared.codes.ActKind.{ActKind}
-use Rattle.dac_wire.specs.declared.codes.ActKind.TheVariants.{Up, Down, Permit, Start, Stop, Claim}
+use Rattle.dac_wire.specs.declared.codes.ActKind.TheVariants.{Up, Down, Permit, Start, Stop, Claim, Drain}
+use Rattle.dac_bytes.specs.declared.version.Version.{Version}
+use Rattle.dac_bytes.specs.declared.version.Version.TheVariants.{One, Two}
 
 -- a number within bounds
 abbrev IsFrom : ℕ → ℕ → ℕ → Type 0
@@ -47,30 +50,36 @@ packet_kind_bytes kind = u8_bytes (packet_code kind)
 abbrev pub IsAny : {X : Type 0} → X → Type 0
 IsAny x = Unit {0}
 
-pub packet_kind_codec : (nodes : ℕ) → FieldCodecs nodes → IsCodec packet_kind_at packet_kind_bytes IsAny
+pub packet_kind_codec : (version : Version) (nodes : ℕ) → FieldCodecs version nodes → IsCodec packet_kind_at packet_kind_bytes IsAny
 unfolding packet_kind_at
-packet_kind_codec nodes fields =
+packet_kind_codec version nodes fields =
     codec_made (range_at w8 1 4) u8_bytes (IsFrom 1 4) (fields.u8_in 1 4 (omega arith)) packet_of_code packet_kind_bytes IsAny
     (λ n is. (ap u8_bytes (packet_number n is), tt)) (λ kind _. (packet_code kind, packet_fits kind, packet_back kind))
 
 -- ---- acts
 
-act_number : (n : ℕ) → IsFrom 1 6 n → n ≡ act_code (act_of_code n)
+act_number : (n : ℕ) → IsFrom 1 7 n → n ≡ act_code (act_of_code n)
 act_number zero is = absurd (omega (arith, is.0))
 act_number (suc zero) is = refl
 act_number (suc (suc zero)) is = refl
 act_number (suc (suc (suc zero))) is = refl
 act_number (suc (suc (suc (suc zero)))) is = refl
 act_number (suc (suc (suc (suc (suc zero))))) is = refl
-act_number (suc (suc (suc (suc (suc (suc n)))))) is = omega (arith, is.1)
+act_number (suc (suc (suc (suc (suc (suc zero)))))) is = refl
+act_number (suc (suc (suc (suc (suc (suc (suc n))))))) is = omega (arith, is.1)
 
-act_fits : (kind : ActKind) → IsFrom 1 6 (act_code kind)
-act_fits Up = (omega arith, omega arith)
-act_fits Down = (omega arith, omega arith)
-act_fits Permit = (omega arith, omega arith)
-act_fits Start = (omega arith, omega arith)
-act_fits Stop = (omega arith, omega arith)
-act_fits Claim = (omega arith, omega arith)
+act_first : (kind : ActKind) → 1 ≤ act_code kind
+act_first Up = omega arith
+act_first Down = omega arith
+act_first Permit = omega arith
+act_first Start = omega arith
+act_first Stop = omega arith
+act_first Claim = omega arith
+act_first Drain = omega arith
+
+few_acts : (version : Version) → highest_act version ≤ 7
+few_acts One = omega arith
+few_acts Two = omega arith
 
 act_back : (kind : ActKind) → act_of_code (act_code kind) ≡ kind
 act_back Up = refl
@@ -79,17 +88,20 @@ act_back Permit = refl
 act_back Start = refl
 act_back Stop = refl
 act_back Claim = refl
+act_back Drain = refl
 
 abbrev pub act_kind_bytes : ActKind → List ℕ
 act_kind_bytes kind = u8_bytes (act_code kind)
 
-pub act_kind_codec : (nodes : ℕ) → FieldCodecs nodes → IsCodec act_kind_at act_kind_bytes IsAny
+pub act_kind_codec : (version : Version) (nodes : ℕ) → FieldCodecs version nodes → IsCodec (act_kind_at version) act_kind_bytes (IsKindIn version)
 unfolding act_kind_at
-act_kind_codec nodes fields =
-    codec_made (range_at w8 1 6) u8_bytes (IsFrom 1 6) (fields.u8_in 1 6 (omega arith)) act_of_code act_kind_bytes IsAny
-    (λ n is. (ap u8_bytes (act_number n is), tt)) (λ kind _. (act_code kind, act_fits kind, act_back kind))
+act_kind_codec version nodes fields =
+    let high = highest_act version in
+    let few : high ≤ 7 = few_acts version in
+    codec_made (range_at w8 1 high) u8_bytes (IsFrom 1 high) (fields.u8_in 1 high (omega arith)) act_of_code act_kind_bytes (IsKindIn version)
+    (λ n is. let same = act_number n (is.0, omega (arith, is.1)) in (ap u8_bytes same, subst (λ m. m ≤ high) same is.1)) (λ kind is. (act_code kind, (act_first kind, is), act_back kind))
 
--- ---- what a permit says
+-- ---- what a permit or a drain says
 
 pub value_number : (n : ℕ) → n ≤ 1 → n ≡ value_code (value_of_code n)
 value_number zero h = refl
@@ -110,24 +122,28 @@ pub only_number : (n : ℕ) → n ≡ only_code (only_of_code n)
 only_number zero = refl
 only_number (suc n) = refl
 
-pub only_is : (whole : Bool) (n : ℕ) → n < 2 ^ 32 → is_only_of whole n ≡ true → IsOnly whole (only_of_code n)
-only_is true n lt e = ap only_of_code (eqb-true n 0 e)
-only_is false zero lt e = absurd (false≢true e)
-only_is false (suc n) lt e = (suc n, refl, (omega arith, lt))
+module _ (version : Version) where
+  abbrev highest : ℕ
+  highest = highest_incarnation version
 
-pub only_fits : (whole : Bool) (only : Option ℕ) → IsOnly whole only → (only_code only < 2 ^ 32) × (is_only_of whole (only_code only) ≡ true)
-only_fits true only is = let same : only_code only ≡ 0 = ap only_code is in (omega arith, ap (is_only_of true) same)
-only_fits false only is =
-    let same : only_code only ≡ is.0 = ap only_code is.1 in
-    let first : 1 ≤ is.0 = is.2.0 in
-    let last : is.0 < 2 ^ 32 = is.2.1 in
-    (omega arith, lt-ltb 0 (only_code only) (omega arith))
+  pub only_is : (whole : Bool) (n : ℕ) → n ≤ highest → is_only_of whole n ≡ true → IsOnly version whole (only_of_code n)
+  only_is true n lt e = ap only_of_code (eqb-true n 0 e)
+  only_is false zero lt e = absurd (false≢true e)
+  only_is false (suc n) lt e = (suc n, refl, (omega arith, lt))
 
-pub only_back : (whole : Bool) (only : Option ℕ) → IsOnly whole only → only_of_code (only_code only) ≡ only
-only_back whole None is = refl
-only_back whole (Some (suc n)) is = refl
-only_back true (Some zero) is = absurd cc
-only_back false (Some zero) is =
-    let same : 0 ≡ is.0 = ap only_code is.1 in
-    let first : 1 ≤ is.0 = is.2.0 in
-    absurd (omega arith)
+  pub only_fits : (whole : Bool) (only : Option ℕ) → IsOnly version whole only → (only_code only ≤ highest) × (is_only_of whole (only_code only) ≡ true)
+  only_fits true only is = let same : only_code only ≡ 0 = ap only_code is in (omega arith, ap (is_only_of true) same)
+  only_fits false only is =
+      let same : only_code only ≡ is.0 = ap only_code is.1 in
+      let first : 1 ≤ is.0 = is.2.0 in
+      let last : is.0 ≤ highest = is.2.1 in
+      (omega arith, lt-ltb 0 (only_code only) (omega arith))
+
+  pub only_back : (whole : Bool) (only : Option ℕ) → IsOnly version whole only → only_of_code (only_code only) ≡ only
+  only_back whole None is = refl
+  only_back whole (Some (suc n)) is = refl
+  only_back true (Some zero) is = absurd cc
+  only_back false (Some zero) is =
+      let same : 0 ≡ is.0 = ap only_code is.1 in
+      let first : 1 ≤ is.0 = is.2.0 in
+      absurd (omega arith)

@@ -6,56 +6,58 @@ use Rattle.std.proofs.lemmas.Bool.Decides.{Decides-eqb}
 use Rattle.std.proofs.lemmas.List.{length-append}
 use Rattle.std.proofs.lemmas.Slice.Eq.{starts_is}
 use Rattle.std.specs.List.{starts_with}
-use Rattle.dac_bytes.specs.Numbers.{u8_bytes, u64_bytes}
+use Rattle.dac_bytes.specs.Numbers.{u64_bytes}
+use Rattle.dac_bytes.specs.declared.version.Version.{Version}
+use Rattle.dac_bytes.specs.declared.version.Version.TheVariants.{One, Two}
 use Rattle.dac_config.specs.Table.{Table}
 use Rattle.dac_wire.specs.declared.coding.TheConstants.{PREAMBLE}
 use Rattle.dac_wire.specs.declared.fault.WireFault.{WireFault}
 use Rattle.dac_wire.specs.declared.fault.WireFaultKind.TheVariants.{TooLong, BadMagic, BadVersion, OtherConfig, Short, NoMemory}
 use Rattle.dac_wire.specs.declared.packet.TheConstants.{MAX_MESSAGE}
-use Rattle.dac_wire.specs.Decoding.{front_fault, wrong}
-use Rattle.dac_wire.specs.Spelling.{mark_of, preamble_bytes}
+use Rattle.dac_wire.specs.Decoding.{front_fault, version_in, wrong}
+use Rattle.dac_wire.specs.Spelling.{version_byte, name_bytes, mark_of, preamble_bytes}
 
 -- the name of the format, and its version
 abbrev name : List ℕ
 name = 68 ∷ 65 ∷ 67 ∷ []
 
-abbrev name_and_version : List ℕ
-name_and_version = 68 ∷ 65 ∷ 67 ∷ 1 ∷ []
+abbrev name_and_version : Version → List ℕ
+name_and_version version = 68 ∷ 65 ∷ 67 ∷ version_byte version ∷ []
 
-module _ (t : Table) (bytes : List ℕ) where
-  pub too_long : MAX_MESSAGE < length bytes → front_fault t bytes ≡ wrong TooLong MAX_MESSAGE
+module _ (version : Version) (t : Table) (bytes : List ℕ) where
+  pub too_long : MAX_MESSAGE < length bytes → front_fault version t bytes ≡ wrong TooLong MAX_MESSAGE
   unfolding front_fault
   too_long long = rw (lt-ltb MAX_MESSAGE (length bytes) long) refl
 
   module _ (short : length bytes ≤ MAX_MESSAGE) where
-    pub bad_magic : starts_with nat_eq bytes name ≡ false → front_fault t bytes ≡ wrong BadMagic 0
+    pub bad_magic : starts_with nat_eq bytes name ≡ false → front_fault version t bytes ≡ wrong BadMagic 0
     unfolding front_fault
     bad_magic p = rw (le-ltb MAX_MESSAGE (length bytes) short, p) refl
 
     module _ (named : starts_with nat_eq bytes name ≡ true) where
-      pub bad_version : starts_with nat_eq bytes name_and_version ≡ false → front_fault t bytes ≡ wrong BadVersion 3
-      unfolding front_fault u8_bytes
+      pub bad_version : starts_with nat_eq bytes (name_and_version version) ≡ false → front_fault version t bytes ≡ wrong BadVersion 3
+      unfolding front_fault
       bad_version p = rw (le-ltb MAX_MESSAGE (length bytes) short, named, p) refl
 
-      module _ (versioned : starts_with nat_eq bytes name_and_version ≡ true) where
-        pub no_mark : length bytes < PREAMBLE → front_fault t bytes ≡ wrong Short 4
-        unfolding front_fault u8_bytes
+      module _ (versioned : starts_with nat_eq bytes (name_and_version version) ≡ true) where
+        pub no_mark : length bytes < PREAMBLE → front_fault version t bytes ≡ wrong Short 4
+        unfolding front_fault
         no_mark p = rw (le-ltb MAX_MESSAGE (length bytes) short, named, versioned, lt-ltb (length bytes) PREAMBLE p) refl
 
         module _ (marked : PREAMBLE ≤ length bytes) where
-          pub other_config : starts_with nat_eq bytes (preamble_bytes t) ≡ false → front_fault t bytes ≡ wrong OtherConfig 4
-          unfolding front_fault u8_bytes
+          pub other_config : starts_with nat_eq bytes (preamble_bytes version t) ≡ false → front_fault version t bytes ≡ wrong OtherConfig 4
+          unfolding front_fault
           other_config p = rw (le-ltb MAX_MESSAGE (length bytes) short, named, versioned, le-ltb (length bytes) PREAMBLE marked, p) refl
 
-          pub no_fault : starts_with nat_eq bytes (preamble_bytes t) ≡ true → front_fault t bytes ≡ None
-          unfolding front_fault u8_bytes
+          pub no_fault : starts_with nat_eq bytes (preamble_bytes version t) ≡ true → front_fault version t bytes ≡ None
+          unfolding front_fault
           no_fault p = rw (le-ltb MAX_MESSAGE (length bytes) short, named, versioned, le-ltb (length bytes) PREAMBLE marked, p) refl
 
 -- ---- what the tests say together
 
-pub preamble_length : (t : Table) → length (preamble_bytes t) ≡ PREAMBLE
-unfolding preamble_bytes u8_bytes u64_bytes
-preamble_length t = refl
+pub preamble_length : (version : Version) (t : Table) → length (preamble_bytes version t) ≡ PREAMBLE
+unfolding preamble_bytes u64_bytes
+preamble_length version t = refl
 
 -- the five tests, one after the other
 table : (long named versioned short marked : Bool) → Option WireFault
@@ -85,47 +87,55 @@ table_none false true true true e h = absurd cc
 table_none false true true false false h = absurd cc
 table_none false true true false true h = (refl, refl, refl)
 
-module _ (t : Table) (bytes : List ℕ) where
+module _ (version : Version) (t : Table) (bytes : List ℕ) where
   -- what is wrong with a front isn't `NoMemory`
-  pub front_real : IsReal (front_fault t bytes)
-  unfolding front_fault table u8_bytes
-  front_real = table_real (nat_lt MAX_MESSAGE (length bytes)) (starts_with nat_eq bytes name) (starts_with nat_eq bytes name_and_version) (nat_lt (length bytes) PREAMBLE) (starts_with nat_eq bytes (preamble_bytes t))
+  pub front_real : IsReal (front_fault version t bytes)
+  unfolding front_fault table
+  front_real = table_real (nat_lt MAX_MESSAGE (length bytes)) (starts_with nat_eq bytes name) (starts_with nat_eq bytes (name_and_version version)) (nat_lt (length bytes) PREAMBLE) (starts_with nat_eq bytes (preamble_bytes version t))
 
-  module _ (right : front_fault t bytes ≡ None) where
-    tests : (nat_lt MAX_MESSAGE (length bytes) ≡ false) × (nat_lt (length bytes) PREAMBLE ≡ false) × (starts_with nat_eq bytes (preamble_bytes t) ≡ true)
-    unfolding front_fault table u8_bytes
-    tests = table_none (nat_lt MAX_MESSAGE (length bytes)) (starts_with nat_eq bytes name) (starts_with nat_eq bytes name_and_version) (nat_lt (length bytes) PREAMBLE) (starts_with nat_eq bytes (preamble_bytes t)) right
+  module _ (right : front_fault version t bytes ≡ None) where
+    tests : (nat_lt MAX_MESSAGE (length bytes) ≡ false) × (nat_lt (length bytes) PREAMBLE ≡ false) × (starts_with nat_eq bytes (preamble_bytes version t) ≡ true)
+    unfolding front_fault table
+    tests = table_none (nat_lt MAX_MESSAGE (length bytes)) (starts_with nat_eq bytes name) (starts_with nat_eq bytes (name_and_version version)) (nat_lt (length bytes) PREAMBLE) (starts_with nat_eq bytes (preamble_bytes version t)) right
 
     -- bytes with a right front are so many at least
     pub front_long : PREAMBLE ≤ length bytes
     front_long = ltb-false (length bytes) PREAMBLE tests.1
 
     -- and begin with the preamble
-    pub front_begins : (bytes ≡ preamble_bytes t ++ drop PREAMBLE bytes) × (length bytes ≤ MAX_MESSAGE)
+    pub front_begins : (bytes ≡ preamble_bytes version t ++ drop PREAMBLE bytes) × (length bytes ≤ MAX_MESSAGE)
     front_begins =
-        let begins = (starts_is Decides-eqb bytes (preamble_bytes t) (starts_with nat_eq bytes (preamble_bytes t)) refl).0 tests.2 in
-        (begins ∙ ap (λ n. preamble_bytes t ++ drop n bytes) (preamble_length t), ltb-false MAX_MESSAGE (length bytes) tests.0)
+        let begins = (starts_is Decides-eqb bytes (preamble_bytes version t) (starts_with nat_eq bytes (preamble_bytes version t)) refl).0 tests.2 in
+        (begins ∙ ap (λ n. preamble_bytes version t ++ drop n bytes) (preamble_length version t), ltb-false MAX_MESSAGE (length bytes) tests.0)
 
   -- what begins with a text is found to
   begins_with : (front rest : List ℕ) → bytes ≡ front ++ rest → starts_with nat_eq bytes front ≡ true
   begins_with front rest parts = (starts_is Decides-eqb bytes front (starts_with nat_eq bytes front) refl).1 rest parts
 
   module _ (rest : List ℕ) where
-    in_name : preamble_bytes t ++ rest ≡ name ++ (1 ∷ u64_bytes (mark_of t) ++ rest)
-    unfolding preamble_bytes u8_bytes u64_bytes
+    in_name : preamble_bytes version t ++ rest ≡ name ++ (version_byte version ∷ u64_bytes (mark_of t) ++ rest)
+    unfolding preamble_bytes u64_bytes
     in_name = refl
 
-    in_version : preamble_bytes t ++ rest ≡ name_and_version ++ (u64_bytes (mark_of t) ++ rest)
-    unfolding preamble_bytes u8_bytes u64_bytes
+    in_version : preamble_bytes version t ++ rest ≡ name_and_version version ++ (u64_bytes (mark_of t) ++ rest)
+    unfolding preamble_bytes u64_bytes
     in_version = refl
 
     -- What begins with the preamble and isn't too long has a right front.
-    pub front_is : bytes ≡ preamble_bytes t ++ rest → length bytes ≤ MAX_MESSAGE → front_fault t bytes ≡ None
+    pub front_is : bytes ≡ preamble_bytes version t ++ rest → length bytes ≤ MAX_MESSAGE → front_fault version t bytes ≡ None
     front_is parts short =
-        let all : length bytes ≡ length (preamble_bytes t ++ rest) = ap length parts in
-        let front : length (preamble_bytes t) ≡ PREAMBLE = preamble_length t in
-        no_fault t bytes short
-        (begins_with name (1 ∷ u64_bytes (mark_of t) ++ rest) (parts ∙ in_name))
-        (begins_with name_and_version (u64_bytes (mark_of t) ++ rest) (parts ∙ in_version))
-        (omega (arith, length-append (preamble_bytes t) rest))
-        (begins_with (preamble_bytes t) rest parts)
+        let all : length bytes ≡ length (preamble_bytes version t ++ rest) = ap length parts in
+        let front : length (preamble_bytes version t) ≡ PREAMBLE = preamble_length version t in
+        no_fault version t bytes short
+        (begins_with name (version_byte version ∷ u64_bytes (mark_of t) ++ rest) (parts ∙ in_name))
+        (begins_with (name_and_version version) (u64_bytes (mark_of t) ++ rest) (parts ∙ in_version))
+        (omega (arith, length-append (preamble_bytes version t) rest))
+        (begins_with (preamble_bytes version t) rest parts)
+
+-- ---- the version
+
+-- Bytes that begin with the preamble of a version are read by it.
+pub version_is : (version : Version) (t : Table) (bytes rest : List ℕ) → bytes ≡ preamble_bytes version t ++ rest → version_in bytes ≡ version
+unfolding version_in preamble_bytes u64_bytes
+version_is One t bytes rest parts = ap (λ bytes. cond (starts_with nat_eq bytes (name_bytes One)) One Two) parts
+version_is Two t bytes rest parts = ap (λ bytes. cond (starts_with nat_eq bytes (name_bytes One)) One Two) parts

@@ -3,21 +3,22 @@ use Rattle.std.proofs.Common.{◌≡◌, Option, Some, None, refl, sym, ap, subs
 use Rattle.std.specs.Prelude.{◌↔◌, ℕ}
 use Rattle.std.specs.Option.{option_map}
 use Rattle.dac_dots.specs.declared.dot.Dot.{Dot}
+use Rattle.dac_dots.specs.declared.dot.Origin.{Origin}
 use Rattle.dac_dots.specs.Dots.{IsVector}
 use Rattle.dac_wishes.specs.declared.key.Key.{Key}
 use Rattle.dac_meaning.specs.StateValue.{StateValue}
 use Rattle.dac_meaning.specs.Meaning.{In, Agree}
-use Rattle.dac_commands.specs.Written.{PermitStands, StartStands}
+use Rattle.dac_commands.specs.Written.{PermitStands, StartStands, DrainStands}
 use Rattle.dac_rules.specs.laws.Options.{some_same}
 use Rattle.dac_worlds.specs.WorldValue.{WorldValue}
 use Rattle.dac_worlds.specs.ModelWorld.{ModelWorld, numbered}
 use Rattle.dac_worlds.specs.SetWorld.{SetWorld, NodeSet, held_by, operations_of}
 use Rattle.dac_worlds.specs.Convergence.{RunsWith, HoldsSets, state_by, DistinctDots}
-use Rattle.dac_worlds.specs.Causality.{IsPermitOf, IsStartOf, EndsStart, IsMaximalPermit, IsMaximalStart, IsDotOfOne, RunsHolding, IsCausal}
+use Rattle.dac_worlds.specs.Causality.{IsPermitOf, IsStartOf, IsDrainOf, EndsStart, IsMaximalPermit, IsMaximalStart, IsMaximalDrain, IsDotOfOne, RunsHolding, IsCausal}
 use Rattle.dac_worlds.specs.laws.Operations.{DistinctDots-agree}
 use Rattle.dac_worlds.specs.laws.Sound.{Sound}
 use Rattle.dac_worlds.specs.laws.ClosedSets.{ClosedSet}
-use Rattle.dac_worlds.specs.laws.Standing.{permits_stand, starts_stand, permit_takes, start_takes, permit_ends, start_ends}
+use Rattle.dac_worlds.specs.laws.Standing.{permits_stand, starts_stand, drains_stand, permit_takes, start_takes, drain_takes, permit_ends, start_ends, drain_ends}
 use Rattle.dac_worlds.specs.laws.MaximalWrites.{standing_is_maximal, known_is_heard, heard_is_vector}
 use Rattle.dac_worlds.specs.laws.CausalRuns.{Causal}
 
@@ -56,6 +57,12 @@ module _ (v : WorldValue) (w : ModelWorld) (sets : SetWorld) (holds : HoldsSets 
       (λ before o e r ends x. start_takes key before o.act e r ends x)
       (start_ends key) d)
 
+  drains_so : (held : NodeSet) → ClosedSet sets.issued held.operations → (at : Origin) (d : Dot) → DrainStands (state_by held) at d ↔ IsDotOfOne (IsMaximalDrain sets held.operations at) d
+  drains_so held c at d = both (drains_stand held.operations at d)
+      (standing_is_maximal (IsDrainOf at) (IsDrainOf at) sets h.issues agree held.operations c
+      (λ before o e r ends x. drain_takes at before o.act e r ends x)
+      (drain_ends at) d)
+
   -- the state of a node that holds the set
   state_of_set : (n : ℕ) (s : StateValue) (held : NodeSet) → RunsHolding v sets n s held → state_by held ≡ s
   state_of_set n s held r = let x = held_as n s r.runs in ap state_by (some_same held x.held (sym r.holds ∙ x.holds)) ∙ x.means
@@ -74,4 +81,6 @@ module _ (v : WorldValue) (w : ModelWorld) (sets : SetWorld) (holds : HoldsSets 
         subst (λ (u : StateValue). PermitStands u key d ↔ IsDotOfOne (IsMaximalPermit sets held.operations key) d) (state_of_set n s held r) (permits_so held (closed_at held (sets.node (numbered n)) r.holds (h.nodes (numbered n))) key d);
     starts = λ n s held r key d.
         subst (λ (u : StateValue). StartStands u key d ↔ IsDotOfOne (IsMaximalStart sets held.operations key) d) (state_of_set n s held r) (starts_so held (closed_at held (sets.node (numbered n)) r.holds (h.nodes (numbered n))) key d);
+    drains = λ n s held r at d.
+        subst (λ (u : StateValue). DrainStands u at d ↔ IsDotOfOne (IsMaximalDrain sets held.operations at) d) (state_of_set n s held r) (drains_so held (closed_at held (sets.node (numbered n)) r.holds (h.nodes (numbered n))) at d);
   }

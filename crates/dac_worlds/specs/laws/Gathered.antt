@@ -3,15 +3,17 @@ use Rattle.std.proofs.Common.{◌≡◌, ℕ, ◌⊎◌, inl, inr, List, [], ◌
 use Rattle.std.proofs.lemmas.List.{map-append, length-map, drop-map}
 use Rattle.std.specs.FinSet as set
 use Rattle.std.specs.FinMap as map
-use Rattle.dac_dots.specs.Dots.{dot_cmp, dots_total, exact_dots}
+use Rattle.dac_dots.specs.Dots.{dot_cmp, dots_total, exact_dots, origin_cmp}
+use Rattle.dac_wishes.specs.KeyedWrites.{keyed_write_cmp}
+use Rattle.dac_wishes.specs.DrainsValue.{same_drains}
 use Rattle.dac_wishes.specs.Writes.{write_cmp}
 use Rattle.dac_wishes.specs.WishesValue.{same_wishes}
 use Rattle.dac_wishes.specs.PermissionsValue.{same_permissions}
 use Rattle.dac_operations.specs.Operations.{Operation}
-use Rattle.dac_meaning.specs.StateValue.{StateValue, bottom, join, permissions_of, wishes_of}
+use Rattle.dac_meaning.specs.StateValue.{StateValue, bottom, join, permissions_of, wishes_of, drains_of}
 use Rattle.dac_meaning.specs.laws.StateLaws.{same_state}
 use Rattle.dac_meaning.specs.Meaning.{meaning_of, In, Within, Agree}
-use Rattle.dac_meaning.specs.laws.Readers.{heard-meaning, known-meaning, starts-meaning, permits-meaning, lives-meaning, claims-meaning}
+use Rattle.dac_meaning.specs.laws.Readers.{heard-meaning, known-meaning, starts-meaning, permits-meaning, lives-meaning, claims-meaning, drains-meaning}
 use Rattle.dac_meaning.specs.laws.Members.{In-append_left, In-append_right, In-append_cases}
 use Rattle.dac_meaning.specs.laws.Joins.{join-meaning, meaning-same}
 use Rattle.dac_rules.specs.ModelNode.{joined}
@@ -56,7 +58,8 @@ meaning-none =
     (same_permissions (permissions_of (meaning_of [])) (permissions_of bottom) known (λ w. permits-meaning [] w ∙ sym (map.get-empty write_cmp w)))
     (same_wishes (wishes_of (meaning_of [])) (wishes_of bottom) known (λ w. starts-meaning [] w ∙ sym (set.contains-empty write_cmp w)))
     (lives-meaning [])
-    (claims-meaning []))
+    (claims-meaning [])
+    (same_drains (drains_of (meaning_of [])) (drains_of bottom) known (λ w. drains-meaning [] w ∙ sym (map.get-empty (keyed_write_cmp origin_cmp) w))))
 
 joined_from : (os : List Operation) (es : Entries) → Agree (os ++ gathered es) → fold join (meaning_of os) (logged es) ≡ meaning_of (os ++ gathered es)
 joined_from os [] agree = ap meaning_of (sym (append-nil os))

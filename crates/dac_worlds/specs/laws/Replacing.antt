@@ -3,10 +3,11 @@ use Rattle.std.proofs.Common.{◌≡◌, inl, inr, None, List, [], ◌∷◌, �
 use Rattle.dac_dots.specs.declared.dot.Origin.{Origin}
 use Rattle.dac_dots.specs.Dots.{dots_total, exact_dots, IsNext}
 use Rattle.dac_dots.specs.InOrder.{has_key-in_order}
+use Rattle.dac_wishes.specs.DrainsValue.{origin}
 use Rattle.dac_wishes.specs.declared.key.Key.{Key}
 use Rattle.dac_wishes.specs.Writes.{dots_at, contains-dots_at}
 use Rattle.dac_operations.specs.declared.act.Act.{Act}
-use Rattle.dac_operations.specs.declared.act.Act.TheVariants.{Permit, Start, Stop}
+use Rattle.dac_operations.specs.declared.act.Act.TheVariants.{Permit, Start, Stop, Drain}
 use Rattle.dac_operations.specs.Operations.{Operation}
 use Rattle.dac_meaning.specs.StateValue.{StateValue, join}
 use Rattle.dac_meaning.specs.Meaning.{meaning_of, Within, Agree}
@@ -18,12 +19,12 @@ use Rattle.dac_decide.specs.Verdict.{Verdict}
 use Rattle.dac_decide.specs.Verdict.TheVariants.{Failover, Takeover}
 use Rattle.dac_decide.specs.Placement.{verdict_of}
 use Rattle.dac_events.specs.declared.Command.{Command}
-use Rattle.dac_events.specs.declared.Command.TheVariants.{Down as Downs, Permit as Permits, Start as Starts, Stop as Stops, Takeover as Takes}
-use Rattle.dac_commands.specs.Commands.{live_key, next_operation, standing_permits, standing_starts, act_of}
+use Rattle.dac_events.specs.declared.Command.TheVariants.{Down as Downs, Permit as Permits, Start as Starts, Stop as Stops, Drain as Drains, Takeover as Takes}
+use Rattle.dac_commands.specs.Commands.{live_key, live_origin, next_operation, standing_permits, standing_starts, standing_drains, act_of}
 use Rattle.dac_commands.specs.Causes.{refusal_of_command}
-use Rattle.dac_commands.specs.Written.{PermitStands, StartStands, AreThose}
+use Rattle.dac_commands.specs.Written.{PermitStands, StartStands, DrainStands, AreThose}
 use Rattle.dac_commands.specs.laws.Counters.{next_of_is}
-use Rattle.dac_commands.specs.laws.Standing.{permits_at-has}
+use Rattle.dac_commands.specs.laws.Standing.{permits_at-has, drains_at-has}
 use Rattle.dac_commands.specs.laws.Written.{writes_what_is_said}
 use Rattle.dac_rules.specs.Ticks.{claimed_by}
 use Rattle.dac_rules.specs.laws.Claims.{AreNextClaims}
@@ -34,6 +35,7 @@ abbrev pub Replaces : StateValue → Act → Type 0
 Replaces s (Permit key value over) = AreThose (PermitStands s key) over
 Replaces s (Start key over) = AreThose (StartStands s key) over
 Replaces s (Stop key over) = AreThose (StartStands s key) over
+Replaces s (Drain node inc value over) = AreThose (DrainStands s (origin node inc)) over
 Replaces s _ = Unit {0}
 
 -- the operation is its origin's next after these, and replaces what stands
@@ -57,11 +59,17 @@ starts_are s key d =
     let e = has_key-in_order dots_total exact_dots (dots_at key s.starts) d ∙ contains-dots_at key s.starts d in
     (λ h. sym e ∙ h, λ h. e ∙ h)
 
+drains_are : (s : StateValue) (at : Origin) → AreThose (DrainStands s at) (standing_drains s at)
+drains_are s at d =
+    let e = drains_at-has at s.drains d in
+    (λ h. sym e ∙ h, λ h. e ∙ h)
+
 command_replaces : (t : Table) (s : StateValue) (c : Command) → Replaces s (act_of t s c)
 command_replaces t s (Downs node) = tt
 command_replaces t s (Permits app node value) = permits_are s (live_key s app node)
 command_replaces t s (Starts app node) = starts_are s (live_key s app node)
 command_replaces t s (Stops app node) = starts_are s (live_key s app node)
+command_replaces t s (Drains node value) = drains_are s (live_origin s node)
 command_replaces t s (Takes app) = tt
 
 -- the next operation in what a set means

@@ -1,4 +1,4 @@
-use Rattle.dac_meaning.proofs.Alone.{one_is_heard, permit_delta_is_meaning, wish_delta_is_meaning, life_delta_is_meaning, claim_delta_is_meaning}
+use Rattle.dac_meaning.proofs.Alone.{one_is_heard, permit_delta_is_meaning, wish_delta_is_meaning, life_delta_is_meaning, claim_delta_is_meaning, drain_delta_is_meaning}
 use Rattle.dac_meaning.proofs.laws.delta_is_meaning.Goals as goal
 
 pub returns-clause-heard : goal.returns-clause-heard
@@ -15,3 +15,6 @@ returns-clause-lives c = life_delta_is_meaning
 
 pub returns-clause-claims : goal.returns-clause-claims
 returns-clause-claims c = claim_delta_is_meaning
+
+pub returns-clause-drains : goal.returns-clause-drains
+returns-clause-drains c = drain_delta_is_meaning

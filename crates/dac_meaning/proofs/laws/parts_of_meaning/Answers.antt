@@ -1,5 +1,5 @@
 use Rattle.dac_meaning.specs.laws.Joins.{meaning-state}
-use Rattle.dac_meaning.proofs.Membership.{heard_are_dots, known_are_named, permits_are_unreplaced, starts_are_unreplaced, lives_are_greatest, down_stays_down, claims_are_greatest}
+use Rattle.dac_meaning.proofs.Membership.{heard_are_dots, known_are_named, permits_are_unreplaced, starts_are_unreplaced, lives_are_greatest, down_stays_down, claims_are_greatest, drains_are_unreplaced}
 use Rattle.dac_meaning.proofs.Nothing.{nothing_means_bottom}
 use Rattle.dac_meaning.proofs.laws.parts_of_meaning.Goals as goal
 
@@ -29,3 +29,6 @@ returns-clause-state c = meaning-state
 
 pub returns-clause-nothing : goal.returns-clause-nothing
 returns-clause-nothing c = nothing_means_bottom
+
+pub returns-clause-drains : goal.returns-clause-drains
+returns-clause-drains c = drains_are_unreplaced

@@ -1,11 +1,14 @@
-use Rattle.std.proofs.Common.{◌≡◌, true, sym, ap, subst, ◌∙◌}
+use Rattle.std.proofs.Common.{◌≡◌, None, true, sym, ap, subst, ◌∙◌}
 use Rattle.std.specs.Prelude.{fold}
+use Rattle.std.proofs.lemmas.Bool.{ltb-false}
 use Rattle.dac_meaning.specs.StateValue.{join}
 use Rattle.dac_decide.specs.declared.start_gate.Opening.TheVariants.{Opened}
 use Rattle.dac_messages.specs.declared.event.Event.TheVariants.{Tick}
 use Rattle.dac_messages.specs.declared.reply.Reply.TheVariants.{Ticked}
 use Rattle.dac_rules.specs.dac_ticks.Ticks.{turn_of}
 use Rattle.dac_rules.specs.dac_ticks.laws.Claims.{state_joined}
+use Rattle.dac_rules.specs.dac_commands.laws.Written.{none_is}
+use Rattle.dac_rules.specs.EventRefusals.{causes_to_tick, refusal_to_tick}
 use Rattle.dac_rules.specs.NodeValue.{RunValue}
 use Rattle.dac_rules.specs.Deeds.{meanings, opening_at}
 use Rattle.dac_node.specs.declared.change.After.TheVariants.{GoesOn}
@@ -37,3 +40,10 @@ returns c =
     let opened = subst (λ (x : RunValue). opening_at t x now ≡ Opened) (sym c.run.view_is) c.requires.open in
     subst (λ (x : RunValue). Effect t c.args.last x (Tick now) c.going_on.result) c.run.view_is
     (claimed_effect t c.args.last r now opened waits c.in_ok-waits.ensures.noted c.going_on.result (c.going_on.ensures ∙ (λ i. record { last = c.args.last; after = GoesOn (next i); reply = Ticked (made.ops i) (made.passed i) })))
+
+pub ticked-requires-clause-order : goal.ticked-requires-clause-order
+ticked-requires-clause-order c =
+    let t = c.args.config.now in
+    let r = run_of c.run.inside.knowledge c.run.inside.buffer in
+    let accepted = subst (λ (x : RunValue). refusal_to_tick t x c.args.now ≡ None) (sym c.run.view_is) c.requires.accepted in
+    ltb-false c.args.now r.moments.last (none_is (causes_to_tick t r c.args.now) accepted).1.0

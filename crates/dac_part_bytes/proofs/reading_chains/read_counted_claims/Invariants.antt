@@ -12,5 +12,5 @@ use Rattle.dac_part_bytes.proofs.reading_chains.read_counted_claims.Given as goa
 -- what was read with what is still to be read is the whole, and the items so far are below what may come
 abbrev pub invariant-loop : goal.invariant-loop
 invariant-loop l =
-    (with_front (map.entries l.claims) (items_at (claim_at l.config) (λ (e : AppId × Claim). Some e.0) (l.count - l.counter) l.before l.rest) ≡ items_at (claim_at l.config) (λ (e : AppId × Claim). Some e.0) l.count None l.fn.reader)
+    (with_front (map.entries l.claims) (items_at (claim_at l.version l.config) (λ (e : AppId × Claim). Some e.0) (l.count - l.counter) l.before l.rest) ≡ items_at (claim_at l.version l.config) (λ (e : AppId × Claim). Some e.0) l.count None l.fn.reader)
     × Reaches app_cmp (λ (e : AppId × Claim). e.0) l.before (map.entries l.claims)

@@ -15,25 +15,25 @@ use Rattle.dac_part_bytes.proofs.ReadLoops.{starts_with, no_entries, entries_joi
 use Rattle.dac_part_bytes.proofs.reading_chains.read_counted_lives.Goals as goal
 
 pub loop-init : goal.loop-init
-loop-init c = starts_with node_cmp (λ (x : NodeId × Life). x.0) (life_at c.args.nodes) (λ (x : NodeId × Life). Some x.0) (map.entries c.bottom-lives.result) _ _ c.args.reader (ap (λ m. map.entries m) c.bottom-lives.ensures ∙ no_entries nodes_total exact_nodes) (omega arith)
+loop-init c = starts_with node_cmp (λ (x : NodeId × Life). x.0) (life_at c.args.version c.args.nodes) (λ (x : NodeId × Life). Some x.0) (map.entries c.bottom-lives.result) _ _ c.args.reader (ap (λ m. map.entries m) c.bottom-lives.ensures ∙ no_entries nodes_total exact_nodes) (omega arith)
 
 pub returns-in_err-entry : goal.returns-in_err-entry
 returns-in_err-entry c =
     let p = err_from_is_err_and c.from_residual.result c.from_residual.ensures.1 in
     let e = c.in_err-entry.field-0.0 in
-    rw (p.1, p.2) (ends (life_at c.args.nodes) (λ (x : NodeId × Life). Some x.0) e (map.entries c.loop.lives) c.args.count c.loop.counter c.loop.before c.loop.rest (items_at (life_at c.args.nodes) (λ (x : NodeId × Life). Some x.0) c.args.count None c.args.reader) c.loop-test.true (Fails-from e.kind e (life_at c.args.nodes c.loop.before c.loop.rest) c.in_err-entry.ensures.real (sym c.in_err-entry.ensures.exact)) c.loop.invariant.0)
+    rw (p.1, p.2) (ends (life_at c.args.version c.args.nodes) (λ (x : NodeId × Life). Some x.0) e (map.entries c.loop.lives) c.args.count c.loop.counter c.loop.before c.loop.rest (items_at (life_at c.args.version c.args.nodes) (λ (x : NodeId × Life). Some x.0) c.args.count None c.args.reader) c.loop-test.true (Fails-from e.kind e (life_at c.args.version c.args.nodes c.loop.before c.loop.rest) c.in_err-entry.ensures.real (sym c.in_err-entry.ensures.exact)) c.loop.invariant.0)
 
 pub loop-preserved : goal.loop-preserved
 loop-preserved c =
     let x = c.in_ok-entry.entry in
-    let next = life_next c.args.nodes c.loop.before c.loop.rest (x, c.in_ok-entry.after) (sym c.in_ok-entry.ensures.exact) in
+    let next = life_next c.args.version c.args.nodes c.loop.before c.loop.rest (x, c.in_ok-entry.after) (sym c.in_ok-entry.ensures.exact) in
     let above = next in
     let reached = sym (c.loop.invariant.1 x.0) ∙ above in
     let new : (map.entries c.in_ok-lives.lives) ≡ (map.entries c.loop.lives) ++ x ∷ [] = ap (λ m. map.entries m) (c.in_ok-lives.ensures ∙ ap (greater life_cmp c.loop.lives) c.in_ok-one.ensures) ∙ entries_joined nodes_total exact_nodes life_cmp c.loop.lives x.0 x.1 reached in
     rw new (
-      goes_on (life_at c.args.nodes) (λ (x : NodeId × Life). Some x.0) (map.entries c.loop.lives) c.args.count c.loop.counter c.loop.before c.loop.rest x c.in_ok-entry.after (items_at (life_at c.args.nodes) (λ (x : NodeId × Life). Some x.0) c.args.count None c.args.reader) c.loop-test.true (sym c.in_ok-entry.ensures.exact) c.loop.invariant.0,
+      goes_on (life_at c.args.version c.args.nodes) (λ (x : NodeId × Life). Some x.0) (map.entries c.loop.lives) c.args.count c.loop.counter c.loop.before c.loop.rest x c.in_ok-entry.after (items_at (life_at c.args.version c.args.nodes) (λ (x : NodeId × Life). Some x.0) c.args.count None c.args.reader) c.loop-test.true (sym c.in_ok-entry.ensures.exact) c.loop.invariant.0,
       reaches_more nodes_total (λ (x : NodeId × Life). x.0) c.loop.before (map.entries c.loop.lives) x c.loop.invariant.1 above,
     )
 
 pub returns : goal.returns
-returns c = is_done (life_at c.args.nodes) (λ (x : NodeId × Life). Some x.0) (map.entries c.loop.lives) c.args.count c.loop.counter c.loop.before c.loop.rest (items_at (life_at c.args.nodes) (λ (x : NodeId × Life). Some x.0) c.args.count None c.args.reader) c.loop-test.false c.loop.invariant.0
+returns c = is_done (life_at c.args.version c.args.nodes) (λ (x : NodeId × Life). Some x.0) (map.entries c.loop.lives) c.args.count c.loop.counter c.loop.before c.loop.rest (items_at (life_at c.args.version c.args.nodes) (λ (x : NodeId × Life). Some x.0) c.args.count None c.args.reader) c.loop-test.false c.loop.invariant.0

@@ -12,5 +12,5 @@ use Rattle.dac_part_bytes.proofs.reading_chains.read_counted_lives.Given as goal
 -- what was read with what is still to be read is the whole, and the items so far are below what may come
 abbrev pub invariant-loop : goal.invariant-loop
 invariant-loop l =
-    (with_front (map.entries l.lives) (items_at (life_at l.nodes) (λ (e : NodeId × Life). Some e.0) (l.count - l.counter) l.before l.rest) ≡ items_at (life_at l.nodes) (λ (e : NodeId × Life). Some e.0) l.count None l.fn.reader)
+    (with_front (map.entries l.lives) (items_at (life_at l.version l.nodes) (λ (e : NodeId × Life). Some e.0) (l.count - l.counter) l.before l.rest) ≡ items_at (life_at l.version l.nodes) (λ (e : NodeId × Life). Some e.0) l.count None l.fn.reader)
     × Reaches node_cmp (λ (e : NodeId × Life). e.0) l.before (map.entries l.lives)

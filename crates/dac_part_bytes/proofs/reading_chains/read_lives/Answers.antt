@@ -9,10 +9,10 @@ use Rattle.dac_part_bytes.proofs.reading_chains.read_lives.Goals as goal
 
 pub returns-clause-found : goal.returns-clause-found
 returns-clause-found c =
-    found_call (λ x. x) (all_lives_at (node_count c.args.config.now)) lives_bytes (AreLivesInForm (node_count c.args.config.now))
-    (lives_takes (node_count c.args.config.now)) c.args.reader c.read_all_lives.result c.read_all_lives.ensures
+    found_call (λ x. x) (all_lives_at c.args.version (node_count c.args.config.now)) (lives_bytes c.args.version) (AreLivesInForm c.args.version (node_count c.args.config.now))
+    (lives_takes c.args.version (node_count c.args.config.now)) c.args.reader c.read_all_lives.result c.read_all_lives.ensures
 
 pub returns-clause-again : goal.returns-clause-again
 returns-clause-again c =
-    again_call (λ x. x) (all_lives_at (node_count c.args.config.now)) lives_bytes (AreLivesInForm (node_count c.args.config.now))
-    (lives_again (node_count c.args.config.now) (omega (arith, c.nodes-nodes.ensures.count, c.nodes-nodes.type_inv))) c.args.reader c.read_all_lives.result c.read_all_lives.ensures
+    again_call (λ x. x) (all_lives_at c.args.version (node_count c.args.config.now)) (lives_bytes c.args.version) (AreLivesInForm c.args.version (node_count c.args.config.now))
+    (lives_again c.args.version (node_count c.args.config.now) (omega (arith, c.nodes-nodes.ensures.count, c.nodes-nodes.type_inv))) c.args.reader c.read_all_lives.result c.read_all_lives.ensures

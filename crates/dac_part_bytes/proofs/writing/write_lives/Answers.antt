@@ -5,4 +5,4 @@ use Rattle.dac_part_bytes.proofs.writing.write_lives.Goals as goal
 
 pub returns : goal.returns
 unfolding lives_bytes
-returns c = written_in_order u8_bytes life_bytes c.entries-entries.result.now _ _ c.args.writer c.in_ok-written.written c.loop-node.written c.entries-entries.ensures c.in_ok-written.ensures c.loop-node-test.false c.loop-node.invariant
+returns c = written_in_order u8_bytes (life_bytes c.args.version) c.entries-entries.result.now _ _ c.args.writer c.in_ok-written.written c.loop-node.written c.entries-entries.ensures c.in_ok-written.ensures c.loop-node-test.false c.loop-node.invariant

@@ -1,7 +1,8 @@
 use Rattle.std.proofs.Common.{◌≡◌, ◌++◌, take}
 use Rattle.std.specs.List.{flat_map}
-use Rattle.dac_part_bytes.specs.Spelling.{keyed_permits_bytes}
+use Rattle.dac_lattice.specs.declared.flags.Flag.TheVariants.{Up}
+use Rattle.dac_part_bytes.specs.Spelling.{key_bytes, keyed_votes_bytes}
 use Rattle.dac_part_bytes.proofs.writing.write_permissions.Given as goal
 
 abbrev pub invariant-loop-key : goal.invariant-loop-key
-invariant-loop-key l = l.written ≡ l.initial.written ++ flat_map keyed_permits_bytes (take l.key-index l.entries)
+invariant-loop-key l = l.written ≡ l.initial.written ++ flat_map (keyed_votes_bytes (key_bytes l.version) l.version Up) (take l.key-index l.entries)

@@ -5,4 +5,4 @@ use Rattle.dac_part_bytes.specs.Spelling.{keyed_dots_bytes}
 use Rattle.dac_part_bytes.proofs.writing.write_wishes.Given as goal
 
 abbrev pub invariant-loop-key : goal.invariant-loop-key
-invariant-loop-key l = l.written ≡ l.initial.written ++ flat_map (λ e. keyed_dots_bytes (e.0, in_order e.1)) (take l.key-index l.entries)
+invariant-loop-key l = l.written ≡ l.initial.written ++ flat_map (λ e. keyed_dots_bytes l.version (e.0, in_order e.1)) (take l.key-index l.entries)

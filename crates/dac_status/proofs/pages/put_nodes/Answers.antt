@@ -8,4 +8,4 @@ pub loop-number-preserved : goal.loop-number-preserved
 loop-number-preserved c =
     c.in_ok-extend_from_slice.ensures.items
     ∙ ap (λ line. c.loop-number.text.items ++ line) (c.deref.ensures.value ∙ c.in_ok-line.ensures)
-    ∙ put_more node_numbered (node_line c.args.config.now c.args.summary.now.lives) c.loop-number.number c.args.text.now.items c.loop-number.text.items c.loop-number.invariant
+    ∙ put_more node_numbered (node_line c.args.config.now c.args.summary.now.lives c.args.summary.now.drained) c.loop-number.number c.args.text.now.items c.loop-number.text.items c.loop-number.invariant

@@ -1,9 +1,10 @@
 use Rattle.std.proofs.Common.{◌≡◌, None, map}
 use Rattle.std.specs.List.{range_with_len}
 use Rattle.std.specs.FinMap as finmap
+use Rattle.dac_base.specs.declared.limits.TheConstants.{MAX_NODES}
 use Rattle.dac_status.specs.Summaries.{placed}
 use Rattle.dac_status.proofs.Places.{node_numbered}
 use Rattle.dac_status.proofs.summary.lives_of.Given as goal
 
 abbrev pub invariant-loop-number : goal.invariant-loop-number
-invariant-loop-number l = l.lives ≡ placed 16 None (map (finmap.get l.state.lives) (map node_numbered (range_with_len 0 l.number)))
+invariant-loop-number l = l.lives ≡ placed MAX_NODES None (map (finmap.get l.state.lives) (map node_numbered (range_with_len 0 l.number)))

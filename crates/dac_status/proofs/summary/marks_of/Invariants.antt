@@ -1,9 +1,10 @@
 use Rattle.std.proofs.Common.{◌≡◌, map}
 use Rattle.std.specs.List.{range_with_len}
+use Rattle.dac_base.specs.declared.limits.TheConstants.{MAX_NODES}
 use Rattle.dac_status.specs.declared.marks.Mark.TheVariants.{Down}
 use Rattle.dac_status.specs.Summaries.{placed, mark_of}
 use Rattle.dac_status.proofs.Places.{node_numbered}
 use Rattle.dac_status.proofs.summary.marks_of.Given as goal
 
 abbrev pub invariant-loop-number : goal.invariant-loop-number
-invariant-loop-number l = l.marks ≡ placed 16 Down (map (mark_of l.config l.state l.app) (map node_numbered (range_with_len 0 l.number)))
+invariant-loop-number l = l.marks ≡ placed MAX_NODES Down (map (mark_of l.config l.state l.app) (map node_numbered (range_with_len 0 l.number)))

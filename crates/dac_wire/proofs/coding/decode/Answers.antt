@@ -1,28 +1,19 @@
-use Rattle.std.proofs.Common.{Err, sym, ◌∙◌, arith}
-use Rattle.dac_wire.specs.laws.Fronts.{front_long}
-use Rattle.dac_wire.proofs.Giving.{gives_front, gives_fields, found_fields, only_packet}
+use Rattle.std.proofs.Common.{◌≡◌, sym, subst, ◌∙◌}
+use Rattle.dac_wire.specs.Decoding.{packet_at, packet_in}
+use Rattle.dac_wire.specs.Faults.{Gives}
+use Rattle.dac_wire.specs.Form.{IsPacket}
+use Rattle.dac_wire.specs.Spelling.{packet_bytes}
+use Rattle.dac_wire.proofs.Giving.{found_in, version_spelled}
 use Rattle.dac_wire.proofs.coding.decode.Goals as goal
 
-pub decode_fields-requires : goal.decode_fields-requires
-decode_fields-requires c = front_long c.args.config.now c.args.bytes.now (sym c.front_fault.ensures ∙ c.in-None.is)
+pub returns-clause-found : goal.returns-clause-found
+returns-clause-found c = found_in c.args.config.now c.args.bytes.now c.version_in-version.result c.decode_in.result c.decode_in.ensures.found
 
-pub returns-in-Some-clause-only : goal.returns-in-Some-clause-only
-returns-in-Some-clause-only c =
-    only_packet c.args.config.now c.args.bytes.now c.parts_have_one_spelling.ensures c.states_have_one_spelling.ensures (Err c.in-Some.fault)
-    (gives_front c.args.config.now c.args.bytes.now c.in-Some.fault (sym c.front_fault.ensures ∙ c.in-Some.is))
+pub returns-clause-only : goal.returns-clause-only
+returns-clause-only c = λ version p is text short.
+    let same : c.version_in-version.result ≡ version = c.version_in-version.ensures ∙ version_spelled version c.args.config.now c.args.bytes.now p text in
+    c.decode_in.ensures.only p (subst (λ v. IsPacket v c.args.config.now p) (sym same) is) (subst (λ v. c.args.bytes.now ≡ packet_bytes v c.args.config.now p) (sym same) text) short
 
-pub returns-in-Some-clause-exact : goal.returns-in-Some-clause-exact
-returns-in-Some-clause-exact c = gives_front c.args.config.now c.args.bytes.now c.in-Some.fault (sym c.front_fault.ensures ∙ c.in-Some.is)
-
-pub returns-in-None-clause-found : goal.returns-in-None-clause-found
-returns-in-None-clause-found c =
-    found_fields c.args.config.now c.args.bytes.now c.parts_have_one_spelling.ensures c.states_have_one_spelling.ensures
-    (λ i. omega (arith, c.type_inv.bytes i)) (sym c.front_fault.ensures ∙ c.in-None.is) c.decode_fields.result c.decode_fields.ensures
-
-pub returns-in-None-clause-only : goal.returns-in-None-clause-only
-returns-in-None-clause-only c =
-    only_packet c.args.config.now c.args.bytes.now c.parts_have_one_spelling.ensures c.states_have_one_spelling.ensures c.decode_fields.result
-    (gives_fields c.args.config.now c.args.bytes.now c.decode_fields.result (sym c.front_fault.ensures ∙ c.in-None.is) c.decode_fields.ensures)
-
-pub returns-in-None-clause-exact : goal.returns-in-None-clause-exact
-returns-in-None-clause-exact c = gives_fields c.args.config.now c.args.bytes.now c.decode_fields.result (sym c.front_fault.ensures ∙ c.in-None.is) c.decode_fields.ensures
+pub returns-clause-exact : goal.returns-clause-exact
+unfolding packet_at
+returns-clause-exact c = subst (λ v. Gives c.decode_in.result (packet_in v c.args.config.now c.args.bytes.now)) c.version_in-version.ensures c.decode_in.ensures.exact

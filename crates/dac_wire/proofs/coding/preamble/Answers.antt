@@ -1,8 +1,8 @@
 use Rattle.std.proofs.Common.{refl}
-use Rattle.dac_bytes.specs.Numbers.{u8_bytes, u64_bytes}
+use Rattle.dac_bytes.specs.Numbers.{u64_bytes}
 use Rattle.dac_wire.specs.Spelling.{preamble_bytes}
 use Rattle.dac_wire.proofs.coding.preamble.Goals as goal
 
 pub returns : goal.returns
-unfolding preamble_bytes u8_bytes u64_bytes
-returns c = rw (c.to_be_bytes-mark.ensures, c.mark.ensures) refl
+unfolding preamble_bytes u64_bytes
+returns c = rw (c.version_byte-fourth.ensures, c.to_be_bytes-mark.ensures, c.mark.ensures) refl

@@ -1,7 +1,8 @@
 use Rattle.std.proofs.Common.{◌∙◌, ap}
+use Rattle.dac_wishes.specs.Keys.{keys_total, exact_keys}
 use Rattle.dac_wishes.specs.StoredPermits.{permissions_of}
-use Rattle.dac_wishes.proofs.PermitStoring.{permissions_of-join}
+use Rattle.dac_wishes.proofs.VoteStoring.{votes_value_of-join}
 use Rattle.dac_wishes.proofs.permissions.PermissionsLattice.join.Goals as goal
 
 pub returns : goal.returns
-returns c = rw (← c.self.view_is, ← c.other.view_is) (ap permissions_of c.in_ok-causal.ensures ∙ permissions_of-join _ _ c.self.invariant c.other.invariant)
+returns c = rw (← c.self.view_is, ← c.other.view_is) (ap permissions_of c.in_ok-causal.ensures ∙ votes_value_of-join keys_total exact_keys _ _ c.self.invariant c.other.invariant)

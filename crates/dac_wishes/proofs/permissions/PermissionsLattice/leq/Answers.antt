@@ -1,7 +1,8 @@
-use Rattle.dac_wishes.proofs.PermitStoring.{below_if_stored, stored_if_below}
+use Rattle.dac_wishes.specs.Keys.{keys_total, exact_keys}
+use Rattle.dac_wishes.proofs.VoteStoring.{below_if_stored, stored_if_below}
 use Rattle.dac_wishes.proofs.permissions.PermissionsLattice.leq.Goals as goal
 
 pub returns : goal.returns
 returns c =
     rw (← c.self.view_is, ← c.other.view_is)
-    (λ e. below_if_stored _ _ c.self.invariant c.other.invariant (c.leq.ensures.0 e), λ below. c.leq.ensures.1 (stored_if_below _ _ c.self.invariant c.other.invariant below))
+    (λ e. below_if_stored keys_total exact_keys _ _ c.self.invariant c.other.invariant (c.leq.ensures.0 e), λ below. c.leq.ensures.1 (stored_if_below keys_total exact_keys _ _ c.self.invariant c.other.invariant below))

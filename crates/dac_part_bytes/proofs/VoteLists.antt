@@ -1,0 +1,125 @@
+-- Votes by key, as the lists that are read, and their spellings are one to one.
+use Rattle.std.specs.Prelude.{◌≡◌, ℕ, zero, suc, ◌-◌, ◌^◌, ◌<◌, ◌≤◌, List, ◌++◌, length, map as list_map, Option, refl}
+use Rattle.std.proofs.Common.{ap, arith}
+use Rattle.std.specs.declared.cmp.Ordering.{Ordering}
+use Rattle.std.specs.Cmp.{IsTotalOrder}
+use Rattle.std.specs.List.{flat_map, AllByRecursion}
+use Rattle.std.specs.Int.{w8, w32}
+use Rattle.dac_dots.specs.declared.dot.Dot.{Dot}
+use Rattle.dac_dots.specs.Dots.{Dots, dot_cmp, dots_total}
+use Rattle.dac_dots.specs.Keys.{IsRising}
+use Rattle.dac_lattice.specs.declared.flags.Flag.{Flag}
+use Rattle.dac_lattice.specs.declared.flags.Flag.TheVariants.{Up, Down}
+use Rattle.dac_wishes.specs.StoredVotes.{DotFlags}
+use Rattle.dac_config.specs.Table.{Table, node_count}
+use Rattle.dac_bytes.specs.Numbers.{u8_bytes, u32_bytes}
+use Rattle.dac_bytes.specs.Reading.{Rest, Field, number_at, range_at, is_above}
+use Rattle.dac_bytes.specs.Spelling.{dot_bytes}
+use Rattle.dac_bytes.specs.Takes.{IsCodec, Passes}
+use Rattle.dac_bytes.specs.declared.version.Version.{Version}
+use Rattle.dac_bytes.specs.laws.Ascending.{IsNext, counted_codec}
+use Rattle.dac_bytes.specs.laws.Codecs.{codec_both}
+use Rattle.dac_bytes.specs.laws.Fields.{u8_in_takes, u8_in_again, u32_takes, u32_again, u32_in_takes, u32_in_again}
+use Rattle.dac_part_bytes.specs.KeyedForm.{IsKnownDot}
+use Rattle.dac_part_bytes.specs.Reading.{known_dot_at, some_at, said_flag, vote_at, votes_of_key_at, keyed_votes_at, votes_by_key_at}
+use Rattle.dac_part_bytes.specs.Spelling.{said_code, vote_bytes, votes_of_key_bytes, keyed_votes_bytes}
+use Rattle.dac_part_bytes.proofs.KeyFields.{IsDotAbove, known_dot_takes, known_dot_again}
+
+-- ---- what a vote says
+
+code_again : (truth : Flag) (n : ℕ) → n ≤ 1 → n ≡ said_code truth (said_flag truth n)
+code_again Up zero h = refl
+code_again Up (suc zero) h = refl
+code_again Up (suc (suc n)) h = absurd (omega arith)
+code_again Down zero h = refl
+code_again Down (suc zero) h = refl
+code_again Down (suc (suc n)) h = absurd (omega arith)
+
+flag_again : (truth flag : Flag) → said_flag truth (said_code truth flag) ≡ flag
+flag_again Up Up = refl
+flag_again Up Down = refl
+flag_again Down Up = refl
+flag_again Down Down = refl
+
+code_small : (truth flag : Flag) → (0 ≤ said_code truth flag) × (said_code truth flag ≤ 1)
+code_small Up Up = (omega arith, omega arith)
+code_small Up Down = (omega arith, omega arith)
+code_small Down Up = (omega arith, omega arith)
+code_small Down Down = (omega arith, omega arith)
+
+-- ---- the votes of a key
+
+-- some, and a number that fits its field
+abbrev IsSome : ℕ → Type 0
+IsSome n = (1 ≤ n) × (n ≤ 2 ^ 32 - 1)
+
+-- a vote's dot
+abbrev dot_of : Dot × Flag → Dot
+dot_of p = p.0
+
+-- the votes of a key: some, by known dots that rise
+abbrev pub AreVotesOfKey : Version → Table → Dots → DotFlags → Type 0
+AreVotesOfKey version t known ps = IsSome (length ps) × AllByRecursion (λ (p : Dot × Flag). IsKnownDot version t known p.0) ps × IsRising dot_cmp (list_map (λ (p : Dot × Flag). p.0) ps)
+
+-- a key with its votes
+abbrev pub IsKeyedVotes : {K : Type 0} → (K → Type 0) → Version → Table → Dots → K × DotFlags → Type 0
+IsKeyedVotes IsKeyOf version t known e = IsKeyOf e.0 × AreVotesOfKey version t known e.1
+
+-- keys that rise, each with its votes
+abbrev pub AreVotesByKey : {K : Type 0} → (K → K → Ordering) → (K → Type 0) → Version → Table → Dots → List (K × DotFlags) → Type 0
+AreVotesByKey {K = K} R IsKeyOf version t known m = (length m < 2 ^ 32) × AllByRecursion (IsKeyedVotes IsKeyOf version t known) m × IsRising R (list_map (λ (e : K × DotFlags). e.0) m)
+
+-- how many keys have votes, and the votes of each
+abbrev pub votes_list_bytes : {K : Type 0} → (K → List ℕ) → Version → Flag → List (K × DotFlags) → List ℕ
+votes_list_bytes key_text version truth m = u32_bytes (length m) ++ flat_map (keyed_votes_bytes key_text version truth) m
+
+module _ (version : Version) (t : Table) (known : Dots) (truth : Flag) (few_nodes : node_count t ≤ 2 ^ 8) where
+  abbrev nodes : ℕ
+  nodes = node_count t
+
+  -- the vote of a known dot above the one before it
+  abbrev IsVoteAbove : Option Dot → Dot × Flag → Type 0
+  IsVoteAbove = IsNext dot_cmp dot_of (λ (p : Dot × Flag). IsKnownDot version t known p.0)
+
+  vote_codec : (before : Option Dot) → IsCodec (vote_at version nodes known truth before) (vote_bytes version truth) (IsVoteAbove before)
+  unfolding vote_at vote_bytes
+  vote_codec before =
+      codec_both (known_dot_at version nodes known before) (dot_bytes version) (IsDotAbove version t known before)
+      (record { takes = known_dot_takes version t known before; again = known_dot_again version t known few_nodes before })
+      (λ _ r. range_at w8 0 1 r) (λ _. u8_bytes) (λ _ n. (0 ≤ n) × (n ≤ 1)) (λ _ _. record { takes = u8_in_takes 0 1; again = λ n is. u8_in_again 0 1 (omega arith) n is.0 is.1 })
+      (λ d n. (d, said_flag truth n)) (vote_bytes version truth) (IsVoteAbove before)
+      (λ d n is so. (ap (λ (n : ℕ). dot_bytes version d ++ u8_bytes n) (code_again truth n so.1), is))
+      (λ p is. (p.0, said_code truth p.1, is, code_small truth p.1, (λ i. (p.0, flag_again truth p.1 i))))
+
+  votes_of_key_codec : IsCodec (votes_of_key_at version nodes known truth) (votes_of_key_bytes version truth) (AreVotesOfKey version t known)
+  unfolding votes_of_key_at votes_of_key_bytes
+  votes_of_key_codec =
+      counted_codec dots_total dot_of (λ (p : Dot × Flag). IsKnownDot version t known p.0) (vote_at version nodes known truth) some_at u32_bytes (vote_bytes version truth) IsSome
+      (record { takes = u32_in_takes 1 (2 ^ 32 - 1); again = λ n is. u32_in_again 1 (2 ^ 32 - 1) (omega arith) n is.0 is.1 }) vote_codec
+
+  -- ---- by key
+
+  module _ {K : Type 0} {R : K → K → Ordering} (total : IsTotalOrder R) (key_above : Option K → Rest → Field K) (key_text : K → List ℕ) (IsKeyOf : K → Type 0) where
+    abbrev votes_at : Rest → Field DotFlags
+    votes_at = votes_of_key_at version nodes known truth
+
+    abbrev key_of : K × DotFlags → K
+    key_of e = e.0
+
+    abbrev IsKeyed : K × DotFlags → Type 0
+    IsKeyed = IsKeyedVotes IsKeyOf version t known
+
+    module _ (keys : (before : Option K) → IsCodec (key_above before) key_text (Passes IsKeyOf (is_above R before))) where
+      keyed_votes_codec : (before : Option K) → IsCodec (keyed_votes_at key_above votes_at before) (keyed_votes_bytes key_text version truth) (IsNext R key_of IsKeyed before)
+      unfolding keyed_votes_at keyed_votes_bytes
+      keyed_votes_codec before =
+          codec_both (key_above before) key_text (Passes IsKeyOf (is_above R before)) (keys before)
+          (λ _. votes_at) (λ _. votes_of_key_bytes version truth) (λ _. AreVotesOfKey version t known) (λ _ _. votes_of_key_codec)
+          (λ key ps. (key, ps)) (keyed_votes_bytes key_text version truth) (IsNext R key_of IsKeyed before)
+          (λ key ps is so. (refl, ((is.0, so), is.1))) (λ e is. (e.0, e.1, (is.0.0, is.1), is.0.1, refl))
+
+      pub votes_list_codec : IsCodec (votes_by_key_at key_above votes_at) (votes_list_bytes key_text version truth) (AreVotesByKey R IsKeyOf version t known)
+      unfolding votes_by_key_at
+      votes_list_codec =
+          counted_codec total key_of IsKeyed (keyed_votes_at key_above votes_at) (number_at w32) u32_bytes (keyed_votes_bytes key_text version truth) (λ n. n < 2 ^ 32)
+          (record { takes = u32_takes; again = u32_again }) keyed_votes_codec

@@ -1,0 +1,15 @@
+use Rattle.std.proofs.Common.{◌≡◌, ◌-◌, Some, None}
+use Rattle.dac_bytes.specs.Reading.{items_at}
+use Rattle.dac_bytes.specs.Items.{with_front}
+use Rattle.dac_dots.specs.declared.dot.Dot.{Dot}
+use Rattle.dac_dots.specs.Dots.{dot_cmp}
+use Rattle.dac_dots.specs.InOrder.{in_order}
+use Rattle.dac_part_bytes.specs.Reading.{known_dot_at}
+use Rattle.dac_bytes.specs.laws.Ascending.{Reaches}
+use Rattle.dac_part_bytes.proofs.reading_starts.read_dots.Given as goal
+
+-- what was read with what is still to be read is the whole, and the items so far are below what may come
+abbrev pub invariant-loop : goal.invariant-loop
+invariant-loop l =
+    (with_front (in_order l.dots) (items_at (known_dot_at l.version l.nodes l.known) (λ (d : Dot). Some d) (l.count - l.counter) l.before l.rest) ≡ items_at (known_dot_at l.version l.nodes l.known) (λ (d : Dot). Some d) l.count None l.fn.reader)
+    × Reaches dot_cmp (λ (d : Dot). d) l.before (in_order l.dots)

@@ -1,0 +1,35 @@
+use Rattle.std.proofs.Common.{Some, None, [], ◌∷◌, ◌++◌, ◌≡◌, sym, ap, ◌∙◌}
+use Rattle.std.proofs.lemmas.Result.{err_from_is_err_and}
+use Rattle.std.proofs.lemmas.Bool.{and_from}
+use Rattle.std.specs.Prelude.{not}
+use Rattle.dac_wishes.specs.declared.key.Key.{Key}
+use Rattle.dac_wishes.specs.Keys.{keys_total}
+use Rattle.dac_dots.specs.Dots.{Dots}
+use Rattle.dac_bytes.specs.Reading.{items_at}
+use Rattle.dac_bytes.specs.Items.{ends, goes_on, is_done}
+use Rattle.dac_part_bytes.specs.Reading.{keyed_dots_at}
+use Rattle.dac_bytes.specs.laws.Ascending.{reaches_more}
+use Rattle.dac_part_bytes.proofs.ReadFacts.{keyed_dots_next}
+use Rattle.dac_part_bytes.proofs.ReadLoops.{pushed_is}
+use Rattle.dac_part_bytes.proofs.reading_starts.read_keys_of_dots.Goals as goal
+
+pub returns-in_err-entry : goal.returns-in_err-entry
+returns-in_err-entry c =
+    let p = err_from_is_err_and c.from_residual.result c.from_residual.ensures.1 in
+    let e = c.in_err-entry.field-0.0 in
+    rw (p.1, p.2) (ends (keyed_dots_at c.args.version c.args.config.now c.args.known.now) (λ (x : Key × Dots). Some x.0) e c.loop.store c.args.count c.loop.counter c.loop.before c.loop.rest (items_at (keyed_dots_at c.args.version c.args.config.now c.args.known.now) (λ (x : Key × Dots). Some x.0) c.args.count None c.args.reader) c.loop-test.true c.in_err-entry.ensures c.loop.invariant.0)
+
+pub loop-preserved : goal.loop-preserved
+loop-preserved c =
+    let x = c.in_ok-entry.entry in
+    let next = keyed_dots_next c.args.version c.args.config.now c.args.known.now c.loop.before c.loop.rest (x, c.in_ok-entry.after) c.in_ok-entry.ensures in
+    let above = next.1 in
+    let reached = sym (c.loop.invariant.1 x.0) ∙ above in
+    let new : c.push.new.self ≡ c.loop.store ++ x ∷ [] = pushed_is c.in_ok-push.field-0 _ c.push.new.self (c.loop.store ++ x ∷ []) c.loop.store c.in_ok-push.ensures.ok (and_from _ _ reached (ap not next.0.1)) c.in_ok-push.ensures.new in
+    rw new (
+      goes_on (keyed_dots_at c.args.version c.args.config.now c.args.known.now) (λ (x : Key × Dots). Some x.0) c.loop.store c.args.count c.loop.counter c.loop.before c.loop.rest x c.in_ok-entry.after (items_at (keyed_dots_at c.args.version c.args.config.now c.args.known.now) (λ (x : Key × Dots). Some x.0) c.args.count None c.args.reader) c.loop-test.true c.in_ok-entry.ensures c.loop.invariant.0,
+      reaches_more keys_total (λ (x : Key × Dots). x.0) c.loop.before c.loop.store x c.loop.invariant.1 above,
+    )
+
+pub returns : goal.returns
+returns c = is_done (keyed_dots_at c.args.version c.args.config.now c.args.known.now) (λ (x : Key × Dots). Some x.0) c.loop.store c.args.count c.loop.counter c.loop.before c.loop.rest (items_at (keyed_dots_at c.args.version c.args.config.now c.args.known.now) (λ (x : Key × Dots). Some x.0) c.args.count None c.args.reader) c.loop-test.false c.loop.invariant.0

@@ -1,0 +1,15 @@
+use Rattle.std.proofs.Common.{◌≡◌, ◌-◌, Some, None}
+use Rattle.dac_bytes.specs.Reading.{items_at}
+use Rattle.dac_bytes.specs.Items.{with_front}
+use Rattle.dac_wishes.specs.declared.key.Key.{Key}
+use Rattle.dac_dots.specs.Dots.{Dots}
+use Rattle.dac_wishes.specs.Keys.{key_cmp}
+use Rattle.dac_part_bytes.specs.Reading.{keyed_dots_at}
+use Rattle.dac_bytes.specs.laws.Ascending.{Reaches}
+use Rattle.dac_part_bytes.proofs.reading_starts.read_keys_of_dots.Given as goal
+
+-- what was read with what is still to be read is the whole, and the items so far are below what may come
+abbrev pub invariant-loop : goal.invariant-loop
+invariant-loop l =
+    (with_front l.store (items_at (keyed_dots_at l.version l.config l.known) (λ (e : Key × Dots). Some e.0) (l.count - l.counter) l.before l.rest) ≡ items_at (keyed_dots_at l.version l.config l.known) (λ (e : Key × Dots). Some e.0) l.count None l.fn.reader)
+    × Reaches key_cmp (λ (e : Key × Dots). e.0) l.before l.store

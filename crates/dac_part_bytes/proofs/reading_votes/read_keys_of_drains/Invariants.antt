@@ -1,0 +1,15 @@
+use Rattle.std.proofs.Common.{◌≡◌, ◌-◌, Some, None}
+use Rattle.dac_bytes.specs.Reading.{items_at}
+use Rattle.dac_bytes.specs.Items.{with_front}
+use Rattle.dac_dots.specs.declared.dot.Origin.{Origin}
+use Rattle.dac_dots.specs.Dots.{origin_cmp}
+use Rattle.dac_wishes.specs.StoredVotes.{DotFlags}
+use Rattle.dac_part_bytes.proofs.ReadFacts.{drain_item}
+use Rattle.dac_bytes.specs.laws.Ascending.{Reaches}
+use Rattle.dac_part_bytes.proofs.reading_votes.read_keys_of_drains.Given as goal
+
+-- what was read with what is still to be read is the whole, and the items so far are below what may come
+abbrev pub invariant-loop : goal.invariant-loop
+invariant-loop l =
+    (with_front l.store (items_at (drain_item l.config l.known) (λ (e : Origin × DotFlags). Some e.0) (l.count - l.counter) l.before l.rest) ≡ items_at (drain_item l.config l.known) (λ (e : Origin × DotFlags). Some e.0) l.count None l.fn.reader)
+    × Reaches origin_cmp (λ (e : Origin × DotFlags). e.0) l.before l.store

@@ -1,0 +1,15 @@
+use Rattle.std.proofs.Common.{◌≡◌, ◌-◌, Some, None}
+use Rattle.dac_bytes.specs.Reading.{items_at}
+use Rattle.dac_bytes.specs.Items.{with_front}
+use Rattle.dac_wishes.specs.declared.key.Key.{Key}
+use Rattle.dac_wishes.specs.Keys.{key_cmp}
+use Rattle.dac_wishes.specs.StoredVotes.{DotFlags}
+use Rattle.dac_part_bytes.proofs.ReadFacts.{permit_item}
+use Rattle.dac_bytes.specs.laws.Ascending.{Reaches}
+use Rattle.dac_part_bytes.proofs.reading_votes.read_keys_of_permits.Given as goal
+
+-- what was read with what is still to be read is the whole, and the items so far are below what may come
+abbrev pub invariant-loop : goal.invariant-loop
+invariant-loop l =
+    (with_front l.store (items_at (permit_item l.version l.config l.known) (λ (e : Key × DotFlags). Some e.0) (l.count - l.counter) l.before l.rest) ≡ items_at (permit_item l.version l.config l.known) (λ (e : Key × DotFlags). Some e.0) l.count None l.fn.reader)
+    × Reaches key_cmp (λ (e : Key × DotFlags). e.0) l.before l.store

@@ -1,7 +1,0 @@
-use Rattle.std.proofs.Common.{◌≡◌, ◌++◌, take}
-use Rattle.std.specs.List.{flat_map}
-use Rattle.dac_part_bytes.specs.Spelling.{permit_bytes}
-use Rattle.dac_part_bytes.proofs.writing.write_permits.Given as goal
-
-abbrev pub invariant-loop-dot : goal.invariant-loop-dot
-invariant-loop-dot l = l.written ≡ l.initial.written ++ flat_map permit_bytes (take l.dot-index l.permits)

@@ -1,0 +1,91 @@
+-- What drains are: the drains that stand, with their values, beside the dots that are known. Equal parts are equal
+-- values. A drain's true is Down, and its false Up. Drains are votes of origins: an incarnation of a node is drained or not.
+use Rattle.std.specs.Prelude.{◌≡◌, ℕ, Bool, true, false, List, Some}
+use Rattle.std.specs.List.{list_any}
+use Rattle.std.specs.Coded.{Coded}
+use Rattle.std.specs.FinSet as set
+use Rattle.std.specs.FinMap as map
+use Rattle.dac_base.specs.declared.NodeId.{NodeId}
+use Rattle.dac_dots.specs.declared.dot.Dot.{Dot}
+use Rattle.dac_dots.specs.declared.dot.Origin.{Origin}
+use Rattle.dac_dots.specs.Dots.{origin_cmp, origins_total, exact_origins, coded_origin}
+use Rattle.dac_lattice.specs.declared.flags.Flag.{Flag}
+use Rattle.dac_lattice.specs.declared.flags.Flag.TheVariants.{Up, Down}
+use Rattle.dac_lattice.specs.Lattices.{IsLattice}
+use Rattle.dac_wishes.specs.KeyedWrites.{KeyedWrite, keyed_write}
+use Rattle.dac_wishes.specs.Votes.{Votes, VotesValue, coded_votes, AreVotes, AreVotesBelow, no_votes, joined_vote, join_votes, votes_at, known-join_votes, standing-join_votes, same_votes, votes_laws, no_votes_value, no_votes_least}
+
+-- the flag says that the node is drained
+abbrev pub says_drained : Flag → Bool
+says_drained Up = false
+says_drained Down = true
+
+-- a drain as a flag
+abbrev pub flag_of : Bool → Flag
+flag_of false = Up
+flag_of true = Down
+
+-- an incarnation of a node
+abbrev pub origin : NodeId → ℕ → Origin
+origin node inc = record { node = node; inc = inc }
+
+-- a drain, by its origin and the dot of the operation that writes it
+abbrev pub DrainWrite : Type 0
+DrainWrite = KeyedWrite Origin
+
+-- drains with their values
+abbrev pub Drains : Type 0
+Drains = Votes origin_cmp
+
+abbrev pub DrainsValue : Type 0
+DrainsValue = VotesValue origin_cmp
+
+abbrev pub coded_drains : Coded DrainsValue
+coded_drains = coded_votes origin_cmp coded_origin
+
+-- what stands is known, in forged values too
+abbrev pub AreDrains : DrainsValue → Type 0
+AreDrains = AreVotes origin_cmp
+
+abbrev pub AreDrainsBelow : DrainsValue → DrainsValue → Type 0
+AreDrainsBelow = AreVotesBelow origin_cmp
+
+-- nothing known
+abbrev pub no_drains : DrainsValue
+no_drains = no_votes origin_cmp
+
+abbrev pub join_drains : DrainsValue → DrainsValue → DrainsValue
+join_drains = join_votes origin_cmp
+
+-- the drains that stand at an origin, in the order of their dots
+abbrev pub drains_at : Origin → Drains → List (Dot × Flag)
+drains_at = votes_at origin_cmp
+
+-- some drain of the origin stands that says true
+abbrev pub is_drained : Origin → DrainsValue → Bool
+is_drained at v = list_any (λ (p : Dot × Flag). says_drained p.1) (drains_at at v.standing)
+
+-- some drain of the origin stands that says true, by its dot
+abbrev pub IsDrained : Origin → DrainsValue → Type 0
+IsDrained at v = (d : Dot) × (map.get v.standing (keyed_write at d) ≡ Some Down)
+
+-- ---- the laws
+
+pub known-join : (x y : DrainsValue) → (join_drains x y).known ≡ set.union x.known y.known
+known-join = known-join_votes origin_cmp
+
+pub standing-join : (x y : DrainsValue) (w : DrainWrite) → map.get (join_drains x y).standing w ≡ joined_vote origin_cmp x y w (map.get x.standing w) (map.get y.standing w)
+standing-join = standing-join_votes origins_total exact_origins
+
+-- two values that show the same are equal
+pub same_drains : (x y : DrainsValue) → x.known ≡ y.known → ((w : DrainWrite) → map.get x.standing w ≡ map.get y.standing w) → x ≡ y
+same_drains = same_votes origins_total exact_origins
+
+pub drains_laws : IsLattice AreDrains AreDrainsBelow join_drains
+drains_laws = votes_laws origins_total exact_origins
+
+pub no_drains_value : AreDrains no_drains
+no_drains_value = no_votes_value origin_cmp
+
+pub no_drains_least : (x : DrainsValue) → AreDrainsBelow no_drains x
+no_drains_least = no_votes_least origin_cmp

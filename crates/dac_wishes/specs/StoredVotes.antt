@@ -1,0 +1,48 @@
+-- How votes are stored: values at dots at each key, beside the context of the dots that are known.
+use Rattle.std.specs.Prelude.{List, [], ◌∷◌, Option, None, Some, map as list_map}
+use Rattle.std.specs.declared.cmp.Ordering.{Ordering}
+use Rattle.std.specs.List.{flat_map}
+use Rattle.std.specs.FinMap as map
+use Rattle.dac_dots.specs.declared.dot.Dot.{Dot}
+use Rattle.dac_dots.specs.Dots.{dot_cmp}
+use Rattle.dac_lattice.specs.declared.flags.Flag.{Flag}
+use Rattle.dac_lattice.specs.Chains.{IsAny}
+use Rattle.dac_lattice.specs.Maps.{IsMap}
+use Rattle.dac_store.specs.Stores.{Stored, IsStored}
+use Rattle.dac_store.specs.DotFuns.{has_dot, is_empty_list}
+use Rattle.dac_store.specs.DotMaps.{has_in, IsKeyed}
+use Rattle.dac_wishes.specs.KeyedWrites.{KeyedWrite, keyed_write}
+use Rattle.dac_wishes.specs.Votes.{Votes, VotesValue}
+
+-- the votes at a key
+abbrev pub DotFlags : Type 0
+DotFlags = List (Dot × Flag)
+
+-- the votes at each key, and the dots that are known
+abbrev pub StoredVotes : Type 0 → Type 0
+StoredVotes K = Stored (List (K × DotFlags))
+
+-- a list of keys with votes, as it is kept: the keys rise, and each has votes in the order of their dots
+abbrev pub AreKeyedVotes : {K : Type 0} → (K → K → Ordering) → List (K × DotFlags) → Type 0
+AreKeyedVotes R = IsKeyed R (IsMap dot_cmp IsAny) is_empty_list
+
+-- the keys rise, each has votes in the order of their dots, and each dot is known
+abbrev pub AreStoredVotes : {K : Type 0} → (K → K → Ordering) → StoredVotes K → Type 0
+AreStoredVotes R = IsStored (AreKeyedVotes R) (has_in has_dot)
+
+-- the votes of a key
+abbrev pub keyed_votes : {K : Type 0} → K → DotFlags → List (KeyedWrite K × Flag)
+keyed_votes key ps = list_map (λ (p : Dot × Flag). (keyed_write key p.0, p.1)) ps
+
+-- the votes of each key
+unfoldable pub votes_of : {K : Type 0} (R : K → K → Ordering) → List (K × DotFlags) → Votes R
+votes_of {K = K} R m = map.from_entries (flat_map (λ (e : K × DotFlags). keyed_votes e.0 e.1) m)
+
+-- the votes that are stored so
+abbrev pub votes_value_of : {K : Type 0} (R : K → K → Ordering) → StoredVotes K → VotesValue R
+votes_value_of R v = record { known = v.context; standing = votes_of R v.store }
+
+-- a vote as it is stored
+abbrev pub stored_vote : {K : Type 0} → Dot → Option (K × Flag) → List (K × DotFlags)
+stored_vote d None = []
+stored_vote d (Some v) = (v.0, (d, v.1) ∷ []) ∷ []

@@ -1,0 +1,186 @@
+//! Drains.
+ghost use Rattle.std.specs.Prelude.{◌≡◌, ◌↔◌, IsTrue};
+ghost use Rattle.std.specs.List.{list_any};
+ghost use Rattle.dac_lattice.specs.declared.flags.Flag.{Flag as FlagValue};
+ghost use Rattle.dac_dots.specs.declared.dot.Dot.{Dot as DotValue};
+ghost use Rattle.dac_wishes.specs.DrainsValue.{origin, says_drained, is_drained, IsDrained, drains_at};
+
+use crate::delta::beside;
+use crate::drain_act::DrainAct;
+use crate::votes::{kept_at, kept_delta};
+use dac_base::{NoMemory, NodeId};
+use dac_dots::{Dot, Origin};
+use dac_lattice::{Bottom, Flag, Lattice, Piece};
+use dac_store::{Causal, Context, DotFun, DotMap, DotStore};
+use std::alloc::Global;
+use std::marker::Model;
+
+/// The drains that stand, with their values, beside the dots that are known. A drain's true is
+/// [`Flag::Down`] and its false [`Flag::Up`]. Contracts see a finite map from origins and dots to flags, and
+/// a finite set of dots.
+pub struct Drains {
+    causal: Causal<DotMap<Origin, DotFun<Flag>>>,
+}
+
+/// Written out: a drop is one call for a proof, wherever it stands.
+impl Drop for Drains {
+    fn drop(self) {
+        let Drains { causal: _causal } = self;
+    }
+}
+
+impl Model for Drains {
+    ghost use Rattle.dac_wishes.specs.DrainsValue.{DrainsValue, coded_drains};
+
+    ghost Value = { DrainsValue };
+
+    ghost coded = { coded_drains };
+
+    ghost use Rattle.dac_wishes.specs.StoredDrains.{drains_of, AreStoredDrains};
+
+    ghost view = { λ a. drains_of a.causal };
+
+    ghost invariant = { λ a. AreStoredDrains a.causal };
+}
+
+impl Drains {
+    ghost use Rattle.std.specs.FinMap as map;
+    ghost use Rattle.dac_wishes.specs.StoredDrains.{drains_of, drains_by_origin};
+
+    /// The drains that are kept so: at each origin its drains, by their dots. It takes no memory.
+    pub fn new(causal: Causal<DotMap<Origin, DotFun<Flag>>>) -> Self
+        ensures { result ≡ drains_of causal }
+    {
+        causal.known();
+        Drains { causal }
+    }
+
+    /// No drains, where these dots are known. It takes no memory.
+    pub fn none(alloc: Global, known: Context) -> Self
+        ensures { result ≡ record { known = known; standing = map.empty } }
+    {
+        Drains {
+            causal: beside(DotMap::empty(alloc), known),
+        }
+    }
+
+    /// The origins that have a drain that stands, in ascending order, each with the dots of its drains and
+    /// their values. It takes no memory.
+    pub fn entries(&self) -> &[(Origin, DotFun<Flag>)]
+        ensures { result.now ≡ drains_by_origin self.now.standing }
+    {
+        self.causal.store().entries()
+    }
+
+    /// Whether an incarnation of a node is drained: some drain of it stands that says true. It takes no memory.
+    pub fn drained(&self, node: NodeId, inc: u64) -> bool
+        ensures value { result ≡ is_drained (origin node inc) self.now }
+        ensures cases { IsTrue result ↔ IsDrained (origin node inc) self.now }
+    {
+        some_says_drained(self.dots(node, inc))
+    }
+
+    /// The dots of the drains of the incarnation that stand, with their values, in ascending order. It takes no
+    /// memory.
+    pub fn dots(&self, node: NodeId, inc: u64) -> &[(Dot, Flag)]
+        ensures { result.now ≡ drains_at (origin node inc) self.now.standing }
+    {
+        kept_at(&self.causal, Origin { node, inc })
+    }
+
+    /// The dots of the operations, and those that they replace. It takes no memory.
+    pub fn context(&self) -> &Context
+        ensures { result.now ≡ self.now.known }
+    {
+        self.causal.context()
+    }
+}
+
+/// Whether a drain says true.
+fn says_drained(flag: Flag) -> bool
+    ensures { result ≡ says_drained flag }
+{
+    match flag {
+        Flag::Up => false,
+        Flag::Down => true,
+    }
+}
+
+/// Whether some drain says true.
+fn some_says_drained(drains: &[(Dot, Flag)]) -> bool
+    ensures { result ≡ list_any (λ (p : DotValue × FlagValue). says_drained p.1) drains.now }
+{
+    drains.iter().any(|drain| says_drained(drain.1))
+}
+
+impl Lattice for Drains {
+    ghost use Rattle.dac_wishes.specs.DrainsValue.{AreDrains, AreDrainsBelow, join_drains, drains_laws};
+
+    ghost is_value = { AreDrains };
+
+    ghost below = { AreDrainsBelow };
+
+    ghost join = { join_drains };
+
+    ghost laws = { drains_laws };
+
+    fn known(&self) {
+        let _causal = &self.causal;
+    }
+
+    fn join(&self, other: &Self) -> Result<Self, NoMemory> {
+        let causal = self.causal.join(&other.causal)?;
+        Ok(Drains { causal })
+    }
+
+    fn leq(&self, other: &Self) -> bool {
+        self.causal.leq(&other.causal)
+    }
+
+    fn equal(&self, other: &Self) -> bool {
+        self.known();
+        other.known();
+        self.leq(other) && other.leq(self)
+    }
+
+    fn copy(&self) -> Result<Self, NoMemory> {
+        let causal = self.causal.copy()?;
+        Ok(Drains { causal })
+    }
+}
+
+impl Bottom for Drains {
+    ghost use Rattle.dac_wishes.specs.DrainsValue.{no_drains, no_drains_value, no_drains_least};
+
+    ghost bottom = { no_drains };
+
+    ghost least = { λ x _. no_drains_least x };
+
+    ghost bottom_value = { no_drains_value };
+
+    fn bottom(alloc: Global) -> Self {
+        Drains {
+            causal: Causal::bottom(alloc),
+        }
+    }
+}
+
+impl Piece for Drains {
+    ghost use Rattle.dac_wishes.specs.Replacing.{SparesItself};
+    ghost use Rattle.dac_wishes.specs.DrainMeaning.{over_of, drain_delta, IsMeaning, drain_piece};
+
+    type Act = DrainAct;
+
+    ghost fits = { SparesItself over_of };
+
+    ghost delta = { drain_delta };
+
+    ghost means = { IsMeaning };
+
+    ghost piece_laws = { drain_piece };
+
+    fn delta(alloc: Global, dot: Dot, act: &DrainAct) -> Result<Self, NoMemory> {
+        let causal = kept_delta(alloc, dot, act.vote(), act.over())?;
+        Ok(Drains { causal })
+    }
+}

@@ -1,0 +1,56 @@
+//! What permissions and drains have in common: votes at keys, as they are kept.
+ghost use Rattle.std.specs.Prelude.{◌≡◌, ◌∷◌, [], IfOk};
+ghost use Rattle.std.specs.FinSet as set;
+ghost use Rattle.std.specs.FinMap.{find};
+ghost use Rattle.dac_store.specs.DotMaps.{store_at};
+ghost use Rattle.dac_wishes.specs.StoredVotes.{stored_vote};
+
+use crate::delta::{beside, named_by};
+use dac_base::NoMemory;
+use dac_dots::{Dot, MapKey};
+use dac_lattice::Flag;
+use dac_store::{Causal, DotFun, DotMap, DotStore};
+use std::alloc::Global;
+
+/// The votes that are kept at a key.
+pub(crate) fn kept_at<K: MapKey>(causal: &Causal<DotMap<K, DotFun<Flag>>>, key: K) -> &[(Dot, Flag)]
+    ensures { result.now ≡ store_at [] (find K.cmp key causal.now.store) }
+{
+    match causal.store().get(key) {
+        Some(votes) => votes.entries(),
+        None => &[],
+    }
+}
+
+/// A vote as it is kept, if there is one.
+fn kept_alone<K: MapKey>(
+    alloc: Global,
+    dot: Dot,
+    vote: Option<(K, Flag)>,
+) -> Result<DotMap<K, DotFun<Flag>>, NoMemory>
+    ensures { IfOk result (λ store. store ≡ stored_vote dot vote) }
+{
+    match vote {
+        Some((key, flag)) => {
+            let one = DotFun::one(alloc, dot, flag)?;
+            let store = DotMap::one(alloc, key, one)?;
+            Ok(store)
+        }
+        None => Ok(DotMap::empty(alloc)),
+    }
+}
+
+/// What one operation adds, as it is kept: its vote, if it is one, beside its dot and those that it replaces.
+pub(crate) fn kept_delta<K: MapKey>(
+    alloc: Global,
+    dot: Dot,
+    vote: Option<(K, Flag)>,
+    over: &[Dot],
+) -> Result<Causal<DotMap<K, DotFun<Flag>>>, NoMemory>
+    ensures { IfOk result (λ causal. causal ≡ record { store = stored_vote dot vote; context = set.from_list (dot ∷ over.now) }) }
+{
+    let store = kept_alone(alloc, dot, vote)?;
+    let named = named_by(alloc, dot, over)?;
+    let causal = beside(store, named);
+    Ok(causal)
+}
