@@ -7,9 +7,9 @@
 use dac_base::{AppId, NodeId};
 
 /// What an operator tells a controller. All but a takeover may be given at any controller. They name the node that
-/// they are about, and hold for that node's live incarnation, so a reboot returns to the configuration. They are
-/// after `application:permit/2`, `application:start/1` and `application:stop/1` of Erlang/OTP, which hold for the
-/// node where they run.
+/// they are about, and hold for that node's live incarnation, so a reboot returns to the configuration. Permits, starts
+/// and stops are after `application:permit/2`, `application:start/1` and `application:stop/1` of Erlang/OTP, which hold
+/// for the node where they run. A drain is this project's own.
 #[derive(Clone, Copy, Debug, PartialEq, Eq)]
 pub enum Command {
     /// The node is down: its live incarnation has ended. (OTP learns this of its distribution; here a

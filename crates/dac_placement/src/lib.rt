@@ -1,9 +1,10 @@
 //! Where each application belongs: pure functions of a configuration and a state, which take no memory.
 //!
 //! A node is eligible for an application on two conditions. The application's list names the node, and the node is
-//! live at an incarnation at which the application is permitted and started. The greatest claim says who holds an
-//! application; it runs where its holder is live and eligible. The verdict compares who holds it with who is its
-//! first choice. It is to be started, to fail over, to be moved or to be taken over there, or it is left where it is.
+//! live at an incarnation that isn't drained, at which the application is permitted and started. The greatest claim
+//! says who holds an application; it runs where its holder is live and eligible. The verdict compares who holds it
+//! with who is its first choice. It is to be started, to fail over, to be moved or to be taken over there, or it is
+//! left where it is.
 //! So controllers that heard the same operations give the same verdicts.
 //!
 //! Every answer holds for any state, also one that no operation made. A verdict goes through all nodes and, for
