@@ -12,7 +12,7 @@ use Rattle.dac_dots.specs.Keys.{has_key}
 use Rattle.dac_dots.specs.laws.KeyLaws.{has_is}
 use Rattle.dac_dots.specs.Dots.{Dots, dot_cmp, dots_total, exact_dots}
 use Rattle.dac_dots.specs.declared.dot.Dot.{Dot}
-use Rattle.dac_store.specs.Stores.{IsHeld}
+use Rattle.dac_store.specs.Stores.{IsHeld, IsUnheard}
 use Rattle.dac_store.specs.DotSets.{may_stay}
 use Rattle.dac_store.specs.DotMaps.{has_in}
 
@@ -149,3 +149,14 @@ held_each has c (f ∷ m) all x e = elim (or_cases (has f.1 x) (has_in has m x) 
 
 pub held_done : {K S : Type 0} (has : S → Dot → Bool) (c : Dots) (m : List (K × S)) (i : ℕ) → length m ≤ i → All (λ e. IsHeld (has e.1) c) (take i m) → IsHeld (has_in has m) c
 held_done has c m i p all = held_each has c m (subst (All (λ e. IsHeld (has e.1) c)) (take_all i m p) all)
+
+-- where no dot of a store in a list has been heard of, no dot of the map has
+unheard_each : {K S : Type 0} (has : S → Dot → Bool) (c : Dots) (m : List (K × S)) → All (λ e. IsUnheard (has e.1) c) m → IsUnheard (has_in has m) c
+unheard_each has c [] all x e = absurd (false≢true e)
+unheard_each has c (f ∷ m) all x e = elim (or_cases (has f.1 x) (has_in has m x) e) [
+  | inl here ↦ all 0 f (omega arith) x here
+  | inr later ↦ unheard_each has c m (λ i d p. all (suc i) d (omega arith)) x later
+]
+
+pub unheard_done : {K S : Type 0} (has : S → Dot → Bool) (c : Dots) (m : List (K × S)) (i : ℕ) → length m ≤ i → All (λ e. IsUnheard (has e.1) c) (take i m) → IsUnheard (has_in has m) c
+unheard_done has c m i p all = unheard_each has c m (subst (All (λ e. IsUnheard (has e.1) c)) (take_all i m p) all)

@@ -1,6 +1,6 @@
 -- What two sides hold at one dot, each beside whether it has heard of the dot.
 use Rattle.std.specs.Prelude.{◌≡◌, Bool, true, false, ◌||◌, Option, None, Some, is_some, if◌then◌else◌, refl}
-use Rattle.std.proofs.Common.{sym, ap}
+use Rattle.std.proofs.Common.{sym, ap, ◌∙◌}
 use Rattle.std.proofs.lemmas.Bool.{false≢true}
 use Rattle.dac_lattice.specs.Lattices.{IsLattice, IsIn}
 
@@ -23,6 +23,11 @@ pub at_alone : {V : Type 0} (join : V → V → V) (c d : Bool) (v : Option V) �
 at_alone join c d None h = refl
 at_alone join c true (Some v) h = absurd (false≢true (sym (h refl)))
 at_alone join c false (Some v) h = refl
+
+-- where a dot hasn't been heard of, nothing is asked of the value there
+pub at_unheard : {V : Type 0} (below : V → V → Type 0) (c : Bool) (v w : Option V) → (is_some w ≡ true → c ≡ false) → c ≡ true → StandsBelow below v w
+at_unheard below c v None h e = tt
+at_unheard below c v (Some w) h e = absurd (false≢true (sym (h refl) ∙ e))
 
 -- a value at a dot, which the context has if there is one
 abbrev pub Under : {V : Type 0} → (V → Type 0) → Bool → Option V → Type 0

@@ -113,4 +113,5 @@ set_laws = record {
   first = λ s c u x h k. absurd (false≢true (sym (set.contains-empty dot_cmp x) ∙ k));
   alone = λ s c d u h. set.same_set dots_total exact_dots (join_sets s c set.empty d) s (λ x.
       contains_join s c set.empty d x ∙ stays_alone (set.contains s x) (set.contains c x) (set.contains set.empty x) (set.contains d x) (set.contains-empty dot_cmp x) (h x));
+  unheard = λ s t c d h x held heard. absurd (false≢true (sym (h x held) ∙ heard));
 }

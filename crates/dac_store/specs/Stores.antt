@@ -47,6 +47,8 @@ pub record IsDotStore {S : Type 0} (is_store : S → Type 0) (has : S → Dot �
   pub first : (s : S) (c : Dots) → IsWithin is_store has s c → below nothing set.empty s c
   -- joined where none of a store's dots have been heard of, it leaves the store as it is
   pub alone : (s : S) (c d : Dots) → is_store s → IsUnheard (has s) d → join s c nothing d ≡ s
+  -- a store is above each that has heard of none of its dots
+  pub unheard : (s t : S) (c d : Dots) → IsUnheard (has t) c → below s c t d
 
 -- ---- a store beside its context is a lattice
 

@@ -208,6 +208,15 @@ impl<V: Lattice> DotStore for DotFun<V> {
         true
     }
 
+    fn is_unheard(&self, heard: &Context) -> bool {
+        for (dot, _) in &self.entries {
+            if heard.contains(*dot) {
+                return false;
+            }
+        }
+        true
+    }
+
     fn is_empty(&self) -> bool {
         self.entries.is_empty()
     }

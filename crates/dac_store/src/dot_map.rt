@@ -85,6 +85,10 @@ impl<K: MapKey, S: DotStore> DotMap<K, S> {
         ensures { IsTrue result
             ↔ S.below (store_at S.nothing (find K.cmp key self.now)) heard.now theirs.now other_heard.now }
     {
+        // Of most stores nothing was heard, and the own one need not be looked up.
+        if theirs.is_unheard(heard) {
+            return true;
+        }
         match self.get(key) {
             Some(mine) => mine.leq_in(heard, theirs, other_heard),
             None => S::empty(*self.entries.allocator()).leq_in(heard, theirs, other_heard),
@@ -106,6 +110,10 @@ impl<K: MapKey, S: DotStore> Combine<K, S> for JoinStores<'_> {
     ghost combined = { λ h _ v w. kept S.is_empty (S.join (store_at S.nothing v) h.mine.now (store_at S.nothing w) h.theirs.now) };
 
     fn left(&self, _key: K, mine: &S) -> Result<Option<S>, NoMemory> {
+        if mine.is_unheard(self.theirs) {
+            mine.known();
+            return Ok(kept(mine.copy()?));
+        }
         Ok(kept(mine.join_in(self.mine, &S::empty(self.alloc), self.theirs)?))
     }
 
@@ -197,6 +205,15 @@ impl<K: MapKey, S: DotStore> DotStore for DotMap<K, S> {
     fn within(&self, context: &Context) -> bool {
         for (_, store) in &self.entries {
             if !store.within(context) {
+                return false;
+            }
+        }
+        true
+    }
+
+    fn is_unheard(&self, heard: &Context) -> bool {
+        for (_, store) in &self.entries {
+            if !store.is_unheard(heard) {
                 return false;
             }
         }

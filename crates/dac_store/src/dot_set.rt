@@ -246,6 +246,15 @@ impl DotStore for DotSet {
         true
     }
 
+    fn is_unheard(&self, heard: &Context) -> bool {
+        for dot in self.dots() {
+            if heard.contains(*dot) {
+                return false;
+            }
+        }
+        true
+    }
+
     fn is_empty(&self) -> bool {
         self.dots().is_empty()
     }

@@ -2,7 +2,7 @@
 ghost use Rattle.std.specs.Prelude.{◌≡◌, ◌↔◌, Bool, IsTrue, IfOk};
 ghost use Rattle.dac_dots.specs.Dots.{Dots};
 ghost use Rattle.dac_dots.specs.declared.Dot.{Dot};
-ghost use Rattle.dac_store.specs.Stores.{IsDotStore, IsHeld};
+ghost use Rattle.dac_store.specs.Stores.{IsDotStore, IsHeld, IsUnheard};
 
 use dac_contexts::Context;
 use dac_dots::{Dot, NoMemory};
@@ -70,6 +70,10 @@ pub trait DotStore: Drop {
     /// Whether the context has each dot of the store.
     fn within(&self, context: &Context) -> bool
         ensures { IsTrue result ↔ IsHeld (has self.now) context.now };
+
+    /// Whether the store holds none of the dots that have been heard of.
+    fn is_unheard(&self, heard: &Context) -> bool
+        ensures { IsTrue result ↔ IsUnheard (has self.now) heard.now };
 
     /// Whether the store holds no dot.
     fn is_empty(&self) -> bool
