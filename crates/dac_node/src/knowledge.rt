@@ -20,15 +20,18 @@ use dac_rules::Moments;
 use dac_state::{Act, Op, State};
 use std::alloc::Global;
 use std::marker::Model;
+use std::sync::Arc;
 
 /// All that a controller keeps while it runs but the newest deltas. Its state knows the operation of its own boot, and it
 /// didn't tick before it was booted.
+///
+/// Ticks alone change its waits, so it shares them with what it is made into by other events.
 pub(crate) struct Knowledge {
     pub(crate) alloc: Global,
     pub(crate) origin: Origin,
     pub(crate) moments: Moments,
     pub(crate) is_open: bool,
-    pub(crate) waits: Waits,
+    pub(crate) waits: Arc<Waits, Global>,
     pub(crate) state: State,
     pub(crate) peers: Peers,
 }
@@ -49,6 +52,7 @@ impl Drop for Knowledge {
 }
 
 impl Model for Knowledge {
+    ghost use Rattle.std.specs.Arc.{arc_value};
     ghost use Rattle.dac_rules.specs.NodeValue.{IsSound};
     ghost use Rattle.dac_node.specs.Knowing.{KnowledgeValue, coded_knowledge};
 
@@ -56,7 +60,7 @@ impl Model for Knowledge {
 
     ghost coded = { coded_knowledge };
 
-    ghost view = { λ a. record { origin = a.origin; moments = a.moments; is_open = a.is_open; waits = a.waits; state = a.state; peers = a.peers } };
+    ghost view = { λ a. record { origin = a.origin; moments = a.moments; is_open = a.is_open; waits = arc_value a.waits; state = a.state; peers = a.peers } };
 
     ghost invariant = { λ a. IsSound a.origin a.moments a.state };
 }
@@ -86,7 +90,7 @@ impl Knowledge {
         let operation = up_of(origin);
         let delta = State::delta_of(alloc, &operation)?;
         let state = State::bottom(alloc).join(&delta)?;
-        let waits = Waits::new(alloc, config)?;
+        let waits = Arc::new(alloc, Waits::new(alloc, config)?)?;
         let knowledge = Knowledge {
             alloc,
             origin,
@@ -106,7 +110,7 @@ impl Knowledge {
     pub(crate) fn copy(&self) -> Result<Self, NoMemory>
         ensures { IfOk result (λ copied. copied ≡ self.now) }
     {
-        let waits = self.waits.copy()?;
+        let waits = Arc::try_clone(&self.waits)?;
         let state = self.state.copy()?;
         let peers = self.peers.copy()?;
         Ok(Knowledge {
@@ -124,7 +128,7 @@ impl Knowledge {
     pub(crate) fn with_peers(&self, peers: Peers) -> Result<Self, NoMemory>
         ensures { IfOk result (λ knowledge. knowledge ≡ joining self.now [] peers) }
     {
-        let waits = self.waits.copy()?;
+        let waits = Arc::try_clone(&self.waits)?;
         let state = self.state.copy()?;
         Ok(Knowledge {
             alloc: self.alloc,
@@ -141,7 +145,7 @@ impl Knowledge {
     pub(crate) fn joined(&self, other: &State, peers: Peers) -> Result<Self, NoMemory>
         ensures { IfOk result (λ knowledge. knowledge ≡ joining self.now (other.now ∷ []) peers) }
     {
-        let waits = self.waits.copy()?;
+        let waits = Arc::try_clone(&self.waits)?;
         let state = self.state.join(other)?;
         Ok(Knowledge {
             alloc: self.alloc,

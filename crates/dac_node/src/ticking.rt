@@ -24,6 +24,7 @@ use dac_rules::Moments;
 use dac_rules::dac_ticks::{Turn, tick as turn};
 use dac_state::{Op, State};
 use std::alloc::Global;
+use std::sync::Arc;
 
 /// What a tick that isn't refused does at a running controller. Where it gives up, that takes no memory.
 pub(crate) fn tick(config: &Config, last: u64, run: &Running, now: u64) -> Result<Change, NoMemory>
@@ -137,6 +138,7 @@ impl Knowledge {
         ensures { IfOk result (λ next. next ≡ ticking self.now now is_open waits deltas.items) }
     {
         let peers = self.peers.copy()?;
+        let waits = Arc::new(self.alloc, waits)?;
         let knowledge = Knowledge {
             alloc: self.alloc,
             origin: self.origin,
