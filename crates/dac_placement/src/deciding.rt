@@ -1,8 +1,9 @@
 //! The verdict.
-ghost use Rattle.std.specs.Prelude.{◌≡◌, ◌<◌, ◌↔◌, IsTrue};
+ghost use Rattle.std.specs.Prelude.{◌≡◌, ◌<◌, ◌↔◌, ◌&&◌, false, IsTrue, IfSome};
 ghost use Rattle.dac_config.specs.Table.{app_count};
-ghost use Rattle.dac_placement.specs.Placement.{IsEarlier, IsVerdict, verdict_of, verdict_by, is_earlier};
+ghost use Rattle.dac_placement.specs.Placement.{EachEligible, IsEarlier, IsVerdict, first_choice, is_eligible, verdict_of, verdict_by, is_earlier};
 
+use crate::eligibility::eligible;
 use crate::ranking::first_choice;
 use crate::standing::{Standing, standing_of};
 use crate::verdicts::Verdict;
@@ -20,8 +21,46 @@ pub fn verdict(config: &Config, state: &State, app: AppId) -> Verdict
     ensures cases { IsVerdict config.now state.now app result }
 {
     let standing = standing_of(config, state, app);
+    if let Some(verdict) = settled(config, state, app, standing) {
+        return verdict;
+    }
     let first = first_choice(config, state, app);
     verdict_by(config, app, standing, first)
+}
+
+/// The verdict, where the application stands so and no load is asked for it.
+fn settled(config: &Config, state: &State, app: AppId, standing: Standing) -> Option<Verdict>
+    requires { app.0 < app_count config.now }
+    ensures { IfSome result (λ verdict. verdict ≡ verdict_by config.now app standing (first_choice config.now state.now app)) }
+{
+    match standing {
+        Standing::Stopped(holder) => Some(Verdict::Halted(holder)),
+        Standing::Upheld(holder) if !has_earlier(config, state, app, holder) => Some(Verdict::Kept(
+            holder,
+        )),
+        _ => None,
+    }
+}
+
+/// Whether an eligible node's group is earlier than that of the holder.
+fn has_earlier(config: &Config, state: &State, app: AppId, holder: NodeId) -> bool
+    requires { app.0 < app_count config.now }
+    ensures { result ≡ false → EachEligible config.now state.now app (λ m. ¬ IsEarlier config.now app m holder) }
+{
+    for number in 0..config.nodes() {
+        if comes_before(config, state, app, NodeId(number), holder) {
+            return true;
+        }
+    }
+    false
+}
+
+/// Whether a node is eligible and its group is earlier than that of the holder.
+fn comes_before(config: &Config, state: &State, app: AppId, node: NodeId, holder: NodeId) -> bool
+    requires { app.0 < app_count config.now }
+    ensures { result ≡ (is_earlier config.now app node holder && is_eligible config.now state.now app node) }
+{
+    is_earlier(config, app, node, holder) && eligible(config, state, app, node)
 }
 
 /// The verdict, where the application stands so and this is the first choice for it.

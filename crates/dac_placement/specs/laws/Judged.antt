@@ -1,7 +1,7 @@
 -- How an application stands and its first choice give the verdict in words.
-use Rattle.std.proofs.Common.{◌≡◌, ◌↔◌, ℕ, ◌<◌, ◌≤◌, true, false, cond, Option, Some, None, refl, sym, ◌∙◌, arith, inl, inr}
+use Rattle.std.proofs.Common.{◌≡◌, ◌↔◌, ℕ, ◌<◌, ◌≤◌, true, false, cond, Option, Some, None, refl, sym, ap, ◌∙◌, arith, inl, inr}
 use Rattle.std.specs.Prelude.{MatchOption, nat_lt, is_some}
-use Rattle.std.proofs.lemmas.Bool.{true≢false, false≢true, ltb-true, ltb-false, lt-ltb}
+use Rattle.std.proofs.lemmas.Bool.{true≢false, false≢true, false_from_ne_true, ltb-true, ltb-false, lt-ltb}
 use Rattle.dac_base.specs.declared.NodeId.{NodeId}
 use Rattle.dac_base.specs.declared.AppId.{AppId}
 use Rattle.dac_config.specs.Table.{Table, group_of}
@@ -64,3 +64,8 @@ verdict_is table s app Barred None stands none = (none, inr (inr stands))
 
 pub verdict_in_words : (table : Table) (s : StateValue) (app : AppId) → IsVerdict table s app (verdict_of table s app)
 verdict_in_words table s app = verdict_is table s app (standing_of table s app) (first_choice table s app) (standing_is table s app) (first_is table s app)
+
+-- where no eligible node is of an earlier group than the holder's, all stays as it is, whoever is the first choice
+pub kept_by : (table : Table) (s : StateValue) (app : AppId) (holder : NodeId) (first : Option NodeId) → IsChoice table s app first → EachEligible table s app (λ m. ¬ IsEarlier table app m holder) → verdict_by table app (Upheld holder) first ≡ Kept holder
+kept_by table s app holder None is none = refl
+kept_by table s app holder (Some n) is none = ap (λ b. cond b (Takeover n) (Kept holder)) (false_from_ne_true (is_earlier table app n holder) (λ e. none n is.node is.eligible (earlier_if table app n holder e)))
