@@ -5,5 +5,7 @@ pub mod Staying
 pub mod Worked
 pub mod WorldRounds
 pub mod WorkedRun
+pub mod WorkedLoss
+pub mod Admitting
 pub mod laws
 pub use Rattle.dac_worlds.specs as dac_worlds
