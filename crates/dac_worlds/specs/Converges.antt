@@ -13,6 +13,7 @@ use Rattle.dac_worlds.specs.Uniting.{AllUnite}
 use Rattle.dac_worlds.specs.News.{AnswersNews}
 use Rattle.dac_worlds.specs.Fits.{HearsAllThatFits, no_deltas}
 use Rattle.dac_worlds.specs.Addressed.{AreAddressed}
+use Rattle.dac_worlds.specs.UpToDate.{TellUpToDate}
 use Rattle.dac_worlds.specs.Causality.{HandsNothing, IsCausal}
 use Rattle.dac_worlds.specs.Records.{HaveHistories}
 
@@ -42,6 +43,9 @@ pub record Converges (t : Table) (events : List WorldEvent) (answers : List (Res
   pub heard : HearsAllThatFits no_sets no_deltas events answers
   -- each ship that isn't refused is answered by a message to the node that it names
   pub addressed : AreAddressed events answers
+  -- A ship that is refused as up to date is to a node that has all of the sender's set, while it runs as the incarnation
+  -- of its life there.
+  pub up_to_date : TellUpToDate no_sets events answers
   -- where no single operation is handed, each controller has heard what is causally before what it heard, and the maximal writes stand
   pub causal : HandsNothing events answers → IsCausal v (set_run no_sets events answers)
   -- what happened at each controller is a history of it, from never booted to where the run leaves it

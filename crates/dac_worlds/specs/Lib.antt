@@ -8,6 +8,7 @@ pub mod Uniting
 pub mod News
 pub mod Fits
 pub mod Addressed
+pub mod UpToDate
 pub mod Convergence
 pub mod Causality
 pub mod Records

@@ -12,6 +12,7 @@ pub mod UnitingInRuns
 pub mod FewInRuns
 pub mod HeardInRuns
 pub mod AddressedInRuns
+pub mod UpToDateInRuns
 pub mod Replacing
 pub mod ClosedSets
 pub mod Standing

@@ -32,6 +32,7 @@ use Rattle.dac_worlds.specs.laws.UnitingInRuns.{unite_run}
 use Rattle.dac_worlds.specs.laws.NewsOfRuns.{news_run}
 use Rattle.dac_worlds.specs.laws.HeardInRuns.{heard_run}
 use Rattle.dac_worlds.specs.laws.AddressedInRuns.{addressed_run}
+use Rattle.dac_worlds.specs.laws.UpToDateInRuns.{up_to_date_run}
 use Rattle.dac_worlds.specs.laws.CausalRuns.{causal_run, causal_start}
 use Rattle.dac_worlds.specs.laws.CausalityInRuns.{is_causal}
 use Rattle.dac_worlds.specs.laws.Runs.{node_there}
@@ -128,6 +129,7 @@ converged t events answers v r =
       news = news_run t (start t) no_sets events answers r.final (sound_start t) r.run;
       heard = heard_run t events answers r.final r.run;
       addressed = addressed_run t (start t) no_sets events answers r.final (sound_start t) r.run;
+      up_to_date = up_to_date_run t (start t) no_sets events answers r.final (sound_start t) r.run;
       causal = λ unhanded. is_causal v r.final all sets h (causal_run t (start t) no_sets events answers r.final (sound_start t) causal_start r.run unhanded);
       histories = have_histories t events answers v r;
     }
