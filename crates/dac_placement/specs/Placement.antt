@@ -3,7 +3,7 @@
 -- its list that is up. Within a tuple that is the one that runs the fewest. When its node goes down, it fails over. A
 -- stopped application isn't moved, and a forbidden one is. A node of an earlier group takes it over from a later one.
 -- (This project's own: wishes and permissions are of one incarnation, and a tie goes by name.)
-use Rattle.std.specs.Prelude.{◌≡◌, ◌⊎◌, ℕ, ◌<◌, ◌≤◌, Bool, false, not, ◌&&◌, ◌==◌, nat_lt, List, length, map as list_map, filter, Option, None, Some, IsSome, is_some, if◌then◌else◌}
+use Rattle.std.specs.Prelude.{◌≡◌, ◌⊎◌, ◌↔◌, ℕ, ◌<◌, ◌≤◌, Bool, false, not, ◌&&◌, ◌==◌, nat_lt, List, [], ◌∷◌, length, map as list_map, filter, Option, None, Some, IsSome, is_some, if◌then◌else◌}
 use Rattle.std.specs.List.{range_with_len, filter_map, reduce}
 use Rattle.std.specs.Option.{option_map, option_map_or, option_and_then}
 use Rattle.std.specs.Ordering.{ord_min}
@@ -88,6 +88,12 @@ EachEligible table s app P = (node : NodeId) → node.0 < node_count table → I
 abbrev pub holder_of : StateValue → AppId → Option Origin
 holder_of s app = option_map (λ (claim : Claim). claim.origin) (map.get s.claims app)
 
+-- the same, in words: this incarnation made the greatest claim of the application, whether it is live or not
+pub record IsHolder (s : StateValue) (app : AppId) (o : Origin) : Type 0 where
+  pub claim : Claim
+  pub greatest : map.get s.claims app ≡ Some claim
+  pub claimer : claim.origin ≡ o
+
 -- the incarnation is live
 abbrev pub IsUp : StateValue → Origin → Type 0
 IsUp s o = IsLive s.lives o.node o.inc
@@ -118,6 +124,23 @@ apps_of table = list_map (λ n. record { 0 = n }) (range_with_len 0 (app_count t
 -- how many other applications run at the node
 abbrev pub load_of : Table → StateValue → AppId → NodeId → ℕ
 load_of table s app node = length (filter (λ other. not (other.0 == app.0) && runs_at table s other node) (apps_of table))
+
+-- the application is one of these
+abbrev pub IsOneOf : AppId → List AppId → Type 0
+IsOneOf app [] = ⊥
+IsOneOf app (a ∷ apps) = (a ≡ app) ⊎ IsOneOf app apps
+
+-- none stands there twice
+abbrev pub AreDistinct : List AppId → Type 0
+AreDistinct [] = Unit {0}
+AreDistinct (a ∷ apps) = ¬ IsOneOf a apps × AreDistinct apps
+
+-- n is the load in words: there are so many applications of the configuration, other than this one, that run at the node
+pub record IsLoad (table : Table) (s : StateValue) (app : AppId) (node : NodeId) (n : ℕ) : Type 0 where
+  pub apps : List AppId
+  pub distinct : AreDistinct apps
+  pub each : (other : AppId) → IsOneOf other apps ↔ ((other.0 < app_count table) × ¬ (other ≡ app) × RunsAt table s other node)
+  pub count : n ≡ length apps
 
 -- ---- who is first
 

@@ -1,4 +1,5 @@
 pub mod Tests
+pub mod Loads
 pub mod Standing
 pub mod Least
 pub mod FirstChoice

@@ -1,9 +1,9 @@
 //! Who holds an application, and where it runs.
-ghost use Rattle.std.specs.Prelude.{◌≡◌, ◌↔◌, ◌<◌, IsTrue};
-ghost use Rattle.dac_base.specs.declared.AppId.{AppId as App};
+ghost use Rattle.std.specs.Prelude.{◌≡◌, ◌↔◌, ◌<◌, IsTrue, Some};
 ghost use Rattle.dac_base.specs.declared.NodeId.{NodeId as Node};
+ghost use Rattle.dac_dots.specs.declared.dot.Origin.{Origin as Incarnation};
 ghost use Rattle.dac_config.specs.Table.{app_count};
-ghost use Rattle.dac_placement.specs.Placement.{holder_of, IsUp, is_up, RunsAt, runs_at, runner_of, load_of};
+ghost use Rattle.dac_placement.specs.Placement.{holder_of, IsHolder, IsUp, is_up, RunsAt, runs_at, runner_of, load_of, IsLoad};
 
 use crate::eligibility::eligible;
 use dac_base::{AppId, NodeId};
@@ -17,9 +17,8 @@ use dac_state::State;
 /// It takes no memory.
 pub fn load(config: &Config, state: &State, app: AppId, node: NodeId) -> u32
     ensures value { result ≡ load_of config.now state.now app node }
-    // what is counted
-    ensures runs { (other : App) → other.0 < app_count config.now
-        → IsTrue (runs_at config.now state.now other node) ↔ RunsAt config.now state.now other node }
+    // so many others run there
+    ensures words { IsLoad config.now state.now app node result }
 {
     let mut load = 0;
     for number in 0..config.apps() {
@@ -64,7 +63,8 @@ pub fn runner(config: &Config, state: &State, app: AppId) -> Option<NodeId>
 /// Who holds an application: the origin of its greatest claim. In a state that no operation made, this may be
 /// no node of the configuration. It takes no memory.
 pub fn holder(state: &State, app: AppId) -> Option<Origin>
-    ensures { result ≡ holder_of state.now app }
+    ensures value { result ≡ holder_of state.now app }
+    ensures cases { (origin : Incarnation) → (result ≡ Some origin) ↔ IsHolder state.now app origin }
 {
     let claim = state.claims().greatest(app)?;
     Some(claim.origin)

@@ -1,0 +1,137 @@
+-- The load in words.
+use Rattle.std.proofs.Common.{◌≡◌, ◌⊎◌, ℕ, ◌<◌, ◌≤◌, ◌+◌, Bool, true, false, cond, ◌&&◌, not, List, ◌∷◌, Option, Some, None, zero, suc, inl, inr, refl, sym, ap, subst, ◌∙◌, arith}
+use Rattle.std.specs.Prelude.{◌↔◌, ◌==◌, filter, map as list_map}
+use Rattle.std.specs.List.{range_with_len}
+use Rattle.std.specs.Option.{option_map}
+use Rattle.std.specs.FinMap as map
+use Rattle.std.proofs.lemmas.Bool.{true≢false, and_parts, and_from, eqb-true, eq-eqb}
+use Rattle.dac_base.specs.declared.NodeId.{NodeId}
+use Rattle.dac_base.specs.declared.AppId.{AppId}
+use Rattle.dac_dots.specs.declared.dot.Origin.{Origin}
+use Rattle.dac_config.specs.Table.{Table, app_count}
+use Rattle.dac_chains.specs.declared.claims.Claim.{Claim}
+use Rattle.dac_state.specs.StateValue.{StateValue}
+use Rattle.dac_placement.specs.Placement.{runs_at, holder_of, IsHolder, load_of, IsOneOf, AreDistinct, IsLoad}
+use Rattle.dac_placement.specs.laws.Tests.{runs_is}
+
+-- ---- numbers that pass a test
+numbered : ℕ → AppId
+numbered n = record { 0 = n }
+
+numbered_is : (b : AppId) → numbered b.0 ≡ b
+unfolding numbered
+numbered_is b = refl
+
+number_is : (n : ℕ) (b : AppId) → numbered n ≡ b → n ≡ b.0
+unfolding numbered
+number_is n b e = ap (λ (k : AppId). k.0) e
+
+module _ (p : AppId → Bool) where
+  passing : ℕ → ℕ → List AppId
+  passing a n = filter p (list_map numbered (range_with_len a n))
+
+  record Found (a n : ℕ) (b : AppId) : Type 0 where
+    from : a ≤ b.0
+    before : b.0 < a + n
+    passes : p b ≡ true
+
+  at_first : (a n : ℕ) (b : AppId) → a ≡ b.0 → p (numbered a) ≡ true → Found a (suc n) b
+  at_first a n b e t = record { from = omega arith; before = omega arith; passes = subst (λ k. p k ≡ true) (ap numbered e ∙ numbered_is b) t }
+
+  further : (a n : ℕ) (b : AppId) → Found (a + 1) n b → Found a (suc n) b
+  further a n b f = let from = f.from in let before = f.before in record { from = omega arith; before = omega arith; passes = f.passes }
+
+  found : (a n : ℕ) (b : AppId) → IsOneOf b (passing a n) → Found a n b
+  unfolding passing
+  found a zero b h = absurd h
+  found a (suc n) b h = elim (p (numbered a)) as (λ t. p (numbered a) ≡ t → IsOneOf b (cond t (numbered a ∷ passing (a + 1) n) (passing (a + 1) n)) → Found a (suc n) b) [
+    | true ↦ λ t h. elim h [ inl same ↦ at_first a n b (number_is a b same) t | inr more ↦ further a n b (found (a + 1) n b more) ]
+    | false ↦ λ _ h. further a n b (found (a + 1) n b h)
+  ] refl h
+
+  finds : (a n : ℕ) (b : AppId) → a ≤ b.0 → b.0 < a + n → p b ≡ true → IsOneOf b (passing a n)
+  unfolding passing
+  finds a zero b from before t = absurd (nowhere a b.0 from before)
+    where
+      nowhere : (a m : ℕ) → a ≤ m → m < a + 0 → ⊥
+      nowhere a m h k = omega arith
+  finds a (suc n) b from before t = elim (p (numbered a)) as (λ s. p (numbered a) ≡ s → IsOneOf b (cond s (numbered a ∷ passing (a + 1) n) (passing (a + 1) n))) [
+    | true ↦ λ _. elim (first_or_later a n b.0 from before) [
+      | inl same ↦ inl (ap numbered same ∙ numbered_is b)
+      | inr later ↦ inr (finds (a + 1) n b later.0 later.1 t)
+    ]
+    | false ↦ λ fails. elim (first_or_later a n b.0 from before) [
+      | inl same ↦ absurd (true≢false (sym (subst (λ k. p k ≡ true) (sym (ap numbered same ∙ numbered_is b)) t) ∙ fails))
+      | inr later ↦ finds (a + 1) n b later.0 later.1 t
+    ]
+  ] refl
+    where
+      first_or_later : (a n m : ℕ) → a ≤ m → m < a + suc n → (a ≡ m) ⊎ ((a + 1 ≤ m) × (m < a + 1 + n))
+      first_or_later a n m from before = elim (m == a) as (λ b. (m == a) ≡ b → (a ≡ m) ⊎ ((a + 1 ≤ m) × (m < a + 1 + n))) [
+        | true ↦ λ e. inl (sym (eqb-true m a e))
+        | false ↦ λ e. let apart : m ≡ a → ⊥ = λ same. true≢false (sym (eq-eqb m a same) ∙ e) in inr (above a m from apart, omega arith)
+      ] refl
+        where
+          above : (a m : ℕ) → a ≤ m → (m ≡ a → ⊥) → a + 1 ≤ m
+          above a m h apart = omega (arith, apart)
+
+  distinct : (a n : ℕ) → AreDistinct (passing a n)
+  unfolding passing
+  distinct a zero = tt
+  distinct a (suc n) = elim (p (numbered a)) as (λ t. AreDistinct (cond t (numbered a ∷ passing (a + 1) n) (passing (a + 1) n))) [
+    | true ↦ (λ again. not_again a (numbered a).0 (found (a + 1) n (numbered a) again).from (number_is a (numbered a) refl), distinct (a + 1) n)
+    | false ↦ distinct (a + 1) n
+  ]
+    where
+      not_again : (a m : ℕ) → a + 1 ≤ m → a ≡ m → ⊥
+      not_again a m h e = omega arith
+
+-- ---- the load
+not_same : (a b : AppId) → not (a.0 == b.0) ≡ true → a ≡ b → ⊥
+not_same a b t e = true≢false (sym t ∙ ap not (eq-eqb a.0 b.0 (ap (λ (k : AppId). k.0) e)))
+
+apart : (a b : AppId) → (a ≡ b → ⊥) → not (a.0 == b.0) ≡ true
+apart a b f = elim (a.0 == b.0) as (λ t. (a.0 == b.0) ≡ t → not t ≡ true) [
+  | true ↦ λ e. absurd (f (ap (λ n. record { 0 = n }) (eqb-true a.0 b.0 e)))
+  | false ↦ λ _. refl
+] refl
+
+plain : (m n : ℕ) → m < 0 + n → m < n
+plain m n h = omega arith
+
+wide : (m n : ℕ) → m < n → m < 0 + n
+wide m n h = omega arith
+
+from_none : (m : ℕ) → 0 ≤ m
+from_none m = omega arith
+
+pub load_is : (table : Table) (s : StateValue) (app : AppId) (node : NodeId) → IsLoad table s app node (load_of table s app node)
+unfolding passing numbered
+load_is table s app node =
+    let p : AppId → Bool = λ other. not (other.0 == app.0) && runs_at table s other node in
+    record {
+      apps = passing p 0 (app_count table);
+      distinct = distinct p 0 (app_count table);
+      each = λ other. (
+        λ h.
+            let f = found p 0 (app_count table) other h in
+            let both = and_parts _ _ f.passes in
+            (plain other.0 (app_count table) f.before, not_same other app both.0, (runs_is table s other node).0 both.1),
+        λ h. finds p 0 (app_count table) other (from_none other.0) (wide other.0 (app_count table) h.0) (and_from _ _ (apart other app h.1) ((runs_is table s other node).1 h.2)),
+      );
+      count = refl;
+    }
+
+-- ---- the holder
+pub holder_is : (s : StateValue) (app : AppId) (o : Origin) → (holder_of s app ≡ Some o) ↔ IsHolder s app o
+holder_is s app o = (by_claim (map.get s.claims app) refl, λ h. ap (option_map (λ (claim : Claim). claim.origin)) h.greatest ∙ ap (λ p. Some p) h.claimer)
+  where
+    one : {p q : Origin} → ◌≡◌ {A = Option Origin} (Some p) (Some q) → p ≡ q
+    one e = cc
+
+    none : {X : Type 0} → ◌≡◌ {A = Option Origin} None (Some o) → X
+    none e = cc
+
+    by_claim : (c : Option Claim) → map.get s.claims app ≡ c → option_map (λ (claim : Claim). claim.origin) c ≡ Some o → IsHolder s app o
+    by_claim None is h = none h
+    by_claim (Some claim) is h = record { claim = claim; greatest = is; claimer = one h }
