@@ -5,12 +5,20 @@ use Rattle.dac_base.specs.declared.AppId.{AppId}
 use Rattle.dac_config.specs.Table.{Table, app_count}
 use Rattle.dac_chains.specs.declared.claims.Claim.{Claim}
 use Rattle.dac_placement.specs.StateValue.{StateValue}
+use Rattle.dac_base.specs.declared.NodeId.{NodeId}
+use Rattle.dac_placement.specs.declared.verdicts.Verdict.TheVariants.{Failover}
+use Rattle.dac_placement.specs.Placement.{IsFirst, IsVerdict}
 use Rattle.dac_decide.specs.FailoverWait.{Note, IsLost, lost_in, IsNotedSince, noted_of, noted_at, waits_of, IsDue, is_due}
 use Rattle.dac_decide.specs.StartGate.{IsOpening, opening_of}
 
 -- which claim of an application is lost
 abbrev pub LostInWords : Type 0
 LostInWords = (s : StateValue) (app : AppId) (claim : Claim) → (lost_in s app ≡ Some claim) ↔ IsLost s app claim
+
+-- The verdict is a failover exactly where the application's greatest claim is lost and there is a first choice. So no start
+-- takes the place of a failover, and of its wait.
+abbrev pub LostFailsOver : Type 0
+LostFailsOver = (table : Table) (s : StateValue) (app : AppId) (n : NodeId) → IsVerdict table s app (Failover n) ↔ (((claim : Claim) × IsLost s app claim) × IsFirst table s app n)
 
 -- which lost claim is noted, and since when
 abbrev pub RowsInWords : Type 0

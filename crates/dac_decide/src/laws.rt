@@ -1,5 +1,5 @@
 //! The laws of waits and of the start gate, each as a clause of a function that does nothing.
-ghost use Rattle.dac_decide.specs.InWords.{DueInWords, LostInWords, NotesAreKept, OpeningInWords, RowsInWords};
+ghost use Rattle.dac_decide.specs.InWords.{DueInWords, LostFailsOver, LostInWords, NotesAreKept, OpeningInWords, RowsInWords};
 
 /// Waits and the start gate compute what they say in words. They do so for every list of notes and every state, also
 /// one that no operation made. The words say which claim is lost, and since when the unbroken row of notes found it
@@ -7,6 +7,7 @@ ghost use Rattle.dac_decide.specs.InWords.{DueInWords, LostInWords, NotesAreKept
 /// application.
 pub fn waits_in_words()
     ensures lost { LostInWords }
+    ensures fails_over { LostFailsOver }
     ensures rows { RowsInWords }
     ensures due { DueInWords }
     ensures opening { OpeningInWords }

@@ -3,6 +3,7 @@ use Rattle.dac_decide.specs.laws.Rows.{noted, noted_to, to_noted}
 use Rattle.dac_decide.specs.laws.Due.{due_to_words}
 use Rattle.dac_decide.specs.laws.AllUp.{opening_is}
 use Rattle.dac_decide.specs.laws.Kept.{length_waits, kept_is}
+use Rattle.dac_decide.specs.laws.FailsOver.{lost_fails_over}
 use Rattle.dac_decide.proofs.laws.waits_in_words.Goals as goal
 
 pub returns-clause-lost : goal.returns-clause-lost
@@ -19,3 +20,6 @@ returns-clause-opening c = opening_is
 
 pub returns-clause-kept : goal.returns-clause-kept
 returns-clause-kept c = λ table notes. (length_waits table notes, kept_is table notes)
+
+pub returns-clause-fails_over : goal.returns-clause-fails_over
+returns-clause-fails_over c = lost_fails_over
