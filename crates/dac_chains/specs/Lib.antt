@@ -2,5 +2,6 @@ pub mod Greatest
 pub mod Kept
 pub mod Lives
 pub mod Claims
+pub mod Orders
 pub mod Hows
 pub mod laws

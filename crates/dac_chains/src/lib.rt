@@ -11,4 +11,5 @@ pub use claims::{Claim, ClaimAct, Claims, How};
 pub use lives::{Life, LifeAct, Lives};
 
 mod claims;
+pub mod laws;
 mod lives;
