@@ -14,6 +14,7 @@ use Rattle.dac_worlds.specs.News.{AnswersNews}
 use Rattle.dac_worlds.specs.Fits.{HearsAllThatFits, no_deltas}
 use Rattle.dac_worlds.specs.Addressed.{AreAddressed}
 use Rattle.dac_worlds.specs.UpToDate.{TellUpToDate}
+use Rattle.dac_worlds.specs.Issuing.{TellIssued}
 use Rattle.dac_worlds.specs.Causality.{HandsNothing, IsCausal}
 use Rattle.dac_worlds.specs.Records.{HaveHistories}
 
@@ -31,6 +32,9 @@ pub record Converges (t : Table) (events : List WorldEvent) (answers : List (Res
   pub sets : HoldsSets v (set_run no_sets events answers)
   -- what was issued is what the world of sets lists, and it has a copy for each message
   pub listed : ListsAll v (set_run no_sets events answers)
+  -- What a node issues is of its present incarnation, under a counter above those that it used. A boot issues one Up, the
+  -- first operation of an incarnation of its node that is later than all before.
+  pub issued : TellIssued no_sets events answers
   -- each shipped message carries the meaning of a set of issued operations
   pub bodies : CarryMeanings v
   -- Each shipped message puts a copy of its sender's whole set on its way. Each delivery unites the receiver's set

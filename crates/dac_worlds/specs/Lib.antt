@@ -10,6 +10,7 @@ pub mod Fits
 pub mod Addressed
 pub mod UpToDate
 pub mod Convergence
+pub mod Issuing
 pub mod Causality
 pub mod Records
 pub mod Converges

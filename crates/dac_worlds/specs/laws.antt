@@ -13,6 +13,7 @@ pub mod FewInRuns
 pub mod HeardInRuns
 pub mod AddressedInRuns
 pub mod UpToDateInRuns
+pub mod IssuingInRuns
 pub mod Replacing
 pub mod ClosedSets
 pub mod Standing

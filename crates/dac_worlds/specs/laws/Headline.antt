@@ -33,6 +33,7 @@ use Rattle.dac_worlds.specs.laws.NewsOfRuns.{news_run}
 use Rattle.dac_worlds.specs.laws.HeardInRuns.{heard_run}
 use Rattle.dac_worlds.specs.laws.AddressedInRuns.{addressed_run}
 use Rattle.dac_worlds.specs.laws.UpToDateInRuns.{up_to_date_run}
+use Rattle.dac_worlds.specs.laws.IssuingInRuns.{issued_run}
 use Rattle.dac_worlds.specs.laws.CausalRuns.{causal_run, causal_start}
 use Rattle.dac_worlds.specs.laws.CausalityInRuns.{is_causal}
 use Rattle.dac_worlds.specs.laws.Runs.{node_there}
@@ -124,6 +125,7 @@ converged t events answers v r =
       distinct = subst DistinctDots (sym r.shows.operations) h.distinct;
       sets = sets;
       listed = lists_all t r.final v all r.shows h;
+      issued = issued_run t (start t) no_sets events answers r.final (sound_start t) r.run;
       bodies = carry_meanings t r.final v all r.shows h;
       unite = unite_run t (start t) no_sets events answers r.final (sound_start t) r.run;
       news = news_run t (start t) no_sets events answers r.final (sound_start t) r.run;
