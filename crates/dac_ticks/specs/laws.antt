@@ -5,3 +5,5 @@ pub mod FirstNode
 pub mod Words
 pub mod Claimed
 pub mod Again
+pub mod Effects
+pub mod TakesEffect

@@ -9,7 +9,7 @@ use Rattle.dac_base.specs.declared.limits.TheConstants.{MAX_COUNTER}
 use Rattle.dac_base.specs.declared.NodeId.{NodeId}
 use Rattle.dac_base.specs.declared.AppId.{AppId}
 use Rattle.dac_dots.specs.declared.dot.Origin.{Origin}
-use Rattle.dac_config.specs.Table.{Table, app_count, timeout_of}
+use Rattle.dac_config.specs.Table.{Table, node_count, app_count, timeout_of}
 use Rattle.dac_chains.specs.declared.claims.Claim.{Claim}
 use Rattle.dac_chains.specs.Lives.{IsLive, Lives}
 use Rattle.dac_chains.specs.Claims.{Claims}
@@ -22,7 +22,7 @@ use Rattle.dac_meaning.specs.StateValue.{StateValue, IsState, join}
 use Rattle.dac_meaning.specs.Meaning.{meaning_of}
 use Rattle.dac_placement.specs.declared.verdicts.Verdict.{Verdict}
 use Rattle.dac_placement.specs.declared.verdicts.Verdict.TheVariants.{Start, Failover, Halted, Move, Takeover, Kept, Nobody}
-use Rattle.dac_placement.specs.Placement.{EachEligible, IsEligible, is_eligible, IsEarlier, IsUp, is_up, IsAllowedAt, key_at, runs_at, load_of, apps_of, IsFirst, first_choice, holder_of, key_of, standing_of, IsVerdict, verdict_by, verdict_of, candidate_of}
+use Rattle.dac_placement.specs.Placement.{EachEligible, IsEligible, is_eligible, IsEarlier, IsUp, is_up, IsAllowedAt, IsPermittedAt, IsStartedAt, key_at, runs_at, load_of, apps_of, IsFirst, first_choice, holder_of, key_of, standing_of, IsVerdict, verdict_by, verdict_of, candidate_of}
 use Rattle.dac_placement.specs.laws.Tests.{eligible_is, runs_is}
 use Rattle.dac_placement.specs.laws.FirstChoice.{first_is}
 use Rattle.dac_placement.specs.laws.Judged.{verdict_in_words}
@@ -59,6 +59,14 @@ SecondTickClaimsNothing = (t : Table) (own : Origin) (notes : List Note) (now : 
     → let first = tick_of t own notes now s in
     let second = tick_of t own (noting s now notes) now first.state in
     (second.ops ≡ []) × ((second.state ≡ first.state) × ((app : AppId) → IsAmong app second.passed → IsAmong app first.passed))
+
+-- What an incarnation that is live claims, it has. The application runs at its node in the state that the claim leaves, and the
+-- verdict is that it is kept there.
+abbrev pub ClaimsAreKept : Type 0
+ClaimsAreKept = (t : Table) (own : Origin) (waits : List (Option Noted)) (now : ℕ) (s : StateValue) (app : AppId) → IsState s → IsLive s.lives own.node own.inc
+    → is_mine t own waits now s app ≡ true
+    → let left = join s (meaning_of (claim_of t own s app ∷ [])) in
+    (verdict_of t left app ≡ Kept own.node) × (runs_at t left app own.node ≡ true)
 
 -- ---- lists
 
@@ -506,3 +514,33 @@ pub second_tick : SecondTickClaimsNothing
 second_tick t own notes now s is live =
     let all = idle t own notes now s is live (app_count t) (omega arith) in
     (all.ops, (all.state, all.passed))
+
+-- ---- what is claimed is kept
+
+module _ (t : Table) (own : Origin) (s : StateValue) (up : IsUp s own) (app : AppId) (takes : Takes t own s app) (there : own.node.0 < node_count t) where
+  abbrev key_mine : (o : Origin) → own ≡ o → Type 0
+  key_mine o e = IsStartedAt s (key_of app o)
+
+  started : IsStartedAt s (key_at app own.node own.inc)
+  started = subst (λ inc. IsStartedAt s (key_at app own.node inc)) (inc_is t own s up app takes) takes.eligible.started
+
+  node_is : (o : Origin) (n : NodeId) → own ≡ o → o.node ≡ n → n ≡ own.node
+  node_is o n e is = sym is ∙ ap (λ (p : Origin). p.node) (sym e)
+
+  kept_here : (verdict : Verdict) → IsVerdict t s app verdict → verdict ≡ Kept own.node
+  kept_here (Start n) is = absurd (false≢true (ap is_some (sym is.0 ∙ takes.holder)))
+  kept_here (Failover n) is = absurd (is.0.2 (subst (IsUp s) (holder_is t own s up app takes is.0.0 is.0.1) up))
+  kept_here (Halted n) is = absurd (is.2.2 (subst (λ (o : Origin). IsStartedAt s (key_of app o)) (holder_is t own s up app takes is.0 is.1) started))
+  kept_here (Move n) is = absurd (is.0.2.2 (subst (λ (o : Origin). IsPermittedAt t s (key_of app o)) (holder_is t own s up app takes is.0.0 is.0.1) (permitted t own s up app takes)))
+  kept_here (Takeover n) is = absurd (takes.earliest n is.2.node is.2.eligible (subst (λ m. IsEarlier t app n m) (sym (ap (λ (o : Origin). o.node) (holder_is t own s up app takes is.1.0 is.1.1) ∙ is.1.2.0)) is.3))
+  kept_here (Kept n) is = ap (λ m. Kept m) (node_is is.0.0 n (holder_is t own s up app takes is.0.0 is.0.1) is.0.2.0)
+  kept_here Nobody is = absurd (is.0 own.node there takes.eligible)
+
+pub claims_are_kept : ClaimsAreKept
+claims_are_kept t own noted now s app is live mine =
+    let named = own_if own (candidate_of (verdict_of t s app)) (and_parts _ _ mine).0 in
+    let first = first_of t own s app (verdict_of t s app) (verdict_in_words t s app) named in
+    let takes = after_takes t own s is app named in
+    let left = after t own s app in
+    let up : IsUp left own = subst (λ (lives : Lives). IsLive lives own.node own.inc) (after_alike t own s is app).lives live in
+    (kept_here t own left up app takes first.node (verdict_of t left app) (verdict_in_words t left app), takes_runs t own left up app takes)
