@@ -11,7 +11,9 @@
 
 pub use context::Context;
 pub use row::Further;
+pub use shared::SharedContext;
 
 mod context;
 mod counters;
 mod row;
+mod shared;
