@@ -1,11 +1,13 @@
 //! A store beside its context.
 ghost use Rattle.std.specs.Prelude.{◌≡◌, ◌↔◌, true, IsTrue, IfOk, IfErr};
+ghost use Rattle.std.specs.FinSet as set;
+ghost use Rattle.dac_dots.specs.Dots.{IsSubset};
 ghost use Rattle.dac_store.specs.Keeping.{kept_in};
-ghost use Rattle.dac_store.specs.Stores.{IsHeld, IsUnheard};
+ghost use Rattle.dac_store.specs.Stores.{IsHeld, IsStoredBelow, IsUnheard, join_stored};
 
 use crate::DotStore;
 use crate::kept::Kept;
-use dac_contexts::Context;
+use dac_contexts::{Context, SharedContext};
 use dac_dots::NoMemory;
 use dac_lattice::{Bottom, Lattice};
 use std::alloc::Global;
@@ -18,11 +20,12 @@ const MOST_LOOKED_UP: usize = 16;
 /// A store beside the dots that it has heard of, among which are all that it holds. Its order is that of
 /// the contexts and of the stores under them.
 ///
-/// A store never changes, so copies share it, and so does a join that leaves one side's store as it is.
+/// A store never changes, so copies share it, and so does a join that leaves one side's store as it is. Values whose
+/// contexts are equal may share one.
 #[derive(Drop)]
 pub struct Causal<S: DotStore> {
     kept: Kept<S>,
-    context: Context,
+    context: SharedContext,
 }
 
 impl<S: DotStore> Model for Causal<S> {
@@ -52,6 +55,25 @@ impl<S: DotStore> Causal<S> {
         store.known();
         if store.within(&context) {
             let kept = Kept::Here(store);
+            let shared = SharedContext::of(context);
+            Ok(Causal {
+                kept,
+                context: shared,
+            })
+        } else {
+            Err((store, context))
+        }
+    }
+
+    /// The store beside a context that others may share. Both are handed back where the store holds a dot that isn't
+    /// in the context. It takes no memory.
+    pub fn with_shared(store: S, context: SharedContext) -> Result<Self, (S, SharedContext)>
+        ensures ok { IfOk result (λ causal. (causal ≡ record { store = store; context = context }) × IsHeld (S.has store) context) }
+        ensures err { IfErr result (λ back. (back ≡ (store, context)) × ¬ (IsHeld (S.has store) context)) }
+    {
+        store.known();
+        if store.within(context.context()) {
+            let kept = Kept::Here(store);
             Ok(Causal { kept, context })
         } else {
             Err((store, context))
@@ -72,7 +94,36 @@ impl<S: DotStore> Causal<S> {
     pub fn context(&self) -> &Context
         ensures { result.now ≡ self.now.context }
     {
+        self.context.context()
+    }
+
+    /// The dots that have been heard of, as others may share them.
+    pub fn shared_context(&self) -> &SharedContext
+        ensures { result.now ≡ self.now.context }
+    {
         &self.context
+    }
+
+    /// The join with the other value, where this is the union of their contexts, which the join shares. [`NoMemory`] is
+    /// the only error.
+    pub fn join_beside(&self, other: &Self, union: &SharedContext) -> Result<Self, NoMemory>
+        requires { union.now ≡ set.union self.now.context other.now.context }
+        ensures { IfOk result (λ joined. joined ≡ join_stored S.join self.now other.now) }
+    {
+        self.known();
+        other.known();
+        let kept = self.join_kept(other)?;
+        let context = union.copy()?;
+        Ok(Causal { kept, context })
+    }
+
+    /// Whether this value is below the other one, where the other has heard of each dot that this one has.
+    pub fn leq_beside(&self, other: &Self) -> bool
+        requires { IsSubset self.now.context other.now.context }
+        ensures { IsTrue result ↔ IsStoredBelow S.below self.now other.now }
+    {
+        self.store()
+            .leq_in(self.context(), other.store(), other.context())
     }
 
     /// Its store, shared with it where it can be.
@@ -117,7 +168,7 @@ impl<S: DotStore> Causal<S> {
         }
         let store = self
             .store()
-            .join_in(&self.context, other.store(), &other.context)?;
+            .join_in(self.context(), other.store(), other.context())?;
         shared(store)
     }
 }
@@ -159,16 +210,13 @@ impl<S: DotStore> Lattice for Causal<S> {
     }
 
     fn join(&self, other: &Self) -> Result<Self, NoMemory> {
-        let kept = self.join_kept(other)?;
-        let context = self.context.union(&other.context)?;
-        Ok(Causal { kept, context })
+        let union = self.context.union(&other.context)?;
+        let joined = self.join_beside(other, &union)?;
+        Ok(joined)
     }
 
     fn leq(&self, other: &Self) -> bool {
-        self.context.is_subset(&other.context)
-            && self
-                .store()
-                .leq_in(&self.context, other.store(), &other.context)
+        self.context().is_subset(other.context()) && self.leq_beside(other)
     }
 
     fn equal(&self, other: &Self) -> bool {
@@ -197,7 +245,7 @@ impl<S: DotStore> Bottom for Causal<S> {
     fn bottom(alloc: Global) -> Self {
         Causal {
             kept: Kept::Here(S::empty(alloc)),
-            context: Context::empty(alloc),
+            context: SharedContext::of(Context::empty(alloc)),
         }
     }
 }

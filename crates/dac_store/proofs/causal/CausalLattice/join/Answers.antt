@@ -1,6 +1,4 @@
-use Rattle.dac_store.specs.Stores.{within_join}
 use Rattle.dac_store.proofs.causal.CausalLattice.join.Goals as goal
 
-pub invariant_of-result : goal.invariant_of-result
-invariant_of-result g c =
-    rw (c.in_ok-kept.ensures, c.in_ok-context.ensures, ← c.self.view_is, ← c.other.view_is) (within_join g.met.S.DotStore.laws _ _ _ _ c.self.invariant c.other.invariant)
+pub join_beside-requires : goal.join_beside-requires
+join_beside-requires g c = rw (← c.self.view_is, ← c.other.view_is) c.in_ok-union.ensures
