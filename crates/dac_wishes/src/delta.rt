@@ -5,7 +5,7 @@ ghost use Rattle.dac_store.specs.Stores.{IsHeld};
 
 use dac_base::NoMemory;
 use dac_dots::Dot;
-use dac_store::{Causal, Context, DotStore};
+use dac_store::{Causal, Context, DotStore, SharedContext};
 use std::alloc::Global;
 
 /// The dots that an operation names: its own, and those that it replaces.
@@ -18,6 +18,23 @@ pub(crate) fn named_by(alloc: Global, dot: Dot, over: &[Dot]) -> Result<Context,
         named.insert(*replaced)?;
     }
     Ok(named)
+}
+
+/// The same dots, which deltas of the operation share.
+pub(crate) fn shared_names(alloc: Global, dot: Dot, over: &[Dot]) -> Result<SharedContext, NoMemory>
+    ensures { IfOk result (λ named. named ≡ set.from_list (dot ∷ over.now)) }
+{
+    let named = named_by(alloc, dot, over)?;
+    let shared = SharedContext::new(named)?;
+    Ok(shared)
+}
+
+/// A store beside a shared context that has all its dots.
+pub(crate) fn beside_shared<S: DotStore>(store: S, context: SharedContext) -> Causal<S>
+    requires { IsHeld (S.has store) context }
+    ensures { result ≡ record { store = store; context = context } }
+{
+    Causal::with_shared(store, context).unwrap()
 }
 
 /// A store beside a context that has all its dots.

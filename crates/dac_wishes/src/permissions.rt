@@ -1,17 +1,21 @@
 //! Permissions.
-ghost use Rattle.std.specs.Prelude.{◌≡◌, ◌↔◌, IsTrue};
+ghost use Rattle.std.specs.Prelude.{◌≡◌, ◌↔◌, IsTrue, IfOk};
+ghost use Rattle.std.specs.FinSet as set;
+ghost use Rattle.dac_dots.specs.Dots.{IsSubset};
 ghost use Rattle.std.specs.List.{list_all};
 ghost use Rattle.dac_lattice.specs.declared.flags.Flag.{Flag as FlagValue};
 ghost use Rattle.dac_dots.specs.declared.dot.Dot.{Dot as DotValue};
-ghost use Rattle.dac_wishes.specs.PermissionsValue.{says_true, is_permitted, is_permitted_by, IsPermitted, permits_at};
+ghost use Rattle.dac_wishes.specs.PermissionsValue.{join_permissions, IsPermissionsBelow, says_true, is_permitted, is_permitted_by, IsPermitted, permits_at};
+ghost use Rattle.dac_wishes.specs.PermitMeaning.{permit_delta};
 
+use crate::delta::shared_names;
 use crate::key::Key;
 use crate::permit_act::PermitAct;
-use crate::votes::{kept_at, kept_delta};
+use crate::votes::{kept_at, kept_beside};
 use dac_base::NoMemory;
 use dac_dots::Dot;
 use dac_lattice::{Bottom, Flag, Lattice, Piece};
-use dac_store::{Causal, Context, DotFun, DotMap};
+use dac_store::{Causal, Context, DotFun, DotMap, SharedContext};
 use std::alloc::Global;
 use std::marker::Model;
 
@@ -85,6 +89,47 @@ impl Permissions {
         ensures { result.now ≡ self.now.known }
     {
         self.causal.context()
+    }
+
+    /// The same dots, as others may share them. It takes no memory.
+    pub fn shared_context(&self) -> &SharedContext
+        ensures { result.now ≡ self.now.known }
+    {
+        self.causal.shared_context()
+    }
+
+    /// The join with the other side, where these are the dots that both know, which the join shares. [`NoMemory`] is
+    /// the only error.
+    pub fn join_beside(&self, other: &Self, union: &SharedContext) -> Result<Self, NoMemory>
+        requires { union.now ≡ set.union self.now.known other.now.known }
+        ensures { IfOk result (λ joined. joined ≡ join_permissions self.now other.now) }
+    {
+        let causal = self.causal.join_beside(&other.causal, union)?;
+        Ok(Permissions { causal })
+    }
+
+    /// What one operation adds, where these are the dots that it names, which the delta shares. [`NoMemory`] is the
+    /// only error.
+    pub fn delta_beside(
+        alloc: Global,
+        dot: Dot,
+        act: &PermitAct,
+        named: &SharedContext,
+    ) -> Result<Self, NoMemory>
+        requires { named.now ≡ (permit_delta dot act.now).known }
+        ensures { IfOk result (λ delta. delta ≡ permit_delta dot act.now) }
+    {
+        let causal = kept_beside(alloc, dot, act.vote(), named)?;
+        Ok(Permissions { causal })
+    }
+
+    /// Whether this side is below the other one, where the other knows each dot that this one knows. It takes no
+    /// memory.
+    pub fn leq_beside(&self, other: &Self) -> bool
+        requires { IsSubset self.now.known other.now.known }
+        ensures { IsTrue result ↔ IsPermissionsBelow self.now other.now }
+    {
+        self.causal.leq_beside(&other.causal)
     }
 }
 
@@ -183,7 +228,8 @@ impl Piece for Permissions {
     ghost piece_laws = { permit_piece };
 
     fn delta(alloc: Global, dot: Dot, act: &PermitAct) -> Result<Self, NoMemory> {
-        let causal = kept_delta(alloc, dot, act.vote(), act.over())?;
-        Ok(Permissions { causal })
+        let named = shared_names(alloc, dot, act.over())?;
+        let delta = Self::delta_beside(alloc, dot, act, &named)?;
+        Ok(delta)
     }
 }

@@ -1,15 +1,16 @@
 //! What permissions and drains have in common: votes at keys, as they are kept.
-ghost use Rattle.std.specs.Prelude.{◌≡◌, ◌∷◌, [], IfOk};
-ghost use Rattle.std.specs.FinSet as set;
+ghost use Rattle.std.specs.Prelude.{◌≡◌, [], IfOk};
 ghost use Rattle.std.specs.FinMap.{find};
-ghost use Rattle.dac_store.specs.DotMaps.{store_at};
+ghost use Rattle.dac_store.specs.DotFuns.{has_dot};
+ghost use Rattle.dac_store.specs.DotMaps.{has_in, store_at};
+ghost use Rattle.dac_store.specs.Stores.{IsHeld};
 ghost use Rattle.dac_wishes.specs.StoredVotes.{stored_vote};
 
-use crate::delta::{beside, named_by};
+use crate::delta::beside_shared;
 use dac_base::NoMemory;
 use dac_dots::{Dot, MapKey};
 use dac_lattice::Flag;
-use dac_store::{Causal, DotFun, DotMap, DotStore};
+use dac_store::{Causal, DotFun, DotMap, DotStore, SharedContext};
 use std::alloc::Global;
 
 /// The votes that are kept at a key.
@@ -40,17 +41,18 @@ fn kept_alone<K: MapKey>(
     }
 }
 
-/// What one operation adds, as it is kept: its vote, if it is one, beside its dot and those that it replaces.
-pub(crate) fn kept_delta<K: MapKey>(
+/// What one operation adds, as it is kept: its vote, if it is one, beside these dots, among which are those of the vote.
+pub(crate) fn kept_beside<K: MapKey>(
     alloc: Global,
     dot: Dot,
     vote: Option<(K, Flag)>,
-    over: &[Dot],
+    named: &SharedContext,
 ) -> Result<Causal<DotMap<K, DotFun<Flag>>>, NoMemory>
-    ensures { IfOk result (λ causal. causal ≡ record { store = stored_vote dot vote; context = set.from_list (dot ∷ over.now) }) }
+    requires { IsHeld (has_in has_dot (stored_vote dot vote)) named.now }
+    ensures { IfOk result (λ causal. causal ≡ record { store = stored_vote dot vote; context = named.now }) }
 {
     let store = kept_alone(alloc, dot, vote)?;
-    let named = named_by(alloc, dot, over)?;
-    let causal = beside(store, named);
+    let context = named.copy()?;
+    let causal = beside_shared(store, context);
     Ok(causal)
 }

@@ -1,17 +1,20 @@
 //! Start wishes.
 ghost use Rattle.std.specs.Prelude.{◌≡◌, ◌↔◌, IsTrue, IfOk};
+ghost use Rattle.std.specs.FinSet as set;
+ghost use Rattle.dac_dots.specs.Dots.{IsSubset};
 ghost use Rattle.dac_dots.specs.InOrder.{in_order};
 ghost use Rattle.dac_wishes.specs.Writes.{dots_at};
-ghost use Rattle.dac_wishes.specs.WishesValue.{is_wished, SomeStands};
+ghost use Rattle.dac_wishes.specs.WishesValue.{join_wishes, AreWishesBelow, is_wished, SomeStands};
 ghost use Rattle.dac_wishes.specs.StoredDeltas.{stored_start};
+ghost use Rattle.dac_wishes.specs.WishMeaning.{wish_delta};
 
-use crate::delta::{beside, named_by};
+use crate::delta::{beside_shared, shared_names};
 use crate::key::Key;
 use crate::wish_act::WishAct;
 use dac_base::NoMemory;
 use dac_dots::Dot;
 use dac_lattice::{Bottom, Lattice, Piece};
-use dac_store::{Causal, Context, DotMap, DotSet, DotStore};
+use dac_store::{Causal, Context, DotMap, DotSet, DotStore, SharedContext};
 use std::alloc::Global;
 use std::marker::Model;
 
@@ -84,6 +87,49 @@ impl Wishes {
         ensures { result.now ≡ self.now.known }
     {
         self.causal.context()
+    }
+
+    /// The same dots, as others may share them. It takes no memory.
+    pub fn shared_context(&self) -> &SharedContext
+        ensures { result.now ≡ self.now.known }
+    {
+        self.causal.shared_context()
+    }
+
+    /// The join with the other side, where these are the dots that both know, which the join shares. [`NoMemory`] is
+    /// the only error.
+    pub fn join_beside(&self, other: &Self, union: &SharedContext) -> Result<Self, NoMemory>
+        requires { union.now ≡ set.union self.now.known other.now.known }
+        ensures { IfOk result (λ joined. joined ≡ join_wishes self.now other.now) }
+    {
+        let causal = self.causal.join_beside(&other.causal, union)?;
+        Ok(Wishes { causal })
+    }
+
+    /// What one operation adds, where these are the dots that it names, which the delta shares. [`NoMemory`] is the
+    /// only error.
+    pub fn delta_beside(
+        alloc: Global,
+        dot: Dot,
+        act: &WishAct,
+        named: &SharedContext,
+    ) -> Result<Self, NoMemory>
+        requires { named.now ≡ (wish_delta dot act.now).known }
+        ensures { IfOk result (λ delta. delta ≡ wish_delta dot act.now) }
+    {
+        let store = start_in(alloc, dot, act)?;
+        let context = named.copy()?;
+        let causal = beside_shared(store, context);
+        Ok(Wishes { causal })
+    }
+
+    /// Whether this side is below the other one, where the other knows each dot that this one knows. It takes no
+    /// memory.
+    pub fn leq_beside(&self, other: &Self) -> bool
+        requires { IsSubset self.now.known other.now.known }
+        ensures { IsTrue result ↔ AreWishesBelow self.now other.now }
+    {
+        self.causal.leq_beside(&other.causal)
     }
 }
 
@@ -168,9 +214,8 @@ impl Piece for Wishes {
     ghost piece_laws = { wish_piece };
 
     fn delta(alloc: Global, dot: Dot, act: &WishAct) -> Result<Self, NoMemory> {
-        let store = start_in(alloc, dot, act)?;
-        let named = named_by(alloc, dot, act.over())?;
-        let causal = beside(store, named);
-        Ok(Wishes { causal })
+        let named = shared_names(alloc, dot, act.over())?;
+        let delta = Self::delta_beside(alloc, dot, act, &named)?;
+        Ok(delta)
     }
 }
