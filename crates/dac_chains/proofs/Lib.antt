@@ -1,2 +1,3 @@
 mod KeptLemmas
 mod Orders
+mod OneBelow

@@ -11,5 +11,6 @@ pub use claims::{Claim, ClaimAct, Claims, How};
 pub use lives::{Life, LifeAct, Lives};
 
 mod claims;
+mod covering;
 pub mod laws;
 mod lives;

@@ -19,6 +19,7 @@ pub mod StoredDeltas
 pub mod ByKey
 pub mod StartsByKey
 pub mod PermitsByKey
+pub mod Covering
 pub mod laws
 pub use Rattle.dac_store.specs.AtDot
 pub use Rattle.dac_store.specs.Stores

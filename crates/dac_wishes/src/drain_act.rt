@@ -53,7 +53,7 @@ impl DrainAct {
 }
 
 /// A drain as a flag.
-fn flag_of(value: bool) -> Flag
+pub(crate) fn flag_of(value: bool) -> Flag
     ensures { result ≡ flag_of value }
 {
     if value { Flag::Down } else { Flag::Up }

@@ -20,6 +20,7 @@ pub use permit_act::PermitAct;
 pub use wish_act::WishAct;
 pub use wishes::Wishes;
 
+mod covering;
 mod delta;
 mod dot_list;
 mod drain_act;

@@ -58,7 +58,7 @@ impl PermitAct {
 }
 
 /// A permission as a flag.
-fn flag_of(value: bool) -> Flag
+pub(crate) fn flag_of(value: bool) -> Flag
     ensures { result ≡ flag_of value }
 {
     if value { Flag::Up } else { Flag::Down }

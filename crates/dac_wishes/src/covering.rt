@@ -1,0 +1,218 @@
+//! Whether what stands is above what one operation says. The tests take no memory.
+ghost use Rattle.std.specs.Prelude.{◌≡◌, ◌↔◌, ◌∷◌, List, IsTrue};
+ghost use Rattle.std.specs.FinSet as set;
+ghost use Rattle.std.specs.List.{list_all};
+ghost use Rattle.dac_dots.specs.declared.dot.Dot.{Dot as DotValue};
+ghost use Rattle.dac_dots.specs.Dots.{IsSubset, dot_cmp};
+ghost use Rattle.dac_dots.specs.Keys.{has_key};
+ghost use Rattle.dac_wishes.specs.KeyedWrites.{same_dot};
+ghost use Rattle.dac_wishes.specs.Covering.{drain_act, is_said_below, is_wish_of, let_stand, let_wishes, lets_stand, lets_wish, permit_act, wish_act};
+ghost use Rattle.dac_wishes.specs.VoteMeaning.{says_of};
+ghost use Rattle.dac_wishes.specs.PermitMeaning.{vote_of as permits_by};
+ghost use Rattle.dac_wishes.specs.DrainMeaning.{vote_of as drains_by};
+
+use crate::drain_act::flag_of as drain_flag;
+use crate::drains::Drains;
+use crate::key::Key;
+use crate::permissions::Permissions;
+use crate::permit_act::flag_of as permit_flag;
+use crate::wishes::Wishes;
+use dac_dots::{Dot, MapKey, Origin};
+use dac_lattice::Flag;
+use dac_store::{Context, DotFun, DotSet};
+
+impl Permissions {
+    ghost use Rattle.dac_wishes.specs.PermissionsValue.{IsPermissionsBelow};
+    ghost use Rattle.dac_wishes.specs.PermitMeaning.{permit_delta};
+
+    /// Whether what an operation adds is below what is kept, so that to join it would change nothing: an operation of this
+    /// dot, which permits this key or not, if it does, and replaces these dots. It takes no memory.
+    pub fn covers(&self, dot: Dot, permit: Option<(Key, bool)>, over: &[Dot]) -> bool
+        ensures { IsTrue result ↔ IsPermissionsBelow (permit_delta dot (permit_act permit over.now)) self.now }
+    {
+        knows_all(self.context(), dot, over)
+            && let_stand(dot, permit_vote(permit), over, self.entries())
+    }
+}
+
+impl Drains {
+    ghost use Rattle.dac_wishes.specs.DrainMeaning.{drain_delta};
+    ghost use Rattle.dac_wishes.specs.DrainsValue.{AreDrainsBelow};
+
+    /// Whether what an operation adds is below what is kept, so that to join it would change nothing: an operation of this
+    /// dot, which drains this incarnation or ends that, if it does, and replaces these dots. It takes no memory.
+    pub fn covers(&self, dot: Dot, drain: Option<(Origin, bool)>, over: &[Dot]) -> bool
+        ensures { IsTrue result ↔ AreDrainsBelow (drain_delta dot (drain_act drain over.now)) self.now }
+    {
+        knows_all(self.context(), dot, over)
+            && let_stand(dot, drain_vote(drain), over, self.entries())
+    }
+}
+
+impl Wishes {
+    ghost use Rattle.dac_wishes.specs.WishMeaning.{wish_delta};
+    ghost use Rattle.dac_wishes.specs.WishesValue.{AreWishesBelow};
+
+    /// Whether what an operation adds is below what is kept, so that to join it would change nothing: an operation of this
+    /// dot, which wishes a start of this key, if it does, and replaces these dots. It takes no memory.
+    pub fn covers(&self, dot: Dot, start: Option<Key>, over: &[Dot]) -> bool
+        ensures { IsTrue result ↔ AreWishesBelow (wish_delta dot (wish_act start over.now)) self.now }
+    {
+        knows_all(self.context(), dot, over) && let_wishes(dot, start, over, self.entries())
+    }
+}
+
+/// A permit as a vote.
+fn permit_vote(permit: Option<(Key, bool)>) -> Option<(Key, Flag)>
+    ensures { (over : List DotValue) → result ≡ permits_by (permit_act permit over) }
+{
+    match permit {
+        Some((key, value)) => Some((key, permit_flag(value))),
+        None => None,
+    }
+}
+
+/// A drain as a vote.
+fn drain_vote(drain: Option<(Origin, bool)>) -> Option<(Origin, Flag)>
+    ensures { (over : List DotValue) → result ≡ drains_by (drain_act drain over) }
+{
+    match drain {
+        Some((at, value)) => Some((at, drain_flag(value))),
+        None => None,
+    }
+}
+
+/// Whether a dot and those that it replaces are known.
+fn knows_all(known: &Context, dot: Dot, over: &[Dot]) -> bool
+    ensures { IsTrue result ↔ IsSubset (set.from_list (dot ∷ over.now)) known.now }
+{
+    known.contains(dot) && knows_each(known, over)
+}
+
+/// Whether each of the dots is known.
+fn knows_each(known: &Context, dots: &[Dot]) -> bool
+    ensures { result ≡ list_all (λ (d : DotValue). set.contains known.now d) dots.now }
+{
+    dots.iter().all(|dot| known.contains(*dot))
+}
+
+/// Whether two dots are one.
+fn is_same(one: Dot, other: Dot) -> bool
+    ensures { result ≡ same_dot one other }
+{
+    one.cmp(&other).is_eq()
+}
+
+/// Whether a dot is in the list.
+fn names(dots: &[Dot], dot: Dot) -> bool
+    ensures { result ≡ has_key dot_cmp dots.now dot }
+{
+    dots.iter().any(|named| is_same(dot, *named))
+}
+
+/// Whether each vote at each key may stand beside what the operation says.
+fn let_stand<K: MapKey>(
+    dot: Dot,
+    vote: Option<(K, Flag)>,
+    over: &[Dot],
+    entries: &[(K, DotFun<Flag>)],
+) -> bool
+    ensures { result ≡ let_stand K.cmp dot vote over.now entries.now }
+{
+    entries.iter().all(|entry| let_stand_at(dot, vote, over, entry.0, entry.1.entries()))
+}
+
+/// Whether each vote at a key may stand.
+fn let_stand_at<K: MapKey>(
+    dot: Dot,
+    vote: Option<(K, Flag)>,
+    over: &[Dot],
+    key: K,
+    votes: &[(Dot, Flag)],
+) -> bool
+    ensures { result ≡ list_all (lets_stand K.cmp dot vote over.now key) votes.now }
+{
+    votes
+        .iter()
+        .all(|stands| lets_stand(dot, vote, over, key, stands))
+}
+
+/// Whether a vote may stand at a key: under the operation's dot if the operation says it, and else if it isn't replaced.
+fn lets_stand<K: MapKey>(
+    dot: Dot,
+    vote: Option<(K, Flag)>,
+    over: &[Dot],
+    key: K,
+    stands: &(Dot, Flag),
+) -> bool
+    ensures { result ≡ lets_stand K.cmp dot vote over.now key stands.now }
+{
+    if is_same(stands.0, dot) {
+        is_said_below(said_of(key, vote), stands.1)
+    } else {
+        !names(over, stands.0)
+    }
+}
+
+/// What a vote says of a key, if it is of that key.
+fn said_of<K: MapKey>(key: K, vote: Option<(K, Flag)>) -> Option<Flag>
+    ensures { result ≡ says_of K.cmp key vote }
+{
+    match vote {
+        Some((voted, flag)) => {
+            if key.cmp(&voted).is_eq() {
+                Some(flag)
+            } else {
+                None
+            }
+        }
+        None => None,
+    }
+}
+
+/// Whether what is said isn't above what stands.
+fn is_said_below(said: Option<Flag>, stands: Flag) -> bool
+    ensures { result ≡ is_said_below said stands }
+{
+    match (said, stands) {
+        (None, _) | (Some(Flag::Down), Flag::Up) => false,
+        _ => true,
+    }
+}
+
+/// Whether each wish at each key may stand beside what the operation says.
+fn let_wishes(dot: Dot, start: Option<Key>, over: &[Dot], entries: &[(Key, DotSet)]) -> bool
+    ensures { result ≡ let_wishes dot start over.now entries.now }
+{
+    entries.iter().all(|entry| let_wishes_at(dot, start, over, entry.0, entry.1.dots()))
+}
+
+/// Whether each wish at a key may stand.
+fn let_wishes_at(dot: Dot, start: Option<Key>, over: &[Dot], key: Key, wishes: &[Dot]) -> bool
+    ensures { result ≡ list_all (lets_wish dot start over.now key) wishes.now }
+{
+    wishes
+        .iter()
+        .all(|stands| lets_wish(dot, start, over, key, *stands))
+}
+
+/// Whether a wish may stand at a key: under the operation's dot if the operation is it, and else if it isn't replaced.
+fn lets_wish(dot: Dot, start: Option<Key>, over: &[Dot], key: Key, stands: Dot) -> bool
+    ensures { result ≡ lets_wish dot start over.now key stands }
+{
+    if is_same(stands, dot) {
+        is_wish_of(start, key)
+    } else {
+        !names(over, stands)
+    }
+}
+
+/// Whether a start of the key is wished.
+fn is_wish_of(start: Option<Key>, key: Key) -> bool
+    ensures { result ≡ is_wish_of start key }
+{
+    match start {
+        Some(wished) => key.cmp(&wished).is_eq(),
+        None => false,
+    }
+}
