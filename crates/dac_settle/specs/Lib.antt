@@ -6,6 +6,5 @@ pub mod Worked
 pub mod WorldRounds
 pub mod WorkedRun
 pub mod WorkedLoss
-pub mod Admitting
 pub mod laws
 pub use Rattle.dac_worlds.specs as dac_worlds

@@ -8,7 +8,7 @@ use Rattle.dac_config.specs.Table.{Table, app_count}
 use Rattle.dac_placement.specs.Placement.{verdict_of}
 use Rattle.dac_events.specs.declared.WorldEvent.{WorldEvent}
 use Rattle.dac_events.specs.declared.What.{What}
-use Rattle.dac_events.specs.declared.What.TheVariants.{Tick as Ticks, Deliver}
+use Rattle.dac_events.specs.declared.What.TheVariants.{Tick as Ticks}
 use Rattle.dac_messages.specs.declared.reply.Reply.{Reply}
 use Rattle.dac_messages.specs.declared.reply.Reply.TheVariants.{Ticked, Shipped, Heard}
 use Rattle.dac_worlds.specs.ModelNode.{ModelRun}
@@ -16,6 +16,7 @@ use Rattle.dac_worlds.specs.declared.fault.WorldFault.{WorldFault}
 use Rattle.dac_worlds.specs.WorldValue.{WorldValue}
 use Rattle.dac_worlds.specs.ModelWorld.{ModelWorld, AnsweredAs, start, went, world_after}
 use Rattle.dac_worlds.specs.SetWorld.{NodeSet, SetWorld, no_sets, set_run}
+use Rattle.dac_worlds.specs.Shares.{IsSince}
 use Rattle.dac_worlds.specs.Convergence.{RunsWith}
 use Rattle.dac_settle.specs.Settling.{Member, IsLate, AllSame, IsReady, IsSettled}
 
@@ -41,11 +42,6 @@ abbrev pub IsLateBy : Table → Option ModelRun → What → Type 0
 IsLateBy t (Some r) (Ticks now) = IsLate t r.notes now
 IsLateBy t (Some r) _ = Unit {0}
 IsLateBy t None what = Unit {0}
-
--- the event is a delivery of what was shipped after the first so many
-abbrev pub IsSince : ℕ → What → Type 0
-IsSince before (Deliver k) = before < k
-IsSince before _ = ⊥
 
 -- What may be accepted in a round before which so much was shipped. It is a tick, a ship, or a delivery of what was
 -- shipped in the round. The tick comes when all that was noted has waited its time, and it passes no application.

@@ -12,5 +12,4 @@ pub mod Started
 pub mod WorkedRound
 pub mod Unsettling
 pub mod OneTick
-pub mod Admitted
 pub mod Losing

@@ -6,7 +6,6 @@ ghost use Rattle.dac_settle.specs.Staying.{Stays};
 ghost use Rattle.dac_settle.specs.WorldRounds.{Settles};
 ghost use Rattle.dac_settle.specs.WorkedRun.{RunsCanEnd};
 ghost use Rattle.dac_settle.specs.WorkedLoss.{LossCanBe};
-ghost use Rattle.dac_settle.specs.Admitting.{RoundsAdmit};
 ghost use Rattle.dac_worlds.specs.ModelWorld.{InEachRun};
 
 /// Rounds settle all. As many rounds as the configuration has applications, begun in a ready world, settle each
@@ -25,8 +24,6 @@ pub fn rounds_can_be()
     ensures runs { RunsCanEnd }
     // A world is ready in which a claim is lost and was noted. Two nodes tick once its time is over, ship and hear: a round.
     ensures losses { LossCanBe }
-    // In any world a round admits ships, deliveries of what it shipped, and ticks that come late enough.
-    ensures admits { RoundsAdmit }
 {}
 
 /// What is settled stays so, whatever is claimed beside it.

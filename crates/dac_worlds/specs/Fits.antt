@@ -1,6 +1,6 @@
 -- That what comes to a running node is heard: a copy that reaches its addressee, and an operation that is handed.
 -- Each is refused only where memory is refused or the numbers of deltas are used up.
-use Rattle.std.specs.Prelude.{◌≡◌, ◌⊎◌, ◌≤◌, ℕ, ◌+◌, nat_eq, cond, Bool, List, [], ◌∷◌, length, Some, Result, Ok, Err}
+use Rattle.std.specs.Prelude.{◌≡◌, ◌⊎◌, ◌≤◌, ℕ, ◌+◌, nat_eq, cond, Bool, true, List, [], ◌∷◌, length, Some, Result, Ok, Err}
 use Rattle.dac_base.specs.declared.limits.TheConstants.{MAX_COUNTER}
 use Rattle.dac_base.specs.declared.NodeId.{NodeId}
 use Rattle.dac_operations.specs.Operations.{Operation}
@@ -13,19 +13,17 @@ use Rattle.dac_commands.specs.declared.refusal.Refusal.TheVariants.{DotsUsedUp}
 use Rattle.dac_worlds.specs.declared.fault.WorldFault.{WorldFault}
 use Rattle.dac_worlds.specs.declared.fault.WorldFault.TheVariants.{Refused}
 use Rattle.dac_worlds.specs.ModelWorld.{counted, issued_by, out_of_memory}
-use Rattle.dac_worlds.specs.SetWorld.{SetWorld, NodeSet, Copy, operations_of, set_step}
+use Rattle.dac_worlds.specs.SetWorld.{SetWorld, NodeSet, Copy, is_for, operations_of, set_step}
 
 -- the node has a set: it runs
 abbrev pub RunsIn : SetWorld → NodeId → Type 0
 RunsIn w n = (held : NodeSet) × (w.node n ≡ Some held)
 
--- the number is that of a copy on its way to the node from another one, and not to another incarnation of it alone
+-- the number is that of a copy on its way that is for the node, as the incarnation that it runs as
 pub record IsCopyFor (w : SetWorld) (n : NodeId) (number : ℕ) : Type 0 where
   pub copy : Copy
   pub there : counted w.copies number ≡ Some copy
-  pub to : copy.to ≡ n
-  pub from : ¬ (copy.from ≡ n)
-  pub only : (inc : ℕ) → copy.only ≡ Some inc → (held : NodeSet) → w.node n ≡ Some held → held.inc ≡ inc
+  pub fits : (held : NodeSet) → w.node n ≡ Some held → is_for n held.inc copy ≡ true
 
 -- the event brings the node such a copy, or an operation that was issued
 abbrev pub Fits : SetWorld → NodeId → What → Type 0

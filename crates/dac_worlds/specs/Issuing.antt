@@ -1,8 +1,9 @@
--- Whose each issued operation is.
-use Rattle.std.specs.Prelude.{◌≡◌, ℕ, ◌<◌, List, [], ◌∷◌, ◌++◌, Some, Result, Ok}
+-- Whose each issued operation is, and under which counter.
+use Rattle.std.specs.Prelude.{◌≡◌, ℕ, ◌<◌, ◌+◌, Bool, List, [], ◌∷◌, ◌++◌, length, filter, Some, Result, Ok}
+use Rattle.std.specs.Ordering.{eq_by_cmp}
 use Rattle.dac_base.specs.declared.NodeId.{NodeId}
 use Rattle.dac_dots.specs.declared.dot.Origin.{Origin}
-use Rattle.dac_dots.specs.Dots.{dot}
+use Rattle.dac_dots.specs.Dots.{dot, origin_cmp}
 use Rattle.dac_operations.specs.declared.act.Act.TheVariants.{Up}
 use Rattle.dac_operations.specs.Operations.{Operation}
 use Rattle.dac_meaning.specs.Meaning.{In}
@@ -21,10 +22,19 @@ pub record IsBoot (n : NodeId) (before : List Operation) (o : Operation) : Type 
   pub first : o.dot ≡ dot (record { node = n; inc = inc }) 1
   pub later : (p : Operation) → In p before → p.dot.origin.node ≡ n → p.dot.origin.inc < inc
 
--- the operation is the incarnation's, and its counter is above those that the incarnation used before
+-- the operation is the incarnation's
+abbrev pub is_of : Origin → Operation → Bool
+is_of own o = eq_by_cmp origin_cmp o.dot.origin own
+
+-- how many of the operations are the incarnation's
+abbrev pub count_of : Origin → List Operation → ℕ
+count_of own os = length (filter (is_of own) os)
+
+-- The operation is the incarnation's next: its counter is one more than the number of operations that the incarnation
+-- issued before.
 pub record IsOwn (own : Origin) (before : List Operation) (o : Operation) : Type 0 where
   pub origin : o.dot.origin ≡ own
-  pub above : (p : Operation) → In p before → p.dot.origin ≡ own → p.dot.n < o.dot.n
+  pub counter : o.dot.n ≡ count_of own before + 1
 
 -- so is each of these, one after another
 abbrev pub AreOwn : Origin → List Operation → List Operation → Type 0

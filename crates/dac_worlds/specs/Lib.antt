@@ -9,6 +9,7 @@ pub mod News
 pub mod Fits
 pub mod Addressed
 pub mod UpToDate
+pub mod Shares
 pub mod Convergence
 pub mod Issuing
 pub mod Causality

@@ -13,12 +13,15 @@ pub mod FewInRuns
 pub mod HeardInRuns
 pub mod AddressedInRuns
 pub mod UpToDateInRuns
-pub mod IssuingInRuns
 pub mod Replacing
 pub mod ClosedSets
 pub mod Standing
 pub mod MaximalWrites
 pub mod CausalRuns
+pub mod Numbering
+pub mod IssuingInRuns
+pub mod Sharing
+pub mod SharesInRuns
 pub mod CausalityInRuns
 pub mod Headline
 pub mod Histories

@@ -14,12 +14,14 @@ ghost use Rattle.dac_worlds.specs.EveryList.{IsEnough, OfEachList, RunsEachList}
 /// set that the sender had when it shipped. So does one of an interval or of nothing. Each answer to what was heard
 /// tells whether it brought a dot that the controller hadn't heard. What comes to a running controller is heard,
 /// unless memory is refused or its numbers of deltas are used up. That is a message that was shipped to it from
-/// another node, to no other incarnation alone, or an operation that was issued. A ship that is refused as up to date is
-/// to a node that has all of the sender's set, while it runs as the incarnation of its life there. What a node issues is
-/// its own, and a boot issues the first operation of a later incarnation than all before. Where no single operation is handed,
-/// each controller has with each operation all that were causally before it. What stands in its state are then
-/// exactly the maximal writes. What happened at each controller, its own events with their answers, is a history of
-/// it. The history goes from never booted to where the run leaves it.
+/// another node, to no other incarnation alone, or an operation that was issued. A ship that is refused as up to date
+/// is to a node that has all of the sender's set, while it runs as the incarnation of its life there. What a node
+/// issues is its own, and the operations of an incarnation have the counters 1, 2, 3 and so on. A boot issues the first
+/// operation of a later incarnation than all before. In a share each running node tells each other one all that it has.
+/// It leaves them the union of their sets, where each knows the others' present incarnations or nothing of their lives.
+/// Where no single operation is handed, each controller has with each operation all that were causally before it. What
+/// stands in its state are then exactly the maximal writes. What happened at each controller, its own events with their
+/// answers, is a history of it. The history goes from never booted to where the run leaves it.
 pub fn runs_converge()
     ensures converges { InEachRun Converges }
     // The same of the model nodes, wherever the run goes.

@@ -18,6 +18,8 @@ use Rattle.dac_chains.specs.declared.claims.How.TheVariants.{Normal, Failover as
 use Rattle.dac_chains.specs.Greatest.{IsGreatest}
 use Rattle.dac_chains.specs.Claims.{claim_cmp}
 use Rattle.dac_chains.specs.Lives.{Lives, IsLive}
+use Rattle.dac_wishes.specs.KeyedWrites.{keyed_write}
+use Rattle.dac_wishes.specs.DrainsValue.{origin}
 use Rattle.dac_wishes.specs.Writes.{write, same_dot, same_dot_is, same_dot_itself}
 use Rattle.dac_operations.specs.declared.act.Act.TheVariants.{Claim as Claims}
 use Rattle.dac_operations.specs.Operations.{Operation, operation}
@@ -25,7 +27,7 @@ use Rattle.dac_meaning.specs.StateValue.{StateValue, join}
 use Rattle.dac_meaning.specs.Meaning.{In, Within, meaning_of, claim_said, names, replaces}
 use Rattle.dac_meaning.specs.Chained.{Says}
 use Rattle.dac_meaning.specs.laws.Members.{In-append_left, In-append_right, In-append_cases, found, finds}
-use Rattle.dac_meaning.specs.laws.Readers.{known-meaning, starts-meaning, permits-meaning}
+use Rattle.dac_meaning.specs.laws.Readers.{known-meaning, starts-meaning, permits-meaning, drains-meaning}
 use Rattle.dac_meaning.specs.laws.StateLaws.{bottom-join}
 use Rattle.dac_meaning.specs.laws.Joins.{meaning-state}
 use Rattle.dac_config.specs.Table.{timeout_of, app_count}
@@ -528,7 +530,7 @@ may_run = record {
   listed = refl;
   inc = 1;
   live = is_live first_node (inl refl);
-  permitted = inl (λ d. permits-meaning loss_set (write (key_at the_app first_node 1) d), refl);
+  allowed = (inl (λ d. permits-meaning loss_set (write (key_at the_app first_node 1) d), refl), λ d. none_some (sym (drains-meaning loss_set (keyed_write (origin first_node 1) d.0)) ∙ d.1));
   started = (dot (first_of first_node) 2, starts-meaning loss_set (write (key_at the_app first_node 1) (dot (first_of first_node) 2)));
 }
 

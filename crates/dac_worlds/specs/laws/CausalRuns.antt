@@ -1,18 +1,14 @@
 -- Runs in which no operation is handed alone. In them each set is closed, and each operation was issued as the next
 -- after a closed set.
-use Rattle.std.proofs.Common.{◌≡◌, ℕ, zero, suc, ◌-◌, ◌+◌, true, false, cond, inl, inr, List, [], ◌∷◌, ◌++◌, Option, Some, None, Ok, Err, nat_eq, refl, sym, ap, subst, ◌∙◌, true≢false}
+use Rattle.std.proofs.Common.{◌≡◌, ℕ, zero, suc, ◌-◌, ◌+◌, true, false, cond, inl, inr, List, [], ◌∷◌, ◌++◌, Option, Some, None, Ok, Err, nat_eq, refl, sym, ap, subst, ◌∙◌}
 use Rattle.std.specs.Prelude.{nat_lt}
 use Rattle.std.specs.List.{slice_get}
 use Rattle.std.specs.Option.{option_map}
-use Rattle.std.proofs.lemmas.Bool.{leb-true}
-use Rattle.dac_base.specs.declared.limits.TheConstants.{MAX_COUNTER}
 use Rattle.dac_base.specs.declared.NodeId.{NodeId}
 use Rattle.dac_dots.specs.declared.dot.Origin.{Origin}
-use Rattle.dac_dots.specs.Dots.{dot}
 use Rattle.dac_operations.specs.Operations.{Operation}
 use Rattle.dac_meaning.specs.Meaning.{Within, Agree}
 use Rattle.dac_meaning.specs.laws.Members.{Within-append, In-append_left, In-append_right}
-use Rattle.dac_meaning.specs.laws.Readers.{known-meaning}
 use Rattle.dac_config.specs.Table.{Table}
 use Rattle.dac_decide.specs.declared.start_gate.Opening.{Opening}
 use Rattle.dac_decide.specs.declared.start_gate.Opening.TheVariants.{Shut, Opened, GiveUp}
@@ -46,7 +42,7 @@ use Rattle.dac_worlds.specs.laws.Operations.{Agree-within, DistinctDots-agree}
 use Rattle.dac_worlds.specs.laws.OneNode.{own_origin}
 use Rattle.dac_worlds.specs.laws.Runs.{run_first}
 use Rattle.dac_worlds.specs.laws.Sound.{Answer, Sound, held_at, sound_happens, sound_step}
-use Rattle.dac_worlds.specs.laws.Replacing.{IsNextAfter, AreNext, after_command, after_claims}
+use Rattle.dac_worlds.specs.laws.Replacing.{IsNextAfter, AreNext, up_next, after_command, after_claims}
 use Rattle.dac_worlds.specs.laws.ClosedSets.{ClosedSet, closed_none, closed_append, closed_more, Differ, IssuesOk, IssuedAll, issue_all}
 
 -- ---- the invariant
@@ -148,15 +144,8 @@ module _ (s : SetWorld) (n : NodeId) (h : Causal s) where
   }
 
 -- ---- what the deeds issue
--- the operation of a boot is the next after none
-up_next : (own : Origin) → IsNextAfter [] (up own)
-up_next own = record {
-  next = record { same_origin = refl; above = λ n t. absurd (true≢false (sym t ∙ known-meaning [] (dot own n))); tight = inl refl; at_most = leb-true 1 MAX_COUNTER refl };
-  replaces = tt;
-}
-
 -- where neither of two causes holds, the first doesn't
-first_free : (a b : Option Refusal) → otherwise a b ≡ None → a ≡ None
+pub first_free : (a b : Option Refusal) → otherwise a b ≡ None → a ≡ None
 first_free None b e = refl
 first_free (Some why) b e = cc
 

@@ -33,7 +33,8 @@ use Rattle.dac_worlds.specs.laws.NewsOfRuns.{news_run}
 use Rattle.dac_worlds.specs.laws.HeardInRuns.{heard_run}
 use Rattle.dac_worlds.specs.laws.AddressedInRuns.{addressed_run}
 use Rattle.dac_worlds.specs.laws.UpToDateInRuns.{up_to_date_run}
-use Rattle.dac_worlds.specs.laws.IssuingInRuns.{issued_run}
+use Rattle.dac_worlds.specs.laws.IssuingInRuns.{issued_run, numbered_start}
+use Rattle.dac_worlds.specs.laws.SharesInRuns.{shares_run}
 use Rattle.dac_worlds.specs.laws.CausalRuns.{causal_run, causal_start}
 use Rattle.dac_worlds.specs.laws.CausalityInRuns.{is_causal}
 use Rattle.dac_worlds.specs.laws.Runs.{node_there}
@@ -125,13 +126,14 @@ converged t events answers v r =
       distinct = subst DistinctDots (sym r.shows.operations) h.distinct;
       sets = sets;
       listed = lists_all t r.final v all r.shows h;
-      issued = issued_run t (start t) no_sets events answers r.final (sound_start t) r.run;
+      issued = (issued_run t (start t) no_sets events answers r.final (sound_start t) (numbered_start t) r.run).0;
       bodies = carry_meanings t r.final v all r.shows h;
       unite = unite_run t (start t) no_sets events answers r.final (sound_start t) r.run;
       news = news_run t (start t) no_sets events answers r.final (sound_start t) r.run;
       heard = heard_run t events answers r.final r.run;
       addressed = addressed_run t (start t) no_sets events answers r.final (sound_start t) r.run;
       up_to_date = up_to_date_run t (start t) no_sets events answers r.final (sound_start t) r.run;
+      shares = shares_run t events answers r.final r.run;
       causal = λ unhanded. is_causal v r.final all sets h (causal_run t (start t) no_sets events answers r.final (sound_start t) causal_start r.run unhanded);
       histories = have_histories t events answers v r;
     }

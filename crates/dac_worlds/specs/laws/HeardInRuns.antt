@@ -1,10 +1,10 @@
 -- What fits a running node is heard, unless memory is refused or its numbers of deltas are used up.
-use Rattle.std.proofs.Common.{◌≡◌, ◌⊎◌, ◌<◌, ◌≤◌, ℕ, zero, suc, ◌+◌, ◌-◌, Bool, true, false, not, cond, ◌&&◌, List, [], ◌∷◌, length, Option, Some, None, Result, Ok, Err, inl, inr, nat_eq, refl, sym, ap, subst, ◌∙◌, eq-eqb, true≢false, ltb-true, arith}
+use Rattle.std.proofs.Common.{◌≡◌, ◌⊎◌, ◌<◌, ◌≤◌, ℕ, zero, suc, ◌+◌, ◌-◌, Bool, true, false, not, cond, ◌&&◌, List, [], ◌∷◌, length, Option, Some, None, Result, Ok, Err, inl, inr, nat_eq, refl, sym, ap, subst, ◌∙◌, true≢false, ltb-true, arith}
 use Rattle.std.specs.Prelude.{nat_lt}
 use Rattle.std.specs.Option.{option_map, option_map_or}
 use Rattle.std.specs.List.{slice_get}
 use Rattle.std.proofs.lemmas.Map.Views.{exact_unsigned_eq}
-use Rattle.std.proofs.lemmas.Bool.{false_from_ne_true}
+use Rattle.std.proofs.lemmas.Bool.{and_parts}
 use Rattle.dac_base.specs.declared.limits.TheConstants.{MAX_COUNTER}
 use Rattle.dac_base.specs.declared.NodeId.{NodeId}
 use Rattle.dac_dots.specs.declared.dot.Origin.{Origin}
@@ -103,6 +103,10 @@ copy_counted ops v ms cs k c h e =
 for_it : (a b c d : Bool) → a ≡ false → b ≡ true → c ≡ true → first ((a, OnSelf) ∷ (not (b && c), NotForMe) ∷ (d, DotsUsedUp) ∷ []) ≡ first ((d, DotsUsedUp) ∷ [])
 for_it a b c d p q r = λ i. first ((p i, OnSelf) ∷ (not (q i && r i), NotForMe) ∷ (d, DotsUsedUp) ∷ [])
 
+turned : (b : Bool) → not b ≡ true → b ≡ false
+turned true h = absurd (true≢false (sym h))
+turned false h = refl
+
 right : (a b : Bool) → (a && b) ≡ true → b ≡ true
 right true b h = h
 right false b h = absurd (true≢false (sym h))
@@ -142,20 +146,13 @@ module _ (t : Table) (w : ModelWorld) (s : SetWorld) (h : Sound w s) (deltas : N
   message_free k fits m r on copy =
       let last = (w.node n).last in
       let held = held_at w s n r h on in
-      let bound : option_map_or (λ inc. nat_eq inc last) m.only true ≡ true = bound_to m.only last (λ inc e. sym (fits.only inc (sym copy.only ∙ e) held.set held.is) ∙ held.inc) in
+      let all : (nat_eq m.to.0 n.0 && (not (nat_eq m.from.node.0 n.0) && option_map_or (λ inc. nat_eq inc last) m.only true)) ≡ true =
+      (λ i. nat_eq (copy.to i).0 n.0 && (not (nat_eq (copy.from i).0 n.0) && option_map_or (λ inc. nat_eq inc (sym held.inc i)) (copy.only i) true)) ∙ fits.fits held.set held.is in
+      let to = and_parts (nat_eq m.to.0 n.0) (not (nat_eq m.from.node.0 n.0) && option_map_or (λ inc. nat_eq inc last) m.only true) all in
+      let rest = and_parts (not (nat_eq m.from.node.0 n.0)) (option_map_or (λ inc. nat_eq inc last) m.only true) to.1 in
       ap (λ run. refusal_by t last (option_map (run_shown t) run) (Hear m)) on
       ∙ (ap (λ (q : Origin). first ((nat_eq m.from.node.0 q.node.0, OnSelf) ∷ (not (nat_eq m.to.0 q.node.0 && option_map_or (λ inc. nat_eq inc q.inc) m.only true), NotForMe) ∷ (overflows (run_shown t r) (content_of m.body), DotsUsedUp) ∷ [])) held.mine
-      ∙ for_it (nat_eq m.from.node.0 n.0) (nat_eq m.to.0 n.0) (option_map_or (λ inc. nat_eq inc last) m.only true) (overflows (run_shown t r) (content_of m.body))
-      (false_from_ne_true (nat_eq m.from.node.0 n.0) (λ e. fits.from (sym copy.from ∙ same_node m.from.node (exact_unsigned_eq m.from.node.0 n.0 e))))
-      (eq-eqb m.to.0 n.0 (ap (λ (k : NodeId). k.0) (copy.to ∙ fits.to)))
-      bound)
-    where
-      same_node : (m : NodeId) → m.0 ≡ n.0 → m ≡ n
-      same_node m e = ap (λ k. record { 0 = k }) e
-
-      bound_to : (only : Option ℕ) (last : ℕ) → ((inc : ℕ) → only ≡ Some inc → inc ≡ last) → option_map_or (λ inc. nat_eq inc last) only true ≡ true
-      bound_to None last f = refl
-      bound_to (Some inc) last f = eq-eqb inc last (f inc refl)
+      ∙ for_it (nat_eq m.from.node.0 n.0) (nat_eq m.to.0 n.0) (option_map_or (λ inc. nat_eq inc last) m.only true) (overflows (run_shown t r) (content_of m.body)) (turned (nat_eq m.from.node.0 n.0) rest.0) to.0 rest.1)
 
   heard_by_node : (what : What) → RunsIn s n → Fits s n what → Outcome (deltas n) (happens_by t w n (event_of w.operations w.messages what)).answer
   heard_by_node (Deliver k) runs fits =

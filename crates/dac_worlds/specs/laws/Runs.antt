@@ -1,5 +1,5 @@
 -- Runs by their steps: the first event and the rest, and one event more at the end.
-use Rattle.std.proofs.Common.{◌≡◌, ℕ, ◌<◌, ◌+◌, Bool, true, false, Some, None, List, [], ◌∷◌, ◌++◌, length, get_or, take, Result, Err, inl, inr, refl, ap, sym, subst, ◌∙◌}
+use Rattle.std.proofs.Common.{◌≡◌, ℕ, zero, suc, ◌<◌, ◌+◌, Bool, true, false, Some, None, List, [], ◌∷◌, ◌++◌, length, get_or, take, drop, Result, Err, inl, inr, refl, ap, sym, subst, ◌∙◌}
 use Rattle.std.specs.Prelude.{nat_lt, cond}
 use Rattle.std.specs.List.{slice_get}
 use Rattle.std.proofs.lemmas.List.{take_more}
@@ -13,7 +13,7 @@ use Rattle.dac_rules.specs.NodeValue.{NodeValue}
 use Rattle.dac_rules.specs.ModelNode.{shown}
 use Rattle.dac_rules.specs.laws.Options.{some_same}
 use Rattle.dac_worlds.specs.WorldValue.{WorldValue}
-use Rattle.dac_worlds.specs.ModelWorld.{ModelWorld, Step, IsAnswer, Run, RanAs, Follows, Shows, happens, start, went, numbered, out_of_memory}
+use Rattle.dac_worlds.specs.ModelWorld.{ModelWorld, Step, IsAnswer, AnsweredAs, Run, RanAs, Follows, Shows, happens, start, went, world_after, numbered, out_of_memory}
 use Rattle.dac_worlds.specs.laws.Memory.{enough_memory}
 
 -- ---- one event
@@ -47,6 +47,21 @@ run_from_first t w e es a answers next final s r =
     let by = step_answers t w e a next s in
     let rest : Run t (went t w e a) es answers final = subst (λ (v : ModelWorld). Run t v es answers final) by.1 r in
     ((by.0, rest.0), rest.1)
+
+-- ---- the first so many events and the rest
+pub answered_take : (t : Table) (w : ModelWorld) (es : List WorldEvent) (answers : List (Result Reply WorldFault)) (k : ℕ) → AnsweredAs t w es answers → AnsweredAs t w (take k es) (take k answers)
+answered_take t w es answers zero h = tt
+answered_take t w [] [] (suc k) h = tt
+answered_take t w [] (a ∷ answers) (suc k) h = absurd h
+answered_take t w (e ∷ es) [] (suc k) h = absurd h
+answered_take t w (e ∷ es) (a ∷ answers) (suc k) h = (h.0, answered_take t (went t w e a) es answers k h.1)
+
+pub answered_drop : (t : Table) (w : ModelWorld) (es : List WorldEvent) (answers : List (Result Reply WorldFault)) (k : ℕ) → AnsweredAs t w es answers → AnsweredAs t (world_after t w (take k es) (take k answers)) (drop k es) (drop k answers)
+answered_drop t w es answers zero h = h
+answered_drop t w [] [] (suc k) h = tt
+answered_drop t w [] (a ∷ answers) (suc k) h = absurd h
+answered_drop t w (e ∷ es) [] (suc k) h = absurd h
+answered_drop t w (e ∷ es) (a ∷ answers) (suc k) h = answered_drop t (went t w e a) es answers k h.1
 
 -- ---- one event more
 pub Run-push : (t : Table) (w : ModelWorld) (es : List WorldEvent) (bs : List (Result Reply WorldFault)) (mid : ModelWorld) (e : WorldEvent) (a : Result Reply WorldFault) (next : ModelWorld) →

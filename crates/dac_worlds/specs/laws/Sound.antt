@@ -87,7 +87,7 @@ other_node m n f e = true≢false (sym (eq-eqb m.0 n.0 (ap (λ (k : NodeId). k.0
 pub put_at : (sets : NodeId → Option NodeSet) (n : NodeId) (held : Option NodeSet) → with_set sets n held n ≡ held
 put_at sets n held = ap (λ b. cond b held (sets n)) (eq-eqb n.0 n.0 refl)
 
-put_elsewhere : (sets : NodeId → Option NodeSet) (n : NodeId) (held : Option NodeSet) (m : NodeId) → (m ≡ n → ⊥) → with_set sets n held m ≡ sets m
+pub put_elsewhere : (sets : NodeId → Option NodeSet) (n : NodeId) (held : Option NodeSet) (m : NodeId) → (m ≡ n → ⊥) → with_set sets n held m ≡ sets m
 put_elsewhere sets n held m far = ap (λ b. cond b held (sets m)) (false_from_ne_true (nat_eq m.0 n.0) (λ t. far (same_node m n t)))
 
 none_in : (o : Operation) → In o [] → ⊥

@@ -1,6 +1,5 @@
 use Rattle.dac_settle.specs.laws.WorkedRound.{rounds_can_be}
 use Rattle.dac_settle.specs.laws.OneTick.{runs_can_end}
-use Rattle.dac_settle.specs.laws.Admitted.{rounds_admit}
 use Rattle.dac_settle.specs.laws.Losing.{loss_can_be}
 use Rattle.dac_settle.proofs.laws.rounds_can_be.Goals as goal
 
@@ -9,9 +8,6 @@ returns-clause-members c = rounds_can_be
 
 pub returns-clause-runs : goal.returns-clause-runs
 returns-clause-runs c = runs_can_end
-
-pub returns-clause-admits : goal.returns-clause-admits
-returns-clause-admits c = rounds_admit
 
 pub returns-clause-losses : goal.returns-clause-losses
 returns-clause-losses c = loss_can_be
