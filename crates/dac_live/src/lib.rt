@@ -10,7 +10,7 @@
 //! seat's calls stand once, at their places, and nothing else stands. Where the calls don't match it, a
 //! [`CloseFault`] is the answer. Nothing promises that a call gets the lock.
 //!
-//! A caller, in a function over the site's name `L`. It boots the node, and reads the page behind that. The module
+//! A caller, in a function over the name `L` of a site. It boots the node, and reads the page behind that. The module
 //! `callers` of `live_tests` runs it, under the name `Brand`, for a blank of `blank_site(rt, alloc, &config, node, 0, 1, 1)`.
 //!
 //! ```
