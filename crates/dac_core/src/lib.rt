@@ -9,6 +9,32 @@
 //! controller's state is the meaning of the set of operations that it has heard. So controllers that heard
 //! the same set hold equal states. Merging two states gives their least upper bound. Where the events end in enough
 //! rounds, begun in a ready world, each application is settled at each running controller.
+//!
+//! A caller of a world, for a configuration of one application and two nodes. It tells whom the second node takes for the
+//! holder, once it has heard of the first one's claim. The module `callers` of `controller_tests` runs it.
+//!
+//! ```
+//! let (main, spare, app) = (NodeId(0), NodeId(1), AppId(0));
+//! let start = Command::Start { app, node: main };
+//! let script = [
+//!     (main, What::Boot { now: 0 }),
+//!     (spare, What::Boot { now: 0 }),
+//!     (main, What::Command(start)),
+//!     (main, What::Tick { now: 10 }),
+//!     (main, What::Ship { to: spare }),
+//!     (spare, What::Deliver(1)),
+//! ];
+//! let mut events = Vec::new(alloc);
+//! for (node, what) in script {
+//!     events.push(WorldEvent { node, what }).ok()?;
+//! }
+//! let (world, answers) = World::run(alloc, &config, &events).ok()?;
+//! if config.nodes() <= spare.0 || answers.iter().any(|answer| answer.is_err()) {
+//!     return None;
+//! }
+//! let state = world.node(spare).state()?;
+//! Some(holder(state, app)?.node)
+//! ```
 #![tactic(auto)]
 
 pub use dac_events::{Command, What, WorldEvent};

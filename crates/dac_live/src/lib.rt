@@ -9,6 +9,24 @@
 //! whose next record is that of the call. Closing shows the journal itself. It is a history of the node in which each
 //! seat's calls stand once, at their places, and nothing else stands. Where the calls don't match it, a
 //! [`CloseFault`] is the answer. Nothing promises that a call gets the lock.
+//!
+//! A caller, in a function over the name `L` of a site. It boots the node, and reads the page behind that. The module
+//! `callers` of `live_tests` runs it, under the name `Brand`, for a blank of `blank_site(rt, alloc, &config, node, 0, 1, 1)`.
+//!
+//! ```
+//! let (site, mut seats, mut readers) = open_site::<L, R>(rt, blank).ok()?;
+//! let mut place = 0;
+//! if let (Some(seat), Some(reader)) = (seats.first_mut(), readers.first_mut()) {
+//!     if let Ok(mut receipt) = site.call(rt, seat, Event::Boot { now: 0 }) {
+//!         reader.learn(&mut receipt);
+//!         if let Some(page) = reader.read() {
+//!             place = page.place;
+//!         }
+//!     }
+//! }
+//! let closed = site.close(rt, seats).ok()?;
+//! Some((place, closed.records().len()))
+//! ```
 #![tactic(auto)]
 
 pub use blank::{SiteBlank, SiteName, blank_site};

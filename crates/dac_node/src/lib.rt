@@ -8,6 +8,25 @@
 //! At a tick a node looks after the applications. Once its start gate is open it notes which claims are lost, and
 //! claims what it is to run now. A ship sends another node what it hasn't acknowledged, as an interval of the newest
 //! deltas or as the whole state. What comes of a message is joined, and what all others have acknowledged is dropped.
+//!
+//! A caller of two nodes. What the first one ships is new to the second one, which refuses it once it is off. The module
+//! `callers` of `controller_tests` runs it.
+//!
+//! ```
+//! let mut sender = Node::off(alloc, 0);
+//! let mut receiver = Node::off(alloc, 0);
+//! sender.step(&config, main, Event::Boot { now: 0 }).ok()?;
+//! receiver.step(&config, spare, Event::Boot { now: 0 }).ok()?;
+//! let shipped = sender.step(&config, main, Event::Ship { to: spare });
+//! let Ok(Reply::Shipped(message)) = shipped else {
+//!     return None;
+//! };
+//! let again = message.copy().ok()?;
+//! let heard = receiver.step(&config, spare, Event::Hear(message)).ok()?;
+//! receiver.step(&config, spare, Event::Crash).ok()?;
+//! let late = receiver.step(&config, spare, Event::Hear(again));
+//! Some((heard.equal(&Reply::Heard(true)), late.err()?))
+//! ```
 #![tactic(auto)]
 
 pub use change::Change;

@@ -635,6 +635,161 @@ app shop holder main@h 1 term 3 normal verdict kept main@h
 list main@h=ok spare@h=barred
 "#,
     ),
+    // split.distac
+    (
+        "sim",
+        r#"[{kernel, [{distributed, [{myapp, 5000, [cp1@cave, {cp2@cave, cp3@cave}]}]}]}].
+--
+% Three nodes come up, and the application runs at the first one.
+boot cp1@cave 0
+boot cp2@cave 0
+boot cp3@cave 0
+start cp1@cave myapp cp1@cave
+start cp2@cave myapp cp2@cave
+start cp3@cave myapp cp3@cave
+share
+tick cp1@cave 100
+share
+% The network splits, with cp1 alone. Each side is told that the other one is down. Messages 1 to 12 are those of the two shares.
+down cp1@cave cp2@cave
+down cp1@cave cp3@cave
+down cp2@cave cp1@cave
+ship cp2@cave cp3@cave
+hear cp3@cave 13
+% The side of cp2 and cp3 waits five seconds and restarts the application. Cp1 keeps it, so now both sides hold it.
+tick cp2@cave 1000
+tick cp2@cave 6000
+ship cp2@cave cp3@cave
+hear cp3@cave 14
+tick cp1@cave 6000
+page cp1@cave
+page cp3@cave
+% The split heals. Each node hears that it was declared down: none may run anything, and each command and tick is refused.
+share
+page cp1@cave
+tick cp1@cave 7000
+tick cp2@cave 7000
+start cp3@cave myapp cp3@cave
+% The way out: one node after another crashes, boots, and hears what the others know. None ticks yet.
+crash cp1@cave
+boot cp1@cave 8000
+share
+share
+crash cp2@cave
+boot cp2@cave 8000
+share
+share
+crash cp3@cave
+boot cp3@cave 8000
+% In the first share cp1 and cp2 ship before they hear that cp3 booted again. So it hears nothing of them.
+share
+page cp3@cave
+% In the second one it hears all.
+share
+page cp3@cave
+% The greatest claim is cp2's. So it is started for cp2 first, which claims it at once. Another node would wait.
+start cp2@cave myapp cp2@cave
+tick cp2@cave 8100
+% Then it is started for the others. Cp1 is of an earlier group, and takes it over at its next tick.
+start cp1@cave myapp cp1@cave
+start cp3@cave myapp cp3@cave
+share
+tick cp1@cave 8200
+share
+page cp2@cave
+same cp1@cave cp3@cave
+"#,
+        r#"booted 1 op 1
+booted 1 op 2
+booted 1 op 3
+issued 4 cp1@cave 1 2
+issued 5 cp2@cave 1 2
+issued 6 cp3@cave 1 2
+shared 6
+ticked
+claim 7 myapp term 1 normal
+shared 6
+issued 8 cp1@cave 1 4
+issued 9 cp1@cave 1 5
+issued 10 cp2@cave 1 3
+shipped 13 interval 1
+heard new
+ticked
+ticked
+claim 11 myapp term 2 failover from cp1@cave
+shipped 14 interval 2
+heard new
+ticked
+node cp1@cave 1
+heard 9 known 9
+node cp1@cave up 1
+node cp2@cave down 1
+node cp3@cave down 1
+app myapp holder cp1@cave 1 term 1 normal verdict kept cp1@cave
+list cp1@cave=ok cp2@cave=down cp3@cave=down
+node cp3@cave 1
+heard 9 known 9
+node cp1@cave down 1
+node cp2@cave up 1
+node cp3@cave up 1
+app myapp holder cp2@cave 1 term 2 failover from cp1@cave verdict kept cp2@cave
+list cp1@cave=down cp2@cave=ok cp3@cave=ok
+shared 6
+node cp1@cave 1
+heard 11 known 11
+node cp1@cave down 1
+node cp2@cave down 1
+node cp3@cave down 1
+app myapp holder cp2@cave 1 term 2 failover from cp1@cave verdict nobody
+list cp1@cave=down cp2@cave=down cp3@cave=down
+refused 3 DeclaredDown
+refused 3 DeclaredDown
+refused 3 DeclaredDown
+crashed
+booted 2 op 12
+shared 6
+shared 5
+crashed
+booted 2 op 13
+shared 4
+shared 6
+crashed
+booted 2 op 14
+shared 3
+node cp3@cave 2
+heard 1 known 1
+node cp1@cave unknown
+node cp2@cave unknown
+node cp3@cave up 2
+app myapp holder none verdict nobody
+list cp1@cave=down cp2@cave=down cp3@cave=idle
+shared 6
+node cp3@cave 2
+heard 14 known 14
+node cp1@cave up 2
+node cp2@cave up 2
+node cp3@cave up 2
+app myapp holder cp2@cave 1 term 2 failover from cp1@cave verdict nobody
+list cp1@cave=idle cp2@cave=idle cp3@cave=idle
+issued 15 cp2@cave 2 2
+ticked
+claim 16 myapp term 3 failover from cp2@cave
+issued 17 cp1@cave 2 2
+issued 18 cp3@cave 2 2
+shared 6
+ticked
+claim 19 myapp term 4 takeover from cp2@cave
+shared 6
+node cp2@cave 2
+heard 19 known 19
+node cp1@cave up 2
+node cp2@cave up 2
+node cp3@cave up 2
+app myapp holder cp1@cave 2 term 4 takeover from cp2@cave verdict kept cp1@cave
+list cp1@cave=ok cp2@cave=ok cp3@cave=ok
+same
+"#,
+    ),
     // start-gate.distac
     (
         "sim",

@@ -1,0 +1,44 @@
+//! A caller as it stands in the first comment of `dac_live`.
+ghost use Rattle.std.specs.Prelude.{◌≡◌};
+ghost use Rattle.dac_live.specs.Sites.{IsBlankOf};
+
+use dac_base::NodeId;
+use dac_config::read_config;
+use dac_live::{SiteBlank, SiteName, blank_site, open_site};
+use dac_messages::Event;
+use std::alloc::Global;
+use std::marker::Brand;
+use std::sync::Wait;
+use std::test::Fail;
+
+/// A site with one seat and one reader: the place of the page that is read behind a boot, and how many records the closed
+/// journal has.
+fn boot_at<L: SiteName, R: Wait>(rt: &R, alloc: Global, blank: SiteBlank) -> Option<(u64, usize)>
+    requires { IsBlankOf blank L.name L.parts L.seats L.opening }
+{
+    let (site, mut seats, mut readers) = open_site::<L, R>(rt, blank).ok()?;
+    let mut place = 0;
+    if let (Some(seat), Some(reader)) = (seats.first_mut(), readers.first_mut()) {
+        if let Ok(mut receipt) = site.call(rt, seat, Event::Boot { now: 0 }) {
+            reader.learn(&mut receipt);
+            if let Some(page) = reader.read() {
+                place = page.place;
+            }
+        }
+    }
+    let closed = site.close(rt, seats).ok()?;
+    Some((place, closed.records().len()))
+}
+
+/// The same, from the configuration on.
+fn boot_once<R: Wait>(rt: &R, alloc: Global) -> Option<(u64, usize)> {
+    let config = read_config(alloc, b"[{kernel,[{distributed,[{shop,[main@h]}]}]}].").ok()?;
+    let blank = blank_site(rt, alloc, &config, NodeId(0), 0, 1, 1).ok()?;
+    boot_at::<Brand, R>(rt, alloc, blank)
+}
+
+#[test]
+fn a_caller_of_a_site(rt: HostRuntime) -> Result<(), Fail> {
+    assert_eq!(rt; boot_once(&rt, rt.alloc()), Some((1, 1)));
+    Ok(())
+}
