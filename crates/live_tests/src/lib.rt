@@ -3,6 +3,8 @@
 #![tactic(auto)]
 
 #[cfg(test)]
+mod doing;
+#[cfg(test)]
 mod matching;
 #[cfg(test)]
 mod recording;
