@@ -1,10 +1,10 @@
 #!/usr/bin/env python3
 """Runs the program and the models on the same random inputs, and prints the first difference whole.
 
-Usage: python3 compare.py PROGRAM [--seed S] [--count N] [--scripts M] [--live L] [--jobs J]
+Usage: python3 compare.py PROGRAM [--seed S] [--count N] [--scripts M] [--live L] [--packets P] [--jobs J]
 
 PROGRAM may be a command of several words in one argument, as of a loader with its arguments. The word `check`, `sim` or `live`
-is added to it. A live run that hasn't ended after some minutes is a difference too.
+is added to it. A live run that hasn't ended after some minutes is a difference too. Packets are fed to `sim`, 500 by a script.
 """
 
 from __future__ import annotations
@@ -53,6 +53,7 @@ KINDS = {
     "check": Kind("check", random_texts.random_text, check.check),
     "sim": Kind("sim", random_scripts.random_script, sim.simulate),
     "live": Kind("live", random_live.random_live, live.run_live),
+    "packets": Kind("sim", random_scripts.random_packets, sim.simulate),
 }
 
 
@@ -72,7 +73,7 @@ def compare_batch(program: list[str], word: str, seed: int, numbers: range) -> l
     found = []
     for number in numbers:
         source = kind.make(seed, number)
-        said, expected = run_program(program, word, source), kind.model(source)
+        said, expected = run_program(program, kind.word, source), kind.model(source)
         if said != expected:
             found.append(Difference(word, number, source, said, expected))
     return found
@@ -109,6 +110,7 @@ def arguments() -> argparse.Namespace:
     parser.add_argument("--count", type=int, default=20_000, help="how many texts for `check`")
     parser.add_argument("--scripts", type=int, default=2_000, help="how many scripts for `sim`")
     parser.add_argument("--live", type=int, default=500, help="how many scripts for `live`")
+    parser.add_argument("--packets", type=int, default=20_000, help="how many packets for `feed`, at least")
     parser.add_argument("--jobs", type=int, default=2)
     parser.add_argument("program", type=shlex.split, help="the program, or a command of several words")
     return parser.parse_args()
@@ -117,11 +119,13 @@ def arguments() -> argparse.Namespace:
 def main() -> int:
     """Compares, shows the first difference, and counts all."""
     words = arguments()
-    counts = {"check": words.count, "sim": words.scripts, "live": words.live}
+    feeds = -(-words.packets // random_scripts.PACKETS)
+    counts = {"check": words.count, "sim": words.scripts, "live": words.live, "packets": feeds}
     found = compare_all(words.program, words.seed, counts, words.jobs)
     if found:
         show(found[0])
-    print(f"{words.count} texts, {words.scripts} scripts, {words.live} live scripts, {len(found)} differences")
+    packets = feeds * random_scripts.PACKETS
+    print(f"{words.count} texts, {words.scripts} scripts, {words.live} live scripts, {packets} packets, {len(found)} differences")
     return 1 if found else 0
 
 

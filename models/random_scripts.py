@@ -52,6 +52,7 @@ ALL = dict.fromkeys(
 PROFILES = (CALM, CALM, LETTERS, LETTERS, HANDS, FEEDS, FEEDS, PAUSES, PAUSES, DRAINS, ALL)
 
 FEW_NODES = 8
+PACKETS = 500
 
 ODD_WORDS = (
     *b"'true' True 01 -1 4611686018427387904 4611686018427387905 99999999999999999999999 1x fun 'fun' Zz ' '' 'a'b'".split(),
@@ -217,12 +218,16 @@ class ScriptMaker:
         else:
             self.simple(verb.encode())
 
-    def feed(self) -> None:
-        """The bytes of a packet, most often changed a little."""
+    def feed_line(self) -> bytes:
+        """A line with the bytes of a packet, most often changed a little."""
         data = random_packet(self.random, self.world)
         for _ in range(self.random.choice((0, 0, 1, 1, 1, 2))):
             data = changed_bytes(self.random, data)
-        self.add(b"feed", (data or b"D").hex().encode())
+        return b"feed " + (data or b"D").hex().encode()
+
+    def feed(self) -> None:
+        """The bytes of a packet."""
+        self.add(*self.feed_line().split())
 
     # Whole scripts
 
@@ -536,6 +541,17 @@ def random_script(seed: int, number: int) -> bytes:
         lines = with_fault(random, lines)
     script = decorated(random, lines)
     return odd_input(random, text, script) if roll > 0.98 else text + b"--\n" + script
+
+
+def random_packets(seed: int, number: int) -> bytes:
+    """A script that feeds PACKETS packets, after a world has grown from which they may come."""
+    random = Random(f"packets {seed} {number}")
+    text = random.choice(CONFIGS)
+    maker = ScriptMaker(random, read_config(text))
+    maker.open()
+    maker.some(random.choice((CALM, LETTERS, HANDS, DRAINS)), random.choice((5, 20, 40)))
+    feeds = [maker.feed_line() for _ in range(PACKETS)]
+    return text + b"--\n" + b"\n".join(maker.lines + feeds)
 
 
 if __name__ == "__main__":

@@ -7,6 +7,8 @@
 #[cfg(test)]
 mod bytes;
 #[cfg(test)]
+mod changes;
+#[cfg(test)]
 mod messages;
 #[cfg(test)]
 mod sample;

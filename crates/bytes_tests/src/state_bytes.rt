@@ -26,7 +26,7 @@ const BOOTED_ONE: &[u8] =
     \x00\x00";
 
 /// Three nodes and three applications.
-const LISTS: &[u8] = b"[{kernel,[{distributed,[{p,[a@h,b@h]},{q,[c@h]},{r,[a@h]}]}]}].";
+pub const LISTS: &[u8] = b"[{kernel,[{distributed,[{p,[a@h,b@h]},{q,[c@h]},{r,[a@h]}]}]}].";
 
 /// A state with every part, under the configuration of three applications.
 const FULL: &[u8] = b"\
@@ -174,7 +174,7 @@ fn has_dots(state: &State) -> bool {
 }
 
 /// The state with every part.
-fn full(alloc: Global) -> Option<State> {
+pub fn full(alloc: Global) -> Option<State> {
     State::decode(alloc, &config(alloc, LISTS)?, FULL).ok()
 }
 

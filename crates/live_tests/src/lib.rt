@@ -5,6 +5,8 @@
 #[cfg(test)]
 mod callers;
 #[cfg(test)]
+mod doing;
+#[cfg(test)]
 mod matching;
 #[cfg(test)]
 mod recording;

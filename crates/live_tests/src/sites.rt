@@ -18,7 +18,7 @@ use std::test::Fail;
 use std::thread::{Threads, join};
 
 /// The documented example: three nodes, of which two must be there before an application starts.
-const EXAMPLE: &[u8] =
+pub const EXAMPLE: &[u8] =
     b"[{kernel, [{distributed, [{myapp, 5000, [cp1@cave, {cp2@cave, cp3@cave}]}]}, {sync_nodes_mandatory, [cp2@cave, cp3@cave]}, {sync_nodes_timeout, 5000}]}].";
 
 /// What a call was answered, in short.
@@ -83,7 +83,7 @@ fn worked<L: SiteName, R: Wait>(
 }
 
 /// The first two of two seats.
-fn first_two<L: SiteName>(mut seats: Vec<Seat<L>>) -> Option<(Seat<L>, Seat<L>)> {
+pub fn first_two<L: SiteName>(mut seats: Vec<Seat<L>>) -> Option<(Seat<L>, Seat<L>)> {
     let second = seats.pop()?;
     let first = seats.pop()?;
     Some((first, second))
@@ -100,7 +100,7 @@ fn given_back<L: SiteName>(alloc: Global, first: Seat<L>, second: Option<Seat<L>
 }
 
 /// Ends a site without its seats.
-fn closed_with_none<L: SiteName, T, R: Wait>(rt: &R, alloc: Global, site: Site<L>) -> Option<T>
+pub fn closed_with_none<L: SiteName, T, R: Wait>(rt: &R, alloc: Global, site: Site<L>) -> Option<T>
     requires { L.seats ≡ L.parts }
 {
     let _ = site.close(rt, Vec::new(alloc));

@@ -23,4 +23,6 @@ mod running;
 #[cfg(test)]
 mod scripts;
 #[cfg(test)]
+mod turns;
+#[cfg(test)]
 mod wires;

@@ -1,14 +1,17 @@
 //! Scripts in which controllers tick and take over, each with its configuration and with what is printed.
 use crate::scripts::{EXAMPLE, PLAIN, TWO};
 
+/// The start gate holds the first tick back. Then the first node of the list claims, and claims nothing at the second tick of
+/// one moment.
+pub const STARTING: (&str, &str, &str) = (
+    EXAMPLE,
+    "boot cp1@cave 0\nboot cp2@cave 0\nboot cp3@cave 0\nstart cp1@cave myapp cp1@cave\nstart cp2@cave myapp cp2@cave\nstart cp3@cave myapp cp3@cave\ntick cp1@cave 0\nshare\ntick cp1@cave 0\ntick cp1@cave 0\nshare\npage cp2@cave\n",
+    "booted 1 op 1\nbooted 1 op 2\nbooted 1 op 3\nissued 4 cp1@cave 1 2\nissued 5 cp2@cave 1 2\nissued 6 cp3@cave 1 2\nheld\nshared 6\nticked\nclaim 7 myapp term 1 normal\nticked\nshared 6\nnode cp2@cave 1\nheard 7 known 7\nnode cp1@cave up 1\nnode cp2@cave up 1\nnode cp3@cave up 1\napp myapp holder cp1@cave 1 term 1 normal verdict kept cp1@cave\nlist cp1@cave=ok cp2@cave=ok cp3@cave=ok\n",
+);
+
 /// All of them.
 pub const PLACEMENTS: &[(&str, &str, &str)] = &[
-    // The start gate holds the first tick back. Then the first node of the list claims, and claims nothing at the second tick of one moment.
-    (
-        EXAMPLE,
-        "boot cp1@cave 0\nboot cp2@cave 0\nboot cp3@cave 0\nstart cp1@cave myapp cp1@cave\nstart cp2@cave myapp cp2@cave\nstart cp3@cave myapp cp3@cave\ntick cp1@cave 0\nshare\ntick cp1@cave 0\ntick cp1@cave 0\nshare\npage cp2@cave\n",
-        "booted 1 op 1\nbooted 1 op 2\nbooted 1 op 3\nissued 4 cp1@cave 1 2\nissued 5 cp2@cave 1 2\nissued 6 cp3@cave 1 2\nheld\nshared 6\nticked\nclaim 7 myapp term 1 normal\nticked\nshared 6\nnode cp2@cave 1\nheard 7 known 7\nnode cp1@cave up 1\nnode cp2@cave up 1\nnode cp3@cave up 1\napp myapp holder cp1@cave 1 term 1 normal verdict kept cp1@cave\nlist cp1@cave=ok cp2@cave=ok cp3@cave=ok\n",
-    ),
+    STARTING,
     // A mandatory node doesn't come up: the start gate gives up, and the node is off until it boots again.
     (
         EXAMPLE,

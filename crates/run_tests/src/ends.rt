@@ -34,6 +34,9 @@ struct Lost {
     worker: Option<RunFault>,
 }
 
+/// The same, and how many records its site's journal then has: the boot, and the ship whose letter is lost.
+type Ended = (Lost, usize);
+
 /// A link with its sender alone.
 fn sender_alone(alloc: Global) -> Option<LinkSender> {
     let (out, into) = link(alloc, 64).ok()?;
@@ -65,13 +68,13 @@ fn both_lost<L: SiteName, R: Wait>(
     Some(Lost { shipper, worker })
 }
 
-/// Opens a site with one seat, and ends it.
+/// Opens a site with one seat, and closes it.
 fn opened<L: SiteName, R: Wait>(
     rt: &R,
     alloc: Global,
     config: &Config,
     blank: SiteBlank,
-) -> Option<Lost>
+) -> Option<Ended>
     requires { IsBlankOf blank L.name L.parts L.seats L.opening }
 {
     let (site, mut seats, _readers) = open_site::<L, R>(rt, blank).ok()?;
@@ -79,11 +82,11 @@ fn opened<L: SiteName, R: Wait>(
         Some(seat) => both_lost(rt, alloc, config, &site, seat),
         None => None,
     };
-    let _ = site.close(rt, seats);
-    lost
+    let closed = site.close(rt, seats).ok()?;
+    Some((lost?, closed.records().len()))
 }
 
-fn lost_at_both<R: Wait>(rt: &R, alloc: Global) -> Option<Lost> {
+fn lost_at_both<R: Wait>(rt: &R, alloc: Global) -> Option<Ended> {
     let config = read_config(alloc, TWO).ok()?;
     let blank = blank_site(rt, alloc, &config, NodeId(0), 0, 1, 0).ok()?;
     opened::<Brand, R>(rt, alloc, &config, blank)
@@ -101,10 +104,13 @@ fn links_with_one_end_are_lost(rt: HostRuntime) -> Result<(), Fail> {
     };
     assert_eq!(rt;
         lost_at_both(&rt, rt.alloc()),
-        Some(Lost {
-            shipper: Some(shipper),
-            worker: Some(worker)
-        })
+        Some((
+            Lost {
+                shipper: Some(shipper),
+                worker: Some(worker)
+            },
+            2
+        ))
     );
     Ok(())
 }
