@@ -1,0 +1,178 @@
+"""The command line of `distac-view`."""
+
+from __future__ import annotations
+
+import argparse
+import sys
+from typing import Callable
+
+from view.config_warnings import warnings_on
+from view.distac import Distac, found_distac
+from view.loading import Faulty, answers_of, load_config, load_script
+from view.output import Output, Progress, drop_output, say
+from view.playing import Playing, rows_of, unknown_names
+from view.problems import Problem, Status
+
+VERSION = "distac-view 1"
+EPILOG = """\
+exit status:
+  0  done
+  1  the file has a fault; with --strict, it has a warning
+  2  wrong use, a file that can't be read or written, or no answer from distac
+
+The program distac is taken from --distac PATH, else from the environment variable DISTAC, else from beside this one.
+A FILE that is a dash is standard input."""
+
+
+def check(distac: Distac, words: argparse.Namespace, output: Output) -> Status:
+    """Prints the canonical text of a configuration, with warnings on standard error."""
+    checked = load_config(distac, words.file)
+    output.line(checked.canonical)
+    output.flush()
+    return warned(words, [remark.text(words.file) for remark in warnings_on(checked)])
+
+
+def play(distac: Distac, words: argparse.Namespace, output: Output) -> Status:
+    """Prints each answer beside its line."""
+    loaded = load_script(distac, words.script)
+    if words.plain:
+        output.raw(loaded.plain)
+        return Status.FINE
+    playing = Playing(words.page, words.explain or output.is_terminal)
+    for row in rows_of(distac, loaded, playing):
+        output.line(row)
+    output.flush()
+    remarks = unknown_names(answers_of(distac, loaded), loaded.configuration)
+    return warned(words, [remark.text(words.script) for remark in remarks])
+
+
+def warned(words: argparse.Namespace, warnings: list[str]) -> Status:
+    """Says warnings, and the status that they lead to."""
+    for warning in warnings:
+        say(warning)
+    return Status.FAULT if warnings and words.strict else Status.FINE
+
+
+def timeline(distac: Distac, words: argparse.Namespace, output: Output) -> Status:
+    """Writes the page of a script's timeline."""
+    from view.timeline import write_timeline
+
+    return write_timeline(distac, words.script, words.output, output)
+
+
+def what_if(distac: Distac, words: argparse.Namespace, output: Output) -> Status:
+    """Prints what becomes of each application if nodes go down."""
+    from view.what_if import Question, print_answer
+
+    question = Question(words.config, words.down, words.not_started, words.after)
+    return print_answer(distac, question, words.json, output)
+
+
+Subcommand = Callable[[Distac, argparse.Namespace, Output], Status]
+
+
+def parser_of_words() -> argparse.ArgumentParser:
+    """The parser of the command line."""
+    shared = argparse.ArgumentParser(add_help=False)
+    shared.add_argument("--distac", metavar="PATH", help="the program distac that is asked")
+    description = "For people around distac: where a fault is, what a script did, and what happens if a node goes down."
+    parser = argparse.ArgumentParser("distac-view", description=description, epilog=EPILOG, formatter_class=Formatter)
+    parser.add_argument("--version", action="version", version=VERSION)
+    commands = parser.add_subparsers(title="subcommands", dest="command", metavar="check | play | timeline | what-if")
+    for name, about, subcommand, add_words in SUBCOMMANDS:
+        own = commands.add_parser(name, parents=[shared], help=about, description=about, epilog=EPILOG, formatter_class=Formatter)
+        own.set_defaults(subcommand=subcommand)
+        add_words(own)
+    return parser
+
+
+class Formatter(argparse.RawDescriptionHelpFormatter):
+    """Help texts whose lines stay as they are, in a hundred columns."""
+
+    def __init__(self, prog: str) -> None:
+        super().__init__(prog, max_help_position=30, width=100)
+
+
+def check_words(parser: argparse.ArgumentParser) -> None:
+    """The words of `check`."""
+    parser.add_argument("file", metavar="FILE", help="a configuration, as erl -config takes it")
+    parser.add_argument("--strict", action="store_true", help="a warning makes the exit status 1")
+
+
+def play_words(parser: argparse.ArgumentParser) -> None:
+    """The words of `play`."""
+    parser.add_argument("script", metavar="SCRIPT", help="a configuration, a line --, and the lines of a script")
+    parser.add_argument("--page", action="store_true", help="show what the nodes know behind each share and each tell")
+    parser.add_argument("--explain", action="store_true", help="say why a line is refused, as is done on a terminal")
+    parser.add_argument("--plain", action="store_true", help="print the script that distac sim gets, each tell written out")
+    parser.add_argument("--strict", action="store_true", help="an unknown name makes the exit status 1")
+
+
+def timeline_words(parser: argparse.ArgumentParser) -> None:
+    """The words of `timeline`."""
+    parser.add_argument("script", metavar="SCRIPT", help="a configuration, a line --, and the lines of a script")
+    parser.add_argument("-o", "--output", metavar="FILE.html", required=True, help="the page that is written")
+
+
+def what_if_words(parser: argparse.ArgumentParser) -> None:
+    """The words of `what-if`."""
+    parser.add_argument("config", metavar="CONFIG", help="a configuration, as erl -config takes it")
+    parser.add_argument("--down", metavar="NODE", nargs="+", action="extend", default=[], help="nodes that go down together")
+    more = "nodes that come up without any application being started there"
+    parser.add_argument("--not-started", metavar="NODE", nargs="+", action="extend", default=[], help=more)
+    parser.add_argument("--after", metavar="SCRIPT", help="go on from where this script ends, not from a cluster that just came up")
+    parser.add_argument("--json", action="store_true", help="print the answer as JSON")
+
+
+SUBCOMMANDS: "list[tuple[str, str, Subcommand, Callable[[argparse.ArgumentParser], None]]]" = [
+    ("check", "Prints the canonical text of a configuration, or where its first fault is.", check, check_words),
+    ("play", "Plays a script and prints each answer beside its line.", play, play_words),
+    ("timeline", "Draws what a script did, as one page for a browser.", timeline, timeline_words),
+    ("what-if", "Says where each application goes if a node goes down, and where it is once the node is back.", what_if, what_if_words),
+]
+
+
+def run(arguments: list[str]) -> int:
+    """Does what the command line says. The exit status."""
+    parser = parser_of_words()
+    words = parser.parse_args(arguments)
+    if words.command is None:
+        parser.print_usage(sys.stderr)
+        return Status.WRONG_USE
+    output, progress = Output(), Progress()
+    try:
+        status = words.subcommand(watched(found_distac(words.distac), progress), words, output)
+        output.flush()
+        return status
+    except Faulty as faulty:
+        output.line(faulty.remark.text(faulty.path))
+        output.flush()
+        return Status.FAULT
+    except Problem as problem:
+        progress.end()
+        say(f"distac-view: {problem.sentence}")
+        return problem.status
+    finally:
+        progress.end()
+
+
+def watched(distac: Distac, progress: Progress) -> Distac:
+    """The program, with each question to it told to the progress."""
+    distac.is_asked = progress.ask
+    return distac
+
+
+def main() -> int:
+    """The whole program: nothing that comes of its input or of its surroundings is a traceback."""
+    try:
+        return run(sys.argv[1:])
+    except BrokenPipeError:
+        drop_output()
+        return Status.FINE
+    except OSError as error:
+        drop_output()
+        say(f"distac-view: standard output can't be written: {error.strerror or error}")
+        return Status.WRONG_USE
+    except KeyboardInterrupt:
+        drop_output()
+        return 130
