@@ -12,6 +12,8 @@ from view.loading import Faulty, answers_of, load_config, load_script
 from view.output import Output, Progress, drop_output, say
 from view.playing import Playing, rows_of, unknown_names
 from view.problems import Problem, Status
+from view.what_if import Question, reply_to
+from view.what_if_texts import json_of, table_of
 
 VERSION = "distac-view 1"
 EPILOG = """\
@@ -62,10 +64,10 @@ def timeline(distac: Distac, words: argparse.Namespace, output: Output) -> Statu
 
 def what_if(distac: Distac, words: argparse.Namespace, output: Output) -> Status:
     """Prints what becomes of each application if nodes go down."""
-    from view.what_if import Question, print_answer
-
-    question = Question(words.config, words.down, words.not_started, words.after)
-    return print_answer(distac, question, words.json, output)
+    reply = reply_to(distac, Question(words.config, words.down, words.not_started, words.after))
+    for line in [json_of(reply)] if words.json else table_of(reply):
+        output.line(line)
+    return Status.FINE
 
 
 Subcommand = Callable[[Distac, argparse.Namespace, Output], Status]
