@@ -8,14 +8,18 @@ from typing import Callable
 
 from view.config_warnings import warnings_on
 from view.distac import Distac, found_distac
-from view.loading import Faulty, answers_of, load_config, load_script
+from view.loading import Faulty, Loaded, answers_of, load_config, load_script
+from view.looking import seen_lines
 from view.output import Output, Progress, drop_output, say
 from view.playing import Playing, rows_of, unknown_names
 from view.problems import Problem, Status
+from view.timeline import Drafting
+from view.web_page import page_text
 from view.what_if import Question, reply_to
 from view.what_if_texts import json_of, table_of
 
 VERSION = "distac-view 1"
+MOST_DRAWN = 1_000
 EPILOG = """\
 exit status:
   0  done
@@ -57,9 +61,41 @@ def warned(words: argparse.Namespace, warnings: list[str]) -> Status:
 
 def timeline(distac: Distac, words: argparse.Namespace, output: Output) -> Status:
     """Writes the page of a script's timeline."""
-    from view.timeline import write_timeline
+    loaded = load_script(distac, words.script)
+    answers_of(distac, loaded)
+    drawn, left_out = drawn_lines(loaded, words.first, words.lines)
+    drafting = Drafting(loaded.configuration)
+    for seen in seen_lines(distac, loaded, drawn.start, drawn.stop):
+        drafting.add(seen)
+    write_page(words.output, page_text(words.script, drafting.finished(), left_out), output)
+    if left_out:
+        say(f"distac-view: {left_out}")
+    return Status.FINE
 
-    return write_timeline(distac, words.script, words.output, output)
+
+def drawn_lines(loaded: Loaded, first: int, most: int) -> tuple[range, str]:
+    """The lines that are drawn, and a sentence on those that aren't."""
+    start = next((place for place, line in enumerate(loaded.lines) if line.number >= first), len(loaded.lines))
+    stop = min(start + most, len(loaded.lines))
+    if start == stop:
+        raise Problem(f"{loaded.path} has no line of a script from line {first} on")
+    if (start, stop) == (0, len(loaded.lines)):
+        return range(start, stop), ""
+    numbers = f"lines {loaded.lines[start].number} to {loaded.lines[stop - 1].number}"
+    return range(start, stop), f"{numbers} are drawn: --from LINE and --lines N choose others"
+
+
+def write_page(path: str, text: str, output: Output) -> None:
+    """Writes a page to a file, or to standard output for a dash."""
+    data = text.encode("utf-8", "replace")
+    if path == "-":
+        output.raw(data)
+        return
+    try:
+        with open(path, "wb") as file:
+            file.write(data)
+    except (OSError, ValueError) as error:
+        raise Problem(f"{path} can't be written: {getattr(error, 'strerror', None) or error}") from error
 
 
 def what_if(distac: Distac, words: argparse.Namespace, output: Output) -> Status:
@@ -114,6 +150,8 @@ def timeline_words(parser: argparse.ArgumentParser) -> None:
     """The words of `timeline`."""
     parser.add_argument("script", metavar="SCRIPT", help="a configuration, a line --, and the lines of a script")
     parser.add_argument("-o", "--output", metavar="FILE.html", required=True, help="the page that is written")
+    parser.add_argument("--from", dest="first", metavar="LINE", type=int, default=1, help="the first line that is drawn")
+    parser.add_argument("--lines", metavar="N", type=int, default=MOST_DRAWN, help="how many lines are drawn, 1000 if absent")
 
 
 def what_if_words(parser: argparse.ArgumentParser) -> None:
