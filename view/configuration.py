@@ -1,0 +1,93 @@
+"""A configuration as `distac check` prints it."""
+
+from __future__ import annotations
+
+from dataclasses import dataclass
+from typing import Any
+
+from view.problems import Problem
+from view.texts import bytes_of
+from view.tokens import Kind, Token, name_of, tokens_of
+
+
+@dataclass(frozen=True)
+class Application:
+    """An application: its name, its failover time in milliseconds, its groups of nodes, and its default permission."""
+
+    name: str
+    timeout: int
+    groups: list[list[str]]
+    is_permitted: bool
+
+    @property
+    def nodes(self) -> list[str]:
+        """All nodes of its list."""
+        return [node for group in self.groups for node in group]
+
+
+@dataclass(frozen=True)
+class Configuration:
+    """A configuration: its nodes in name order, its applications in file order, and whom a starting node waits for."""
+
+    nodes: list[str]
+    applications: list[Application]
+    mandatory: list[str]
+    optional: list[str]
+    sync_timeout: str | None
+
+    @property
+    def names(self) -> list[str]:
+        """The names of the applications."""
+        return [application.name for application in self.applications]
+
+
+class TermReader:
+    """Reads the terms of a canonical text as lists, names and numbers."""
+
+    def __init__(self, text: str) -> None:
+        self.tokens = list(tokens_of(bytes_of(text)))
+        self.place = 0
+
+    def take(self) -> Token:
+        """The next token."""
+        if self.place == len(self.tokens):
+            raise Problem("distac check printed a configuration that distac-view can't read")
+        self.place += 1
+        return self.tokens[self.place - 1]
+
+    def term(self) -> object:
+        """The next term: a list for brackets of both kinds, the written text for anything else."""
+        token = self.take()
+        if token.written not in ("[", "{"):
+            return name_of(token.written) if token.kind is Kind.ATOM else token.written
+        items: list[object] = []
+        while self.tokens[self.place].written not in ("]", "}"):
+            items.append(self.term())
+            if self.tokens[self.place].written == ",":
+                self.place += 1
+        self.place += 1
+        return items
+
+
+def configuration_of(canonical: str) -> Configuration:
+    """The configuration that a canonical text says."""
+    sections: Any = TermReader(canonical).term()
+    parameters = dict(sections[0][1])
+    barred = {name for name, _ in parameters["permissions"]}
+    applications = [application_of(entry, barred) for entry in parameters["distributed"]]
+    mandatory, optional = parameters["sync_nodes_mandatory"], parameters["sync_nodes_optional"]
+    named = {node for application in applications for node in application.nodes}
+    nodes = sorted(named.union(mandatory, optional), key=name_order)
+    return Configuration(nodes, applications, mandatory, optional, parameters.get("sync_nodes_timeout"))
+
+
+def application_of(entry: list, barred: set) -> Application:
+    """The application of an entry of `distributed`."""
+    name, timeout, items = entry
+    groups = [item if isinstance(item, list) else [item] for item in items]
+    return Application(name, int(timeout), groups, name not in barred)
+
+
+def name_order(name: str) -> bytes:
+    """What names are ordered by: their bytes without quotes."""
+    return bytes_of(name[1:-1] if name.startswith("'") else name)

@@ -1,0 +1,91 @@
+"""The program `distac`: where it is found, and how it is asked."""
+
+from __future__ import annotations
+
+import os
+import shutil
+import subprocess
+from dataclasses import dataclass
+from pathlib import Path
+from typing import Callable
+
+from view.problems import Problem
+from view.texts import bytes_of, text_of
+
+BESIDE = Path(__file__).resolve().parent.parent / "distac"
+MOST_INPUT = 2_097_152
+
+Asked = Callable[[str, bytes], "tuple[bytes, int]"]
+
+
+@dataclass(frozen=True)
+class Answer:
+    """What `distac` printed, as lines, and whether it found a fault."""
+
+    lines: list[str]
+    is_fault: bool
+
+
+class Distac:
+    """The program, asked by a function from its subcommand and its input to what it printed and its exit status."""
+
+    def __init__(self, asked: Asked) -> None:
+        self.asked = asked
+        self.is_asked: Callable[[], None] = lambda: None
+
+    def check(self, config: bytes) -> Answer:
+        """What `distac check` says of a configuration."""
+        return self.answer("check", config)
+
+    def sim(self, source: bytes) -> Answer:
+        """What `distac sim` says of a configuration and a script."""
+        return self.answer("sim", source)
+
+    def play(self, config: bytes, script: list[str]) -> list[str]:
+        """What `distac sim` prints for a script that has no fault."""
+        said = self.sim(joined(config, script))
+        if said.is_fault:
+            raise Problem(f"distac refused a script that distac-view made: {said.lines[0]}")
+        return said.lines
+
+    def answer(self, word: str, source: bytes) -> Answer:
+        """The answer of a subcommand."""
+        self.is_asked()
+        printed, status = self.asked(word, source)
+        lines = lines_of(text_of(printed))
+        if status == 1 and lines[-1:] == ["out of memory"]:
+            raise Problem("distac ran out of memory: give the machine more, or make the input smaller")
+        if status not in (0, 1) or (status == 1 and len(lines) != 1) or (printed and not printed.endswith(b"\n")):
+            raise Problem(f"distac {word} gave no answer: it ended with status {status} and printed {len(printed)} bytes")
+        return Answer(lines, status == 1)
+
+
+def lines_of(text: str) -> list[str]:
+    """The lines of a text, which end at line feeds alone."""
+    return text.split("\n")[:-1]
+
+
+def joined(config: bytes, script: list[str]) -> bytes:
+    """A configuration and script lines as an input of `distac sim`."""
+    gap = b"" if config.endswith(b"\n") else b"\n"
+    return config + gap + b"--\n" + bytes_of("".join(line + "\n" for line in script))
+
+
+def found_distac(named: str | None) -> Distac:
+    """The program by the command line, by the environment, or beside this one."""
+    path = named or os.environ.get("DISTAC") or str(BESIDE)
+    program = shutil.which(path) if os.sep not in path else path
+    if program is None or not os.path.isfile(program):
+        raise Problem(f"no program distac at {path}: name one by --distac PATH or by the environment variable DISTAC")
+    if not os.access(program, os.X_OK):
+        raise Problem(f"{path} can't be run: it isn't executable")
+    return Distac(lambda word, source: run(program, word, source))
+
+
+def run(program: str, word: str, source: bytes) -> tuple[bytes, int]:
+    """Runs the program once. What it says on standard error goes to the person."""
+    try:
+        done = subprocess.run([program, word], input=source, stdout=subprocess.PIPE, check=False)
+    except OSError as error:
+        raise Problem(f"{program} can't be run: {error.strerror or error}") from error
+    return done.stdout, done.returncode

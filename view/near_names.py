@@ -1,0 +1,51 @@
+"""Names that are nearly equal, as a misspelt name and the one that was meant."""
+
+from __future__ import annotations
+
+from typing import Iterable
+
+
+def is_near(one: str, other: str) -> bool:
+    """Whether one change makes a name of the other: a sign changed, added or left out, or two neighbours exchanged."""
+    if one == other or abs(len(one) - len(other)) > 1:
+        return False
+    start = common_start(one, other)
+    one, other = one[start:], other[start:]
+    if len(one) == len(other):
+        return one[1:] == other[1:] or (one[:2] == other[1::-1] and one[2:] == other[2:])
+    return one[1:] == other or one == other[1:]
+
+
+def common_start(one: str, other: str) -> int:
+    """How many signs are equal from the start on."""
+    for place, (left, right) in enumerate(zip(one, other)):
+        if left != right:
+            return place
+    return min(len(one), len(other))
+
+
+def near_to(name: str, names: Iterable[str]) -> "str | None":
+    """The first of some names that is near to a name, or differs from it by capitals alone."""
+    for other in names:
+        if other != name and (is_near(name, other) or name.lower() == other.lower()):
+            return other
+    return None
+
+
+def looks_misspelt(one: str, other: str) -> bool:
+    """Whether one of two names looks like the other one with a letter changed. Names with other digits are meant to differ."""
+    parts, others = one.strip("'").split("@"), other.strip("'").split("@")
+    if len(parts) != len(others):
+        return False
+    changed = [(part, its) for part, its in zip(parts, others) if part != its]
+    return len(changed) == 1 and differ_by_letters(*changed[0])
+
+
+def differ_by_letters(one: str, other: str) -> bool:
+    """Whether two names of some length are near, and no digit is what parts them."""
+    if min(len(one), len(other)) < 3 or not is_near(one, other):
+        return False
+    start = common_start(one, other)
+    end = common_start(one[start:][::-1], other[start:][::-1])
+    changed = one[start : len(one) - end] + other[start : len(other) - end]
+    return not any(sign.isdigit() for sign in changed)

@@ -1,0 +1,89 @@
+"""Standard output and standard error, whatever they are."""
+
+from __future__ import annotations
+
+import os
+import sys
+import threading
+import time
+
+from view.texts import bytes_of
+
+SILENT_SECONDS = 2.0
+
+
+class Output:
+    """Standard output, to which text and bytes are written as they are."""
+
+    def __init__(self) -> None:
+        self.stream = sys.stdout.buffer
+
+    @property
+    def is_terminal(self) -> bool:
+        """Whether a person looks at it."""
+        return self.stream.isatty()
+
+    def line(self, text: str) -> None:
+        """A line of text."""
+        self.raw(bytes_of(text) + b"\n")
+
+    def raw(self, data: bytes) -> None:
+        """Bytes as they are."""
+        self.stream.write(data)
+
+    def flush(self) -> None:
+        """Everything is handed on."""
+        self.stream.flush()
+
+
+def say(text: str) -> None:
+    """A line on standard error."""
+    data = bytes_of(text) + b"\n"
+    try:
+        sys.stderr.buffer.write(data)
+        sys.stderr.buffer.flush()
+    except OSError:
+        pass
+
+
+def drop_output() -> None:
+    """Whatever is still to be written goes nowhere: nobody reads it any more."""
+    nowhere = os.open(os.devnull, os.O_WRONLY)
+    os.dup2(nowhere, sys.stdout.fileno())
+    os.close(nowhere)
+
+
+class Progress:
+    """A line on a terminal's standard error that says what goes on, once it takes longer than two seconds."""
+
+    def __init__(self) -> None:
+        self.times_asked = 0
+        self.start = time.monotonic()
+        self.is_over = threading.Event()
+        self.thread: threading.Thread | None = None
+        if sys.stderr.isatty():
+            self.thread = threading.Thread(target=self.show, daemon=True)
+            self.thread.start()
+
+    def ask(self) -> None:
+        """A question goes to `distac`."""
+        self.times_asked += 1
+
+    def show(self) -> None:
+        """Shows twice a second what goes on."""
+        has_shown = False
+        while not self.is_over.wait(0.5):
+            seconds = time.monotonic() - self.start
+            if seconds > SILENT_SECONDS:
+                has_shown = True
+                sys.stderr.write(f"\r\033[Kdistac-view: question {self.times_asked} to distac, {seconds:.0f} s")
+                sys.stderr.flush()
+        if has_shown:
+            sys.stderr.write("\r\033[K")
+            sys.stderr.flush()
+
+    def end(self) -> None:
+        """Nothing is shown any more."""
+        self.is_over.set()
+        if self.thread is not None:
+            self.thread.join()

@@ -1,0 +1,129 @@
+"""Scripts with each answer beside its line."""
+
+from __future__ import annotations
+
+from dataclasses import dataclass
+from typing import Iterator
+
+from view.answers import Answered
+from view.configuration import Configuration
+from view.distac import Distac
+from view.loading import Loaded, answers_of
+from view.places import Remark
+from view.refusals import explained
+from view.script import Line
+from view.script_faults import no_such, offset_of, remark_in_line
+from view.texts import columns_of, cut, padded, shown
+from view.tokens import name_of
+from view.verbs import NAMES, Role, roles_in
+
+MOST_COLUMNS = 46
+EXPLAINS = "= "
+
+
+@dataclass(frozen=True)
+class Playing:
+    """How a script is shown: whether pages follow each share, and whether refusals are explained."""
+
+    has_pages: bool = False
+    explains: bool = False
+
+
+def rows_of(distac: Distac, loaded: Loaded, playing: Playing) -> Iterator[str]:
+    """What is printed for a script."""
+    lines = with_pages(loaded) if playing.has_pages else loaded.lines
+    each = answers_of(distac, loaded, lines)
+    columns = min(max((columns_of(shown(line.text)) for line in loaded.lines if line.is_event), default=0), MOST_COLUMNS)
+    digits = len(str(lines[-1].number)) if lines else 1
+    layout = Layout(digits, columns)
+    shown_ones = list(merged(each, loaded.lines)) if playing.has_pages else each
+    if shown_ones and not shown_ones[-1].line.text:
+        shown_ones.pop()
+    for one in shown_ones:
+        yield from layout.rows(one, playing.explains)
+
+
+@dataclass(frozen=True)
+class Layout:
+    """The columns of a shown script: line numbers, then lines, then answers."""
+
+    digits: int
+    columns: int
+
+    @property
+    def start(self) -> int:
+        """How many columns stand before an answer."""
+        return self.digits + self.columns + 4
+
+    def rows(self, one: Answered, explains: bool) -> Iterator[str]:
+        """The rows of a line with its answer."""
+        text, number = shown(one.line.text), f"{one.line.number:>{self.digits}}"
+        if not one.line.is_event:
+            yield f"{number}  {text}".rstrip()
+            return
+        yield f"{number}  {padded(cut(text, self.columns), self.columns)}  {one.first}"
+        for more in one.answer[1:]:
+            yield " " * self.start + more
+        sentence = explained(one.line, one.first) if explains else None
+        if sentence:
+            yield " " * self.start + EXPLAINS + sentence
+
+
+def with_pages(loaded: Loaded) -> list[Line]:
+    """The lines with a page of each node behind each share and each written-out `tell`."""
+    found: list[Line] = []
+    for line, following in zip(loaded.lines, [*loaded.lines[1:], None]):
+        found.append(line)
+        is_last_told = is_told(line, loaded) and (following is None or following.number != line.number)
+        if (line.is_event and line.verb == "share") or is_last_told:
+            found += [Line(line.number, f"page {node}") for node in loaded.configuration.nodes if " " not in node]
+    return found
+
+
+def is_told(line: Line, loaded: Loaded) -> bool:
+    """Whether a line was written out for a `tell`."""
+    return line.number in {each.number for each in loaded.script.lines if each.is_tell}
+
+
+def merged(each: list[Answered], own: list[Line]) -> Iterator[Answered]:
+    """The answers, with one page for all nodes that know the same, and none of nodes that are off."""
+    known = {id(line) for line in own}
+    pages: list[Answered] = []
+    for one in each:
+        if id(one.line) not in known:
+            pages.append(one)
+            continue
+        yield from one_page_each(pages)
+        pages = []
+        yield one
+    yield from one_page_each(pages)
+
+
+def one_page_each(pages: list[Answered]) -> Iterator[Answered]:
+    """Pages with those of equal knowledge as one."""
+    by_body: dict[tuple[str, ...], list[Answered]] = {}
+    for page in pages:
+        if len(page.answer) > 1:
+            by_body.setdefault(tuple(page.answer[1:]), []).append(page)
+    for body, same in by_body.items():
+        names = " ".join(page.actor for page in same)
+        heads = [page.first for page in same]
+        yield Answered(Line(same[0].line.number, f"page {names}"), [*heads, *body])
+
+
+def unknown_names(each: list[Answered], configuration: Configuration) -> Iterator[Remark]:
+    """What is to be said of lines that are refused for a name that the configuration hasn't."""
+    for one in each:
+        if one.first.endswith((" UnknownApp", " UnknownNode")):
+            yield from unknown_in(one.line, one.first.rsplit(" ", 1)[1], configuration)
+
+
+def unknown_in(line: Line, refusal: str, configuration: Configuration) -> Iterator[Remark]:
+    """The name that a line is refused for."""
+    for place, (role, word) in enumerate(roles_in(line.words), 1):
+        names = configuration.names if role is Role.APP else configuration.nodes
+        is_meant = role in NAMES and (role is Role.APP) == (refusal == "UnknownApp")
+        if is_meant and name_of(word) not in names:
+            what = "application" if role is Role.APP else "node"
+            yield remark_in_line(line, offset_of(line, place), refusal, no_such(what, name_of(word), names))
+            return

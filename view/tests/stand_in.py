@@ -1,0 +1,25 @@
+#!/usr/bin/env python3
+"""A stand-in for `distac`, made of the models: for tests, and to try `distac-view` before the program is built."""
+
+import sys
+from pathlib import Path
+
+sys.dont_write_bytecode = True
+sys.path.insert(0, str(Path(__file__).resolve().parents[2] / "models"))
+
+import check
+import live
+import sim
+
+MODELS = {"check": check.check, "sim": sim.simulate, "live": live.run_live}
+
+
+def main() -> int:
+    """Answers one question."""
+    output, status = MODELS[sys.argv[1]](sys.stdin.buffer.read())
+    sys.stdout.buffer.write(output)
+    return status
+
+
+if __name__ == "__main__":
+    sys.exit(main())
