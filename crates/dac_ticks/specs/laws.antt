@@ -5,5 +5,6 @@ pub mod FirstNode
 pub mod Words
 pub mod Claimed
 pub mod Again
+pub mod Voted
 pub mod Effects
 pub mod TakesEffect
