@@ -24,7 +24,9 @@ use Rattle.dac_placement.specs.declared.verdicts.Verdict.{Verdict}
 use Rattle.dac_placement.specs.declared.verdicts.Verdict.TheVariants.{Start, Failover, Halted, Move, Takeover, Kept, Nobody}
 use Rattle.dac_placement.specs.Placement.{EachEligible, IsEligible, is_eligible, IsEarlier, IsUp, is_up, IsAllowedAt, IsStartedAt, key_at, runs_at, load_of, apps_of, IsFirst, first_choice, holder_of, key_of, standing_of, IsVerdict, verdict_by, verdict_of, candidate_of}
 use Rattle.dac_placement.specs.laws.Tests.{eligible_is, runs_is}
+use Rattle.dac_placement.specs.laws.Loads.{preferred_is}
 use Rattle.dac_placement.specs.laws.FirstChoice.{first_is}
+use Rattle.dac_placement.specs.laws.FirstNode.{first_to, level}
 use Rattle.dac_placement.specs.laws.Judged.{verdict_in_words}
 use Rattle.dac_decide.specs.declared.waits.Noted.{Noted}
 use Rattle.dac_decide.specs.FailoverWait.{Note, is_same, lost_if, lost_in, since_of, noted_next, noted_at, noted_of, waits_of, is_over_at, is_due_by}
@@ -35,7 +37,6 @@ use Rattle.dac_commands.specs.Causes.{terms_used_up}
 use Rattle.dac_ticks.specs.TakesEffect.{ClaimsAreKept}
 use Rattle.dac_ticks.specs.Ticks.{Turn, turn_from, claim_of, is_mine, turn_over, turn_of}
 use Rattle.dac_ticks.specs.laws.Turning.{numbered, apps_from, turned_by, turn_more}
-use Rattle.dac_ticks.specs.laws.FirstNode.{first_to, level}
 use Rattle.dac_ticks.specs.laws.Words.{is_own, own_if}
 use Rattle.dac_ticks.specs.laws.Claimed.{Alike, alike_itself, alike_through, alike_back, claim_alike, claim_state, other_claim, own_claim, claimed_as}
 
@@ -315,7 +316,7 @@ module _ (t : Table) (own : Origin) where
               let still = to_eligible t s u l.alike app f before.eligible in
               let same = level t app f own.node before.eligible.listed first.eligible.listed (first.earliest f before.node still) (before.earliest own.node first.node may) in
               absurd (preferred f (load_of t s app f) (load_of t s app own.node) (load_of t u app f) (load_of t u app own.node)
-              (before.preferred own.node first.node may (sym same)) (first.preferred f before.node still same) load_own (load_other f ne) ne)
+              ((preferred_is t s app f own.node).0 (before.preferred own.node first.node may (sym same))) ((preferred_is t u app own.node f).0 (first.preferred f before.node still same)) load_own (load_other f ne) ne)
         ] refl
           where
             one_number : own.node.0 ≡ f.0 → f ≡ own.node
