@@ -4,5 +4,6 @@ pub mod Standing
 pub mod Least
 pub mod FirstChoice
 pub mod FirstNode
+pub mod Leads
 pub mod Judged
 pub mod Rests
