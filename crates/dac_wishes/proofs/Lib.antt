@@ -3,4 +3,3 @@ pub mod Naming
 pub mod WishStoring
 pub mod VoteStoring
 pub mod DeltaStoring
-pub mod SameDots
