@@ -24,6 +24,11 @@ at_alone join c d None h = refl
 at_alone join c true (Some v) h = absurd (false≢true (sym (h refl)))
 at_alone join c false (Some v) h = refl
 
+pub at_alone_right : {V : Type 0} (join : V → V → V) (c d : Bool) (v : Option V) → (is_some v ≡ true → d ≡ false) → join_at join d c None v ≡ v
+at_alone_right join c d None h = refl
+at_alone_right join c true (Some v) h = absurd (false≢true (sym (h refl)))
+at_alone_right join c false (Some v) h = refl
+
 -- where a dot hasn't been heard of, nothing is asked of the value there
 pub at_unheard : {V : Type 0} (below : V → V → Type 0) (c : Bool) (v w : Option V) → (is_some w ≡ true → c ≡ false) → c ≡ true → StandsBelow below v w
 at_unheard below c v None h e = tt

@@ -13,7 +13,7 @@ use Rattle.dac_lattice.specs.Lattices.{IsLattice, IsIn}
 use Rattle.dac_lattice.specs.Maps.{IsMap}
 use Rattle.dac_lattice.specs.Entries.{merge_entries, sorted_merge, find_merge}
 use Rattle.dac_store.specs.Stores.{IsWithin, IsDotStore}
-use Rattle.dac_store.specs.AtDot.{StandsBelow, join_at, Under, at_alone, at_unheard, at_refl, at_trans, at_antisymm, at_closed, at_comes, at_left, at_right, at_least}
+use Rattle.dac_store.specs.AtDot.{StandsBelow, join_at, Under, at_alone, at_alone_right, at_unheard, at_refl, at_trans, at_antisymm, at_closed, at_comes, at_left, at_right, at_least}
 
 -- whether there is a value at a dot
 abbrev pub has_dot : {V : Type 0} → List (Dot × V) → Dot → Bool
@@ -75,5 +75,8 @@ module _ {V : Type 0} {is_value : V → Type 0} {below : V → V → Type 0} {jo
     alone = λ s c d u h. same_entries dot_cmp dots_total exact_dots (join_funs join s c [] d) s
         (sorted_merge dots_total exact_dots (λ x. join_at join (set.contains c x) (set.contains d x)) s [] u.in_order tt) u.in_order
         (λ x. find_join s c [] d u (record { in_order = tt; values = λ x. tt }) x ∙ at_alone join (set.contains c x) (set.contains d x) (find dot_cmp x s) (h x));
+    alone_right = λ s c d u h. same_entries dot_cmp dots_total exact_dots (join_funs join [] d s c) s
+        (sorted_merge dots_total exact_dots (λ x. join_at join (set.contains d x) (set.contains c x)) [] s tt u.in_order) u.in_order
+        (λ x. find_join [] d s c (record { in_order = tt; values = λ x. tt }) u x ∙ at_alone_right join (set.contains c x) (set.contains d x) (find dot_cmp x s) (h x));
     unheard = λ s t c d h x e. at_unheard below (set.contains c x) _ _ (h x) e;
   }

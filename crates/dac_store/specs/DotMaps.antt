@@ -166,5 +166,10 @@ module _ {K : Type 0} {R : K → K → Ordering} (o : IsTotalOrder R) (exact : C
         (λ k. find_keyed s c [] d u (record { in_order = tt; stores = λ k. tt }) k
         ∙ ap (kept is_empty) (laws.alone _ c d (at_store _ (u.stores k)) (λ x e. h x (has_found s k x e)))
         ∙ kept_at _ (u.stores k));
+    alone_right = λ s c d u h. same_entries R o exact (join_keyed R nothing is_empty join [] d s c) s
+        (sorted_merge o exact (λ _ v w. kept is_empty (join (store_at nothing v) d (store_at nothing w) c)) [] s tt u.in_order) u.in_order
+        (λ k. find_keyed [] d s c (record { in_order = tt; stores = λ k. tt }) u k
+        ∙ ap (kept is_empty) (laws.alone_right _ c d (at_store _ (u.stores k)) (λ x e. h x (has_found s k x e)))
+        ∙ kept_at _ (u.stores k));
     unheard = λ s t c d h k. laws.unheard _ _ c d (λ x e. h x (has_found t k x e));
   }

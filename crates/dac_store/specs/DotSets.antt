@@ -95,6 +95,18 @@ stays_alone false c false d e f = refl
 none_in : (s : Dots) → ((x : Dot) → set.contains s x ≡ false) → s ≡ set.empty
 none_in s h = set.same_set dots_total exact_dots s set.empty (λ x. h x ∙ sym (set.contains-empty dot_cmp x))
 
+set_alone : (s c d : Dots) → ((x : Dot) → set.contains s x ≡ true → set.contains d x ≡ false) → join_sets s c set.empty d ≡ s
+set_alone s c d h = set.same_set dots_total exact_dots (join_sets s c set.empty d) s (λ x.
+    contains_join s c set.empty d x ∙ stays_alone (set.contains s x) (set.contains c x) (set.contains set.empty x) (set.contains d x) (set.contains-empty dot_cmp x) (h x))
+
+-- a set joined with itself stays
+pub join_same : (s c d : Dots) → join_sets s c s d ≡ s
+join_same s c d = set.same_set dots_total exact_dots (join_sets s c s d) s (λ x. contains_join s c s d x ∙ stays_same (set.contains s x) (not (set.contains d x)) (not (set.contains c x)))
+  where
+    stays_same : (s a b : Bool) → ((s && (s || a)) || (s && (s || b))) ≡ s
+    stays_same true a b = refl
+    stays_same false a b = refl
+
 pub set_laws : IsDotStore IsAny set.contains IsSetBelow join_sets set.empty is_empty_set
 set_laws = record {
   refl = λ s c u x h k. h;
@@ -111,7 +123,7 @@ set_laws = record {
   one_empty = λ s u e. set.empty_of_len s (eqb-true _ _ e);
   cleared = λ s c d u x h k. absurd (false≢true (sym (set.contains-empty dot_cmp x) ∙ h));
   first = λ s c u x h k. absurd (false≢true (sym (set.contains-empty dot_cmp x) ∙ k));
-  alone = λ s c d u h. set.same_set dots_total exact_dots (join_sets s c set.empty d) s (λ x.
-      contains_join s c set.empty d x ∙ stays_alone (set.contains s x) (set.contains c x) (set.contains set.empty x) (set.contains d x) (set.contains-empty dot_cmp x) (h x));
+  alone = λ s c d u h. set_alone s c d h;
+  alone_right = λ s c d u h. join_turned set.empty d s c ∙ set_alone s c d h;
   unheard = λ s t c d h x held heard. absurd (false≢true (sym (h x held) ∙ heard));
 }

@@ -6,3 +6,4 @@ pub mod DotMaps
 pub mod Appending
 pub mod Few
 pub mod Keeping
+pub mod SameDots

@@ -1,13 +1,12 @@
 -- What a store of dots is: values that hold dots, ordered and joined beside what each side has heard of.
 -- (Dot stores are after delta-state replicated data types.)
 use Rattle.std.specs.Prelude.{◌≡◌, Bool, true, false, ◌||◌, refl}
-use Rattle.std.proofs.Common.{sym, ap, subst, ◌∙◌, inl, inr}
+use Rattle.std.proofs.Common.{sym, subst, ◌∙◌, inl, inr}
 use Rattle.std.proofs.lemmas.Bool.{false≢true, or_cases, or_left, or_right}
 use Rattle.std.specs.FinSet as set
 use Rattle.dac_dots.specs.Dots.{Dots, IsSubset, dot_cmp, dots_total, exact_dots}
 use Rattle.dac_dots.specs.declared.dot.Dot.{Dot}
 use Rattle.dac_lattice.specs.Lattices.{IsLattice}
-use Rattle.dac_lattice.specs.laws.Joins.{join_comm}
 
 -- each dot that is held is in the context
 abbrev pub IsHeld : (Dot → Bool) → Dots → Type 0
@@ -45,8 +44,9 @@ pub record IsDotStore {S : Type 0} (is_store : S → Type 0) (has : S → Dot �
   -- it is above each store, and below each where nothing was heard of
   pub cleared : (s : S) (c d : Dots) → is_store s → below s c nothing d
   pub first : (s : S) (c : Dots) → IsWithin is_store has s c → below nothing set.empty s c
-  -- joined where none of a store's dots have been heard of, it leaves the store as it is
+  -- joined where none of a store's dots have been heard of, it leaves the store as it is, on either side
   pub alone : (s : S) (c d : Dots) → is_store s → IsUnheard (has s) d → join s c nothing d ≡ s
+  pub alone_right : (s : S) (c d : Dots) → is_store s → IsUnheard (has s) d → join nothing d s c ≡ s
   -- a store is above each that has heard of none of its dots
   pub unheard : (s t : S) (c d : Dots) → IsUnheard (has t) c → below s c t d
 
@@ -121,12 +121,6 @@ module _ {S : Type 0} {is_store : S → Type 0} {has : S → Dot → Bool} {belo
     right = λ x y u v. (subset_right x.context y.context, laws.right _ _ _ _ u v);
     least = λ x y z u v w p q. (subset_union x.context y.context z.context p.0 q.0, laws.least _ _ _ _ _ _ u v w p.0 q.0 p.1 q.1);
   }
-
-  -- a store stays as it is on either side
-  pub alone_right : (s : S) (c d : Dots) → IsWithin is_store has s c → IsUnheard (has s) d → join nothing d s c ≡ s
-  alone_right s c d u h =
-      let empty : IsWithin is_store has nothing d = record { store = laws.empty_store; held = λ x e. absurd (false≢true (sym (laws.empty_has x) ∙ e)) } in
-      ap (λ v. v.store) (join_comm causal_laws (record { store = nothing; context = d }) (record { store = s; context = c }) empty u) ∙ laws.alone s c d u.store h
 
   pub bottom_within : IsWithin is_store has nothing set.empty
   bottom_within = record { store = laws.empty_store; held = λ x e. absurd (false≢true (sym (laws.empty_has x) ∙ e)) }

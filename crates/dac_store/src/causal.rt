@@ -146,11 +146,16 @@ impl<S: DotStore> Causal<S> {
         if !store.is_empty() {
             return Ok(false);
         }
+        let theirs = other.store();
+        theirs.known();
+        if theirs.is_empty() {
+            return Ok(true);
+        }
         let heard = self.context();
         if !heard.has_at_most(MOST_LOOKED_UP) {
             return Ok(false);
         }
-        let none = holds_none(other.store(), heard)?;
+        let none = holds_none(theirs, heard)?;
         Ok(none)
     }
 

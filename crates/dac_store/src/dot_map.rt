@@ -118,6 +118,10 @@ impl<K: MapKey, S: DotStore> Combine<K, S> for JoinStores<'_> {
     }
 
     fn right(&self, _key: K, theirs: &S) -> Result<Option<S>, NoMemory> {
+        if theirs.is_unheard(self.mine) {
+            theirs.known();
+            return Ok(kept(theirs.copy()?));
+        }
         Ok(kept(S::empty(self.alloc).join_in(self.mine, theirs, self.theirs)?))
     }
 

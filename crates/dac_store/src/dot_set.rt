@@ -156,6 +156,13 @@ impl DotSet {
         Ok(joined)
     }
 
+    /// Whether both sets have the same dots.
+    fn has_same_dots(&self, other: &Self) -> bool
+        ensures { IsTrue result → self.now ≡ other.now }
+    {
+        other.few.as_slice() == self.few.as_slice()
+    }
+
     /// The join that looks at each dot of both sides.
     fn join_each(
         &self,
@@ -215,6 +222,10 @@ impl DotStore for DotSet {
         other: &Self,
         other_heard: &Context,
     ) -> Result<Self, NoMemory> {
+        // Most joins bring dots that both sides have.
+        if self.has_same_dots(other) {
+            return self.copy();
+        }
         if other_heard.has_at_most(self.dots().len() / FEW_BESIDE) {
             return self.join_few(heard, other, other_heard);
         }

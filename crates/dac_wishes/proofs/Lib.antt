@@ -3,5 +3,4 @@ pub mod Naming
 pub mod WishStoring
 pub mod VoteStoring
 pub mod DeltaStoring
-pub mod SameDots
 pub mod Covered

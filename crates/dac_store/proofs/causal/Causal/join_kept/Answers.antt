@@ -1,6 +1,5 @@
 use Rattle.std.proofs.Common.{◌≡◌, ◌∙◌, IfOk, sym, ap, subst}
 use Rattle.dac_store.specs.Keeping.{kept_in}
-use Rattle.dac_store.specs.Stores.{alone_right}
 use Rattle.dac_store.proofs.causal.Causal.join_kept.Goals as goal
 
 pub returns-then-branch : goal.returns-then-branch
@@ -20,5 +19,5 @@ returns-then-branch-2 g c =
     let theirs = c.args.other.now in
     let stays : join mine.store mine.context theirs.store theirs.context ≡ theirs.store =
     ap (λ s. join s mine.context theirs.store theirs.context) (c.in_ok-leaves-2.ensures.nothing c.if-branch-2.true)
-    ∙ alone_right g.met.S.DotStore.laws theirs.store theirs.context mine.context c.known-2.ensures (c.in_ok-leaves-2.ensures.unheard c.if-branch-2.true) in
+    ∙ g.met.S.DotStore.laws.alone_right theirs.store theirs.context mine.context c.known-2.ensures.store (c.in_ok-leaves-2.ensures.unheard c.if-branch-2.true) in
     subst (λ s. IfOk c.share-then-branch-2.result (λ kept. kept_in kept ≡ s)) (sym stays) c.share-then-branch-2.ensures
