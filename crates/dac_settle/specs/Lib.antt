@@ -4,7 +4,7 @@ pub mod Settling
 pub mod Staying
 pub mod Worked
 pub mod WorldRounds
-pub mod WorkedRun
 pub mod WorkedLoss
+pub mod WorkedFailover
 pub mod laws
 pub use Rattle.dac_worlds.specs as dac_worlds

@@ -11,5 +11,6 @@ pub mod WorldsSettle
 pub mod Started
 pub mod WorkedRound
 pub mod Unsettling
-pub mod OneTick
 pub mod Losing
+pub mod LostClaim
+pub mod FailsOver

@@ -4,8 +4,8 @@ ghost use Rattle.dac_settle.specs.Worked.{RoundsCanBe};
 ghost use Rattle.dac_settle.specs.Rules.{judged, restless_of};
 ghost use Rattle.dac_settle.specs.Staying.{Stays};
 ghost use Rattle.dac_settle.specs.WorldRounds.{Settles};
-ghost use Rattle.dac_settle.specs.WorkedRun.{RunsCanEnd};
 ghost use Rattle.dac_settle.specs.WorkedLoss.{LossCanBe};
+ghost use Rattle.dac_settle.specs.WorkedFailover.{RunsCanFailOver};
 ghost use Rattle.dac_worlds.specs.ModelWorld.{InEachRun};
 
 /// Rounds settle all. As many rounds as the configuration has applications, begun in a ready world, settle each
@@ -20,9 +20,10 @@ pub fn rounds_settle()
 pub fn rounds_can_be()
     // Two nodes are ready, and a round settles their application.
     ensures members { RoundsCanBe }
-    // The model world is ready once a node has come up, and its tick is a round.
-    ensures runs { RunsCanEnd }
-    // A world is ready in which a claim is lost and was noted. Two nodes tick once its time is over, ship and hear: a round.
+    // A run from the start leads to a ready world in which a claim is lost and was noted. The next tick is a round, and
+    // fails over.
+    ensures runs { RunsCanFailOver }
+    // In a ready world a claim is lost. Two nodes tick once its time is over, ship and hear: a round.
     ensures losses { LossCanBe }
 {}
 

@@ -380,10 +380,10 @@ abbrev e6 : WorldEvent
 e6 = record { node = first_node; what = Deliver 2 }
 
 -- an event that isn't refused
-abbrev not_refused : ModelWorld → NodeId → Event → WorldStepped
+abbrev pub not_refused : ModelWorld → NodeId → Event → WorldStepped
 not_refused w n e = answered_by w n (step_by None loss_table n (w.node n) e).node (step_by None loss_table n (w.node n) e).answer
 
-happens_so : (w : ModelWorld) (n : NodeId) (what : What) (e : Event) → nat_lt n.0 w.count ≡ true → event_of w.operations w.messages what ≡ Ok e → refusal_of loss_table (shown loss_table (w.node n)) e ≡ None
+pub happens_so : (w : ModelWorld) (n : NodeId) (what : What) (e : Event) → nat_lt n.0 w.count ≡ true → event_of w.operations w.messages what ≡ Ok e → refusal_of loss_table (shown loss_table (w.node n)) e ≡ None
     → happens loss_table w (record { node = n; what = what }) ≡ not_refused w n e
 happens_so w n what e there is none =
     (λ i. cond (there i) (happens_by loss_table w n (event_of w.operations w.messages what)) (record { world = w; answer = Err NoSuchNode }))

@@ -1,0 +1,423 @@
+-- What the lost node and the first one know in the worked run: who is live, which counters are used, and the verdicts. Each of them says
+-- that it may run the application, and the lost one claims it.
+use Rattle.std.proofs.Common.{◌≡◌, ℕ, ◌+◌, ◌<◌, Bool, true, false, not, cond, ◌||◌, List, [], ◌∷◌, length, Option, Some, None, option_map, refl, sym, ap, subst, ◌∙◌, arith, inl, inr}
+use Rattle.std.specs.Prelude.{nat_lt, nat_le, unwrap_or}
+use Rattle.std.specs.Option.{is_some, option_map_or}
+use Rattle.std.specs.FinMap as map
+use Rattle.std.specs.FinSet as set
+use Rattle.std.proofs.lemmas.Bool.{true≢false, leb-true, and_from}
+use Rattle.dac_base.specs.declared.NodeId.{NodeId}
+use Rattle.dac_base.specs.declared.AppId.{AppId}
+use Rattle.dac_base.specs.declared.limits.TheConstants.{MAX_COUNTER}
+use Rattle.dac_dots.specs.declared.dot.Dot.{Dot}
+use Rattle.dac_dots.specs.declared.dot.Origin.{Origin}
+use Rattle.dac_dots.specs.Dots.{dot, dot_cmp, dots_total, exact_dots}
+use Rattle.dac_dots.specs.Keys.{has_key}
+use Rattle.dac_dots.specs.InOrder.{has_key-in_order}
+use Rattle.dac_lattice.specs.declared.flags.Flag.TheVariants.{Up as IsUpFlag}
+use Rattle.dac_chains.specs.declared.lives.Life.{Life}
+use Rattle.dac_chains.specs.declared.claims.Claim.{Claim}
+use Rattle.dac_chains.specs.declared.claims.How.TheVariants.{Normal}
+use Rattle.dac_chains.specs.Greatest.{IsGreatest, IsSaid}
+use Rattle.dac_chains.specs.Claims.{claim_cmp}
+use Rattle.dac_chains.specs.Lives.{IsLive, life_cmp}
+use Rattle.dac_chains.specs.laws.Live.{live_is}
+use Rattle.dac_wishes.specs.KeyedWrites.{keyed_write}
+use Rattle.dac_wishes.specs.DrainsValue.{origin}
+use Rattle.dac_wishes.specs.Writes.{write, dots_at, contains-dots_at, same_dot, same_dot_is, same_dot_itself}
+use Rattle.dac_wishes.specs.declared.key.Key.{Key}
+use Rattle.dac_operations.specs.declared.act.Act.TheVariants.{Claim as Claims, Start as Starts}
+use Rattle.dac_operations.specs.Operations.{Operation, operation}
+use Rattle.dac_meaning.specs.StateValue.{StateValue, join}
+use Rattle.dac_meaning.specs.Meaning.{In, meaning_of, pairs, life_said, claim_said, lives_of, names, replaces}
+use Rattle.dac_meaning.specs.Chained.{Says, of_said, is_said}
+use Rattle.dac_meaning.specs.laws.Members.{found, finds}
+use Rattle.dac_meaning.specs.laws.Readers.{known-meaning, starts-meaning, permits-meaning, drains-meaning, lives-meaning, lives_are}
+use Rattle.dac_placement.specs.Placement.{IsUp, is_up, IsEligible, key_at, holder_of, IsVerdict, verdict_of, candidate_of}
+use Rattle.dac_placement.specs.declared.verdicts.Verdict.{Verdict}
+use Rattle.dac_placement.specs.declared.verdicts.Verdict.TheVariants.{Start as ToStart, Failover, Halted, Move, Takeover, Kept, Nobody}
+use Rattle.dac_placement.specs.laws.Judged.{verdict_in_words}
+use Rattle.dac_placement.specs.laws.Tests.{up_is}
+use Rattle.dac_decide.specs.FailoverWait.{is_due_by, noted_at, IsLost, waits_of}
+use Rattle.dac_decide.specs.declared.waits.Noted.{Noted}
+use Rattle.dac_events.specs.declared.Command.TheVariants.{Start}
+use Rattle.dac_messages.specs.declared.event.Event.TheVariants.{Command as Told, Tick}
+use Rattle.dac_commands.specs.declared.refusal.Refusal.{Refusal}
+use Rattle.dac_commands.specs.declared.refusal.Refusal.TheVariants.{DeclaredDown, MomentBack, DotsUsedUp, UnknownApp, UnknownNode, NotInList, NotLive, TooManyDots}
+use Rattle.dac_commands.specs.Commands.{greatest_counter, live_key, live, live_or_none, standing_starts, act_of, next_operation}
+use Rattle.dac_commands.specs.Causes.{first, no_node, unlisted, not_live, too_many, used_up, terms_used_up}
+use Rattle.dac_commands.specs.laws.Counters.{next-is}
+use Rattle.dac_peers.specs.Peers.{no_peers}
+use Rattle.dac_ticks.specs.Ticks.{Turn, turn_of, turn_from, claim_of, claimed_by, is_mine}
+use Rattle.dac_ticks.specs.laws.Words.{if_own}
+use Rattle.dac_worlds.specs.ModelNode.{ModelNode, joined, shown, base_after}
+use Rattle.dac_worlds.specs.EventRefusals.{refusal_of, otherwise}
+use Rattle.dac_worlds.specs.Step.{comes_up}
+use Rattle.dac_meaning.specs.laws.StateLaws.{bottom-join}
+use Rattle.dac_meaning.specs.laws.Joins.{meaning-state, join-meaning}
+use Rattle.dac_worlds.specs.laws.Operations.{DistinctDots-agree}
+use Rattle.dac_settle.specs.Worked.{first_node, the_app, first_of, up_of, start_of}
+use Rattle.dac_settle.specs.WorkedLoss.{lost_node, loss_table, lost_claim}
+use Rattle.dac_settle.specs.laws.AnyPlacement.{one}
+use Rattle.dac_settle.specs.laws.OnlyClaims.{claim_greatest}
+use Rattle.dac_settle.specs.laws.Started.{up_life}
+
+pub none_some : {X : Type 0} {v : X} {Y : Type 0} → ◌≡◌ {A = Option X} None (Some v) → Y
+none_some e = cc
+
+pair_of : {X Y : Type 0} {a c : X} {b d : Y} → ◌≡◌ {A = Option (X × Y)} (Some (a, b)) (Some (c, d)) → (a ≡ c) × (b ≡ d)
+pair_of {X = X} {Y = Y} {a = a} {c = c} {b = b} {d = d} e = let pair : ◌≡◌ {A = X × Y} (a, b) (c, d) = one e in (ap (λ (p : X × Y). p.0) pair, ap (λ (p : X × Y). p.1) pair)
+
+-- ---- sets by which one node is up, in its first incarnation
+abbrev SayNoLife : List Operation → Type 0
+SayNoLife rest = (o : Operation) → In o rest → (m : NodeId) (l : Life) → life_said o.dot o.act ≡ Some (m, l) → ⊥
+
+module _ (n : NodeId) (rest : List Operation) (none : SayNoLife rest) where
+  abbrev pub lone : List Operation
+  lone = up_of n ∷ rest
+
+  said_life : (m : NodeId) (l : Life) → Says life_said lone m l → (n ≡ m) × (up_life ≡ l)
+  said_life m l says = elim says.1.0 [
+    | inl same ↦ pair_of (sym (ap (λ (q : Operation). life_said q.dot q.act) same) ∙ says.1.1)
+    | inr more ↦ absurd (none says.0 more m l says.1.1)
+  ]
+
+  is_live : IsLive (meaning_of lone).lives n 1
+  is_live = ap (λ lives. map.get lives n) (lives-meaning lone) ∙ by_life (map.get (lives_of lone) n) (lives_are lone n)
+    where
+      by_life : (o : Option Life) → IsGreatest life_cmp (IsSaid life_said (pairs lone) n) o → o ≡ Some up_life
+      by_life None nothing = absurd (nothing up_life (is_said life_said lone n up_life (up_of n, (inl refl, refl))))
+      by_life (Some l) is = ap (λ k. Some k) (sym (said_life n l (of_said life_said lone n l is.0)).1)
+
+  live_only : (m : NodeId) (inc : ℕ) → IsLive (meaning_of lone).lives m inc → (n ≡ m) × (1 ≡ inc)
+  live_only m inc alive =
+      let l : Life = record { inc = inc; flag = IsUpFlag } in
+      let is : IsGreatest life_cmp (IsSaid life_said (pairs lone) m) (Some l) = subst (IsGreatest life_cmp (IsSaid life_said (pairs lone) m)) (sym (ap (λ lives. map.get lives m) (lives-meaning lone)) ∙ alive) (lives_are lone m) in
+      let said = said_life m l (of_said life_said lone m l is.0) in
+      (said.0, ap (λ (k : Life). k.inc) said.1)
+
+-- ---- counters
+-- a known dot is that of an operation, where none replaces any
+named_in : (os : List Operation) → ((o : Operation) → In o os → (d : Dot) → replaces d o ≡ false) → (d : Dot) → set.contains (meaning_of os).known d ≡ true → (o : Operation) × (In o os × (d ≡ o.dot))
+named_in os bare d t =
+    let f = found (names d) os (sym (known-meaning os d) ∙ t) in
+    (f.0, (f.1.0, same_dot_is d f.0.dot (left_of (same_dot d f.0.dot) (ap (λ b. same_dot d f.0.dot || b) (sym (bare f.0 f.1.0 d)) ∙ f.1.1))))
+  where
+    left_of : (b : Bool) → (b || false) ≡ true → b ≡ true
+    left_of true e = refl
+    left_of false e = e
+
+-- ---- the operations
+abbrev pub start_at : NodeId → Operation
+start_at n = start_of the_app n 2
+
+abbrev pub claiming : Operation
+claiming = operation (dot (first_of lost_node) 3) (Claims the_app 1 Normal None)
+
+-- what a node holds once it came up, once it may run the application, and once it knows the claim
+abbrev came : NodeId → List Operation
+came n = up_of n ∷ []
+
+abbrev begun : NodeId → List Operation
+begun n = up_of n ∷ start_at n ∷ []
+
+abbrev pub knows : List Operation
+knows = up_of first_node ∷ start_at first_node ∷ claiming ∷ []
+
+no_life_came : SayNoLife []
+no_life_came o i = absurd i
+
+no_life_begun : (n : NodeId) → SayNoLife (start_at n ∷ [])
+no_life_begun n o i m l e = elim i [ inl same ↦ none_some (sym (ap (λ (q : Operation). life_said q.dot q.act) same) ∙ e) | inr none ↦ absurd none ]
+
+no_life_knows : SayNoLife (start_at first_node ∷ claiming ∷ [])
+no_life_knows o i m l e = elim i [
+  | inl same ↦ none_some (sym (ap (λ (q : Operation). life_said q.dot q.act) same) ∙ e)
+  | inr more ↦ elim more [ inl same ↦ none_some (sym (ap (λ (q : Operation). life_said q.dot q.act) same) ∙ e) | inr none ↦ absurd none ]
+]
+
+bare_by : (o p : Operation) (d : Dot) → o ≡ p → replaces d p ≡ false → replaces d o ≡ false
+bare_by o p d same bare = ap (replaces d) same ∙ bare
+
+came_bare : (n : NodeId) (o : Operation) → In o (came n) → (d : Dot) → replaces d o ≡ false
+came_bare n o (inl a) d = bare_by o (up_of n) d a refl
+came_bare n o (inr none) d = absurd none
+
+begun_bare : (n : NodeId) (o : Operation) → In o (begun n) → (d : Dot) → replaces d o ≡ false
+begun_bare n o (inl a) d = bare_by o (up_of n) d a refl
+begun_bare n o (inr (inl a)) d = bare_by o (start_at n) d a refl
+begun_bare n o (inr (inr none)) d = absurd none
+
+knows_bare : (o : Operation) → In o knows → (d : Dot) → replaces d o ≡ false
+knows_bare o (inl a) d = bare_by o (up_of first_node) d a refl
+knows_bare o (inr (inl a)) d = bare_by o (start_at first_node) d a refl
+knows_bare o (inr (inr (inl a))) d = bare_by o claiming d a refl
+knows_bare o (inr (inr (inr none))) d = absurd none
+
+number_of : (d : Dot) (o p : Operation) → d ≡ o.dot → o ≡ p → d.n ≡ p.dot.n
+number_of d o p e same = ap (λ (x : Dot). x.n) e ∙ ap (λ (q : Operation). q.dot.n) same
+
+below : (j k l : ℕ) → j ≡ k → k < l → j < l
+below j k l e h = omega arith
+
+came_counter : (n : NodeId) → greatest_counter (first_of n) (meaning_of (came n)).known + 1 ≡ 2
+came_counter n = sym (ap (λ (d : Dot). d.n) (next-is (meaning_of (came n)).known (first_of n) (dot (first_of n) 2) (record {
+  same_origin = refl;
+  above = λ j t. let f = named_in (came n) (came_bare n) (dot (first_of n) j) t in at_most j f.0 f.1.0 f.1.1;
+  tight = inr (known-meaning (came n) (dot (first_of n) 1) ∙ finds (names (dot (first_of n) 1)) (came n) (up_of n) (inl refl) (ap (λ b. b || replaces (dot (first_of n) 1) (up_of n)) (same_dot_itself (dot (first_of n) 1))));
+  at_most = leb-true 2 MAX_COUNTER refl;
+})))
+  where
+    at_most : (j : ℕ) (o : Operation) → In o (came n) → dot (first_of n) j ≡ o.dot → j < 2
+    at_most j o (inl a) e = below j 1 2 (number_of (dot (first_of n) j) o (up_of n) e a) (omega arith)
+    at_most j o (inr none) e = absurd none
+
+begun_counter : (n : NodeId) → greatest_counter (first_of n) (meaning_of (begun n)).known + 1 ≡ 3
+begun_counter n = sym (ap (λ (d : Dot). d.n) (next-is (meaning_of (begun n)).known (first_of n) (dot (first_of n) 3) (record {
+  same_origin = refl;
+  above = λ j t. let f = named_in (begun n) (begun_bare n) (dot (first_of n) j) t in at_most j f.0 f.1.0 f.1.1;
+  tight = inr (known-meaning (begun n) (dot (first_of n) 2) ∙ finds (names (dot (first_of n) 2)) (begun n) (start_at n) (inr (inl refl)) (ap (λ b. b || replaces (dot (first_of n) 2) (start_at n)) (same_dot_itself (dot (first_of n) 2))));
+  at_most = leb-true 3 MAX_COUNTER refl;
+})))
+  where
+    at_most : (j : ℕ) (o : Operation) → In o (begun n) → dot (first_of n) j ≡ o.dot → j < 3
+    at_most j o (inl a) e = below j 1 3 (number_of (dot (first_of n) j) o (up_of n) e a) (omega arith)
+    at_most j o (inr (inl a)) e = below j 2 3 (number_of (dot (first_of n) j) o (start_at n) e a) (omega arith)
+    at_most j o (inr (inr none)) e = absurd none
+
+two_zero : (n : NodeId) → lost_node ≡ n → first_node ≡ n → ⊥
+two_zero n a b = apart (ap (λ (m : NodeId). m.0) (a ∙ sym b))
+  where
+    apart : ◌≡◌ {A = ℕ} 2 0 → ⊥
+    apart e = absurd (omega (arith, e))
+
+pub knows_counter : greatest_counter (first_of first_node) (meaning_of knows).known + 1 ≡ 3
+knows_counter = sym (ap (λ (d : Dot). d.n) (next-is (meaning_of knows).known (first_of first_node) (dot (first_of first_node) 3) (record {
+  same_origin = refl;
+  above = λ j t. let f = named_in knows knows_bare (dot (first_of first_node) j) t in at_most j f.0 f.1.0 f.1.1;
+  tight = inr (known-meaning knows (dot (first_of first_node) 2) ∙ finds (names (dot (first_of first_node) 2)) knows (start_at first_node) (inr (inl refl)) (ap (λ b. b || replaces (dot (first_of first_node) 2) (start_at first_node)) (same_dot_itself (dot (first_of first_node) 2))));
+  at_most = leb-true 3 MAX_COUNTER refl;
+})))
+  where
+    at_most : (j : ℕ) (o : Operation) → In o knows → dot (first_of first_node) j ≡ o.dot → j < 3
+    at_most j o (inl a) e = below j 1 3 (number_of (dot (first_of first_node) j) o (up_of first_node) e a) (omega arith)
+    at_most j o (inr (inl a)) e = below j 2 3 (number_of (dot (first_of first_node) j) o (start_at first_node) e a) (omega arith)
+    at_most j o (inr (inr (inl a))) e = absurd (two_zero first_node (sym (ap (λ (d : Dot). d.origin.node) e ∙ ap (λ (q : Operation). q.dot.origin.node) a)) refl)
+    at_most j o (inr (inr (inr none))) e = absurd none
+
+-- ---- claims
+no_claim_begun : (n : NodeId) (app : AppId) (c : Claim) → Says claim_said (begun n) app c → ⊥
+no_claim_begun n app c says = elim says.1.0 [
+  | inl a ↦ none_some (sym (ap (λ (q : Operation). claim_said q.dot q.act) a) ∙ says.1.1)
+  | inr more ↦ elim more [ inl b ↦ none_some (sym (ap (λ (q : Operation). claim_said q.dot q.act) b) ∙ says.1.1) | inr none ↦ absurd none ]
+]
+
+none_claimed : (n : NodeId) (app : AppId) → map.get (meaning_of (begun n)).claims app ≡ None
+none_claimed n app = by_claim (map.get (meaning_of (begun n)).claims app) (claim_greatest (begun n) app)
+  where
+    by_claim : (o : Option Claim) → IsGreatest claim_cmp (Says claim_said (begun n) app) o → o ≡ None
+    by_claim None none = refl
+    by_claim (Some c) is = absurd (no_claim_begun n app c is.0)
+
+said_by : (app : AppId) (c : Claim) → Says claim_said knows app c → (the_app ≡ app) × (lost_claim ≡ c)
+said_by app c says = elim says.1.0 [
+  | inl a ↦ none_some (sym (ap (λ (q : Operation). claim_said q.dot q.act) a) ∙ says.1.1)
+  | inr more ↦ elim more [
+    | inl b ↦ none_some (sym (ap (λ (q : Operation). claim_said q.dot q.act) b) ∙ says.1.1)
+    | inr last ↦ elim last [ inl same ↦ pair_of (sym (ap (λ (q : Operation). claim_said q.dot q.act) same) ∙ says.1.1) | inr none ↦ absurd none ]
+  ]
+]
+
+pub claimed : map.get (meaning_of knows).claims the_app ≡ Some lost_claim
+claimed = by_claim (map.get (meaning_of knows).claims the_app) (claim_greatest knows the_app)
+  where
+    by_claim : (o : Option Claim) → IsGreatest claim_cmp (Says claim_said knows the_app) o → o ≡ Some lost_claim
+    by_claim None none = absurd (none lost_claim (claiming, (inr (inr (inl refl)), refl)))
+    by_claim (Some c) is = ap (λ k. Some k) (sym (said_by the_app c is.0).1)
+
+pub only_claimed : (app : AppId) (c : Claim) → map.get (meaning_of knows).claims app ≡ Some c → the_app ≡ app
+only_claimed app c e = by_claim (map.get (meaning_of knows).claims app) (claim_greatest knows app) e
+  where
+    by_claim : (o : Option Claim) → IsGreatest claim_cmp (Says claim_said knows app) o → o ≡ Some c → the_app ≡ app
+    by_claim None none e = none_some e
+    by_claim (Some k) is e = (said_by app k is.0).0
+
+-- ---- the states
+abbrev begun_state : NodeId → StateValue
+begun_state n = meaning_of (begun n)
+
+abbrev pub known_state : StateValue
+known_state = meaning_of knows
+
+begun_live : (n : NodeId) → IsLive (begun_state n).lives n 1
+begun_live n = is_live n (start_at n ∷ []) (no_life_begun n)
+
+pub known_live : IsLive known_state.lives first_node 1
+known_live = is_live first_node (start_at first_node ∷ claiming ∷ []) no_life_knows
+
+pub known_only : (m : NodeId) (inc : ℕ) → IsLive known_state.lives m inc → (first_node ≡ m) × (1 ≡ inc)
+known_only = live_only first_node (start_at first_node ∷ claiming ∷ []) no_life_knows
+
+pub is_lost : IsLost known_state the_app lost_claim
+is_lost = record { greatest = claimed; down = λ up. two_zero lost_node refl (known_only lost_node 1 up).0 }
+
+may_begin : IsEligible loss_table (begun_state lost_node) the_app lost_node
+may_begin = record {
+  listed = refl;
+  inc = 1;
+  live = begun_live lost_node;
+  allowed = (inl (λ d. permits-meaning (begun lost_node) (write (key_at the_app lost_node 1) d), refl), λ d. none_some (sym (drains-meaning (begun lost_node) (keyed_write (origin lost_node 1) d.0)) ∙ d.1));
+  started = (dot (first_of lost_node) 2, starts-meaning (begun lost_node) (write (key_at the_app lost_node 1) (dot (first_of lost_node) 2)));
+}
+
+may_take : IsEligible loss_table known_state the_app first_node
+may_take = record {
+  listed = refl;
+  inc = 1;
+  live = known_live;
+  allowed = (inl (λ d. permits-meaning knows (write (key_at the_app first_node 1) d), refl), λ d. none_some (sym (drains-meaning knows (keyed_write (origin first_node 1) d.0)) ∙ d.1));
+  started = (dot (first_of first_node) 2, starts-meaning knows (write (key_at the_app first_node 1) (dot (first_of first_node) 2)));
+}
+
+-- ---- the verdicts
+unheld : holder_of (begun_state lost_node) the_app ≡ None
+unheld = ap (option_map (λ (c : Claim). c.origin)) (none_claimed lost_node the_app)
+
+is_start : (v : Verdict) → IsVerdict loss_table (begun_state lost_node) the_app v → v ≡ ToStart lost_node
+is_start (ToStart n) is = ap (λ k. ToStart k) (sym (live_only lost_node (start_at lost_node ∷ []) (no_life_begun lost_node) n is.1.eligible.inc is.1.eligible.live).0)
+is_start (Failover n) is = none_some (sym unheld ∙ is.0.1)
+is_start (Halted n) is = none_some (sym unheld ∙ is.1)
+is_start (Move n) is = none_some (sym unheld ∙ is.0.1)
+is_start (Takeover n) is = none_some (sym unheld ∙ is.1.1)
+is_start (Kept n) is = none_some (sym unheld ∙ is.0.1)
+is_start Nobody is = absurd (is.0 lost_node (omega arith) may_begin)
+
+starts_it : verdict_of loss_table (begun_state lost_node) the_app ≡ ToStart lost_node
+starts_it = is_start (verdict_of loss_table (begun_state lost_node) the_app) (verdict_in_words loss_table (begun_state lost_node) the_app)
+
+never_up : (o : Origin) → holder_of known_state the_app ≡ Some o → IsUp known_state o → ⊥
+never_up o held up =
+    let is : first_of lost_node ≡ o = one (sym (ap (option_map (λ (c : Claim). c.origin)) claimed) ∙ held) in
+    is_lost.down (subst (IsUp known_state) (sym is) up)
+
+is_failover : (v : Verdict) → IsVerdict loss_table known_state the_app v → v ≡ Failover first_node
+is_failover (ToStart n) is = none_some (sym is.0 ∙ ap (option_map (λ (c : Claim). c.origin)) claimed)
+is_failover (Failover n) is = ap (λ k. Failover k) (sym (known_only n is.1.eligible.inc is.1.eligible.live).0)
+is_failover (Halted n) is = absurd (never_up is.0 is.1 is.2.1)
+is_failover (Move n) is = absurd (never_up is.0.0 is.0.1 is.0.2.0)
+is_failover (Takeover n) is = absurd (never_up is.1.0 is.1.1 is.1.2.1)
+is_failover (Kept n) is = absurd (never_up is.0.0 is.0.1 is.0.2.1)
+is_failover Nobody is = absurd (is.0 first_node (omega arith) may_take)
+
+pub takes_it : verdict_of loss_table known_state the_app ≡ Failover first_node
+takes_it = is_failover (verdict_of loss_table known_state the_app) (verdict_in_words loss_table known_state the_app)
+
+-- ---- a node that came up says that it may run the application
+came_live : (n : NodeId) → IsLive (meaning_of (came n)).lives n 1
+came_live n = is_live n [] no_life_came
+
+lives_once : (n : NodeId) → live (meaning_of (came n)) n ≡ Some 1
+lives_once n = (live_is (meaning_of (came n)).lives n 1).1 (came_live n)
+
+empty_if : (ds : List Dot) → ((d : Dot) → has_key dot_cmp ds d ≡ false) → ds ≡ []
+empty_if [] h = refl
+empty_if (d ∷ ds) h = absurd (true≢false (sym (ap (λ b. b || has_key dot_cmp ds d) (same_dot_itself d)) ∙ h d))
+
+none_standing : (n : NodeId) (key : Key) → standing_starts (meaning_of (came n)) key ≡ []
+none_standing n key =
+    let starts = (meaning_of (came n)).starts in
+    empty_if (standing_starts (meaning_of (came n)) key) (λ d. has_key-in_order dots_total exact_dots (dots_at key starts) d ∙ contains-dots_at key starts d ∙ starts-meaning (came n) (write key d))
+
+came_is : (n : NodeId) → joined (meaning_of (came n) ∷ []) ≡ meaning_of (came n)
+came_is n = bottom-join (meaning_of (came n)) (meaning-state (came n))
+
+key_of : NodeId → ℕ → Key
+key_of n inc = record { app = the_app; node = n; inc = inc }
+
+says_start : (n : NodeId) → act_of loss_table (meaning_of (came n)) (Start the_app n) ≡ Starts (key_at the_app n 1) []
+unfolding key_of
+says_start n =
+    let s = meaning_of (came n) in
+    let inc : live_or_none s n ≡ 1 = ap (λ o. unwrap_or o 0) (lives_once n) in
+    (λ i. Starts (key_of n (inc i)) (standing_starts s (key_of n (inc i)))) ∙ ap (Starts (key_of n 1)) (none_standing n (key_of n 1))
+
+pub started_op : (n : NodeId) → next_operation (joined (meaning_of (came n) ∷ [])) (first_of n) (act_of loss_table (joined (meaning_of (came n) ∷ [])) (Start the_app n)) ≡ start_at n
+started_op n =
+    (λ i. next_operation (came_is n i) (first_of n) (act_of loss_table (came_is n i) (Start the_app n)))
+    ∙ (λ i. operation (dot (first_of n) (came_counter n i)) (says_start n i))
+
+abbrev pub booted : NodeId → ModelNode
+booted n = record { last = 1; run = Some (comes_up (first_of n) 0) }
+
+pub starts_on : (n : NodeId) → no_node loss_table n ≡ false → unlisted loss_table the_app n ≡ false → refusal_of loss_table (shown loss_table (booted n)) (Told (Start the_app n)) ≡ None
+starts_on n there listed =
+    let s = meaning_of (came n) in
+    let up : is_up s (first_of n) ≡ true = (up_is s (first_of n)).1 (came_live n) in
+    let alive : not_live s n ≡ false = ap (λ o. not (is_some o)) (lives_once n) in
+    let few : too_many (length (standing_starts s (live_key s the_app n))) ≡ false = ap (λ (ds : List Dot). too_many (length ds)) (none_standing n (live_key s the_app n)) in
+    let left : used_up s (first_of n) ≡ false = one_used (greatest_counter (first_of n) s.known) (came_counter n) in
+    (λ i. refused (not (is_up (came_is n i) (first_of n))) (there i) (listed i) (not_live (came_is n i) n) (too_many (length (standing_starts (came_is n i) (live_key (came_is n i) the_app n)))) (used_up (came_is n i) (first_of n)))
+    ∙ (λ i. refused (not (up i)) false false (alive i) (few i) (left i))
+  where
+    refused : Bool → Bool → Bool → Bool → Bool → Bool → Option Refusal
+    refused down away unnamed dead many used =
+        otherwise (first ((down, DeclaredDown) ∷ (false, UnknownApp) ∷ (away, UnknownNode) ∷ (unnamed, NotInList) ∷ (dead, NotLive) ∷ (many, TooManyDots) ∷ (used, DotsUsedUp) ∷ [])) (first ((false, DotsUsedUp) ∷ []))
+
+    is_one : (g : ℕ) → g + 1 ≡ 2 → g ≡ 1
+    is_one g e = omega arith
+
+    one_used : (g : ℕ) → g + 1 ≡ 2 → nat_le MAX_COUNTER g ≡ false
+    one_used g e = ap (nat_le MAX_COUNTER) (is_one g e)
+
+-- ---- the lost node claims
+abbrev pub begun_log : NodeId → List StateValue
+begun_log n = meaning_of (came n) ∷ meaning_of (start_at n ∷ []) ∷ []
+
+abbrev pub begun_node : NodeId → Operation → ModelNode
+begun_node n o = record { last = 1; run = Some (record { origin = first_of n; moments = record { booted = 0; last = 0 }; is_open = false; notes = []; log = meaning_of (came n) ∷ meaning_of (o ∷ []) ∷ []; base = base_after 0 2 0; peers = no_peers }) }
+
+begun_is : joined (begun_log lost_node) ≡ begun_state lost_node
+begun_is = ap (λ s. join s (meaning_of (start_at lost_node ∷ []))) (came_is lost_node) ∙ join-meaning (came lost_node) (start_at lost_node ∷ []) (DistinctDots-agree (begun lost_node) (refl, (refl, tt)))
+
+abbrev lost_state : StateValue
+lost_state = begun_state lost_node
+
+lost_up : is_up lost_state (first_of lost_node) ≡ true
+lost_up = (up_is lost_state (first_of lost_node)).1 (begun_live lost_node)
+
+pub lost_ticks : refusal_of loss_table (shown loss_table (begun_node lost_node (start_at lost_node))) (Tick 0) ≡ None
+lost_ticks =
+    (λ i. refused (not (is_up (begun_is i) (first_of lost_node))) (nat_lt MAX_COUNTER (greatest_counter (first_of lost_node) (begun_is i).known + 1)))
+    ∙ (λ i. refused (not (lost_up i)) (nat_lt MAX_COUNTER (begun_counter lost_node i)))
+  where
+    refused : Bool → Bool → Option Refusal
+    refused down used = first ((down, DeclaredDown) ∷ (false, MomentBack) ∷ (used || false, DotsUsedUp) ∷ [])
+
+abbrev lost_waits : List (Option Noted)
+lost_waits = waits_of loss_table (record { state = lost_state; moment = 0 } ∷ [])
+
+lost_mine : is_mine loss_table (first_of lost_node) lost_waits 0 lost_state the_app ≡ true
+lost_mine =
+    and_from _ _ (if_own (first_of lost_node) (candidate_of (verdict_of loss_table lost_state the_app)) (ap candidate_of starts_it))
+    (ap (is_due_by loss_table (noted_at lost_waits the_app) lost_state the_app 0) starts_it)
+
+lost_terms : terms_used_up lost_state the_app ≡ false
+lost_terms = ap (λ c. nat_lt MAX_COUNTER (option_map_or (λ (claim : Claim). claim.term) c 0 + 1)) (none_claimed lost_node the_app)
+
+lost_act : claimed_by lost_state the_app (verdict_of loss_table lost_state the_app) ≡ Claims the_app 1 Normal None
+lost_act = ap (claimed_by lost_state the_app) starts_it ∙ ap (λ (c : Option Claim). Claims the_app (option_map_or (λ (k : Claim). k.term) c 0 + 1) Normal None) (none_claimed lost_node the_app)
+
+abbrev claims_so : Operation → Turn
+claims_so o = record { ops = o ∷ []; passed = []; state = join lost_state (meaning_of (o ∷ [])) }
+
+lost_turn_by : StateValue → Turn
+lost_turn_by u = turn_of loss_table (first_of lost_node) (waits_of loss_table (record { state = u; moment = 0 } ∷ [])) 0 u
+
+pub lost_turn : turn_of loss_table (first_of lost_node) (waits_of loss_table (record { state = joined (begun_log lost_node); moment = 0 } ∷ [])) 0 (joined (begun_log lost_node)) ≡ claims_so claiming
+unfolding lost_turn_by
+lost_turn =
+    let o = claim_of loss_table (first_of lost_node) lost_state the_app in
+    (λ i. lost_turn_by (begun_is i))
+    ∙ (λ i. cond (lost_mine i) (cond (terms_used_up lost_state the_app) (record { ops = []; passed = the_app ∷ []; state = lost_state }) (claims_so o)) (turn_from lost_state))
+    ∙ (λ i. cond (lost_terms i) (record { ops = []; passed = the_app ∷ []; state = lost_state }) (claims_so o))
+    ∙ (λ i. claims_so (operation (dot (first_of lost_node) (begun_counter lost_node i)) (lost_act i)))
