@@ -78,7 +78,11 @@ class Reply:
 
 def reply_to(distac: Distac, question: Question) -> Reply:
     """The answer to a question."""
-    checked = load_config(distac, question.config)
+    return reply_on(distac, load_config(distac, question.config), question)
+
+
+def reply_on(distac: Distac, checked: Checked, question: Question) -> Reply:
+    """The answer to a question on a configuration that was read."""
     configuration = checked.configuration
     down = known_nodes(question.down, configuration)
     not_started = known_nodes(question.not_started, configuration)
