@@ -124,8 +124,6 @@ def shipped_by(answer: str) -> int:
 
 def written_out(lines: list[Line], run: Run) -> list[Line]:
     """A script with each `tell` written out behind a comment that says it. All its lines have to be in order."""
-    if not any(line.is_tell for line in lines):
-        return lines
     writing = Writing(run)
     for line in lines:
         writing.turns += turns_of(line) if line.is_tell else [Turn(line, guess_of(line))]
