@@ -11,7 +11,7 @@ from view.distac import Distac, found_distac
 from view.loading import Faulty, Loaded, answers_of, load_config, load_script
 from view.looking import seen_lines
 from view.output import Output, Progress, drop_output, say
-from view.playing import Playing, rows_of, unknown_names
+from view.playing import answers_in, rows_of, unknown_names
 from view.problems import Problem, Status
 from view.timeline import Drafting
 from view.web_page import page_text
@@ -44,11 +44,11 @@ def play(distac: Distac, words: argparse.Namespace, output: Output) -> Status:
     if words.plain:
         output.raw(loaded.plain)
         return Status.FINE
-    playing = Playing(words.page, words.explain or output.is_terminal)
-    for row in rows_of(distac, loaded, playing):
+    each = answers_in(distac, loaded, words.page)
+    for row in rows_of(each, words.explain or output.is_terminal):
         output.line(row)
     output.flush()
-    remarks = unknown_names(answers_of(distac, loaded), loaded.configuration)
+    remarks = unknown_names(each, loaded.configuration)
     return warned(words, [remark.text(words.script) for remark in remarks])
 
 

@@ -50,8 +50,6 @@ class TermReader:
 
     def take(self) -> Token:
         """The next token."""
-        if self.place == len(self.tokens):
-            raise Problem("distac check printed a configuration that distac-view can't read")
         self.place += 1
         return self.tokens[self.place - 1]
 
@@ -71,7 +69,14 @@ class TermReader:
 
 def configuration_of(canonical: str) -> Configuration:
     """The configuration that a canonical text says."""
-    sections: Any = TermReader(canonical).term()
+    try:
+        return configuration_in(TermReader(canonical).term())
+    except (IndexError, KeyError, TypeError, ValueError) as error:
+        raise Problem("distac check printed a configuration that distac-view can't read") from error
+
+
+def configuration_in(sections: Any) -> Configuration:
+    """The configuration that a canonical text's sections say."""
     parameters = dict(sections[0][1])
     barred = {name for name, _ in parameters["permissions"]}
     applications = [application_of(entry, barred) for entry in parameters["distributed"]]

@@ -19,6 +19,8 @@ BAND, BAR, GAP = 12, 10, 4
 MOST_SCRIPT, MOST_ANSWER = 46, 52
 LEAST_LANE, MOST_NAME = 84, 24
 
+HUES = (212, 282, 188, 318, 250, 48)
+
 STATE_CLASSES = {State.OFF: "off", State.UP: "up", State.SAID_DOWN: "said", State.HEARD_DOWN: "dead"}
 
 
@@ -225,7 +227,7 @@ def answer_text(one: Answered) -> str:
 
 def hue_of(number: int) -> str:
     """The color of an application, as a style."""
-    return f"--hue:{(210 + number * 137.5) % 360:.0f}"
+    return f"--hue:{HUES[number % len(HUES)]}"
 
 
 def box(left: float, top: float, width: float, height: float, kind: str, inside: str, style: str = "") -> str:

@@ -97,6 +97,8 @@ def checked_lines(distac: Distac, path: str, script: Script, configuration: Conf
         """The first output line of each line's answer."""
         return [each.first for each in play_lines(distac, path, script, lines, configuration)]
 
+    if not script.has_tells:
+        return script.lines
     faulty = next((line for line in script.lines if line.is_tell and fault_in(line, configuration.nodes)), None)
     if faulty is not None:
         first_answers([line for line in script.lines if line.number < faulty.number and not line.is_tell])

@@ -6,18 +6,21 @@ from dataclasses import dataclass
 
 from view.texts import columns_of, text_of
 
-MOST_SHOWN = 160
-BEFORE_CARET = 100
+MOST_BEFORE = 100
+MOST_BEHIND = 60
 
 
 @dataclass(frozen=True)
 class Place:
-    """A place in a file: its line and column from 1, the line as it is shown, and what stands there before the place."""
+    """A place in a file: its line and column from 1, and what is shown of the line before the place and from it on.
+
+    Of a long line only a part is shown.
+    """
 
     line: int
     column: int
-    shown: str
     before: str
+    behind: str
 
 
 @dataclass(frozen=True)
@@ -43,8 +46,12 @@ def place_of(source: bytes, offset: int) -> Place:
 
 def place_in(line: bytes, number: int, offset: int) -> Place:
     """The place of a byte of a line. A carriage return at the line's end belongs to the end."""
-    before = one_sign_each(line[:offset])
-    return Place(number, len(before) + 1, one_sign_each(without_return(line)), before)
+    whole = text_of(line[:offset])
+    before = one_sign_each(whole[-MOST_BEFORE:])
+    behind = one_sign_each(text_of(without_return(line)[offset : offset + 4 * MOST_BEHIND])[:MOST_BEHIND])
+    dots = ".. " if len(whole) > MOST_BEFORE else ""
+    more = " .." if len(line) > offset + 4 * MOST_BEHIND else ""
+    return Place(number, len(whole) + 1, dots + before, behind + more)
 
 
 def line_from(source: bytes, start: int) -> bytes:
@@ -63,9 +70,9 @@ def last_offset(source: bytes, end: int) -> int:
     return len(source[:end].rstrip())
 
 
-def one_sign_each(data: bytes) -> str:
-    """A line as an editor counts it: a tab is kept, and each other control character and each odd byte is one sign."""
-    return "".join(sign_of(character) for character in text_of(data))
+def one_sign_each(text: str) -> str:
+    """A text as an editor counts it: a tab is kept, and each other control character and each odd byte is one sign."""
+    return "".join(sign_of(character) for character in text)
 
 
 def sign_of(character: str) -> str:
@@ -76,10 +83,5 @@ def sign_of(character: str) -> str:
 
 def quoted(place: Place) -> list[str]:
     """The line of a place, cut where it is long, and a caret under the place."""
-    start, dots = 0, ""
-    if len(place.before) > BEFORE_CARET:
-        start, dots = len(place.before) - BEFORE_CARET, ".. "
-    line = place.shown[start : start + MOST_SHOWN]
-    more = " .." if len(place.shown) > start + MOST_SHOWN else ""
-    blank = "".join("\t" if sign == "\t" else " " * columns_of(sign) for sign in place.before[start:])
-    return [f"  {dots}{line}{more}", f"  {' ' * len(dots)}{blank}^"]
+    blank = "".join("\t" if sign == "\t" else " " * columns_of(sign) for sign in place.before)
+    return [f"  {place.before}{place.behind}", f"  {blank}^"]

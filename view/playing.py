@@ -3,6 +3,7 @@
 from __future__ import annotations
 
 from dataclasses import dataclass
+from itertools import zip_longest
 from typing import Iterator
 
 from view.answers import Answered
@@ -21,26 +22,21 @@ MOST_COLUMNS = 46
 EXPLAINS = "= "
 
 
-@dataclass(frozen=True)
-class Playing:
-    """How a script is shown: whether pages follow each share, and whether refusals are explained."""
+def answers_in(distac: Distac, loaded: Loaded, has_pages: bool) -> list[Answered]:
+    """What is shown of a script: its lines with their answers, and pages behind each share where they are asked for."""
+    if not has_pages:
+        return answers_of(distac, loaded)
+    return list(merged(answers_of(distac, loaded, with_pages(loaded)), loaded.lines))
 
-    has_pages: bool = False
-    explains: bool = False
 
-
-def rows_of(distac: Distac, loaded: Loaded, playing: Playing) -> Iterator[str]:
-    """What is printed for a script."""
-    lines = with_pages(loaded) if playing.has_pages else loaded.lines
-    each = answers_of(distac, loaded, lines)
-    columns = min(max((columns_of(shown(line.text)) for line in loaded.lines if line.is_event), default=0), MOST_COLUMNS)
-    digits = len(str(lines[-1].number)) if lines else 1
-    layout = Layout(digits, columns)
-    shown_ones = list(merged(each, loaded.lines)) if playing.has_pages else each
-    if shown_ones and not shown_ones[-1].line.text:
-        shown_ones.pop()
-    for one in shown_ones:
-        yield from layout.rows(one, playing.explains)
+def rows_of(each: list[Answered], explains: bool) -> Iterator[str]:
+    """What is printed for a script's lines. An empty last one is left out."""
+    ones = each[:-1] if each and not each[-1].line.text else each
+    texts = (shown(one.line.text) for one in ones if one.line.is_event)
+    columns = min(max((columns_of(text) for text in texts), default=0), MOST_COLUMNS)
+    layout = Layout(len(str(ones[-1].line.number)) if ones else 1, columns)
+    for one in ones:
+        yield from layout.rows(one, explains)
 
 
 @dataclass(frozen=True)
@@ -71,18 +67,15 @@ class Layout:
 
 def with_pages(loaded: Loaded) -> list[Line]:
     """The lines with a page of each node behind each share and each written-out `tell`."""
+    nodes = [node for node in loaded.configuration.nodes if " " not in node]
+    told = {line.number for line in loaded.script.lines if line.is_tell}
     found: list[Line] = []
-    for line, following in zip(loaded.lines, [*loaded.lines[1:], None]):
+    for line, following in zip_longest(loaded.lines, loaded.lines[1:]):
         found.append(line)
-        is_last_told = is_told(line, loaded) and (following is None or following.number != line.number)
-        if (line.is_event and line.verb == "share") or is_last_told:
-            found += [Line(line.number, f"page {node}") for node in loaded.configuration.nodes if " " not in node]
+        is_last_told = line.number in told and (following is None or following.number != line.number)
+        if is_last_told or (line.is_event and line.verb == "share"):
+            found += [Line(line.number, f"page {node}") for node in nodes]
     return found
-
-
-def is_told(line: Line, loaded: Loaded) -> bool:
-    """Whether a line was written out for a `tell`."""
-    return line.number in {each.number for each in loaded.script.lines if each.is_tell}
 
 
 def merged(each: list[Answered], own: list[Line]) -> Iterator[Answered]:

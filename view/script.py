@@ -3,14 +3,14 @@
 from __future__ import annotations
 
 from dataclasses import dataclass
+from typing import IO, NamedTuple
 
 from view.problems import Problem
 from view.texts import text_of
 from view.verbs import TELL, words_of
 
 
-@dataclass(frozen=True)
-class Line:
+class Line(NamedTuple):
     """A line of a script: its number in the file, and its text without the line feed."""
 
     number: int
@@ -48,7 +48,7 @@ class Script:
     @property
     def has_tells(self) -> bool:
         """Whether any line is a `tell`."""
-        return any(line.is_tell for line in self.lines)
+        return TELL.encode() in self.source and any(line.is_tell for line in self.lines)
 
 
 def separator_in(source: bytes) -> int | None:
@@ -81,7 +81,7 @@ def read_bytes(path: str, most: int) -> bytes:
         raise Problem(f"{path} can't be read: {getattr(error, 'strerror', None) or error}") from error
 
 
-def read_most(file, most: int) -> bytes:
+def read_most(file: IO[bytes], most: int) -> bytes:
     """What a file brings until it ends or has brought more than is allowed."""
     parts, size = [], 0
     while size <= most:

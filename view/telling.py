@@ -1,14 +1,16 @@
 """Lines `tell NODE NODE ..` written out as `ship` and `hear`, so that some nodes share among themselves alone.
 
-The numbers of messages come of `distac`: the lines up to a `tell` are run, and each answer says whether a message was shipped. A
-first guess is that each ship is answered by a message. What the first wrong guess leaves behind is right, so it is mended there
-and all is run again. Whether a line behind a `tell` is added doesn't change what comes before it.
+As in a share, nodes that are off are left out, and so are ships that are refused. The numbers of messages come of `distac`: a
+script is run under guesses of what each line ships, and each answer says whether its guess was right. All before the first wrong
+guess stays right when the guesses are mended and the script is run again. A line that is added at the end changes nothing before.
 """
 
 from __future__ import annotations
 
 import re
+from copy import copy
 from dataclasses import dataclass, field
+from enum import Enum
 from typing import Callable
 
 from view.configuration import name_order
@@ -20,26 +22,68 @@ from view.tokens import name_of
 from view.verbs import TELL, is_name, usage
 
 SHIPPED = re.compile(r"shipped (?P<number>\d+) ")
+HEARER_OFF = "refused 1 Off"
 SHARED = re.compile(r"shared (?P<count>\d+)\Z")
 
 # From lines to their answers, each the first output line alone.
 Run = Callable[["list[Line]"], "list[str]"]
 
 
+class Outcome(Enum):
+    """What a ship of a `tell` comes to: it is heard, it is refused, or the node that it is for is off and left out."""
+
+    HEARD = "heard"
+    REFUSED = "refused"
+    LEFT_OUT = "left out"
+
+
 @dataclass
 class Turn:
-    """A line that may ship messages: whether it belongs to a `tell`, how many it is taken to ship, and who hears it."""
+    """A line of the script, with how many messages it is taken to ship."""
 
     line: Line
-    is_told: bool
-    guess: int
-    hearer: str = ""
+    count: int
+
+    def tried(self, _: int) -> list[Line]:
+        """The lines that are run to see whether the guess is right."""
+        return [self.line]
+
+    def written(self, _: int) -> list[Line]:
+        """The lines that stand in the script in the end."""
+        return [self.line]
+
+    def mend(self, answers: list[str]) -> None:
+        """Takes what the tried lines were answered as the guess."""
+        self.count = shipped_by(answers[0])
+
+
+@dataclass
+class Told(Turn):
+    """A ship of a `tell`, with the node that is to hear it, and what it is taken to come to."""
+
+    hearer: str
+    outcome: Outcome = Outcome.HEARD
+
+    def tried(self, number: int) -> list[Line]:
+        """The ship and, where it is taken to be heard, its delivery. In place of what is left out stands a look at the node."""
+        if self.outcome is Outcome.LEFT_OUT:
+            return [Line(self.line.number, f"same {self.hearer} {self.hearer}")]
+        return self.written(number) or [self.line]
 
     def written(self, number: int) -> list[Line]:
-        """The line and, for a message of a `tell`, its delivery. The number is that of the last message."""
-        if not self.is_told or not self.guess:
-            return [self.line]
+        """The ship and its delivery, or nothing. The number is that of the last message."""
+        if self.outcome is not Outcome.HEARD:
+            return []
         return [self.line, Line(self.line.number, f"hear {self.hearer} {number}")]
+
+    def mend(self, answers: list[str]) -> None:
+        """Takes what the tried lines were answered as the guess."""
+        if self.outcome is Outcome.LEFT_OUT:
+            is_left_out, is_shipped = answers[0] != "same", True
+        else:
+            is_left_out, is_shipped = answers[-1] == HEARER_OFF and len(answers) == 2, bool(shipped_by(answers[0]))
+        self.outcome = Outcome.LEFT_OUT if is_left_out else Outcome.HEARD if is_shipped else Outcome.REFUSED
+        self.count = int(self.outcome is Outcome.HEARD)
 
 
 @dataclass
@@ -49,29 +93,26 @@ class Writing:
     run: Run
     turns: list[Turn] = field(default_factory=list)
 
-    def lines(self, keeps_refused: bool) -> list[Line]:
-        """The script by the guesses as they are, with the ships of a `tell` that are taken to be refused or without them."""
+    def lines(self, form: Callable[[Turn, int], list[Line]]) -> list[Line]:
+        """The script by the guesses as they are, each turn in a form that takes the number of the last message."""
         found, number = [], 0
         for turn in self.turns:
-            number += turn.guess
-            if turn.guess or not turn.is_told or keeps_refused:
-                found += turn.written(number)
+            number += turn.count
+            found += form(turn, number)
         return found
 
     def settle(self) -> None:
         """Runs the script until each guess is what `distac` answers."""
-        while not self.mend(self.run(self.lines(keeps_refused=True))):
+        while not self.mend(self.run(self.lines(lambda turn, number: turn.tried(number)))):
             pass
 
     def mend(self, answers: list[str]) -> bool:
-        """Takes the answers as the guesses from the first wrong one on. Whether all were right."""
+        """Takes the answers as the guesses. Whether all were right."""
         place, were_right = 0, True
         for turn in self.turns:
-            count = shipped_by(answers[place])
-            place += len(turn.written(0))
-            if count != turn.guess:
-                were_right = False
-                turn.guess = count
+            end, guess = place + len(turn.tried(0)), copy(turn)
+            turn.mend(answers[place:end])
+            were_right, place = were_right and turn == guess, end
         return were_right
 
 
@@ -83,13 +124,11 @@ def shipped_by(answer: str) -> int:
 
 def written_out(lines: list[Line], run: Run) -> list[Line]:
     """A script with each `tell` written out behind a comment that says it. All its lines have to be in order."""
-    if not any(line.is_tell for line in lines):
-        return lines
     writing = Writing(run)
     for line in lines:
-        writing.turns += turns_of(line) if line.is_tell else [Turn(line, False, guess_of(line))]
+        writing.turns += turns_of(line) if line.is_tell else [Turn(line, guess_of(line))]
     writing.settle()
-    return writing.lines(keeps_refused=False)
+    return writing.lines(lambda turn, number: turn.written(number))
 
 
 def guess_of(line: Line) -> int:
@@ -98,11 +137,11 @@ def guess_of(line: Line) -> int:
 
 
 def turns_of(line: Line) -> list[Turn]:
-    """The ships of a `tell`: each of its nodes to each other one, in name order."""
+    """The ships of a `tell` behind a comment: each of its nodes to each other one, in name order."""
     names = sorted((name_of(word) for word in line.words[1:]), key=name_order)
     pairs = [(one, other) for one in names for other in names if one != other]
-    comment = Turn(Line(line.number, f"% {line.text.strip()}"), False, 0)
-    ships = [Turn(Line(line.number, f"ship {one} {other}"), True, 1, other) for one, other in pairs]
+    comment = Turn(Line(line.number, f"% {line.text.strip()}"), 0)
+    ships = [Told(Line(line.number, f"ship {one} {other}"), 1, other) for one, other in pairs]
     return [comment, *ships]
 
 

@@ -13,7 +13,7 @@ from dataclasses import dataclass, field
 from view.answers import Answered
 from view.configuration import Configuration, name_order
 from view.distac import Distac
-from view.loading import Checked, load_config, load_script
+from view.loading import Checked, answers_of, load_config, load_script
 from view.pages import CLAIM, Held
 from view.problems import Problem, Status
 from view.script import separator_in
@@ -78,7 +78,11 @@ class Reply:
 
 def reply_to(distac: Distac, question: Question) -> Reply:
     """The answer to a question."""
-    checked = load_config(distac, question.config)
+    return reply_on(distac, load_config(distac, question.config), question)
+
+
+def reply_on(distac: Distac, checked: Checked, question: Question) -> Reply:
+    """The answer to a question on a configuration that was read."""
     configuration = checked.configuration
     down = known_nodes(question.down, configuration)
     not_started = known_nodes(question.not_started, configuration)
@@ -127,6 +131,7 @@ def go_on_after(distac: Distac, story: Story, path: str, checked: Checked) -> No
     loaded = load_script(distac, path)
     if distac.check(loaded.script.config).lines != [checked.canonical]:
         raise Problem(f"{path} has another configuration: the script of --after has to begin with the same one", Status.FAULT)
+    answers_of(distac, loaded)
     events = [line for line in loaded.lines if line.is_event]
     story.add(*(line.text for line in events))
     story.now = max((int(word_of(line.words, Role.MOMENT) or 0) for line in events), default=0)

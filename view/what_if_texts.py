@@ -25,7 +25,8 @@ def table_of(reply: Reply) -> Iterator[str]:
 def cells_of(case: Case, fate: Fate) -> tuple[str, ...]:
     """The row of an application."""
     after = "" if fate.milliseconds is None else f"{fate.milliseconds} ms"
-    places = (fate.app, fate.now or "-", fate.then or "-", fate.how, after, fate.back or "-")
+    how = "stays stopped" if fate.was_stopped and fate.how == "stays" else fate.how
+    places = (fate.app, fate.now or "-", fate.then or "-", how, after, fate.back or "-")
     return tuple(shown(text) for text in (" ".join(case.down), *places))
 
 

@@ -1,0 +1,30 @@
+#!/usr/bin/env python3
+"""Runs all tests of `distac-view`. The last line is `N passed, M failed`.
+
+They ask the program that the environment variable DISTAC names, or the models where it names none.
+"""
+
+import sys
+import unittest
+from pathlib import Path
+
+sys.dont_write_bytecode = True
+HERE = Path(__file__).resolve().parent
+sys.path.insert(0, str(HERE))
+
+from support import PROGRAM
+
+
+def main() -> int:
+    """Runs the tests, and counts them."""
+    print(f"distac-view is tested with {PROGRAM}")
+    sys.stdout.flush()
+    tests = unittest.defaultTestLoader.discover(str(HERE), pattern="test_*.py")
+    result = unittest.TextTestRunner(stream=sys.stdout, verbosity=1).run(tests)
+    failed = len({test.id() for test, _ in (*result.failures, *result.errors)})
+    print(f"{result.testsRun - failed} passed, {failed} failed")
+    return 1 if failed or not result.testsRun else 0
+
+
+if __name__ == "__main__":
+    sys.exit(main())

@@ -1,0 +1,145 @@
+"""The command line: exit statuses, help, files that aren't there, programs that fail, and readers that go away."""
+
+from __future__ import annotations
+
+import json
+import os
+import subprocess
+import sys
+import tempfile
+import unittest
+from pathlib import Path
+
+from support import EXAMPLES, MISTAKES, PROGRAM, TOP, Said, run_view, view
+
+FAILOVER, MANUAL = str(EXAMPLES / "failover.distac"), str(EXAMPLES / "manual.config")
+TYPO, WARNED = str(MISTAKES / "s01_typo_verb.distac"), str(MISTAKES / "c11_perm_typo.config")
+COMMANDS = (("check", MANUAL), ("play", FAILOVER), ("timeline", FAILOVER, "-o", "-"), ("what-if", MANUAL))
+
+
+class Statuses(unittest.TestCase):
+    """0 where all is well, 1 for a fault or a strict warning, 2 for wrong use."""
+
+    def expect(self, status: int, said: Said, error: str = "") -> None:
+        """A status, a part of what is said on standard error, and no traceback."""
+        self.assertEqual(said.status, status, said)
+        self.assertIn(error, said.errors)
+        self.assertNotIn("Traceback", said.errors + said.output)
+
+    def test_fine(self) -> None:
+        for words in COMMANDS:
+            self.expect(0, run_view(*words))
+        for words in (("--help",), ("--version",), *((command[0], "--help") for command in COMMANDS)):
+            said = run_view(*words)
+            self.expect(0, said)
+            self.assertTrue(said.output)
+
+    def test_faults(self) -> None:
+        for words in (("check", TYPO), ("play", TYPO), ("timeline", TYPO, "-o", "-"), ("what-if", TYPO)):
+            said = view(*words)
+            self.expect(1, said)
+            self.assertTrue(said.output.startswith(f"{TYPO}:"), said)
+
+    def test_faults_of_the_script_before(self) -> None:
+        with tempfile.TemporaryDirectory() as room:
+            path = Path(room) / "script"
+            for lines, error in (("boot cp1@cave\n", "BadCount"), ("tell cp1@cave\n", "BadCount"), ("boot cp9@cave 0\n", "UnknownActor")):
+                path.write_text(Path(MANUAL).read_text() + "--\n" + lines)
+                said = view("what-if", MANUAL, "--after", str(path))
+                self.expect(1, said)
+                self.assertIn(error, said.output)
+            path.write_text(Path(FAILOVER).read_text().replace("5000", "6000"))
+            self.expect(1, view("what-if", MANUAL, "--after", str(path)), "another configuration")
+
+    def test_warnings(self) -> None:
+        self.expect(0, view("check", WARNED), "UnknownPermission")
+        self.expect(1, view("check", "--strict", WARNED), "UnknownPermission")
+        self.expect(0, view("check", "--strict", MANUAL))
+        self.expect(0, view("play", str(MISTAKES / "s03_unknown_about.distac")), "is cp1@cave meant?")
+        self.expect(1, view("play", "--strict", str(MISTAKES / "s03_unknown_about.distac")), "UnknownNode")
+
+    def test_wrong_use(self) -> None:
+        for words in ((), ("nothing",), ("check",), ("play", "--loud", FAILOVER), ("timeline", FAILOVER), ("what-if", "--down")):
+            self.expect(2, run_view(*words), "usage")
+        self.expect(2, view("what-if", MANUAL, "--down", "cp9@cave"), "no node cp9@cave")
+        self.expect(2, view("what-if", MANUAL, "--not-started", ""), "no node")
+        self.expect(2, view("timeline", FAILOVER, "-o", "-", "--from", "1000"), "no line")
+        self.expect(2, view("timeline", FAILOVER, "-o", "/no/such/folder/page.html"), "can't be written")
+
+    def test_files_that_cannot_be_read(self) -> None:
+        for path in ("/no/such/file", str(TOP), "\0", "x" * 5_000):
+            for words in (("check", path), ("play", path), ("timeline", path, "-o", "-"), ("what-if", path)):
+                self.expect(2, view(*words), "can't be read")
+
+    def test_standard_input(self) -> None:
+        with open(FAILOVER, "rb") as file:
+            self.assertEqual(run_view("play", "--plain", "-", source=file.read()).output, Path(FAILOVER).read_text())
+
+    def test_json(self) -> None:
+        fates = json.loads(view("what-if", MANUAL, "--down", "cp1@cave", "cp2@cave", "--json").output)["cases"][0]["applications"]
+        self.assertEqual((fates[0]["then"], fates[0]["how"], fates[0]["milliseconds"]), ("cp3@cave", "failover", 5000))
+
+
+class Programs(unittest.TestCase):
+    """Programs in the place of `distac` that aren't there, or don't do what it does."""
+
+    def setUp(self) -> None:
+        self.room = tempfile.TemporaryDirectory()
+        self.addCleanup(self.room.cleanup)
+
+    def program(self, text: str) -> str:
+        """A program that is a script of the shell."""
+        path = Path(self.room.name) / "program"
+        path.write_text("#!/bin/sh\n" + text)
+        path.chmod(0o755)
+        return str(path)
+
+    def expect(self, program: str, error: str) -> None:
+        """A sentence in place of an answer."""
+        said = run_view("check", MANUAL, program=program)
+        self.assertEqual((said.status, said.output), (2, ""), said)
+        self.assertIn(error, said.errors)
+        self.assertNotIn("Traceback", said.errors)
+
+    def test_none(self) -> None:
+        self.expect("/no/such/program", "no program distac")
+        self.expect("no-such-program-in-path", "no program distac")
+        self.expect(self.room.name, "no program distac")
+        self.expect(MANUAL, "isn't executable")
+
+    def test_others(self) -> None:
+        self.expect(self.program("exit 3"), "gave no answer")
+        self.expect(self.program("exit 1"), "gave no answer")
+        self.expect(self.program("kill -9 $$"), "gave no answer")
+        self.expect(self.program("echo out of memory; exit 1"), "out of memory")
+        self.expect(self.program("echo hello; exit 1"), "doesn't know")
+        self.expect(self.program("echo hello"), "can't read")
+        self.expect(self.program("printf hello"), "gave no answer")
+        self.expect(self.program("true"), "gave no answer")
+        garbled = Path(self.program("")).with_name("garbled")
+        garbled.write_bytes(b"\x7fELF garbage")
+        garbled.chmod(0o755)
+        self.expect(str(garbled), "can't be run")
+
+    def test_the_command_line_comes_first(self) -> None:
+        said = run_view("check", MANUAL, "--distac", PROGRAM, program="/no/such/program")
+        self.assertEqual(said.status, 0, said)
+
+    def test_a_reader_that_goes_away(self) -> None:
+        for words in COMMANDS:
+            line = [sys.executable, str(TOP / "distac-view"), *words]
+            with subprocess.Popen(line, stdout=subprocess.PIPE, stderr=subprocess.PIPE, env={**os.environ, "DISTAC": PROGRAM}) as process:
+                process.stdout.close()
+                errors = process.stderr.read()
+                self.assertEqual((process.wait(), errors), (0, b""), words)
+
+    def test_a_full_disk(self) -> None:
+        with open("/dev/full", "wb") as full:
+            line = [sys.executable, str(TOP / "distac-view"), "check", MANUAL]
+            done = subprocess.run(line, stdout=full, stderr=subprocess.PIPE, env={**os.environ, "DISTAC": PROGRAM})
+        self.assertEqual(done.returncode, 2)
+        self.assertIn(b"can't be written", done.stderr)
+
+
+if __name__ == "__main__":
+    unittest.main()
