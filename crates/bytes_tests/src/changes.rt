@@ -1,5 +1,5 @@
-//! Packets of which one byte is another: each is refused, or spells a packet whose bytes these are. Here a message is tried
-//! with every byte at every place, and each other packet with those at the edges of fields. `./growths` tries the rest.
+//! Packets of which one byte is another: each is refused, or spells a packet whose bytes these are. Every byte is tried at
+//! every place.
 use crate::messages::{BOOTED, INTERVAL, OPERATIONS, booted, changed, has_bytes, packet_bytes};
 use crate::sample::{EXAMPLE, config, origin};
 use crate::state_bytes::{LISTS, full};
@@ -42,9 +42,6 @@ fn one_byte_changed_in_a_message(rt: HostRuntime) {
     }
 }
 
-/// Bytes at the edges of fields.
-const EDGES: [u8; 11] = [0, 1, 2, 3, 4, 5, 7, 8, 64, 65, 255];
-
 /// The same of a packet of these fields.
 fn wrong_in(alloc: Global, fields: &[&[u8]], byte: u8) -> Option<Option<usize>> {
     wrong_place(alloc, EXAMPLE, &packet_bytes(alloc, fields).ok()?, byte)
@@ -52,8 +49,8 @@ fn wrong_in(alloc: Global, fields: &[&[u8]], byte: u8) -> Option<Option<usize>> 
 
 #[test]
 fn one_byte_changed_in_an_interval(rt: HostRuntime) {
-    for byte in EDGES.iter() {
-        let wrong = wrong_in(rt.alloc(), &[INTERVAL, BOOTED], *byte);
+    for byte in 0..=255 {
+        let wrong = wrong_in(rt.alloc(), &[INTERVAL, BOOTED], byte);
         assert!(rt; wrong == Some(None), "{byte}: {wrong:?}");
     }
 }
@@ -65,8 +62,8 @@ fn is_so_of_operations(alloc: Global, byte: u8) -> bool {
 
 #[test]
 fn one_byte_changed_in_every_operation(rt: HostRuntime) {
-    for byte in EDGES.iter() {
-        assert!(rt; is_so_of_operations(rt.alloc(), *byte), "{byte}");
+    for byte in 0..=255 {
+        assert!(rt; is_so_of_operations(rt.alloc(), byte), "{byte}");
     }
 }
 
@@ -90,8 +87,8 @@ fn wrong_in_every_part(alloc: Global, byte: u8) -> Option<Option<usize>> {
 
 #[test]
 fn one_byte_changed_in_a_message_with_every_part(rt: HostRuntime) {
-    for byte in EDGES.iter() {
-        let wrong = wrong_in_every_part(rt.alloc(), *byte);
+    for byte in 0..=255 {
+        let wrong = wrong_in_every_part(rt.alloc(), byte);
         assert!(rt; wrong == Some(None), "{byte}: {wrong:?}");
     }
 }

@@ -7,6 +7,8 @@
 #[cfg(test)]
 mod callers;
 #[cfg(test)]
+mod forged;
+#[cfg(test)]
 mod nodes;
 #[cfg(test)]
 mod pages;

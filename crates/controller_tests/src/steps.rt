@@ -113,11 +113,15 @@ fn act(step: Step, over: DotList) -> Act {
     }
 }
 
-/// What a step means alone.
-fn delta_of(alloc: Global, step: Step) -> Option<State> {
-    let (node, inc, kind) = step;
+/// A step by an operation with a counter of its own: the node, the incarnation, the counter and what it does.
+pub type Forged = (u8, u64, u64, Kind);
+
+/// What an operation means alone.
+fn delta_of(alloc: Global, operation: Forged) -> Option<State> {
+    let (node, inc, n, kind) = operation;
+    let step = (node, inc, kind);
     let over = over(alloc, step).ok()?;
-    let op = Op::new(dot(node, inc, counter_of(kind)), act(step, over)).ok()?;
+    let op = Op::new(dot(node, inc, n), act(step, over)).ok()?;
     State::delta_of(alloc, &op).ok()
 }
 
@@ -131,6 +135,15 @@ trait Means: Copy {
 }
 
 impl Means for Step {
+    type All = State;
+
+    fn alone(self, alloc: Global) -> Option<State> {
+        let (node, inc, kind) = self;
+        delta_of(alloc, (node, inc, counter_of(kind), kind))
+    }
+}
+
+impl Means for Forged {
     type All = State;
 
     fn alone(self, alloc: Global) -> Option<State> {
@@ -151,4 +164,9 @@ fn with<M: Means>(alloc: Global, before: M::All, parts: &[M]) -> Option<M::All> 
 pub fn state_after(alloc: Global, before: &[Step], then: &[Step]) -> Option<State> {
     let state = with(alloc, State::bottom(alloc), before)?;
     with(alloc, state, then)
+}
+
+/// What these operations mean.
+pub fn meaning_of(alloc: Global, operations: &[Forged]) -> Option<State> {
+    with(alloc, State::bottom(alloc), operations)
 }

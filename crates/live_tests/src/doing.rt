@@ -280,26 +280,9 @@ const ROWS: &[Row] = &[
     ),
     (Comes::Ship(R), Told::Nothing),
     (Comes::Ship(R), Told::Refused(Refusal::UpToDate)),
-    // The node's own start ends, and the node is drained.
-    (STOP, Told::Issued(6)),
-    (
-        Comes::Asked(Command::Stop {
-            app: AppId(1),
-            node: ME,
-        }),
-        Told::Refused(Refusal::UnknownApp),
-    ),
-    (DRAIN, Told::Issued(7)),
-    (
-        Comes::Asked(Command::Drain {
-            node: NodeId(3),
-            value: false,
-        }),
-        Told::Refused(Refusal::UnknownNode),
-    ),
-    // The other node claims again under the last term, and is lost. Once there is a candidate it is passed.
+    // The other node claims again under the last term, and is lost. No term is left for a failover, which is passed.
     (Comes::Single(Q, Issued::Claim(LAST)), Told::Heard(true)),
-    (DOWN, Told::Issued(8)),
+    (DOWN, Told::Issued(6)),
     (DOWN, Told::Refused(Refusal::NotLive)),
     (
         Comes::Asked(Command::Permit {
@@ -314,6 +297,24 @@ const ROWS: &[Row] = &[
         Told::Refused(Refusal::NotLive),
     ),
     (Comes::Tick(3), Told::Ticked(0, 0)),
+    (Comes::Tick(5_003), Told::Ticked(0, 1)),
+    // The node's own start ends, and the node is drained.
+    (STOP, Told::Issued(7)),
+    (
+        Comes::Asked(Command::Stop {
+            app: AppId(1),
+            node: ME,
+        }),
+        Told::Refused(Refusal::UnknownApp),
+    ),
+    (DRAIN, Told::Issued(8)),
+    (
+        Comes::Asked(Command::Drain {
+            node: NodeId(3),
+            value: false,
+        }),
+        Told::Refused(Refusal::UnknownNode),
+    ),
     // A crash, and a boot after which the gate gives up.
     (Comes::Crash, Told::Crashed),
     (Comes::Boot(10), Told::Booted(1)),

@@ -1,0 +1,346 @@
+//! Calls of configurations, contexts, lists of keys, numbers as bytes, and buffers of deltas.
+use crate::pieces::context;
+use crate::sample::{ME, OTHER, TWO, config, dot, origin};
+use crate::trial::{Bench, Said, of_any, of_bytes, short};
+use dac_base::NoMemory;
+use dac_bytes::{ByteReader, ByteWriter, ReadFaultKind, Version};
+use dac_config::{Config, FaultKind, printed_name, read_config};
+use dac_contexts::Context;
+use dac_deltas::{Acks, Buffer};
+use dac_dots::keys::insert_key;
+use dac_lattice::Max;
+use std::alloc::Global;
+
+/// What is asked of a configuration.
+#[derive(Clone, Copy, Debug, PartialEq, Eq)]
+pub enum OfConfig {
+    Read,
+    CanonicalText,
+    Copy,
+    PrintedName,
+}
+
+/// A configuration.
+#[derive(Drop)]
+pub struct Configs {
+    alloc: Global,
+    asked: OfConfig,
+    config: Config,
+}
+
+/// The bench of a call.
+pub fn configs(alloc: Global, asked: OfConfig) -> Option<Configs> {
+    Some(Configs {
+        alloc,
+        asked,
+        config: config(alloc)?,
+    })
+}
+
+/// What a configuration says that is read again.
+fn read(alloc: Global) -> Said {
+    match read_config(alloc, TWO) {
+        Ok(config) => Said::Well(config.mark()),
+        Err(fault) if fault.kind == FaultKind::NoMemory => Said::NoMemory,
+        Err(_) => Said::Other,
+    }
+}
+
+impl Bench for Configs {
+    fn call(&mut self) -> Said {
+        match self.asked {
+            OfConfig::Read => read(self.alloc),
+            OfConfig::CanonicalText => of_bytes(self.config.canonical_text()),
+            OfConfig::Copy => match self.config.copy() {
+                Ok(copied) => Said::Well(copied.mark()),
+                Err(_) => Said::NoMemory,
+            },
+            OfConfig::PrintedName => of_bytes(printed_name(self.alloc, b"it's")),
+        }
+    }
+
+    fn is_as_before(&self) -> bool {
+        true
+    }
+}
+
+/// What is asked of a context.
+#[derive(Clone, Copy, Debug, PartialEq, Eq)]
+pub enum OfContext {
+    Insert,
+    Union,
+    Copy,
+    Dots,
+    PushRow,
+    Further,
+    Write,
+    Read,
+}
+
+/// A context, what is united with it, and its bytes.
+#[derive(Drop)]
+pub struct Contexts {
+    alloc: Global,
+    asked: OfContext,
+    context: Context,
+    kept: Context,
+    other: Context,
+    bytes: Vec<u8>,
+}
+
+/// The bytes of a context.
+fn bytes_of(alloc: Global, context: &Context) -> Result<Vec<u8>, NoMemory> {
+    let writer = ByteWriter::new(alloc).write_context(Version::Two, context)?;
+    Ok(writer.into_bytes())
+}
+
+/// The bench of a call.
+pub fn contexts(alloc: Global, asked: OfContext) -> Option<Contexts> {
+    let mine = [dot(ME, 1), dot(ME, 2), dot(ME, 5), dot(ME, 9)];
+    let theirs = [dot(OTHER, 1), dot(OTHER, 2), dot(ME, 3), dot(ME, 7)];
+    let all = context(alloc, &mine).ok()?;
+    Some(Contexts {
+        alloc,
+        asked,
+        kept: all.copy().ok()?,
+        other: context(alloc, &theirs).ok()?,
+        bytes: bytes_of(alloc, &all).ok()?,
+        context: all,
+    })
+}
+
+/// What an answer of a context says.
+fn of_context(answer: Result<Context, NoMemory>) -> Said {
+    match answer {
+        Ok(context) => Said::Well(short(context.len())),
+        Err(_) => Said::NoMemory,
+    }
+}
+
+impl Contexts {
+    /// Reads its bytes.
+    fn read(&self) -> Said {
+        match ByteReader::new(&self.bytes).read_context(self.alloc, Version::Two, 3) {
+            Ok((context, _)) => Said::Well(short(context.len())),
+            Err(fault) if fault.kind == ReadFaultKind::NoMemory => Said::NoMemory,
+            Err(_) => Said::Other,
+        }
+    }
+
+    /// Lists the further counters of its row.
+    fn further(&self) -> Said {
+        match self.context.row(0) {
+            Some((_, _, further)) => of_any(further.list(self.alloc)),
+            None => Said::Other,
+        }
+    }
+
+    /// Puts a dot into it, or a row behind it.
+    fn grown(&mut self) -> Said {
+        let answer = if self.asked == OfContext::Insert {
+            self.context.insert(dot(OTHER, 4))
+        } else {
+            match self.context.push_row(origin(OTHER), 2, &[4, 6, 9]) {
+                Ok(_) => Ok(()),
+                Err(fault) => Err(fault),
+            }
+        };
+        match answer {
+            Ok(()) => Said::Well(short(self.context.len())),
+            Err(_) => Said::NoMemory,
+        }
+    }
+}
+
+impl Bench for Contexts {
+    fn call(&mut self) -> Said {
+        match self.asked {
+            OfContext::Insert | OfContext::PushRow => self.grown(),
+            OfContext::Union => of_context(self.context.union(&self.other)),
+            OfContext::Copy => of_context(self.context.copy()),
+            OfContext::Dots => of_any(self.context.dots()),
+            OfContext::Further => self.further(),
+            OfContext::Write => of_bytes(bytes_of(self.alloc, &self.context)),
+            OfContext::Read => self.read(),
+        }
+    }
+
+    fn is_as_before(&self) -> bool {
+        self.context.is_subset(&self.kept) && self.kept.is_subset(&self.context)
+    }
+}
+
+/// What is written, or put into a list.
+#[derive(Clone, Copy, Debug, PartialEq, Eq)]
+pub enum Written {
+    Bytes,
+    U8,
+    U16,
+    U32,
+    U64,
+    CountU8,
+    CountU16,
+    CountU32,
+    Incarnation,
+    Origin,
+    Dot,
+    Key,
+}
+
+/// What is written behind nothing.
+#[derive(Drop)]
+pub struct Writing {
+    alloc: Global,
+    written: Written,
+}
+
+/// The bench of a call.
+pub fn writing(alloc: Global, written: Written) -> Option<Writing> {
+    Some(Writing { alloc, written })
+}
+
+impl Writing {
+    /// Writes it behind nothing.
+    fn write(&self, writer: ByteWriter) -> Result<ByteWriter, NoMemory> {
+        match self.written {
+            Written::Bytes => writer.write_bytes(b"abc"),
+            Written::U8 => writer.write_u8(1),
+            Written::U16 => writer.write_u16(2),
+            Written::U32 => writer.write_u32(3),
+            Written::U64 => writer.write_u64(4),
+            Written::CountU8 => writer.write_count_u8(5),
+            Written::CountU16 => writer.write_count_u16(6),
+            Written::CountU32 => writer.write_count_u32(7),
+            Written::Incarnation => writer.write_incarnation(Version::Two, 8),
+            Written::Origin => writer.write_origin(Version::Two, origin(ME)),
+            Written::Dot | Written::Key => writer.write_dot(Version::Two, dot(ME, 9)),
+        }
+    }
+}
+
+/// Puts a key into an empty list.
+fn keyed(alloc: Global) -> Said {
+    let mut keys = Vec::new(alloc);
+    match insert_key(&mut keys, 7u64) {
+        Ok(()) => Said::Well(keys.len() as u64),
+        Err(_) => Said::NoMemory,
+    }
+}
+
+impl Bench for Writing {
+    fn call(&mut self) -> Said {
+        if self.written == Written::Key {
+            return keyed(self.alloc);
+        }
+        match self.write(ByteWriter::new(self.alloc)) {
+            Ok(writer) => of_bytes::<NoMemory>(Ok(writer.into_bytes())),
+            Err(_) => Said::NoMemory,
+        }
+    }
+
+    fn is_as_before(&self) -> bool {
+        true
+    }
+}
+
+/// What is asked of a buffer, or of what was acknowledged.
+#[derive(Clone, Copy, Debug, PartialEq, Eq)]
+pub enum OfBuffer {
+    Push,
+    PushAll,
+    Interval,
+    Blocks,
+    Copy,
+    Raise,
+    CopyAcks,
+}
+
+/// A buffer of 31 numbers, with more to be pushed, and one acknowledgement.
+#[derive(Drop)]
+pub struct Buffers {
+    asked: OfBuffer,
+    buffer: Buffer<Max<u64>>,
+    more: Vec<Vec<Max<u64>>>,
+    acks: Acks,
+    count: u64,
+}
+
+/// Pushes a number, if there may be one more.
+fn push(buffer: &mut Buffer<Max<u64>>, number: u64) -> Result<(), NoMemory> {
+    if buffer.count() < 1 << 62 {
+        buffer.push(Max::new(number))?;
+    }
+    Ok(())
+}
+
+/// Two lists of three numbers, since one may have to be pushed again.
+fn threes(alloc: Global) -> Option<Vec<Vec<Max<u64>>>> {
+    let mut all = Vec::new(alloc);
+    let three = vec![in alloc; Max::new(7), Max::new(1000), Max::new(8)].ok()?;
+    all.push(three).ok()?;
+    let again = vec![in alloc; Max::new(7), Max::new(1000), Max::new(8)].ok()?;
+    all.push(again).ok()?;
+    Some(all)
+}
+
+/// The bench of a call.
+pub fn buffers(alloc: Global, asked: OfBuffer) -> Option<Buffers> {
+    let mut buffer = Buffer::new(alloc);
+    for number in 0..31u64 {
+        push(&mut buffer, number).ok()?;
+    }
+    let mut acks = Acks::new(alloc);
+    acks.raise(origin(ME), 3).ok()?;
+    Some(Buffers {
+        asked,
+        more: threes(alloc)?,
+        acks,
+        count: buffer.count(),
+        buffer,
+    })
+}
+
+impl Buffers {
+    /// Pushes several.
+    fn pushed(&mut self) -> Said {
+        let Some(more) = self.more.pop() else {
+            return Said::Other;
+        };
+        if self.buffer.count() < 1 << 61 && more.len() < 1 << 61 {
+            of_any(self.buffer.push_all(more))
+        } else {
+            Said::Other
+        }
+    }
+
+    /// The join of the deltas from the third on, or its blocks.
+    fn joined(&self) -> Said {
+        if self.buffer.count() < 3 {
+            return Said::Other;
+        }
+        if self.asked == OfBuffer::Blocks {
+            of_any(self.buffer.blocks(3))
+        } else {
+            of_any(self.buffer.interval(3))
+        }
+    }
+}
+
+impl Bench for Buffers {
+    fn call(&mut self) -> Said {
+        match self.asked {
+            OfBuffer::Push => of_any(push(&mut self.buffer, 99)),
+            OfBuffer::PushAll => self.pushed(),
+            OfBuffer::Interval | OfBuffer::Blocks => self.joined(),
+            OfBuffer::Copy => of_any(self.buffer.copy()),
+            OfBuffer::Raise => of_any(self.acks.raise(origin(OTHER), 4)),
+            OfBuffer::CopyAcks => of_any(self.acks.copy()),
+        }
+    }
+
+    fn is_as_before(&self) -> bool {
+        self.buffer.count() == self.count
+            && self.acks.get(origin(ME)) == Some(3)
+            && self.acks.get(origin(OTHER)).is_none()
+    }
+}
