@@ -163,8 +163,12 @@ abbrev pub is_earlier : Table → AppId → NodeId → NodeId → Bool
 is_earlier table app m n = is_less (group_of table app m) (group_of table app n)
 
 -- n has less load than m, or the same and no later name
-abbrev pub IsPreferred : Table → StateValue → AppId → NodeId → NodeId → Type 0
-IsPreferred table s app n m = (load_of table s app n < load_of table s app m) ⊎ ((load_of table s app n ≡ load_of table s app m) × (n.0 ≤ m.0))
+pub record IsPreferred (table : Table) (s : StateValue) (app : AppId) (n m : NodeId) : Type 0 where
+  pub load : ℕ
+  pub other : ℕ
+  pub of_n : IsLoad table s app n load
+  pub of_m : IsLoad table s app m other
+  pub less : (load < other) ⊎ ((load ≡ other) × (n.0 ≤ m.0))
 
 -- The first choice is an eligible node. No eligible node is of an earlier group, and of its own group it is preferred
 -- to each. (OTP: within a tuple, the node with the fewest applications. That a tie goes by name is this project's

@@ -3,5 +3,7 @@ pub mod Loads
 pub mod Standing
 pub mod Least
 pub mod FirstChoice
+pub mod FirstNode
+pub mod Leads
 pub mod Judged
 pub mod Rests

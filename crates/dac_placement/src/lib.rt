@@ -7,13 +7,14 @@
 //! left where it is.
 //! So controllers that heard the same operations give the same verdicts.
 //!
-//! Every answer holds for any state, also one that no operation made. A verdict goes through all nodes and, for
-//! each, through all applications; both are few.
+//! Every answer holds for any state, also one that no operation made. A verdict goes through all nodes. Only where
+//! two eligible nodes share the first group does it go, for each eligible node, through all applications. Both are few.
 #![tactic(auto)]
 
 mod deciding;
 mod eligibility;
 pub mod laws;
+mod leading;
 mod ranking;
 mod running;
 mod standing;

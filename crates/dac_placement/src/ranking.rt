@@ -7,6 +7,7 @@ ghost use Rattle.dac_placement.specs.Placement.{rank_of, first_choice};
 ghost use Rattle.dac_placement.specs.Ranks.{rank_cmp};
 
 use crate::eligibility::eligible;
+use crate::leading::leader;
 use crate::running::load;
 use dac_base::{AppId, NodeId};
 use dac_config::Config;
@@ -24,8 +25,21 @@ pub(crate) struct Rank {
     pub node: NodeId,
 }
 
-/// The first choice for an application, if any node is eligible.
+/// The first choice for an application, if any node is eligible. No load is asked for where one node leads alone.
 pub(crate) fn first_choice(config: &Config, state: &State, app: AppId) -> Option<NodeId>
+    requires { app.0 < app_count config.now }
+    ensures { result ≡ first_choice config.now state.now app }
+{
+    let lead = leader(config, state, app)?;
+    if lead.alone {
+        Some(lead.node)
+    } else {
+        least_ranked(config, state, app)
+    }
+}
+
+/// The eligible node of the least rank, if any node is eligible.
+fn least_ranked(config: &Config, state: &State, app: AppId) -> Option<NodeId>
     requires { app.0 < app_count config.now }
     ensures { result ≡ first_choice config.now state.now app }
 {

@@ -2,4 +2,5 @@ pub mod Ticks
 pub mod Progress
 pub mod InWords
 pub mod Issued
+pub mod TakesEffect
 pub mod laws

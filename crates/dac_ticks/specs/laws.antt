@@ -1,9 +1,9 @@
 pub mod Counters
 pub mod Turning
 pub mod Claims
-pub mod FirstNode
 pub mod Words
 pub mod Claimed
 pub mod Again
+pub mod Voted
 pub mod Effects
 pub mod TakesEffect

@@ -6,8 +6,8 @@
 //! controller that has claimed an application sees its own claim, and the load that it brings, when it looks at the
 //! next.
 //!
-//! A tick computes one verdict for each application. A claim costs one delta and one join, and a tick that claims nothing
-//! copies no state.
+//! A tick computes one verdict for each application that its own node may run. A claim costs one delta and one join, and a
+//! tick that claims nothing copies no state.
 #![tactic(auto)]
 
 pub use turning::{Turn, tick};

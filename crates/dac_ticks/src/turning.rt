@@ -21,7 +21,7 @@ use dac_dots::Origin;
 use dac_lattice::Lattice;
 use dac_messages::{AppList, OpList};
 use dac_operations::Op;
-use dac_placement::{State, holder};
+use dac_placement::{State, eligible, holder};
 use std::alloc::Global;
 
 /// What a controller does at a tick.
@@ -145,6 +145,10 @@ fn look_after(
     requires left { used_up state.now own ≡ false }
     ensures { IfOk result (λ found. found ≡ found_of config.now own waits.now now state.now app) }
 {
+    // whom a verdict names may run the application, so no verdict is asked for where this node may not
+    if !eligible(config, state, app, own.node) {
+        return Ok(Found::Left);
+    }
     let verdict = verdict(config, state, app);
     if !is_mine(config, own, state, waits, app, verdict, now) {
         return Ok(Found::Left);

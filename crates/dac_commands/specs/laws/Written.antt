@@ -57,7 +57,7 @@ module _ (t : Table) (own : Origin) (s : StateValue) where
 
   -- ---- what is said
   -- the number of a live incarnation
-  live_there : (node : NodeId) → not_live s node ≡ false → IsLive s.lives node (live_or_none s node)
+  pub live_there : (node : NodeId) → not_live s node ≡ false → IsLive s.lives node (live_or_none s node)
   live_there node h = by_live (live s node) refl h
     where
       by_live : (o : Option ℕ) → live s node ≡ o → not (is_some o) ≡ false → IsLive s.lives node (unwrap_or o 0)

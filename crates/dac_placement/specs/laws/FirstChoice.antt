@@ -15,6 +15,7 @@ use Rattle.dac_state.specs.StateValue.{StateValue}
 use Rattle.dac_placement.specs.Ranks.{Rank, rank_cmp}
 use Rattle.dac_placement.specs.Placement.{IsEligible, is_eligible, EachEligible, IsFirst, load_of, rank_of, first_choice}
 use Rattle.dac_placement.specs.laws.Tests.{eligible_is}
+use Rattle.dac_placement.specs.laws.Loads.{preferred_is}
 use Rattle.dac_placement.specs.laws.Least.{IsLeast, IsUpTo, least_more, reduce_more, up_to_parts}
 
 abbrev pub numbered : ℕ → NodeId
@@ -103,13 +104,13 @@ module _ (table : Table) (s : StateValue) (app : AppId) where
             let other = some_rank (rank_at m.0) ((ranked_is m).1 may) in
             let yours = rank_parts m other.0 other.1 in
             let alike : other.0.group ≡ r.group = same_group (sym yours.0 ∙ level ∙ mine.0) in
-            elim (up_to_parts r other.0 (least m.0 m_lt other.0 other.1)) [
+            (preferred_is table s app (numbered k) m).1 (elim (up_to_parts r other.0 (least m.0 m_lt other.0 other.1)) [
               | inl less ↦ absurd (apart r.group other.0.group less alike)
               | inr same ↦ elim same.1 [
                 | inl fewer ↦ inl (fewer_of r.load other.0.load (load_of table s app (numbered k)) (load_of table s app m) fewer mine.1 yours.1)
                 | inr tie ↦ inr (sym mine.1 ∙ tie.0 ∙ yours.1, numbers r.node.0 other.0.node.0 k m.0 tie.1 (ap (λ (n : NodeId). n.0) mine.2) (ap (λ (n : NodeId). n.0) yours.2))
               ]
-            ];
+            ]);
       }
     where
       later : (g h early late : ℕ) → g < h → h ≡ early → g ≡ late → early < late → ⊥

@@ -1,5 +1,5 @@
 -- The load in words.
-use Rattle.std.proofs.Common.{◌≡◌, ◌⊎◌, ℕ, ◌<◌, ◌≤◌, ◌+◌, Bool, true, false, cond, ◌&&◌, not, List, ◌∷◌, Option, Some, None, zero, suc, inl, inr, refl, sym, ap, subst, ◌∙◌, arith}
+use Rattle.std.proofs.Common.{◌≡◌, ◌⊎◌, ℕ, ◌<◌, ◌≤◌, ◌+◌, Bool, true, false, cond, ◌&&◌, not, List, [], ◌∷◌, length, Option, Some, None, zero, suc, inl, inr, refl, sym, ap, subst, ◌∙◌, arith}
 use Rattle.std.specs.Prelude.{◌↔◌, ◌==◌, filter, map as list_map}
 use Rattle.std.specs.List.{range_with_len}
 use Rattle.std.specs.Option.{option_map}
@@ -11,7 +11,7 @@ use Rattle.dac_dots.specs.declared.dot.Origin.{Origin}
 use Rattle.dac_config.specs.Table.{Table, app_count}
 use Rattle.dac_chains.specs.declared.claims.Claim.{Claim}
 use Rattle.dac_state.specs.StateValue.{StateValue}
-use Rattle.dac_placement.specs.Placement.{runs_at, holder_of, IsHolder, load_of, IsOneOf, AreDistinct, IsLoad}
+use Rattle.dac_placement.specs.Placement.{runs_at, holder_of, IsHolder, load_of, IsOneOf, AreDistinct, IsLoad, IsPreferred}
 use Rattle.dac_placement.specs.laws.Tests.{runs_is}
 
 -- ---- numbers that pass a test
@@ -121,6 +121,60 @@ load_is table s app node =
       );
       count = refl;
     }
+
+-- ---- there is one load
+
+-- what is left of a list that names an application
+record Split (a : AppId) (ys : List AppId) : Type 0 where
+  rest : List AppId
+  longer : length ys ≡ length rest + 1
+  others : (b : AppId) → IsOneOf b ys → (a ≡ b → ⊥) → IsOneOf b rest
+
+split : (a : AppId) (ys : List AppId) → IsOneOf a ys → Split a ys
+split a [] h = absurd h
+split a (y ∷ ys) (inl here) = record { rest = ys; longer = omega arith; others = λ b h ne. elim h [ inl same ↦ absurd (ne (sym here ∙ same)) | inr more ↦ more ] }
+split a (y ∷ ys) (inr later) =
+    let more = split a ys later in
+    let longer = more.longer in
+    record { rest = y ∷ more.rest; longer = omega (arith, longer); others = λ b h ne. elim h [ inl same ↦ inl same | inr there ↦ inr (more.others b there ne) ] }
+
+-- a list without repeats, each of which the other names, isn't longer
+no_longer : (xs ys : List AppId) → AreDistinct xs → ((b : AppId) → IsOneOf b xs → IsOneOf b ys) → length xs ≤ length ys
+no_longer [] ys distinct within = omega arith
+no_longer (x ∷ xs) ys distinct within =
+    let parts = split x ys (within x (inl refl)) in
+    let longer = parts.longer in
+    let rest = no_longer xs parts.rest distinct.1 (λ b h. parts.others b (within b (inr h)) (λ same. distinct.0 (subst (λ c. IsOneOf c xs) (sym same) h))) in
+    omega (arith, longer, rest)
+
+pub one_load : (table : Table) (s : StateValue) (app : AppId) (node : NodeId) (n m : ℕ) → IsLoad table s app node n → IsLoad table s app node m → n ≡ m
+one_load table s app node n m x y =
+    let up = no_longer x.apps y.apps x.distinct (λ b h. (y.each b).1 ((x.each b).0 h)) in
+    let down = no_longer y.apps x.apps y.distinct (λ b h. (x.each b).1 ((y.each b).0 h)) in
+    x.count ∙ level (length x.apps) (length y.apps) up down ∙ sym y.count
+  where
+    level : (n m : ℕ) → n ≤ m → m ≤ n → n ≡ m
+    level n m h k = omega arith
+
+-- who is preferred, by the loads that are computed
+pub preferred_is : (table : Table) (s : StateValue) (app : AppId) (n m : NodeId)
+    → IsPreferred table s app n m ↔ ((load_of table s app n < load_of table s app m) ⊎ ((load_of table s app n ≡ load_of table s app m) × (n.0 ≤ m.0)))
+preferred_is table s app n m = (
+  λ p. elim p.less [
+    | inl less ↦ inl (less_by p.load p.other (load_of table s app n) (load_of table s app m) (mine p) (yours p) less)
+    | inr level ↦ inr (sym (mine p) ∙ level.0 ∙ yours p, level.1)
+  ],
+  λ less. record { load = load_of table s app n; other = load_of table s app m; of_n = load_is table s app n; of_m = load_is table s app m; less = less },
+)
+  where
+    mine : (p : IsPreferred table s app n m) → p.load ≡ load_of table s app n
+    mine p = one_load table s app n p.load (load_of table s app n) p.of_n (load_is table s app n)
+
+    yours : (p : IsPreferred table s app n m) → p.other ≡ load_of table s app m
+    yours p = one_load table s app m p.other (load_of table s app m) p.of_m (load_is table s app m)
+
+    less_by : (a b x y : ℕ) → a ≡ x → b ≡ y → a < b → x < y
+    less_by a b x y e f h = omega arith
 
 -- ---- the holder
 pub holder_is : (s : StateValue) (app : AppId) (o : Origin) → (holder_of s app ≡ Some o) ↔ IsHolder s app o

@@ -34,6 +34,7 @@ use Rattle.dac_placement.specs.declared.verdicts.Verdict.{Verdict}
 use Rattle.dac_placement.specs.declared.verdicts.Verdict.TheVariants.{Start as ToStart, Failover, Halted, Move, Takeover, Kept, Nobody}
 use Rattle.dac_placement.specs.laws.Judged.{verdict_in_words}
 use Rattle.dac_placement.specs.laws.Tests.{up_is}
+use Rattle.dac_placement.specs.laws.Loads.{preferred_is}
 use Rattle.dac_decide.specs.FailoverWait.{is_due_by, Note, IsLost, IsLostByNewest, waits_of}
 use Rattle.dac_decide.specs.declared.waits.Noted.{Noted}
 use Rattle.dac_decide.specs.laws.Kept.{kept_is}
@@ -549,7 +550,7 @@ first_is n first = by_tests (nat_eq n.0 0) (nat_eq n.0 1) refl refl
     second : second_node ≡ n → n ≡ first_node
     second is =
         let at : IsFirst loss_table loss_state the_app second_node = subst (IsFirst loss_table loss_state the_app) (sym is) first in
-        elim (at.preferred first_node (omega arith) may_run refl) [
+        elim ((preferred_is loss_table loss_state the_app second_node first_node).0 (at.preferred first_node (omega arith) may_run refl)) [
           | inl less ↦ let a = no_load second_node in let b = no_load first_node in absurd (omega (arith, less, a, b))
           | inr level ↦ absurd (one_zero level.1)
         ]

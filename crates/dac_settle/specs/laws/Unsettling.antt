@@ -31,6 +31,7 @@ use Rattle.dac_placement.specs.declared.verdicts.Verdict.{Verdict}
 use Rattle.dac_placement.specs.declared.verdicts.Verdict.TheVariants.{Start as ToStart, Failover, Halted, Move, Takeover, Kept, Nobody}
 use Rattle.dac_placement.specs.Placement.{IsEligible, is_eligible, IsEarlier, IsFirst, runs_at, load_of, key_at, key_of, IsStartedAt, is_up, holder_of, IsVerdict, verdict_of, first_choice, candidate_of}
 use Rattle.dac_placement.specs.laws.Tests.{runs_is}
+use Rattle.dac_placement.specs.laws.Loads.{preferred_is}
 use Rattle.dac_placement.specs.laws.FirstChoice.{first_is}
 use Rattle.dac_placement.specs.laws.Judged.{IsChoice, verdict_in_words}
 use Rattle.dac_ticks.specs.laws.Claimed.{Alike}
@@ -291,7 +292,7 @@ module _ (n : NodeId) (is : candidate_of (verdict_of two known other_app) ≡ So
       not_zero : m ≡ first_node → ⊥
       not_zero e =
           let at : IsFirst two known_then the_app first_node = subst (IsFirst two known_then the_app) e first in
-          elim (at.preferred second_node (omega arith) (to_eligible two known known_then like the_app second_node a_at_second) refl) [
+          elim ((preferred_is two known_then the_app first_node second_node).0 (at.preferred second_node (omega arith) (to_eligible two known known_then like the_app second_node a_at_second) refl)) [
             | inl less ↦ let a = load_first in let b = load_second in absurd (omega (arith, less, a, b))
             | inr level ↦ let a = load_first in let b = load_second in let same = level.0 in absurd (omega (arith, same, a, b))
           ]

@@ -22,9 +22,11 @@ use Rattle.dac_meaning.specs.StateValue.{StateValue, IsState, join}
 use Rattle.dac_meaning.specs.Meaning.{meaning_of}
 use Rattle.dac_placement.specs.declared.verdicts.Verdict.{Verdict}
 use Rattle.dac_placement.specs.declared.verdicts.Verdict.TheVariants.{Start, Failover, Halted, Move, Takeover, Kept, Nobody}
-use Rattle.dac_placement.specs.Placement.{EachEligible, IsEligible, is_eligible, IsEarlier, IsUp, is_up, IsAllowedAt, IsPermittedAt, IsStartedAt, key_at, runs_at, load_of, apps_of, IsFirst, first_choice, holder_of, key_of, standing_of, IsVerdict, verdict_by, verdict_of, candidate_of}
+use Rattle.dac_placement.specs.Placement.{EachEligible, IsEligible, is_eligible, IsEarlier, IsUp, is_up, IsAllowedAt, IsStartedAt, key_at, runs_at, load_of, apps_of, IsFirst, first_choice, holder_of, key_of, standing_of, IsVerdict, verdict_by, verdict_of, candidate_of}
 use Rattle.dac_placement.specs.laws.Tests.{eligible_is, runs_is}
+use Rattle.dac_placement.specs.laws.Loads.{preferred_is}
 use Rattle.dac_placement.specs.laws.FirstChoice.{first_is}
+use Rattle.dac_placement.specs.laws.FirstNode.{first_to, level}
 use Rattle.dac_placement.specs.laws.Judged.{verdict_in_words}
 use Rattle.dac_decide.specs.declared.waits.Noted.{Noted}
 use Rattle.dac_decide.specs.FailoverWait.{Note, is_same, lost_if, lost_in, since_of, noted_next, noted_at, noted_of, waits_of, is_over_at, is_due_by}
@@ -32,9 +34,9 @@ use Rattle.dac_decide.specs.laws.Lost.{same_to, same_itself}
 use Rattle.dac_decide.specs.laws.Kept.{kept_is}
 use Rattle.dac_commands.specs.Commands.{next_operation}
 use Rattle.dac_commands.specs.Causes.{terms_used_up}
+use Rattle.dac_ticks.specs.TakesEffect.{ClaimsAreKept}
 use Rattle.dac_ticks.specs.Ticks.{Turn, turn_from, claim_of, is_mine, turn_over, turn_of}
 use Rattle.dac_ticks.specs.laws.Turning.{numbered, apps_from, turned_by, turn_more}
-use Rattle.dac_ticks.specs.laws.FirstNode.{first_to, level}
 use Rattle.dac_ticks.specs.laws.Words.{is_own, own_if}
 use Rattle.dac_ticks.specs.laws.Claimed.{Alike, alike_itself, alike_through, alike_back, claim_alike, claim_state, other_claim, own_claim, claimed_as}
 
@@ -59,14 +61,6 @@ SecondTickClaimsNothing = (t : Table) (own : Origin) (notes : List Note) (now : 
     → let first = tick_of t own notes now s in
     let second = tick_of t own (noting s now notes) now first.state in
     (second.ops ≡ []) × ((second.state ≡ first.state) × ((app : AppId) → IsAmong app second.passed → IsAmong app first.passed))
-
--- What an incarnation that is live claims, it has. The application runs at its node in the state that the claim leaves, and the
--- verdict is that it is kept there.
-abbrev pub ClaimsAreKept : Type 0
-ClaimsAreKept = (t : Table) (own : Origin) (waits : List (Option Noted)) (now : ℕ) (s : StateValue) (app : AppId) → IsState s → IsLive s.lives own.node own.inc
-    → is_mine t own waits now s app ≡ true
-    → let left = join s (meaning_of (claim_of t own s app ∷ [])) in
-    (verdict_of t left app ≡ Kept own.node) × (runs_at t left app own.node ≡ true)
 
 -- ---- lists
 
@@ -322,7 +316,7 @@ module _ (t : Table) (own : Origin) where
               let still = to_eligible t s u l.alike app f before.eligible in
               let same = level t app f own.node before.eligible.listed first.eligible.listed (first.earliest f before.node still) (before.earliest own.node first.node may) in
               absurd (preferred f (load_of t s app f) (load_of t s app own.node) (load_of t u app f) (load_of t u app own.node)
-              (before.preferred own.node first.node may (sym same)) (first.preferred f before.node still same) load_own (load_other f ne) ne)
+              ((preferred_is t s app f own.node).0 (before.preferred own.node first.node may (sym same))) ((preferred_is t u app own.node f).0 (first.preferred f before.node still same)) load_own (load_other f ne) ne)
         ] refl
           where
             one_number : own.node.0 ≡ f.0 → f ≡ own.node
@@ -518,9 +512,6 @@ second_tick t own notes now s is live =
 -- ---- what is claimed is kept
 
 module _ (t : Table) (own : Origin) (s : StateValue) (up : IsUp s own) (app : AppId) (takes : Takes t own s app) (there : own.node.0 < node_count t) where
-  abbrev key_mine : (o : Origin) → own ≡ o → Type 0
-  key_mine o e = IsStartedAt s (key_of app o)
-
   started : IsStartedAt s (key_at app own.node own.inc)
   started = subst (λ inc. IsStartedAt s (key_at app own.node inc)) (inc_is t own s up app takes) takes.eligible.started
 
@@ -531,7 +522,7 @@ module _ (t : Table) (own : Origin) (s : StateValue) (up : IsUp s own) (app : Ap
   kept_here (Start n) is = absurd (false≢true (ap is_some (sym is.0 ∙ takes.holder)))
   kept_here (Failover n) is = absurd (is.0.2 (subst (IsUp s) (holder_is t own s up app takes is.0.0 is.0.1) up))
   kept_here (Halted n) is = absurd (is.2.2 (subst (λ (o : Origin). IsStartedAt s (key_of app o)) (holder_is t own s up app takes is.0 is.1) started))
-  kept_here (Move n) is = absurd (is.0.2.2 (subst (λ (o : Origin). IsPermittedAt t s (key_of app o)) (holder_is t own s up app takes is.0.0 is.0.1) (permitted t own s up app takes)))
+  kept_here (Move n) is = absurd (is.0.2.2 (subst (λ (o : Origin). IsAllowedAt t s (key_of app o)) (holder_is t own s up app takes is.0.0 is.0.1) (allowed t own s up app takes)))
   kept_here (Takeover n) is = absurd (takes.earliest n is.2.node is.2.eligible (subst (λ m. IsEarlier t app n m) (sym (ap (λ (o : Origin). o.node) (holder_is t own s up app takes is.1.0 is.1.1) ∙ is.1.2.0)) is.3))
   kept_here (Kept n) is = ap (λ m. Kept m) (node_is is.0.0 n (holder_is t own s up app takes is.0.0 is.0.1) is.0.2.0)
   kept_here Nobody is = absurd (is.0 own.node there takes.eligible)

@@ -24,8 +24,9 @@ use Rattle.dac_lattice.specs.Lattices.{join_options}
 use Rattle.dac_chains.specs.declared.claims.Claim.{Claim}
 use Rattle.dac_chains.specs.declared.claims.How.{How}
 use Rattle.dac_chains.specs.declared.claims.How.TheVariants.{Normal, Failover as FailedOver, Takeover as TakenOver}
-use Rattle.dac_chains.specs.Greatest.{empty_is_least, get-greater, greater}
-use Rattle.dac_chains.specs.Lives.{life_cmp, lives_total, exact_lives}
+use Rattle.dac_chains.specs.Greatest.{alone, empty_is_least, get-greater, greater}
+use Rattle.dac_chains.specs.declared.lives.LifeAct.TheVariants.{Other as NoLife}
+use Rattle.dac_chains.specs.Lives.{life_cmp, lives_total, exact_lives, said_life}
 use Rattle.dac_chains.specs.Claims.{claim_cmp, how_cmp, claims_total, exact_hows, exact_claims}
 use Rattle.dac_wishes.specs.Writes.{Write, writes_total, exact_writes, same_dot_is}
 use Rattle.dac_wishes.specs.WishesValue.{WishesValue, may_stand, standing-join as standing-wishes}
@@ -34,7 +35,9 @@ use Rattle.dac_wishes.specs.Keys.{keys_total, exact_keys}
 use Rattle.dac_wishes.specs.KeyedWrites.{KeyedWrite, keyed_writes_total, exact_keyed_writes}
 use Rattle.dac_wishes.specs.Votes.{VotesValue, joined_vote, join_votes, standing-join_votes}
 use Rattle.dac_wishes.specs.DrainsValue.{DrainsValue, DrainWrite}
+use Rattle.dac_operations.specs.declared.act.Act.{Act}
 use Rattle.dac_operations.specs.Operations.{Operation}
+use Rattle.dac_operations.specs.Seen.{seen_life}
 use Rattle.dac_meaning.specs.StateValue.{StateValue, IsState, join, permissions_of, wishes_of, drains_of}
 use Rattle.dac_meaning.specs.laws.StateLaws.{state_laws, life_laws, lives-join, claims-join, wishes-join, permissions-join, drains-join}
 use Rattle.dac_meaning.specs.Meaning.{meaning_of, life_said, claim_said, is_replaced}
@@ -80,6 +83,22 @@ module _ {K : Type 0} {R : K → K → Ordering} (total : IsTotalOrder R) (exact
   votes_stay = map.same_map (keyed_writes_total total) (exact_keyed_writes exact) (join_votes R x y).standing x.standing (λ w.
       standing-join_votes total exact x y w ∙ ap (joined_vote R x y w (map.get x.standing w)) (none w) ∙ vote_by w (map.get x.standing w) refl)
 
+-- an operation that says nothing of a life leaves all lives as they are
+module _ (own : Origin) (s : StateValue) (act : Act) (silent : seen_life act ≡ NoLife) where
+  abbrev silent_meaning : StateValue
+  silent_meaning = meaning_of (next_operation s own act ∷ [])
+
+  no_lives : silent_meaning.lives ≡ map.empty
+  no_lives =
+      lives-meaning (next_operation s own act ∷ [])
+      ∙ sym (greatest-one nodes_total exact_nodes lives_total (exact_lives flag_cmp flags_exact) life_said (next_operation s own act))
+      ∙ ap (λ seen. alone (said_life (dot own (greatest_counter own s.known + 1)) seen)) silent
+
+  pub lives_stay : (join s silent_meaning).lives ≡ s.lives
+  lives_stay =
+      lives-join s silent_meaning ∙ ap (greater life_cmp s.lives) no_lives
+      ∙ join_bottom life_laws map.empty tt (λ x u. empty_is_least nodes_total exact_nodes lives_total (exact_lives flag_cmp flags_exact) x) s.lives tt
+
 module _ (own : Origin) (s : StateValue) (app : AppId) (how : How) (from : Option NodeId) where
   abbrev o : Operation
   o = next_operation s own (claim_act s app how from)
@@ -97,15 +116,8 @@ module _ (own : Origin) (s : StateValue) (app : AppId) (how : How) (from : Optio
   abbrev next : Dot
   next = dot own (greatest_counter own s.known + 1)
 
-  -- ---- no life
-
-  no_lives : m.lives ≡ map.empty
-  no_lives = lives-meaning (o ∷ []) ∙ sym (greatest-one nodes_total exact_nodes lives_total (exact_lives flag_cmp flags_exact) life_said o)
-
   lives_after : after.lives ≡ s.lives
-  lives_after =
-      lives-join s m ∙ ap (greater life_cmp s.lives) no_lives
-      ∙ join_bottom life_laws map.empty tt (λ x u. empty_is_least nodes_total exact_nodes lives_total (exact_lives flag_cmp flags_exact) x) s.lives tt
+  lives_after = lives_stay own s (claim_act s app how from) refl
 
   -- ---- no start, no permit and no drain
 

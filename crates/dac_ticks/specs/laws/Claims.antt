@@ -24,10 +24,6 @@ use Rattle.dac_ticks.specs.laws.Turning.{AreBelow, numbered, apps_below, claim_i
 abbrev pub heard_in : StateValue → List Operation → StateValue
 heard_in s os = fold join s (list_map (λ (o : Operation). meaning_of (o ∷ [])) os)
 
--- The state that a turn leaves is the first one with what each of its claims means.
-abbrev pub StatesAreJoined : Type 0
-StatesAreJoined = (t : Table) (own : Origin) (waits : List (Option Noted)) (now : ℕ) (s : StateValue) → let turn = turn_of t own waits now s in turn.state ≡ heard_in s turn.ops
-
 -- the operation claims an application of the configuration by its verdict in this state, and a term and a counter were left for it
 pub record IsNextClaimIn (t : Table) (own : Origin) (s : StateValue) (o : Operation) : Type 0 where
   pub app : AppId
@@ -45,10 +41,6 @@ AreNextClaims t own s (o ∷ os) = IsNextClaimIn t own s o × AreNextClaims t ow
 abbrev pub HasRoom : Table → Origin → StateValue → Type 0
 HasRoom t own s = greatest_counter own s.known + app_count t ≤ MAX_COUNTER
 
--- What a turn issues are such claims, where there is a counter for each application.
-abbrev pub ClaimsAreNext : Type 0
-ClaimsAreNext = (t : Table) (own : Origin) (waits : List (Option Noted)) (now : ℕ) (s : StateValue) → HasRoom t own s → AreNextClaims t own s (turn_of t own waits now s).ops
-
 -- ---- a turn goes on from another
 
 -- the later turn issued these more, and heard them
@@ -62,10 +54,6 @@ goes_itself turn = record { ops_are = sym (append-nil turn.ops); state = refl }
 -- where a claim was issued first
 pub goes_claiming : (turn later : Turn) (o : Operation) (ops : List Operation) → GoesOn (claiming turn o) later ops → GoesOn turn later (o ∷ ops)
 goes_claiming turn later o ops on = record { ops_are = on.ops_are ∙ append_assoc turn.ops (o ∷ []) ops; state = on.state }
-
--- Whatever there is room for, what a turn issues are its incarnation's operations, one after another.
-abbrev pub ClaimsAreIssued : Type 0
-ClaimsAreIssued = (t : Table) (own : Origin) (waits : List (Option Noted)) (now : ℕ) (s : StateValue) → AreIssued own s (turn_of t own waits now s).ops
 
 -- ---- room for what is left of the applications
 
@@ -97,9 +85,11 @@ module _ (t : Table) (own : Origin) (waits : List (Option Noted)) (now : ℕ) wh
       let rest = goes_on apps (claiming turn o) in
       (o ∷ rest.0, (goes_claiming turn (turn_over t own waits now (claiming turn o) apps) o rest.0 rest.1.0, ((o.act, refl), rest.1.1))))
 
+  -- whatever there is room for, what a turn issues are its incarnation's operations, one after another
   pub claims_issued : (s : StateValue) → AreIssued own s (turn_of t own waits now s).ops
   claims_issued s = let all = goes_on (apps_of t) (turn_from s) in subst (AreIssued own s) (sym all.1.0.ops_are) all.1.1
 
+  -- the state that a turn leaves is the first one with what each of its claims means
   pub state_joined : (s : StateValue) → (turn_of t own waits now s).state ≡ heard_in s (turn_of t own waits now s).ops
   state_joined s = let all = goes_on (apps_of t) (turn_from s) in all.1.0.state ∙ ap (heard_in s) (sym all.1.0.ops_are)
 
@@ -120,6 +110,7 @@ module _ (t : Table) (own : Origin) (waits : List (Option Noted)) (now : ℕ) wh
         (goes_claiming turn (turn_over t own waits now (claiming turn o) apps) o rest.0 rest.1.0, (record { app = app; listed = below.0; term = left; counter = counter_left g (length apps) MAX_COUNTER room; is = refl }, rest.1.1)),
       ))
 
+  -- what a turn issues are such claims, where there is a counter for each application
   pub claims_are : (s : StateValue) → HasRoom t own s → AreNextClaims t own s (turn_of t own waits now s).ops
   claims_are s room =
       let all = claims_next (apps_of t) (apps_below 0 (app_count t) (app_count t) (omega arith)) (turn_from s) (subst (λ n. greatest_counter own s.known + n ≤ MAX_COUNTER) (sym (length-map-range_with_len numbered 0 (app_count t))) room) in

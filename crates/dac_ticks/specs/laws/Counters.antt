@@ -20,11 +20,6 @@ use Rattle.dac_meaning.specs.laws.Readers.{or-false, known-meaning}
 use Rattle.dac_commands.specs.Commands.{KnowsItself, greatest_among, greatest_counter, next_operation}
 use Rattle.dac_commands.specs.laws.Counters.{counter-greatest}
 
--- Where an incarnation hears its next operation, and that replaces nothing, its greatest counter is one more.
-abbrev pub OneCounterIsUsed : Type 0
-OneCounterIsUsed = (own : Origin) (s : StateValue) (act : Act) → over_list act ≡ []
-    → greatest_counter own (join s (meaning_of (next_operation s own act ∷ []))).known ≡ greatest_counter own s.known + 1
-
 -- ---- the greatest counter is 0, or that of one of the dots
 
 or_right : (a : Bool) → (a || true) ≡ true

@@ -1,9 +1,9 @@
 -- A turn in words.
-use Rattle.std.proofs.Common.{◌≡◌, ℕ, ◌+◌, ◌<◌, ◌≤◌, Bool, true, false, List, [], ◌∷◌, ◌++◌, Option, None, Some, length, refl, sym, ap, subst, ◌∙◌, arith, append-nil, append_assoc, inl, inr}
+use Rattle.std.proofs.Common.{◌≡◌, ℕ, ◌+◌, ◌<◌, ◌≤◌, Bool, true, false, cond, List, [], ◌∷◌, ◌++◌, Option, None, Some, length, refl, sym, ap, subst, ◌∙◌, arith, append-nil, append_assoc, inl, inr}
 use Rattle.std.specs.Prelude.{◌==◌}
 use Rattle.std.specs.Option.{is_some, option_map, option_map_or}
 use Rattle.std.specs.FinMap as map
-use Rattle.std.proofs.lemmas.Bool.{true≢false, false≢true, and_parts, and_from, eqb-true, eq-eqb}
+use Rattle.std.proofs.lemmas.Bool.{true≢false, false≢true, false_from_ne_true, and_parts, and_from, eqb-true, eq-eqb}
 use Rattle.std.proofs.lemmas.List.FromFn.{length-map-range_with_len}
 use Rattle.dac_base.specs.declared.limits.TheConstants.{MAX_COUNTER}
 use Rattle.dac_base.specs.declared.NodeId.{NodeId}
@@ -13,12 +13,16 @@ use Rattle.dac_chains.specs.declared.claims.Claim.{Claim}
 use Rattle.dac_chains.specs.declared.claims.How.{How}
 use Rattle.dac_chains.specs.declared.claims.How.TheVariants.{Normal, Failover as FailedOver, Takeover as TakenOver}
 use Rattle.dac_operations.specs.Operations.{Operation}
-use Rattle.dac_meaning.specs.StateValue.{StateValue}
+use Rattle.dac_meaning.specs.StateValue.{StateValue, join}
+use Rattle.dac_meaning.specs.Meaning.{meaning_of}
 use Rattle.dac_config.specs.Table.{Table, app_count}
 use Rattle.dac_placement.specs.declared.verdicts.Verdict.{Verdict}
 use Rattle.dac_placement.specs.declared.verdicts.Verdict.TheVariants.{Start, Failover, Halted, Move, Takeover, Kept, Nobody}
-use Rattle.dac_placement.specs.Placement.{apps_of, candidate_of, holder_of, IsVerdict, verdict_of}
+use Rattle.dac_placement.specs.Placement.{apps_of, candidate_of, holder_of, is_eligible, IsVerdict, verdict_of}
+use Rattle.dac_placement.specs.laws.Tests.{eligible_is}
 use Rattle.dac_placement.specs.laws.Judged.{verdict_in_words}
+use Rattle.dac_placement.specs.laws.Rests.{candidate_is}
+use Rattle.dac_decide.specs.declared.waits.Noted.{Noted}
 use Rattle.dac_decide.specs.FailoverWait.{Note, IsHeldAt, is_due_by, noted_at, noted_of, waits_of}
 use Rattle.dac_decide.specs.laws.Due.{due_to_words}
 use Rattle.dac_decide.specs.laws.Kept.{kept_is}
@@ -28,6 +32,8 @@ use Rattle.dac_commands.specs.Written.{IsNextClaim}
 use Rattle.dac_commands.specs.laws.Counters.{next_of_is}
 use Rattle.dac_commands.specs.laws.Terms.{terms_used_up_is, next_claim_is}
 use Rattle.dac_ticks.specs.Ticks.{Turn, turn_from, passing, claiming, held_by, claimed_by, claim_of, is_mine, turn_over, turn_of}
+use Rattle.dac_ticks.specs.declared.turning.Found.TheVariants.{Left, Passed, Claimed}
+use Rattle.dac_ticks.specs.Progress.{found_of}
 use Rattle.dac_ticks.specs.InWords.{IsMine, IsNotMine, ComesBy, IsClaimOf, IsTurn}
 use Rattle.dac_ticks.specs.laws.Counters.{counter_after}
 use Rattle.dac_ticks.specs.laws.Turning.{AreBelow, numbered, apps_below, claim_is_bare, turned_by}
@@ -50,6 +56,16 @@ own_if own (Some n) e = let same = eqb-true n.0 own.node.0 e in λ i. Some (reco
 
 pub if_own : (own : Origin) (candidate : Option NodeId) → candidate ≡ Some own.node → is_own own candidate ≡ true
 if_own own candidate e = ap (is_own own) e ∙ eq-eqb own.node.0 own.node.0 refl
+
+-- what is the incarnation's to claim, its node may run
+mine_is_eligible : (t : Table) (own : Origin) (waits : List (Option Noted)) (now : ℕ) (s : StateValue) (app : AppId) → is_mine t own waits now s app ≡ true → is_eligible t s app own.node ≡ true
+mine_is_eligible t own waits now s app mine = (eligible_is t s app own.node).1 (candidate_is t s app own.node (own_if own (candidate_of (verdict_of t s app)) (and_parts _ _ mine).0)).eligible
+
+-- so where it may not, nothing is done about the application
+pub left_unless : (t : Table) (own : Origin) (waits : List (Option Noted)) (now : ℕ) (s : StateValue) (app : AppId) → is_eligible t s app own.node ≡ false → found_of t own waits now s app ≡ Left
+left_unless t own waits now s app barred =
+    ap (λ b. cond b (cond (terms_used_up s app) Passed (Claimed (claim_of t own s app) (join s (meaning_of (claim_of t own s app ∷ []))))) Left)
+    (false_from_ne_true (is_mine t own waits now s app) (λ mine. true≢false (sym (mine_is_eligible t own waits now s app mine) ∙ barred)))
 
 -- ---- holders
 

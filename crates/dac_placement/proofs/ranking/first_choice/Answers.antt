@@ -1,11 +1,9 @@
-use Rattle.std.proofs.Common.{sym, ap₂, ◌∙◌}
-use Rattle.std.specs.Ordering.{ord_min}
-use Rattle.dac_lattice.specs.Lattices.{join_options}
-use Rattle.dac_placement.specs.Ranks.{rank_cmp}
-use Rattle.dac_placement.specs.laws.FirstChoice.{first_more}
+use Rattle.std.proofs.Common.{sym, ◌∙◌}
+use Rattle.dac_placement.specs.laws.Leads.{alone_decides, nobody_leads}
 use Rattle.dac_placement.proofs.ranking.first_choice.Goals as goal
 
-pub loop-number-preserved : goal.loop-number-preserved
-loop-number-preserved c = record {
-  least = c.lesser-first.ensures ∙ ap₂ (join_options (ord_min rank_cmp)) c.loop-number.invariant.least c.rank_of-rank.ensures ∙ sym (first_more c.args.config.now c.args.state.now c.args.app c.loop-number.number);
-}
+pub returns-in_err-lead : goal.returns-in_err-lead
+returns-in_err-lead c = rw c.from_residual.ensures (sym (nobody_leads c.args.config.now c.args.state.now c.args.app c.in_err-lead.ensures))
+
+pub returns-then-lead : goal.returns-then-lead
+returns-then-lead c = sym (alone_decides c.args.config.now c.args.state.now c.args.app c.in_ok-lead.lead c.in_ok-lead.ensures c.if-lead.true)

@@ -1,6 +1,6 @@
 use Rattle.std.proofs.Common.{◌≡◌}
 use Rattle.dac_placement.specs.laws.FirstChoice.{first_below}
-use Rattle.dac_placement.proofs.ranking.first_choice.Given as goal
+use Rattle.dac_placement.proofs.ranking.least_ranked.Given as goal
 
 abbrev pub invariant-loop-number : goal.invariant-loop-number
 invariant-loop-number l = record {

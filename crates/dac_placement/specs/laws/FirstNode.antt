@@ -1,12 +1,13 @@
 -- There is one first choice: what is so in words is the one that is computed.
-use Rattle.std.proofs.Common.{◌≡◌, ℕ, ◌<◌, ◌≤◌, true, Option, Some, None, refl, sym, ap, arith, inl, inr}
+use Rattle.std.proofs.Common.{◌≡◌, ◌⊎◌, ℕ, ◌<◌, ◌≤◌, true, Option, Some, None, refl, sym, ap, arith, inl, inr}
 use Rattle.std.specs.Prelude.{MatchOption, is_some}
 use Rattle.std.proofs.lemmas.Bool.{false≢true}
 use Rattle.dac_base.specs.declared.NodeId.{NodeId}
 use Rattle.dac_base.specs.declared.AppId.{AppId}
-use Rattle.dac_config.specs.Table.{Table, group_of}
-use Rattle.dac_meaning.specs.StateValue.{StateValue}
-use Rattle.dac_placement.specs.Placement.{EachEligible, IsEarlier, IsPreferred, IsFirst, first_choice}
+use Rattle.dac_config.specs.Table.{Table, node_count, group_of}
+use Rattle.dac_state.specs.StateValue.{StateValue}
+use Rattle.dac_placement.specs.Placement.{IsEligible, EachEligible, IsEarlier, load_of, IsPreferred, IsFirst, first_choice}
+use Rattle.dac_placement.specs.laws.Loads.{preferred_is}
 use Rattle.dac_placement.specs.laws.FirstChoice.{first_is}
 
 module _ (t : Table) (app : AppId) where
@@ -32,11 +33,18 @@ module _ (t : Table) (app : AppId) where
     one_node : (m n : NodeId) → m.0 ≤ n.0 → n.0 ≤ m.0 → m ≡ n
     one_node m n p q = let same : m.0 ≡ n.0 = omega arith in λ i. record { 0 = same i }
 
+    -- one node's load, another's, and their names
+    abbrev Before : ℕ → ℕ → NodeId → NodeId → Type 0
+    Before a b m n = (a < b) ⊎ ((a ≡ b) × (m.0 ≤ n.0))
+
+    by_loads : (m n : NodeId) (a b : ℕ) → Before a b m n → Before b a n m → m ≡ n
+    by_loads m n a b (inl p) (inl q) = absurd (omega arith)
+    by_loads m n a b (inl p) (inr q) = absurd (omega (arith, q.0))
+    by_loads m n a b (inr p) (inl q) = absurd (omega (arith, p.0))
+    by_loads m n a b (inr p) (inr q) = one_node m n p.1 q.1
+
     one_of : (m n : NodeId) → IsPreferred t s app m n → IsPreferred t s app n m → m ≡ n
-    one_of m n (inl a) (inl b) = absurd (omega arith)
-    one_of m n (inl a) (inr b) = absurd (omega (arith, b.0))
-    one_of m n (inr a) (inl b) = absurd (omega (arith, a.0))
-    one_of m n (inr a) (inr b) = one_node m n a.1 b.1
+    one_of m n p q = by_loads m n (load_of t s app m) (load_of t s app n) ((preferred_is t s app m n).0 p) ((preferred_is t s app n m).0 q)
 
     -- there is one first node
     pub one_first : (m n : NodeId) → IsFirst t s app m → IsFirst t s app n → m ≡ n
@@ -50,3 +58,11 @@ module _ (t : Table) (app : AppId) where
 
     pub first_to : (n : NodeId) → IsFirst t s app n → first_choice t s app ≡ Some n
     first_to n a = first_by n a (first_choice t s app) (first_is t s app)
+
+    none_by : ((m : NodeId) → m.0 < node_count t → ¬ IsEligible t s app m) → (o : Option NodeId) → MatchOption o (EachEligible t s app (λ _. ⊥)) (λ m. IsFirst t s app m) → o ≡ None
+    none_by nobody None none = refl
+    none_by nobody (Some m) is = absurd (nobody m is.node is.eligible)
+
+    -- where no node is eligible there is none
+    pub none_first : ((m : NodeId) → m.0 < node_count t → ¬ IsEligible t s app m) → first_choice t s app ≡ None
+    none_first nobody = none_by nobody (first_choice t s app) (first_is t s app)
