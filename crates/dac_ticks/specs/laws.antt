@@ -7,3 +7,4 @@ pub mod Again
 pub mod Voted
 pub mod Effects
 pub mod TakesEffect
+pub mod Staying

@@ -12,3 +12,12 @@ pub fn turns_in_words()
     ensures kept { ClaimsAreKept }
     ensures effect { CommandsTakeEffect }
 {}
+
+ghost use Rattle.dac_ticks.specs.Staying.{ClaimsAreLater, ClaimsStay};
+
+/// What a tick claims stays with the claimer to the end of the tick: its verdict is that it is kept there, and it runs there.
+/// Each claim is under a later term than any claim of its application in the state that the tick finds.
+pub fn claims_stay()
+    ensures stay { ClaimsStay }
+    ensures later { ClaimsAreLater }
+{}

@@ -138,7 +138,7 @@ module _ (t : Table) (own : Origin) where
     pub eligible : IsEligible t s app own.node
     pub earliest : EachEligible t s app (λ m. ¬ IsEarlier t app m own.node)
 
-  takes_alike : (s u : StateValue) → Alike s u → (app : AppId) → map.get s.claims app ≡ map.get u.claims app → Takes s app → Takes u app
+  pub takes_alike : (s u : StateValue) → Alike s u → (app : AppId) → map.get s.claims app ≡ map.get u.claims app → Takes s app → Takes u app
   takes_alike s u a app same takes = record {
     holder = sym (holder_alike t s u a app same) ∙ takes.holder;
     eligible = to_eligible t s u a app own.node takes.eligible;
@@ -175,7 +175,7 @@ module _ (t : Table) (own : Origin) where
     takes_kept = kept_by (verdict_of t s app) (verdict_in_words t s app)
 
     -- and runs there
-    takes_runs : runs_at t s app own.node ≡ true
+    pub takes_runs : runs_at t s app own.node ≡ true
     takes_runs = (runs_is t s app own.node).1 (record { inc = own.inc; holder = takes.holder; up = up; eligible = takes.eligible })
 
     -- and nowhere else
@@ -191,7 +191,7 @@ module _ (t : Table) (own : Origin) where
   one_node : {m n : NodeId} → ◌≡◌ {A = Option NodeId} (Some m) (Some n) → m ≡ n
   one_node e = cc
 
-  first_of : (s : StateValue) (app : AppId) (verdict : Verdict) → IsVerdict t s app verdict → candidate_of verdict ≡ Some own.node → IsFirst t s app own.node
+  pub first_of : (s : StateValue) (app : AppId) (verdict : Verdict) → IsVerdict t s app verdict → candidate_of verdict ≡ Some own.node → IsFirst t s app own.node
   first_of s app (Start n) is e = subst (IsFirst t s app) (one_node e) is.1
   first_of s app (Failover n) is e = subst (IsFirst t s app) (one_node e) is.1
   first_of s app (Halted n) is e = no_candidate e
@@ -217,27 +217,27 @@ module _ (t : Table) (own : Origin) where
       wider a n h = omega arith
 
   -- what a claim of the incarnation leaves
-  abbrev after : StateValue → AppId → StateValue
+  abbrev pub after : StateValue → AppId → StateValue
   after u app = join u (meaning_of (claim_of t own u app ∷ []))
 
   module _ (u : StateValue) (is : IsState u) (app : AppId) where
     abbrev after_act : Act → StateValue
     after_act act = join u (meaning_of (next_operation u own act ∷ []))
 
-    after_alike : Alike u (after u app)
+    pub after_alike : Alike u (after u app)
     after_alike = let by = claimed_as u app (verdict_of t u app) in subst (λ act. Alike u (after_act act)) (sym by.2) (claim_alike own u app by.0 by.1 is)
 
-    after_state : IsState (after u app)
+    pub after_state : IsState (after u app)
     after_state = let by = claimed_as u app (verdict_of t u app) in subst (λ act. IsState (after_act act)) (sym by.2) (claim_state own u app by.0 by.1 is)
 
-    after_other : (b : AppId) → (b.0 ≡ app.0 → ⊥) → map.get u.claims b ≡ map.get (after u app).claims b
+    pub after_other : (b : AppId) → (b.0 ≡ app.0 → ⊥) → map.get u.claims b ≡ map.get (after u app).claims b
     after_other b ne = let by = claimed_as u app (verdict_of t u app) in subst (λ act. map.get u.claims b ≡ map.get (after_act act).claims b) (sym by.2) (sym (other_claim own u app by.0 by.1 b ne))
 
     after_holder : holder_of (after u app) app ≡ Some own
     after_holder = let by = claimed_as u app (verdict_of t u app) in subst (λ act. holder_of (after_act act) app ≡ Some own) (sym by.2) (ap (option_map (λ (claim : Claim). claim.origin)) (own_claim own u app by.0 by.1))
 
     -- whom the verdict named takes it
-    after_takes : candidate_of (verdict_of t u app) ≡ Some own.node → Takes (after u app) app
+    pub after_takes : candidate_of (verdict_of t u app) ≡ Some own.node → Takes (after u app) app
     after_takes e =
         let first = first_of u app (verdict_of t u app) (verdict_in_words t u app) e in
         record {
@@ -518,7 +518,7 @@ module _ (t : Table) (own : Origin) (s : StateValue) (up : IsUp s own) (app : Ap
   node_is : (o : Origin) (n : NodeId) → own ≡ o → o.node ≡ n → n ≡ own.node
   node_is o n e is = sym is ∙ ap (λ (p : Origin). p.node) (sym e)
 
-  kept_here : (verdict : Verdict) → IsVerdict t s app verdict → verdict ≡ Kept own.node
+  pub kept_here : (verdict : Verdict) → IsVerdict t s app verdict → verdict ≡ Kept own.node
   kept_here (Start n) is = absurd (false≢true (ap is_some (sym is.0 ∙ takes.holder)))
   kept_here (Failover n) is = absurd (is.0.2 (subst (IsUp s) (holder_is t own s up app takes is.0.0 is.0.1) up))
   kept_here (Halted n) is = absurd (is.2.2 (subst (λ (o : Origin). IsStartedAt s (key_of app o)) (holder_is t own s up app takes is.0 is.1) started))

@@ -1,0 +1,45 @@
+-- What a tick claims stays with its claimer to the end of the tick.
+use Rattle.std.specs.Prelude.{◌≡◌, ℕ, ◌<◌, List, Option, Some}
+use Rattle.std.specs.FinMap as map
+use Rattle.dac_base.specs.declared.NodeId.{NodeId}
+use Rattle.dac_base.specs.declared.AppId.{AppId}
+use Rattle.dac_dots.specs.declared.dot.Origin.{Origin}
+use Rattle.dac_chains.specs.declared.claims.How.{How}
+use Rattle.dac_chains.specs.declared.claims.Claim.{Claim as ClaimValue}
+use Rattle.dac_chains.specs.Lives.{IsLive}
+use Rattle.dac_operations.specs.declared.act.Act.TheVariants.{Claim}
+use Rattle.dac_operations.specs.Operations.{Operation}
+use Rattle.dac_meaning.specs.StateValue.{StateValue, IsState}
+use Rattle.dac_meaning.specs.Meaning.{In}
+use Rattle.dac_config.specs.Table.{Table}
+use Rattle.dac_placement.specs.declared.verdicts.Verdict.TheVariants.{Kept}
+use Rattle.dac_placement.specs.Placement.{IsVerdict, RunsAt}
+use Rattle.dac_decide.specs.declared.waits.Noted.{Noted}
+use Rattle.dac_ticks.specs.Ticks.{turn_of}
+
+-- the operation claims the application
+abbrev pub ClaimsApp : AppId → Operation → Type 0
+ClaimsApp app o = (term : ℕ) × (how : How) × (from : Option NodeId) × (o.act ≡ Claim app term how from)
+
+-- the application is kept at the node, and runs there
+pub record IsKeptAt (t : Table) (s : StateValue) (app : AppId) (node : NodeId) : Type 0 where
+  pub verdict : IsVerdict t s app (Kept node)
+  pub runs : RunsAt t s app node
+
+-- so each application is that one of the operations claims
+abbrev pub AreKeptAt : Table → StateValue → NodeId → List Operation → Type 0
+AreKeptAt t s node os = (o : Operation) (app : AppId) → In o os → ClaimsApp app o → IsKeptAt t s app node
+
+-- Each claim among the operations is under a later term than any claim of its application in the state.
+abbrev pub AreLaterClaims : StateValue → List Operation → Type 0
+AreLaterClaims s os = (o : Operation) (app : AppId) → In o os → (term : ℕ) (how : How) (from : Option NodeId) → o.act ≡ Claim app term how from
+    → (claim : ClaimValue) → map.get s.claims app ≡ Some claim → claim.term < term
+
+-- So it is with what a tick claims, in the state that the tick finds.
+abbrev pub ClaimsAreLater : Type 0
+ClaimsAreLater = (t : Table) (own : Origin) (waits : List (Option Noted)) (now : ℕ) (s : StateValue) → IsState s → AreLaterClaims s (turn_of t own waits now s).ops
+
+-- What an incarnation that is live claims in a tick is kept at its node in the state that all claims of the tick leave.
+abbrev pub ClaimsStay : Type 0
+ClaimsStay = (t : Table) (own : Origin) (waits : List (Option Noted)) (now : ℕ) (s : StateValue) → IsState s → IsLive s.lives own.node own.inc
+    → let turn = turn_of t own waits now s in AreKeptAt t turn.state own.node turn.ops
