@@ -160,7 +160,7 @@ def what_if_words(parser: argparse.ArgumentParser) -> None:
     parser.add_argument("--down", metavar="NODE", nargs="+", action="extend", default=[], help="nodes that go down together")
     more = "nodes that come up without any application being started there"
     parser.add_argument("--not-started", metavar="NODE", nargs="+", action="extend", default=[], help=more)
-    parser.add_argument("--after", metavar="SCRIPT", help="go on from where this script ends, not from a cluster that just came up")
+    parser.add_argument("--after", metavar="SCRIPT", help="begin where this script ends, not with a cluster that just came up")
     parser.add_argument("--json", action="store_true", help="print the answer as JSON")
 
 
@@ -168,7 +168,7 @@ SUBCOMMANDS: "list[tuple[str, str, Subcommand, Callable[[argparse.ArgumentParser
     ("check", "Prints the canonical text of a configuration, or where its first fault is.", check, check_words),
     ("play", "Plays a script and prints each answer beside its line.", play, play_words),
     ("timeline", "Draws what a script did, as one page for a browser.", timeline, timeline_words),
-    ("what-if", "Says where each application goes if a node goes down, and where it is once the node is back.", what_if, what_if_words),
+    ("what-if", "Says where each application goes if a node goes down, and once the node is back.", what_if, what_if_words),
 ]
 
 

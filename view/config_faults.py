@@ -163,7 +163,8 @@ def at_end(scene: Scene) -> str | None:
     if still_open:
         bracket = still_open[-1]
         closing = PAIRS[bracket.written]
-        return f"the text ends, and the {bracket.written} of line {scene.line_of(bracket)} is still open: put a {closing} where it ends"
+        line = scene.line_of(bracket)
+        return f"the text ends, and the {bracket.written} of line {line} is still open: put a {closing} where it ends"
     if not scene.before:
         return "there is no configuration: a text begins with [ and ends with a full stop"
     return "the full stop at the end is missing: put a . behind the last bracket"
@@ -209,7 +210,8 @@ def wrong_bracket(scene: Scene) -> str | None:
     still_open = scene.open_brackets()
     if scene.sign not in ("]", "}"):
         if scene.sign == "." and still_open:
-            return f"the {still_open[-1].written} of line {scene.line_of(still_open[-1])} is still open: close it before the full stop"
+            bracket = still_open[-1]
+            return f"the {bracket.written} of line {scene.line_of(bracket)} is still open: close it before the full stop"
         return None
     if not still_open:
         return f"this {scene.sign} closes nothing: take it out"
@@ -297,7 +299,7 @@ def constant(sentence: str) -> Callable[[Scene], str]:
 
 
 SENTENCES: dict[str, Callable[[Scene], str]] = {
-    "TooLong": constant("a configuration has at most 65,536 bytes: move large parameters that aren't read to a second file of -config"),
+    "TooLong": constant("a configuration has at most 65,536 bytes: move large parameters to a second file of -config"),
     "BadToken": bad_token,
     "Unsupported": unsupported,
     "BadShape": bad_shape,

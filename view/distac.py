@@ -55,7 +55,8 @@ class Distac:
         lines = lines_of(text_of(printed))
         if status == 1 and lines[-1:] == ["out of memory"]:
             raise Problem("distac ran out of memory: give the machine more, or make the input smaller")
-        if status not in (0, 1) or (status == 1 and len(lines) != 1) or (printed and not printed.endswith(b"\n")):
+        has_one_line = word == "check" or status == 1
+        if status not in (0, 1) or (has_one_line and len(lines) != 1) or (printed and not printed.endswith(b"\n")):
             raise Problem(f"distac {word} gave no answer: it ended with status {status} and printed {len(printed)} bytes")
         return Answer(lines, status == 1)
 

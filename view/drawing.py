@@ -154,7 +154,8 @@ class Drawing:
         number = self.timeline.configuration.names.index(held.app)
         left, top = lane.bar_left(place), bar.start * ROW + 4
         kept = "" if held.verdict == "kept" else " loose"
-        said = f"{held.app} at {bar.node}, term {held.term} {held.how}, verdict {held.verdict}, {self.span(bar.start, bar.end)}"
+        claim = f"{held.app} at {bar.node}, term {held.term} {held.how}"
+        said = f"{claim}, verdict {held.verdict}, {self.span(bar.start, bar.end)}"
         hue = hue_of(number)
         shape = box(left, top, BAR, (bar.end - bar.start) * ROW - 2, f"bar{kept}", title(said), hue)
         return shape + f'<text x="{left + BAR / 2:.1f}" y="{top + 12}" class="term{kept}">{held.term}</text>'
@@ -165,7 +166,8 @@ class Drawing:
             return ""
         at = share.row * ROW + ROW / 2
         places = [self.lanes[node].middle for node in share.nodes]
-        words = title(f"{self.timeline.rows[share.row].line.number}: share, {share.count} messages among {', '.join(share.nodes)}")
+        number, nodes = self.timeline.rows[share.row].line.number, ", ".join(share.nodes)
+        words = title(f"{number}: share, {share.count} messages among {nodes}")
         line = f'<path d="M{min(places):.1f} {at:.1f}H{max(places):.1f}"/>'
         dots = "".join(f'<circle cx="{place:.1f}" cy="{at:.1f}" r="4"/>' for place in places)
         return f'<g class="share">{words}{line}{dots}</g>'

@@ -22,7 +22,7 @@ SENTENCES = {
     "MomentBack": "the moment {now} is before the boot of {node} or its last tick: moments of a node never go back",
     "NotLive": "{node} hasn't heard that {about} is up: share, or deliver a message, first",
     "NotStarted": "{node} has heard of no start of {app} at {about} that a stop could end",
-    "NotEligible": "{node} may not have {app}: it has to be permitted and started there, and the node not drained, by what it has heard",
+    "NotEligible": "{node} may not have {app}: by what it has heard, it isn't permitted or isn't started there, or is drained",
     "NotRunning": "{app} runs nowhere by what {node} has heard: a tick starts it",
     "AlreadyHolder": "{app} runs at {node} already: there is nothing to do",
     "LowerPriority": "{app} runs at a node of an earlier group of its list, and isn't taken from there",
@@ -41,7 +41,8 @@ def explained(line: Line, answer: str) -> str | None:
     missing = MISSING.match(answer)
     if missing:
         kind = "shipped" if missing["what"] == "message" else "issued"
-        return f"fewer {missing['what']}s than {missing['number']} were {kind} up to here: they count from 1, and refused lines add none"
+        fewer = f"fewer {missing['what']}s than {missing['number']} were {kind} up to here"
+        return f"{fewer}: they count from 1, and refused lines add none"
     refused = REFUSED.match(answer)
     if not refused or refused["name"] not in SENTENCES:
         return None

@@ -33,12 +33,12 @@ def missing_separator(source: bytes) -> tuple[int, str]:
     near = re.search(rb"^[ \t]*--[ \t\r]*$", source, re.MULTILINE)
     if near:
         what = "a carriage return" if b"\r" in near.group() else "a blank"
-        return near.start(), f"the line that parts configuration and script is exactly --, and here is {what} too: take it out"
+        return near.start(), f"the line between configuration and script is exactly --, and here is {what} too: take it out"
     verbs = "|".join((*VERBS, TELL)).encode()
     first = re.search(rb"^ *(?:%s)(?: [^\[\]{}]*)?$" % verbs, source, re.MULTILINE)
     if first:
         return first.start(), "a line -- parts the configuration from the script: put one before this line"
-    return len(source), "a script follows its configuration, behind a line that is exactly --: to look at a configuration, use check"
+    return len(source), "a script follows its configuration, behind a line --: to look at a configuration alone, use check"
 
 
 def remark_on_line(name: str, line: Line, nodes: list[str]) -> Remark:

@@ -50,9 +50,9 @@ def nobody_notes(reply: Reply) -> Iterator[str]:
 def otp_notes(reply: Reply, fates: list[Fate]) -> Iterator[str]:
     """What differs from OTP, where it matters here."""
     if any(fate.milliseconds and fate.how == "failover" for fate in fates):
-        yield "- The wait counts from a node's first tick after it heard that the other one is down. OTP's manual doesn't say who counts."
+        yield "- The wait counts from a node's first tick after it heard of the loss. OTP's manual doesn't say who counts."
     if any(is_of_tuple(reply, fate) for fate in fates):
-        yield "- In a tuple the node with fewer of these applications is chosen, then the least name. OTP counts all that run there."
+        yield "- In a tuple the node with fewer of these applications is chosen, then the least name. OTP counts all that run."
     if any(fate.back != fate.then for fate in fates):
         yield "- Back: the node is up and everything of its list is started there again. Here a start ends with the node's life."
     if reply.question.not_started:
