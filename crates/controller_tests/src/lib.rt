@@ -5,6 +5,8 @@
 #![tactic(auto)]
 
 #[cfg(test)]
+mod bearing;
+#[cfg(test)]
 mod callers;
 #[cfg(test)]
 mod forged;
