@@ -2,3 +2,4 @@ mod Making
 mod Reading
 mod StateCodec
 mod StatePieces
+mod Covered

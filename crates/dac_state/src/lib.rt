@@ -18,6 +18,7 @@ pub use dac_wishes::{DotList, Drains, Key, Permissions, Wishes};
 pub use state::State;
 
 mod coding;
+mod covering;
 mod decoding;
 mod parts;
 mod state;
