@@ -19,5 +19,6 @@ pub use state::State;
 
 mod coding;
 mod decoding;
+mod heard;
 mod parts;
 mod state;
