@@ -1,3 +1,4 @@
+mod Hearing
 mod Making
 mod Reading
 mod StateCodec

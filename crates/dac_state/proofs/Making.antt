@@ -6,11 +6,13 @@ use Rattle.dac_dots.specs.Dots.{Dots, IsSubset}
 use Rattle.dac_chains.specs.Greatest.{greater}
 use Rattle.dac_chains.specs.Lives.{Lives, life_cmp}
 use Rattle.dac_chains.specs.Claims.{Claims, claim_cmp}
-use Rattle.dac_wishes.specs.WishesValue.{WishesValue, AreWishes, join_wishes}
+use Rattle.dac_wishes.specs.WishesValue.{WishesValue, AreWishes, join_wishes, known-join}
 use Rattle.dac_wishes.specs.PermissionsValue.{PermissionsValue, ArePermissions, IsPermissionsBelow, join_permissions}
 use Rattle.dac_wishes.specs.DrainsValue.{DrainsValue, AreDrains, AreDrainsBelow, join_drains}
 use Rattle.dac_meaning.specs.StateValue.{StateValue, IsState, permissions_of, wishes_of, drains_of, join}
 use Rattle.dac_meaning.specs.laws.StateLaws.{heard-join, permissions-join, wishes-join, lives-join, claims-join, drains-join}
+use Rattle.dac_state.specs.Heard.{heard_beside}
+use Rattle.dac_state.specs.declared.heard.Heard.{Heard}
 use Rattle.dac_state.specs.Parts.{AreParts, state_of_parts}
 
 -- the parts show what the state does
@@ -57,6 +59,24 @@ module _ {h g : Dots} {p q : PermissionsValue} {w v : WishesValue} {l m : Lives}
         claims = claims ∙ sym (claims-join s t);
         drains = drains ∙ (λ i. join_drains (drains_is one i) (drains_is other i)) ∙ sym (drains-join s t);
       }
+
+  -- what either side knows is what the permissions of either know, and the drains
+  pub known_of_permissions : {k : Dots} → k ≡ set.union w.known v.known → k ≡ set.union p.known q.known
+  known_of_permissions e = e ∙ sym (λ i. set.union (one.alike i) (other.alike i))
+
+  pub known_of_drains : {k : Dots} → k ≡ set.union w.known v.known → k ≡ set.union r.known u.known
+  known_of_drains e = e ∙ sym (λ i. set.union (one.drained i) (other.drained i))
+
+  -- what was heard beside joined wishes is what either side heard
+  pub heard_joined : {k : Dots} {y : WishesValue} (n : Heard) → k ≡ set.union w.known v.known → heard_beside n k ≡ set.union h g → y ≡ join_wishes w v → heard_beside n y.known ≡ set.union h g
+  heard_joined n known heard wishes = ap (λ (z : WishesValue). heard_beside n z.known) wishes ∙ ap (heard_beside n) (known-join w v ∙ sym known) ∙ heard
+
+  -- where wishes know no more, neither do permissions or drains
+  pub permissions_within : IsSubset w.known v.known → IsSubset p.known q.known
+  permissions_within e = subst (λ x. IsSubset x q.known) (sym one.alike) (subst (IsSubset w.known) (sym other.alike) e)
+
+  pub drains_within : IsSubset w.known v.known → IsSubset r.known u.known
+  drains_within e = subst (λ x. IsSubset x u.known) (sym one.drained) (subst (IsSubset w.known) (sym other.drained) e)
 
   -- the order of permissions is that of what the states show of them
   pub shown_below : IsPermissionsBelow p q → IsPermissionsBelow (permissions_of (state_of_parts h p w l c r)) (permissions_of (state_of_parts g q v m d u))

@@ -20,5 +20,6 @@ pub use state::State;
 mod coding;
 mod covering;
 mod decoding;
+mod heard;
 mod parts;
 mod state;

@@ -3,6 +3,7 @@ ghost use Rattle.std.specs.Prelude.{◌≡◌, ◌↔◌, IsTrue, IfOk};
 ghost use Rattle.dac_meaning.specs.StateValue.{IsState, IsBelow, drains_of, join, permissions_of, wishes_of};
 ghost use Rattle.dac_state.specs.Parts.{AreParts, state_of_parts};
 
+use crate::heard::Heard;
 use dac_base::NoMemory;
 use dac_chains::{Claims, Lives};
 use dac_contexts::Context;
@@ -11,11 +12,11 @@ use dac_wishes::{Drains, Permissions, Wishes};
 use std::alloc::Global;
 use std::marker::Model;
 
-/// The parts of a state. Permissions, wishes and drains know the same dots.
+/// The parts of a state. Permissions, wishes and drains know the same dots, and share them where they can.
 #[derive(Drop)]
 pub(crate) struct Parts {
     alloc: Global,
-    heard: Context,
+    heard: Heard,
     permissions: Permissions,
     wishes: Wishes,
     lives: Lives,
@@ -25,15 +26,16 @@ pub(crate) struct Parts {
 
 impl Model for Parts {
     ghost use Rattle.dac_meaning.specs.StateValue.{StateValue, coded_state};
+    ghost use Rattle.dac_state.specs.Heard.{heard_beside};
     ghost use Rattle.dac_state.specs.Parts.{AreParts, state_of_parts};
 
     ghost Value = { StateValue };
 
     ghost coded = { coded_state };
 
-    ghost view = { λ a. state_of_parts a.heard a.permissions a.wishes a.lives a.claims a.drains };
+    ghost view = { λ a. state_of_parts (heard_beside a.heard a.wishes.known) a.permissions a.wishes a.lives a.claims a.drains };
 
-    ghost invariant = { λ a. AreParts a.heard a.permissions a.wishes a.lives a.claims a.drains };
+    ghost invariant = { λ a. AreParts (heard_beside a.heard a.wishes.known) a.permissions a.wishes a.lives a.claims a.drains };
 }
 
 impl Parts {
@@ -50,6 +52,7 @@ impl Parts {
         requires { AreParts heard permissions wishes lives claims drains }
         ensures { result ≡ state_of_parts heard permissions wishes lives claims drains }
     {
+        let heard = Heard::of(heard, wishes.context());
         Parts {
             alloc,
             heard,
@@ -70,7 +73,7 @@ impl Parts {
     pub(crate) fn heard(&self) -> &Context
         ensures { result.now ≡ self.now.heard }
     {
-        &self.heard
+        self.heard.beside(self.wishes.context())
     }
 
     /// The dots of the operations heard, and those that one of them replaces.
@@ -126,40 +129,43 @@ impl Parts {
     pub(crate) fn join(&self, other: &Self) -> Result<Self, NoMemory>
         ensures { IfOk result (λ joined. joined ≡ join self.now other.now) }
     {
-        let heard = self.heard.union(&other.heard)?;
-        let permissions = self.permissions.join(&other.permissions)?;
-        let wishes = self.wishes.join(&other.wishes)?;
+        let mine = self.wishes.context();
+        let theirs = other.wishes.context();
+        let (known, heard) = self.heard.join(mine, &other.heard, theirs)?;
+        let permissions = self.permissions.join_beside(&other.permissions, &known)?;
+        let wishes = self.wishes.join_beside(&other.wishes, &known)?;
         let lives = self.lives.join(&other.lives)?;
         let claims = self.claims.join(&other.claims)?;
-        let drains = self.drains.join(&other.drains)?;
-        Ok(Parts::new(
-            self.alloc,
+        let drains = self.drains.join_beside(&other.drains, &known)?;
+        Ok(Parts {
+            alloc: self.alloc,
             heard,
             permissions,
             wishes,
             lives,
             claims,
             drains,
-        ))
+        })
     }
 
     /// Whether each is below the other's.
     pub(crate) fn leq(&self, other: &Self) -> bool
         ensures { IsTrue result ↔ IsBelow self.now other.now }
     {
-        if !self.heard.is_subset(&other.heard) {
+        let known = self.wishes.context();
+        if !self.heard.leq(known, &other.heard, other.wishes.context()) {
             return false;
         }
-        if !self.permissions.leq(&other.permissions) {
+        if !self.permissions.leq_beside(&other.permissions) {
             return false;
         }
-        if !self.wishes.leq(&other.wishes) {
+        if !self.wishes.leq_beside(&other.wishes) {
             return false;
         }
         if !self.lives.leq(&other.lives) {
             return false;
         }
-        self.claims.leq(&other.claims) && self.drains.leq(&other.drains)
+        self.claims.leq(&other.claims) && self.drains.leq_beside(&other.drains)
     }
 
     /// Equal parts. They may share memory that never changes.
@@ -172,14 +178,14 @@ impl Parts {
         let lives = self.lives.copy()?;
         let claims = self.claims.copy()?;
         let drains = self.drains.copy()?;
-        Ok(Parts::new(
-            self.alloc,
+        Ok(Parts {
+            alloc: self.alloc,
             heard,
             permissions,
             wishes,
             lives,
             claims,
             drains,
-        ))
+        })
     }
 }

@@ -6,7 +6,7 @@ ghost use Rattle.dac_meaning.specs.Meaning.{meaning_of};
 use crate::parts::Parts;
 use dac_base::NoMemory;
 use dac_chains::{Claims, Lives};
-use dac_contexts::Context;
+use dac_contexts::{Context, SharedContext};
 use dac_lattice::{Bottom, Lattice, Piece};
 use dac_meaning::{Op, laws};
 use dac_wishes::{Drains, Permissions, Wishes};
@@ -62,11 +62,11 @@ impl State {
     {
         laws::parts_of_meaning();
         let heard = heard_by(alloc, op)?;
-        let permissions = permissions_by(alloc, op)?;
         let wishes = wishes_by(alloc, op)?;
+        let permissions = permissions_by(alloc, op, wishes.shared_context())?;
         let lives = lives_by(alloc, op)?;
         let claims = claims_by(alloc, op)?;
-        let drains = drains_by(alloc, op)?;
+        let drains = drains_by(alloc, op, wishes.shared_context())?;
         let parts = Parts::new(alloc, heard, permissions, wishes, lives, claims, drains);
         let state = State::of(parts)?;
         Ok(state)
@@ -228,14 +228,15 @@ fn heard_by(alloc: Global, op: &Op) -> Result<Context, NoMemory>
     Ok(heard)
 }
 
-/// What an operation permits and knows.
-fn permissions_by(alloc: Global, op: &Op) -> Result<Permissions, NoMemory>
+/// What an operation permits, where these are the dots that it knows.
+fn permissions_by(alloc: Global, op: &Op, known: &SharedContext) -> Result<Permissions, NoMemory>
+    requires { known.now ≡ (meaning_of (op.now ∷ [])).known }
     ensures { IfOk result (λ permissions. permissions ≡ permissions_of (meaning_of (op.now ∷ []))) }
 {
     laws::delta_is_meaning();
     op.known();
     let act = op.permit_act(alloc)?;
-    let permissions = Permissions::delta(alloc, op.dot(), &act)?;
+    let permissions = Permissions::delta_beside(alloc, op.dot(), &act, known)?;
     Ok(permissions)
 }
 
@@ -270,13 +271,14 @@ fn claims_by(alloc: Global, op: &Op) -> Result<Claims, NoMemory>
     Ok(claims)
 }
 
-/// What an operation drains and knows.
-fn drains_by(alloc: Global, op: &Op) -> Result<Drains, NoMemory>
+/// What an operation drains, where these are the dots that it knows.
+fn drains_by(alloc: Global, op: &Op, known: &SharedContext) -> Result<Drains, NoMemory>
+    requires { known.now ≡ (meaning_of (op.now ∷ [])).known }
     ensures { IfOk result (λ drains. drains ≡ drains_of (meaning_of (op.now ∷ []))) }
 {
     laws::delta_is_meaning();
     op.known();
     let act = op.drain_act(alloc)?;
-    let drains = Drains::delta(alloc, op.dot(), &act)?;
+    let drains = Drains::delta_beside(alloc, op.dot(), &act, known)?;
     Ok(drains)
 }

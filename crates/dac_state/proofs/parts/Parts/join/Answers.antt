@@ -1,16 +1,35 @@
 use Rattle.std.proofs.Common.{◌∙◌}
 use Rattle.dac_meaning.specs.StateValue.{join}
 use Rattle.dac_meaning.specs.laws.StateLaws.{state_laws}
-use Rattle.dac_state.proofs.Making.{state_is, are_parts, show_joined}
+use Rattle.dac_state.proofs.Making.{state_is, are_parts, show_joined, known_of_permissions, known_of_drains, heard_joined}
 use Rattle.dac_state.proofs.parts.Parts.join.Goals as goal
 
-pub new-requires : goal.new-requires
-new-requires c = are_parts
-    (show_joined c.self.invariant c.other.invariant c.in_ok-heard.ensures c.in_ok-permissions.ensures c.in_ok-wishes.ensures c.in_ok-lives.ensures c.in_ok-claims.ensures c.in_ok-drains.ensures)
+pub join-requires-clause-mine : goal.join-requires-clause-mine
+join-requires-clause-mine c = rw c.context-mine.ensures c.self.invariant.state.heard
+
+pub join-requires-clause-theirs : goal.join-requires-clause-theirs
+join-requires-clause-theirs c = rw c.context-theirs.ensures c.other.invariant.state.heard
+
+pub join_beside-requires : goal.join_beside-requires
+join_beside-requires c = known_of_permissions c.self.invariant c.other.invariant (rw (c.context-mine.ensures, c.context-theirs.ensures) at c.in_ok-known.ensures.known)
+
+pub join_beside-requires-2 : goal.join_beside-requires-2
+join_beside-requires-2 c = rw (c.context-mine.ensures, c.context-theirs.ensures) at c.in_ok-known.ensures.known
+
+pub join_beside-requires-3 : goal.join_beside-requires-3
+join_beside-requires-3 c = known_of_drains c.self.invariant c.other.invariant (rw (c.context-mine.ensures, c.context-theirs.ensures) at c.in_ok-known.ensures.known)
+
+pub invariant_of-result : goal.invariant_of-result
+invariant_of-result c =
+    let dots = rw (c.context-mine.ensures, c.context-theirs.ensures) at c.in_ok-known.ensures in
+    let heard = heard_joined c.self.invariant c.other.invariant c.in_ok-known.heard dots.known dots.heard c.in_ok-wishes.ensures in
+    are_parts
+    (show_joined c.self.invariant c.other.invariant heard c.in_ok-permissions.ensures c.in_ok-wishes.ensures c.in_ok-lives.ensures c.in_ok-claims.ensures c.in_ok-drains.ensures)
     (state_laws.closed _ _ c.self.invariant.state c.other.invariant.state)
 
 pub returns : goal.returns
 returns c =
-    c.new.ensures
-    ∙ state_is (show_joined c.self.invariant c.other.invariant c.in_ok-heard.ensures c.in_ok-permissions.ensures c.in_ok-wishes.ensures c.in_ok-lives.ensures c.in_ok-claims.ensures c.in_ok-drains.ensures)
+    let dots = rw (c.context-mine.ensures, c.context-theirs.ensures) at c.in_ok-known.ensures in
+    let heard = heard_joined c.self.invariant c.other.invariant c.in_ok-known.heard dots.known dots.heard c.in_ok-wishes.ensures in
+    state_is (show_joined c.self.invariant c.other.invariant heard c.in_ok-permissions.ensures c.in_ok-wishes.ensures c.in_ok-lives.ensures c.in_ok-claims.ensures c.in_ok-drains.ensures)
     ∙ (λ i. join (c.self.view_is i) (c.other.view_is i))

@@ -1,31 +1,44 @@
 use Rattle.std.proofs.Common.{◌∙◌, sym}
 use Rattle.std.proofs.lemmas.Bool.{false≢true, iff_false}
-use Rattle.dac_state.proofs.Making.{shown_below, shown_drains_below, drains_shown_below}
+use Rattle.dac_state.proofs.Making.{shown_below, shown_drains_below, drains_shown_below, permissions_within, drains_within}
 use Rattle.dac_state.proofs.parts.Parts.leq.Goals as goal
 
-pub returns-then-not-is_subset : goal.returns-then-not-is_subset
-returns-then-not-is_subset c =
-    rw (← c.self.view_is, ← c.other.view_is) (λ e. absurd (false≢true e), λ below. absurd (iff_false c.is_subset.ensures c.if-not-is_subset.true below.heard))
+pub leq-requires : goal.leq-requires
+leq-requires c = rw c.context-known.ensures c.self.invariant.state.heard
 
-pub returns-then-not-leq-3 : goal.returns-then-not-leq-3
-returns-then-not-leq-3 c =
-    rw (← c.self.view_is, ← c.other.view_is) (λ e. absurd (false≢true e), λ below. absurd (iff_false c.leq-3.ensures c.if-not-leq-3.true below.lives))
+pub leq_beside-requires : goal.leq_beside-requires
+leq_beside-requires c = permissions_within c.self.invariant c.other.invariant ((rw (c.context-known.ensures, c.context.ensures) at c.leq.ensures).0 c.if-not-leq.false).0
+
+pub leq_beside-requires-2 : goal.leq_beside-requires-2
+leq_beside-requires-2 c = ((rw (c.context-known.ensures, c.context.ensures) at c.leq.ensures).0 c.if-not-leq.false).0
+
+pub leq_beside-requires-then-leq : goal.leq_beside-requires-then-leq
+leq_beside-requires-then-leq c = drains_within c.self.invariant c.other.invariant ((rw (c.context-known.ensures, c.context.ensures) at c.leq.ensures).0 c.if-not-leq.false).0
+
+pub returns-then-not-leq : goal.returns-then-not-leq
+returns-then-not-leq c =
+    rw (← c.self.view_is, ← c.other.view_is)
+    (λ e. absurd (false≢true e), λ below. absurd (iff_false (rw (c.context-known.ensures, c.context.ensures) at c.leq.ensures) c.if-not-leq.true (below.starts.known, below.heard)))
+
+pub returns-then-not-leq-2 : goal.returns-then-not-leq-2
+returns-then-not-leq-2 c =
+    rw (← c.self.view_is, ← c.other.view_is) (λ e. absurd (false≢true e), λ below. absurd (iff_false c.leq-2.ensures c.if-not-leq-2.true below.lives))
 
 pub returns-then-leq : goal.returns-then-leq
 returns-then-leq c = rw (← c.self.view_is, ← c.other.view_is) (
   λ e. record {
-    heard = c.is_subset.ensures.0 c.if-not-is_subset.false;
-    permits = shown_below c.self.invariant c.other.invariant (c.leq.ensures.0 c.if-not-leq.false);
-    starts = c.leq-2.ensures.0 c.if-not-leq-2.false;
-    lives = c.leq-3.ensures.0 c.if-not-leq-3.false;
-    claims = c.leq-4.ensures.0 c.if-leq.true;
-    drains = shown_drains_below c.self.invariant c.other.invariant (c.leq-then-leq.ensures.0 e);
+    heard = ((rw (c.context-known.ensures, c.context.ensures) at c.leq.ensures).0 c.if-not-leq.false).1;
+    permits = shown_below c.self.invariant c.other.invariant (c.leq_beside.ensures.0 c.if-not-leq_beside.false);
+    starts = c.leq_beside-2.ensures.0 c.if-not-leq_beside-2.false;
+    lives = c.leq-2.ensures.0 c.if-not-leq-2.false;
+    claims = c.leq-3.ensures.0 c.if-leq.true;
+    drains = shown_drains_below c.self.invariant c.other.invariant (c.leq_beside-then-leq.ensures.0 e);
   },
-  λ below. c.leq-then-leq.ensures.1 (drains_shown_below c.self.invariant c.other.invariant below.drains),
+  λ below. c.leq_beside-then-leq.ensures.1 (drains_shown_below c.self.invariant c.other.invariant below.drains),
 )
 
 pub returns-else-leq : goal.returns-else-leq
 returns-else-leq c = rw (← c.self.view_is, ← c.other.view_is) (
   λ e. absurd (false≢true (sym c.if-leq.false ∙ e)),
-  λ below. c.leq-4.ensures.1 below.claims,
+  λ below. c.leq-3.ensures.1 below.claims,
 )

@@ -1,0 +1,123 @@
+//! The dots heard, as they are kept beside the dots known.
+ghost use Rattle.std.specs.Prelude.{◌≡◌, ◌↔◌, IsTrue, IfOk};
+ghost use Rattle.std.specs.FinSet as set;
+ghost use Rattle.dac_dots.specs.Dots.{IsSubset};
+ghost use Rattle.dac_state.specs.Heard.{heard_beside};
+
+use dac_base::NoMemory;
+use dac_contexts::{Context, SharedContext};
+
+/// The dots heard, which are some of the dots known.
+#[derive(Drop)]
+pub(crate) enum Heard {
+    /// All that are known.
+    All,
+    /// These.
+    These(Context),
+}
+
+impl Heard {
+    /// These dots. It takes no memory.
+    pub(crate) fn of(heard: Context, known: &Context) -> Self
+        requires { IsSubset heard known.now }
+        ensures { heard_beside result known.now ≡ heard }
+    {
+        if known.is_subset(&heard) {
+            Heard::All
+        } else {
+            Heard::These(heard)
+        }
+    }
+
+    /// The dots heard.
+    pub(crate) fn beside<'a>(&'a self, known: &'a Context) -> &'a Context
+        ensures { result.now ≡ heard_beside self.now known.now }
+    {
+        match self {
+            Heard::All => known,
+            Heard::These(heard) => heard,
+        }
+    }
+
+    /// Whether all dots known are among these, among which are the dots heard.
+    fn knows_no_more(&self, known: &Context, dots: &Context) -> bool
+        requires { IsSubset (heard_beside self.now known.now) dots.now }
+        ensures { IsTrue result → IsSubset known.now dots.now }
+    {
+        match self {
+            Heard::All => true,
+            Heard::These(_) => known.is_subset(dots),
+        }
+    }
+
+    /// Whether all dots that either side knows are among these, among which are those that either heard.
+    fn both_know_no_more(
+        &self,
+        known: &Context,
+        other: &Self,
+        other_known: &Context,
+        dots: &Context,
+    ) -> bool
+        requires mine { IsSubset (heard_beside self.now known.now) dots.now }
+        requires theirs { IsSubset (heard_beside other.now other_known.now) dots.now }
+        ensures { IsTrue result → IsSubset known.now dots.now × IsSubset other_known.now dots.now }
+    {
+        self.knows_no_more(known, dots) && other.knows_no_more(other_known, dots)
+    }
+
+    /// The dots that either side knows, and those that either heard. Mostly they are the same, and no other union is
+    /// made. [`NoMemory`] is the only error.
+    pub(crate) fn join(
+        &self,
+        known: &Context,
+        other: &Self,
+        other_known: &Context,
+    ) -> Result<(SharedContext, Heard), NoMemory>
+        requires mine { IsSubset (heard_beside self.now known.now) known.now }
+        requires theirs { IsSubset (heard_beside other.now other_known.now) other_known.now }
+        ensures known { IfOk result (λ dots. dots.0 ≡ set.union known.now other_known.now) }
+        ensures heard { IfOk result (λ dots. heard_beside dots.1 dots.0 ≡ set.union (heard_beside self.now known.now) (heard_beside other.now other_known.now)) }
+    {
+        let heard = self.beside(known).union(other.beside(other_known))?;
+        if self.both_know_no_more(known, other, other_known, &heard) {
+            let all = SharedContext::new(heard)?;
+            return Ok((all, Heard::All));
+        }
+        let both = known.union(other_known)?;
+        let shared = SharedContext::new(both)?;
+        Ok((shared, Heard::These(heard)))
+    }
+
+    /// Whether each of these dots was heard, all of which are known.
+    fn has(&self, known: &Context, dots: &Context) -> bool
+        requires { IsSubset dots.now known.now }
+        ensures { IsTrue result ↔ IsSubset dots.now (heard_beside self.now known.now) }
+    {
+        match self {
+            Heard::All => true,
+            Heard::These(heard) => dots.is_subset(heard),
+        }
+    }
+
+    /// Whether the other side knows all dots that this one knows, and heard all that this one heard.
+    pub(crate) fn leq(&self, known: &Context, other: &Self, other_known: &Context) -> bool
+        requires { IsSubset (heard_beside self.now known.now) known.now }
+        ensures { IsTrue result
+            ↔ IsSubset known.now other_known.now × IsSubset (heard_beside self.now known.now) (heard_beside other.now other_known.now) }
+    {
+        if !known.is_subset(other_known) {
+            return false;
+        }
+        other.has(other_known, self.beside(known))
+    }
+
+    /// Equal dots, with memory of their own.
+    pub(crate) fn copy(&self) -> Result<Self, NoMemory>
+        ensures { IfOk result (λ copied. copied ≡ self.now) }
+    {
+        match self {
+            Heard::All => Ok(Heard::All),
+            Heard::These(heard) => Ok(Heard::These(heard.copy()?)),
+        }
+    }
+}
