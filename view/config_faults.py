@@ -96,6 +96,8 @@ def quotes_for(scene: Scene) -> str:
 def bad_token(scene: Scene) -> str:
     """A byte that begins no token."""
     sign = scene.sign
+    if scene.text.startswith(b"--\n", scene.at):
+        return "a script begins here: check looks at a configuration alone, so take play for a script"
     if sign == "'":
         return "this quote is never closed: put a ' behind the name"
     if sign == '"':

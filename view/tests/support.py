@@ -41,17 +41,26 @@ def distac() -> Distac:
     return Distac(lambda word, source: MODELS[word](source))
 
 
-def view(*words: str, source: bytes = b"") -> Said:
-    """Runs `distac-view` in this process. Standard input can't be given so: a file has to be named."""
+def view(*words: str, program: str | None = None) -> Said:
+    """Runs `distac-view` in this process, and has it ask a program, or what the tests ask. A file has to be named."""
     output, errors = io.TextIOWrapper(io.BytesIO()), io.TextIOWrapper(io.BytesIO())
     with mock.patch.object(sys, "stdout", output), mock.patch.object(sys, "stderr", errors):
-        with mock.patch.object(command_line, "found_distac", lambda _: distac()):
-            status = command_line.run(list(words))
-    return Said(int(status), written(output), written(errors))
+        with mock.patch.object(command_line, "found_distac", lambda _: found_distac(program) if program else distac()):
+            status = status_of(list(words))
+    return Said(status, written(output), written(errors))
+
+
+def status_of(words: list[str]) -> int:
+    """The exit status of `distac-view`, also where its command line ends it."""
+    try:
+        return int(command_line.run(words))
+    except SystemExit as end:
+        return int(end.code or 0)
 
 
 def written(stream: io.TextIOWrapper) -> str:
     """What was written to a stream in memory."""
+    stream.flush()
     return stream.buffer.getvalue().decode("utf-8", "surrogateescape")  # type: ignore[attr-defined]
 
 

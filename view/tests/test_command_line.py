@@ -30,7 +30,7 @@ class Statuses(unittest.TestCase):
         for words in COMMANDS:
             self.expect(0, run_view(*words))
         for words in (("--help",), ("--version",), *((command[0], "--help") for command in COMMANDS)):
-            said = run_view(*words)
+            said = view(*words)
             self.expect(0, said)
             self.assertTrue(said.output)
 
@@ -60,7 +60,7 @@ class Statuses(unittest.TestCase):
 
     def test_wrong_use(self) -> None:
         for words in ((), ("nothing",), ("check",), ("play", "--loud", FAILOVER), ("timeline", FAILOVER), ("what-if", "--down")):
-            self.expect(2, run_view(*words), "usage")
+            self.expect(2, view(*words), "usage")
         self.expect(2, view("what-if", MANUAL, "--down", "cp9@cave"), "no node cp9@cave")
         self.expect(2, view("what-if", MANUAL, "--not-started", ""), "no node")
         self.expect(2, view("timeline", FAILOVER, "-o", "-", "--from", "1000"), "no line")
@@ -96,7 +96,7 @@ class Programs(unittest.TestCase):
 
     def expect(self, program: str, error: str) -> None:
         """A sentence in place of an answer."""
-        said = run_view("check", MANUAL, program=program)
+        said = view("check", MANUAL, program=program)
         self.assertEqual((said.status, said.output), (2, ""), said)
         self.assertIn(error, said.errors)
         self.assertNotIn("Traceback", said.errors)

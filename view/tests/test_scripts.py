@@ -135,7 +135,7 @@ class Guesses(unittest.TestCase):
         lines = [Line(1, "tell a b c"), Line(2, "boot a 0")]
         written = written_out(lines, lambda run: ["refused 1 Off" if line.is_event else "" for line in run])
         self.assertEqual([line.text for line in written], ["% tell a b c", "boot a 0"])
-        self.assertTrue(Script(b"", b"", lines).has_tells)
+        self.assertTrue(Script(b"tell", b"", lines).has_tells)
 
 
 if __name__ == "__main__":
