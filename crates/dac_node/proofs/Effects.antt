@@ -1,10 +1,10 @@
 -- What changes do, event by event.
 use Rattle.std.proofs.Common.{◌≡◌, ◌↔◌, ◌<◌, ◌≤◌, ◌+◌, ℕ, Bool, true, false, not, cond, List, [], ◌∷◌, length, Option, Some, None, refl, sym, ap, subst, ◌∙◌, arith, true≢false}
-use Rattle.std.proofs.lemmas.Bool.{ltb-false}
 use Rattle.dac_base.specs.declared.limits.TheConstants.{MAX_COUNTER}
 use Rattle.dac_base.specs.declared.NodeId.{NodeId}
-use Rattle.dac_meaning.specs.StateValue.{StateValue}
-use Rattle.dac_meaning.specs.Below.{is_below}
+use Rattle.dac_operations.specs.Operations.{Operation}
+use Rattle.dac_meaning.specs.StateValue.{StateValue, IsState}
+use Rattle.dac_meaning.specs.Meaning.{meaning_of}
 use Rattle.dac_config.specs.Table.{Table}
 use Rattle.dac_decide.specs.declared.waits.Noted.{Noted}
 use Rattle.dac_messages.specs.declared.event.Event.{Event}
@@ -12,10 +12,10 @@ use Rattle.dac_messages.specs.declared.reply.Reply.{Reply}
 use Rattle.dac_rules.specs.dac_commands.declared.refusal.Refusal.TheVariants.{DotsUsedUp}
 use Rattle.dac_rules.specs.dac_commands.laws.Written.{none_is}
 use Rattle.dac_rules.specs.NodeValue.{RunValue}
-use Rattle.dac_rules.specs.EventRefusals.{refusal_by, refusal_to_hear_op, too_many_deltas}
+use Rattle.dac_rules.specs.EventRefusals.{refusal_by, refusal_to_hear_op, overflows}
 use Rattle.dac_rules.specs.Deeds.{Deed, deed_of, moment_of}
 use Rattle.dac_rules.specs.Accepted.{AreNewest, run_by}
-use Rattle.dac_rules.specs.laws.Numbers.{fits}
+use Rattle.dac_rules.specs.laws.Numbers.{fits, room_to_hear}
 use Rattle.dac_node.specs.declared.change.After.TheVariants.{Off, GoesOn}
 use Rattle.dac_node.specs.Knowing.{NextValue, hearing, knowledge_of}
 use Rattle.dac_node.specs.After.{run_after, after_by, gone_on, next_by, FitsIn}
@@ -53,12 +53,12 @@ run_after_by r noted deed = by deed.goes_off
     by false = refl
 
 pub boots_prepared : (t : Table) (me : NodeId) (last : ℕ) (e : Event) (change : ChangeValue) → refusal_by t last None e ≡ None → BootsBy t me last (moment_of e) change → Prepared t me (record { last = last; run = None }) e change
-boots_prepared t me last e change none b = record { accepted = none; newest = tt; noted = []; noting = tt; left = λ i. record { last = b.last i; run = run_after (b.after i) None }; reply = b.reply }
+boots_prepared t me last e change none b = record { accepted = none; newest = tt; state = tt; noted = []; noting = tt; left = λ i. record { last = b.last i; run = run_after (b.after i) None }; reply = b.reply }
 
-pub effect_prepared : (t : Table) (me : NodeId) (last : ℕ) (r : RunValue) (e : Event) (change : ChangeValue) → refusal_by t last (Some r) e ≡ None → AreNewest r.kept → Effect t last r e change → Prepared t me (record { last = last; run = Some r }) e change
-effect_prepared t me last r e change none newest f =
+pub effect_prepared : (t : Table) (me : NodeId) (last : ℕ) (r : RunValue) (e : Event) (change : ChangeValue) → refusal_by t last (Some r) e ≡ None → AreNewest r.kept → IsState r.state → Effect t last r e change → Prepared t me (record { last = last; run = Some r }) e change
+effect_prepared t me last r e change none newest is f =
     let run = ap (λ after. run_after after (Some r)) f.after ∙ run_after_by r f.noted (deed_of t r f.noted e) in
-    record { accepted = none; newest = newest; noted = f.noted; noting = f.noting; left = λ i. record { last = f.last i; run = run i }; reply = f.reply }
+    record { accepted = none; newest = newest; state = is; noted = f.noted; noting = f.noting; left = λ i. record { last = f.last i; run = run i }; reply = f.reply }
 
 -- numbers are left for what comes
 pub effect_fits : (t : Table) (last : ℕ) (r : RunValue) (e : Event) (change : ChangeValue) → refusal_by t last (Some r) e ≡ None → r.kept.count ≤ MAX_COUNTER → Effect t last r e change → Fits (record { last = last; run = Some r }) change
@@ -69,9 +69,5 @@ effect_fits t last r e change none countable f = subst (FitsIn (Some r)) (sym f.
     by false = fits t r f.noted countable e none
 
 -- so they are for an operation that comes by itself
-pub hear_op_fits : (r : RunValue) (body : StateValue) → refusal_to_hear_op r ≡ None → FitsIn (Some r) (GoesOn (hearing (knowledge_of r) body r.peers))
-hear_op_fits r body none = by (is_below body r.state) (ltb-false MAX_COUNTER (r.kept.count + 1) (none_is ((too_many_deltas r 1, DotsUsedUp) ∷ []) none).0)
-  where
-    by : (b : Bool) → r.kept.count + 1 ≤ MAX_COUNTER → r.kept.count + length (cond b [] (body ∷ [])) ≤ MAX_COUNTER
-    by true room = omega arith
-    by false room = room
+pub hear_op_fits : (r : RunValue) (o : Operation) → refusal_to_hear_op r o ≡ None → r.kept.count ≤ MAX_COUNTER → FitsIn (Some r) (GoesOn (hearing (knowledge_of r) (meaning_of (o ∷ [])) r.peers))
+hear_op_fits r o none countable = room_to_hear r (meaning_of (o ∷ [])) countable (none_is ((overflows r (meaning_of (o ∷ [])), DotsUsedUp) ∷ []) none).0

@@ -1,3 +1,4 @@
 pub mod Knows
 pub mod Effects
 pub mod Gates
+pub mod Tests

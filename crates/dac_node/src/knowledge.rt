@@ -215,6 +215,13 @@ pub(crate) fn is_below(state: &State, other: &State) -> bool
     state.leq(other)
 }
 
+/// Whether what an operation means alone is below a state.
+pub(crate) fn covers(state: &State, operation: &Op) -> bool
+    ensures { result ≡ is_below (meaning_of (operation.now ∷ [])) state.now }
+{
+    state.covers(operation)
+}
+
 /// The operation of a boot.
 fn up_of(origin: Origin) -> Op
     ensures { result ≡ up origin }

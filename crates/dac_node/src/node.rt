@@ -56,6 +56,7 @@ impl Node {
     ghost use Rattle.dac_rules.specs.Step.{Steps, IsShown};
     ghost use Rattle.dac_rules.specs.Writing.{Writes};
     ghost use Rattle.dac_rules.specs.Keeping.{Keeps};
+    ghost use Rattle.dac_rules.specs.Effect.{HasEffect};
     ghost use Rattle.dac_rules.specs.Shipping.{ShipsSo};
     ghost use Rattle.dac_node.specs.Changes.{changed, Fits, Prepared};
     ghost use Rattle.dac_rules.specs.Hearing.{HearsExactly};
@@ -136,6 +137,9 @@ impl Node {
         // up. Its gate stays open once it is, and each tick that looks after the applications adds its note. Its state, its
         // deltas and what it keeps of its peers grow by what the event brings, and by no more.
         ensures keeps { IfOk result (λ reply. Keeps config.now self_id self.old event reply self.new) }
+        // A command takes effect in the state that is left. What a tick claims is kept at the own node to the end of the tick,
+        // and runs there. A claim's term is above that of each claim of its application that the node had heard.
+        ensures effect { IfOk result (λ reply. HasEffect config.now self.old event reply self.new) }
         // What it has heard grows by the dots that the event brings, and by no more.
         ensures heard { IfOk result (λ reply. HearsExactly self.old event reply self.new) }
         // Where some model node shows as it, one shows as what it becomes.
@@ -210,7 +214,7 @@ impl Node {
         let Some(run) = &self.run else {
             return Err(Refusal::Off);
         };
-        if let Some(why) = run.refusal_to_hear_op() {
+        if let Some(why) = run.refusal_to_hear_op(operation) {
             return Err(why);
         }
         run.known();

@@ -2,15 +2,16 @@
 
 ghost use Rattle.std.specs.Prelude.{◌≡◌, ◌+◌, ◌≤◌, ◌∷◌, [], ◌^◌, length, IfOk, OnOk, OnErr};
 ghost use Rattle.dac_base.specs.declared.limits.TheConstants.{MAX_COUNTER as LAST_NUMBER};
+ghost use Rattle.dac_meaning.specs.StateValue.{IsState};
 ghost use Rattle.dac_meaning.specs.Below.{is_below};
 ghost use Rattle.dac_meaning.specs.Meaning.{meaning_of};
 ghost use Rattle.dac_messages.specs.Bodies.{content_of};
 ghost use Rattle.dac_rules.specs.dac_commands.Commands.{next_operation, act_of as said_by};
-ghost use Rattle.dac_rules.specs.dac_commands.Causes.{refusal_of_command as refused_command};
+ghost use Rattle.dac_rules.specs.dac_commands.Causes.{first, refusal_of_command as refused_command};
 ghost use Rattle.dac_rules.specs.EventRefusals.{refusal_to_tick as refused_tick, refusal_to_ship as refused_ship, refusal_to_hear as refused_hear, refusal_to_obey as refused_command_here, refusal_to_hear_op as refused_hear_op, refusal_on, is_for, needed, overflows, too_few_left, too_many_deltas};
 ghost use Rattle.dac_rules.specs.Step.{up};
 
-use crate::knowledge::{Knowledge, is_below};
+use crate::knowledge::{Knowledge, covers, is_below};
 use crate::next::Next;
 use dac_base::{MAX_COUNTER, NoMemory, NodeId};
 use dac_config::Config;
@@ -18,7 +19,7 @@ use dac_decide::is_up;
 use dac_deltas::Buffer;
 use dac_dots::Origin;
 use dac_events::Command;
-use dac_lattice::Bottom;
+use dac_lattice::{Bottom, Lattice};
 use dac_messages::{Event, Message};
 use dac_rules::dac_commands::{Refusal, operation_of, refusal_of};
 use dac_state::{Op, State};
@@ -57,13 +58,15 @@ impl Running {
     ghost use Rattle.dac_node.specs.Knowing.{adding, knowledge_of};
     ghost use Rattle.dac_node.specs.After.{gone_on};
 
-    /// The deltas that are kept are the newest, and their count is at most 2^62. This only tells proofs so, and does
-    /// nothing when it runs.
+    /// The deltas that are kept are the newest, and their count is at most 2^62. The state is one. This only tells proofs
+    /// so, and does nothing when it runs.
     pub(crate) fn known(&self)
         ensures newest { AreNewest self.now.kept }
         ensures countable { self.now.kept.count ≤ LAST_NUMBER }
+        ensures state { IsState self.now.state }
     {
         self.buffer.known();
+        Lattice::known(&self.knowledge.state);
     }
 
     /// The present incarnation.
@@ -146,7 +149,7 @@ impl Running {
             Event::Tick { now } => self.refusal_to_tick(config, *now),
             Event::Ship { to } => self.refusal_to_ship(config, *to),
             Event::Hear(message) => self.refusal_to_hear(message),
-            Event::HearOp(_) => self.refusal_to_hear_op(),
+            Event::HearOp(operation) => self.refusal_to_hear_op(operation),
         }
     }
 
@@ -162,7 +165,7 @@ impl Running {
         );
         match why {
             Some(why) => Some(why),
-            None => self.refusal_to_hear_op(),
+            None => self.refusal_to_push(),
         }
     }
 
@@ -229,8 +232,20 @@ impl Running {
     }
 
     /// Why an operation that comes by itself isn't heard, if it isn't.
-    pub(crate) fn refusal_to_hear_op(&self) -> Option<Refusal>
-        ensures { result ≡ refused_hear_op self.now }
+    pub(crate) fn refusal_to_hear_op(&self, operation: &Op) -> Option<Refusal>
+        ensures { result ≡ refused_hear_op self.now operation.now }
+    {
+        // In this order the state is hardly ever asked.
+        if self.lacks_numbers(1) && !covers(&self.knowledge.state, operation) {
+            Some(Refusal::DotsUsedUp)
+        } else {
+            None
+        }
+    }
+
+    /// Why no delta more is added, if there is no number for it.
+    fn refusal_to_push(&self) -> Option<Refusal>
+        ensures { result ≡ first ((too_many_deltas self.now 1, Refusal.DotsUsedUp) ∷ []) }
     {
         if self.lacks_numbers(1) {
             Some(Refusal::DotsUsedUp)

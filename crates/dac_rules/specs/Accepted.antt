@@ -3,7 +3,7 @@ use Rattle.std.specs.Prelude.{◌≡◌, ℕ, ◌+◌, ◌≤◌, true, false, c
 use Rattle.dac_base.specs.declared.NodeId.{NodeId}
 use Rattle.dac_dots.specs.declared.dot.Origin.{Origin}
 use Rattle.dac_config.specs.Table.{Table}
-use Rattle.dac_meaning.specs.StateValue.{StateValue, bottom, join}
+use Rattle.dac_meaning.specs.StateValue.{StateValue, IsState, bottom, join}
 use Rattle.dac_meaning.specs.Meaning.{meaning_of}
 use Rattle.dac_deltas.specs.Kept.{Kept, empty, pushed, trimmed}
 use Rattle.dac_peers.specs.Peers.{no_peers}
@@ -70,6 +70,7 @@ pub record AreNewest (k : Kept StateValue) : Type 0 where
 pub record AcceptedAs (t : Table) (me : NodeId) (old : NodeValue) (e : Event) (new : NodeValue) (answer : Reply) : Type 0 where
   pub accepted : refusal_of t old e ≡ None
   pub newest : IfSome old.run (λ (r : RunValue). AreNewest r.kept)
+  pub state : IfSome old.run (λ (r : RunValue). IsState r.state)
   pub noted : List (Option Noted)
   pub noting : IsNotingBy t old.run noted e
   pub left : new ≡ left_by t me old.last old.run noted e

@@ -6,6 +6,8 @@ use Rattle.dac_base.specs.declared.NodeId.{NodeId}
 use Rattle.dac_dots.specs.declared.dot.Origin.{Origin}
 use Rattle.dac_meaning.specs.StateValue.{StateValue}
 use Rattle.dac_config.specs.Table.{Table, app_count}
+use Rattle.dac_operations.specs.Operations.{Operation}
+use Rattle.dac_meaning.specs.Meaning.{meaning_of}
 use Rattle.dac_meaning.specs.Below.{is_below}
 use Rattle.dac_peers.specs.Peers.{is_up_to_date}
 use Rattle.dac_events.specs.declared.Command.{Command}
@@ -59,10 +61,9 @@ causes_to_hear r m = (nat_eq m.from.node.0 r.origin.node.0, OnSelf) ∷ (not (is
 abbrev pub refusal_to_hear : RunValue → Message → Option Refusal
 refusal_to_hear r m = first (causes_to_hear r m)
 
--- Why a running node doesn't hear an operation that comes by itself, if it doesn't. It is taken to need a number
--- whatever it adds: whether it adds anything can't be told where memory is refused.
-abbrev pub refusal_to_hear_op : RunValue → Option Refusal
-refusal_to_hear_op r = first ((too_many_deltas r 1, DotsUsedUp) ∷ [])
+-- why a running node doesn't hear an operation that comes by itself, if it doesn't
+abbrev pub refusal_to_hear_op : RunValue → Operation → Option Refusal
+refusal_to_hear_op r o = first ((overflows r (meaning_of (o ∷ [])), DotsUsedUp) ∷ [])
 
 -- the first of two causes that there is
 abbrev pub otherwise : Option Refusal → Option Refusal → Option Refusal
@@ -81,7 +82,7 @@ refusal_on t r (Told c) = refusal_to_obey t r c
 refusal_on t r (Tick now) = refusal_to_tick t r now
 refusal_on t r (Ship to) = refusal_to_ship t r to
 refusal_on t r (Hear m) = refusal_to_hear r m
-refusal_on t r (HearOp o) = refusal_to_hear_op r
+refusal_on t r (HearOp o) = refusal_to_hear_op r o
 
 -- why a node that is off refuses an event, if it does
 abbrev pub refusal_off : ℕ → Event → Option Refusal

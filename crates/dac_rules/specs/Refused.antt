@@ -1,11 +1,9 @@
 -- Why an event is refused, in words. They say which causes an event can have, when each holds, and that the least of
 -- those that hold is answered. (The causes and their order are this project's own.)
 use Rattle.std.specs.Prelude.{◌≡◌, ◌⊎◌, ℕ, ◌+◌, ◌<◌, ◌≤◌, true, false, List, [], ◌∷◌, length, Option, None, Some, IfSome}
-use Rattle.std.specs.Option.{option_map}
 use Rattle.std.specs.FinSet as set
 use Rattle.dac_base.specs.declared.limits.TheConstants.{MAX_INCARNATION, MAX_COUNTER, MAX_REPLACED}
 use Rattle.dac_base.specs.declared.NodeId.{NodeId}
-use Rattle.dac_base.specs.declared.AppId.{AppId}
 use Rattle.dac_dots.specs.declared.dot.Origin.{Origin}
 use Rattle.dac_dots.specs.declared.dot.Dot.{Dot}
 use Rattle.dac_dots.specs.Dots.{Dots, dot, IsUsedUp}
@@ -13,6 +11,7 @@ use Rattle.dac_config.specs.Table.{Table, node_count, app_count, group_of}
 use Rattle.dac_chains.specs.Lives.{IsLive}
 use Rattle.dac_wishes.specs.WishesValue.{SomeStands}
 use Rattle.dac_meaning.specs.StateValue.{StateValue, wishes_of, IsBelow}
+use Rattle.dac_meaning.specs.Meaning.{meaning_of}
 use Rattle.dac_peers.specs.declared.places.Place.{Place}
 use Rattle.dac_messages.specs.Bodies.{content_of}
 use Rattle.dac_decide.specs.Placement.{IsEligible, RunsAt, IsEarlier}
@@ -27,7 +26,7 @@ use Rattle.dac_commands.specs.Refusals.{number_of}
 use Rattle.dac_commands.specs.Commands.{live_key, live_origin, standing_starts, standing_permits, standing_drains}
 use Rattle.dac_commands.specs.Written.{HasLastTerm}
 use Rattle.dac_rules.specs.NodeValue.{NodeValue, RunValue}
-use Rattle.dac_rules.specs.EventRefusals.{needed, refusal_of}
+use Rattle.dac_rules.specs.EventRefusals.{refusal_of}
 use Rattle.dac_rules.specs.Shipping.{IsPlace}
 
 -- ---- which causes an event can have, beside running out of memory
@@ -51,57 +50,14 @@ causes_of_event (HearOp o) = Off ∷ DotsUsedUp ∷ []
 
 -- ---- what an event is about
 
--- the application that a command is about
-abbrev pub app_in : Event → Option AppId
-app_in (Told (Permit app node value)) = Some app
-app_in (Told (Start app node)) = Some app
-app_in (Told (Stop app node)) = Some app
-app_in (Told (Takeover app)) = Some app
-app_in _ = None
-
--- the node that a command is about, or to which is shipped
-abbrev pub node_in : Event → Option NodeId
-node_in (Told (Down node)) = Some node
-node_in (Told (Permit app node value)) = Some node
-node_in (Told (Start app node)) = Some node
-node_in (Told (Stop app node)) = Some node
-node_in (Told (Drain node value)) = Some node
-node_in (Ship to) = Some to
-node_in _ = None
-
--- the node whose place in the application's list is asked for: that of the command, or for a takeover the own one
-abbrev pub listed_in : NodeValue → Event → Option NodeId
-listed_in v (Told (Takeover app)) = option_map (λ (r : RunValue). r.origin.node) v.run
-listed_in v e = node_in e
-
 -- the moment of a tick
 abbrev pub tick_in : Event → Option ℕ
 tick_in (Tick now) = Some now
 tick_in _ = None
 
--- the node that has to be another one: who is declared down, to whom is shipped, who is heard
-abbrev pub other_in : Event → Option NodeId
-other_in (Told (Down node)) = Some node
-other_in (Ship to) = Some to
-other_in (Hear m) = Some m.from.node
-other_in _ = None
-
--- the message that comes
-abbrev pub message_in : Event → Option Message
-message_in (Hear m) = Some m
-message_in _ = None
-
 -- the message is for this incarnation: for its node, and for no other incarnation alone
 abbrev pub IsFor : Origin → Message → Type 0
 IsFor own m = (m.to ≡ own.node) × IfSome m.only (λ inc. inc ≡ own.inc)
-
--- the dots that a command replaces: those that stand at its key
-abbrev pub replaced_in : StateValue → Event → List Dot
-replaced_in s (Told (Permit app node value)) = standing_permits s (live_key s app node)
-replaced_in s (Told (Start app node)) = standing_starts s (live_key s app node)
-replaced_in s (Told (Stop app node)) = standing_starts s (live_key s app node)
-replaced_in s (Told (Drain node value)) = standing_drains s (live_origin s node)
-replaced_in s _ = []
 
 -- ---- when a cause holds
 
@@ -122,43 +78,85 @@ LeavesFewer dots own count = (n : ℕ) × (((n ≡ 0) ⊎ (set.contains dots (do
 abbrev pub LacksNumbers : RunValue → ℕ → Type 0
 LacksNumbers r more = MAX_COUNTER < r.kept.count + more
 
+-- fewer counters than so many are left, or fewer numbers of deltas
+abbrev pub LacksFor : RunValue → ℕ → Type 0
+LacksFor r count = LeavesFewer r.state.known r.origin count ⊎ LacksNumbers r count
+
 -- The counters or the numbers of deltas that are left are too few. A tick is taken to need one for each application
--- and one at least, whatever it does. A command needs one. An operation that comes by itself is taken to need a
--- number. What a message brings needs one where it is added.
+-- and one at least, whatever it does. A command needs one. What a message brings, and an operation that comes by itself,
+-- needs a number where it is new.
 abbrev pub Lacks : Table → RunValue → Event → Type 0
 Lacks t r (Told c) = IsUsedUp r.state.known r.origin ⊎ LacksNumbers r 1
-Lacks t r (Tick now) = LeavesFewer r.state.known r.origin (needed t) ⊎ LacksNumbers r (needed t)
+Lacks t r (Tick now) = LacksFor r 1 ⊎ LacksFor r (app_count t)
 Lacks t r (Hear m) = (¬ IsBelow (content_of m.body) r.state) × LacksNumbers r 1
-Lacks t r (HearOp o) = LacksNumbers r 1
+Lacks t r (HearOp o) = (¬ IsBelow (meaning_of (o ∷ [])) r.state) × LacksNumbers r 1
 Lacks t r _ = ⊥
 
 -- the node has acknowledged all deltas, and is owed no answer
 abbrev pub IsUpToDate : RunValue → NodeId → Type 0
 IsUpToDate r to = (p : Place) × (IsPlace r to p × ((r.kept.count ≤ p.number) × (set.contains r.peers.owed to ≡ false)))
 
+-- no incarnation of the node is live
+abbrev pub IsNotLive : StateValue → NodeId → Type 0
+IsNotLive s node = (inc : ℕ) → ¬ IsLive s.lives node inc
+
+-- what the command is to replace is too much
+abbrev pub AreTooMany : List Dot → Type 0
+AreTooMany over = MAX_REPLACED < length over
+
+-- the cause holds of the command where this incarnation runs with this state
+abbrev pub HoldsOfCommand : Table → Origin → StateValue → Command → Refusal → Type 0
+HoldsOfCommand t own s (Down node) UnknownNode = node_count t ≤ node.0
+HoldsOfCommand t own s (Down node) OnSelf = node ≡ own.node
+HoldsOfCommand t own s (Down node) NotLive = IsNotLive s node
+HoldsOfCommand t own s (Permit app node value) UnknownApp = app_count t ≤ app.0
+HoldsOfCommand t own s (Permit app node value) UnknownNode = node_count t ≤ node.0
+HoldsOfCommand t own s (Permit app node value) NotInList = group_of t app node ≡ None
+HoldsOfCommand t own s (Permit app node value) NotLive = IsNotLive s node
+HoldsOfCommand t own s (Permit app node value) TooManyDots = AreTooMany (standing_permits s (live_key s app node))
+HoldsOfCommand t own s (Start app node) UnknownApp = app_count t ≤ app.0
+HoldsOfCommand t own s (Start app node) UnknownNode = node_count t ≤ node.0
+HoldsOfCommand t own s (Start app node) NotInList = group_of t app node ≡ None
+HoldsOfCommand t own s (Start app node) NotLive = IsNotLive s node
+HoldsOfCommand t own s (Start app node) TooManyDots = AreTooMany (standing_starts s (live_key s app node))
+HoldsOfCommand t own s (Stop app node) UnknownApp = app_count t ≤ app.0
+HoldsOfCommand t own s (Stop app node) UnknownNode = node_count t ≤ node.0
+HoldsOfCommand t own s (Stop app node) NotInList = group_of t app node ≡ None
+HoldsOfCommand t own s (Stop app node) NotLive = IsNotLive s node
+HoldsOfCommand t own s (Stop app node) NotStarted = ¬ SomeStands (live_key s app node) (wishes_of s)
+HoldsOfCommand t own s (Stop app node) TooManyDots = AreTooMany (standing_starts s (live_key s app node))
+HoldsOfCommand t own s (Drain node value) UnknownNode = node_count t ≤ node.0
+HoldsOfCommand t own s (Drain node value) NotLive = IsNotLive s node
+HoldsOfCommand t own s (Drain node value) TooManyDots = AreTooMany (standing_drains s (live_origin s node))
+HoldsOfCommand t own s (Takeover app) UnknownApp = app_count t ≤ app.0
+HoldsOfCommand t own s (Takeover app) NotInList = group_of t app own.node ≡ None
+HoldsOfCommand t own s (Takeover app) NotEligible = ¬ IsEligible t s app own.node
+HoldsOfCommand t own s (Takeover app) NotRunning = (node : NodeId) → ¬ RunsAt t s app node
+HoldsOfCommand t own s (Takeover app) AlreadyHolder = RunsAt t s app own.node
+HoldsOfCommand t own s (Takeover app) LowerPriority = (runner : NodeId) × (RunsAt t s app runner × IsEarlier t app runner own.node)
+HoldsOfCommand t own s (Takeover app) TermsUsedUp = HasLastTerm s app
+HoldsOfCommand t own s c why = ⊥
+
+-- the cause holds of the event at a node that runs
+abbrev pub HoldsRunning : Table → RunValue → Event → Refusal → Type 0
+HoldsRunning t r (Told c) why = HoldsOfCommand t r.origin r.state c why
+HoldsRunning t r (Tick now) MomentBack = now < r.moments.last
+HoldsRunning t r (Ship to) UnknownNode = node_count t ≤ to.0
+HoldsRunning t r (Ship to) OnSelf = to ≡ r.origin.node
+HoldsRunning t r (Ship to) UpToDate = IsUpToDate r to
+HoldsRunning t r (Hear m) OnSelf = m.from.node ≡ r.origin.node
+HoldsRunning t r (Hear m) NotForMe = ¬ IsFor r.origin m
+HoldsRunning t r e why = ⊥
+
 -- the cause holds of the event at the node
 abbrev pub Holds : Table → NodeValue → Event → Refusal → Type 0
 Holds t v e Off = v.run ≡ None
 Holds t v e AlreadyOn = Running v (λ own s. Unit {0})
 Holds t v e DeclaredDown = Running v (λ own s. ¬ IsLive s.lives own.node own.inc)
-Holds t v e UnknownApp = Some! (app_in e) (λ app. app_count t ≤ app.0)
-Holds t v e UnknownNode = Some! (node_in e) (λ node. node_count t ≤ node.0)
-Holds t v e OnSelf = Running v (λ own s. Some! (other_in e) (λ node. node ≡ own.node))
-Holds t v e NotInList = Some! (app_in e) (λ app. Some! (listed_in v e) (λ node. group_of t app node ≡ None))
-Holds t v e MomentBack = Some! v.run (λ (r : RunValue). Some! (tick_in e) (λ now. now < r.moments.last))
-Holds t v e NotLive = Running v (λ own s. Some! (node_in e) (λ node. (inc : ℕ) → ¬ IsLive s.lives node inc))
-Holds t v e NotStarted = Running v (λ own s. Some! (app_in e) (λ app. Some! (node_in e) (λ node. ¬ SomeStands (live_key s app node) (wishes_of s))))
-Holds t v e NotEligible = Running v (λ own s. Some! (app_in e) (λ app. ¬ IsEligible t s app own.node))
-Holds t v e NotRunning = Running v (λ own s. Some! (app_in e) (λ app. (node : NodeId) → ¬ RunsAt t s app node))
-Holds t v e AlreadyHolder = Running v (λ own s. Some! (app_in e) (λ app. RunsAt t s app own.node))
-Holds t v e LowerPriority = Running v (λ own s. Some! (app_in e) (λ app. (runner : NodeId) × (RunsAt t s app runner × IsEarlier t app runner own.node)))
-Holds t v e NotForMe = Running v (λ own s. Some! (message_in e) (λ m. ¬ IsFor own m))
-Holds t v e UpToDate = Some! v.run (λ (r : RunValue). Some! (node_in e) (λ to. IsUpToDate r to))
-Holds t v e TooManyDots = Running v (λ own s. MAX_REPLACED < length (replaced_in s e))
-Holds t v e TermsUsedUp = Running v (λ own s. Some! (app_in e) (λ app. HasLastTerm s app))
 Holds t v e DotsUsedUp = Some! v.run (λ (r : RunValue). Lacks t r e)
 Holds t v e IncarnationsUsedUp = MAX_INCARNATION ≤ v.last
 Holds t v e NoMemory = ⊥
+Holds t v e why = Some! v.run (λ (r : RunValue). HoldsRunning t r e why)
 
 -- ---- what is answered
 

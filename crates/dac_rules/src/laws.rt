@@ -2,6 +2,7 @@
 ghost use Rattle.dac_rules.specs.Refused.{AnswersTheLeast, RefusesNoOther, NeverWantsMemory};
 ghost use Rattle.dac_rules.specs.Again.{SecondTickClaimsNothing};
 ghost use Rattle.dac_rules.specs.Shipping.{ShipsInWords};
+ghost use Rattle.dac_rules.specs.Effect.{EventsTakeEffect};
 
 /// The table of causes answers, of the causes that the event can have and that hold in words, the one with the least
 /// number. It lets an event through only where none of them holds, and it never answers `NoMemory`.
@@ -22,4 +23,10 @@ pub fn second_tick_claims_nothing()
 /// alone.
 pub fn ships_in_words()
     ensures { ShipsInWords }
+{}
+
+/// An event that is accepted takes effect: a command in the state that its operation leaves, and the claims of a tick in the
+/// state that all of them leave.
+pub fn events_take_effect()
+    ensures { EventsTakeEffect }
 {}

@@ -11,13 +11,14 @@ use Rattle.dac_messages.specs.declared.message.Message.{Message}
 use Rattle.dac_messages.specs.declared.event.Event.{Event}
 use Rattle.dac_messages.specs.declared.event.Event.TheVariants.{Boot, Crash, Command as Told, Tick, Ship, Hear, HearOp}
 use Rattle.dac_messages.specs.declared.reply.Reply.{Reply}
-use Rattle.dac_messages.specs.declared.reply.Reply.TheVariants.{Booted, Crashed, Issued, Ticked, Shipped}
+use Rattle.dac_messages.specs.declared.reply.Reply.TheVariants.{Crashed, Shipped}
 use Rattle.dac_commands.specs.declared.refusal.Refusal.{Refusal}
 use Rattle.dac_commands.specs.declared.refusal.Refusal.TheVariants.{NoMemory}
 use Rattle.dac_worlds.specs.declared.fault.WorldFault.{WorldFault}
 use Rattle.dac_worlds.specs.declared.fault.WorldFault.TheVariants.{NoSuchNode, NoSuchMessage, NoSuchOperation, Refused}
 use Rattle.dac_rules.specs.ModelNode.{ModelNode, shown}
 use Rattle.dac_rules.specs.Step.{model_step}
+pub use Rattle.dac_rules.specs.Effect.{issued_by}
 use Rattle.dac_worlds.specs.Histories.{off_after}
 use Rattle.dac_worlds.specs.WorldValue.{WorldValue}
 
@@ -68,13 +69,6 @@ event_of os ms (Ticks now) = Ok (Tick now)
 event_of os ms (Ships to) = Ok (Ship to)
 event_of os ms (Deliver k) = heard_by (counted ms k)
 event_of os ms (Hand k) = handed_by (counted os k)
-
--- the operations that a reply issues
-abbrev pub issued_by : Reply → List Operation
-issued_by (Booted o) = o ∷ []
-issued_by (Issued o) = o ∷ []
-issued_by (Ticked ops passed) = ops
-issued_by _ = []
 
 -- the messages that a reply ships
 abbrev pub shipped_by : Reply → List Message

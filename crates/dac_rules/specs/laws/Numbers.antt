@@ -74,13 +74,6 @@ module _ (t : Table) (r : RunValue) (noted : List (Option Noted)) (countable : r
   not_heard : (m : Message) → refusal_to_hear r m ≡ None → overflows r (content_of m.body) ≡ false
   not_heard m none = (none_is (causes_to_hear r m) none).1.1.0
 
-  room_to_hear_op : (body : StateValue) → too_many_deltas r 1 ≡ false → r.kept.count + length (brings r.state body) ≤ MAX_COUNTER
-  room_to_hear_op body h = by (is_below body r.state) (room_if r 1 h)
-    where
-      by : (b : Bool) → r.kept.count + 1 ≤ MAX_COUNTER → r.kept.count + length (cond b [] (body ∷ [])) ≤ MAX_COUNTER
-      by true room = omega arith
-      by false room = room
-
   -- what an accepted event adds has numbers left for it
   pub fits : (e : Event) → refusal_on t r e ≡ None → r.kept.count + length (deed_of t r noted e).adds ≤ MAX_COUNTER
   fits (Boot now) none = nothing_more
@@ -89,4 +82,4 @@ module _ (t : Table) (r : RunValue) (noted : List (Option Noted)) (countable : r
   fits (Tick now) none = room_to_tick (opening_at t r now) now (leaves_numbers t r now none)
   fits (Ship to) none = nothing_more
   fits (Hear m) none = room_to_hear r (content_of m.body) countable (not_heard m none)
-  fits (HearOp o) none = room_to_hear_op (meaning_of (o ∷ [])) (none_is ((too_many_deltas r 1, DotsUsedUp) ∷ []) none).0
+  fits (HearOp o) none = room_to_hear r (meaning_of (o ∷ [])) countable (none_is ((overflows r (meaning_of (o ∷ [])), DotsUsedUp) ∷ []) none).0

@@ -14,6 +14,7 @@ use Rattle.dac_chains.specs.laws.Live.{live_is}
 use Rattle.dac_wishes.specs.WishesValue.{is_wished}
 use Rattle.dac_wishes.specs.laws.Wished.{is_wished-some}
 use Rattle.dac_meaning.specs.StateValue.{StateValue, wishes_of, IsBelow}
+use Rattle.dac_meaning.specs.Meaning.{meaning_of}
 use Rattle.dac_meaning.specs.Below.{is_below, is_below-is}
 use Rattle.dac_peers.specs.Peers.{is_up_to_date}
 use Rattle.dac_messages.specs.Bodies.{content_of}
@@ -34,7 +35,7 @@ use Rattle.dac_commands.specs.laws.Terms.{terms_used_up_is}
 use Rattle.dac_rules.specs.NodeValue.{NodeValue, RunValue}
 use Rattle.dac_rules.specs.EventRefusals.{needed, too_few_left, too_many_deltas, overflows, otherwise, is_for, refusal_by, refusal_of}
 use Rattle.dac_rules.specs.laws.Places.{up_to_date_is}
-use Rattle.dac_rules.specs.laws.Tests.{not_running_is, runs_earlier_is, too_few_is}
+use Rattle.dac_rules.specs.laws.Tests.{not_running_is, runs_earlier_is, too_few_is, lacks_for_tick}
 use Rattle.dac_rules.specs.Refused.{causes_of_event, Holds, LacksNumbers, IsFor, IsOneOf, NoneHolds, IsLeastOf, IsFree, IsRefused, IsAnsweredBy, NeverWantsMemory}
 
 -- ---- the first test that holds is that of the least cause
@@ -227,14 +228,15 @@ module _ (t : Table) (last : ℕ) (r : RunValue) where
   on_event (Told c) = on_command c
   on_event (Tick now) =
       let left = either (too_few_left t s own) (too_many_deltas r (needed t)) (too_few_is t s own) (less MAX_COUNTER (r.kept.count + needed t)) in
+      let lacks = lacks_for_tick r (app_count t) in
       first_is (Holds t here (Tick now)) 0 ((false, Off) ∷ (declared_down own s, DeclaredDown) ∷ (nat_lt now r.moments.last, MomentBack) ∷ (too_few_left t s own || too_many_deltas r (needed t), DotsUsedUp) ∷ []) (causes_of_event (Tick now)) refl
-      (refl, (is_on r, λ _. (refl, (declared_down_is own s, λ _. (refl, (less now r.moments.last, λ _. (refl, (left, λ _. tt))))))))
+      (refl, (is_on r, λ _. (refl, (declared_down_is own s, λ _. (refl, (less now r.moments.last, λ _. (refl, ((λ e. lacks.0 (left.0 e), λ h. left.1 (lacks.1 h)), λ _. tt))))))))
   on_event (Ship to) = first_is (Holds t here (Ship to)) 0 ((false, Off) ∷ (no_node t to, UnknownNode) ∷ (nat_eq to.0 own.node.0, OnSelf) ∷ (is_up_to_date r.peers s r.kept.base r.kept.count to, UpToDate) ∷ []) (causes_of_event (Ship to)) refl
       (refl, (is_on r, λ _. (refl, (at_least (node_count t) to.0, λ _. (refl, (same_node to own.node, λ _. (refl, (up_to_date_is r to, λ _. tt))))))))
   on_event (Hear m) = first_is (Holds t here (Hear m)) 0 ((false, Off) ∷ (nat_eq m.from.node.0 own.node.0, OnSelf) ∷ (not (is_for own m), NotForMe) ∷ (overflows r (content_of m.body), DotsUsedUp) ∷ []) (causes_of_event (Hear m)) refl
       (refl, (is_on r, λ _. (refl, (same_node m.from.node own.node, λ _. (refl, (fails (is_for own m) (is_for_is own m), λ _. (refl, (overflown (content_of m.body), λ _. tt))))))))
-  on_event (HearOp o) = first_is (Holds t here (HearOp o)) 0 ((false, Off) ∷ (too_many_deltas r 1, DotsUsedUp) ∷ []) (causes_of_event (HearOp o)) refl
-      (refl, (is_on r, λ _. (refl, (less MAX_COUNTER (r.kept.count + 1), λ _. tt))))
+  on_event (HearOp o) = first_is (Holds t here (HearOp o)) 0 ((false, Off) ∷ (overflows r (meaning_of (o ∷ [])), DotsUsedUp) ∷ []) (causes_of_event (HearOp o)) refl
+      (refl, (is_on r, λ _. (refl, (overflown (meaning_of (o ∷ [])), λ _. tt))))
 
 module _ (t : Table) (last : ℕ) where
   abbrev gone : NodeValue

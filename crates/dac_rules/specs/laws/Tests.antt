@@ -2,7 +2,7 @@
 use Rattle.std.specs.Prelude.{◌≡◌, ◌⊎◌, ◌↔◌, ℕ, ◌+◌, ◌-◌, ◌<◌, ◌≤◌, Bool, true, false, not, max, Option, None, Some, is_some, refl}
 use Rattle.std.specs.Option.{option_map_or}
 use Rattle.std.specs.FinSet as set
-use Rattle.std.proofs.Common.{sym, ap, subst, ◌∙◌, inl, inr, arith}
+use Rattle.std.proofs.Common.{sym, ap, subst, ◌∙◌, inl, inr, arith, zero, suc}
 use Rattle.std.proofs.lemmas.Bool.{false≢true, lt-ltb, ltb-true}
 use Rattle.dac_base.specs.declared.limits.TheConstants.{MAX_COUNTER}
 use Rattle.dac_base.specs.declared.NodeId.{NodeId}
@@ -18,7 +18,8 @@ use Rattle.dac_commands.specs.Commands.{greatest_counter}
 use Rattle.dac_commands.specs.Causes.{runs_earlier, used_up}
 use Rattle.dac_commands.specs.laws.Counters.{counter-greatest, used_up_is, next_of_is}
 use Rattle.dac_rules.specs.EventRefusals.{needed, too_few_left}
-use Rattle.dac_rules.specs.Refused.{LeavesFewer}
+use Rattle.dac_rules.specs.NodeValue.{RunValue}
+use Rattle.dac_rules.specs.Refused.{LeavesFewer, LacksFor}
 
 -- ---- where an application runs
 
@@ -94,3 +95,32 @@ module _ (t : Table) (s : StateValue) (own : Origin) where
     to_fewer (used_up s own) refl,
     λ h. lt-ltb MAX_COUNTER (greatest + needed t) (fewer MAX_COUNTER h.0 greatest (needed t) (at_most h.0 h.1.0) h.1.1),
   )
+
+-- ---- what a tick is taken to need
+
+-- one for each application and one at least is one, or one for each
+most_is : (a : ℕ) → (max 1 a ≡ 1) ⊎ (max 1 a ≡ a)
+most_is zero = inl refl
+most_is (suc n) = inr (omega arith)
+
+lack_more : (m n a b : ℕ) → a ≤ b → m < n + a → m < n + b
+lack_more m n a b le h = omega arith
+
+-- where so many are lacking, more are
+lacks_more : (r : RunValue) (a b : ℕ) → a ≤ b → LacksFor r a → LacksFor r b
+lacks_more r a b le h = elim h [
+  | inl few ↦ inl (few.0, (few.1.0, lack_more MAX_COUNTER few.0 a b le few.1.1))
+  | inr none ↦ inr (lack_more MAX_COUNTER r.kept.count a b le none)
+]
+
+pub lacks_for_tick : (r : RunValue) (a : ℕ) → LacksFor r (max 1 a) ↔ (LacksFor r 1 ⊎ LacksFor r a)
+lacks_for_tick r a = (
+  λ h. elim (most_is a) [
+    | inl one ↦ inl (subst (LacksFor r) one h)
+    | inr each ↦ inr (subst (LacksFor r) each h)
+  ],
+  λ h. elim h [
+    | inl one ↦ lacks_more r 1 (max 1 a) (omega arith) one
+    | inr each ↦ lacks_more r a (max 1 a) (omega arith) each
+  ],
+)

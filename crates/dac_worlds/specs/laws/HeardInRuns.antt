@@ -163,7 +163,7 @@ module _ (t : Table) (w : ModelWorld) (s : SetWorld) (h : Sound w s) (deltas : N
   heard_by_node (Hand k) runs fits =
       let run = run_there runs in
       subst (λ o. Outcome (deltas n) (happens_by t w n (handed_by o)).answer) (sym (ap (λ os. counted os k) (sym h.issued) ∙ fits.1))
-      (heard_or_full (HearOp fits.0) run.0 (not (is_below (meaning_of (fits.0 ∷ [])) (joined run.0.log))) (too_many_deltas (run_shown t run.0) 1) run.1 (λ e. e) (ap (λ r. refusal_by t (w.node n).last (option_map (run_shown t) r) (HearOp fits.0)) run.1) refl)
+      (heard_or_full (HearOp fits.0) run.0 (not (is_below (meaning_of (fits.0 ∷ [])) (joined run.0.log))) (overflows (run_shown t run.0) (meaning_of (fits.0 ∷ []))) run.1 (right (not (is_below (meaning_of (fits.0 ∷ [])) (joined run.0.log))) (too_many_deltas (run_shown t run.0) 1)) (ap (λ r. refusal_by t (w.node n).last (option_map (run_shown t) r) (HearOp fits.0)) run.1) refl)
   heard_by_node _ runs fits = absurd fits
 
 -- ---- one event of the world, and every run

@@ -1,12 +1,6 @@
-use Rattle.std.proofs.Common.{◌≡◌, Bool, true, false, refl, sym}
 use Rattle.dac_meaning.specs.Below.{is_below, is_below-is}
+use Rattle.dac_node.proofs.Tests.{same}
 use Rattle.dac_node.proofs.knowledge.is_below.Goals as goal
-
--- two tests of which each holds where the other does
-same : (a b : Bool) → (a ≡ true → b ≡ true) → (b ≡ true → a ≡ true) → a ≡ b
-same true b to from = sym (to refl)
-same false true to from = from refl
-same false false to from = refl
 
 pub returns : goal.returns
 returns c =

@@ -11,7 +11,7 @@ returns-clause-ok c = λ me.
     let change = c.in_ok-hear.field-0 in
     let last = c.self.inside.last in
     subst (λ (v : NodeValue). Prepared c.args.config.now me v e change) c.self.view_is
-    (subst (λ run. Prepared c.args.config.now me (record { last = last; run = run }) e change) (sym c.in-Some.is) (effect_prepared c.args.config.now me last c.in-Some.run' e change (sym c.in_default-refusal_to_hear.ensures) c.known.ensures.newest (c.in_ok-hear.ensures)))
+    (subst (λ run. Prepared c.args.config.now me (record { last = last; run = run }) e change) (sym c.in-Some.is) (effect_prepared c.args.config.now me last c.in-Some.run' e change (sym c.in_default-refusal_to_hear.ensures) c.known.ensures.newest c.known.ensures.state (c.in_ok-hear.ensures)))
 
 pub returns-clause-fits : goal.returns-clause-fits
 returns-clause-fits c =

@@ -8,10 +8,12 @@ use Rattle.dac_rules.specs.Step.{Steps, IsShown}
 use Rattle.dac_rules.specs.Hearing.{HearsExactly}
 use Rattle.dac_rules.specs.Writing.{Writes}
 use Rattle.dac_rules.specs.Keeping.{Keeps}
+use Rattle.dac_rules.specs.Effect.{HasEffect}
 use Rattle.dac_rules.specs.Shipping.{ShipsSo}
 use Rattle.dac_rules.specs.laws.Steps.{steps, answered_steps, stays_shown}
 use Rattle.dac_rules.specs.laws.Writing.{writes}
 use Rattle.dac_rules.specs.laws.Keeping.{keeps}
+use Rattle.dac_rules.specs.laws.Effect.{events_take_effect}
 use Rattle.dac_rules.specs.laws.Heard.{hears_exactly}
 use Rattle.dac_rules.specs.laws.Shipping.{ships_so}
 use Rattle.dac_rules.specs.laws.Refused.{answered_is, free_is}
@@ -41,6 +43,14 @@ returns-clause-keeps c =
     let p = c.in_ok-change.ensures.ok in
     subst (λ (x : NodeValue × Reply). Keeps t me old c.args.event x.1 x.0) (λ i. (sym (c.in_ok-reply.ensures.new ∙ p.left) i, sym (c.in_ok-reply.ensures.reply ∙ p.reply) i))
     (keeps t me old.last old.run p.noted c.args.event p.accepted p.newest p.noting)
+
+pub returns-clause-effect : goal.returns-clause-effect
+returns-clause-effect c =
+    let t = c.args.config.now in
+    let old = c.args.self.now in
+    let change = c.in_ok-change.change in
+    subst (λ (x : NodeValue × Reply). HasEffect t old c.args.event x.1 x.0) (λ i. (sym c.in_ok-reply.ensures.new i, sym c.in_ok-reply.ensures.reply i))
+    (events_take_effect t c.args.self_id old c.args.event (changed old change) change.reply c.in_ok-change.ensures.ok)
 
 pub returns-clause-heard : goal.returns-clause-heard
 returns-clause-heard c =
