@@ -1,9 +1,10 @@
 -- Places that are filled one after another.
-use Rattle.std.proofs.Common.{◌≡◌, ℕ, ◌+◌, ◌-◌, ◌<◌, List, [], ◌∷◌, ◌++◌, length, map, set, replicate, suc, sym, ap, ap₂, ◌∙◌, arith, append_assoc}
+use Rattle.std.proofs.Common.{◌≡◌, ℕ, ◌+◌, ◌-◌, ◌<◌, List, [], ◌∷◌, ◌++◌, length, map, set, replicate, suc, get_or, sym, subst, ap, ap₂, ◌∙◌, arith, append_assoc}
 use Rattle.std.specs.List.{range_with_len}
 use Rattle.std.proofs.Math.Seq.{set-append_seam}
-use Rattle.std.proofs.lemmas.List.{length-map, map-append}
-use Rattle.std.proofs.lemmas.List.FromFn.{length-map-range_with_len, map-range_with_len_more}
+use Rattle.std.proofs.Math.ListN.{get_or-append}
+use Rattle.std.proofs.lemmas.List.{get_or-map, length-map, map-append}
+use Rattle.std.proofs.lemmas.List.FromFn.{get_or-map-range_with_len, length-map-range_with_len, map-range_with_len_more}
 use Rattle.dac_base.specs.declared.NodeId.{NodeId}
 use Rattle.dac_base.specs.declared.AppId.{AppId}
 use Rattle.dac_status.specs.Summaries.{placed}
@@ -42,3 +43,11 @@ module _ {X T : Type 0} (places : ℕ) (blank : T) (make : ℕ → X) (f : X →
       ∙ set-append_seam (first n) blank (replicate left blank) v
       ∙ sym (append_assoc (first n) (v ∷ []) (replicate left blank))
       ∙ ap₂ (λ l c. l ++ replicate c blank) (sym (first-more n)) (ap (λ c. places - c) (sym (length-first (n + 1))))
+
+  -- what stands at the place of one of them
+  pub placed_at : (count n : ℕ) → n < count → get_or (placed places blank (first count)) n blank ≡ f (make n)
+  unfolding placed
+  placed_at count n lt =
+      get_or-append (first count) (replicate (places - length (first count)) blank) blank n (subst (λ m. n < m) (sym (length-first count)) lt)
+      ∙ get_or-map f (map make (range_with_len 0 count)) n (make n) blank (subst (λ m. n < m) (sym (length-map-range_with_len make 0 count)) lt)
+      ∙ ap f (get_or-map-range_with_len make 0 count n n (make n) lt (omega arith))

@@ -1,5 +1,5 @@
 -- The page of a node: what is printed of a summary.
-use Rattle.std.specs.Prelude.{ℕ, false, nat_lt, ◌==◌, List, [], ◌++◌, Option, None, Some, codes, slice_index_or, if◌then◌else◌, Bool, true}
+use Rattle.std.specs.Prelude.{ℕ, false, nat_lt, ◌==◌, List, [], ◌++◌, Option, None, Some, codes, slice_index_or, map as list_map, if◌then◌else◌, Bool, true}
 use Rattle.std.specs.List.{flat_map, range_with_len}
 use Rattle.std.specs.Option.{option_map_or}
 use Rattle.std.specs.Fmt.{decimal}
@@ -22,7 +22,7 @@ use Rattle.dac_status.specs.declared.marks.Mark.{Mark}
 use Rattle.dac_status.specs.declared.marks.Mark.TheVariants as mark
 use Rattle.dac_status.specs.declared.summary.AppSummary.{AppSummary}
 use Rattle.dac_status.specs.declared.summary.Summary.{Summary}
-use Rattle.dac_status.specs.Summaries.{no_app}
+use Rattle.dac_status.specs.Summaries.{no_app, placed}
 
 -- ---- nodes
 
@@ -103,6 +103,10 @@ mark_in marks node = slice_index_or marks node.0 mark.Down
 -- a node with its mark
 abbrev pub marked_text : Table → Mark → NodeId → List ℕ
 marked_text table mark node = codes " " ++ (node_text table node ++ (codes "=" ++ mark_text mark))
+
+-- the groups of the nodes in an application's list, by the nodes' numbers
+abbrev pub groups_of : Table → AppId → List (Option ℕ)
+groups_of table app = placed MAX_NODES None (list_map (group_of table app) (nodes_of table))
 
 -- a node with its mark, where it is of this group of the application's list
 abbrev pub member_text : Table → AppId → List Mark → ℕ → NodeId → List ℕ

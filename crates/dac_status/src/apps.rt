@@ -1,9 +1,9 @@
 //! Applications, as they are printed.
 
-ghost use Rattle.std.specs.Prelude.{◌≡◌, ◌<◌, false, ◌++◌, ◌==◌, IfOk, OnOk};
+ghost use Rattle.std.specs.Prelude.{◌≡◌, ◌<◌, false, None, ◌++◌, ◌==◌, slice_index_or, IfOk, OnOk};
 ghost use Rattle.std.specs.Option.{option_map_or};
-ghost use Rattle.dac_config.specs.Table.{app_count, group_of};
-ghost use Rattle.dac_status.specs.Texts.{node_text, how_text, from_text, claim_text, holder_text, verdict_text, standing_text, mark_text, marked_text, member_text, group_text, list_text, summary_text, app_lines};
+ghost use Rattle.dac_config.specs.Table.{app_count, node_count};
+ghost use Rattle.dac_status.specs.Texts.{node_text, how_text, from_text, claim_text, holder_text, verdict_text, standing_text, mark_text, marked_text, groups_of, member_text, group_text, list_text, summary_text, app_lines};
 
 use crate::marks::Mark;
 use crate::nodes::node_text;
@@ -155,12 +155,24 @@ fn put_marked(
     Ok(())
 }
 
-/// Whether a node is of this group of an application's list.
-fn is_member(config: &Config, app: AppId, group: u16, node: NodeId) -> bool
+/// The group of each node in an application's list, by the nodes' numbers.
+fn groups_of(config: &Config, app: AppId) -> [Option<u16>; MAX_NODES]
     requires { app.0 < app_count config.now }
-    ensures { result ≡ option_map_or (λ other. other == group) (group_of config.now app node) false }
+    ensures { result ≡ groups_of config.now app }
 {
-    match config.group_of(app, node) {
+    let mut groups = [None; MAX_NODES];
+    for number in 0..config.nodes() {
+        groups[number as usize] = config.group_of(app, NodeId(number));
+    }
+    groups
+}
+
+/// Whether a node is of this group, where these are the groups of nodes by their numbers.
+fn is_member(groups: &[Option<u16>; MAX_NODES], group: u16, node: NodeId) -> bool
+    requires { node.0 < MAX_NODES }
+    ensures { result ≡ option_map_or (λ other. other == group) (slice_index_or groups.now node.0 None) false }
+{
+    match groups[node.0 as usize] {
         Some(other) => other == group,
         None => false,
     }
@@ -172,15 +184,17 @@ fn put_member(
     text: &mut Vec<u8>,
     config: &Config,
     app: AppId,
+    groups: &[Option<u16>; MAX_NODES],
     marks: &[Mark; MAX_NODES],
     group: u16,
     node: NodeId,
 ) -> Result<(), NoMemory>
-    requires app { app.0 < app_count config.now }
+    requires groups { groups.now ≡ groups_of config.now app }
+    requires node { node.0 < node_count config.now }
     requires place { node.0 < MAX_NODES }
     ensures { OnOk result (text.new.items ≡ text.old.items ++ member_text config.now app marks.now group node) }
 {
-    if !is_member(config, app, group, node) {
+    if !is_member(groups, group, node) {
         return Ok(());
     }
     let mark = marks[node.0 as usize];
@@ -193,14 +207,24 @@ fn put_group(
     text: &mut Vec<u8>,
     config: &Config,
     app: AppId,
+    groups: &[Option<u16>; MAX_NODES],
     marks: &[Mark; MAX_NODES],
     group: u16,
 ) -> Result<(), NoMemory>
-    requires { app.0 < app_count config.now }
+    requires { groups.now ≡ groups_of config.now app }
     ensures { OnOk result (text.new.items ≡ text.old.items ++ group_text config.now app marks.now group) }
 {
     for number in 0..config.nodes() {
-        put_member(alloc, text, config, app, marks, group, NodeId(number))?;
+        put_member(
+            alloc,
+            text,
+            config,
+            app,
+            groups,
+            marks,
+            group,
+            NodeId(number),
+        )?;
     }
     Ok(())
 }
@@ -216,8 +240,9 @@ fn list_line(
     ensures { IfOk result (λ line. line.items ≡ list_text config.now app marks.now) }
 {
     let mut line = Vec::from_slice(alloc, b"list")?;
+    let groups = groups_of(config, app);
     for group in 0..MAX_GROUPS {
-        put_group(alloc, &mut line, config, app, marks, group)?;
+        put_group(alloc, &mut line, config, app, &groups, marks, group)?;
     }
     line.push(b'\n')?;
     Ok(line)
