@@ -136,8 +136,13 @@ heard7 = Heard (not (is_below handed (joined (begun_log first_node))))
 abbrev w7 : ModelWorld
 w7 = (answered_by w6 first_node d7 (Ok heard7)).world
 
+-- whatever is new, there are numbers left for it
+has_room : (b : Bool) → first ((b && false, DotsUsedUp) ∷ []) ≡ None
+has_room true = refl
+has_room false = refl
+
 is7 : happens loss_table w6 (record { node = first_node; what = Hand 3 }) ≡ answered_by w6 first_node d7 (Ok heard7)
-is7 = happens_so w6 first_node (Hand 3) (HearOp claiming) refl refl refl
+is7 = happens_so w6 first_node (Hand 3) (HearOp claiming) refl refl (has_room (not (is_below handed (joined (begun_log first_node)))))
 
 abbrev es7 : List WorldEvent
 es7 =
