@@ -100,7 +100,7 @@ fn ships(alloc: Global, config: &Config, node: &mut Node, me: NodeId, to: NodeId
 fn message(state: &State, to: NodeId) -> Option<Message> {
     Some(Message {
         from: Origin {
-            node: NodeId((to.0 + 1) % 3),
+            node: NodeId(to.0.wrapping_add(1) % 3),
             inc: 1,
         },
         to,
