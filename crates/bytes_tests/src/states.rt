@@ -137,7 +137,7 @@ fn has_chains(state: &State) -> bool {
 
 /// Whether the second value has all that the first has, and a copy of it their join, through the bound.
 fn is_joined_above<L: Lattice>(low: &L, high: &L) -> Result<bool, NoMemory> {
-    low.known();
+    low.tells_invariant();
     Ok(low.leq(high) && !high.leq(low) && low.join(high)?.equal(&high.copy()?))
 }
 

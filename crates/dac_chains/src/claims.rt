@@ -112,7 +112,7 @@ impl Claims {
     pub fn entries(&self) -> &[(AppId, Max<Claim>)]
         ensures { unwrapped result.now ≡ map.entries self.now }
     {
-        self.claims.known();
+        self.claims.tells_invariant();
         self.claims.entries()
     }
 }
@@ -131,11 +131,11 @@ impl Lattice for Claims {
 
     ghost laws = { greatest_laws apps_total exact_apps claims_total (exact_claims how_cmp exact_hows) };
 
-    fn known(&self) {}
+    fn tells_invariant(&self) {}
 
     fn join(&self, other: &Self) -> Result<Self, NoMemory> {
-        self.claims.known();
-        other.claims.known();
+        self.claims.tells_invariant();
+        other.claims.tells_invariant();
         let claims = self.claims.join(&other.claims)?;
         Ok(Claims { claims })
     }
@@ -145,8 +145,8 @@ impl Lattice for Claims {
     }
 
     fn equal(&self, other: &Self) -> bool {
-        self.claims.known();
-        other.claims.known();
+        self.claims.tells_invariant();
+        other.claims.tells_invariant();
         self.claims.equal(&other.claims)
     }
 

@@ -108,7 +108,7 @@ impl Lives {
     pub fn entries(&self) -> &[(NodeId, Max<Life>)]
         ensures { unwrapped result.now ≡ map.entries self.now }
     {
-        self.lives.known();
+        self.lives.tells_invariant();
         self.lives.entries()
     }
 }
@@ -128,11 +128,11 @@ impl Lattice for Lives {
 
     ghost laws = { greatest_laws nodes_total exact_nodes lives_total (exact_lives flag_cmp flags_exact) };
 
-    fn known(&self) {}
+    fn tells_invariant(&self) {}
 
     fn join(&self, other: &Self) -> Result<Self, NoMemory> {
-        self.lives.known();
-        other.lives.known();
+        self.lives.tells_invariant();
+        other.lives.tells_invariant();
         let lives = self.lives.join(&other.lives)?;
         Ok(Lives { lives })
     }
@@ -142,8 +142,8 @@ impl Lattice for Lives {
     }
 
     fn equal(&self, other: &Self) -> bool {
-        self.lives.known();
-        other.lives.known();
+        self.lives.tells_invariant();
+        other.lives.tells_invariant();
         self.lives.equal(&other.lives)
     }
 

@@ -40,7 +40,7 @@ pub fn operation_of(
     ensures written { IfOk result (IsWritten config.now own state.now command) }
 {
     // What stands in a state is known there, so it doesn't have the next dot.
-    Lattice::known(state);
+    Lattice::tells_invariant(state);
     let act = act_of(alloc, config, state, command)?;
     Ok(issue(own, state, act))
 }

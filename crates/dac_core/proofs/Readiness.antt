@@ -4,10 +4,10 @@ use Rattle.std.specs.List.{slice_get}
 use Rattle.dac_base.specs.declared.NodeId.{NodeId}
 use Rattle.dac_config.specs.Table.{Table}
 use Rattle.dac_messages.specs.declared.event.Event.{Event}
-use Rattle.dac_settle.specs.dac_worlds.NodeValue.{NodeValue}
-use Rattle.dac_settle.specs.dac_worlds.laws.Options.{some_same}
+use Rattle.dac_settle.specs.dac_model_world.NodeValue.{NodeValue}
+use Rattle.dac_settle.specs.dac_model_world.laws.Options.{some_same}
 use Rattle.dac_node.specs.Changes.{ChangeValue, Fits, Prepared, changed}
-use Rattle.dac_settle.specs.dac_worlds.laws.Follow.{crash_goes_off}
+use Rattle.dac_settle.specs.dac_model_world.laws.Follow.{crash_goes_off}
 use Rattle.dac_core.specs.Ready.{IsReady, IsReadyAt}
 
 pub ready_at : (t : Table) (nodes : List NodeValue) (me : NodeId) (old : NodeValue) (e : Event) (change : ChangeValue) → slice_get nodes me.0 ≡ Some old → Prepared t me old e change → Fits old change → IsReadyAt nodes me change

@@ -1,10 +1,10 @@
 pub mod Ready
 pub use Rattle.dac_node.specs.Refusals
-pub use Rattle.dac_settle.specs.dac_worlds.Converges
-pub use Rattle.dac_settle.specs.dac_worlds.EveryList
-pub use Rattle.dac_settle.specs.dac_worlds.ModelNode
-pub use Rattle.dac_settle.specs.dac_worlds.ModelWorld
-pub use Rattle.dac_settle.specs.dac_worlds.NodeValue
-pub use Rattle.dac_settle.specs.dac_worlds.WorldValue
-pub use Rattle.dac_settle.specs.dac_worlds.declared.fault.WorldFault
+pub use Rattle.dac_settle.specs.dac_model_world.Converges
+pub use Rattle.dac_settle.specs.dac_model_world.EveryList
+pub use Rattle.dac_settle.specs.dac_model_world.ModelNode
+pub use Rattle.dac_settle.specs.dac_model_world.ModelWorld
+pub use Rattle.dac_settle.specs.dac_model_world.NodeValue
+pub use Rattle.dac_settle.specs.dac_model_world.WorldValue
+pub use Rattle.dac_settle.specs.dac_model_world.declared.fault.WorldFault
 pub mod laws

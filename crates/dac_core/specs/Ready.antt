@@ -3,7 +3,7 @@ use Rattle.std.specs.Prelude.{◌≡◌, List, Some, None}
 use Rattle.std.specs.List.{slice_get}
 use Rattle.dac_base.specs.declared.NodeId.{NodeId}
 use Rattle.dac_messages.specs.declared.reply.Reply.TheVariants.{Crashed}
-use Rattle.dac_settle.specs.dac_worlds.NodeValue.{NodeValue}
+use Rattle.dac_settle.specs.dac_model_world.NodeValue.{NodeValue}
 use Rattle.dac_node.specs.Changes.{ChangeValue, Fits, changed}
 
 -- numbers are left for the deltas that come, and a crash leaves the node off

@@ -1,2 +1,2 @@
-pub use Rattle.dac_settle.specs.dac_worlds.laws.EveryList
-pub use Rattle.dac_settle.specs.dac_worlds.laws.Headline
+pub use Rattle.dac_settle.specs.dac_model_world.laws.EveryList
+pub use Rattle.dac_settle.specs.dac_model_world.laws.Headline

@@ -1,8 +1,8 @@
 //! All controllers of a configuration, with what they issued and shipped.
 
 ghost use Rattle.std.specs.Prelude.{◌≡◌, ◌<◌, ◌≤◌, ◌+◌, ◌++◌, ◌↔◌, IsTrue, IfOk, IfErr, OnOk, OnErr, length, vec_len, vec_capacity};
-ghost use Rattle.dac_settle.specs.dac_worlds.ModelWorld.{issued_by, shipped_by};
-ghost use Rattle.dac_settle.specs.dac_worlds.WorldChanges.{NodeChanges};
+ghost use Rattle.dac_settle.specs.dac_model_world.ModelWorld.{issued_by, shipped_by};
+ghost use Rattle.dac_settle.specs.dac_model_world.WorldChanges.{NodeChanges};
 ghost use Rattle.dac_node.specs.Changes.{changed};
 ghost use Rattle.dac_core.specs.Ready.{IsReadyAt};
 
@@ -12,7 +12,7 @@ use dac_config::Config;
 use dac_events::{What, WorldEvent};
 use dac_messages::{Event, Message, Reply};
 use dac_node::{Change, Node, Refusal};
-use dac_settle::dac_worlds::{WorldFault, laws};
+use dac_settle::dac_model_world::{WorldFault, laws};
 use dac_settle::laws::rounds_settle;
 use dac_state::Op;
 use std::alloc::Global;
@@ -38,13 +38,13 @@ impl Drop for World {
 }
 
 impl Model for World {
-    ghost use Rattle.dac_settle.specs.dac_worlds.WorldValue.{WorldValue};
+    ghost use Rattle.dac_settle.specs.dac_model_world.WorldValue.{WorldValue};
 
     ghost Value = { WorldValue };
 
     ghost use Rattle.dac_operations.specs.contracts.op.Op as operation;
     ghost use Rattle.dac_messages.specs.contracts.message.Message as message;
-    ghost use Rattle.dac_settle.specs.dac_worlds.WorldValue.{coded_world};
+    ghost use Rattle.dac_settle.specs.dac_model_world.WorldValue.{coded_world};
 
     ghost coded = { coded_world operation.the_row.coded message.the_row.coded };
 
@@ -54,11 +54,11 @@ impl Model for World {
 impl World {
     ghost use Rattle.std.specs.Prelude.{◌≡◌, ◌<◌, IfOk, IfErr, OnErr, Some, Ok, Err, length, slice_get};
     ghost use Rattle.dac_config.specs.Table.{node_count};
-    ghost use Rattle.dac_settle.specs.dac_worlds.ModelWorld.{Shows, start, Follows, RanAs, happens, event_of, heard_by, handed_by, counted, out_of_memory};
-    ghost use Rattle.dac_settle.specs.dac_worlds.Converges.{Converges};
+    ghost use Rattle.dac_settle.specs.dac_model_world.ModelWorld.{Shows, start, Follows, RanAs, happens, event_of, heard_by, handed_by, counted, out_of_memory};
+    ghost use Rattle.dac_settle.specs.dac_model_world.Converges.{Converges};
     ghost use Rattle.dac_settle.specs.WorldRounds.{Settles};
-    ghost use Rattle.dac_settle.specs.dac_worlds.AtNode.{HearsIn, HappensAt};
-    ghost use Rattle.dac_settle.specs.dac_worlds.WorldChanges.{Goes};
+    ghost use Rattle.dac_settle.specs.dac_model_world.AtNode.{HearsIn, HappensAt};
+    ghost use Rattle.dac_settle.specs.dac_model_world.WorldChanges.{Goes};
 
     /// All controllers of the configuration, off and never booted. [`NoMemory`] is the only error.
     pub fn new(alloc: Global, config: &Config) -> Result<Self, NoMemory>

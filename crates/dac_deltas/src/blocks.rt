@@ -64,7 +64,7 @@ fn joins_after<L: Lattice>(
     requires room { base + length kept.now.items < MAX_COUNTER }
     ensures { IfOk result (λ joins. HasJoins L.is_value L.join (base + (length kept.now.items + 1)) (deltas_of kept.now.items ++ delta.now ∷ []) (delta.now, joins.items)) }
 {
-    delta.known();
+    delta.tells_invariant();
     let most = kept.len() as u64 + 1;
     let mut joins = Vec::new(alloc);
     for level in 0..level_at(base + most, most) {

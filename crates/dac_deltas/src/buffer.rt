@@ -53,7 +53,7 @@ fn join_on<L: Bottom>(joined: Option<L>, block: &L) -> Result<L, NoMemory>
     match joined {
         Some(joined) => joined.join(block),
         None => {
-            block.known();
+            block.tells_invariant();
             block.copy()
         }
     }
@@ -83,7 +83,7 @@ impl<L: Bottom> Buffer<L> {
 
     /// The base and those kept make the count, and at most 256 are kept. Each is a value of the lattice, and the
     /// count is at most 2^62. This only tells proofs so, and does nothing when it runs.
-    pub fn known(&self)
+    pub fn tells_invariant(&self)
         ensures { IsBuffer L.is_value self.now }
     {
         let _kept = &self.kept;

@@ -2,7 +2,7 @@
 use Rattle.std.specs.Prelude.{◌≡◌, ℕ, ◌+◌, [], ◌∷◌, ◌++◌, length, refl}
 use Rattle.std.specs.Coded.{Coded, code_by, coded×}
 use Rattle.dac_messages.specs.declared.event.Event.{Event}
-use Rattle.dac_worlds.specs.NodeValue.{NodeValue, coded_node_value}
+use Rattle.dac_model_world.specs.NodeValue.{NodeValue, coded_node_value}
 use Rattle.dac_journal.specs.declared.record.Record.{Record}
 use Rattle.dac_journal.specs.declared.record.Call.{Call}
 use Rattle.dac_journal.specs.Journals.{JournalValue, EndsAt, record_of, call_of}

@@ -1,5 +1,5 @@
 pub mod Going
-pub use Rattle.dac_worlds.specs.laws.Histories
-pub use Rattle.dac_worlds.specs.laws.Memory
-pub use Rattle.dac_worlds.specs.laws.Runs
-pub use Rattle.dac_worlds.specs.laws.Steps
+pub use Rattle.dac_model_world.specs.laws.Histories
+pub use Rattle.dac_model_world.specs.laws.Memory
+pub use Rattle.dac_model_world.specs.laws.Runs
+pub use Rattle.dac_model_world.specs.laws.Steps

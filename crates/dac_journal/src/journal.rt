@@ -1,7 +1,7 @@
 //! The journal of a node, with the node.
 
 ghost use Rattle.std.specs.Prelude.{◌≡◌, ◌≢◌, ◌≤◌, ◌<◌, ◌+◌, ◌++◌, ◌∷◌, [], length, true, false, IfOk, IfErr, OnErr};
-ghost use Rattle.dac_worlds.specs.Step.{Steps};
+ghost use Rattle.dac_model_world.specs.Step.{Steps};
 ghost use Rattle.dac_journal.specs.declared.limits.TheConstants.{MAX_RECORDS as MOST};
 ghost use Rattle.dac_node.specs.Changes.{changed, Fits};
 ghost use Rattle.dac_journal.specs.Journals.{call_of, record_of, opening_of, EndsAt};

@@ -35,7 +35,7 @@ impl<T: MapKey> Lattice for Max<T> {
 
     ghost laws = { wrapped_laws (λ m. m.value) (λ v. record { value = v }) (λ _. refl) (λ _. refl) (chain_laws T.total T.exact) };
 
-    fn known(&self) {}
+    fn tells_invariant(&self) {}
 
     fn join(&self, other: &Self) -> Result<Self, NoMemory> {
         Ok(Max::new(self.value.max(other.value)))

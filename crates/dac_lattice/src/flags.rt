@@ -34,7 +34,7 @@ impl Lattice for Flag {
 
     ghost laws = { flag_laws };
 
-    fn known(&self) {}
+    fn tells_invariant(&self) {}
 
     fn join(&self, other: &Self) -> Result<Self, NoMemory> {
         Ok(match self {

@@ -20,7 +20,7 @@ pub trait Lattice: Drop {
     ghost join: { Self → Self → Self };
 
     /// A value of the type is one. This only tells proofs so, and does nothing when it runs.
-    fn known(&self)
+    fn tells_invariant(&self)
         ensures { is_value self.now };
 
     /// The least value that is above both. [`NoMemory`] is the only error.

@@ -34,7 +34,7 @@ impl<K: MapKey, L: Lattice> MapOf<K, L> {
     pub fn one(alloc: Global, key: K, value: L) -> Result<Self, NoMemory>
         ensures { IfOk result (λ map. map ≡ (key, value) ∷ []) }
     {
-        value.known();
+        value.tells_invariant();
         let mut entries = Vec::new(alloc);
         entries.push((key, value))?;
         Ok(MapOf { entries })
@@ -97,7 +97,7 @@ impl<K: MapKey, L: Lattice> Lattice for MapOf<K, L> {
 
     ghost laws = { map_laws K.total K.exact L.laws };
 
-    fn known(&self) {
+    fn tells_invariant(&self) {
         let _entries = &self.entries;
     }
 

@@ -36,9 +36,9 @@ impl<A: Lattice, B: Lattice> Lattice for Pair<A, B> {
 
     ghost laws = { wrapped_laws (λ p. (p.first, p.second)) (λ p. record { first = p.0; second = p.1 }) (λ _. refl) (λ _. refl) (paired_laws A.laws B.laws) };
 
-    fn known(&self) {
-        self.first.known();
-        self.second.known();
+    fn tells_invariant(&self) {
+        self.first.tells_invariant();
+        self.second.tells_invariant();
     }
 
     fn join(&self, other: &Self) -> Result<Self, NoMemory> {

@@ -9,13 +9,13 @@ use Rattle.dac_config.specs.Table.{Table}
 use Rattle.dac_decide.specs.declared.waits.Noted.{Noted}
 use Rattle.dac_messages.specs.declared.event.Event.{Event}
 use Rattle.dac_messages.specs.declared.reply.Reply.{Reply}
-use Rattle.dac_rules.specs.dac_commands.declared.refusal.Refusal.TheVariants.{DotsUsedUp}
-use Rattle.dac_rules.specs.dac_commands.laws.Written.{none_is}
-use Rattle.dac_rules.specs.NodeValue.{RunValue}
-use Rattle.dac_rules.specs.EventRefusals.{refusal_by, refusal_to_hear_op, overflows}
-use Rattle.dac_rules.specs.Deeds.{Deed, deed_of, moment_of}
-use Rattle.dac_rules.specs.Accepted.{AreNewest, run_by}
-use Rattle.dac_rules.specs.laws.Numbers.{fits, room_to_hear}
+use Rattle.dac_model_node.specs.dac_commands.declared.refusal.Refusal.TheVariants.{DotsUsedUp}
+use Rattle.dac_model_node.specs.dac_commands.laws.Written.{none_is}
+use Rattle.dac_model_node.specs.NodeValue.{RunValue}
+use Rattle.dac_model_node.specs.EventRefusals.{refusal_by, refusal_to_hear_op, overflows}
+use Rattle.dac_model_node.specs.Deeds.{Deed, deed_of, moment_of}
+use Rattle.dac_model_node.specs.Accepted.{AreNewest, run_by}
+use Rattle.dac_model_node.specs.laws.Numbers.{fits, room_to_hear}
 use Rattle.dac_node.specs.declared.change.After.TheVariants.{Off, GoesOn}
 use Rattle.dac_node.specs.Knowing.{NextValue, hearing, knowledge_of}
 use Rattle.dac_node.specs.After.{run_after, after_by, gone_on, next_by, FitsIn}

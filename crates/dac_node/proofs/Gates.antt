@@ -8,11 +8,11 @@ use Rattle.dac_decide.specs.declared.waits.Noted.{Noted}
 use Rattle.dac_decide.specs.FailoverWait.{Note, waits_of}
 use Rattle.dac_messages.specs.declared.event.Event.TheVariants.{Tick}
 use Rattle.dac_messages.specs.declared.reply.Reply.TheVariants.{Ticked as HasTicked, Held as IsHeld, GaveUp}
-use Rattle.dac_rules.specs.dac_ticks.declared.turning.Turn.{Turn as Made}
-use Rattle.dac_rules.specs.dac_ticks.Ticks.{Turn, turn_of}
-use Rattle.dac_rules.specs.dac_ticks.Progress.{IsMade}
-use Rattle.dac_rules.specs.NodeValue.{RunValue}
-use Rattle.dac_rules.specs.Deeds.{ticks_by, opening_at, meanings}
+use Rattle.dac_model_node.specs.dac_ticks.declared.turning.Turn.{Turn as Made}
+use Rattle.dac_model_node.specs.dac_ticks.Ticks.{Turn, turn_of}
+use Rattle.dac_model_node.specs.dac_ticks.Progress.{IsMade}
+use Rattle.dac_model_node.specs.NodeValue.{RunValue}
+use Rattle.dac_model_node.specs.Deeds.{ticks_by, opening_at, meanings}
 use Rattle.dac_node.specs.declared.change.After.TheVariants.{Off, GoesOn}
 use Rattle.dac_node.specs.Knowing.{ticking, knowledge_of}
 use Rattle.dac_node.specs.After.{after_by}

@@ -9,8 +9,8 @@ use Rattle.dac_meaning.specs.StateValue.{StateValue, bottom, join}
 use Rattle.dac_meaning.specs.laws.StateLaws.{known-join}
 use Rattle.dac_meaning.specs.Meaning.{meaning_of}
 use Rattle.dac_meaning.specs.laws.Readers.{known-meaning}
-use Rattle.dac_rules.specs.dac_commands.Commands.{KnowsItself}
-use Rattle.dac_rules.specs.Step.{up}
+use Rattle.dac_model_node.specs.dac_commands.Commands.{KnowsItself}
+use Rattle.dac_model_node.specs.Step.{up}
 
 -- what is joined is known still
 pub knows-join : (o : Origin) (s t : StateValue) → KnowsItself o s → KnowsItself o (join s t)

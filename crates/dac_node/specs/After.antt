@@ -5,8 +5,8 @@ use Rattle.dac_base.specs.declared.limits.TheConstants.{MAX_COUNTER}
 use Rattle.dac_meaning.specs.StateValue.{join}
 use Rattle.dac_deltas.specs.Kept.{pushed, trimmed}
 use Rattle.dac_decide.specs.declared.waits.Noted.{Noted}
-use Rattle.dac_rules.specs.NodeValue.{RunValue}
-use Rattle.dac_rules.specs.Deeds.{Deed}
+use Rattle.dac_model_node.specs.NodeValue.{RunValue}
+use Rattle.dac_model_node.specs.Deeds.{Deed}
 use Rattle.dac_node.specs.declared.change.After.{After}
 use Rattle.dac_node.specs.declared.change.After.TheVariants.{Off, Boots, GoesOn}
 use Rattle.dac_node.specs.Knowing.{NextValue, run_of}

@@ -7,10 +7,10 @@ use Rattle.dac_decide.specs.declared.waits.Noted.{Noted}
 use Rattle.dac_messages.specs.declared.event.Event.{Event}
 use Rattle.dac_messages.specs.declared.reply.Reply.{Reply}
 use Rattle.dac_messages.specs.declared.reply.Reply.TheVariants.{Booted}
-use Rattle.dac_rules.specs.NodeValue.{NodeValue, RunValue}
-use Rattle.dac_rules.specs.Deeds.{deed_of}
-use Rattle.dac_rules.specs.Step.{up}
-use Rattle.dac_rules.specs.Accepted.{AcceptedAs, IsNoting, booted}
+use Rattle.dac_model_node.specs.NodeValue.{NodeValue, RunValue}
+use Rattle.dac_model_node.specs.Deeds.{deed_of}
+use Rattle.dac_model_node.specs.Step.{up}
+use Rattle.dac_model_node.specs.Accepted.{AcceptedAs, IsNoting, booted}
 use Rattle.dac_node.specs.declared.change.After.{After}
 use Rattle.dac_node.specs.declared.change.After.TheVariants.{Boots}
 use Rattle.dac_node.specs.After.{run_after, FitsIn, after_by}

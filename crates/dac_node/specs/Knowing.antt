@@ -10,10 +10,10 @@ use Rattle.dac_deltas.specs.Kept.{Kept}
 use Rattle.dac_peers.specs.Peers.{PeersValue, no_peers, coded_peers}
 use Rattle.dac_decide.specs.declared.waits.Noted.{Noted}
 use Rattle.dac_decide.specs.FailoverWait.{coded_noted, waits_of}
-use Rattle.dac_rules.specs.declared.moments.Moments.{Moments}
-use Rattle.dac_rules.specs.NodeValue.{RunValue, coded_moments}
-use Rattle.dac_rules.specs.Deeds.{brings}
-use Rattle.dac_rules.specs.Step.{up}
+use Rattle.dac_model_node.specs.declared.moments.Moments.{Moments}
+use Rattle.dac_model_node.specs.NodeValue.{RunValue, coded_moments}
+use Rattle.dac_model_node.specs.Deeds.{brings}
+use Rattle.dac_model_node.specs.Step.{up}
 
 -- all that a running node keeps but the newest deltas
 pub record KnowledgeValue : Type 0 where

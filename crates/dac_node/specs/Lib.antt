@@ -1,4 +1,4 @@
 pub mod Knowing
 pub mod After
 pub mod Changes
-pub use Rattle.dac_rules.specs.dac_commands.Refusals
+pub use Rattle.dac_model_node.specs.dac_commands.Refusals

@@ -6,7 +6,7 @@ ghost use Rattle.dac_meaning.specs.Meaning.{meaning_of};
 ghost use Rattle.dac_meaning.specs.Below.{is_below};
 ghost use Rattle.dac_peers.specs.Peers.{acked_by_all};
 ghost use Rattle.dac_messages.specs.Bodies.{content_of};
-ghost use Rattle.dac_rules.specs.Step.{up};
+ghost use Rattle.dac_model_node.specs.Step.{up};
 
 use crate::next::Next;
 use dac_base::NoMemory;
@@ -16,7 +16,7 @@ use dac_dots::{Dot, Origin};
 use dac_lattice::{Bottom, Lattice};
 use dac_messages::Body;
 use dac_peers::Peers;
-use dac_rules::Moments;
+use dac_model_node::Moments;
 use dac_state::{Act, Op, State};
 use std::alloc::Global;
 use std::marker::Model;
@@ -53,7 +53,7 @@ impl Drop for Knowledge {
 
 impl Model for Knowledge {
     ghost use Rattle.std.specs.Arc.{arc_value};
-    ghost use Rattle.dac_rules.specs.NodeValue.{IsSound};
+    ghost use Rattle.dac_model_node.specs.NodeValue.{IsSound};
     ghost use Rattle.dac_node.specs.Knowing.{KnowledgeValue, coded_knowledge};
 
     ghost Value = { KnowledgeValue };
@@ -67,10 +67,10 @@ impl Model for Knowledge {
 
 impl Knowledge {
     ghost use Rattle.dac_node.specs.Knowing.{knows_at_boot, joining, adding, hearing};
-    ghost use Rattle.dac_rules.specs.NodeValue.{IsSound};
+    ghost use Rattle.dac_model_node.specs.NodeValue.{IsSound};
 
     /// It is as its invariant says. This only tells proofs so, and does nothing when it runs.
-    pub(crate) fn known(&self)
+    pub(crate) fn tells_invariant(&self)
         ensures { IsSound self.now.origin self.now.moments self.now.state }
     {
         let _state = &self.state;

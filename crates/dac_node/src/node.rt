@@ -2,8 +2,8 @@
 
 ghost use Rattle.std.specs.Prelude.{◌≡◌, IfOk, IfErr, MatchResult, OnOk, OnErr, None, unwrap_or};
 ghost use Rattle.dac_config.specs.Table.{Table};
-ghost use Rattle.dac_rules.specs.EventRefusals.{refusal_off as refused_off};
-ghost use Rattle.dac_rules.specs.Deeds.{moment_of};
+ghost use Rattle.dac_model_node.specs.EventRefusals.{refusal_off as refused_off};
+ghost use Rattle.dac_model_node.specs.Deeds.{moment_of};
 
 use crate::change::{After, Change};
 use crate::running::Running;
@@ -11,7 +11,7 @@ use dac_base::{MAX_INCARNATION, NoMemory, NodeId};
 use dac_config::Config;
 use dac_dots::Origin;
 use dac_messages::{Event, Message, Reply};
-use dac_rules::dac_commands::Refusal;
+use dac_model_node::dac_commands::Refusal;
 use dac_state::{Op, State};
 use std::alloc::Global;
 use std::marker::Model;
@@ -40,7 +40,7 @@ impl Drop for Node {
 }
 
 impl Model for Node {
-    ghost use Rattle.dac_rules.specs.NodeValue.{NodeValue, coded_node_value};
+    ghost use Rattle.dac_model_node.specs.NodeValue.{NodeValue, coded_node_value};
 
     ghost Value = { NodeValue };
 
@@ -51,16 +51,16 @@ impl Model for Node {
 
 impl Node {
     ghost use Rattle.std.specs.Option.{option_copied};
-    ghost use Rattle.dac_rules.specs.NodeValue.{off, origin_of, state_of};
-    ghost use Rattle.dac_rules.specs.EventRefusals.{refusal_of};
-    ghost use Rattle.dac_rules.specs.Step.{Steps, IsShown};
-    ghost use Rattle.dac_rules.specs.Writing.{Writes};
-    ghost use Rattle.dac_rules.specs.Keeping.{Keeps};
-    ghost use Rattle.dac_rules.specs.Effect.{HasEffect};
-    ghost use Rattle.dac_rules.specs.Shipping.{ShipsSo};
+    ghost use Rattle.dac_model_node.specs.NodeValue.{off, origin_of, state_of};
+    ghost use Rattle.dac_model_node.specs.EventRefusals.{refusal_of};
+    ghost use Rattle.dac_model_node.specs.Step.{Steps, IsShown};
+    ghost use Rattle.dac_model_node.specs.Writing.{Writes};
+    ghost use Rattle.dac_model_node.specs.Keeping.{Keeps};
+    ghost use Rattle.dac_model_node.specs.Effect.{HasEffect};
+    ghost use Rattle.dac_model_node.specs.Shipping.{ShipsSo};
     ghost use Rattle.dac_node.specs.Changes.{changed, Fits, Prepared};
-    ghost use Rattle.dac_rules.specs.Hearing.{HearsExactly};
-    ghost use Rattle.dac_rules.specs.Refused.{IsAnsweredBy, IsFree};
+    ghost use Rattle.dac_model_node.specs.Hearing.{HearsExactly};
+    ghost use Rattle.dac_model_node.specs.Refused.{IsAnsweredBy, IsFree};
 
     /// A controller that is off and whose last incarnation had this number; 0 for one that never booted.
     pub fn off(alloc: Global, last: u64) -> Self
@@ -181,7 +181,7 @@ impl Node {
                 Ok(Change::boot(self.alloc, config, self_id, self.last, now)?)
             }
             Some(run) => {
-                run.known();
+                run.tells_invariant();
                 Ok(Change::of(config, self.last, run, event)?)
             }
         }
@@ -200,7 +200,7 @@ impl Node {
         if let Some(why) = run.refusal_to_hear(message) {
             return Err(why);
         }
-        run.known();
+        run.tells_invariant();
         Ok(Change::hear(config, self.last, run, message)?)
     }
 
@@ -217,7 +217,7 @@ impl Node {
         if let Some(why) = run.refusal_to_hear_op(operation) {
             return Err(why);
         }
-        run.known();
+        run.tells_invariant();
         Ok(Change::hear_op(self.last, run, operation)?)
     }
 

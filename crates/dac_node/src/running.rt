@@ -6,10 +6,10 @@ ghost use Rattle.dac_meaning.specs.StateValue.{IsState};
 ghost use Rattle.dac_meaning.specs.Below.{is_below};
 ghost use Rattle.dac_meaning.specs.Meaning.{meaning_of};
 ghost use Rattle.dac_messages.specs.Bodies.{content_of};
-ghost use Rattle.dac_rules.specs.dac_commands.Commands.{next_operation, act_of as said_by};
-ghost use Rattle.dac_rules.specs.dac_commands.Causes.{first, refusal_of_command as refused_command};
-ghost use Rattle.dac_rules.specs.EventRefusals.{refusal_to_tick as refused_tick, refusal_to_ship as refused_ship, refusal_to_hear as refused_hear, refusal_to_obey as refused_command_here, refusal_to_hear_op as refused_hear_op, refusal_on, is_for, needed, overflows, too_few_left, too_many_deltas};
-ghost use Rattle.dac_rules.specs.Step.{up};
+ghost use Rattle.dac_model_node.specs.dac_commands.Commands.{next_operation, act_of as said_by};
+ghost use Rattle.dac_model_node.specs.dac_commands.Causes.{first, refusal_of_command as refused_command};
+ghost use Rattle.dac_model_node.specs.EventRefusals.{refusal_to_tick as refused_tick, refusal_to_ship as refused_ship, refusal_to_hear as refused_hear, refusal_to_obey as refused_command_here, refusal_to_hear_op as refused_hear_op, refusal_on, is_for, needed, overflows, too_few_left, too_many_deltas};
+ghost use Rattle.dac_model_node.specs.Step.{up};
 
 use crate::knowledge::{Knowledge, covers, is_below};
 use crate::next::Next;
@@ -21,7 +21,7 @@ use dac_dots::Origin;
 use dac_events::Command;
 use dac_lattice::{Bottom, Lattice};
 use dac_messages::{Event, Message};
-use dac_rules::dac_commands::{Refusal, operation_of, refusal_of};
+use dac_model_node::dac_commands::{Refusal, operation_of, refusal_of};
 use dac_state::{Op, State};
 use std::alloc::Global;
 use std::marker::Model;
@@ -43,7 +43,7 @@ impl Drop for Running {
 }
 
 impl Model for Running {
-    ghost use Rattle.dac_rules.specs.NodeValue.{RunValue, coded_run};
+    ghost use Rattle.dac_model_node.specs.NodeValue.{RunValue, coded_run};
     ghost use Rattle.dac_node.specs.Knowing.{run_of};
 
     ghost Value = { RunValue };
@@ -54,19 +54,19 @@ impl Model for Running {
 }
 
 impl Running {
-    ghost use Rattle.dac_rules.specs.Accepted.{booted, AreNewest};
+    ghost use Rattle.dac_model_node.specs.Accepted.{booted, AreNewest};
     ghost use Rattle.dac_node.specs.Knowing.{adding, knowledge_of};
     ghost use Rattle.dac_node.specs.After.{gone_on};
 
     /// The deltas that are kept are the newest, and their count is at most 2^62. The state is one. This only tells proofs
     /// so, and does nothing when it runs.
-    pub(crate) fn known(&self)
+    pub(crate) fn tells_invariant(&self)
         ensures newest { AreNewest self.now.kept }
         ensures countable { self.now.kept.count ≤ LAST_NUMBER }
         ensures state { IsState self.now.state }
     {
-        self.buffer.known();
-        Lattice::known(&self.knowledge.state);
+        self.buffer.tells_invariant();
+        Lattice::tells_invariant(&self.knowledge.state);
     }
 
     /// The present incarnation.
@@ -126,7 +126,7 @@ impl Running {
         requires { more ≤ 2 ^ 16 }
         ensures { result ≡ too_many_deltas self.now more }
     {
-        self.buffer.known();
+        self.buffer.tells_invariant();
         self.buffer.count() + more > MAX_COUNTER
     }
 
@@ -261,7 +261,7 @@ impl Running {
         ensures operation { IfOk result (λ both. both.1 ≡ next_operation self.now.state self.now.origin (said_by config.now self.now.state command)) }
     {
         let known = &self.knowledge;
-        known.known();
+        known.tells_invariant();
         let operation = operation_of(known.alloc, config, known.origin, &known.state, command)?;
         let next = self.issued(&operation)?;
         Ok((next, operation))

@@ -4,10 +4,10 @@ ghost use Rattle.std.specs.Prelude.{◌≡◌, ◌≤◌, ◌∷◌, [], List, I
 ghost use Rattle.dac_meaning.specs.StateValue.{join};
 ghost use Rattle.dac_messages.specs.declared.event.Event.TheVariants.{Tick};
 ghost use Rattle.dac_decide.specs.FailoverWait.{Note, waits_of};
-ghost use Rattle.dac_rules.specs.dac_ticks.Ticks.{turn_of};
-ghost use Rattle.dac_rules.specs.dac_ticks.Progress.{IsMade};
-ghost use Rattle.dac_rules.specs.EventRefusals.{refusal_to_tick, too_few_left};
-ghost use Rattle.dac_rules.specs.Deeds.{meanings, opening_at};
+ghost use Rattle.dac_model_node.specs.dac_ticks.Ticks.{turn_of};
+ghost use Rattle.dac_model_node.specs.dac_ticks.Progress.{IsMade};
+ghost use Rattle.dac_model_node.specs.EventRefusals.{refusal_to_tick, too_few_left};
+ghost use Rattle.dac_model_node.specs.Deeds.{meanings, opening_at};
 ghost use Rattle.dac_node.specs.Knowing.{ticking};
 ghost use Rattle.dac_node.specs.Changes.{Effect};
 
@@ -20,8 +20,8 @@ use dac_config::Config;
 use dac_decide::{Opening, Waits, gate};
 use dac_lattice::Lattice;
 use dac_messages::Reply;
-use dac_rules::Moments;
-use dac_rules::dac_ticks::{Turn, tick as turn};
+use dac_model_node::Moments;
+use dac_model_node::dac_ticks::{Turn, tick as turn};
 use dac_state::{Op, State};
 use std::alloc::Global;
 use std::sync::Arc;
@@ -78,7 +78,7 @@ impl Running {
         ensures { result ≡ opening_at config.now self.now now }
     {
         let known = &self.knowledge;
-        known.known();
+        known.tells_invariant();
         if known.is_open {
             return Opening::Opened;
         }

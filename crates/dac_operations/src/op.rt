@@ -102,8 +102,8 @@ impl Op {
         Ok(Op { dot: self.dot, act })
     }
 
-    /// It does nothing: what each operation keeps is its contract.
-    pub fn known(&self)
+    /// It is sound. This only tells proofs so, and does nothing when it runs.
+    pub fn tells_invariant(&self)
         ensures { IsSound self.now }
     {
         let _dot = &self.dot;

@@ -17,7 +17,7 @@ impl Op {
     pub fn wish_act(&self, alloc: Global) -> Result<WishAct, NoMemory>
         ensures { IfOk result (λ seen. seen ≡ seen_wish self.now.dot self.now.act) }
     {
-        self.known();
+        self.tells_invariant();
         let seen = wish_in(alloc, self.act())?;
         Ok(seen)
     }
@@ -27,7 +27,7 @@ impl Op {
     pub fn permit_act(&self, alloc: Global) -> Result<PermitAct, NoMemory>
         ensures { IfOk result (λ seen. seen ≡ seen_permit self.now.dot self.now.act) }
     {
-        self.known();
+        self.tells_invariant();
         let seen = permit_in(alloc, self.act())?;
         Ok(seen)
     }
@@ -37,7 +37,7 @@ impl Op {
     pub fn drain_act(&self, alloc: Global) -> Result<DrainAct, NoMemory>
         ensures { IfOk result (λ seen. seen ≡ seen_drain self.now.dot self.now.act) }
     {
-        self.known();
+        self.tells_invariant();
         let seen = drain_in(alloc, self.act())?;
         Ok(seen)
     }

@@ -7,4 +7,4 @@ pub mod WorldRounds
 pub mod WorkedLoss
 pub mod WorkedFailover
 pub mod laws
-pub use Rattle.dac_worlds.specs as dac_worlds
+pub use Rattle.dac_model_world.specs as dac_model_world

@@ -15,11 +15,11 @@ use Rattle.dac_events.specs.declared.WorldEvent.{WorldEvent}
 use Rattle.dac_events.specs.declared.What.TheVariants.{Tick, Ship, Deliver}
 use Rattle.dac_messages.specs.declared.reply.Reply.{Reply}
 use Rattle.dac_messages.specs.declared.reply.Reply.TheVariants.{Ticked, Shipped, Heard}
-use Rattle.dac_worlds.specs.declared.fault.WorldFault.{WorldFault}
-use Rattle.dac_worlds.specs.ModelNode.{ModelNode, ModelRun}
+use Rattle.dac_model_world.specs.declared.fault.WorldFault.{WorldFault}
+use Rattle.dac_model_world.specs.ModelNode.{ModelNode, ModelRun}
 use Rattle.dac_peers.specs.Peers.{no_peers}
-use Rattle.dac_worlds.specs.ModelWorld.{ModelWorld}
-use Rattle.dac_worlds.specs.SetWorld.{NodeSet, SetWorld, issues_of}
+use Rattle.dac_model_world.specs.ModelWorld.{ModelWorld}
+use Rattle.dac_model_world.specs.SetWorld.{NodeSet, SetWorld, issues_of}
 use Rattle.dac_settle.specs.WorldRounds.{IsReadyWorld, AreRounds}
 use Rattle.dac_settle.specs.Worked.{first_node, second_node, IsEither, the_app, first_of, start_of, begun}
 

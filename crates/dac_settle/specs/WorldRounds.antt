@@ -11,13 +11,13 @@ use Rattle.dac_events.specs.declared.What.{What}
 use Rattle.dac_events.specs.declared.What.TheVariants.{Tick as Ticks}
 use Rattle.dac_messages.specs.declared.reply.Reply.{Reply}
 use Rattle.dac_messages.specs.declared.reply.Reply.TheVariants.{Ticked, Shipped, Heard}
-use Rattle.dac_worlds.specs.ModelNode.{ModelRun}
-use Rattle.dac_worlds.specs.declared.fault.WorldFault.{WorldFault}
-use Rattle.dac_worlds.specs.WorldValue.{WorldValue}
-use Rattle.dac_worlds.specs.ModelWorld.{ModelWorld, AnsweredAs, start, went, world_after}
-use Rattle.dac_worlds.specs.SetWorld.{NodeSet, SetWorld, no_sets, set_run}
-use Rattle.dac_worlds.specs.Shares.{IsSince}
-use Rattle.dac_worlds.specs.Convergence.{RunsWith}
+use Rattle.dac_model_world.specs.ModelNode.{ModelRun}
+use Rattle.dac_model_world.specs.declared.fault.WorldFault.{WorldFault}
+use Rattle.dac_model_world.specs.WorldValue.{WorldValue}
+use Rattle.dac_model_world.specs.ModelWorld.{ModelWorld, AnsweredAs, start, went, world_after}
+use Rattle.dac_model_world.specs.SetWorld.{NodeSet, SetWorld, no_sets, set_run}
+use Rattle.dac_model_world.specs.Shares.{IsSince}
+use Rattle.dac_model_world.specs.Convergence.{RunsWith}
 use Rattle.dac_settle.specs.Settling.{Member, IsLate, AllSame, IsReady, IsSettled}
 
 -- ---- what settling sees of a world

@@ -6,7 +6,7 @@ ghost use Rattle.dac_settle.specs.Staying.{Stays};
 ghost use Rattle.dac_settle.specs.WorldRounds.{Settles};
 ghost use Rattle.dac_settle.specs.WorkedLoss.{LossCanBe};
 ghost use Rattle.dac_settle.specs.WorkedFailover.{RunsCanFailOver};
-ghost use Rattle.dac_worlds.specs.ModelWorld.{InEachRun};
+ghost use Rattle.dac_model_world.specs.ModelWorld.{InEachRun};
 
 /// Rounds settle all. As many rounds as the configuration has applications, begun in a ready world, settle each
 /// application at each running controller. It is kept, halted, or no node may run it.

@@ -5,6 +5,6 @@
 //! a ready world, leave nothing to be done. Nothing here says that rounds happen.
 #![tactic(auto)]
 
-pub use dac_worlds;
+pub use dac_model_world;
 
 pub mod laws;

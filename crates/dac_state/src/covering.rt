@@ -52,7 +52,7 @@ fn holds_permit(permissions: &Permissions, op: &Op) -> bool
     ensures { IsTrue result ↔ IsPermissionsBelow (permissions_of (meaning_of (op.now ∷ []))) permissions.now }
 {
     laws::delta_is_meaning();
-    op.known();
+    op.tells_invariant();
     permissions.covers(op.dot(), permit_in(op.act()), op.act().over())
 }
 
@@ -61,7 +61,7 @@ fn holds_start(wishes: &Wishes, op: &Op) -> bool
     ensures { IsTrue result ↔ AreWishesBelow (wishes_of (meaning_of (op.now ∷ []))) wishes.now }
 {
     laws::delta_is_meaning();
-    op.known();
+    op.tells_invariant();
     wishes.covers(op.dot(), started_in(op.act()), op.act().over())
 }
 
@@ -70,7 +70,7 @@ fn holds_drain(drains: &Drains, op: &Op) -> bool
     ensures { IsTrue result ↔ AreDrainsBelow (drains_of (meaning_of (op.now ∷ []))) drains.now }
 {
     laws::delta_is_meaning();
-    op.known();
+    op.tells_invariant();
     drains.covers(op.dot(), drain_in(op.act()), op.act().over())
 }
 

@@ -127,9 +127,9 @@ fn read_parts<'a>(
     let ((heard, known), rest) = read_dots(reader, alloc, version, config.nodes())?;
     let (pieces, rest) = read_pieces(rest, alloc, version, config, &known)?;
     let ((permissions, wishes), ((lives, claims), drains)) = pieces;
-    Lattice::known(&permissions);
-    Lattice::known(&wishes);
-    Lattice::known(&drains);
+    Lattice::tells_invariant(&permissions);
+    Lattice::tells_invariant(&wishes);
+    Lattice::tells_invariant(&drains);
     let parts = Parts::new(alloc, heard, permissions, wishes, lives, claims, drains);
     Ok((parts, rest))
 }

@@ -118,8 +118,8 @@ impl Parts {
         &self.drains
     }
 
-    /// They are those of a state.
-    pub(crate) fn are_of_state(&self)
+    /// They are those of a state. This only tells proofs so, and does nothing when it runs.
+    pub(crate) fn tells_invariant(&self)
         ensures { IsState self.now }
     {
         let _heard = &self.heard;

@@ -159,8 +159,8 @@ impl Lattice for State {
 
     ghost laws = { state_laws };
 
-    fn known(&self) {
-        self.parts().are_of_state();
+    fn tells_invariant(&self) {
+        self.parts().tells_invariant();
     }
 
     fn join(&self, other: &Self) -> Result<Self, NoMemory> {
@@ -174,8 +174,8 @@ impl Lattice for State {
     }
 
     fn equal(&self, other: &Self) -> bool {
-        Lattice::known(self);
-        Lattice::known(other);
+        Lattice::tells_invariant(self);
+        Lattice::tells_invariant(other);
         self.leq(other) && other.leq(self)
     }
 
@@ -234,7 +234,7 @@ fn permissions_by(alloc: Global, op: &Op, known: &SharedContext) -> Result<Permi
     ensures { IfOk result (λ permissions. permissions ≡ permissions_of (meaning_of (op.now ∷ []))) }
 {
     laws::delta_is_meaning();
-    op.known();
+    op.tells_invariant();
     let act = op.permit_act(alloc)?;
     let permissions = Permissions::delta_beside(alloc, op.dot(), &act, known)?;
     Ok(permissions)
@@ -245,7 +245,7 @@ fn wishes_by(alloc: Global, op: &Op) -> Result<Wishes, NoMemory>
     ensures { IfOk result (λ wishes. wishes ≡ wishes_of (meaning_of (op.now ∷ []))) }
 {
     laws::delta_is_meaning();
-    op.known();
+    op.tells_invariant();
     let act = op.wish_act(alloc)?;
     let wishes = Wishes::delta(alloc, op.dot(), &act)?;
     Ok(wishes)
@@ -277,7 +277,7 @@ fn drains_by(alloc: Global, op: &Op, known: &SharedContext) -> Result<Drains, No
     ensures { IfOk result (λ drains. drains ≡ drains_of (meaning_of (op.now ∷ []))) }
 {
     laws::delta_is_meaning();
-    op.known();
+    op.tells_invariant();
     let act = op.drain_act(alloc)?;
     let drains = Drains::delta_beside(alloc, op.dot(), &act, known)?;
     Ok(drains)

@@ -52,7 +52,7 @@ impl<S: DotStore> Causal<S> {
         ensures ok { IfOk result (λ causal. (causal ≡ record { store = store; context = context }) × IsHeld (S.has store) context) }
         ensures err { IfErr result (λ back. (back ≡ (store, context)) × ¬ (IsHeld (S.has store) context)) }
     {
-        store.known();
+        store.tells_invariant();
         if store.within(&context) {
             let kept = Kept::Here(store);
             let shared = SharedContext::of(context);
@@ -71,7 +71,7 @@ impl<S: DotStore> Causal<S> {
         ensures ok { IfOk result (λ causal. (causal ≡ record { store = store; context = context }) × IsHeld (S.has store) context) }
         ensures err { IfErr result (λ back. (back ≡ (store, context)) × ¬ (IsHeld (S.has store) context)) }
     {
-        store.known();
+        store.tells_invariant();
         if store.within(context.context()) {
             let kept = Kept::Here(store);
             Ok(Causal { kept, context })
@@ -110,8 +110,8 @@ impl<S: DotStore> Causal<S> {
         requires { union.now ≡ set.union self.now.context other.now.context }
         ensures { IfOk result (λ joined. joined ≡ join_stored S.join self.now other.now) }
     {
-        self.known();
-        other.known();
+        self.tells_invariant();
+        other.tells_invariant();
         let kept = self.join_kept(other)?;
         let context = union.copy()?;
         Ok(Causal { kept, context })
@@ -142,12 +142,12 @@ impl<S: DotStore> Causal<S> {
         ensures unheard { IfOk result (λ leaves. leaves ≡ true → IsUnheard (S.has other.now.store) self.now.context) }
     {
         let store = self.store();
-        store.known();
+        store.tells_invariant();
         if !store.is_empty() {
             return Ok(false);
         }
         let theirs = other.store();
-        theirs.known();
+        theirs.tells_invariant();
         if theirs.is_empty() {
             return Ok(true);
         }
@@ -163,8 +163,8 @@ impl<S: DotStore> Causal<S> {
     fn join_kept(&self, other: &Self) -> Result<Kept<S>, NoMemory>
         ensures { IfOk result (λ kept. kept_in kept ≡ S.join self.now.store self.now.context other.now.store other.now.context) }
     {
-        self.known();
-        other.known();
+        self.tells_invariant();
+        other.tells_invariant();
         if other.leaves(self)? {
             return self.share();
         }
@@ -210,7 +210,7 @@ impl<S: DotStore> Lattice for Causal<S> {
 
     ghost laws = { causal_laws S.laws };
 
-    fn known(&self) {
+    fn tells_invariant(&self) {
         let _kept = &self.kept;
     }
 
@@ -225,8 +225,8 @@ impl<S: DotStore> Lattice for Causal<S> {
     }
 
     fn equal(&self, other: &Self) -> bool {
-        self.known();
-        other.known();
+        self.tells_invariant();
+        other.tells_invariant();
         self.leq(other) && other.leq(self)
     }
 

@@ -54,7 +54,7 @@ impl<V: Lattice> DotFun<V> {
         ensures err { OnErr result (self.new ≡ self.old) }
         ensures last { OnErr result (is_above_entries dot_cmp self.old dot ≡ true) }
     {
-        value.known();
+        value.tells_invariant();
         if !ends_below(&self.entries, dot) {
             return Ok(false);
         }
@@ -145,7 +145,7 @@ impl<V: Lattice> DotStore for DotFun<V> {
 
     ghost laws = { fun_laws V.laws };
 
-    fn known(&self) {
+    fn tells_invariant(&self) {
         let _entries = &self.entries;
     }
 

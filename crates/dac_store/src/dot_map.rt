@@ -58,7 +58,7 @@ impl<K: MapKey, S: DotStore> DotMap<K, S> {
         ensures err { OnErr result (self.new ≡ self.old) }
         ensures last { OnErr result ((is_above_entries K.cmp self.old key && not (S.is_empty store)) ≡ true) }
     {
-        store.known();
+        store.tells_invariant();
         if !ends_below(&self.entries, key) || store.is_empty() {
             return Ok(false);
         }
@@ -111,7 +111,7 @@ impl<K: MapKey, S: DotStore> Combine<K, S> for JoinStores<'_> {
 
     fn left(&self, _key: K, mine: &S) -> Result<Option<S>, NoMemory> {
         if mine.is_unheard(self.theirs) {
-            mine.known();
+            mine.tells_invariant();
             return Ok(kept(mine.copy()?));
         }
         Ok(kept(mine.join_in(self.mine, &S::empty(self.alloc), self.theirs)?))
@@ -119,7 +119,7 @@ impl<K: MapKey, S: DotStore> Combine<K, S> for JoinStores<'_> {
 
     fn right(&self, _key: K, theirs: &S) -> Result<Option<S>, NoMemory> {
         if theirs.is_unheard(self.mine) {
-            theirs.known();
+            theirs.tells_invariant();
             return Ok(kept(theirs.copy()?));
         }
         Ok(kept(S::empty(self.alloc).join_in(self.mine, theirs, self.theirs)?))
@@ -149,7 +149,7 @@ impl<K: MapKey, S: DotStore> DotStore for DotMap<K, S> {
 
     ghost laws = { keyed_laws K.total K.exact S.laws };
 
-    fn known(&self) {
+    fn tells_invariant(&self) {
         let _entries = &self.entries;
     }
 
@@ -188,7 +188,7 @@ impl<K: MapKey, S: DotStore> DotStore for DotMap<K, S> {
     }
 
     fn leq_in(&self, heard: &Context, other: &Self, other_heard: &Context) -> bool {
-        self.known();
+        self.tells_invariant();
         for (key, theirs) in &other.entries {
             if !self.leq_at(heard, *key, theirs, other_heard) {
                 return false;

@@ -199,7 +199,7 @@ impl DotStore for DotSet {
 
     ghost laws = { set_laws };
 
-    fn known(&self) {}
+    fn tells_invariant(&self) {}
 
     fn empty(alloc: Global) -> Self {
         let few = FewDots::Empty;

@@ -34,7 +34,7 @@ pub trait DotStore: Drop {
     ghost is_empty: { Self → Bool };
 
     /// A value of the type is one. This only tells proofs so, and does nothing when it runs.
-    fn known(&self)
+    fn tells_invariant(&self)
         ensures { is_store self.now };
 
     /// The store without dots. It takes no memory.

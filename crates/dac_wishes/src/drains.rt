@@ -54,7 +54,7 @@ impl Drains {
     pub fn new(causal: Causal<DotMap<Origin, DotFun<Flag>>>) -> Self
         ensures { result ≡ drains_of causal }
     {
-        causal.known();
+        causal.tells_invariant();
         Drains { causal }
     }
 
@@ -168,7 +168,7 @@ impl Lattice for Drains {
 
     ghost laws = { drains_laws };
 
-    fn known(&self) {
+    fn tells_invariant(&self) {
         let _causal = &self.causal;
     }
 
@@ -182,8 +182,8 @@ impl Lattice for Drains {
     }
 
     fn equal(&self, other: &Self) -> bool {
-        self.known();
-        other.known();
+        self.tells_invariant();
+        other.tells_invariant();
         self.leq(other) && other.leq(self)
     }
 

@@ -55,7 +55,7 @@ impl Permissions {
     pub fn new(causal: Causal<DotMap<Key, DotFun<Flag>>>) -> Self
         ensures { result ≡ permissions_of causal }
     {
-        causal.known();
+        causal.tells_invariant();
         Permissions { causal }
     }
 
@@ -172,7 +172,7 @@ impl Lattice for Permissions {
 
     ghost laws = { permissions_laws };
 
-    fn known(&self) {
+    fn tells_invariant(&self) {
         let _causal = &self.causal;
     }
 
@@ -186,8 +186,8 @@ impl Lattice for Permissions {
     }
 
     fn equal(&self, other: &Self) -> bool {
-        self.known();
-        other.known();
+        self.tells_invariant();
+        other.tells_invariant();
         self.leq(other) && other.leq(self)
     }
 

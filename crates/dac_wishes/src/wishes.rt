@@ -52,7 +52,7 @@ impl Wishes {
     pub fn new(causal: Causal<DotMap<Key, DotSet>>) -> Self
         ensures { result ≡ wishes_of causal }
     {
-        causal.known();
+        causal.tells_invariant();
         Wishes { causal }
     }
 
@@ -158,7 +158,7 @@ impl Lattice for Wishes {
 
     ghost laws = { wishes_laws };
 
-    fn known(&self) {
+    fn tells_invariant(&self) {
         let _causal = &self.causal;
     }
 
@@ -172,8 +172,8 @@ impl Lattice for Wishes {
     }
 
     fn equal(&self, other: &Self) -> bool {
-        self.known();
-        other.known();
+        self.tells_invariant();
+        other.tells_invariant();
         self.leq(other) && other.leq(self)
     }
 

@@ -31,7 +31,7 @@ fn trimmed(alloc: Global, to: u64) -> Result<Buffer<Max<u64>>, NoMemory> {
 
 /// The greatest of the numbers from a delta on.
 fn greatest(buffer: &Buffer<Max<u64>>, from: u64) -> Result<Option<u64>, NoMemory> {
-    buffer.known();
+    buffer.tells_invariant();
     if from > buffer.count() {
         return Ok(None);
     }

@@ -195,7 +195,7 @@ fn is_seen(
 
 /// Whether lives and claims see this of an operation.
 fn sees(op: &Op, life: LifeAct, claim: ClaimAct) -> bool {
-    op.known();
+    op.tells_invariant();
     op.life_act() == life && op.claim_act() == claim && op.act().says_up() == (life == LifeAct::Up)
 }
 

@@ -37,6 +37,6 @@ pub fn is_joined_above<L: Bottom>(alloc: Global, low: &L, high: &L) -> Result<bo
 
 /// Whether a copy of the third value is the join of the first two, through the bound.
 pub fn is_join<L: Lattice>(one: &L, other: &L, joined: &L) -> Result<bool, NoMemory> {
-    one.known();
+    one.tells_invariant();
     Ok(one.join(other)?.equal(&joined.copy()?))
 }

@@ -56,7 +56,7 @@ fn a_dot_outside_the_context_is_handed_back(rt: HostRuntime) {
 /// Whether nothing is left of a store where the other side has heard of its dots and dropped them, through
 /// the bound.
 fn is_cleared<S: DotStore>(alloc: Global, store: &S, context: &Context) -> Result<bool, NoMemory> {
-    store.known();
+    store.tells_invariant();
     let left = store.join_in(context, &S::empty(alloc), context)?;
     Ok(left.is_empty() && store.leq_in(context, &left, context) && left.within(context))
 }

@@ -3,10 +3,10 @@ use Rattle.std.proofs.Common.{◌≡◌, ℕ, List, [], ◌∷◌, ◌++◌, map
 use Rattle.dac_messages.specs.declared.reply.Reply.{Reply}
 use Rattle.dac_messages.specs.declared.event.Event.{Event}
 use Rattle.dac_commands.specs.declared.refusal.Refusal.{Refusal}
-use Rattle.dac_worlds.specs.NodeValue.{NodeValue}
-use Rattle.dac_worlds.specs.Step.{Steps, model_step}
-use Rattle.dac_worlds.specs.Histories.{Entry, IsHistory, off_after}
-use Rattle.dac_worlds.specs.laws.Histories.{IsHistory-push}
+use Rattle.dac_model_world.specs.NodeValue.{NodeValue}
+use Rattle.dac_model_world.specs.Step.{Steps, model_step}
+use Rattle.dac_model_world.specs.Histories.{Entry, IsHistory, off_after}
+use Rattle.dac_model_world.specs.laws.Histories.{IsHistory-push}
 use Rattle.dac_journal.specs.declared.record.Record.{Record}
 use Rattle.dac_journal.specs.Journals.{Opening, entry_of, record_of, EndsAt, AreHistory}
 

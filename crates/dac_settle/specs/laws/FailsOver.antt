@@ -35,17 +35,17 @@ use Rattle.dac_commands.specs.Causes.{first, terms_used_up}
 use Rattle.dac_peers.specs.Peers.{no_peers}
 use Rattle.dac_ticks.specs.Ticks.{Turn, turn_of, turn_from, claim_of, claimed_by, is_mine, is_mine_by}
 use Rattle.dac_ticks.specs.laws.Words.{if_own}
-use Rattle.dac_worlds.specs.declared.fault.WorldFault.{WorldFault}
-use Rattle.dac_worlds.specs.ModelNode.{ModelNode, ModelRun, joined, shown, base_after}
-use Rattle.dac_worlds.specs.EventRefusals.{refusal_of}
-use Rattle.dac_worlds.specs.Deeds.{meanings, brings}
-use Rattle.dac_worlds.specs.Step.{step_by}
-use Rattle.dac_worlds.specs.Histories.{off_after}
+use Rattle.dac_model_world.specs.declared.fault.WorldFault.{WorldFault}
+use Rattle.dac_model_world.specs.ModelNode.{ModelNode, ModelRun, joined, shown, base_after}
+use Rattle.dac_model_world.specs.EventRefusals.{refusal_of}
+use Rattle.dac_model_world.specs.Deeds.{meanings, brings}
+use Rattle.dac_model_world.specs.Step.{step_by}
+use Rattle.dac_model_world.specs.Histories.{off_after}
 use Rattle.dac_meaning.specs.Below.{is_below}
-use Rattle.dac_worlds.specs.ModelWorld.{ModelWorld, WorldStepped, Run, start, happens, answered_by, world_after}
-use Rattle.dac_worlds.specs.SetWorld.{NodeSet, SetWorld, united, no_sets, set_run}
-use Rattle.dac_worlds.specs.laws.Runs.{Run-push}
-use Rattle.dac_worlds.specs.laws.Sound.{Sound, held_at, sound_run, sound_start}
+use Rattle.dac_model_world.specs.ModelWorld.{ModelWorld, WorldStepped, Run, start, happens, answered_by, world_after}
+use Rattle.dac_model_world.specs.SetWorld.{NodeSet, SetWorld, united, no_sets, set_run}
+use Rattle.dac_model_world.specs.laws.Runs.{Run-push}
+use Rattle.dac_model_world.specs.laws.Sound.{Sound, held_at, sound_run, sound_start}
 use Rattle.dac_settle.specs.Settling.{Member, AllSame, IsReady, IsLate}
 use Rattle.dac_settle.specs.WorldRounds.{member_by, members_of, IsWorldRound, AreRounds}
 use Rattle.dac_settle.specs.Worked.{first_node, the_app, first_of, up_of}

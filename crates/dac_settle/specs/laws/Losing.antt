@@ -60,15 +60,15 @@ use Rattle.dac_ticks.specs.Ticks.{Turn, turn_of, turn_from, claim_of, claimed_by
 use Rattle.dac_ticks.specs.laws.Turning.{turned_by}
 use Rattle.dac_ticks.specs.laws.Words.{if_own}
 use Rattle.dac_ticks.specs.laws.Claimed.{Alike}
-use Rattle.dac_worlds.specs.declared.fault.WorldFault.{WorldFault}
-use Rattle.dac_worlds.specs.ModelNode.{ModelNode, ModelRun, joined, shown, run_shown, base_after}
-use Rattle.dac_worlds.specs.EventRefusals.{refusal_of}
-use Rattle.dac_worlds.specs.Deeds.{meanings, message_of, body_from}
-use Rattle.dac_worlds.specs.Step.{step_by}
+use Rattle.dac_model_world.specs.declared.fault.WorldFault.{WorldFault}
+use Rattle.dac_model_world.specs.ModelNode.{ModelNode, ModelRun, joined, shown, run_shown, base_after}
+use Rattle.dac_model_world.specs.EventRefusals.{refusal_of}
+use Rattle.dac_model_world.specs.Deeds.{meanings, message_of, body_from}
+use Rattle.dac_model_world.specs.Step.{step_by}
 use Rattle.dac_meaning.specs.Below.{is_below}
-use Rattle.dac_worlds.specs.declared.fault.WorldFault.TheVariants.{NoSuchNode}
-use Rattle.dac_worlds.specs.ModelWorld.{ModelWorld, WorldStepped, AnsweredAs, event_of, happens, happens_by, answered_by, world_after}
-use Rattle.dac_worlds.specs.SetWorld.{NodeSet, SetWorld, set_run}
+use Rattle.dac_model_world.specs.declared.fault.WorldFault.TheVariants.{NoSuchNode}
+use Rattle.dac_model_world.specs.ModelWorld.{ModelWorld, WorldStepped, AnsweredAs, event_of, happens, happens_by, answered_by, world_after}
+use Rattle.dac_model_world.specs.SetWorld.{NodeSet, SetWorld, set_run}
 use Rattle.dac_settle.specs.Settling.{Member, AllSame, IsReady, IsLate}
 use Rattle.dac_settle.specs.WorldRounds.{member_by, members_of, InRound, AreInRound, IsWorldRound, AreRounds}
 use Rattle.dac_settle.specs.Worked.{first_node, second_node, IsEither, the_app, first_of, start_of, begun}

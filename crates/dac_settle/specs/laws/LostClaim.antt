@@ -50,12 +50,12 @@ use Rattle.dac_commands.specs.laws.Counters.{next-is}
 use Rattle.dac_peers.specs.Peers.{no_peers}
 use Rattle.dac_ticks.specs.Ticks.{Turn, turn_of, turn_from, claim_of, claimed_by, is_mine}
 use Rattle.dac_ticks.specs.laws.Words.{if_own}
-use Rattle.dac_worlds.specs.ModelNode.{ModelNode, joined, shown, base_after}
-use Rattle.dac_worlds.specs.EventRefusals.{refusal_of, otherwise}
-use Rattle.dac_worlds.specs.Step.{comes_up}
+use Rattle.dac_model_world.specs.ModelNode.{ModelNode, joined, shown, base_after}
+use Rattle.dac_model_world.specs.EventRefusals.{refusal_of, otherwise}
+use Rattle.dac_model_world.specs.Step.{comes_up}
 use Rattle.dac_meaning.specs.laws.StateLaws.{bottom-join}
 use Rattle.dac_meaning.specs.laws.Joins.{meaning-state, join-meaning}
-use Rattle.dac_worlds.specs.laws.Operations.{DistinctDots-agree}
+use Rattle.dac_model_world.specs.laws.Operations.{DistinctDots-agree}
 use Rattle.dac_settle.specs.Worked.{first_node, the_app, first_of, up_of, start_of}
 use Rattle.dac_settle.specs.WorkedLoss.{lost_node, loss_table, lost_claim}
 use Rattle.dac_settle.specs.laws.AnyPlacement.{one}

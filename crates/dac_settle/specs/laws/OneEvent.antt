@@ -23,18 +23,18 @@ use Rattle.dac_messages.specs.declared.reply.Reply.TheVariants.{Ticked, Shipped,
 use Rattle.dac_commands.specs.declared.refusal.Refusal.TheVariants.{NoMemory}
 use Rattle.dac_ticks.specs.Ticks.{Turn}
 use Rattle.dac_ticks.specs.laws.Again.{tick_of}
-use Rattle.dac_worlds.specs.ModelNode.{ModelNode, ModelRun, joined, shown, run_shown}
-use Rattle.dac_worlds.specs.EventRefusals.{refusal_of, refusal_by}
-use Rattle.dac_worlds.specs.Deeds.{message_of, hears, hears_message, ships, looks_after, ticks_by, opening_at, note_of}
-use Rattle.dac_worlds.specs.Step.{step_by, goes_on, accepted}
-use Rattle.dac_worlds.specs.declared.fault.WorldFault.{WorldFault}
-use Rattle.dac_worlds.specs.declared.fault.WorldFault.TheVariants.{NoSuchNode, Refused}
-use Rattle.dac_worlds.specs.ModelWorld.{ModelWorld, WorldStepped, happens, happens_by, answered_by, event_of, counted, with_node, Step}
-use Rattle.dac_worlds.specs.SetWorld.{SetWorld, NodeSet, Copy, with_set, united, copied_by, copied_to, brought_to, issuing, set_step}
-use Rattle.dac_worlds.specs.Uniting.{Unites}
-use Rattle.dac_worlds.specs.laws.Operations.{Agree-within, DistinctDots-agree}
-use Rattle.dac_worlds.specs.laws.Carried.{none_some}
-use Rattle.dac_worlds.specs.laws.Sound.{Answer, Sound, held_at, no_message, no_operation}
+use Rattle.dac_model_world.specs.ModelNode.{ModelNode, ModelRun, joined, shown, run_shown}
+use Rattle.dac_model_world.specs.EventRefusals.{refusal_of, refusal_by}
+use Rattle.dac_model_world.specs.Deeds.{message_of, hears, hears_message, ships, looks_after, ticks_by, opening_at, note_of}
+use Rattle.dac_model_world.specs.Step.{step_by, goes_on, accepted}
+use Rattle.dac_model_world.specs.declared.fault.WorldFault.{WorldFault}
+use Rattle.dac_model_world.specs.declared.fault.WorldFault.TheVariants.{NoSuchNode, Refused}
+use Rattle.dac_model_world.specs.ModelWorld.{ModelWorld, WorldStepped, happens, happens_by, answered_by, event_of, counted, with_node, Step}
+use Rattle.dac_model_world.specs.SetWorld.{SetWorld, NodeSet, Copy, with_set, united, copied_by, copied_to, brought_to, issuing, set_step}
+use Rattle.dac_model_world.specs.Uniting.{Unites}
+use Rattle.dac_model_world.specs.laws.Operations.{Agree-within, DistinctDots-agree}
+use Rattle.dac_model_world.specs.laws.Carried.{none_some}
+use Rattle.dac_model_world.specs.laws.Sound.{Answer, Sound, held_at, no_message, no_operation}
 use Rattle.dac_settle.specs.Rounds.{InCopies}
 use Rattle.dac_settle.specs.Settling.{Member, Members, with_member, own_of, turn_at, holding, ticked, IsTick, MemberEvent, Run, Ticks as TicksIn}
 use Rattle.dac_settle.specs.Settling.MemberEvent.{Tick, Ship, Deliver}

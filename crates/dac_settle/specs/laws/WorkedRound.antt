@@ -24,7 +24,7 @@ use Rattle.dac_commands.specs.Causes.{terms_used_up}
 use Rattle.dac_ticks.specs.Ticks.{turn_from}
 use Rattle.dac_ticks.specs.laws.Turning.{turned_by}
 use Rattle.dac_ticks.specs.laws.Again.{noting}
-use Rattle.dac_worlds.specs.laws.Operations.{DistinctDots-agree}
+use Rattle.dac_model_world.specs.laws.Operations.{DistinctDots-agree}
 use Rattle.dac_settle.specs.Settling.{Member, with_member, own_of, turn_at, holding, ticked, IsTick, MemberEvent, Run, AllSame, IsReady, IsRound, IsSettled}
 use Rattle.dac_settle.specs.Settling.MemberEvent.{Tick, Ship, Deliver}
 use Rattle.dac_settle.specs.Worked.{first_node, second_node, IsEither, the_app, worked_table, first_of, start_of, worked_set, worked_member, worked_nodes, RoundsCanBe}

@@ -10,16 +10,16 @@ use Rattle.dac_placement.specs.Placement.{verdict_of}
 use Rattle.dac_events.specs.declared.WorldEvent.{WorldEvent}
 use Rattle.dac_events.specs.declared.What.{What}
 use Rattle.dac_messages.specs.declared.reply.Reply.TheVariants.{Shipped}
-use Rattle.dac_worlds.specs.ModelNode.{ModelRun}
-use Rattle.dac_worlds.specs.WorldValue.{WorldValue}
-use Rattle.dac_worlds.specs.ModelWorld.{ModelWorld, AnsweredAs, InEachRun, Shows, numbered, start, went, world_after}
-use Rattle.dac_worlds.specs.SetWorld.{SetWorld, NodeSet, no_sets, copied_by, set_step, set_run}
-use Rattle.dac_worlds.specs.Convergence.{RunsWith, state_by}
-use Rattle.dac_worlds.specs.laws.OneNode.{state_in}
-use Rattle.dac_worlds.specs.laws.Runs.{step_to}
-use Rattle.dac_worlds.specs.laws.Sound.{Answer, Sound, sound_step, sound_run, sound_start}
-use Rattle.dac_worlds.specs.laws.UnitingInRuns.{unite_run}
-use Rattle.dac_worlds.specs.laws.Headline.{holds_sets}
+use Rattle.dac_model_world.specs.ModelNode.{ModelRun}
+use Rattle.dac_model_world.specs.WorldValue.{WorldValue}
+use Rattle.dac_model_world.specs.ModelWorld.{ModelWorld, AnsweredAs, InEachRun, Shows, numbered, start, went, world_after}
+use Rattle.dac_model_world.specs.SetWorld.{SetWorld, NodeSet, no_sets, copied_by, set_step, set_run}
+use Rattle.dac_model_world.specs.Convergence.{RunsWith, state_by}
+use Rattle.dac_model_world.specs.laws.OneNode.{state_in}
+use Rattle.dac_model_world.specs.laws.Runs.{step_to}
+use Rattle.dac_model_world.specs.laws.Sound.{Answer, Sound, sound_step, sound_run, sound_start}
+use Rattle.dac_model_world.specs.laws.UnitingInRuns.{unite_run}
+use Rattle.dac_model_world.specs.laws.Headline.{holds_sets}
 use Rattle.dac_settle.specs.Settling.{Member, Members, MemberEvent, Run, Ticks, IsRound, Rounds, IsSettled}
 use Rattle.dac_settle.specs.WorldRounds.{member_by, members_of, IsReadyWorld, AreInRound, AnswersTick, IsWorldRound, AreRounds, Settles}
 use Rattle.dac_settle.specs.laws.OneEvent.{since, since_all, seen_in, goes_step}

@@ -1,8 +1,8 @@
 use Rattle.std.proofs.Common.{Ok, sym, subst}
 use Rattle.dac_messages.specs.declared.reply.Reply.{Reply}
-use Rattle.dac_worlds.specs.NodeValue.{NodeValue}
-use Rattle.dac_worlds.specs.Step.{Steps}
-use Rattle.dac_worlds.specs.laws.Steps.{steps, answered_steps}
+use Rattle.dac_model_world.specs.NodeValue.{NodeValue}
+use Rattle.dac_model_world.specs.Step.{Steps}
+use Rattle.dac_model_world.specs.laws.Steps.{steps, answered_steps}
 use Rattle.dac_node.specs.Changes.{changed}
 use Rattle.dac_journal.proofs.journal.asked.Goals as goal
 

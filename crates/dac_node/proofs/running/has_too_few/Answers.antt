@@ -5,8 +5,8 @@ use Rattle.dac_base.specs.declared.limits.TheConstants.{MAX_COUNTER}
 use Rattle.dac_dots.specs.declared.dot.Dot.{Dot}
 use Rattle.dac_dots.specs.Dots.{IsNext, IsUsedUp}
 use Rattle.dac_config.specs.Table.{app_count}
-use Rattle.dac_rules.specs.dac_commands.Commands.{greatest_counter}
-use Rattle.dac_rules.specs.dac_commands.laws.Counters.{next-is, used_up_is}
+use Rattle.dac_model_node.specs.dac_commands.Commands.{greatest_counter}
+use Rattle.dac_model_node.specs.dac_commands.laws.Counters.{next-is, used_up_is}
 use Rattle.dac_node.proofs.running.has_too_few.Goals as goal
 
 -- Where the next counter is at most the last one, it makes no difference that one counter is needed at least.

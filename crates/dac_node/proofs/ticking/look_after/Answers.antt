@@ -5,12 +5,12 @@ use Rattle.dac_meaning.specs.StateValue.{join}
 use Rattle.dac_decide.specs.declared.start_gate.Opening.TheVariants.{Opened}
 use Rattle.dac_messages.specs.declared.event.Event.TheVariants.{Tick}
 use Rattle.dac_messages.specs.declared.reply.Reply.TheVariants.{Ticked}
-use Rattle.dac_rules.specs.dac_ticks.Ticks.{turn_of}
-use Rattle.dac_rules.specs.dac_ticks.laws.Claims.{state_joined}
-use Rattle.dac_rules.specs.dac_commands.laws.Written.{none_is}
-use Rattle.dac_rules.specs.EventRefusals.{causes_to_tick, refusal_to_tick}
-use Rattle.dac_rules.specs.NodeValue.{RunValue}
-use Rattle.dac_rules.specs.Deeds.{meanings, opening_at}
+use Rattle.dac_model_node.specs.dac_ticks.Ticks.{turn_of}
+use Rattle.dac_model_node.specs.dac_ticks.laws.Claims.{state_joined}
+use Rattle.dac_model_node.specs.dac_commands.laws.Written.{none_is}
+use Rattle.dac_model_node.specs.EventRefusals.{causes_to_tick, refusal_to_tick}
+use Rattle.dac_model_node.specs.NodeValue.{RunValue}
+use Rattle.dac_model_node.specs.Deeds.{meanings, opening_at}
 use Rattle.dac_node.specs.declared.change.After.TheVariants.{GoesOn}
 use Rattle.dac_node.specs.Knowing.{run_of, ticking}
 use Rattle.dac_node.specs.Changes.{Effect}

@@ -1,11 +1,11 @@
 use Rattle.std.proofs.Common.{◌≡◌, ◌<◌, ◌-◌, length, get_or, rules, sym, subst, Err, Some}
 use Rattle.dac_operations.specs.Operations.{Operation}
 use Rattle.dac_messages.specs.declared.event.Event.TheVariants.{Crash, HearOp}
-use Rattle.dac_settle.specs.dac_worlds.declared.fault.WorldFault.TheVariants.{Refused}
-use Rattle.dac_settle.specs.dac_worlds.WorldValue.{WorldValue}
-use Rattle.dac_settle.specs.dac_worlds.ModelWorld.{handed_by, counted}
-use Rattle.dac_settle.specs.dac_worlds.AtNode.{HappensAt}
-use Rattle.dac_settle.specs.dac_worlds.laws.Follow.{node_at, counted_there, happens_gone, happens_refused}
+use Rattle.dac_settle.specs.dac_model_world.declared.fault.WorldFault.TheVariants.{Refused}
+use Rattle.dac_settle.specs.dac_model_world.WorldValue.{WorldValue}
+use Rattle.dac_settle.specs.dac_model_world.ModelWorld.{handed_by, counted}
+use Rattle.dac_settle.specs.dac_model_world.AtNode.{HappensAt}
+use Rattle.dac_settle.specs.dac_model_world.laws.Follow.{node_at, counted_there, happens_gone, happens_refused}
 use Rattle.dac_node.specs.Changes.{changed}
 use Rattle.dac_core.proofs.Readiness.{ready_at}
 use Rattle.dac_core.proofs.world.World.hand.Goals as goal

@@ -1,6 +1,6 @@
 use Rattle.std.proofs.Common.{◌≡◌, get_or, subst}
-use Rattle.dac_settle.specs.dac_worlds.WorldValue.{WorldValue}
-use Rattle.dac_settle.specs.dac_worlds.laws.Follow.{node_at, happens_gone, happens_refused}
+use Rattle.dac_settle.specs.dac_model_world.WorldValue.{WorldValue}
+use Rattle.dac_settle.specs.dac_model_world.laws.Follow.{node_at, happens_gone, happens_refused}
 use Rattle.dac_node.specs.Changes.{changed}
 use Rattle.dac_core.proofs.Readiness.{ready_at}
 use Rattle.dac_core.proofs.world.World.happen.Goals as goal

@@ -1,7 +1,7 @@
 use Rattle.std.proofs.Common.{sym, subst}
 use Rattle.dac_events.specs.declared.What.{What}
-use Rattle.dac_settle.specs.dac_worlds.ModelWorld.{event_of}
-use Rattle.dac_settle.specs.dac_worlds.AtNode.{HappensAt}
+use Rattle.dac_settle.specs.dac_model_world.ModelWorld.{event_of}
+use Rattle.dac_settle.specs.dac_model_world.AtNode.{HappensAt}
 use Rattle.dac_core.proofs.world.World.happen_at.Goals as goal
 
 pub returns-in-Boot-clause-happens : goal.returns-in-Boot-clause-happens

@@ -1,7 +1,7 @@
 use Rattle.std.proofs.Common.{◌≡◌, ℕ, cond, Some, None, length}
 use Rattle.std.specs.Prelude.{nat_lt}
 use Rattle.std.specs.List.{slice_get}
-use Rattle.dac_settle.specs.dac_worlds.NodeValue.{off}
+use Rattle.dac_settle.specs.dac_model_world.NodeValue.{off}
 use Rattle.dac_core.proofs.world.World.new.Given as goal
 
 abbrev pub invariant-loop-node : goal.invariant-loop-node

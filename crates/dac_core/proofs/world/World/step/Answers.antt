@@ -1,6 +1,6 @@
 use Rattle.std.proofs.Common.{◌<◌, length, rules, subst}
-use Rattle.dac_settle.specs.dac_worlds.WorldValue.{WorldValue}
-use Rattle.dac_settle.specs.dac_worlds.laws.Follow.{follows_in, hears_in}
+use Rattle.dac_settle.specs.dac_model_world.WorldValue.{WorldValue}
+use Rattle.dac_settle.specs.dac_model_world.laws.Follow.{follows_in, hears_in}
 use Rattle.dac_core.proofs.world.World.step.Goals as goal
 
 pub returns-clause-follows : goal.returns-clause-follows

@@ -1,5 +1,5 @@
 use Rattle.std.proofs.Common.{◌≡◌, ◌<◌, ◌+◌, ◌++◌, ◌∷◌, [], List, length, sym, ap, ◌∙◌, subst, arith, rules, length-append}
-use Rattle.dac_worlds.specs.NodeValue.{NodeValue}
+use Rattle.dac_model_world.specs.NodeValue.{NodeValue}
 use Rattle.dac_journal.specs.declared.record.Record.{Record}
 use Rattle.dac_journal.specs.Journals.{JournalValue, EndsAt, opening_of}
 use Rattle.dac_journal.specs.laws.Going.{is_history}

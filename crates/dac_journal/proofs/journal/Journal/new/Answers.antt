@@ -1,6 +1,6 @@
 use Rattle.std.proofs.Common.{◌≡◌, List, length, refl, sym, ap, subst, arith}
-use Rattle.dac_worlds.specs.NodeValue.{NodeValue}
-use Rattle.dac_worlds.specs.Histories.{off_after}
+use Rattle.dac_model_world.specs.NodeValue.{NodeValue}
+use Rattle.dac_model_world.specs.Histories.{off_after}
 use Rattle.dac_journal.specs.declared.record.Record.{Record}
 use Rattle.dac_journal.specs.Journals.{EndsAt, opening_of}
 use Rattle.dac_journal.proofs.journal.Journal.new.Goals as goal

@@ -3,7 +3,7 @@ use Rattle.dac_operations.specs.Operations.{Operation}
 use Rattle.dac_meaning.specs.Meaning.{meaning_of}
 use Rattle.dac_messages.specs.declared.event.Event.TheVariants.{Command as Told}
 use Rattle.dac_messages.specs.declared.reply.Reply.TheVariants.{Issued}
-use Rattle.dac_rules.specs.laws.Numbers.{obeyed}
+use Rattle.dac_model_node.specs.laws.Numbers.{obeyed}
 use Rattle.dac_node.specs.declared.change.After.TheVariants.{GoesOn}
 use Rattle.dac_node.specs.Knowing.{NextValue, adding, knowledge_of}
 use Rattle.dac_node.proofs.Effects.{going_effect}

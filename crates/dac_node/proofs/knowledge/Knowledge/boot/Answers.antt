@@ -2,8 +2,8 @@ use Rattle.std.proofs.Common.{◌≡◌, [], ◌∷◌, sym, ap, subst, ◌∙�
 use Rattle.dac_operations.specs.Operations.{Operation}
 use Rattle.dac_meaning.specs.StateValue.{join, bottom}
 use Rattle.dac_meaning.specs.Meaning.{meaning_of}
-use Rattle.dac_rules.specs.dac_commands.Commands.{KnowsItself}
-use Rattle.dac_rules.specs.Step.{up}
+use Rattle.dac_model_node.specs.dac_commands.Commands.{KnowsItself}
+use Rattle.dac_model_node.specs.Step.{up}
 use Rattle.dac_node.proofs.Knows.{knows-boot}
 use Rattle.dac_node.proofs.knowledge.Knowledge.boot.Goals as goal
 

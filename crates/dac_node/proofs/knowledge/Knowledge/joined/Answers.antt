@@ -1,5 +1,5 @@
 use Rattle.std.proofs.Common.{sym, subst}
-use Rattle.dac_rules.specs.dac_commands.Commands.{KnowsItself}
+use Rattle.dac_model_node.specs.dac_commands.Commands.{KnowsItself}
 use Rattle.dac_node.proofs.Knows.{knows-join}
 use Rattle.dac_node.proofs.knowledge.Knowledge.joined.Goals as goal
 

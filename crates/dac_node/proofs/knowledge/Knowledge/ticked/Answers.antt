@@ -1,7 +1,7 @@
 use Rattle.std.proofs.Common.{◌≤◌, sym, subst, arith}
 use Rattle.std.specs.Prelude.{fold}
 use Rattle.dac_meaning.specs.StateValue.{join}
-use Rattle.dac_rules.specs.dac_commands.Commands.{KnowsItself}
+use Rattle.dac_model_node.specs.dac_commands.Commands.{KnowsItself}
 use Rattle.dac_node.specs.Knowing.{KnowledgeValue}
 use Rattle.dac_node.proofs.Knows.{knows-grown}
 use Rattle.dac_node.proofs.knowledge.Knowledge.ticked.Goals as goal

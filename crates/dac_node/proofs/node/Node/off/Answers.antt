@@ -1,4 +1,4 @@
-use Rattle.dac_rules.specs.laws.Steps.{off_shown}
+use Rattle.dac_model_node.specs.laws.Steps.{off_shown}
 use Rattle.dac_node.proofs.node.Node.off.Goals as goal
 
 pub returns-clause-shown : goal.returns-clause-shown

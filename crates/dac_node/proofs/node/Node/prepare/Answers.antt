@@ -1,6 +1,6 @@
 use Rattle.std.proofs.Common.{◌≡◌, None, sym, subst}
-use Rattle.dac_rules.specs.NodeValue.{NodeValue}
-use Rattle.dac_rules.specs.EventRefusals.{refusal_by, refusal_of}
+use Rattle.dac_model_node.specs.NodeValue.{NodeValue}
+use Rattle.dac_model_node.specs.EventRefusals.{refusal_by, refusal_of}
 use Rattle.dac_node.specs.Changes.{Fits, Prepared}
 use Rattle.dac_node.proofs.Effects.{effect_prepared, effect_fits}
 use Rattle.dac_node.proofs.node.Node.prepare.Goals as goal

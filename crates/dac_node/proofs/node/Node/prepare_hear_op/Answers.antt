@@ -1,6 +1,6 @@
 use Rattle.std.proofs.Common.{Some, sym, subst}
 use Rattle.dac_messages.specs.declared.event.Event.TheVariants.{HearOp}
-use Rattle.dac_rules.specs.NodeValue.{NodeValue}
+use Rattle.dac_model_node.specs.NodeValue.{NodeValue}
 use Rattle.dac_node.specs.After.{FitsIn}
 use Rattle.dac_node.specs.Changes.{Fits, Prepared}
 use Rattle.dac_node.proofs.Effects.{effect_prepared, hear_op_fits}

@@ -2,21 +2,21 @@ use Rattle.std.proofs.Common.{Ok, sym, ap, subst, ◌∙◌}
 use Rattle.std.specs.Prelude.{unwrap_or}
 use Rattle.std.proofs.lemmas.Result.{err_from_is_err_and}
 use Rattle.dac_messages.specs.declared.reply.Reply.{Reply}
-use Rattle.dac_rules.specs.dac_commands.declared.refusal.Refusal.TheVariants.{NoMemory}
-use Rattle.dac_rules.specs.NodeValue.{NodeValue}
-use Rattle.dac_rules.specs.Step.{Steps, IsShown}
-use Rattle.dac_rules.specs.Hearing.{HearsExactly}
-use Rattle.dac_rules.specs.Writing.{Writes}
-use Rattle.dac_rules.specs.Keeping.{Keeps}
-use Rattle.dac_rules.specs.Effect.{HasEffect}
-use Rattle.dac_rules.specs.Shipping.{ShipsSo}
-use Rattle.dac_rules.specs.laws.Steps.{steps, answered_steps, stays_shown}
-use Rattle.dac_rules.specs.laws.Writing.{writes}
-use Rattle.dac_rules.specs.laws.Keeping.{keeps}
-use Rattle.dac_rules.specs.laws.Effect.{events_take_effect}
-use Rattle.dac_rules.specs.laws.Heard.{hears_exactly}
-use Rattle.dac_rules.specs.laws.Shipping.{ships_so}
-use Rattle.dac_rules.specs.laws.Refused.{answered_is, free_is}
+use Rattle.dac_model_node.specs.dac_commands.declared.refusal.Refusal.TheVariants.{NoMemory}
+use Rattle.dac_model_node.specs.NodeValue.{NodeValue}
+use Rattle.dac_model_node.specs.Step.{Steps, IsShown}
+use Rattle.dac_model_node.specs.Hearing.{HearsExactly}
+use Rattle.dac_model_node.specs.Writing.{Writes}
+use Rattle.dac_model_node.specs.Keeping.{Keeps}
+use Rattle.dac_model_node.specs.Effect.{HasEffect}
+use Rattle.dac_model_node.specs.Shipping.{ShipsSo}
+use Rattle.dac_model_node.specs.laws.Steps.{steps, answered_steps, stays_shown}
+use Rattle.dac_model_node.specs.laws.Writing.{writes}
+use Rattle.dac_model_node.specs.laws.Keeping.{keeps}
+use Rattle.dac_model_node.specs.laws.Effect.{events_take_effect}
+use Rattle.dac_model_node.specs.laws.Heard.{hears_exactly}
+use Rattle.dac_model_node.specs.laws.Shipping.{ships_so}
+use Rattle.dac_model_node.specs.laws.Refused.{answered_is, free_is}
 use Rattle.dac_node.specs.Changes.{changed}
 use Rattle.dac_node.proofs.node.Node.step.Goals as goal
 

@@ -1,0 +1,37 @@
+-- What an accepted event brings about at its node.
+use Rattle.std.specs.Prelude.{List, [], ◌∷◌, IfSome}
+use Rattle.dac_base.specs.declared.NodeId.{NodeId}
+use Rattle.dac_operations.specs.Operations.{Operation}
+use Rattle.dac_config.specs.Table.{Table}
+use Rattle.dac_ticks.specs.TakesEffect.{TakesEffect}
+use Rattle.dac_ticks.specs.Staying.{AreKeptAt, AreLaterClaims}
+use Rattle.dac_messages.specs.declared.event.Event.{Event}
+use Rattle.dac_messages.specs.declared.event.Event.TheVariants.{Command as Told, Tick}
+use Rattle.dac_messages.specs.declared.reply.Reply.{Reply}
+use Rattle.dac_messages.specs.declared.reply.Reply.TheVariants.{Booted, Issued, Ticked}
+use Rattle.dac_model_node.specs.NodeValue.{NodeValue, RunValue}
+use Rattle.dac_model_node.specs.Accepted.{AcceptedAs}
+
+-- the operations that a reply issues
+abbrev pub issued_by : Reply → List Operation
+issued_by (Booted o) = o ∷ []
+issued_by (Issued o) = o ∷ []
+issued_by (Ticked ops passed) = ops
+issued_by _ = []
+
+-- What is so once the event is over: a command has taken effect, and what a tick claimed is kept at the own node and
+-- runs there.
+abbrev pub IsBroughtAbout : Table → Event → Reply → RunValue → Type 0
+IsBroughtAbout t (Told c) reply r = TakesEffect t r.origin r.state c
+IsBroughtAbout t (Tick now) reply r = AreKeptAt t r.state r.origin.node (issued_by reply)
+IsBroughtAbout t e reply r = Unit {0}
+
+-- the event takes effect at the node
+pub record HasEffect (t : Table) (old : NodeValue) (e : Event) (reply : Reply) (new : NodeValue) : Type 0 where
+  pub left : IfSome new.run (IsBroughtAbout t e reply)
+  -- what is claimed is claimed under a later term than any claim of the application that the node had heard
+  pub later : IfSome old.run (λ (r : RunValue). AreLaterClaims r.state (issued_by reply))
+
+-- so each accepted event does
+abbrev pub EventsTakeEffect : Type 0
+EventsTakeEffect = (t : Table) (me : NodeId) (old : NodeValue) (e : Event) (new : NodeValue) (reply : Reply) → AcceptedAs t me old e new reply → HasEffect t old e reply new

@@ -1,0 +1,47 @@
+-- The model node: each state that it issued or heard since it booted, and each note that its ticks made. The program
+-- keeps their join, the newest of them and the waits alone.
+use Rattle.std.specs.Prelude.{ℕ, ◌-◌, min, max, Bool, List, Option, fold}
+use Rattle.std.specs.Option.{option_map}
+use Rattle.dac_dots.specs.declared.dot.Origin.{Origin}
+use Rattle.dac_meaning.specs.StateValue.{StateValue, bottom, join}
+use Rattle.dac_config.specs.Table.{Table}
+use Rattle.dac_deltas.specs.Logs.{kept_of}
+use Rattle.dac_peers.specs.Peers.{PeersValue}
+use Rattle.dac_decide.specs.FailoverWait.{Note, waits_of}
+use Rattle.dac_model_node.specs.declared.moments.Moments.{Moments}
+use Rattle.dac_model_node.specs.NodeValue.{NodeValue, RunValue}
+use Rattle.dac_deltas.specs.declared.buffer.TheConstants.{MAX_DELTAS}
+
+-- A node that runs: its present incarnation, when it was booted and ticked last, and whether its start gate is open.
+-- It keeps the notes of its ticks, newest first, and each state that it issued or heard, oldest first. Neither list
+-- is ever cut. The base is the number of the first state from which an interval may begin. Beside it stands what is
+-- kept of peers.
+pub record ModelRun : Type 0 where
+  pub origin : Origin
+  pub moments : Moments
+  pub is_open : Bool
+  pub notes : List Note
+  pub log : List StateValue
+  pub base : ℕ
+  pub peers : PeersValue
+
+-- the number of the last incarnation, and what runs under it
+pub record ModelNode : Type 0 where
+  pub last : ℕ
+  pub run : Option ModelRun
+
+-- the base after so many states, and a trim: the newest 256 are kept at most, and none below the trim
+abbrev pub base_after : ℕ → ℕ → ℕ → ℕ
+base_after base count trim = max (max base (count - MAX_DELTAS)) (min trim count)
+
+-- the states joined
+abbrev pub joined : List StateValue → StateValue
+joined states = fold join bottom states
+
+-- the program's node that it shows as, under a configuration
+abbrev pub run_shown : Table → ModelRun → RunValue
+run_shown t r = record { origin = r.origin; moments = r.moments; is_open = r.is_open; waits = waits_of t r.notes; state = joined r.log; kept = kept_of r.base r.log; peers = r.peers }
+
+-- and so the whole node is shown: the number of its last incarnation is the same
+abbrev pub shown : Table → ModelNode → NodeValue
+shown t d = record { last = d.last; run = option_map (run_shown t) d.run }

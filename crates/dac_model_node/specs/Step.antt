@@ -1,0 +1,72 @@
+-- The step of the model node.
+use Rattle.std.specs.Prelude.{◌≡◌, ℕ, ◌+◌, false, cond, [], ◌∷◌, ◌++◌, length, Option, Some, None, Result, Ok, Err}
+use Rattle.dac_base.specs.declared.NodeId.{NodeId}
+use Rattle.dac_dots.specs.declared.dot.Origin.{Origin}
+use Rattle.dac_dots.specs.Dots.{dot}
+use Rattle.dac_operations.specs.declared.act.Act.TheVariants.{Up}
+use Rattle.dac_operations.specs.Operations.{Operation, operation}
+use Rattle.dac_meaning.specs.Meaning.{meaning_of}
+use Rattle.dac_config.specs.Table.{Table}
+use Rattle.dac_peers.specs.Peers.{no_peers}
+use Rattle.dac_decide.specs.FailoverWait.{Note, waits_of}
+use Rattle.dac_messages.specs.declared.event.Event.{Event}
+use Rattle.dac_messages.specs.declared.reply.Reply.{Reply}
+use Rattle.dac_messages.specs.declared.reply.Reply.TheVariants.{Booted}
+use Rattle.dac_commands.specs.declared.refusal.Refusal.{Refusal}
+use Rattle.dac_model_node.specs.NodeValue.{NodeValue}
+use Rattle.dac_model_node.specs.ModelNode.{ModelNode, ModelRun, joined, base_after, run_shown, shown}
+use Rattle.dac_model_node.specs.Deeds.{Deed, deed_of, moment_of, note_of}
+use Rattle.dac_model_node.specs.EventRefusals.{refusal_of}
+
+-- the operation that a boot issues
+abbrev pub up : Origin → Operation
+up own = operation (dot own 1) Up
+
+-- a node that comes up as this incarnation at this moment
+abbrev pub comes_up : Origin → ℕ → ModelRun
+comes_up own now = record { origin = own; moments = record { booted = now; last = now }; is_open = false; notes = []; log = meaning_of (up own ∷ []) ∷ []; base = 0; peers = no_peers }
+
+-- what runs after a deed, with this note if it notes
+abbrev pub goes_on : ModelRun → Note → Deed → Option ModelRun
+goes_on r note deed = cond deed.goes_off None (Some (record {
+  origin = r.origin;
+  moments = record { booted = r.moments.booted; last = deed.last };
+  is_open = deed.is_open;
+  notes = cond deed.notes (note ∷ r.notes) r.notes;
+  log = r.log ++ deed.adds;
+  base = base_after r.base (length (r.log ++ deed.adds)) deed.trim;
+  peers = deed.peers;
+}))
+
+-- what an accepted event does at a running model node
+abbrev pub deed_on : Table → ModelRun → Event → Deed
+deed_on t r e = deed_of t (run_shown t r) (waits_of t (note_of (joined r.log) e ∷ r.notes)) e
+
+-- what a step gives: the node after it, and the answer
+pub record Stepped : Type 0 where
+  pub node : ModelNode
+  pub answer : Result Reply Refusal
+
+-- an event that isn't refused
+abbrev pub accepted : Table → NodeId → ℕ → Option ModelRun → Event → Stepped
+accepted t me last None e =
+    let own : Origin = record { node = me; inc = last + 1 } in
+    record { node = record { last = last + 1; run = Some (comes_up own (moment_of e)) }; answer = Ok (Booted (up own)) }
+accepted t me last (Some r) e = record { node = record { last = last; run = goes_on r (note_of (joined r.log) e) (deed_on t r e) }; answer = Ok (deed_on t r e).reply }
+
+-- a step, where this refuses the event, if anything does
+abbrev pub step_by : Option Refusal → Table → NodeId → ModelNode → Event → Stepped
+step_by (Some why) t me d e = record { node = d; answer = Err why }
+step_by None t me d e = accepted t me d.last d.run e
+
+-- one event at a node, which boots as node me
+abbrev pub model_step : Table → NodeId → ModelNode → Event → Stepped
+model_step t me d e = step_by (refusal_of t (shown t d) e) t me d e
+
+-- From old, the program's node answers and goes on to new as each model node that shows as old.
+pub record Steps (t : Table) (me : NodeId) (old : NodeValue) (e : Event) (new : NodeValue) (answer : Result Reply Refusal) : Type 0 where
+  pub by : (d : ModelNode) → shown t d ≡ old → (shown t (model_step t me d e).node ≡ new) × ((model_step t me d e).answer ≡ answer)
+
+-- some model node shows as the value
+abbrev pub IsShown : Table → NodeValue → Type 0
+IsShown t v = (d : ModelNode) × (shown t d ≡ v)

@@ -1,0 +1,148 @@
+-- A second tick of a node at the same moment claims nothing.
+use Rattle.std.proofs.Common.{◌≡◌, ℕ, Bool, true, false, not, cond, ◌||◌, List, [], ◌∷◌, ◌++◌, length, Option, Some, None, Result, Ok, refl, sym, ap, subst, ◌∙◌, inl, inr, arith, true≢false}
+use Rattle.std.specs.Prelude.{nat_lt}
+use Rattle.std.proofs.lemmas.Bool.{ltb-true, false_from_ne_true}
+use Rattle.dac_base.specs.declared.NodeId.{NodeId}
+use Rattle.dac_base.specs.declared.AppId.{AppId}
+use Rattle.dac_dots.specs.declared.dot.Origin.{Origin}
+use Rattle.dac_chains.specs.Lives.{IsLive, Lives}
+use Rattle.dac_operations.specs.declared.act.Act.{Act}
+use Rattle.dac_operations.specs.Operations.{Operation}
+use Rattle.dac_meaning.specs.StateValue.{StateValue, IsState, join}
+use Rattle.dac_meaning.specs.Meaning.{meaning_of}
+use Rattle.dac_config.specs.Table.{Table}
+use Rattle.dac_decide.specs.Placement.{is_up, verdict_of}
+use Rattle.dac_decide.specs.laws.Tests.{up_is}
+use Rattle.dac_decide.specs.declared.start_gate.Opening.{Opening}
+use Rattle.dac_decide.specs.declared.start_gate.Opening.TheVariants.{Shut, Opened, GiveUp}
+use Rattle.dac_decide.specs.declared.waits.Noted.{Noted}
+use Rattle.dac_decide.specs.FailoverWait.{Note, waits_of}
+use Rattle.dac_messages.specs.declared.event.Event.TheVariants.{Tick}
+use Rattle.dac_messages.specs.declared.reply.Reply.{Reply}
+use Rattle.dac_messages.specs.declared.reply.Reply.TheVariants.{Ticked}
+use Rattle.dac_commands.specs.declared.refusal.Refusal.{Refusal}
+use Rattle.dac_commands.specs.declared.refusal.Refusal.TheVariants.{DeclaredDown, MomentBack, DotsUsedUp}
+use Rattle.dac_commands.specs.Commands.{next_operation}
+use Rattle.dac_commands.specs.Causes.{first as first_cause, declared_down}
+use Rattle.dac_commands.specs.laws.Written.{none_is}
+use Rattle.dac_ticks.specs.Ticks.{Turn, turn_of, claim_of}
+use Rattle.dac_ticks.specs.laws.Turning.{numbered, turned_by, turn_reaches}
+use Rattle.dac_ticks.specs.laws.Claims.{state_joined}
+use Rattle.dac_ticks.specs.laws.Claimed.{claim_alike, claim_state, claimed_as}
+use Rattle.dac_ticks.specs.laws.Again.{IsAmong, second_tick}
+use Rattle.dac_model_node.specs.ModelNode.{ModelNode, ModelRun, base_after, joined, run_shown}
+use Rattle.dac_model_node.specs.EventRefusals.{causes_to_tick, refusal_to_tick, needed, too_few_left, too_many_deltas}
+use Rattle.dac_model_node.specs.Deeds.{meanings, opening_at, ticks_by}
+use Rattle.dac_model_node.specs.Step.{goes_on, model_step, step_by}
+use Rattle.dac_model_node.specs.Again.{ClaimsNothing, HoldsState, SecondTickClaimsNothing}
+use Rattle.dac_model_node.specs.laws.Steps.{joined-append}
+
+-- ---- an incarnation stays live over its own claims
+
+module _ (t : Table) (own : Origin) where
+  pub record StillUp (s : StateValue) : Type 0 where
+    pub state : IsState s
+    pub live : IsLive s.lives own.node own.inc
+
+  after_claim : (u : StateValue) (app : AppId) → StillUp u → StillUp (join u (meaning_of (claim_of t own u app ∷ [])))
+  after_claim u app h =
+      let by = claimed_as u app (verdict_of t u app) in
+      subst (λ (act : Act). StillUp (join u (meaning_of (next_operation u own act ∷ [])))) (sym by.2) (record {
+        state = claim_state own u app by.0 by.1 h.state;
+        live = subst (λ (lives : Lives). IsLive lives own.node own.inc) (claim_alike own u app by.0 by.1 h.state).lives h.live;
+      })
+
+  still_up : (waits : List (Option Noted)) (now : ℕ) (s : StateValue) → StillUp s → StillUp (turn_of t own waits now s).state
+  still_up waits now s up = turn_reaches t own waits now (λ n turn. StillUp turn.state) s up (λ n turn lt h.
+      turned_by t own waits now (λ (after : Turn). StillUp after.state) turn (numbered n) (λ none. h) (λ mine used. h) (λ mine left. after_claim turn.state (numbered n) h))
+
+-- ---- declared down
+
+live_if : (own : Origin) (s : StateValue) → declared_down own s ≡ false → IsLive s.lives own.node own.inc
+live_if own s h = (up_is s own).0 (turned (is_up s own) h)
+  where
+    turned : (b : Bool) → not b ≡ false → b ≡ true
+    turned true e = refl
+    turned false e = absurd (true≢false e)
+
+up_if : (own : Origin) (s : StateValue) → IsLive s.lives own.node own.inc → declared_down own s ≡ false
+up_if own s live = ap not ((up_is s own).1 live)
+
+not_before : (n : ℕ) → nat_lt n n ≡ false
+not_before n = false_from_ne_true _ (λ e. let less = ltb-true n n e in omega arith)
+
+-- ---- the second tick
+
+module _ (t : Table) (me : NodeId) (last now : ℕ) (r : ModelRun) (is : IsState (joined r.log)) where
+  abbrev s : StateValue
+  s = joined r.log
+
+  abbrev noted : List Note
+  noted = record { state = s; moment = now } ∷ r.notes
+
+  abbrev turn : Turn
+  turn = turn_of t r.origin (waits_of t noted) now s
+
+  -- what runs after the first
+  abbrev later : ModelRun
+  later = record { origin = r.origin; moments = record { booted = r.moments.booted; last = now }; is_open = true; notes = noted; log = r.log ++ meanings turn.ops; base = base_after r.base (length (r.log ++ meanings turn.ops)) 0; peers = r.peers }
+
+  abbrev there : ModelNode
+  there = record { last = last; run = Some later }
+
+  later_state : joined later.log ≡ turn.state
+  later_state = joined-append r.log (meanings turn.ops) ∙ sym (state_joined t r.origin (waits_of t noted) now s)
+
+  -- the second turn, from this state
+  abbrev again : StateValue → Turn
+  again u = turn_of t r.origin (waits_of t (record { state = u; moment = now } ∷ noted)) now u
+
+  abbrev IsIdle : StateValue → Type 0
+  IsIdle u = ((again u).ops ≡ []) × ((app : AppId) → IsAmong app (again u).passed → IsAmong app turn.passed)
+
+  module _ (up : IsLive s.lives r.origin.node r.origin.inc) where
+    idle : IsIdle (joined later.log)
+    idle = let quiet = second_tick t r.origin r.notes now s is up in subst IsIdle (sym later_state) (quiet.0, quiet.1.1)
+
+    still : declared_down r.origin (joined later.log) ≡ false
+    still = up_if r.origin (joined later.log) (subst (λ (u : StateValue). IsLive u.lives r.origin.node r.origin.inc) (sym later_state) (still_up t r.origin (waits_of t noted) now s (record { state = is; live = up })).live)
+
+    abbrev few : Bool
+    few = too_few_left t (joined later.log) r.origin || too_many_deltas (run_shown t later) (needed t)
+
+    refused : refusal_to_tick t (run_shown t later) now ≡ cond few (Some DotsUsedUp) None
+    refused = λ i. first_cause ((still i, DeclaredDown) ∷ (not_before now i, MomentBack) ∷ (few, DotsUsedUp) ∷ [])
+
+    claims_nothing : ClaimsNothing turn.passed (model_step t me there (Tick now)).answer
+    claims_nothing = elim few as (λ b. few ≡ b → ClaimsNothing turn.passed (model_step t me there (Tick now)).answer) [
+      | true ↦ λ e. inl (ap (λ x. (step_by x t me there (Tick now)).answer) (refused ∙ ap (λ b. cond b (Some DotsUsedUp) None) e))
+      | false ↦ λ e. inr (
+        (again (joined later.log)).passed,
+        (
+          ap (λ x. (step_by x t me there (Tick now)).answer) (refused ∙ ap (λ b. cond b (Some DotsUsedUp) None) e) ∙ ap (λ os. Ok (Ticked os (again (joined later.log)).passed)) idle.0,
+          idle.1,
+        ),
+      )
+    ] refl
+
+  -- by what the gate answered at the first
+  by_opening : (o : Opening) (ops : List Operation) (passed : List AppId) → IsLive s.lives r.origin.node r.origin.inc → ◌≡◌ {A = Result Reply Refusal} (Ok (ticks_by o t (run_shown t r) (waits_of t noted) now).reply) (Ok (Ticked ops passed)) →
+      ClaimsNothing passed (model_step t me (record { last = last; run = goes_on r (record { state = s; moment = now }) (ticks_by o t (run_shown t r) (waits_of t noted) now) }) (Tick now)).answer
+  by_opening Shut ops passed up e = cc
+  by_opening GiveUp ops passed up e = cc
+  by_opening Opened ops passed up e = let same : turn.passed ≡ passed = cc in subst (λ p. ClaimsNothing p (model_step t me there (Tick now)).answer) same (claims_nothing up)
+
+  -- by why the first was refused, if it was
+  by_refusal : (x : Option Refusal) (ops : List Operation) (passed : List AppId) → refusal_to_tick t (run_shown t r) now ≡ x → (step_by x t me (record { last = last; run = Some r }) (Tick now)).answer ≡ Ok (Ticked ops passed) →
+      ClaimsNothing passed (model_step t me (step_by x t me (record { last = last; run = Some r }) (Tick now)).node (Tick now)).answer
+  by_refusal (Some why) ops passed e answer = cc
+  by_refusal None ops passed e answer =
+      by_opening (opening_at t (run_shown t r) now) ops passed (live_if r.origin s (none_is (causes_to_tick t (run_shown t r) now) e).0) answer
+
+second : (t : Table) (me : NodeId) (last : ℕ) (run : Option ModelRun) (now : ℕ) (ops : List Operation) (passed : List AppId) → HoldsState (record { last = last; run = run }) →
+    (model_step t me (record { last = last; run = run }) (Tick now)).answer ≡ Ok (Ticked ops passed) → ClaimsNothing passed (model_step t me (model_step t me (record { last = last; run = run }) (Tick now)).node (Tick now)).answer
+second t me last None now ops passed is answer = cc
+second t me last (Some r) now ops passed is answer = by_refusal t me last now r is (refusal_to_tick t (run_shown t r) now) ops passed refl answer
+
+pub second_tick_claims_nothing : SecondTickClaimsNothing
+second_tick_claims_nothing t me d now ops passed is answer = second t me d.last d.run now ops passed is answer

@@ -1,0 +1,104 @@
+-- What an accepted event brings about at its node.
+use Rattle.std.proofs.Common.{◌≡◌, ℕ, Bool, true, false, not, List, [], ◌∷◌, Option, Some, None, refl, sym, ap, subst, ◌∙◌, inl, inr, true≢false}
+use Rattle.std.specs.Prelude.{IfSome}
+use Rattle.dac_base.specs.declared.NodeId.{NodeId}
+use Rattle.dac_dots.specs.declared.dot.Origin.{Origin}
+use Rattle.dac_operations.specs.declared.act.Act.{Act}
+use Rattle.dac_operations.specs.declared.act.Act.TheVariants.{Claim}
+use Rattle.dac_meaning.specs.StateValue.{StateValue, IsState}
+use Rattle.dac_config.specs.Table.{Table}
+use Rattle.dac_decide.specs.Placement.{is_up}
+use Rattle.dac_decide.specs.laws.Tests.{up_is}
+use Rattle.dac_decide.specs.declared.start_gate.Opening.{Opening}
+use Rattle.dac_decide.specs.declared.start_gate.Opening.TheVariants.{Shut, Opened, GiveUp}
+use Rattle.dac_decide.specs.declared.waits.Noted.{Noted}
+use Rattle.dac_ticks.specs.Ticks.{turn_of}
+use Rattle.dac_ticks.specs.Staying.{AreKeptAt, AreLaterClaims}
+use Rattle.dac_ticks.specs.laws.Claims.{state_joined}
+use Rattle.dac_ticks.specs.laws.Staying.{next_is_later, claims_stay, claims_are_later}
+use Rattle.dac_ticks.specs.laws.TakesEffect.{commands_take_effect}
+use Rattle.dac_events.specs.declared.Command.{Command}
+use Rattle.dac_events.specs.declared.Command.TheVariants.{Down, Permit, Start, Stop, Drain, Takeover}
+use Rattle.dac_messages.specs.declared.event.Event.{Event}
+use Rattle.dac_messages.specs.declared.event.Event.TheVariants.{Boot, Crash, Command as Told, Tick, Ship, Hear, HearOp}
+use Rattle.dac_messages.specs.declared.reply.Reply.{Reply}
+use Rattle.dac_commands.specs.Commands.{next_operation, next_term, act_of}
+use Rattle.dac_commands.specs.laws.Written.{none_is}
+use Rattle.dac_model_node.specs.NodeValue.{NodeValue, RunValue}
+use Rattle.dac_model_node.specs.EventRefusals.{causes_to_tick, refusal_on, refusal_by, refusal_to_tick}
+use Rattle.dac_model_node.specs.Deeds.{deed_of, opening_at, ticks_by}
+use Rattle.dac_model_node.specs.Accepted.{left_by, reply_by, run_by}
+use Rattle.dac_model_node.specs.Effect.{HasEffect, EventsTakeEffect}
+use Rattle.dac_model_node.specs.laws.Numbers.{obeyed}
+use Rattle.dac_model_node.specs.laws.Writing.{no_off}
+
+-- nothing is claimed
+nothing_later : (s : StateValue) → AreLaterClaims s []
+nothing_later s o app i = absurd i
+
+-- an act that claims goes by the next term
+abbrev IsNext : StateValue → Act → Type 0
+IsNext s (Claim app term how from) = term ≡ next_term s app
+IsNext s act = Unit {0}
+
+is_next : (t : Table) (s : StateValue) (c : Command) → IsNext s (act_of t s c)
+is_next t s (Down node) = tt
+is_next t s (Permit app node value) = tt
+is_next t s (Start app node) = tt
+is_next t s (Stop app node) = tt
+is_next t s (Drain node value) = tt
+is_next t s (Takeover app) = refl
+
+-- so does what a command issues
+later_command : (t : Table) (own : Origin) (s : StateValue) (c : Command) → AreLaterClaims s (next_operation s own (act_of t s c) ∷ [])
+later_command t own s c o app i term how from act claim there = elim i [
+  | inl is ↦ next_is_later s app term claim (subst (IsNext s) ((λ k. (sym is k).act) ∙ act) (is_next t s c)) there
+  | inr none ↦ absurd none
+]
+
+was_true : (b : Bool) → not b ≡ false → b ≡ true
+was_true true e = refl
+was_true false e = absurd (true≢false e)
+
+module _ (t : Table) (last : ℕ) (r : RunValue) (noted : List (Option Noted)) (is : IsState r.state) where
+  abbrev before : NodeValue
+  before = record { last = last; run = Some r }
+
+  abbrev after : Option RunValue → NodeValue
+  after run = record { last = last; run = run }
+
+  tick_effect : (now : ℕ) (opening : Opening) → refusal_to_tick t r now ≡ None
+      → HasEffect t before (Tick now) (ticks_by opening t r noted now).reply (after (run_by r noted (ticks_by opening t r noted now)))
+  tick_effect now Shut none = record { left = λ o app i. absurd i; later = nothing_later r.state }
+  tick_effect now GiveUp none = record { left = tt; later = nothing_later r.state }
+  tick_effect now Opened none =
+      let live = (up_is r.state r.origin).0 (was_true (is_up r.state r.origin) (none_is (causes_to_tick t r now) none).0) in
+      record {
+        left = subst (λ s. AreKeptAt t s r.origin.node (turn_of t r.origin noted now r.state).ops) (state_joined t r.origin noted now r.state) (claims_stay t r.origin noted now r.state is live);
+        later = claims_are_later t r.origin noted now r.state is;
+      }
+
+  effect_on : (e : Event) → refusal_on t r e ≡ None → HasEffect t before e (deed_of t r noted e).reply (after (run_by r noted (deed_of t r noted e)))
+  effect_on (Boot now) none = record { left = tt; later = nothing_later r.state }
+  effect_on Crash none = record { left = tt; later = nothing_later r.state }
+  effect_on (Told c) none = record { left = commands_take_effect t r.origin r.state c is (obeyed t r c none).0; later = later_command t r.origin r.state c }
+  effect_on (Tick now) none = tick_effect now (opening_at t r now) none
+  effect_on (Ship to) none = record { left = tt; later = nothing_later r.state }
+  effect_on (Hear m) none = record { left = tt; later = nothing_later r.state }
+  effect_on (HearOp o) none = record { left = tt; later = nothing_later r.state }
+
+takes_effect : (t : Table) (me : NodeId) (last : ℕ) (run : Option RunValue) (noted : List (Option Noted)) (e : Event) → refusal_by t last run e ≡ None → IfSome run (λ (r : RunValue). IsState r.state) →
+    HasEffect t (record { last = last; run = run }) e (reply_by t me last run noted e) (left_by t me last run noted e)
+takes_effect t me last None noted (Boot now) none is = record { left = tt; later = tt }
+takes_effect t me last None noted Crash none is = no_off none
+takes_effect t me last None noted (Told c) none is = no_off none
+takes_effect t me last None noted (Tick now) none is = no_off none
+takes_effect t me last None noted (Ship to) none is = no_off none
+takes_effect t me last None noted (Hear m) none is = no_off none
+takes_effect t me last None noted (HearOp o) none is = no_off none
+takes_effect t me last (Some r) noted e none is = effect_on t last r noted is e none
+
+-- what is accepted takes effect
+pub events_take_effect : EventsTakeEffect
+events_take_effect t me old e new reply p =
+    subst (λ (x : NodeValue × Reply). HasEffect t old e x.1 x.0) (λ i. (sym p.left i, sym p.reply i)) (takes_effect t me old.last old.run p.noted e p.accepted p.state)

@@ -1,0 +1,133 @@
+-- What an accepted event adds to what a node has heard.
+use Rattle.std.proofs.Common.{◌≡◌, ℕ, Bool, true, false, cond, ◌||◌, List, [], ◌∷◌, Option, Some, None, map, refl, sym, ap, ◌∙◌, true≢false}
+use Rattle.std.specs.Prelude.{fold}
+use Rattle.std.specs.List.{list_any}
+use Rattle.std.specs.FinSet as set
+use Rattle.dac_base.specs.declared.NodeId.{NodeId}
+use Rattle.dac_dots.specs.declared.dot.Dot.{Dot}
+use Rattle.dac_dots.specs.Dots.{Dots, IsSubset, dot_cmp, dots_total, exact_dots}
+use Rattle.dac_store.specs.Stores.{same_context, subset_left, subset_union}
+use Rattle.dac_wishes.specs.Writes.{same_dot}
+use Rattle.dac_operations.specs.Operations.{Operation}
+use Rattle.dac_meaning.specs.StateValue.{StateValue, join}
+use Rattle.dac_meaning.specs.laws.StateLaws.{heard-join}
+use Rattle.dac_meaning.specs.Meaning.{meaning_of}
+use Rattle.dac_meaning.specs.Below.{is_below, is_below-is}
+use Rattle.dac_config.specs.Table.{Table}
+use Rattle.dac_decide.specs.declared.start_gate.Opening.{Opening}
+use Rattle.dac_decide.specs.declared.start_gate.Opening.TheVariants.{Shut, Opened, GiveUp}
+use Rattle.dac_decide.specs.declared.waits.Noted.{Noted}
+use Rattle.dac_messages.specs.Bodies.{content_of}
+use Rattle.dac_messages.specs.declared.event.Event.{Event}
+use Rattle.dac_messages.specs.declared.event.Event.TheVariants.{Boot, Crash, Command as Told, Tick, Ship, Hear, HearOp}
+use Rattle.dac_commands.specs.declared.refusal.Refusal.TheVariants.{AlreadyOn}
+use Rattle.dac_ticks.specs.Ticks.{turn_of}
+use Rattle.dac_model_node.specs.NodeValue.{RunValue, state_of}
+use Rattle.dac_model_node.specs.EventRefusals.{refusal_by}
+use Rattle.dac_model_node.specs.Deeds.{deed_of, brings, meanings, opening_at, ticks_by}
+use Rattle.dac_model_node.specs.Accepted.{left_by, reply_by, run_by}
+use Rattle.dac_model_node.specs.Hearing.{dots_brought, dots_issued, HearsExactly}
+use Rattle.dac_model_node.specs.laws.Options.{some_same}
+
+-- a set and what it has already
+nothing_more : (c d : Dots) → IsSubset d c → c ≡ set.union c d
+nothing_more c d h = same_context c (set.union c d) (subset_left c d) (subset_union c d c (λ x e. e) h)
+
+nothing_at_all : (c : Dots) → c ≡ set.union c set.empty
+nothing_at_all c = nothing_more c set.empty (λ x e. absurd (true≢false (sym e ∙ set.contains-empty dot_cmp x)))
+
+-- the dots of one operation
+one_heard : (o : Operation) → (meaning_of (o ∷ [])).heard ≡ set.from_list (o.dot ∷ [])
+unfolding meaning_of
+one_heard o = refl
+
+or_none : (b : Bool) → b ≡ (b || false)
+or_none true = refl
+or_none false = refl
+
+or_assoc : (a b c : Bool) → ((a || (b || false)) || c) ≡ (a || (b || c))
+or_assoc true b c = refl
+or_assoc false true c = refl
+or_assoc false false c = refl
+
+-- what is heard of some operations after a state, one dot after another
+heard_any : (s : StateValue) (os : List Operation) (x : Dot) → set.contains (fold join s (meanings os)).heard x ≡ (set.contains s.heard x || list_any (same_dot x) (map (λ (o : Operation). o.dot) os))
+heard_any s [] x = or_none (set.contains s.heard x)
+heard_any s (o ∷ os) x =
+    let m = meaning_of (o ∷ []) in
+    let rest = list_any (same_dot x) (map (λ (p : Operation). p.dot) os) in
+    heard_any (join s m) os x
+    ∙ ap (λ b. b || rest) (ap (λ h. set.contains h x) (heard-join s m) ∙ (set.contains-union dots_total s.heard m.heard x
+    ∙ ap (λ b. set.contains s.heard x || b) (ap (λ h. set.contains h x) (one_heard o) ∙ set.contains-from_list dots_total (o.dot ∷ []) x)))
+    ∙ or_assoc (set.contains s.heard x) (same_dot x o.dot) rest
+
+-- they are the operations' dots
+pub heard_all : (s : StateValue) (os : List Operation) → (fold join s (meanings os)).heard ≡ set.union s.heard (set.from_list (map (λ (o : Operation). o.dot) os))
+heard_all s os =
+    let dots = map (λ (o : Operation). o.dot) os in
+    set.same_set dots_total exact_dots (fold join s (meanings os)).heard (set.union s.heard (set.from_list dots)) (λ x.
+    heard_any s os x ∙ sym (set.contains-union dots_total s.heard (set.from_list dots) x ∙ ap (λ b. set.contains s.heard x || b) (set.contains-from_list dots_total dots x)))
+
+-- a body that is heard, whether or not it is below the state
+body_heard : (s body : StateValue) (b : Bool) → is_below body s ≡ b → (fold join s (cond b [] (body ∷ []))).heard ≡ set.union s.heard body.heard
+body_heard s body true e = nothing_more s.heard body.heard ((is_below-is body s).1 e).heard
+body_heard s body false e = heard-join s body
+
+off_run : {P : Type 0} {r : RunValue} → None ≡ Some r → P
+off_run e = cc
+
+-- what runs after a deed has heard so much
+run_state : (r r' : RunValue) (s : StateValue) (x : RunValue) → x.state ≡ s → Some x ≡ Some r' → r'.state.heard ≡ s.heard
+run_state r r' s x is e = ap (λ (y : RunValue). y.state.heard) (sym (some_same x r' e)) ∙ ap (λ (u : StateValue). u.heard) is
+
+tick_heard : (opening : Opening) (t : Table) (r : RunValue) (noted : List (Option Noted)) (now : ℕ) (r' : RunValue) → run_by r noted (ticks_by opening t r noted now) ≡ Some r'
+    → r'.state.heard ≡ set.union r.state.heard (dots_issued (ticks_by opening t r noted now).reply)
+tick_heard Shut t r noted now r' is = run_state r r' r.state _ refl is ∙ nothing_at_all r.state.heard
+tick_heard GiveUp t r noted now r' is = off_run is
+tick_heard Opened t r noted now r' is =
+    let ops = (turn_of t r.origin noted now r.state).ops in
+    run_state r r' (fold join r.state (meanings ops)) _ refl is ∙ heard_all r.state ops
+
+-- what a running node has heard after an event that it accepts and doesn't go off by
+run_heard : (t : Table) (last : ℕ) (r : RunValue) (noted : List (Option Noted)) (e : Event) (r' : RunValue) → refusal_by t last (Some r) e ≡ None → run_by r noted (deed_of t r noted e) ≡ Some r'
+    → r'.state.heard ≡ set.union r.state.heard (dots_brought e (deed_of t r noted e).reply)
+run_heard t last r noted (Boot now) r' none is = absurd (no none)
+  where
+    no : Some AlreadyOn ≡ None → ⊥
+    no p = cc
+run_heard t last r noted Crash r' none is = off_run is
+run_heard t last r noted (Told c) r' none is = run_state r r' (join r.state _) _ refl is ∙ (heard-join r.state _ ∙ ap (set.union r.state.heard) (one_heard _))
+run_heard t last r noted (Tick now) r' none is = tick_heard (opening_at t r now) t r noted now r' is
+run_heard t last r noted (Ship to) r' none is = run_state r r' r.state _ refl is ∙ nothing_at_all r.state.heard
+run_heard t last r noted (Hear m) r' none is =
+    let body = content_of m.body in
+    run_state r r' (fold join r.state (brings r.state body)) _ refl is ∙ body_heard r.state body (is_below body r.state) refl
+run_heard t last r noted (HearOp o) r' none is =
+    let body = meaning_of (o ∷ []) in
+    run_state r r' (fold join r.state (brings r.state body)) _ refl is
+    ∙ (body_heard r.state body (is_below body r.state) refl ∙ ap (set.union r.state.heard) (one_heard o))
+
+state_there : (run : Option RunValue) (s : StateValue) → state_of (record { last = 0; run = run }) ≡ Some s → (r : RunValue) × ((run ≡ Some r) × (r.state ≡ s))
+state_there None s e = absurd (no e)
+  where
+    no : None ≡ Some s → ⊥
+    no p = cc
+state_there (Some r) s e = (r, (refl, some_same r.state s e))
+
+-- an accepted event is heard exactly
+pub hears_exactly : (t : Table) (me : NodeId) (last : ℕ) (run : Option RunValue) (noted : List (Option Noted)) (e : Event) → refusal_by t last run e ≡ None
+    → HearsExactly (record { last = last; run = run }) e (reply_by t me last run noted e) (left_by t me last run noted e)
+hears_exactly t me last None noted e none = record {
+  each = λ s u was is. absurd (no s was);
+}
+  where
+    no : (s : StateValue) → None ≡ Some s → ⊥
+    no s p = cc
+hears_exactly t me last (Some r) noted e none = record {
+  each = λ s u was is.
+      let deed = deed_of t r noted e in
+      let next = state_there (run_by r noted deed) u is in
+      sym (ap (λ (x : StateValue). x.heard) next.1.1)
+      ∙ (run_heard t last r noted e next.0 none next.1.0
+      ∙ ap (λ (x : StateValue). set.union x.heard (dots_brought e deed.reply)) (some_same r.state s was));
+}

@@ -1,0 +1,85 @@
+-- What an accepted event adds has numbers left for it.
+use Rattle.std.proofs.Common.{◌≡◌, ◌≤◌, ℕ, ◌+◌, Bool, true, false, not, ◌&&◌, List, [], ◌∷◌, length, Option, Some, None, refl, arith}
+use Rattle.std.specs.Prelude.{max, cond}
+use Rattle.std.proofs.lemmas.Bool.{ltb-false}
+use Rattle.std.proofs.lemmas.List.{length-append, length-map}
+use Rattle.dac_base.specs.declared.limits.TheConstants.{MAX_COUNTER}
+use Rattle.dac_dots.specs.declared.dot.Origin.{Origin}
+use Rattle.dac_operations.specs.Operations.{Operation}
+use Rattle.dac_meaning.specs.StateValue.{StateValue}
+use Rattle.dac_meaning.specs.Meaning.{meaning_of}
+use Rattle.dac_meaning.specs.Below.{is_below}
+use Rattle.dac_config.specs.Table.{Table, app_count}
+use Rattle.dac_decide.specs.declared.start_gate.Opening.{Opening}
+use Rattle.dac_decide.specs.declared.start_gate.Opening.TheVariants.{Shut, Opened, GiveUp}
+use Rattle.dac_decide.specs.declared.waits.Noted.{Noted}
+use Rattle.dac_ticks.specs.Ticks.{Turn, turn_of, claim_of}
+use Rattle.dac_ticks.specs.laws.Turning.{numbered, turned_by, turn_reaches}
+use Rattle.dac_events.specs.declared.Command.{Command}
+use Rattle.dac_messages.specs.declared.message.Message.{Message}
+use Rattle.dac_messages.specs.Bodies.{content_of}
+use Rattle.dac_messages.specs.declared.event.Event.{Event}
+use Rattle.dac_messages.specs.declared.event.Event.TheVariants.{Boot, Crash, Command as Told, Tick, Ship, Hear, HearOp}
+use Rattle.dac_commands.specs.declared.refusal.Refusal.{Refusal}
+use Rattle.dac_commands.specs.declared.refusal.Refusal.TheVariants.{DotsUsedUp}
+use Rattle.dac_commands.specs.Causes.{first, refusal_of_command}
+use Rattle.dac_commands.specs.laws.Written.{none_is}
+use Rattle.dac_model_node.specs.NodeValue.{RunValue}
+use Rattle.dac_model_node.specs.EventRefusals.{needed, otherwise, overflows, refusal_on, causes_to_hear, refusal_to_hear, refusal_to_obey, too_many_deltas}
+use Rattle.dac_model_node.specs.Deeds.{brings, deed_of, meanings, opening_at, ticks_by}
+use Rattle.dac_model_node.specs.laws.Counters.{leaves_numbers}
+
+-- neither of two causes holds
+either_none : (x y : Option Refusal) → otherwise x y ≡ None → (x ≡ None) × (y ≡ None)
+either_none None y e = (refl, e)
+either_none (Some why) y e = cc
+
+pub obeyed : (t : Table) (r : RunValue) (c : Command) → refusal_to_obey t r c ≡ None → (refusal_of_command t r.origin r.state c ≡ None) × (too_many_deltas r 1 ≡ false)
+obeyed t r c none =
+    let both = either_none (refusal_of_command t r.origin r.state c) (first ((too_many_deltas r 1, DotsUsedUp) ∷ [])) none in
+    (both.0, (none_is ((too_many_deltas r 1, DotsUsedUp) ∷ []) both.1).0)
+
+-- a turn claims no more than each application once
+pub few_claims : (t : Table) (own : Origin) (waits : List (Option Noted)) (now : ℕ) (s : StateValue) → length (turn_of t own waits now s).ops ≤ app_count t
+few_claims t own waits now s = turn_reaches t own waits now (λ n turn. length turn.ops ≤ n) s (omega arith) (λ n turn lt h.
+    turned_by t own waits now (λ (after : Turn). length after.ops ≤ n + 1) turn (numbered n) (λ none. omega arith) (λ mine used. omega arith)
+    (λ mine left. let one = length-append turn.ops (claim_of t own turn.state (numbered n) ∷ []) in omega arith))
+
+module _ (r : RunValue) where
+  room_if : (more : ℕ) → too_many_deltas r more ≡ false → r.kept.count + more ≤ MAX_COUNTER
+  room_if more h = ltb-false MAX_COUNTER (r.kept.count + more) h
+
+  -- what comes and doesn't overflow
+  pub room_to_hear : (body : StateValue) → r.kept.count ≤ MAX_COUNTER → overflows r body ≡ false → r.kept.count + length (brings r.state body) ≤ MAX_COUNTER
+  room_to_hear body countable h = by (is_below body r.state) h
+    where
+      by : (b : Bool) → (not b && too_many_deltas r 1) ≡ false → r.kept.count + length (cond b [] (body ∷ [])) ≤ MAX_COUNTER
+      by true e = omega arith
+      by false e = room_if 1 e
+
+module _ (t : Table) (r : RunValue) (noted : List (Option Noted)) (countable : r.kept.count ≤ MAX_COUNTER) where
+  nothing_more : r.kept.count + 0 ≤ MAX_COUNTER
+  nothing_more = omega arith
+
+  room_to_tick : (opening : Opening) (now : ℕ) → r.kept.count + needed t ≤ MAX_COUNTER → r.kept.count + length (ticks_by opening t r noted now).adds ≤ MAX_COUNTER
+  room_to_tick Shut now h = nothing_more
+  room_to_tick GiveUp now h = nothing_more
+  room_to_tick Opened now h =
+      let ops = (turn_of t r.origin noted now r.state).ops in
+      fewer (length (meanings ops)) (length ops) (app_count t) (length-map ops (λ (o : Operation). meaning_of (o ∷ []))) (few_claims t r.origin noted now r.state) h
+    where
+      fewer : (n k apps : ℕ) → n ≡ k → k ≤ apps → r.kept.count + max 1 apps ≤ MAX_COUNTER → r.kept.count + n ≤ MAX_COUNTER
+      fewer n k apps same le room = omega arith
+
+  not_heard : (m : Message) → refusal_to_hear r m ≡ None → overflows r (content_of m.body) ≡ false
+  not_heard m none = (none_is (causes_to_hear r m) none).1.1.0
+
+  -- what an accepted event adds has numbers left for it
+  pub fits : (e : Event) → refusal_on t r e ≡ None → r.kept.count + length (deed_of t r noted e).adds ≤ MAX_COUNTER
+  fits (Boot now) none = nothing_more
+  fits Crash none = nothing_more
+  fits (Told c) none = room_if r 1 (obeyed t r c none).1
+  fits (Tick now) none = room_to_tick (opening_at t r now) now (leaves_numbers t r now none)
+  fits (Ship to) none = nothing_more
+  fits (Hear m) none = room_to_hear r (content_of m.body) countable (not_heard m none)
+  fits (HearOp o) none = room_to_hear r (meaning_of (o ∷ [])) countable (none_is ((overflows r (meaning_of (o ∷ [])), DotsUsedUp) ∷ []) none).0

@@ -1,0 +1,85 @@
+-- What an accepted ship answers is what the log of the model node says.
+use Rattle.std.proofs.Common.{◌≡◌, ◌≤◌, ℕ, ◌+◌, ◌-◌, Bool, true, false, cond, drop, length, Option, Some, None, Ok, refl, sym, ap, subst, ◌∙◌, arith, drop-drop}
+use Rattle.std.specs.Prelude.{fold, nat_le}
+use Rattle.std.specs.Option.{option_map}
+use Rattle.std.specs.FinMap as map
+use Rattle.std.proofs.lemmas.Bool.{leb-true, leb-false}
+use Rattle.dac_base.specs.declared.NodeId.{NodeId}
+use Rattle.dac_config.specs.Table.{Table}
+use Rattle.dac_meaning.specs.StateValue.{bottom, join}
+use Rattle.dac_peers.specs.declared.places.Place.{Place}
+use Rattle.dac_peers.specs.Peers.{begins}
+use Rattle.dac_messages.specs.declared.message.Body.TheVariants.{Nothing, Interval}
+use Rattle.dac_messages.specs.declared.event.Event.{Event}
+use Rattle.dac_messages.specs.declared.event.Event.TheVariants.{Boot, Crash, Command as Told, Tick, Ship, Hear, HearOp}
+use Rattle.dac_messages.specs.declared.reply.Reply.{Reply}
+use Rattle.dac_messages.specs.declared.reply.Reply.TheVariants.{Shipped}
+use Rattle.dac_commands.specs.declared.refusal.Refusal.{Refusal}
+use Rattle.dac_model_node.specs.NodeValue.{NodeValue, RunValue}
+use Rattle.dac_model_node.specs.ModelNode.{ModelRun, joined, run_shown}
+use Rattle.dac_model_node.specs.EventRefusals.{refusal_to_ship}
+use Rattle.dac_model_node.specs.Deeds.{body_from, message_of}
+use Rattle.dac_model_node.specs.Accepted.{AcceptedAs}
+use Rattle.dac_model_node.specs.Step.{model_step, step_by}
+use Rattle.dac_model_node.specs.Shipping.{IsPlace, IsBody, IsReceipt, IsShipped, ShipsBy, ShipsSo, ShipsInWords}
+use Rattle.dac_model_node.specs.laws.Places.{begins_is}
+use Rattle.dac_model_node.specs.laws.Steps.{steps}
+
+module _ (t : Table) (r : ModelRun) (to : NodeId) where
+  abbrev here : RunValue
+  here = run_shown t r
+
+  abbrev from_place : Option Place
+  from_place = begins here.peers here.state here.kept.base to
+
+  -- what is kept from a place on is what the log has from there on
+  from_there : (p : Place) → r.base ≤ p.number → fold join bottom (drop (p.number - r.base) (drop r.base r.log)) ≡ joined (drop p.number r.log)
+  from_there p h =
+      let whole : r.base + (p.number - r.base) ≡ p.number = omega arith in
+      ap joined (drop-drop (p.number - r.base) r.base r.log ∙ ap (λ n. drop n r.log) whole)
+
+  at_place : (p : Place) → IsPlace here to p → (b : Bool) → nat_le (length r.log) p.number ≡ b → IsBody t r to (Some p.inc) (cond b Nothing (Interval (fold join bottom (drop (p.number - r.base) (drop r.base r.log)))))
+  at_place p is true all = (p, (is, (refl, leb-true (length r.log) p.number all)))
+  at_place p is false more = let less = leb-false (length r.log) p.number more in (p, (is, (refl, (omega arith, from_there p is.kept))))
+
+  body_is : (from : Option Place) → from_place ≡ from → IsBody t r to (option_map (λ (p : Place). p.inc) from) (body_from here from)
+  body_is None none = (refl, (refl, λ p is. no p ((sym none) ∙ (begins_is here to p).1 is)))
+    where
+      no : (p : Place) → None ≡ Some p → ⊥
+      no p e = cc
+  body_is (Some p) is = at_place p ((begins_is here to p).0 is) (nat_le (length r.log) p.number) refl
+
+  receipt_is : (got : Option Place) → map.get r.peers.got to ≡ got → IsReceipt r to (option_map (λ (g : Place). (record { node = to; inc = g.inc }, g.number)) got)
+  receipt_is None none = none
+  receipt_is (Some g) is = (refl, is)
+
+  pub message_is : IsShipped t r to (message_of here to)
+  message_is = record { from = refl; to = refl; up_to = refl; body = body_is from_place refl; ack = receipt_is (map.get r.peers.got to) refl }
+
+-- by whether the ship is refused
+by_refusal : (t : Table) (me : NodeId) (last : ℕ) (r : ModelRun) (to : NodeId) (x : Option Refusal) (reply : Reply) → (step_by x t me (record { last = last; run = Some r }) (Ship to)).answer ≡ Ok reply → ShipsBy t (Some r) (Ship to) reply
+by_refusal t me last r to (Some why) reply is = cc
+by_refusal t me last r to None reply is = let same : Shipped (message_of (run_shown t r) to) ≡ reply = cc in subst (ShipsBy t (Some r) (Ship to)) same (message_is t r to)
+
+by_run : (t : Table) (me : NodeId) (last : ℕ) (run : Option ModelRun) (e : Event) (reply : Reply) → (model_step t me (record { last = last; run = run }) e).answer ≡ Ok reply → ShipsBy t run e reply
+by_run t me last (Some r) (Ship to) reply is = by_refusal t me last r to (refusal_to_ship t (run_shown t r) to) reply is
+by_run t me last None (Ship to) reply is = cc
+by_run t me last (Some r) (Boot now) reply is = tt
+by_run t me last (Some r) Crash reply is = tt
+by_run t me last (Some r) (Told c) reply is = tt
+by_run t me last (Some r) (Tick now) reply is = tt
+by_run t me last (Some r) (Hear m) reply is = tt
+by_run t me last (Some r) (HearOp o) reply is = tt
+by_run t me last None (Boot now) reply is = tt
+by_run t me last None Crash reply is = tt
+by_run t me last None (Told c) reply is = tt
+by_run t me last None (Tick now) reply is = tt
+by_run t me last None (Hear m) reply is = tt
+by_run t me last None (HearOp o) reply is = tt
+
+pub ships_in_words : ShipsInWords
+ships_in_words t me d e reply is = by_run t me d.last d.run e reply is
+
+-- so does each model node that shows as a value, where the value is accepted so
+pub ships_so : (t : Table) (me : NodeId) (old : NodeValue) (e : Event) (new : NodeValue) (reply : Reply) → AcceptedAs t me old e new reply → ShipsSo t old e reply
+ships_so t me old e new reply p d same = ships_in_words t me d e reply ((steps t me old e new reply p).by d same).1

@@ -1,0 +1,32 @@
+//! The laws of refusals, of ticks and of ships, each as a clause of a function that does nothing.
+ghost use Rattle.dac_model_node.specs.Refused.{AnswersTheLeast, RefusesNoOther, NeverWantsMemory};
+ghost use Rattle.dac_model_node.specs.Again.{SecondTickClaimsNothing};
+ghost use Rattle.dac_model_node.specs.Shipping.{ShipsInWords};
+ghost use Rattle.dac_model_node.specs.Effect.{EventsTakeEffect};
+
+/// The table of causes answers, of the causes that the event can have and that hold in words, the one with the least
+/// number. It lets an event through only where none of them holds, and it never answers `NoMemory`.
+pub fn refusals_in_words()
+    ensures least { AnswersTheLeast }
+    ensures free { RefusesNoOther }
+    ensures memory { NeverWantsMemory }
+{}
+
+/// A node that has looked after its applications at a moment claims nothing by a second tick at the same moment.
+pub fn second_tick_claims_nothing()
+    ensures { SecondTickClaimsNothing }
+{}
+
+/// A node that ships answers a message that is in words what is to be shipped. It brings the whole state, for any
+/// incarnation of the receiver, exactly where there is no place from which an interval may begin. Else it brings what
+/// the log got from that place on, or nothing where the log ends there. It is then for the incarnation of the place
+/// alone.
+pub fn ships_in_words()
+    ensures { ShipsInWords }
+{}
+
+/// An event that is accepted takes effect: a command in the state that its operation leaves, and the claims of a tick in the
+/// state that all of them leave.
+pub fn events_take_effect()
+    ensures { EventsTakeEffect }
+{}

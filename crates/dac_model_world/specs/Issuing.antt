@@ -1,0 +1,61 @@
+-- Whose each issued operation is, and under which counter.
+use Rattle.std.specs.Prelude.{◌≡◌, ℕ, ◌<◌, ◌+◌, Bool, List, [], ◌∷◌, ◌++◌, length, filter, Some, Result, Ok}
+use Rattle.std.specs.Ordering.{eq_by_cmp}
+use Rattle.dac_base.specs.declared.NodeId.{NodeId}
+use Rattle.dac_dots.specs.declared.dot.Origin.{Origin}
+use Rattle.dac_dots.specs.Dots.{dot, origin_cmp}
+use Rattle.dac_operations.specs.declared.act.Act.TheVariants.{Up}
+use Rattle.dac_operations.specs.Operations.{Operation}
+use Rattle.dac_meaning.specs.Meaning.{In}
+use Rattle.dac_events.specs.declared.WorldEvent.{WorldEvent}
+use Rattle.dac_messages.specs.declared.reply.Reply.{Reply}
+use Rattle.dac_messages.specs.declared.reply.Reply.TheVariants.{Booted, Issued, Ticked}
+use Rattle.dac_model_world.specs.declared.fault.WorldFault.{WorldFault}
+use Rattle.dac_model_world.specs.SetWorld.{SetWorld, NodeSet, operations_of, set_step}
+use Rattle.dac_model_world.specs.Convergence.{origin_by}
+
+-- After these operations were issued, node n comes up by this one. It is an Up, and the first operation of an incarnation that is
+-- later than each of the node that issued any.
+pub record IsBoot (n : NodeId) (before : List Operation) (o : Operation) : Type 0 where
+  pub act : o.act ≡ Up
+  pub inc : ℕ
+  pub first : o.dot ≡ dot (record { node = n; inc = inc }) 1
+  pub later : (p : Operation) → In p before → p.dot.origin.node ≡ n → p.dot.origin.inc < inc
+
+-- the operation is the incarnation's
+abbrev pub is_of : Origin → Operation → Bool
+is_of own o = eq_by_cmp origin_cmp o.dot.origin own
+
+-- how many of the operations are the incarnation's
+abbrev pub count_of : Origin → List Operation → ℕ
+count_of own os = length (filter (is_of own) os)
+
+-- The operation is the incarnation's next: its counter is one more than the number of operations that the incarnation
+-- issued before.
+pub record IsOwn (own : Origin) (before : List Operation) (o : Operation) : Type 0 where
+  pub origin : o.dot.origin ≡ own
+  pub counter : o.dot.n ≡ count_of own before + 1
+
+-- so is each of these, one after another
+abbrev pub AreOwn : Origin → List Operation → List Operation → Type 0
+AreOwn own before [] = Unit {0}
+AreOwn own before (o ∷ os) = IsOwn own before o × AreOwn own (before ++ o ∷ []) os
+
+-- node n runs, and the operations are of its present incarnation
+pub record AreIssuedAt (w : SetWorld) (n : NodeId) (os : List Operation) : Type 0 where
+  pub held : NodeSet
+  pub on : w.node n ≡ Some held
+  pub own : AreOwn (origin_by n held) (operations_of w.issued) os
+
+-- what an event issues is its node's
+abbrev pub TellsIssued : SetWorld → WorldEvent → Result Reply WorldFault → Type 0
+TellsIssued w e (Ok (Booted o)) = IsBoot e.node (operations_of w.issued) o
+TellsIssued w e (Ok (Issued o)) = AreIssuedAt w e.node (o ∷ [])
+TellsIssued w e (Ok (Ticked os passed)) = AreIssuedAt w e.node os
+TellsIssued w e _ = Unit {0}
+
+-- so do these events, one after another
+abbrev pub TellIssued : SetWorld → List WorldEvent → List (Result Reply WorldFault) → Type 0
+TellIssued w [] answers = Unit {0}
+TellIssued w (e ∷ es) [] = Unit {0}
+TellIssued w (e ∷ es) (a ∷ answers) = TellsIssued w e a × TellIssued (set_step w e.node e.what a) es answers

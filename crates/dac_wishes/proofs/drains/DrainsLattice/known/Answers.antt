@@ -1,6 +1,0 @@
-use Rattle.dac_dots.specs.Dots.{origins_total, exact_origins}
-use Rattle.dac_wishes.proofs.VoteStoring.{stored_votes}
-use Rattle.dac_wishes.proofs.drains.DrainsLattice.known.Goals as goal
-
-pub returns : goal.returns
-returns c = rw (← c.self.view_is) (stored_votes origins_total exact_origins _ c.self.invariant)

@@ -1,6 +1,0 @@
-use Rattle.dac_wishes.specs.Keys.{keys_total, exact_keys}
-use Rattle.dac_wishes.proofs.VoteStoring.{stored_votes}
-use Rattle.dac_wishes.proofs.permissions.PermissionsLattice.known.Goals as goal
-
-pub returns : goal.returns
-returns c = rw (← c.self.view_is) (stored_votes keys_total exact_keys _ c.self.invariant)
