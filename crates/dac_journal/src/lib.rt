@@ -4,8 +4,8 @@
 #![tactic(auto)]
 
 pub use closed::Closed;
-pub use dac_node::Node;
 pub use dac_model_world::laws::every_list_converges;
+pub use dac_node::Node;
 pub use journal::Journal;
 pub use limits::MAX_RECORDS;
 pub use next::Next;

@@ -12,7 +12,7 @@ use dac_config::Config;
 pub fn parts_have_one_spelling(config: &Config)
     ensures { (version : Version) → PartCodecs version config.now }
 {
-    // Nodes are numbered in one byte, and applications in two.
+    // For the prover: nodes are numbered in one byte, and applications in two.
     let _nodes = config.nodes();
     let _apps = config.apps();
     fields_have_one_spelling();

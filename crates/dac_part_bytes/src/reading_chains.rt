@@ -89,7 +89,7 @@ pub fn read_lives<'a>(
     // What is spelled so and in form is read, unless memory runs out.
     ensures again { IsReadAgain (λ x. x) (lives_bytes version) (AreLivesInForm version (node_count config.now)) reader.entry result }
 {
-    // Nodes are numbered in one byte.
+    // For the prover: nodes are numbered in one byte.
     let _nodes = config.nodes();
     read_all_lives(reader, alloc, version, config)
 }
@@ -248,7 +248,7 @@ pub fn read_claims<'a>(
     // What is spelled so and in form is read, unless memory runs out.
     ensures again { IsReadAgain (λ x. x) (claims_bytes version) (AreClaimsInForm version config.now) reader.entry result }
 {
-    // Nodes are numbered in one byte, and applications in two.
+    // For the prover: nodes are numbered in one byte, and applications in two.
     let _nodes = config.nodes();
     let _apps = config.apps();
     read_all_claims(reader, alloc, version, config)

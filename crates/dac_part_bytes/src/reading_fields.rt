@@ -140,7 +140,7 @@ pub fn read_key<'a>(
     // What is spelled so and in form is read.
     ensures again { IsReadAgain (λ x. x) (key_bytes version) (IsKeyAbove version config.now before) reader.entry result }
 {
-    // Nodes are numbered in one byte, and applications in two.
+    // For the prover: nodes are numbered in one byte, and applications in two.
     let _nodes = config.nodes();
     let _apps = config.apps();
     read_key_above(reader, version, config, before)

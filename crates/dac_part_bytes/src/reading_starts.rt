@@ -150,7 +150,7 @@ pub fn read_wishes<'a>(
     // What is spelled so and in form is read, unless memory runs out.
     ensures again { IsReadAgain (λ x. (x.0.standing, x.1)) (starts_bytes version) (AreStartsInForm version config.now known.now) reader.entry result }
 {
-    // Nodes are numbered in one byte, and applications in two.
+    // For the prover: nodes are numbered in one byte, and applications in two.
     let _nodes = config.nodes();
     let _apps = config.apps();
     read_all_starts(reader, alloc, version, config, known)
