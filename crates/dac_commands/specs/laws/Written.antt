@@ -17,8 +17,8 @@ use Rattle.dac_placement.specs.Placement.{runner_of}
 use Rattle.dac_placement.specs.laws.Tests.{runner_is}
 use Rattle.dac_events.specs.declared.Command.{Command}
 use Rattle.dac_events.specs.declared.Command.TheVariants.{Down, Permit, Start, Stop, Drain, Takeover}
-use Rattle.dac_commands.specs.declared.refusal.Refusal.{Refusal}
-use Rattle.dac_commands.specs.declared.refusal.Refusal.TheVariants.{DeclaredDown}
+use Rattle.dac_events.specs.declared.refusal.Refusal.{Refusal}
+use Rattle.dac_events.specs.declared.refusal.Refusal.TheVariants.{DeclaredDown}
 use Rattle.dac_commands.specs.Commands.{live, live_or_none, live_key, live_origin, standing_starts, standing_permits, standing_drains, claim_act, act_of}
 use Rattle.dac_commands.specs.Causes.{first, causes_of, refusal_of_command, declared_down, not_live, terms_used_up, used_up}
 use Rattle.dac_commands.specs.Written.{IsKeyAt, StartStands, PermitStands, DrainStands, AreThose, TakesOver, Says, WritesWhatIsSaid}

@@ -42,8 +42,8 @@ use Rattle.dac_decide.specs.FailoverWait.{is_due_by, noted_at, IsLost, waits_of}
 use Rattle.dac_decide.specs.declared.waits.Noted.{Noted}
 use Rattle.dac_events.specs.declared.Command.TheVariants.{Start}
 use Rattle.dac_messages.specs.declared.event.Event.TheVariants.{Command as Told, Tick}
-use Rattle.dac_commands.specs.declared.refusal.Refusal.{Refusal}
-use Rattle.dac_commands.specs.declared.refusal.Refusal.TheVariants.{DeclaredDown, MomentBack, DotsUsedUp, UnknownApp, UnknownNode, NotInList, NotLive, TooManyDots}
+use Rattle.dac_events.specs.declared.refusal.Refusal.{Refusal}
+use Rattle.dac_events.specs.declared.refusal.Refusal.TheVariants.{DeclaredDown, MomentBack, DotsUsedUp, UnknownApp, UnknownNode, NotInList, NotLive, TooManyDots}
 use Rattle.dac_commands.specs.Commands.{greatest_counter, live_key, live, live_or_none, standing_starts, act_of, next_operation}
 use Rattle.dac_commands.specs.Causes.{first, no_node, unlisted, not_live, too_many, used_up, terms_used_up}
 use Rattle.dac_commands.specs.laws.Counters.{next-is}
