@@ -30,7 +30,7 @@ use Rattle.dac_operations.specs.declared.act.Act.TheVariants.{Claim as Claims, S
 use Rattle.dac_operations.specs.Operations.{Operation, operation}
 use Rattle.dac_meaning.specs.StateValue.{StateValue, join}
 use Rattle.dac_meaning.specs.Meaning.{In, meaning_of, pairs, life_said, claim_said, lives_of, names, replaces}
-use Rattle.dac_meaning.specs.Chained.{Says, of_said, is_said}
+use Rattle.dac_meaning.specs.Chained.{SaysFor, of_said, is_said}
 use Rattle.dac_meaning.specs.laws.Members.{found, finds}
 use Rattle.dac_meaning.specs.laws.Readers.{known-meaning, starts-meaning, permits-meaning, drains-meaning, lives-meaning, lives_are}
 use Rattle.dac_placement.specs.Placement.{IsUp, is_up, IsEligible, key_at, holder_of, IsVerdict, verdict_of, candidate_of}
@@ -76,7 +76,7 @@ module _ (n : NodeId) (rest : List Operation) (none : SayNoLife rest) where
   abbrev pub lone : List Operation
   lone = up_of n ∷ rest
 
-  said_life : (m : NodeId) (l : Life) → Says life_said lone m l → (n ≡ m) × (up_life ≡ l)
+  said_life : (m : NodeId) (l : Life) → SaysFor life_said lone m l → (n ≡ m) × (up_life ≡ l)
   said_life m l says = elim says.1.0 [
     | inl same ↦ pair_of (sym (ap (λ (q : Operation). life_said q.dot q.act) same) ∙ says.1.1)
     | inr more ↦ absurd (none says.0 more m l says.1.1)
@@ -206,7 +206,7 @@ knows_counter = sym (ap (λ (d : Dot). d.n) (next-is (meaning_of knows).known (f
     at_most j o (inr (inr (inr none))) e = absurd none
 
 -- ---- claims
-no_claim_begun : (n : NodeId) (app : AppId) (c : Claim) → Says claim_said (begun n) app c → ⊥
+no_claim_begun : (n : NodeId) (app : AppId) (c : Claim) → SaysFor claim_said (begun n) app c → ⊥
 no_claim_begun n app c says = elim says.1.0 [
   | inl a ↦ none_some (sym (ap (λ (q : Operation). claim_said q.dot q.act) a) ∙ says.1.1)
   | inr more ↦ elim more [ inl b ↦ none_some (sym (ap (λ (q : Operation). claim_said q.dot q.act) b) ∙ says.1.1) | inr none ↦ absurd none ]
@@ -215,11 +215,11 @@ no_claim_begun n app c says = elim says.1.0 [
 none_claimed : (n : NodeId) (app : AppId) → map.get (meaning_of (begun n)).claims app ≡ None
 none_claimed n app = by_claim (map.get (meaning_of (begun n)).claims app) (claim_greatest (begun n) app)
   where
-    by_claim : (o : Option Claim) → IsGreatest claim_cmp (Says claim_said (begun n) app) o → o ≡ None
+    by_claim : (o : Option Claim) → IsGreatest claim_cmp (SaysFor claim_said (begun n) app) o → o ≡ None
     by_claim None none = refl
     by_claim (Some c) is = absurd (no_claim_begun n app c is.0)
 
-said_by : (app : AppId) (c : Claim) → Says claim_said knows app c → (the_app ≡ app) × (lost_claim ≡ c)
+said_by : (app : AppId) (c : Claim) → SaysFor claim_said knows app c → (the_app ≡ app) × (lost_claim ≡ c)
 said_by app c says = elim says.1.0 [
   | inl a ↦ none_some (sym (ap (λ (q : Operation). claim_said q.dot q.act) a) ∙ says.1.1)
   | inr more ↦ elim more [
@@ -231,14 +231,14 @@ said_by app c says = elim says.1.0 [
 pub claimed : map.get (meaning_of knows).claims the_app ≡ Some lost_claim
 claimed = by_claim (map.get (meaning_of knows).claims the_app) (claim_greatest knows the_app)
   where
-    by_claim : (o : Option Claim) → IsGreatest claim_cmp (Says claim_said knows the_app) o → o ≡ Some lost_claim
+    by_claim : (o : Option Claim) → IsGreatest claim_cmp (SaysFor claim_said knows the_app) o → o ≡ Some lost_claim
     by_claim None none = absurd (none lost_claim (claiming, (inr (inr (inl refl)), refl)))
     by_claim (Some c) is = ap (λ k. Some k) (sym (said_by the_app c is.0).1)
 
 pub only_claimed : (app : AppId) (c : Claim) → map.get (meaning_of knows).claims app ≡ Some c → the_app ≡ app
 only_claimed app c e = by_claim (map.get (meaning_of knows).claims app) (claim_greatest knows app) e
   where
-    by_claim : (o : Option Claim) → IsGreatest claim_cmp (Says claim_said knows app) o → o ≡ Some c → the_app ≡ app
+    by_claim : (o : Option Claim) → IsGreatest claim_cmp (SaysFor claim_said knows app) o → o ≡ Some c → the_app ≡ app
     by_claim None none e = none_some e
     by_claim (Some k) is e = (said_by app k is.0).0
 
