@@ -5,4 +5,4 @@ use Rattle.dac_chains.proofs.KeptLemmas.{entries-kept}
 use Rattle.dac_chains.proofs.claims.Claims.entries.Goals as goal
 
 pub returns : goal.returns
-returns c = rw c.entries.ensures (entries-kept apps_total exact_apps _ c.known.ensures.in_order ∙ ap (λ m. map.entries m) c.self.view_is)
+returns c = rw c.entries.ensures (entries-kept apps_total exact_apps _ c.tells_invariant.ensures.in_order ∙ ap (λ m. map.entries m) c.self.view_is)

@@ -14,7 +14,7 @@ invariant_of-self-2 g c =
     let e : Dot × g.row.V.Denot = (c.args.dot, c.args.value) in
     rw c.in_ok-push.ensures.items (record {
       in_order = sorted_appended dots_total es e c.self.invariant.in_order (sym (rw c.deref.ensures.value at c.ends_below.ensures) ∙ c.if-not-ends_below.false);
-      values = λ q. find_appended dots_total (IsIn g.V.Lattice.is_value) es e q (c.self.invariant.values q) c.known.ensures;
+      values = λ q. find_appended dots_total (IsIn g.V.Lattice.is_value) es e q (c.self.invariant.values q) c.tells_invariant.ensures;
     })
 
 pub returns-then-not-ends_below-clause-ok : goal.returns-then-not-ends_below-clause-ok

@@ -22,6 +22,6 @@ pub returns : goal.returns
 returns g c =
     let s = g.S.DotStore in
     let all = no_more g.met.K.Ord.total g.met.K.MapKey.exact (λ k v. s.below (store_at s.nothing (find g.K.Ord.cmp k c.args.self.now)) c.args.heard.now (store_at s.nothing v) c.args.other_heard.now)
-    (λ k. g.met.S.DotStore.laws.cleared _ c.args.heard.now c.args.other_heard.now (at_store g.met.K.Ord.total g.met.K.MapKey.exact g.met.S.DotStore.laws _ (c.known.ensures.stores k))) _ _
+    (λ k. g.met.S.DotStore.laws.cleared _ c.args.heard.now c.args.other_heard.now (at_store g.met.K.Ord.total g.met.K.MapKey.exact g.met.S.DotStore.laws _ (c.tells_invariant.ensures.stores k))) _ _
     c.loop-key-test.false c.loop-key.invariant in
     (λ _. rw (← c.other.view_is, ← c.deref-key-items.ensures.value) all, λ _. refl)
