@@ -1,6 +1,6 @@
 use Rattle.dac_settle.specs.laws.WorkedRound.{rounds_can_be}
-use Rattle.dac_settle.specs.laws.FailsOver.{runs_can_fail_over}
-use Rattle.dac_settle.specs.laws.Losing.{loss_can_be}
+use Rattle.dac_settle.proofs.FailsOver.{runs_can_fail_over}
+use Rattle.dac_settle.proofs.Losing.{loss_can_be}
 use Rattle.dac_settle.proofs.laws.rounds_can_be.Goals as goal
 
 pub returns-clause-members : goal.returns-clause-members

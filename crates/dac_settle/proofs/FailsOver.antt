@@ -10,7 +10,6 @@ use Rattle.dac_dots.specs.declared.dot.Origin.{Origin}
 use Rattle.dac_chains.specs.declared.claims.Claim.{Claim}
 use Rattle.dac_chains.specs.declared.claims.How.TheVariants.{Failover as FailedOver}
 use Rattle.dac_chains.specs.Lives.{IsLive}
-use Rattle.dac_wishes.specs.DrainsValue.{origin}
 use Rattle.dac_operations.specs.declared.act.Act.TheVariants.{Claim as Claims}
 use Rattle.dac_operations.specs.Operations.{Operation}
 use Rattle.dac_meaning.specs.StateValue.{StateValue, join}
@@ -30,7 +29,7 @@ use Rattle.dac_messages.specs.declared.reply.Reply.{Reply}
 use Rattle.dac_messages.specs.declared.reply.Reply.TheVariants.{Booted, Crashed, Issued, Ticked, Heard}
 use Rattle.dac_commands.specs.declared.refusal.Refusal.{Refusal}
 use Rattle.dac_commands.specs.declared.refusal.Refusal.TheVariants.{DeclaredDown, MomentBack, DotsUsedUp}
-use Rattle.dac_commands.specs.Commands.{greatest_counter, live}
+use Rattle.dac_commands.specs.Commands.{greatest_counter}
 use Rattle.dac_commands.specs.Causes.{first, terms_used_up}
 use Rattle.dac_peers.specs.Peers.{no_peers}
 use Rattle.dac_ticks.specs.Ticks.{Turn, turn_of, turn_from, claim_of, claimed_by, is_mine, is_mine_by}
@@ -54,8 +53,8 @@ use Rattle.dac_settle.specs.WorkedFailover.{losing, waited, RunsCanFailOver}
 use Rattle.dac_settle.specs.laws.AnyPlacement.{same_node, one}
 use Rattle.dac_settle.specs.laws.Due.{candidate_due}
 use Rattle.dac_settle.specs.laws.WorkedRound.{no_row}
-use Rattle.dac_settle.specs.laws.Losing.{happens_so}
-use Rattle.dac_settle.specs.laws.LostClaim.{none_some, start_at, claiming, knows, knows_counter, claimed, only_claimed, known_state, known_live, known_only, is_lost, takes_it, started_op, booted, starts_on, begun_log, begun_node, lost_ticks, lost_turn}
+use Rattle.dac_settle.proofs.Losing.{happens_so}
+use Rattle.dac_settle.proofs.LostClaim.{none_some, start_at, claiming, knows, knows_counter, claimed, only_claimed, known_state, known_live, known_only, is_lost, takes_it, started_op, booted, starts_on, begun_log, begun_node, lost_ticks, lost_turn}
 
 abbrev Answer : Type 0
 Answer = Result Reply WorldFault

@@ -1,0 +1,3 @@
+pub mod Losing
+pub mod LostClaim
+pub mod FailsOver
