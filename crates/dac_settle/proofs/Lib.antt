@@ -1,3 +1,4 @@
-pub mod Losing
 pub mod LostClaim
+pub mod Losing
+pub mod LossRound
 pub mod FailsOver
