@@ -29,7 +29,7 @@ use Rattle.dac_operations.specs.declared.act.Act.TheVariants.{Claim as Claims, S
 use Rattle.dac_operations.specs.Operations.{Operation, operation}
 use Rattle.dac_meaning.specs.StateValue.{StateValue, join}
 use Rattle.dac_meaning.specs.Meaning.{In, meaning_of, pairs, life_said, claim_said, lives_of, names, replaces}
-use Rattle.dac_meaning.specs.Chained.{Says, of_said, is_said}
+use Rattle.dac_meaning.specs.Chained.{SaysFor, of_said, is_said}
 use Rattle.dac_meaning.specs.laws.Members.{found, finds}
 use Rattle.dac_meaning.specs.laws.Readers.{known-meaning, starts-meaning, permits-meaning, drains-meaning, lives-meaning, lives_are}
 use Rattle.dac_placement.specs.Placement.{is_up, IsEligible, key_at, holder_of, IsVerdict, verdict_of, candidate_of}
@@ -75,7 +75,7 @@ module _ (n : NodeId) (rest : List Operation) (none : SayNoLife rest) where
   abbrev pub lone : List Operation
   lone = up_of n ∷ rest
 
-  said_life : (m : NodeId) (l : Life) → Says life_said lone m l → (n ≡ m) × (up_life ≡ l)
+  said_life : (m : NodeId) (l : Life) → SaysFor life_said lone m l → (n ≡ m) × (up_life ≡ l)
   said_life m l says = elim says.1.0 [
     | inl same ↦ pair_of (sym (ap (λ (q : Operation). life_said q.dot q.act) same) ∙ says.1.1)
     | inr more ↦ absurd (none says.0 more m l says.1.1)
@@ -170,7 +170,7 @@ begun_counter n = sym (ap (λ (d : Dot). d.n) (next-is (meaning_of (begun n)).kn
     at_most j o (inr (inr none)) e = absurd none
 
 -- ---- claims
-no_claim_begun : (n : NodeId) (app : AppId) (c : Claim) → Says claim_said (begun n) app c → ⊥
+no_claim_begun : (n : NodeId) (app : AppId) (c : Claim) → SaysFor claim_said (begun n) app c → ⊥
 no_claim_begun n app c says = elim says.1.0 [
   | inl a ↦ none_some (sym (ap (λ (q : Operation). claim_said q.dot q.act) a) ∙ says.1.1)
   | inr more ↦ elim more [ inl b ↦ none_some (sym (ap (λ (q : Operation). claim_said q.dot q.act) b) ∙ says.1.1) | inr none ↦ absurd none ]
@@ -179,7 +179,7 @@ no_claim_begun n app c says = elim says.1.0 [
 none_claimed : (n : NodeId) (app : AppId) → map.get (meaning_of (begun n)).claims app ≡ None
 none_claimed n app = by_claim (map.get (meaning_of (begun n)).claims app) (claim_greatest (begun n) app)
   where
-    by_claim : (o : Option Claim) → IsGreatest claim_cmp (Says claim_said (begun n) app) o → o ≡ None
+    by_claim : (o : Option Claim) → IsGreatest claim_cmp (SaysFor claim_said (begun n) app) o → o ≡ None
     by_claim None none = refl
     by_claim (Some c) is = absurd (no_claim_begun n app c is.0)
 
