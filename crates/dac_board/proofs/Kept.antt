@@ -15,7 +15,6 @@ use Rattle.dac_base.specs.declared.NodeId.{NodeId}
 use Rattle.dac_base.specs.declared.AppId.{AppId}
 use Rattle.dac_base.specs.Ids.{node_cmp, nodes_total, exact_nodes, apps_total, exact_apps}
 use Rattle.dac_dots.specs.declared.dot.Origin.{Origin}
-use Rattle.dac_dots.specs.declared.dot.Dot.{Dot}
 use Rattle.dac_dots.specs.Dots.{Dots, dot_cmp, dots_total, exact_dots, origins_total, exact_origins}
 use Rattle.dac_lattice.specs.Lattices.{join_options}
 use Rattle.dac_lattice.specs.declared.flags.Flag.{Flag}
