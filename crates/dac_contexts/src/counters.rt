@@ -1,10 +1,11 @@
 //! Sets of counters, kept as runs of counters that follow one another.
-ghost use Rattle.std.specs.Prelude.{◌≡◌, ◌↔◌, ◌+◌, ◌-◌, ◌^◌, ◌<◌, ◌≤◌, ◌⊎◌, ◌||◌, ◌&&◌, ◌∷◌, [], false, true, length, nat_le, nat_lt, take, drop, vec_capacity, IfOk, IsTrue, OnErr, OnOk};
+ghost use Rattle.std.specs.Prelude.{◌≡◌, ◌↔◌, ◌+◌, ◌-◌, ◌^◌, ◌<◌, ◌≤◌, ◌⊎◌, ◌||◌, ◌&&◌, ◌∷◌, ◌++◌, [], false, true, length, nat_le, nat_lt, take, drop, vec_capacity, IfOk, IsTrue, OnErr, OnOk};
 ghost use Rattle.std.specs.Ordering.{eq_by_cmp, nat_cmp};
 ghost use Rattle.dac_dots.specs.Keys.{IsRising, has_key};
 ghost use Rattle.dac_contexts.specs.Rows.{IsGreatest, further_of, reach_of};
 ghost use Rattle.dac_contexts.specs.Runs.{AreRuns, HaveEnded, IsPlaceFor, any_past, any_run, are_apart, run_has, joined, absorbed};
 
+use crate::few_runs::FewRuns;
 use dac_base::NoMemory;
 use dac_dots::keys::insert_key;
 use std::alloc::Global;
@@ -29,7 +30,7 @@ impl Run {
     }
 
     /// Whether the other run begins in this one, before it, or right after it.
-    fn reaches(self, other: Run) -> bool
+    pub(crate) fn reaches(self, other: Run) -> bool
         ensures { result ≡ nat_le other.first (self.last + 1) }
     {
         other.first <= self.last || other.first - self.last == 1
@@ -45,7 +46,7 @@ impl Run {
     }
 
     /// From where the first of both begins to where the last of both ends.
-    fn joined(self, other: Run) -> Run
+    pub(crate) fn joined(self, other: Run) -> Run
         ensures { result ≡ joined self other }
     {
         Run {
@@ -66,6 +67,19 @@ fn take_touched(runs: &mut Vec<Run>, place: usize, run: Run) -> Run
         joined = joined.joined(runs.remove(place));
     }
     joined
+}
+
+/// Puts a run in at a place, joined with those from there on that it reaches. Where memory is refused it reaches none,
+/// and the runs stay as they were.
+pub(crate) fn absorb_into(runs: &mut Vec<Run>, place: usize, run: Run) -> Result<(), NoMemory>
+    requires { place ≤ length runs.old.items }
+    ensures ok { OnOk result (runs.new.items ≡ take place runs.old.items ++ absorbed run (drop place runs.old.items)) }
+    ensures err { OnErr result (runs.new.items ≡ runs.old.items) }
+    ensures alone { OnErr result (absorbed run (drop place runs.old.items) ≡ run ∷ drop place runs.old.items) }
+{
+    let joined = take_touched(runs, place, run);
+    runs.insert(place, joined)?;
+    Ok(())
 }
 
 /// Puts the counters of a run into a list that rises.
@@ -97,16 +111,6 @@ fn list_past(counters: &mut Vec<u64>, upto: u64, runs: &[Run]) -> Result<(), NoM
     Ok(())
 }
 
-/// For how many runs a copy of so many has room. A set without a gap mostly grows without one, so it gets no
-/// more room. None take no memory.
-fn room_for(runs: usize) -> usize {
-    if runs <= 1 {
-        runs
-    } else {
-        runs.saturating_add(1)
-    }
-}
-
 /// How many of the runs end before a counter. A set without a gap is one run, so the first is looked at first.
 fn ended_before(runs: &[Run], n: u64) -> usize
     requires { are_apart 0 runs.now ≡ true }
@@ -131,15 +135,18 @@ fn place_for(runs: &[Run], run: Run) -> usize
     }
 }
 
-/// A set of counters. It costs by gaps and not by counters: each run is as long as it can be.
+/// A set of counters. It costs by gaps and not by counters: each run is as long as it can be. One without a gap takes
+/// no memory.
 #[derive(Debug, Drop)]
 pub(crate) struct Counters {
-    runs: Vec<Run>,
+    alloc: Global,
+    few: FewRuns,
 }
 
 impl Model for Counters {
     ghost use Rattle.std.specs.Prelude.{ℕ, List, ◌≡◌, true};
     ghost use Rattle.std.specs.Coded.{coded_ℕ, coded_list};
+    ghost use Rattle.dac_contexts.specs.FewRuns.{runs_of};
     ghost use Rattle.dac_contexts.specs.Runs.{are_apart, counters_in};
 
     // The counters in rising order.
@@ -147,9 +154,9 @@ impl Model for Counters {
 
     ghost coded = { coded_list coded_ℕ };
 
-    ghost view = { λ a. counters_in a.runs.items };
+    ghost view = { λ a. counters_in (runs_of a.few) };
 
-    ghost invariant = { λ a. are_apart 0 a.runs.items ≡ true };
+    ghost invariant = { λ a. are_apart 0 (runs_of a.few) ≡ true };
 }
 
 impl Counters {
@@ -157,25 +164,23 @@ impl Counters {
     pub(crate) fn empty(alloc: Global) -> Self
         ensures { result ≡ [] }
     {
-        Counters {
-            runs: Vec::new(alloc),
-        }
+        let few = FewRuns::Empty;
+        Counters { alloc, few }
     }
 
     /// An equal set, with memory of its own. Where there are gaps it has room for one run more.
     pub(crate) fn copy(&self, alloc: Global) -> Result<Self, NoMemory>
         ensures { IfOk result (λ copied. copied ≡ self.now) }
     {
-        let mut runs = Vec::with_capacity(alloc, room_for(self.runs.len()))?;
-        runs.extend_from_slice(&self.runs)?;
-        Ok(Counters { runs })
+        let few = self.few.copy(alloc)?;
+        Ok(Counters { alloc, few })
     }
 
     /// Whether there are no counters.
     pub(crate) fn is_empty(&self) -> bool
         ensures { IsTrue result ↔ (self.now ≡ []) }
     {
-        self.runs.is_empty()
+        self.few.as_slice().is_empty()
     }
 
     /// Whether the set has each counter of a run.
@@ -183,8 +188,8 @@ impl Counters {
         requires { run.first ≤ run.last }
         ensures { IsTrue result ↔ ((n : _) → run_has n run ≡ true → has_key nat_cmp self.now n ≡ true) }
     {
-        let place = ended_before(&self.runs, run.first);
-        match self.runs.get(place) {
+        let place = ended_before(self.few.as_slice(), run.first);
+        match self.few.as_slice().get(place) {
             Some(found) => found.first <= run.first && run.last <= found.last,
             None => false,
         }
@@ -205,9 +210,8 @@ impl Counters {
         ensures err { OnErr result (self.new ≡ self.old) }
         ensures first { OnErr result ((n : _) → run_has n run ≡ true → has_key nat_cmp self.old n ≡ false) }
     {
-        let place = place_for(&self.runs, run);
-        let joined = take_touched(&mut self.runs, place, run);
-        self.runs.insert(place, joined)?;
+        let place = place_for(self.few.as_slice(), run);
+        self.few.absorb(self.alloc, place, run)?;
         Ok(())
     }
 
@@ -251,7 +255,7 @@ impl Counters {
 
     /// Whether so few runs are best put in one by one.
     pub(crate) fn are_few(&self) -> bool {
-        self.runs.len() <= FEW
+        self.few.as_slice().len() <= FEW
     }
 
     /// Puts the counters of the other set into this one. [`NoMemory`] is the only error, and may leave some
@@ -261,21 +265,21 @@ impl Counters {
         ensures ok { OnOk result ((n : _) → has_key nat_cmp self.new n ≡ (has_key nat_cmp other.now n || has_key nat_cmp self.old n)) }
         ensures err { OnErr result ((n : _) → has_key nat_cmp self.old n ≡ true → has_key nat_cmp self.new n ≡ true) }
     {
-        self.put_all(&other.runs)
+        self.put_all(other.few.as_slice())
     }
 
     /// The counters of both sets.
     pub(crate) fn union(&self, alloc: Global, other: &Self) -> Result<Self, NoMemory>
         ensures { IfOk result (λ both. IsRising nat_cmp both × ((n : _) → has_key nat_cmp both n ≡ (has_key nat_cmp other.now n || has_key nat_cmp self.now n))) }
     {
-        merge_runs(alloc, &self.runs, &other.runs)
+        merge_runs(alloc, self.few.as_slice(), other.few.as_slice())
     }
 
     /// Whether the other set has each counter of this one.
     pub(crate) fn is_subset(&self, other: &Self) -> bool
         ensures { IsTrue result ↔ ((n : _) → has_key nat_cmp self.now n ≡ true → has_key nat_cmp other.now n ≡ true) }
     {
-        for run in &self.runs {
+        for run in self.few.as_slice() {
             if !other.has_run(*run) {
                 return false;
             }
@@ -287,7 +291,7 @@ impl Counters {
     pub(crate) fn last(&self) -> u64
         ensures { IsGreatest self.now result }
     {
-        match self.runs.last() {
+        match self.few.as_slice().last() {
             Some(run) => run.last,
             None => 0,
         }
@@ -297,7 +301,7 @@ impl Counters {
     pub(crate) fn upto(&self) -> u64
         ensures { result ≡ reach_of self.now }
     {
-        match self.runs.first() {
+        match self.few.as_slice().first() {
             Some(run) if run.first <= 1 => run.last,
             _ => 0,
         }
@@ -309,7 +313,7 @@ impl Counters {
         ensures bound { result < 2 ^ 65 }
     {
         let mut len = 0;
-        for run in &self.runs {
+        for run in self.few.as_slice() {
             len += run.len();
         }
         len
@@ -323,7 +327,7 @@ impl Counters {
         if self.contains(0) {
             insert_key(&mut further, 0)?;
         }
-        list_past(&mut further, self.upto(), &self.runs)?;
+        list_past(&mut further, self.upto(), self.few.as_slice())?;
         Ok(further)
     }
 
@@ -332,7 +336,7 @@ impl Counters {
         ensures { IfOk result (λ counters. counters.items ≡ self.now) }
     {
         let mut counters = Vec::new(alloc);
-        for run in &self.runs {
+        for run in self.few.as_slice() {
             list_run(&mut counters, *run)?;
         }
         Ok(counters)

@@ -15,5 +15,6 @@ pub use shared::SharedContext;
 
 mod context;
 mod counters;
+mod few_runs;
 mod row;
 mod shared;

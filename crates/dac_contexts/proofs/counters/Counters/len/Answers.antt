@@ -8,15 +8,15 @@ pub loop-run-init : goal.loop-run-init
 loop-run-init c = record { so_far = ap (λ (ns : List ℕ). length ns) (sym no_runs); small = omega arith }
 
 pub len-len-requires : goal.len-len-requires
-len-len-requires c = (apart_at 0 c.deref-run-items.result.now (rw c.deref-run-items.ensures.value c.self.invariant) c.loop-run.run-index (record { first = 0; last = 0 }) c.loop-run-test.true).1
+len-len-requires c = (apart_at 0 c.as_slice-run-items.result.now (rw c.as_slice-run-items.ensures c.self.invariant) c.loop-run.run-index (record { first = 0; last = 0 }) c.loop-run-test.true).1
 
 pub loop-run-preserved : goal.loop-run-preserved
 loop-run-preserved c =
-    let runs = c.deref-run-items.result.now in
+    let runs = c.as_slice-run-items.result.now in
     let i = c.loop-run.run-index in
     let d : Run = record { first = 0; last = 0 } in
     let at = len_more runs i d c.loop-run-test.true in
-    let span = len_span 0 runs (rw c.deref-run-items.ensures.value c.self.invariant) i d c.loop-run-test.true in
+    let span = len_span 0 runs (rw c.as_slice-run-items.ensures c.self.invariant) i d c.loop-run-test.true in
     let so_far = c.loop-run.invariant.so_far in
     let one = c.len-len.ensures.value in
     let top = c.len-len.ensures.bound in

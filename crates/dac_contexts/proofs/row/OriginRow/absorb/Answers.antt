@@ -1,6 +1,7 @@
 use Rattle.std.proofs.Common.{Result, Ok, Err, OnErr}
 use Rattle.dac_contexts.proofs.RowLemmas.{seen_counter, seen_more, seen_same, seen_both}
 use Rattle.dac_contexts.proofs.row.OriginRow.absorb.Goals as goal
+use Rattle.dac_contexts.proofs.row.OriginRow.absorb.Goals.{in-Sorted-1, in-Empty-1}
 
 fails_so : {T E P : Type 0} (r : Result T E) → P → OnErr r P
 fails_so (Ok x) p = tt
@@ -19,4 +20,5 @@ returns-in_ok-absorb-clause-ok c =
 
 pub returns-in_ok-self-inside-clause-ok : goal.returns-in_ok-self-inside-clause-ok
 returns-in_ok-self-inside-clause-ok c =
-    seen_both c.self.inside.origin c.self.inside.counters c.args.self.now c.self.view_is c.args.other.now c.other.inside.counters c.in_ok-self-inside.field-0 (seen_counter c.other.inside.origin c.other.inside.counters c.args.other.now c.other.view_is) c.in_ok-self-inside.ensures.0 c.in_ok-self-inside.ensures.1
+    let both = seen_both c.self.inside.origin c.self.inside.counters c.args.self.now c.self.view_is c.args.other.now c.other.inside.counters c.in_ok-self-inside.field-0 (seen_counter c.other.inside.origin c.other.inside.counters c.args.other.now c.other.view_is) c.in_ok-self-inside.ensures.0 c.in_ok-self-inside.ensures.1 in
+    elim c.match-self-branch.branch [ in-Sorted-1 w ↦ rw w.self-is both | in-Empty-1 w ↦ rw w.self-is both ]
