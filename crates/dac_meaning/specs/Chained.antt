@@ -14,14 +14,14 @@ use Rattle.dac_meaning.specs.Meaning.{In, Within, pairs, greatest_of}
 use Rattle.dac_meaning.specs.laws.Members.{In-append_left, In-append_right, In-append_cases, in_pairs, of_pairs}
 
 -- some operation says the value of the key
-abbrev pub Says : {K T : Type 0} → (Dot → Act → Option (K × T)) → List Operation → K → T → Type 0
-Says said os k v = (o : Operation) × (In o os × (said o.dot o.act ≡ Some (k, v)))
+abbrev pub SaysFor : {K T : Type 0} → (Dot → Act → Option (K × T)) → List Operation → K → T → Type 0
+SaysFor said os k v = (o : Operation) × (In o os × (said o.dot o.act ≡ Some (k, v)))
 
 module _ {K T : Type 0} (said : Dot → Act → Option (K × T)) where
-  pub of_said : (os : List Operation) (k : K) (v : T) → IsSaid said (pairs os) k v → Says said os k v
+  pub of_said : (os : List Operation) (k : K) (v : T) → IsSaid said (pairs os) k v → SaysFor said os k v
   of_said os k v s = (operation s.0.0 s.0.1, (in_pairs s.0 os s.1.0, s.1.1))
 
-  pub is_said : (os : List Operation) (k : K) (v : T) → Says said os k v → IsSaid said (pairs os) k v
+  pub is_said : (os : List Operation) (k : K) (v : T) → SaysFor said os k v → IsSaid said (pairs os) k v
   is_said os k v s = ((s.0.dot, s.0.act), (of_pairs s.0 os s.1.0, s.1.1))
 
   -- what is said by some is said by more

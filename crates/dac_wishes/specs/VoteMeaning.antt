@@ -21,7 +21,7 @@ use Rattle.dac_store.specs.Stores.{same_context}
 use Rattle.dac_store.specs.AtDot.{join_at}
 use Rattle.dac_wishes.specs.KeyedWrites.{KeyedWrite, keyed_write, keyed_write_cmp, keyed_writes_total, same_dot, same_dot_is, same_keyed_write}
 use Rattle.dac_wishes.specs.Votes.{VotesValue, AreVotes, join_votes, no_votes, known-join_votes, standing-join_votes, same_votes}
-use Rattle.dac_wishes.specs.Replacing.{has_dot, replaces, is_replaced, SparesItself, named_by, AreNamedIn, contains-named_by, known_more, names-or, spares}
+use Rattle.dac_wishes.specs.Replacing.{is_under, replaces, is_replaced, SparesItself, named_by, AreNamedIn, contains-named_by, known_more, names-or, spares}
 
 -- the first of two that is there
 abbrev pub or_else : {X : Type 0} → Option X → Option X → Option X
@@ -41,7 +41,7 @@ votes_in d (Some v) = (keyed_write v.0 d, v.1) ∷ []
 module _ {K : Type 0} (R : K → K → Ordering) {A : Type 0} (vote : A → Option (K × Flag)) where
   -- what the operation says, if it is this vote
   abbrev pub vote_in : KeyedWrite K → Dot × A → Option Flag
-  vote_in w o = if has_dot w.dot o then says_of R w.key (vote o.1) else None
+  vote_in w o = if is_under w.dot o then says_of R w.key (vote o.1) else None
 
   -- what the first of the operations says that is this vote; all that are one operation say the same
   abbrev pub said : KeyedWrite K → List (Dot × A) → Option Flag
@@ -113,30 +113,30 @@ module _ {K : Type 0} {R : K → K → Ordering} (total : IsTotalOrder R) (exact
       in_votes (Some v) = ap (λ b. cond b (Some v.1) None) (same_keyed_write R w v.0 d) ∙ one_entry (eq_by_cmp R w.key v.0) (same_dot w.dot d) v.1
 
   -- what is said is said by an operation of this dot
-  said_has_dot : (w : KeyedWrite K) (os : List (Dot × A)) → is_some (said R vote w os) ≡ true → list_any (has_dot w.dot) os ≡ true
+  said_has_dot : (w : KeyedWrite K) (os : List (Dot × A)) → is_some (said R vote w os) ≡ true → list_any (is_under w.dot) os ≡ true
   said_has_dot w [] h = absurd (false≢true h)
-  said_has_dot w (o ∷ os) h = elim (has_dot w.dot o) as (λ b. is_some (or_else (cond b (says_of R w.key (vote o.1)) None) (said R vote w os)) ≡ true → (b || list_any (has_dot w.dot) os) ≡ true) [
+  said_has_dot w (o ∷ os) h = elim (is_under w.dot o) as (λ b. is_some (or_else (cond b (says_of R w.key (vote o.1)) None) (said R vote w os)) ≡ true → (b || list_any (is_under w.dot) os) ≡ true) [
     | true ↦ λ h. refl
     | false ↦ λ h. said_has_dot w os h
   ] h
 
-  unsaid : (w : KeyedWrite K) (os : List (Dot × A)) → list_any (has_dot w.dot) os ≡ false → said R vote w os ≡ None
-  unsaid w os none = elim (said R vote w os) as (λ x. (is_some x ≡ true → list_any (has_dot w.dot) os ≡ true) → x ≡ None) [
+  unsaid : (w : KeyedWrite K) (os : List (Dot × A)) → list_any (is_under w.dot) os ≡ false → said R vote w os ≡ None
+  unsaid w os none = elim (said R vote w os) as (λ x. (is_some x ≡ true → list_any (is_under w.dot) os ≡ true) → x ≡ None) [
     | None ↦ λ f. refl
     | Some x ↦ λ f. absurd (false≢true (sym none ∙ f refl))
   ] (said_has_dot w os)
 
   -- where others of the dot say the same, one more does
-  says_too : (w : KeyedWrite K) (os : List (Dot × A)) (u : Option Flag) → (list_any (has_dot w.dot) os ≡ true → said R vote w os ≡ u) → or_else u (said R vote w os) ≡ u
-  says_too w os u same = elim (list_any (has_dot w.dot) os) as (λ b. list_any (has_dot w.dot) os ≡ b → or_else u (said R vote w os) ≡ u) [
+  says_too : (w : KeyedWrite K) (os : List (Dot × A)) (u : Option Flag) → (list_any (is_under w.dot) os ≡ true → said R vote w os ≡ u) → or_else u (said R vote w os) ≡ u
+  says_too w os u same = elim (list_any (is_under w.dot) os) as (λ b. list_any (is_under w.dot) os ≡ b → or_else u (said R vote w os) ≡ u) [
     | true ↦ λ t. ap (or_else u) (same t) ∙ else_same u
     | false ↦ λ t. ap (or_else u) (unsaid w os t) ∙ else_none u
   ] refl
 
   -- where all operations of a dot are one, what is said is what it says
-  said_by_one : (w : KeyedWrite K) (os : List (Dot × A)) (o : Dot × A) → ((p : Dot × A) → In p os → p.0 ≡ w.dot → p ≡ o) → list_any (has_dot w.dot) os ≡ true → said R vote w os ≡ says_of R w.key (vote o.1)
+  said_by_one : (w : KeyedWrite K) (os : List (Dot × A)) (o : Dot × A) → ((p : Dot × A) → In p os → p.0 ≡ w.dot → p ≡ o) → list_any (is_under w.dot) os ≡ true → said R vote w os ≡ says_of R w.key (vote o.1)
   said_by_one w [] o same h = absurd (false≢true h)
-  said_by_one w (p ∷ os) o same h = elim (has_dot w.dot p) as (λ b. has_dot w.dot p ≡ b → (b || list_any (has_dot w.dot) os) ≡ true → or_else (cond b (says_of R w.key (vote p.1)) None) (said R vote w os) ≡ says_of R w.key (vote o.1)) [
+  said_by_one w (p ∷ os) o same h = elim (is_under w.dot p) as (λ b. is_under w.dot p ≡ b → (b || list_any (is_under w.dot) os) ≡ true → or_else (cond b (says_of R w.key (vote p.1)) None) (said R vote w os) ≡ says_of R w.key (vote o.1)) [
     | true ↦ λ t _.
         ap (λ (q : Dot × A). or_else (says_of R w.key (vote q.1)) (said R vote w os)) (same p (inl refl) (sym (same_dot_is w.dot p.0 t)))
         ∙ says_too w os (says_of R w.key (vote o.1)) (said_by_one w os o (λ q i. same q (inr i)))
@@ -150,7 +150,7 @@ module _ {K : Type 0} {R : K → K → Ordering} (total : IsTotalOrder R) (exact
         let known = m.known w.dot ∙ names-or over w.dot os in
         standing-join_votes total exact v (vote_delta R over vote o.0 o.1) w
         ∙ (λ i. join_at join_flags (known i) (contains-named_by over o.0 o.1 w.dot i) (m.standing w i) (get-vote_delta o.0 o.1 w i))
-        ∙ one_stands (has_dot w.dot o) (replaces over w.dot o) (is_replaced over w.dot os) (list_any (has_dot w.dot) os) (said R vote w os) (says_of R w.key (vote o.1))
+        ∙ one_stands (is_under w.dot o) (replaces over w.dot o) (is_replaced over w.dot os) (list_any (is_under w.dot) os) (said R vote w os) (says_of R w.key (vote o.1))
         (spares over os o h w.dot) (said_has_dot w os)
         (λ e there. said_by_one w os o (λ p i d. h.agree p o (inr i) (inl refl) (d ∙ same_dot_is w.dot o.0 e)) there);
   }

@@ -15,7 +15,7 @@ use Rattle.dac_wishes.specs.declared.wish_act.WishAct.TheVariants.{Start, Other}
 use Rattle.dac_wishes.specs.Keys.{same_key}
 use Rattle.dac_wishes.specs.Writes.{Write, write, write_cmp, writes_total, same_dot, same_dot_is, same_write}
 use Rattle.dac_wishes.specs.WishesValue.{WishesValue, AreWishes, join_wishes, no_wishes, known-join, standing-join, same_wishes}
-use Rattle.dac_wishes.specs.Replacing.{has_dot, replaces, is_replaced, SparesItself, named_by, AreNamedIn, contains-named_by, known_more, names-or, spares, found, finds, again}
+use Rattle.dac_wishes.specs.Replacing.{is_under, replaces, is_replaced, SparesItself, named_by, AreNamedIn, contains-named_by, known_more, names-or, spares, found, finds, again}
 
 -- the dots that an act replaces
 abbrev pub over_of : WishAct → List Dot
@@ -29,7 +29,7 @@ wishes key (Other over) = false
 
 -- the operation is this wish
 abbrev pub is_start : Write → Dot × WishAct → Bool
-is_start w o = wishes w.key o.1 && has_dot w.dot o
+is_start w o = wishes w.key o.1 && is_under w.dot o
 
 -- The value is what the operations mean: a wish stands if an operation is it and none replaces its dot.
 pub record IsMeaning (os : List (Dot × WishAct)) (v : WishesValue) : Type 0 where
@@ -86,15 +86,15 @@ one_stands false false true false dt ov f g h = refl
 one_stands false false false false dt ov f g h = refl
 
 -- a start of the operations has a dot of theirs
-start_has_dot : (w : Write) (os : List (Dot × WishAct)) → list_any (is_start w) os ≡ true → list_any (has_dot w.dot) os ≡ true
-start_has_dot w os h = let p = found (is_start w) os h in finds (has_dot w.dot) os p.0 p.1.0 (and_parts (wishes w.key p.0.1) (has_dot w.dot p.0) p.1.1).1
+start_has_dot : (w : Write) (os : List (Dot × WishAct)) → list_any (is_start w) os ≡ true → list_any (is_under w.dot) os ≡ true
+start_has_dot w os h = let p = found (is_start w) os h in finds (is_under w.dot) os p.0 p.1.0 (and_parts (wishes w.key p.0.1) (is_under w.dot p.0) p.1.1).1
 
 -- where the operation is one of those before, one of them is the wish exactly if it is
-start_again : (os : List (Dot × WishAct)) (o : Dot × WishAct) → AreOperations (SparesItself over_of) (o ∷ os) → (w : Write) → has_dot w.dot o ≡ true → list_any (has_dot w.dot) os ≡ true → list_any (is_start w) os ≡ wishes w.key o.1
+start_again : (os : List (Dot × WishAct)) (o : Dot × WishAct) → AreOperations (SparesItself over_of) (o ∷ os) → (w : Write) → is_under w.dot o ≡ true → list_any (is_under w.dot) os ≡ true → list_any (is_start w) os ≡ wishes w.key o.1
 start_again os o h w e there = both_ways _ _
     (λ t.
     let p = found (is_start w) os t in
-    let parts = and_parts (wishes w.key p.0.1) (has_dot w.dot p.0) p.1.1 in
+    let parts = and_parts (wishes w.key p.0.1) (is_under w.dot p.0) p.1.1 in
     let same : p.0 ≡ o = h.agree p.0 o (inr p.1.0) (inl refl) (sym (same_dot_is w.dot p.0.0 parts.1) ∙ same_dot_is w.dot o.0 e) in
     ap (λ (q : Dot × WishAct). wishes w.key q.1) (sym same) ∙ parts.0)
     (λ t. finds (is_start w) os o (again (SparesItself over_of) os o h w.dot e there) (λ i. t i && e i))
@@ -106,7 +106,7 @@ step os o v u h m = record {
       let known = m.known w.dot ∙ names-or over_of w.dot os in
       standing-join v (wish_delta o.0 o.1) w
       ∙ (λ i. (m.standing w i && (contains-delta o.0 o.1 w i || not (contains-named_by over_of o.0 o.1 w.dot i))) || (contains-delta o.0 o.1 w i && (m.standing w i || not (known i))))
-      ∙ one_stands (wishes w.key o.1) (has_dot w.dot o) (replaces over_of w.dot o) (list_any (is_start w) os) (list_any (has_dot w.dot) os) (is_replaced over_of w.dot os)
+      ∙ one_stands (wishes w.key o.1) (is_under w.dot o) (replaces over_of w.dot o) (list_any (is_start w) os) (list_any (is_under w.dot) os) (is_replaced over_of w.dot os)
       (spares over_of os o h w.dot) (start_has_dot w os) (start_again os o h w);
 }
 

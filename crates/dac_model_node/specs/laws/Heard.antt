@@ -20,7 +20,7 @@ use Rattle.dac_decide.specs.declared.waits.Noted.{Noted}
 use Rattle.dac_messages.specs.Bodies.{content_of}
 use Rattle.dac_messages.specs.declared.event.Event.{Event}
 use Rattle.dac_messages.specs.declared.event.Event.TheVariants.{Boot, Crash, Command as Told, Tick, Ship, Hear, HearOp}
-use Rattle.dac_commands.specs.declared.refusal.Refusal.TheVariants.{AlreadyOn}
+use Rattle.dac_events.specs.declared.refusal.Refusal.TheVariants.{AlreadyOn}
 use Rattle.dac_ticks.specs.Ticks.{turn_of}
 use Rattle.dac_model_node.specs.NodeValue.{RunValue, state_of}
 use Rattle.dac_model_node.specs.EventRefusals.{refusal_by}

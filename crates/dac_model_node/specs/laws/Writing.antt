@@ -16,7 +16,7 @@ use Rattle.dac_decide.specs.laws.AllUp.{opening_is}
 use Rattle.dac_messages.specs.Bodies.{content_of}
 use Rattle.dac_messages.specs.declared.event.Event.{Event}
 use Rattle.dac_messages.specs.declared.event.Event.TheVariants.{Boot, Crash, Command as Told, Tick, Ship, Hear, HearOp}
-use Rattle.dac_commands.specs.declared.refusal.Refusal.TheVariants.{Off, AlreadyOn}
+use Rattle.dac_events.specs.declared.refusal.Refusal.TheVariants.{Off, AlreadyOn}
 use Rattle.dac_commands.specs.Commands.{greatest_counter}
 use Rattle.dac_commands.specs.laws.Written.{writes_what_is_said}
 use Rattle.dac_ticks.specs.Ticks.{turn_of}

@@ -22,8 +22,8 @@ use Rattle.dac_events.specs.declared.What.{What}
 use Rattle.dac_messages.specs.Bodies.{content_of}
 use Rattle.dac_messages.specs.declared.event.Event.{Event}
 use Rattle.dac_messages.specs.declared.event.Event.TheVariants.{Boot, Tick, Hear, HearOp}
-use Rattle.dac_commands.specs.declared.refusal.Refusal.TheVariants.{AlreadyOn}
-use Rattle.dac_model_world.specs.declared.fault.WorldFault.TheVariants.{NoSuchNode}
+use Rattle.dac_events.specs.declared.refusal.Refusal.TheVariants.{AlreadyOn}
+use Rattle.dac_events.specs.declared.world_fault.WorldFault.TheVariants.{NoSuchNode}
 use Rattle.dac_meaning.specs.Below.{is_below, is_below-is}
 use Rattle.dac_model_node.specs.NodeValue.{RunValue}
 use Rattle.dac_model_node.specs.ModelNode.{ModelRun, joined, shown, run_shown}

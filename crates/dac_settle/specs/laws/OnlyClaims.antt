@@ -29,7 +29,7 @@ use Rattle.dac_operations.specs.Operations.{Operation, operation}
 use Rattle.dac_meaning.specs.Meaning.{In, Within, meaning_of, has_dot, replaces, is_start, told, is_vote, vote_at, permit_vote, drain_vote, flag_said, pairs, life_said, claim_said}
 use Rattle.dac_meaning.specs.laws.Members.{found, finds}
 use Rattle.dac_meaning.specs.laws.Readers.{starts-meaning, permits-meaning, drains-meaning, lives-meaning, lives_are, claims-meaning, claims_are}
-use Rattle.dac_meaning.specs.Chained.{Says, of_said, is_said}
+use Rattle.dac_meaning.specs.Chained.{SaysFor, of_said, is_said}
 use Rattle.dac_ticks.specs.laws.Claimed.{Alike}
 
 -- the act is a claim
@@ -138,10 +138,10 @@ module _ (s x : List Operation) (adds : AddsClaims s x) where
   alike = record { lives = lives_alike; permits = permits_alike; starts = starts_alike; drains = drains_alike }
 
 -- the claim of an application is the greatest of its claims
-pub claim_greatest : (x : List Operation) (app : AppId) → IsGreatest claim_cmp (Says claim_said x app) (map.get (meaning_of x).claims app)
+pub claim_greatest : (x : List Operation) (app : AppId) → IsGreatest claim_cmp (SaysFor claim_said x app) (map.get (meaning_of x).claims app)
 claim_greatest x app =
     by_said (map.get (meaning_of x).claims app) (subst (λ m. IsGreatest claim_cmp (IsSaid claim_said (pairs x) app) (map.get m app)) (sym (claims-meaning x)) (claims_are x app))
   where
-    by_said : (c : Option ClaimValue) → IsGreatest claim_cmp (IsSaid claim_said (pairs x) app) c → IsGreatest claim_cmp (Says claim_said x app) c
+    by_said : (c : Option ClaimValue) → IsGreatest claim_cmp (IsSaid claim_said (pairs x) app) c → IsGreatest claim_cmp (SaysFor claim_said x app) c
     by_said None g = λ v says. g v (is_said claim_said x app v says)
     by_said (Some c) g = (of_said claim_said x app c g.0, λ v says. g.1 v (is_said claim_said x app v says))
