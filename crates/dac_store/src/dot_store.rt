@@ -13,7 +13,7 @@ use std::alloc::Global;
 ///
 /// The laws are one ghost member. They are of stores whose dots are in their contexts. The order is a partial order,
 /// and the join is the least upper bound under the union of the contexts. Each law asks that its values are values of
-/// the type, which `known` tells.
+/// the type, which `tells_invariant` tells.
 pub trait DotStore: Drop {
     /// Holds of the values of the type.
     ghost is_store: { Self → Type 0 };
