@@ -6,8 +6,9 @@ use Rattle.std.specs.List.{list_any}
 use Rattle.std.proofs.lemmas.Bool.{and_parts, or_cases}
 use Rattle.std.proofs.lemmas.List.{take_all}
 use Rattle.std.proofs.lemmas.List.Folds.{list_any_more}
-use Rattle.dac_dots.specs.Dots.{Dots, dot, origin_cmp, exact_origins}
-use Rattle.dac_dots.specs.InOrder.{tie}
+use Rattle.dac_dots.specs.Dots.{Dots, dot, origin_cmp}
+use Rattle.dac_dots.specs.laws.Dots.{exact_origins}
+use Rattle.dac_dots.specs.laws.InOrder.{tie}
 use Rattle.dac_dots.specs.Keys.{has_key}
 use Rattle.dac_dots.specs.declared.dot.Dot.{Dot}
 use Rattle.dac_dots.specs.declared.dot.Origin.{Origin}

@@ -183,7 +183,8 @@ impl DotSet {
 impl DotStore for DotSet {
     ghost use Rattle.std.specs.FinSet as set;
     ghost use Rattle.dac_lattice.specs.Chains.{IsAny};
-    ghost use Rattle.dac_store.specs.DotSets.{IsSetBelow, join_sets, is_empty_set, set_laws};
+    ghost use Rattle.dac_store.specs.DotSets.{IsSetBelow, join_sets, is_empty_set};
+    ghost use Rattle.dac_store.specs.laws.DotSets.{set_laws};
 
     ghost is_store = { IsAny };
 
