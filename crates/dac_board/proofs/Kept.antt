@@ -13,9 +13,11 @@ use Rattle.std.proofs.lemmas.Bool.{true≢false, false_from_ne_true, eqb-true}
 use Rattle.std.proofs.lemmas.Map.Lookups.{CmpEqualImpliesEq}
 use Rattle.dac_base.specs.declared.NodeId.{NodeId}
 use Rattle.dac_base.specs.declared.AppId.{AppId}
-use Rattle.dac_base.specs.Ids.{node_cmp, nodes_total, exact_nodes, apps_total, exact_apps}
+use Rattle.dac_base.specs.Ids.{node_cmp}
+use Rattle.dac_base.specs.laws.Ids.{nodes_total, exact_nodes, apps_total, exact_apps}
 use Rattle.dac_dots.specs.declared.dot.Origin.{Origin}
-use Rattle.dac_dots.specs.Dots.{Dots, dot_cmp, dots_total, exact_dots, origins_total, exact_origins}
+use Rattle.dac_dots.specs.Dots.{Dots, dot_cmp}
+use Rattle.dac_dots.specs.laws.Dots.{dots_total, exact_dots, origins_total, exact_origins}
 use Rattle.dac_lattice.specs.Lattices.{join_options}
 use Rattle.dac_lattice.specs.declared.flags.Flag.{Flag}
 use Rattle.dac_lattice.specs.Flags.{join_flags}
@@ -24,15 +26,18 @@ use Rattle.dac_chains.specs.Greatest.{get-greater}
 use Rattle.dac_chains.specs.Lives.{Lives, life_cmp, live_at}
 use Rattle.dac_chains.specs.Claims.{claim_cmp}
 use Rattle.dac_wishes.specs.declared.key.Key.{Key}
-use Rattle.dac_wishes.specs.Writes.{Write, write, dots_at, contains-dots_at}
-use Rattle.dac_wishes.specs.WishesValue.{standing-join, may_stand}
+use Rattle.dac_wishes.specs.Writes.{Write, write, dots_at}
+use Rattle.dac_wishes.specs.laws.Writes.{contains-dots_at}
+use Rattle.dac_wishes.specs.WishesValue.{may_stand}
+use Rattle.dac_wishes.specs.laws.WishesValue.{standing-join}
 use Rattle.dac_wishes.specs.KeyedWrites.{KeyedWrite, keyed_write}
-use Rattle.dac_wishes.specs.Keys.{keys_total, exact_keys}
-use Rattle.dac_wishes.specs.Votes.{Votes, VotesValue, AreVotes, joined_vote, join_votes, standing-join_votes, votes_at}
-use Rattle.dac_wishes.specs.VotesByKey.{find-votes_at, votes_at-sorted}
+use Rattle.dac_wishes.specs.laws.Keys.{keys_total, exact_keys}
+use Rattle.dac_wishes.specs.Votes.{Votes, VotesValue, AreVotes, joined_vote, join_votes, votes_at}
+use Rattle.dac_wishes.specs.laws.Votes.{standing-join_votes}
+use Rattle.dac_wishes.specs.laws.VotesByKey.{find-votes_at, votes_at-sorted}
 use Rattle.dac_wishes.specs.PermissionsValue.{PermissionsValue, permits_at}
 use Rattle.dac_wishes.specs.DrainsValue.{DrainsValue, DrainWrite, drains_at}
-use Rattle.dac_wishes.specs.AtDot.{at_alone}
+use Rattle.dac_wishes.specs.laws.AtDot.{at_alone}
 use Rattle.dac_config.specs.Table.{Table, group_of}
 use Rattle.dac_meaning.specs.StateValue.{StateValue, IsState, join, permissions_of, wishes_of, drains_of}
 use Rattle.dac_meaning.specs.laws.StateLaws.{lives-join, claims-join, permissions-join, wishes-join, drains-join}

@@ -12,9 +12,11 @@ use Rattle.std.proofs.lemmas.Bool.{false≢true, true≢false}
 use Rattle.std.proofs.lemmas.Map.Lookups.{CmpEqualImpliesEq}
 use Rattle.dac_dots.specs.declared.dot.Dot.{Dot}
 use Rattle.dac_dots.specs.declared.dot.Origin.{Origin}
-use Rattle.dac_dots.specs.Dots.{Dots, dot_cmp, dots_total, exact_dots}
+use Rattle.dac_dots.specs.Dots.{Dots, dot_cmp}
+use Rattle.dac_dots.specs.laws.Dots.{dots_total, exact_dots}
 use Rattle.dac_dots.specs.Keys.{has_key}
-use Rattle.dac_dots.specs.InOrder.{in_order, has_key-in_order}
+use Rattle.dac_dots.specs.InOrder.{in_order}
+use Rattle.dac_dots.specs.laws.InOrder.{has_key-in_order}
 use Rattle.dac_lattice.specs.declared.flags.Flag.{Flag}
 use Rattle.dac_lattice.specs.Search.{AtEachKey}
 use Rattle.dac_store.specs.DotMaps.{store_at}
@@ -24,8 +26,10 @@ use Rattle.dac_wishes.specs.Writes.{Write, Writes, same_dot_is}
 use Rattle.dac_wishes.specs.KeyedWrites.{KeyedWrite}
 use Rattle.dac_wishes.specs.Votes.{Votes}
 use Rattle.dac_wishes.specs.StoredVotes.{DotFlags}
-use Rattle.dac_wishes.specs.VotesByKey.{votes_by_key, are_votes, votes_by_key_again, get-votes_of}
-use Rattle.dac_wishes.specs.StartsByKey.{starts_by_key, are_starts, writes_again, contains-writes_of}
+use Rattle.dac_wishes.specs.VotesByKey.{votes_by_key}
+use Rattle.dac_wishes.specs.laws.VotesByKey.{are_votes, votes_by_key_again, get-votes_of}
+use Rattle.dac_wishes.specs.StartsByKey.{starts_by_key}
+use Rattle.dac_wishes.specs.laws.StartsByKey.{are_starts, writes_again, contains-writes_of}
 
 or_parts : (a b : Bool) → (a || b) ≡ false → (a ≡ false) × (b ≡ false)
 or_parts true b e = absurd (true≢false e)

@@ -13,19 +13,24 @@ use Rattle.dac_base.specs.declared.NodeId.{NodeId}
 use Rattle.dac_base.specs.declared.AppId.{AppId}
 use Rattle.dac_dots.specs.declared.dot.Dot.{Dot}
 use Rattle.dac_dots.specs.Dots.{Dots}
-use Rattle.dac_dots.specs.InOrder.{in_order, in_order-same}
-use Rattle.dac_dots.specs.Dots.{dots_total, exact_dots}
+use Rattle.dac_dots.specs.InOrder.{in_order}
+use Rattle.dac_dots.specs.laws.InOrder.{in_order-same}
+use Rattle.dac_dots.specs.laws.Dots.{dots_total, exact_dots}
 use Rattle.dac_lattice.specs.declared.flags.Flag.{Flag}
 use Rattle.dac_lattice.specs.declared.flags.Flag.TheVariants.{Up, Down}
-use Rattle.dac_lattice.specs.Flags.{flag_cmp, flags_exact}
+use Rattle.dac_lattice.specs.Flags.{flag_cmp}
+use Rattle.dac_lattice.specs.laws.Flags.{flags_exact}
 use Rattle.dac_lattice.specs.contracts.flags.FlagPartialEq.TheImpl.{eq-value}
 use Rattle.dac_chains.specs.declared.lives.Life.{Life}
-use Rattle.dac_chains.specs.Lives.{life_cmp, IsLive, live_at, exact_lives, lives_total}
+use Rattle.dac_chains.specs.Lives.{life_cmp, IsLive, live_at}
+use Rattle.dac_chains.specs.laws.Lives.{exact_lives, lives_total}
 use Rattle.dac_chains.specs.laws.Live.{live_is}
-use Rattle.dac_store.specs.SameDots.{are_same, same_dots}
+use Rattle.dac_store.specs.SameDots.{are_same}
+use Rattle.dac_store.specs.laws.SameDots.{same_dots}
 use Rattle.dac_config.specs.Table.{Table, group_of, default_permission}
 use Rattle.dac_wishes.specs.declared.key.Key.{Key}
-use Rattle.dac_wishes.specs.Writes.{dots_at, contains-dots_at}
+use Rattle.dac_wishes.specs.Writes.{dots_at}
+use Rattle.dac_wishes.specs.laws.Writes.{contains-dots_at}
 use Rattle.dac_wishes.specs.WishesValue.{WishesValue, is_wished}
 use Rattle.dac_wishes.specs.laws.Wished.{is_wished-some}
 use Rattle.dac_wishes.specs.PermissionsValue.{permits_at, is_permitted_by}

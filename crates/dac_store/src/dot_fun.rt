@@ -10,7 +10,7 @@ ghost use Rattle.dac_store.specs.AtDot.{StandsBelow};
 use crate::DotStore;
 use crate::appending::ends_below;
 use crate::few_entries::{FewEntries, merge_few};
-use dac_contexts::Context;
+use dac_contexts::{Context, MarkedContext};
 use dac_dots::{Dot, NoMemory};
 use dac_lattice::Lattice;
 use dac_lattice::merging::{Combine, value_at};
@@ -132,7 +132,8 @@ impl<V: Lattice> DotStore for DotFun<V> {
     ghost use Rattle.std.specs.Prelude.{[]};
     ghost use Rattle.dac_dots.specs.Dots.{dot_cmp};
     ghost use Rattle.dac_lattice.specs.Maps.{IsMap};
-    ghost use Rattle.dac_store.specs.DotFuns.{has_dot, IsFunBelow, join_funs, is_empty_list, fun_laws};
+    ghost use Rattle.dac_store.specs.DotFuns.{has_dot, IsFunBelow, join_funs, is_empty_list};
+    ghost use Rattle.dac_store.specs.laws.DotFuns.{fun_laws};
 
     ghost is_store = { IsMap dot_cmp V.is_value };
 
@@ -204,7 +205,7 @@ impl<V: Lattice> DotStore for DotFun<V> {
         true
     }
 
-    fn is_unheard(&self, heard: &Context) -> bool {
+    fn is_unheard(&self, heard: &MarkedContext<'_>) -> bool {
         for (dot, _) in self.few.as_slice() {
             if heard.contains(*dot) {
                 return false;

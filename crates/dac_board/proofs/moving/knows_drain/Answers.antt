@@ -1,5 +1,6 @@
 use Rattle.std.proofs.Common.{sym, subst, ◌∙◌, arith}
-use Rattle.dac_dots.specs.Dots.{origin_cmp, origins_total, exact_origins}
+use Rattle.dac_dots.specs.Dots.{origin_cmp}
+use Rattle.dac_dots.specs.laws.Dots.{origins_total, exact_origins}
 use Rattle.dac_lattice.specs.Search.{AtEachKey}
 use Rattle.dac_lattice.specs.laws.EntryLaws.{no_more, one_more}
 use Rattle.dac_board.proofs.Marking.{AvoidsVotes, IsAnyOrigin, votes_avoid, no_votes_avoid, votes_unknown}

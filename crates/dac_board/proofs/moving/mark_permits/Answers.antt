@@ -1,7 +1,8 @@
 use Rattle.std.proofs.Common.{◌≡◌, ℕ, get_or, true, false, sym, ap, subst, ◌∙◌, arith}
 use Rattle.dac_lattice.specs.Search.{AtEachKey}
 use Rattle.dac_lattice.specs.laws.EntryLaws.{no_more, one_more}
-use Rattle.dac_wishes.specs.Keys.{key_cmp, keys_total, exact_keys}
+use Rattle.dac_wishes.specs.Keys.{key_cmp}
+use Rattle.dac_wishes.specs.laws.Keys.{keys_total, exact_keys}
 use Rattle.dac_board.proofs.Marking.{AvoidsVotes, IsOfApp, votes_avoid, no_votes_avoid, votes_unknown}
 use Rattle.dac_board.proofs.moving.mark_permits.Goals as goal
 use Rattle.dac_board.proofs.moving.mark_permits.Goals.{then-knows_vote, else-knows_vote}
