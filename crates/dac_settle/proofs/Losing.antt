@@ -24,7 +24,7 @@ use Rattle.dac_operations.specs.declared.act.Act.TheVariants.{Claim as Claims}
 use Rattle.dac_operations.specs.Operations.{Operation}
 use Rattle.dac_meaning.specs.StateValue.{StateValue, join}
 use Rattle.dac_meaning.specs.Meaning.{In, meaning_of, claim_said, names, replaces}
-use Rattle.dac_meaning.specs.Chained.{Says}
+use Rattle.dac_meaning.specs.Chained.{SaysFor}
 use Rattle.dac_meaning.specs.laws.Members.{In-append_left, In-append_right, In-append_cases, found, finds}
 use Rattle.dac_meaning.specs.laws.Readers.{known-meaning, starts-meaning, permits-meaning, drains-meaning}
 use Rattle.dac_config.specs.Table.{timeout_of}
@@ -88,7 +88,7 @@ is_live n either = subst (λ (l : Lives). IsLive l n 1) (sym begun_alike.lives) 
 pub only_live : (n : NodeId) (inc : ℕ) → IsLive loss_state.lives n inc → IsEither n × (1 ≡ inc)
 only_live n inc alive = live_only the_starts are_starts n inc (subst (λ (l : Lives). IsLive l n inc) begun_alike.lives alive)
 
-said_by : (app : AppId) (c : Claim) → Says claim_said loss_set app c → (the_app ≡ app) × (lost_claim ≡ c)
+said_by : (app : AppId) (c : Claim) → SaysFor claim_said loss_set app c → (the_app ≡ app) × (lost_claim ≡ c)
 said_by app c says = elim (In-append_cases says.0 (begun the_starts) (claiming ∷ []) says.1.0) [
   | inl old ↦ absurd (no_claim_said the_starts are_starts app c (says.0, (old, says.1.1)))
   | inr new ↦ elim new [
@@ -103,14 +103,14 @@ said_by app c says = elim (In-append_cases says.0 (begun the_starts) (claiming �
 pub claimed : map.get loss_state.claims the_app ≡ Some lost_claim
 claimed = by_claim (map.get loss_state.claims the_app) (claim_greatest loss_set the_app)
   where
-    by_claim : (o : Option Claim) → IsGreatest claim_cmp (Says claim_said loss_set the_app) o → o ≡ Some lost_claim
+    by_claim : (o : Option Claim) → IsGreatest claim_cmp (SaysFor claim_said loss_set the_app) o → o ≡ Some lost_claim
     by_claim None none = absurd (none lost_claim (claiming, (In-append_right claiming (begun the_starts) (claiming ∷ []) (inl refl), refl)))
     by_claim (Some c) is = ap (λ k. Some k) (sym (said_by the_app c is.0).1)
 
 only_claimed : (app : AppId) (c : Claim) → map.get loss_state.claims app ≡ Some c → the_app ≡ app
 only_claimed app c e = by_claim (map.get loss_state.claims app) (claim_greatest loss_set app) e
   where
-    by_claim : (o : Option Claim) → IsGreatest claim_cmp (Says claim_said loss_set app) o → o ≡ Some c → the_app ≡ app
+    by_claim : (o : Option Claim) → IsGreatest claim_cmp (SaysFor claim_said loss_set app) o → o ≡ Some c → the_app ≡ app
     by_claim None none e = none_some e
     by_claim (Some k) is e = (said_by app k is.0).0
 

@@ -29,21 +29,21 @@ use Rattle.dac_messages.specs.declared.event.Event.{Event}
 use Rattle.dac_messages.specs.declared.event.Event.TheVariants.{Tick, Ship, Hear}
 use Rattle.dac_messages.specs.declared.reply.Reply.{Reply}
 use Rattle.dac_messages.specs.declared.reply.Reply.TheVariants.{Ticked, Shipped, Heard}
-use Rattle.dac_commands.specs.declared.refusal.Refusal.{Refusal}
-use Rattle.dac_commands.specs.declared.refusal.Refusal.TheVariants.{DeclaredDown, MomentBack, DotsUsedUp, UnknownNode, OnSelf, UpToDate, NotForMe}
+use Rattle.dac_events.specs.declared.refusal.Refusal.{Refusal}
+use Rattle.dac_events.specs.declared.refusal.Refusal.TheVariants.{DeclaredDown, MomentBack, DotsUsedUp, UnknownNode, OnSelf, UpToDate, NotForMe}
 use Rattle.dac_commands.specs.Commands.{greatest_counter}
 use Rattle.dac_commands.specs.Causes.{first, no_node, terms_used_up}
 use Rattle.dac_peers.specs.declared.places.Place.{Place}
 use Rattle.dac_peers.specs.Peers.{no_peers, begins, acked_at, acked_by, kept_from, receipt, has_all}
 use Rattle.dac_ticks.specs.Ticks.{Turn, turn_of, turn_from}
 use Rattle.dac_ticks.specs.laws.Turning.{turned_by}
-use Rattle.dac_model_world.specs.declared.fault.WorldFault.{WorldFault}
+use Rattle.dac_events.specs.declared.world_fault.WorldFault.{WorldFault}
 use Rattle.dac_model_world.specs.ModelNode.{ModelNode, ModelRun, joined, shown, run_shown, base_after}
 use Rattle.dac_model_world.specs.EventRefusals.{refusal_of}
 use Rattle.dac_model_world.specs.Deeds.{meanings, message_of, body_from}
 use Rattle.dac_model_world.specs.Step.{step_by}
 use Rattle.dac_meaning.specs.Below.{is_below}
-use Rattle.dac_model_world.specs.declared.fault.WorldFault.TheVariants.{NoSuchNode}
+use Rattle.dac_events.specs.declared.world_fault.WorldFault.TheVariants.{NoSuchNode}
 use Rattle.dac_model_world.specs.ModelWorld.{ModelWorld, WorldStepped, AnsweredAs, event_of, happens, happens_by, answered_by, world_after}
 use Rattle.dac_model_world.specs.SetWorld.{Issue, NodeSet, SetWorld, set_run}
 use Rattle.dac_settle.specs.Settling.{Member, AllSame, IsReady}

@@ -10,9 +10,10 @@ use Rattle.dac_base.specs.declared.NodeId.{NodeId}
 use Rattle.dac_base.specs.declared.AppId.{AppId}
 use Rattle.dac_base.specs.declared.limits.TheConstants.{MAX_COUNTER}
 use Rattle.dac_dots.specs.declared.dot.Dot.{Dot}
-use Rattle.dac_dots.specs.Dots.{dot, dot_cmp, dots_total, exact_dots}
+use Rattle.dac_dots.specs.Dots.{dot, dot_cmp}
+use Rattle.dac_dots.specs.laws.Dots.{dots_total, exact_dots}
 use Rattle.dac_dots.specs.Keys.{has_key}
-use Rattle.dac_dots.specs.InOrder.{has_key-in_order}
+use Rattle.dac_dots.specs.laws.InOrder.{has_key-in_order}
 use Rattle.dac_lattice.specs.declared.flags.Flag.TheVariants.{Up as IsUpFlag}
 use Rattle.dac_chains.specs.declared.lives.Life.{Life}
 use Rattle.dac_chains.specs.declared.claims.Claim.{Claim}
@@ -23,13 +24,15 @@ use Rattle.dac_chains.specs.Lives.{IsLive, life_cmp}
 use Rattle.dac_chains.specs.laws.Live.{live_is}
 use Rattle.dac_wishes.specs.KeyedWrites.{keyed_write}
 use Rattle.dac_wishes.specs.DrainsValue.{origin}
-use Rattle.dac_wishes.specs.Writes.{write, dots_at, contains-dots_at, same_dot, same_dot_is, same_dot_itself}
+use Rattle.dac_wishes.specs.Writes.{write, dots_at, same_dot, same_dot_is, same_dot_itself}
+use Rattle.dac_wishes.specs.laws.Writes.{contains-dots_at}
 use Rattle.dac_wishes.specs.declared.key.Key.{Key}
 use Rattle.dac_operations.specs.declared.act.Act.TheVariants.{Claim as Claims, Start as Starts}
 use Rattle.dac_operations.specs.Operations.{Operation, operation}
 use Rattle.dac_meaning.specs.StateValue.{StateValue, join}
 use Rattle.dac_meaning.specs.Meaning.{In, meaning_of, pairs, life_said, claim_said, lives_of, names, replaces}
-use Rattle.dac_meaning.specs.Chained.{Says, of_said, is_said}
+use Rattle.dac_meaning.specs.Chained.{SaysFor}
+use Rattle.dac_meaning.specs.laws.Chained.{of_said, is_said}
 use Rattle.dac_meaning.specs.laws.Members.{found, finds}
 use Rattle.dac_meaning.specs.laws.Readers.{known-meaning, starts-meaning, permits-meaning, drains-meaning, lives-meaning, lives_are}
 use Rattle.dac_placement.specs.Placement.{is_up, IsEligible, key_at, holder_of, IsVerdict, verdict_of, candidate_of}
@@ -41,8 +44,8 @@ use Rattle.dac_decide.specs.FailoverWait.{is_due_by, noted_at, waits_of}
 use Rattle.dac_decide.specs.declared.waits.Noted.{Noted}
 use Rattle.dac_events.specs.declared.Command.TheVariants.{Start}
 use Rattle.dac_messages.specs.declared.event.Event.TheVariants.{Command as Told, Tick}
-use Rattle.dac_commands.specs.declared.refusal.Refusal.{Refusal}
-use Rattle.dac_commands.specs.declared.refusal.Refusal.TheVariants.{DeclaredDown, MomentBack, DotsUsedUp, UnknownApp, UnknownNode, NotInList, NotLive, TooManyDots}
+use Rattle.dac_events.specs.declared.refusal.Refusal.{Refusal}
+use Rattle.dac_events.specs.declared.refusal.Refusal.TheVariants.{DeclaredDown, MomentBack, DotsUsedUp, UnknownApp, UnknownNode, NotInList, NotLive, TooManyDots}
 use Rattle.dac_commands.specs.Commands.{greatest_counter, live_key, live, live_or_none, standing_starts, act_of, next_operation}
 use Rattle.dac_commands.specs.Causes.{first, no_node, unlisted, not_live, too_many, used_up, terms_used_up}
 use Rattle.dac_commands.specs.laws.Counters.{next-is}
@@ -75,7 +78,7 @@ module _ (n : NodeId) (rest : List Operation) (none : SayNoLife rest) where
   abbrev pub lone : List Operation
   lone = up_of n ∷ rest
 
-  said_life : (m : NodeId) (l : Life) → Says life_said lone m l → (n ≡ m) × (up_life ≡ l)
+  said_life : (m : NodeId) (l : Life) → SaysFor life_said lone m l → (n ≡ m) × (up_life ≡ l)
   said_life m l says = elim says.1.0 [
     | inl same ↦ pair_of (sym (ap (λ (q : Operation). life_said q.dot q.act) same) ∙ says.1.1)
     | inr more ↦ absurd (none says.0 more m l says.1.1)
@@ -170,7 +173,7 @@ begun_counter n = sym (ap (λ (d : Dot). d.n) (next-is (meaning_of (begun n)).kn
     at_most j o (inr (inr none)) e = absurd none
 
 -- ---- claims
-no_claim_begun : (n : NodeId) (app : AppId) (c : Claim) → Says claim_said (begun n) app c → ⊥
+no_claim_begun : (n : NodeId) (app : AppId) (c : Claim) → SaysFor claim_said (begun n) app c → ⊥
 no_claim_begun n app c says = elim says.1.0 [
   | inl a ↦ none_some (sym (ap (λ (q : Operation). claim_said q.dot q.act) a) ∙ says.1.1)
   | inr more ↦ elim more [ inl b ↦ none_some (sym (ap (λ (q : Operation). claim_said q.dot q.act) b) ∙ says.1.1) | inr none ↦ absurd none ]
@@ -179,7 +182,7 @@ no_claim_begun n app c says = elim says.1.0 [
 none_claimed : (n : NodeId) (app : AppId) → map.get (meaning_of (begun n)).claims app ≡ None
 none_claimed n app = by_claim (map.get (meaning_of (begun n)).claims app) (claim_greatest (begun n) app)
   where
-    by_claim : (o : Option Claim) → IsGreatest claim_cmp (Says claim_said (begun n) app) o → o ≡ None
+    by_claim : (o : Option Claim) → IsGreatest claim_cmp (SaysFor claim_said (begun n) app) o → o ≡ None
     by_claim None none = refl
     by_claim (Some c) is = absurd (no_claim_begun n app c is.0)
 

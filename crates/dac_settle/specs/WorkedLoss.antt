@@ -14,7 +14,7 @@ use Rattle.dac_events.specs.declared.WorldEvent.{WorldEvent}
 use Rattle.dac_events.specs.declared.What.TheVariants.{Boot, Crash, Command, Tick, Ship, Deliver, Hand}
 use Rattle.dac_messages.specs.declared.reply.Reply.{Reply}
 use Rattle.dac_messages.specs.declared.reply.Reply.TheVariants.{Ticked, Shipped, Heard}
-use Rattle.dac_model_world.specs.declared.fault.WorldFault.{WorldFault}
+use Rattle.dac_events.specs.declared.world_fault.WorldFault.{WorldFault}
 use Rattle.dac_model_world.specs.ModelWorld.{AnsweredAs, start, world_after}
 use Rattle.dac_model_world.specs.SetWorld.{NodeSet, no_sets, set_run}
 use Rattle.dac_settle.specs.WorldRounds.{IsReadyWorld, AreRounds}

@@ -1,0 +1,7 @@
+pub mod Appending
+pub mod AtDot
+pub mod DotSets
+pub mod SameDots
+pub mod Stores
+pub mod DotFuns
+pub mod DotMaps
