@@ -7,7 +7,7 @@ use Rattle.dac_operations.specs.declared.act.Act.{Act}
 use Rattle.dac_operations.specs.declared.act.Act.TheVariants.{Claim}
 use Rattle.dac_meaning.specs.StateValue.{StateValue, IsState}
 use Rattle.dac_config.specs.Table.{Table}
-use Rattle.dac_decide.specs.Placement.{is_up}
+use Rattle.dac_decide.specs.Placement.{apps_of, is_up}
 use Rattle.dac_decide.specs.laws.Tests.{up_is}
 use Rattle.dac_decide.specs.declared.start_gate.Opening.{Opening}
 use Rattle.dac_decide.specs.declared.start_gate.Opening.TheVariants.{Shut, Opened, GiveUp}
@@ -74,8 +74,8 @@ module _ (t : Table) (last : ℕ) (r : RunValue) (noted : List (Option Noted)) (
   tick_effect now Opened none =
       let live = (up_is r.state r.origin).0 (was_true (is_up r.state r.origin) (none_is (causes_to_tick t r now) none).0) in
       record {
-        left = subst (λ s. AreKeptAt t s r.origin.node (turn_of t r.origin noted now r.state).ops) (state_joined t r.origin noted now r.state) (claims_stay t r.origin noted now r.state is live);
-        later = claims_are_later t r.origin noted now r.state is;
+        left = subst (λ s. AreKeptAt t s r.origin.node (turn_of t r.origin noted now r.state).ops) (state_joined t r.origin noted now r.state) (claims_stay t r.origin noted now r.state (apps_of t) is live);
+        later = claims_are_later t r.origin noted now r.state (apps_of t) is;
       }
 
 -- what is accepted takes effect
