@@ -1,4 +1,4 @@
--- What a tick claims stays with its claimer to the end of the tick.
+-- What is claimed stays with its claimer.
 use Rattle.std.specs.Prelude.{◌≡◌, ℕ, ◌<◌, List, Option, Some}
 use Rattle.std.specs.FinMap as map
 use Rattle.dac_base.specs.declared.NodeId.{NodeId}
@@ -15,7 +15,7 @@ use Rattle.dac_config.specs.Table.{Table}
 use Rattle.dac_placement.specs.declared.verdicts.Verdict.TheVariants.{Kept}
 use Rattle.dac_placement.specs.Placement.{IsVerdict, RunsAt}
 use Rattle.dac_decide.specs.declared.waits.Noted.{Noted}
-use Rattle.dac_ticks.specs.Ticks.{turn_of}
+use Rattle.dac_ticks.specs.Ticks.{turn_from, turn_over}
 
 -- the operation claims the application
 abbrev pub ClaimsApp : AppId → Operation → Type 0
@@ -35,11 +35,13 @@ abbrev pub AreLaterClaims : StateValue → List Operation → Type 0
 AreLaterClaims s os = (o : Operation) (app : AppId) → In o os → (term : ℕ) (how : How) (from : Option NodeId) → o.act ≡ Claim app term how from
     → (claim : ClaimValue) → map.get s.claims app ≡ Some claim → claim.term < term
 
--- So it is with what a tick claims, in the state that the tick finds.
+-- So it is with what an incarnation claims of some applications in turn, in the state that it finds. A tick takes all of
+-- the configuration in turn.
 abbrev pub ClaimsAreLater : Type 0
-ClaimsAreLater = (t : Table) (own : Origin) (waits : List (Option Noted)) (now : ℕ) (s : StateValue) → IsState s → AreLaterClaims s (turn_of t own waits now s).ops
+ClaimsAreLater = (t : Table) (own : Origin) (waits : List (Option Noted)) (now : ℕ) (s : StateValue) (apps : List AppId) → IsState s → AreLaterClaims s (turn_over t own waits now (turn_from s) apps).ops
 
--- What an incarnation that is live claims in a tick is kept at its node in the state that all claims of the tick leave.
+-- What an incarnation that is live claims of some applications in turn is kept at its node, in the state that all these
+-- claims leave. So it is after a tick, and after each claim alone.
 abbrev pub ClaimsStay : Type 0
-ClaimsStay = (t : Table) (own : Origin) (waits : List (Option Noted)) (now : ℕ) (s : StateValue) → IsState s → IsLive s.lives own.node own.inc
-    → let turn = turn_of t own waits now s in AreKeptAt t turn.state own.node turn.ops
+ClaimsStay = (t : Table) (own : Origin) (waits : List (Option Noted)) (now : ℕ) (s : StateValue) (apps : List AppId) → IsState s → IsLive s.lives own.node own.inc
+    → let turn = turn_over t own waits now (turn_from s) apps in AreKeptAt t turn.state own.node turn.ops

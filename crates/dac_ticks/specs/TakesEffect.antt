@@ -1,5 +1,5 @@
--- What a command that is taken up, or a claim that a tick makes, brings about in the state that its operation leaves.
-use Rattle.std.specs.Prelude.{◌≡◌, ◌↔◌, ℕ, true, List, [], ◌∷◌, Option, None}
+-- What a command that is taken up brings about in the state that its operation leaves.
+use Rattle.std.specs.Prelude.{◌≡◌, ◌↔◌, ℕ, true, [], ◌∷◌, None}
 use Rattle.dac_base.specs.declared.NodeId.{NodeId}
 use Rattle.dac_base.specs.declared.AppId.{AppId}
 use Rattle.dac_dots.specs.declared.dot.Origin.{Origin}
@@ -7,14 +7,11 @@ use Rattle.dac_chains.specs.Lives.{IsLive}
 use Rattle.dac_meaning.specs.StateValue.{StateValue, IsState, join}
 use Rattle.dac_meaning.specs.Meaning.{meaning_of}
 use Rattle.dac_config.specs.Table.{Table}
-use Rattle.dac_placement.specs.Placement.{key_at, IsPermittedAt, IsStartedAt, IsDrainedAt, RunsAt, runs_at, verdict_of}
-use Rattle.dac_placement.specs.declared.verdicts.Verdict.TheVariants.{Kept}
-use Rattle.dac_decide.specs.declared.waits.Noted.{Noted}
+use Rattle.dac_placement.specs.Placement.{key_at, IsPermittedAt, IsStartedAt, IsDrainedAt, RunsAt}
 use Rattle.dac_events.specs.declared.Command.{Command}
 use Rattle.dac_events.specs.declared.Command.TheVariants.{Down, Permit, Start, Stop, Drain, Takeover}
 use Rattle.dac_commands.specs.Commands.{next_operation, act_of}
 use Rattle.dac_commands.specs.Causes.{refusal_of_command}
-use Rattle.dac_ticks.specs.Ticks.{claim_of, is_mine}
 
 -- the node is live, and P holds of its live incarnation
 abbrev pub AtLive : StateValue → NodeId → (ℕ → Type 0) → Type 0
@@ -35,11 +32,3 @@ TakesEffect t own left (Takeover app) = RunsAt t left app own.node
 abbrev pub CommandsTakeEffect : Type 0
 CommandsTakeEffect = (t : Table) (own : Origin) (s : StateValue) (c : Command) → IsState s → refusal_of_command t own s c ≡ None
     → TakesEffect t own (join s (meaning_of (next_operation s own (act_of t s c) ∷ []))) c
-
--- What an incarnation that is live claims, it has. The application runs at its node in the state that the claim leaves, and the
--- verdict is that it is kept there.
-abbrev pub ClaimsAreKept : Type 0
-ClaimsAreKept = (t : Table) (own : Origin) (waits : List (Option Noted)) (now : ℕ) (s : StateValue) (app : AppId) → IsState s → IsLive s.lives own.node own.inc
-    → is_mine t own waits now s app ≡ true
-    → let left = join s (meaning_of (claim_of t own s app ∷ [])) in
-    (verdict_of t left app ≡ Kept own.node) × (runs_at t left app own.node ≡ true)

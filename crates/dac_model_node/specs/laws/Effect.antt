@@ -7,7 +7,7 @@ use Rattle.dac_operations.specs.declared.act.Act.{Act}
 use Rattle.dac_operations.specs.declared.act.Act.TheVariants.{Claim}
 use Rattle.dac_meaning.specs.StateValue.{StateValue, IsState}
 use Rattle.dac_config.specs.Table.{Table}
-use Rattle.dac_decide.specs.Placement.{is_up}
+use Rattle.dac_decide.specs.Placement.{apps_of, is_up}
 use Rattle.dac_decide.specs.laws.Tests.{up_is}
 use Rattle.dac_decide.specs.declared.start_gate.Opening.{Opening}
 use Rattle.dac_decide.specs.declared.start_gate.Opening.TheVariants.{Shut, Opened, GiveUp}
@@ -28,7 +28,7 @@ use Rattle.dac_model_node.specs.NodeValue.{NodeValue, RunValue}
 use Rattle.dac_model_node.specs.EventRefusals.{causes_to_tick, refusal_on, refusal_by, refusal_to_tick}
 use Rattle.dac_model_node.specs.Deeds.{deed_of, opening_at, ticks_by}
 use Rattle.dac_model_node.specs.Accepted.{left_by, reply_by, run_by}
-use Rattle.dac_model_node.specs.Effect.{HasEffect, EventsTakeEffect}
+use Rattle.dac_model_node.specs.Effect.{HasEffect}
 use Rattle.dac_model_node.specs.laws.Numbers.{obeyed}
 use Rattle.dac_model_node.specs.laws.Writing.{no_off}
 
@@ -74,20 +74,12 @@ module _ (t : Table) (last : ℕ) (r : RunValue) (noted : List (Option Noted)) (
   tick_effect now Opened none =
       let live = (up_is r.state r.origin).0 (was_true (is_up r.state r.origin) (none_is (causes_to_tick t r now) none).0) in
       record {
-        left = subst (λ s. AreKeptAt t s r.origin.node (turn_of t r.origin noted now r.state).ops) (state_joined t r.origin noted now r.state) (claims_stay t r.origin noted now r.state is live);
-        later = claims_are_later t r.origin noted now r.state is;
+        left = subst (λ s. AreKeptAt t s r.origin.node (turn_of t r.origin noted now r.state).ops) (state_joined t r.origin noted now r.state) (claims_stay t r.origin noted now r.state (apps_of t) is live);
+        later = claims_are_later t r.origin noted now r.state (apps_of t) is;
       }
 
-  effect_on : (e : Event) → refusal_on t r e ≡ None → HasEffect t before e (deed_of t r noted e).reply (after (run_by r noted (deed_of t r noted e)))
-  effect_on (Boot now) none = record { left = tt; later = nothing_later r.state }
-  effect_on Crash none = record { left = tt; later = nothing_later r.state }
-  effect_on (Told c) none = record { left = commands_take_effect t r.origin r.state c is (obeyed t r c none).0; later = later_command t r.origin r.state c }
-  effect_on (Tick now) none = tick_effect now (opening_at t r now) none
-  effect_on (Ship to) none = record { left = tt; later = nothing_later r.state }
-  effect_on (Hear m) none = record { left = tt; later = nothing_later r.state }
-  effect_on (HearOp o) none = record { left = tt; later = nothing_later r.state }
-
-takes_effect : (t : Table) (me : NodeId) (last : ℕ) (run : Option RunValue) (noted : List (Option Noted)) (e : Event) → refusal_by t last run e ≡ None → IfSome run (λ (r : RunValue). IsState r.state) →
+-- what is accepted takes effect
+pub takes_effect : (t : Table) (me : NodeId) (last : ℕ) (run : Option RunValue) (noted : List (Option Noted)) (e : Event) → refusal_by t last run e ≡ None → IfSome run (λ (r : RunValue). IsState r.state) →
     HasEffect t (record { last = last; run = run }) e (reply_by t me last run noted e) (left_by t me last run noted e)
 takes_effect t me last None noted (Boot now) none is = record { left = tt; later = tt }
 takes_effect t me last None noted Crash none is = no_off none
@@ -96,9 +88,10 @@ takes_effect t me last None noted (Tick now) none is = no_off none
 takes_effect t me last None noted (Ship to) none is = no_off none
 takes_effect t me last None noted (Hear m) none is = no_off none
 takes_effect t me last None noted (HearOp o) none is = no_off none
-takes_effect t me last (Some r) noted e none is = effect_on t last r noted is e none
-
--- what is accepted takes effect
-pub events_take_effect : EventsTakeEffect
-events_take_effect t me old e new reply p =
-    subst (λ (x : NodeValue × Reply). HasEffect t old e x.1 x.0) (λ i. (sym p.left i, sym p.reply i)) (takes_effect t me old.last old.run p.noted e p.accepted p.state)
+takes_effect t me last (Some r) noted (Boot now) none is = record { left = tt; later = nothing_later r.state }
+takes_effect t me last (Some r) noted Crash none is = record { left = tt; later = nothing_later r.state }
+takes_effect t me last (Some r) noted (Told c) none is = record { left = commands_take_effect t r.origin r.state c is (obeyed t r c none).0; later = later_command t r.origin r.state c }
+takes_effect t me last (Some r) noted (Tick now) none is = tick_effect t last r noted is now (opening_at t r now) none
+takes_effect t me last (Some r) noted (Ship to) none is = record { left = tt; later = nothing_later r.state }
+takes_effect t me last (Some r) noted (Hear m) none is = record { left = tt; later = nothing_later r.state }
+takes_effect t me last (Some r) noted (HearOp o) none is = record { left = tt; later = nothing_later r.state }

@@ -34,7 +34,6 @@ use Rattle.dac_decide.specs.laws.Lost.{same_to, same_itself}
 use Rattle.dac_decide.specs.laws.Kept.{kept_is}
 use Rattle.dac_commands.specs.Commands.{next_operation}
 use Rattle.dac_commands.specs.Causes.{terms_used_up}
-use Rattle.dac_ticks.specs.TakesEffect.{ClaimsAreKept}
 use Rattle.dac_ticks.specs.Ticks.{Turn, turn_from, claim_of, is_mine, turn_over, turn_of}
 use Rattle.dac_ticks.specs.laws.Turning.{numbered, apps_from, turned_by, turn_more}
 use Rattle.dac_ticks.specs.laws.Words.{is_own, own_if}
@@ -171,7 +170,7 @@ module _ (t : Table) (own : Origin) where
     kept_by (Kept n) is = refl
     kept_by Nobody is = refl
 
-    takes_kept : candidate_of (verdict_of t s app) ≡ None
+    pub takes_kept : candidate_of (verdict_of t s app) ≡ None
     takes_kept = kept_by (verdict_of t s app) (verdict_in_words t s app)
 
     -- and runs there
@@ -526,12 +525,3 @@ module _ (t : Table) (own : Origin) (s : StateValue) (up : IsUp s own) (app : Ap
   kept_here (Takeover n) is = absurd (takes.earliest n is.2.node is.2.eligible (subst (λ m. IsEarlier t app n m) (sym (ap (λ (o : Origin). o.node) (holder_is t own s up app takes is.1.0 is.1.1) ∙ is.1.2.0)) is.3))
   kept_here (Kept n) is = ap (λ m. Kept m) (node_is is.0.0 n (holder_is t own s up app takes is.0.0 is.0.1) is.0.2.0)
   kept_here Nobody is = absurd (is.0 own.node there takes.eligible)
-
-pub claims_are_kept : ClaimsAreKept
-claims_are_kept t own noted now s app is live mine =
-    let named = own_if own (candidate_of (verdict_of t s app)) (and_parts _ _ mine).0 in
-    let first = first_of t own s app (verdict_of t s app) (verdict_in_words t s app) named in
-    let takes = after_takes t own s is app named in
-    let left = after t own s app in
-    let up : IsUp left own = subst (λ (lives : Lives). IsLive lives own.node own.inc) (after_alike t own s is app).lives live in
-    (kept_here t own left up app takes first.node (verdict_of t left app) (verdict_in_words t left app), takes_runs t own left up app takes)

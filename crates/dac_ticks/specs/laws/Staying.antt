@@ -1,32 +1,33 @@
--- What a tick claims stays with its claimer to the end of the tick: later claims of the tick are of other applications,
--- and leave all that a verdict on this one looks at.
-use Rattle.std.proofs.Common.{◌≡◌, ℕ, ◌+◌, ◌<◌, ◌≤◌, List, [], ◌∷◌, Option, Some, refl, sym, ap, subst, ◌∙◌, arith, inl, inr}
-use Rattle.std.specs.Option.{option_map_or}
+-- What is claimed in a turn stays with its claimer to the end of the turn: later claims are of other applications, and leave
+-- all that a verdict on this one looks at.
+use Rattle.std.proofs.Common.{◌≡◌, ℕ, ◌+◌, ◌<◌, ◌≤◌, true, false, List, [], ◌∷◌, Option, Some, refl, sym, ap, subst, ◌∙◌, arith, inl, inr}
+use Rattle.std.specs.Prelude.{◌==◌}
+use Rattle.std.specs.Option.{is_some, option_map_or}
 use Rattle.std.specs.FinMap as map
-use Rattle.std.proofs.lemmas.Bool.{and_parts}
+use Rattle.std.proofs.lemmas.Bool.{and_parts, true≢false, false≢true, eqb-true, eq-eqb}
 use Rattle.dac_base.specs.declared.NodeId.{NodeId}
 use Rattle.dac_base.specs.declared.AppId.{AppId}
 use Rattle.dac_dots.specs.declared.dot.Origin.{Origin}
-use Rattle.dac_config.specs.Table.{Table, node_count, app_count}
+use Rattle.dac_config.specs.Table.{Table, node_count}
 use Rattle.dac_chains.specs.declared.claims.How.{How}
 use Rattle.dac_chains.specs.declared.claims.Claim.{Claim as ClaimValue}
 use Rattle.dac_chains.specs.Lives.{IsLive, Lives}
 use Rattle.dac_operations.specs.declared.act.Act.TheVariants.{Claim}
 use Rattle.dac_operations.specs.Operations.{Operation}
-use Rattle.dac_meaning.specs.StateValue.{StateValue, IsState}
-use Rattle.dac_meaning.specs.Meaning.{In}
+use Rattle.dac_meaning.specs.StateValue.{StateValue, IsState, join}
+use Rattle.dac_meaning.specs.Meaning.{In, meaning_of}
 use Rattle.dac_meaning.specs.laws.Members.{In-append_cases}
 use Rattle.dac_placement.specs.Placement.{IsUp, IsVerdict, candidate_of, verdict_of}
 use Rattle.dac_placement.specs.laws.Tests.{runs_is}
 use Rattle.dac_placement.specs.laws.Judged.{verdict_in_words}
 use Rattle.dac_decide.specs.declared.waits.Noted.{Noted}
-use Rattle.dac_commands.specs.Commands.{next_term}
-use Rattle.dac_ticks.specs.Ticks.{Turn, claiming, claim_of, turned, turn_of}
+use Rattle.dac_commands.specs.Commands.{next_operation, next_term}
+use Rattle.dac_ticks.specs.Ticks.{Turn, turn_from, claiming, claim_of, turned, turn_over}
 use Rattle.dac_ticks.specs.Staying.{ClaimsApp, ClaimsAreLater, ClaimsStay}
-use Rattle.dac_ticks.specs.laws.Turning.{numbered, turned_by, turn_reaches}
+use Rattle.dac_ticks.specs.laws.Turning.{turned_by}
 use Rattle.dac_ticks.specs.laws.Words.{own_if}
-use Rattle.dac_ticks.specs.laws.Claimed.{Alike, alike_itself, alike_through, claimed_as}
-use Rattle.dac_ticks.specs.laws.Again.{Takes, takes_alike, takes_runs, first_of, after, after_alike, after_state, after_other, after_takes, kept_here}
+use Rattle.dac_ticks.specs.laws.Claimed.{Alike, alike_itself, alike_through, claimed_as, own_claim}
+use Rattle.dac_ticks.specs.laws.Again.{Takes, takes_alike, takes_kept, takes_runs, first_of, after, after_alike, after_state, after_other, after_takes, kept_here}
 
 -- a claim is of one application and under one term
 one_app : {app other : AppId} {term k : ℕ} {how hows : How} {from froms : Option NodeId} → Claim app term how from ≡ Claim other k hows froms → other ≡ app
@@ -41,104 +42,122 @@ next_is_later s app term claim is there =
     let e : term ≡ claim.term + 1 = is ∙ ap (λ c. option_map_or (λ (x : ClaimValue). x.term) c 0 + 1) there in
     omega arith
 
+-- the next term after a claim
+after_next : (t : Table) (own : Origin) (u : StateValue) (app : AppId) → next_term (after t own u app) app ≡ next_term u app + 1
+after_next t own u app =
+    let by = claimed_as u app (verdict_of t u app) in
+    subst (λ act. next_term (join u (meaning_of (next_operation u own act ∷ []))) app ≡ next_term u app + 1) (sym by.2)
+    (ap (λ c. option_map_or (λ (x : ClaimValue). x.term) c 0 + 1) (own_claim own u app by.0 by.1))
+
+app_is : (a b : AppId) → a.0 ≡ b.0 → a ≡ b
+app_is a b e = λ i. record { 0 = e i }
+
 module _ (t : Table) (own : Origin) (waits : List (Option Noted)) (now : ℕ) (s : StateValue) where
-  -- what was claimed is an earlier application, it is the incarnation's now, and its term was the next at the start
-  record IsHeld (n : ℕ) (u : StateValue) (app : AppId) (term : ℕ) : Type 0 where
-    earlier : app.0 < n
+  -- What was claimed is the incarnation's now.
+  record IsHeld (u : StateValue) (app : AppId) : Type 0 where
     there : own.node.0 < node_count t
     takes : Takes t own u app
-    next : term ≡ next_term s app
 
-  -- The turn of the first n applications. Its state differs from the first one in claims of these alone. The incarnation
-  -- holds what was claimed.
-  record Holds (n : ℕ) (turn : Turn) : Type 0 where
+  -- Some applications were taken in turn. The state differs from the first one in claims alone, and these are under later
+  -- terms. An incarnation that is live holds what it claimed.
+  record Holds (turn : Turn) : Type 0 where
     state : IsState turn.state
     alike : Alike s turn.state
-    ahead : (app : AppId) → n ≤ app.0 → map.get s.claims app ≡ map.get turn.state.claims app
-    held : (o : Operation) (app : AppId) → In o turn.ops → (c : ClaimsApp app o) → IsHeld n turn.state app c.0
+    grown : (app : AppId) → next_term s app ≤ next_term turn.state app
+    later : (o : Operation) (app : AppId) → In o turn.ops → (c : ClaimsApp app o) → next_term s app ≤ c.0
+    held : IsUp s own → (o : Operation) (app : AppId) → In o turn.ops → ClaimsApp app o → IsHeld turn.state app
 
-  wider : (a n : ℕ) → a < n → a < n + 1
-  wider a n h = omega arith
+  more : (a b c : ℕ) → a ≤ b → c ≡ b + 1 → a ≤ c
+  more a b c le e = omega arith
 
-  apart : (a n : ℕ) → a < n → a ≡ n → ⊥
-  apart a n h e = omega arith
+  as_much : (a b c : ℕ) → a ≤ b → c ≡ b → a ≤ c
+  as_much a b c le e = omega arith
 
-  past : (a n : ℕ) → n + 1 ≤ a → a ≡ n → ⊥
-  past a n h e = omega arith
-
-  less : (a n : ℕ) → n + 1 ≤ a → n ≤ a
-  less a n h = omega arith
-
-  itself : (n : ℕ) → n ≤ n
-  itself n = omega arith
-
-  last : (n : ℕ) → n < n + 1
-  last n = omega arith
-
-  -- where nothing is claimed
-  holds_wider : (n : ℕ) (turn : Turn) → Holds n turn → Holds (n + 1) turn
-  holds_wider n turn g = record {
-    state = g.state;
-    alike = g.alike;
-    ahead = λ app le. g.ahead app (less app.0 n le);
-    held = λ o app i c. let h = g.held o app i c in record { earlier = wider app.0 n h.earlier; there = h.there; takes = h.takes; next = h.next };
-  }
-
-  module _ (n : ℕ) (turn : Turn) (g : Holds n turn) (named : candidate_of (verdict_of t turn.state (numbered n)) ≡ Some own.node) where
+  -- where an application is claimed
+  module _ (app : AppId) (turn : Turn) (g : Holds turn) (named : candidate_of (verdict_of t turn.state app) ≡ Some own.node) where
     abbrev u : StateValue
     u = turn.state
 
     abbrev left : StateValue
-    left = after t own u (numbered n)
+    left = after t own u app
 
     abbrev claim : Operation
-    claim = claim_of t own u (numbered n)
+    claim = claim_of t own u app
+
+    left_alike : Alike u left
+    left_alike = after_alike t own u g.state app
 
     -- it is the claim of this application under its next term
-    module _ (app : AppId) (o : Operation) (is : o ≡ claim) (c : ClaimsApp app o) where
-      of_this : numbered n ≡ app
-      of_this = let by = claimed_as u (numbered n) (verdict_of t u (numbered n)) in one_app (sym c.3 ∙ ((λ i. (is i).act) ∙ by.2))
+    module _ (b : AppId) (o : Operation) (is : o ≡ claim) (c : ClaimsApp b o) where
+      of_this : app ≡ b
+      of_this = let by = claimed_as u app (verdict_of t u app) in one_app (sym c.3 ∙ ((λ i. (is i).act) ∙ by.2))
 
-      under_next : c.0 ≡ next_term s (numbered n)
-      under_next =
-          let by = claimed_as u (numbered n) (verdict_of t u (numbered n)) in
-          one_term (sym c.3 ∙ ((λ i. (is i).act) ∙ by.2)) ∙ ap (λ k. option_map_or (λ (x : ClaimValue). x.term) k 0 + 1) (sym (g.ahead (numbered n) (itself n)))
+      under_next : c.0 ≡ next_term u app
+      under_next = let by = claimed_as u app (verdict_of t u app) in one_term (sym c.3 ∙ ((λ i. (is i).act) ∙ by.2))
 
-    -- where this application is claimed
-    holds_claimed : Holds (n + 1) (claiming turn claim)
-    holds_claimed =
-        let first = first_of t own u (numbered n) (verdict_of t u (numbered n)) (verdict_in_words t u (numbered n)) named in
-        let alike = after_alike t own u g.state (numbered n) in
-        record {
-          state = after_state t own u g.state (numbered n);
-          alike = alike_through s u left g.alike alike;
-          ahead = λ app le. g.ahead app (less app.0 n le) ∙ after_other t own u g.state (numbered n) app (past app.0 n le);
-          held = λ o app i c. elim (In-append_cases o turn.ops (claim ∷ []) i) [
-            | inl before ↦
-                let h = g.held o app before c in
-                record { earlier = wider app.0 n h.earlier; there = h.there; takes = takes_alike t own u left alike app (after_other t own u g.state (numbered n) app (apart app.0 n h.earlier)) h.takes; next = h.next }
-            | inr new ↦ elim new [
-              | inl is ↦ subst (λ (a : AppId). IsHeld (n + 1) left a c.0) (of_this app o is c)
-                  (record { earlier = last n; there = first.node; takes = after_takes t own u g.state (numbered n) named; next = under_next app o is c })
-              | inr none ↦ absurd none
-            ]
-          ];
-        }
+      is_later : next_term s b ≤ c.0
+      is_later = subst (λ (a : AppId). next_term s a ≤ c.0) of_this (as_much (next_term s app) (next_term u app) c.0 (g.grown app) under_next)
 
-  holds_more : (n : ℕ) (turn : Turn) → Holds n turn → Holds (n + 1) (turned t own waits now turn (numbered n))
-  holds_more n turn g = turned_by t own waits now (Holds (n + 1)) turn (numbered n)
-      (λ none. holds_wider n turn g)
-      (λ mine used. let h = holds_wider n turn g in record { state = h.state; alike = h.alike; ahead = h.ahead; held = h.held })
-      (λ mine left. holds_claimed n turn g (own_if own (candidate_of (verdict_of t turn.state (numbered n))) (and_parts _ _ mine).0))
+    -- what the incarnation holds is another application
+    module _ (up : IsUp s own) where
+      up_then : IsUp u own
+      up_then = subst (λ (lives : Lives). IsLive lives own.node own.inc) g.alike.lives up
 
-  holds : IsState s → Holds (app_count t) (turn_of t own waits now s)
-  holds is = turn_reaches t own waits now Holds s (record { state = is; alike = alike_itself s; ahead = λ app le. refl; held = λ o app i c. absurd i }) (λ n turn lt. holds_more n turn)
+      another : (b : AppId) → Takes t own u b → b.0 ≡ app.0 → ⊥
+      another b takes same =
+          let here : Takes t own u app = subst (Takes t own u) (app_is b app same) takes in
+          false≢true (ap is_some (sym (takes_kept t own u up_then app here) ∙ named))
+
+      still : (b : AppId) → IsHeld u b → IsHeld left b
+      still b h = record { there = h.there; takes = takes_alike t own u left left_alike b (after_other t own u g.state app b (another b h.takes)) h.takes }
+
+      taken : IsHeld left app
+      taken = record { there = (first_of t own u app (verdict_of t u app) (verdict_in_words t u app) named).node; takes = after_takes t own u g.state app named }
+
+    grown_more : (b : AppId) → next_term s b ≤ next_term left b
+    grown_more b = elim (b.0 == app.0) as (λ same. (b.0 == app.0) ≡ same → next_term s b ≤ next_term left b) [
+      | true ↦ λ same. subst (λ (a : AppId). next_term s a ≤ next_term left a) (sym (app_is b app (eqb-true b.0 app.0 same))) (more (next_term s app) (next_term u app) (next_term left app) (g.grown app) (after_next t own u app))
+      | false ↦ λ other.
+          let as_before = after_other t own u g.state app b (λ same. true≢false (sym (eq-eqb b.0 app.0 same) ∙ other)) in
+          as_much (next_term s b) (next_term u b) (next_term left b) (g.grown b) (sym (ap (λ c. option_map_or (λ (x : ClaimValue). x.term) c 0 + 1) as_before))
+    ] refl
+
+    holds_claimed : Holds (claiming turn claim)
+    holds_claimed = record {
+      state = after_state t own u g.state app;
+      alike = alike_through s u left g.alike left_alike;
+      grown = grown_more;
+      later = λ o b i c. elim (In-append_cases o turn.ops (claim ∷ []) i) [
+        | inl before ↦ g.later o b before c
+        | inr new ↦ elim new [ inl is ↦ is_later b o is c | inr none ↦ absurd none ]
+      ];
+      held = λ up o b i c. elim (In-append_cases o turn.ops (claim ∷ []) i) [
+        | inl before ↦ still up b (g.held up o b before c)
+        | inr new ↦ elim new [ inl is ↦ subst (IsHeld left) (of_this b o is c) (taken up) | inr none ↦ absurd none ]
+      ];
+    }
+
+  holds_more : (app : AppId) (turn : Turn) → Holds turn → Holds (turned t own waits now turn app)
+  holds_more app turn g = turned_by t own waits now Holds turn app
+      (λ none. g)
+      (λ mine used. record { state = g.state; alike = g.alike; grown = g.grown; later = g.later; held = g.held })
+      (λ mine left. holds_claimed app turn g (own_if own (candidate_of (verdict_of t turn.state app)) (and_parts _ _ mine).0))
+
+  holds_on : (apps : List AppId) (turn : Turn) → Holds turn → Holds (turn_over t own waits now turn apps)
+  holds_on [] turn g = g
+  holds_on (app ∷ apps) turn g = holds_on apps (turned t own waits now turn app) (holds_more app turn g)
+
+  itself : (n : ℕ) → n ≤ n
+  itself n = omega arith
+
+  holds : (apps : List AppId) → IsState s → Holds (turn_over t own waits now (turn_from s) apps)
+  holds apps is = holds_on apps (turn_from s) (record { state = is; alike = alike_itself s; grown = λ app. itself (next_term s app); later = λ o app i c. absurd i; held = λ up o app i c. absurd i })
 
 pub claims_stay : ClaimsStay
-claims_stay t own waits now s is live o app i c =
-    let end = (turn_of t own waits now s).state in
-    let g = holds t own waits now s is in
-    let h = g.held o app i c in
+claims_stay t own waits now s apps is live o app i c =
+    let end = (turn_over t own waits now (turn_from s) apps).state in
+    let g = holds t own waits now s apps is in
+    let h = g.held live o app i c in
     let up : IsUp end own = subst (λ (lives : Lives). IsLive lives own.node own.inc) g.alike.lives live in
     record {
       verdict = subst (IsVerdict t end app) (kept_here t own end up app h.takes h.there (verdict_of t end app) (verdict_in_words t end app)) (verdict_in_words t end app);
@@ -146,5 +165,7 @@ claims_stay t own waits now s is live o app i c =
     }
 
 pub claims_are_later : ClaimsAreLater
-claims_are_later t own waits now s is o app i term how from act claim there =
-    next_is_later s app term claim ((holds t own waits now s is).held o app i (term, how, from, act)).next there
+claims_are_later t own waits now s apps is o app i term how from act claim there =
+    let le : next_term s app ≤ term = (holds t own waits now s apps is).later o app i (term, how, from, act) in
+    let next : next_term s app ≡ claim.term + 1 = ap (λ c. option_map_or (λ (x : ClaimValue). x.term) c 0 + 1) there in
+    omega arith

@@ -1,5 +1,10 @@
-use Rattle.dac_model_node.specs.laws.Effect.{events_take_effect}
+use Rattle.std.proofs.Common.{subst, sym}
+use Rattle.dac_messages.specs.declared.reply.Reply.{Reply}
+use Rattle.dac_model_node.specs.NodeValue.{NodeValue}
+use Rattle.dac_model_node.specs.Effect.{HasEffect}
+use Rattle.dac_model_node.specs.laws.Effect.{takes_effect}
 use Rattle.dac_model_node.proofs.laws.events_take_effect.Goals as goal
 
 pub returns : goal.returns
-returns c = events_take_effect
+returns c t me old e new reply p =
+    subst (λ (x : NodeValue × Reply). HasEffect t old e x.1 x.0) (λ i. (sym p.left i, sym p.reply i)) (takes_effect t me old.last old.run p.noted e p.accepted p.state)

@@ -1,5 +1,5 @@
 use Rattle.dac_ticks.specs.laws.Words.{turn_in_words}
-use Rattle.dac_ticks.specs.laws.Again.{second_tick, claims_are_kept}
+use Rattle.dac_ticks.specs.laws.Again.{second_tick}
 use Rattle.dac_ticks.specs.laws.TakesEffect.{commands_take_effect}
 use Rattle.dac_ticks.proofs.laws.turns_in_words.Goals as goal
 
@@ -8,9 +8,6 @@ returns-clause-words c = turn_in_words
 
 pub returns-clause-again : goal.returns-clause-again
 returns-clause-again c = second_tick
-
-pub returns-clause-kept : goal.returns-clause-kept
-returns-clause-kept c = claims_are_kept
 
 pub returns-clause-effect : goal.returns-clause-effect
 returns-clause-effect c = commands_take_effect

@@ -13,7 +13,7 @@ use Rattle.dac_model_node.specs.Shipping.{ShipsSo}
 use Rattle.dac_model_node.specs.laws.Steps.{steps, answered_steps, stays_shown}
 use Rattle.dac_model_node.specs.laws.Writing.{writes}
 use Rattle.dac_model_node.specs.laws.Keeping.{keeps}
-use Rattle.dac_model_node.specs.laws.Effect.{events_take_effect}
+use Rattle.dac_model_node.specs.laws.Effect.{takes_effect}
 use Rattle.dac_model_node.specs.laws.Heard.{hears_exactly}
 use Rattle.dac_model_node.specs.laws.Shipping.{ships_so}
 use Rattle.dac_model_node.specs.laws.Refused.{answered_is, free_is}
@@ -47,10 +47,11 @@ returns-clause-keeps c =
 pub returns-clause-effect : goal.returns-clause-effect
 returns-clause-effect c =
     let t = c.args.config.now in
+    let me = c.args.self_id in
     let old = c.args.self.now in
-    let change = c.in_ok-change.change in
-    subst (λ (x : NodeValue × Reply). HasEffect t old c.args.event x.1 x.0) (λ i. (sym c.in_ok-reply.ensures.new i, sym c.in_ok-reply.ensures.reply i))
-    (events_take_effect t c.args.self_id old c.args.event (changed old change) change.reply c.in_ok-change.ensures.ok)
+    let p = c.in_ok-change.ensures.ok in
+    subst (λ (x : NodeValue × Reply). HasEffect t old c.args.event x.1 x.0) (λ i. (sym (c.in_ok-reply.ensures.new ∙ p.left) i, sym (c.in_ok-reply.ensures.reply ∙ p.reply) i))
+    (takes_effect t me old.last old.run p.noted c.args.event p.accepted p.state)
 
 pub returns-clause-heard : goal.returns-clause-heard
 returns-clause-heard c =
