@@ -7,6 +7,8 @@
 #[cfg(test)]
 mod bearing;
 #[cfg(test)]
+mod boards;
+#[cfg(test)]
 mod callers;
 #[cfg(test)]
 mod forged;

@@ -26,7 +26,7 @@ const STARTED: &[Step] = &[
 ];
 
 /// The same, and c2@h runs the second one.
-const RUNNING: &[Step] = &[
+pub const RUNNING: &[Step] = &[
     (0, 1, Kind::Up),
     (1, 1, Kind::Up),
     (2, 1, Kind::Up),

@@ -12,7 +12,7 @@ use Rattle.std.proofs.lemmas.Map.Lookups.{exact_unsigned}
 use Rattle.std.proofs.lemmas.List.{take_all, length-map}
 use Rattle.std.proofs.lemmas.List.Concat.{flat_map-cons}
 use Rattle.std.proofs.lemmas.List.Folds.{list_any-append, list_any_more}
-use Rattle.std.proofs.lemmas.List.Sums.{sum_by-cons}
+use Rattle.std.proofs.lemmas.List.Sums.{sum_by-cons, sum_by_more_le}
 use Rattle.dac_dots.specs.Keys.{is_below_all, is_rising, IsRising, has_key}
 use Rattle.dac_dots.specs.InOrder.{in_order}
 use Rattle.dac_dots.specs.laws.InOrder.{tie, in_order-one, below_absent}
@@ -133,6 +133,14 @@ unfolding dots_in
 len_is rows s dots view kept same_rows i n end so_far =
     so_far ∙ ap (sum_by row_len) (take_all i s end ∙ same_rows) ∙ sym (length_rows rows)
     ∙ len_apart dot_cmp (flat_map dots_in_row rows) dots_total (apart_rows rows kept.each kept.rising) ∙ ap (λ (d : Dots). set.len d) view
+
+-- the rows so far and the next one have no more dots than all
+pub so_far_within : (rows s : List Row) (dots : Dots) → dots_in rows ≡ dots → AreKept rows → s ≡ rows → (i : ℕ) (r : Row) (n : ℕ) → i < length s → r ≡ get_or s i r → n ≡ sum_by row_len (take i s) → n + row_len r ≤ set.len dots
+so_far_within rows s dots view kept same_rows i r n p is so_far =
+    let all = len_is rows s dots view kept same_rows (length s) (sum_by row_len s) (omega arith) (ap (sum_by row_len) (sym (take_all (length s) s (omega arith)))) in
+    let part = sum_by_more_le row_len s i r p in
+    let own : row_len r ≡ row_len (get_or s i r) = ap row_len is in
+    omega (arith, all, part, own, so_far)
 
 -- each row counts
 row_counts : (row : Row) → HasSome row → 1 ≤ row_len row

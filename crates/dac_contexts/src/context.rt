@@ -201,7 +201,17 @@ impl Context {
         ensures { IsTrue result ↔ (set.len self.now ≤ most) }
     {
         // Each origin that is kept has a dot.
-        self.rows.len() <= most && self.len() <= most as u128
+        if self.rows.len() > most {
+            return false;
+        }
+        let mut len = 0;
+        for row in &self.rows {
+            len += row.len();
+            if len > most as u128 {
+                return false;
+            }
+        }
+        true
     }
 
     /// Sets the mark of each dot.

@@ -3,5 +3,5 @@ mod Places
 mod Few
 mod Joining
 mod Listing
-mod Tables
+mod Putting
 mod Copying

@@ -3,17 +3,17 @@ ghost use Rattle.std.specs.Prelude.{◌≡◌, None, OnOk, OnErr, IfOk};
 ghost use Rattle.std.specs.FinMap as map;
 ghost use Rattle.dac_deltas.specs.Numbers.{raised};
 
+use crate::entries::Entries;
 use dac_base::NoMemory;
 use dac_dots::Origin;
 use std::alloc::Global;
-use std::collections::BTreeMap;
 use std::marker::Model;
 
 /// The greatest number that each origin acknowledged. Contracts see it as a finite map from origins to
 /// numbers.
 #[derive(Drop)]
 pub struct Acks {
-    numbers: BTreeMap<Origin, u64>,
+    numbers: Entries<Origin, u64>,
 }
 
 impl Model for Acks {
@@ -26,7 +26,7 @@ impl Model for Acks {
 
     ghost coded = { map.code coded_origin coded_ℕ };
 
-    ghost view = { λ a. map.from_entries a.numbers.entries };
+    ghost view = { λ a. map.from_entries a.numbers };
 }
 
 impl Acks {
@@ -35,7 +35,7 @@ impl Acks {
         ensures { result ≡ map.empty }
     {
         Acks {
-            numbers: BTreeMap::new(alloc),
+            numbers: Entries::new(alloc),
         }
     }
 
@@ -43,7 +43,7 @@ impl Acks {
     pub fn get(&self, origin: Origin) -> Option<u64>
         ensures { result ≡ map.get self.now origin }
     {
-        self.numbers.get(&origin).copied()
+        self.numbers.get(origin)
     }
 
     /// An origin acknowledges a number. A lesser one than before changes nothing. [`NoMemory`] is the only
@@ -57,7 +57,7 @@ impl Acks {
             Some(before) => before.max(number),
             None => number,
         };
-        self.numbers.insert(origin, greatest)?;
+        self.numbers.put(origin, greatest)?;
         Ok(())
     }
 
@@ -66,7 +66,7 @@ impl Acks {
         ensures { IfOk result (λ copied. copied ≡ self.now) }
     {
         Ok(Acks {
-            numbers: self.numbers.clone()?,
+            numbers: self.numbers.copy()?,
         })
     }
 }

@@ -12,8 +12,10 @@
 
 pub use acks::Acks;
 pub use buffer::{Buffer, MAX_DELTAS};
+pub use entries::Entries;
 
 mod acks;
 mod blocks;
 mod buffer;
+mod entries;
 pub mod laws;

@@ -3,25 +3,28 @@ ghost use Rattle.std.specs.Prelude.{◌≡◌, IfOk, OnOk, OnErr};
 ghost use Rattle.std.specs.FinSet as set;
 
 use dac_base::{NoMemory, NodeId};
+use dac_dots::keys::{holds_key, insert_key, remove_key};
 use std::alloc::Global;
-use std::collections::BTreeSet;
 use std::marker::Model;
 
-/// Some nodes. Contracts see them as a finite set.
+/// Some nodes, kept as one list in their order. Contracts see them as a finite set.
 #[derive(Drop)]
 pub(crate) struct NodeSet {
-    nodes: BTreeSet<NodeId>,
+    nodes: Vec<NodeId>,
 }
 
 impl Model for NodeSet {
     ghost use Rattle.std.specs.FinSet as set;
     ghost use Rattle.dac_base.specs.Ids.{node_cmp, coded_node};
+    ghost use Rattle.dac_dots.specs.Keys.{IsRising};
 
     ghost Value = { set.FinSet node_cmp };
 
     ghost coded = { set.code coded_node };
 
-    ghost view = { λ a. set.from_list a.nodes.keys };
+    ghost view = { λ a. set.from_list a.nodes.items };
+
+    ghost invariant = { λ a. IsRising node_cmp a.nodes.items };
 }
 
 impl NodeSet {
@@ -30,7 +33,7 @@ impl NodeSet {
         ensures { result ≡ set.empty }
     {
         NodeSet {
-            nodes: BTreeSet::new(alloc),
+            nodes: Vec::new(alloc),
         }
     }
 
@@ -38,7 +41,7 @@ impl NodeSet {
     pub(crate) fn contains(&self, node: NodeId) -> bool
         ensures { result ≡ set.contains self.now node }
     {
-        self.nodes.contains(&node)
+        holds_key(&self.nodes, node)
     }
 
     /// One node more. [`NoMemory`] is the only error, and leaves all as it was.
@@ -46,7 +49,7 @@ impl NodeSet {
         ensures ok { OnOk result (self.new ≡ set.insert self.old node) }
         ensures err { OnErr result (self.new ≡ self.old) }
     {
-        self.nodes.insert(node)?;
+        insert_key(&mut self.nodes, node)?;
         Ok(())
     }
 
@@ -54,7 +57,7 @@ impl NodeSet {
     pub(crate) fn remove(&mut self, node: NodeId)
         ensures { self.new ≡ set.remove self.old node }
     {
-        self.nodes.remove(&node);
+        remove_key(&mut self.nodes, node);
     }
 
     /// Equal nodes, with memory of their own. [`NoMemory`] is the only error.
@@ -62,7 +65,7 @@ impl NodeSet {
         ensures { IfOk result (λ copied. copied ≡ self.now) }
     {
         Ok(NodeSet {
-            nodes: self.nodes.clone()?,
+            nodes: Vec::from_slice(*self.nodes.allocator(), &self.nodes)?,
         })
     }
 }

@@ -4,8 +4,8 @@ ghost use Rattle.std.specs.FinMap as map;
 ghost use Rattle.dac_peers.specs.Peers.{got_after, later};
 
 use dac_base::{NoMemory, NodeId};
+use dac_deltas::Entries;
 use std::alloc::Global;
-use std::collections::BTreeMap;
 use std::marker::Model;
 
 /// A place in the deltas of one incarnation of a node: how many of them there were.
@@ -38,7 +38,7 @@ impl Place {
 /// A place in the deltas of each of some nodes. Contracts see it as a finite map from nodes to places.
 #[derive(Drop)]
 pub(crate) struct Places {
-    places: BTreeMap<NodeId, Place>,
+    places: Entries<NodeId, Place>,
 }
 
 impl Model for Places {
@@ -51,7 +51,7 @@ impl Model for Places {
 
     ghost coded = { map.code coded_node coded_place };
 
-    ghost view = { λ a. map.from_entries a.places.entries };
+    ghost view = { λ a. map.from_entries a.places };
 }
 
 impl Places {
@@ -60,7 +60,7 @@ impl Places {
         ensures { result ≡ map.empty }
     {
         Places {
-            places: BTreeMap::new(alloc),
+            places: Entries::new(alloc),
         }
     }
 
@@ -68,7 +68,7 @@ impl Places {
     pub(crate) fn get(&self, node: NodeId) -> Option<Place>
         ensures { result ≡ map.get self.now node }
     {
-        self.places.get(&node).copied()
+        self.places.get(node)
     }
 
     /// A node has got to a place, unless it was further already. [`NoMemory`] is the only error, and leaves all
@@ -81,7 +81,7 @@ impl Places {
             Some(before) => before.later(place),
             None => place,
         };
-        self.places.insert(node, latest)?;
+        self.places.put(node, latest)?;
         Ok(())
     }
 
@@ -90,7 +90,7 @@ impl Places {
         ensures { IfOk result (λ copied. copied ≡ self.now) }
     {
         Ok(Places {
-            places: self.places.clone()?,
+            places: self.places.copy()?,
         })
     }
 }

@@ -23,5 +23,7 @@ mod verdicts;
 pub use dac_state::State;
 pub use deciding::{is_earlier, verdict};
 pub use eligibility::{eligible, is_allowed, is_drained, is_permitted, is_started};
+pub use ranking::{Rank, lesser};
 pub use running::{holder, is_up, load, runner, runs_at};
+pub use standing::{Standing, standing_of};
 pub use verdicts::Verdict;

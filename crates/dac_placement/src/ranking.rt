@@ -16,7 +16,7 @@ use dac_state::State;
 /// Where a node stands among those that may run an application. The fields stand in the order in which they
 /// decide, and the least rank comes first.
 #[derive(Clone, Copy, Debug, PartialEq, Eq, PartialOrd, Ord)]
-pub(crate) struct Rank {
+pub struct Rank {
     /// Its group in the application's list.
     pub group: u16,
     /// How many other applications run there.
@@ -65,8 +65,8 @@ fn rank_of(config: &Config, state: &State, app: AppId, node: NodeId) -> Option<R
     Some(Rank { group, load, node })
 }
 
-/// The lesser rank, where there are two.
-fn lesser(first: Option<Rank>, other: Option<Rank>) -> Option<Rank>
+/// The lesser rank, where there are two. It takes no memory.
+pub fn lesser(first: Option<Rank>, other: Option<Rank>) -> Option<Rank>
     ensures { result ≡ join_options (ord_min rank_cmp) first other }
 {
     match (first, other) {

@@ -11,7 +11,7 @@ use dac_state::{Key, State};
 
 /// The first thing wrong at the holder, if any.
 #[derive(Clone, Copy, Debug, PartialEq, Eq)]
-pub(crate) enum Standing {
+pub enum Standing {
     /// It has no holder.
     Unclaimed,
     /// Its holder's incarnation isn't live.
@@ -24,8 +24,8 @@ pub(crate) enum Standing {
     Upheld(NodeId),
 }
 
-/// How an application stands at its holder.
-pub(crate) fn standing_of(config: &Config, state: &State, app: AppId) -> Standing
+/// How an application stands at its holder. It takes no memory.
+pub fn standing_of(config: &Config, state: &State, app: AppId) -> Standing
     requires { app.0 < app_count config.now }
     ensures { result ≡ standing_of config.now state.now app }
 {

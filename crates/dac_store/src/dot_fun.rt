@@ -132,7 +132,8 @@ impl<V: Lattice> DotStore for DotFun<V> {
     ghost use Rattle.std.specs.Prelude.{[]};
     ghost use Rattle.dac_dots.specs.Dots.{dot_cmp};
     ghost use Rattle.dac_lattice.specs.Maps.{IsMap};
-    ghost use Rattle.dac_store.specs.DotFuns.{has_dot, IsFunBelow, join_funs, is_empty_list, fun_laws};
+    ghost use Rattle.dac_store.specs.DotFuns.{has_dot, IsFunBelow, join_funs, is_empty_list};
+    ghost use Rattle.dac_store.specs.laws.DotFuns.{fun_laws};
 
     ghost is_store = { IsMap dot_cmp V.is_value };
 

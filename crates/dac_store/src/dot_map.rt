@@ -138,7 +138,8 @@ impl<K: MapKey, S: DotStore> Combine<K, S> for JoinStores<'_> {
 impl<K: MapKey, S: DotStore> DotStore for DotMap<K, S> {
     ghost use Rattle.std.specs.Prelude.{[]};
     ghost use Rattle.dac_store.specs.DotFuns.{is_empty_list};
-    ghost use Rattle.dac_store.specs.DotMaps.{has_in, IsKeyed, IsKeyedBelow, join_keyed, keyed_laws};
+    ghost use Rattle.dac_store.specs.DotMaps.{has_in, IsKeyed, IsKeyedBelow, join_keyed};
+    ghost use Rattle.dac_store.specs.laws.DotMaps.{keyed_laws};
 
     ghost is_store = { IsKeyed K.cmp S.is_store S.is_empty };
 

@@ -22,8 +22,10 @@ use Rattle.dac_lattice.specs.Maps.{IsMap}
 use Rattle.dac_store.specs.Stores.{IsHeld, IsStoredBelow, join_stored}
 use Rattle.dac_store.specs.laws.Stores.{causal_laws}
 use Rattle.dac_store.specs.AtDot.{StandsBelow}
-use Rattle.dac_store.specs.DotFuns.{has_dot, IsFunBelow, join_funs, is_empty_list, fun_laws, find_join}
-use Rattle.dac_store.specs.DotMaps.{has_in, store_at, IsKept, IsKeyedBelow, join_keyed, keyed_laws, at_join, at_store}
+use Rattle.dac_store.specs.DotFuns.{has_dot, IsFunBelow, join_funs, is_empty_list}
+use Rattle.dac_store.specs.laws.DotFuns.{fun_laws, find_join}
+use Rattle.dac_store.specs.DotMaps.{has_in, store_at, IsKept, IsKeyedBelow, join_keyed}
+use Rattle.dac_store.specs.laws.DotMaps.{keyed_laws, at_join, at_store}
 use Rattle.dac_wishes.specs.KeyedWrites.{KeyedWrite, keyed_write, same_dot}
 use Rattle.dac_wishes.specs.Votes.{AreVotes, AreVotesBelow, join_votes, joined_vote}
 use Rattle.dac_wishes.specs.laws.Votes.{known-join_votes, standing-join_votes, same_votes}

@@ -12,7 +12,8 @@ use Rattle.dac_store.specs.Stores.{IsStoredBelow, join_stored}
 use Rattle.dac_store.specs.laws.Stores.{causal_laws, both_ways}
 use Rattle.dac_store.specs.DotSets.{IsSetBelow, join_sets, is_empty_set}
 use Rattle.dac_store.specs.laws.DotSets.{set_laws, contains_join}
-use Rattle.dac_store.specs.DotMaps.{has_in, store_at, IsKept, IsKeyedBelow, join_keyed, keyed_laws, at_join}
+use Rattle.dac_store.specs.DotMaps.{has_in, store_at, IsKept, IsKeyedBelow, join_keyed}
+use Rattle.dac_store.specs.laws.DotMaps.{keyed_laws, at_join}
 use Rattle.dac_wishes.specs.declared.key.Key.{Key}
 use Rattle.dac_wishes.specs.Keys.{key_cmp, same_key}
 use Rattle.dac_wishes.specs.laws.Keys.{keys_total, exact_keys}

@@ -18,3 +18,4 @@ pub mod WishMeaning
 pub mod WishesValue
 pub mod Writes
 pub use Rattle.dac_store.specs.laws.Stores
+pub use Rattle.dac_store.specs.laws.AtDot

@@ -56,6 +56,13 @@ module _ (table : Table) (s : StateValue) (app : AppId) where
         | false ↦ λ e. absurd (false≢true (ap is_some e))
       ] e
 
+  -- the least rank is that of a node, with its group
+  pub first_parts : (n : ℕ) (r : Rank) → first_below n ≡ Some r → (group_of table app r.node ≡ Some r.group) × (r.load ≡ load_of table s app r.node)
+  first_parts n r e =
+      let least = subst (IsLeast rank_at n) e (first_is_least n) in
+      let parts = rank_parts (numbered least.0.0) r least.0.2 in
+      subst (λ m. (group_of table app m ≡ Some r.group) × (r.load ≡ load_of table s app m)) (sym parts.2) (parts.0, parts.1)
+
   some_rank : (o : Option Rank) → is_some o ≡ true → (r : Rank) × (o ≡ Some r)
   some_rank None e = absurd (false≢true e)
   some_rank (Some r) e = (r, refl)

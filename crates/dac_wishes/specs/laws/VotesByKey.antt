@@ -21,8 +21,10 @@ use Rattle.dac_lattice.specs.Maps.{IsMap}
 use Rattle.dac_lattice.specs.laws.Flags.{flag_laws}
 use Rattle.dac_lattice.specs.Entries.{find_below}
 use Rattle.dac_lattice.specs.laws.EntryLaws.{first, second}
-use Rattle.dac_store.specs.DotFuns.{is_empty_list, when_empty, fun_laws}
-use Rattle.dac_store.specs.DotMaps.{store_at, kept, at_store}
+use Rattle.dac_store.specs.DotFuns.{is_empty_list}
+use Rattle.dac_store.specs.laws.DotFuns.{when_empty, fun_laws}
+use Rattle.dac_store.specs.DotMaps.{store_at, kept}
+use Rattle.dac_store.specs.laws.DotMaps.{at_store}
 use Rattle.dac_wishes.specs.KeyedWrites.{KeyedWrite, keyed_write, keyed_write_cmp, same_dot}
 use Rattle.dac_wishes.specs.laws.KeyedWrites.{keyed_writes_total, exact_keyed_writes, tied_is, same_keyed_write, at_keyed_write}
 use Rattle.dac_wishes.specs.Votes.{Votes, votes_among, votes_at}

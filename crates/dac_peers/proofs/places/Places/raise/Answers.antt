@@ -1,9 +1,10 @@
 use Rattle.std.proofs.Common.{◌≡◌, cond, Some, ap, sym, ◌∙◌}
-use Rattle.std.specs.Cmp.{eq_by_cmp_equiv}
+use Rattle.std.specs.Ordering.{eq_by_cmp}
 use Rattle.std.specs.FinMap as map
+use Rattle.std.specs.FinMap.Entries.{find, find-put}
+use Rattle.dac_base.specs.Ids.{node_cmp}
 use Rattle.dac_base.specs.laws.Ids.{nodes_total, exact_nodes}
 use Rattle.dac_peers.specs.Peers.{got_after}
-use Rattle.dac_peers.proofs.Tables.{get-entries}
 use Rattle.dac_peers.proofs.places.Places.raise.Goals as goal
 use Rattle.dac_peers.proofs.places.Places.raise.Goals.{in-Some, in-None}
 
@@ -17,7 +18,8 @@ returns-clause-ok c =
       | in-None w ↦ w.latest-is ∙ ap (λ before. got_after before place) (sym w.in-None.is ∙ c.get.ensures)
     ] in
     map.same_map nodes_total exact_nodes _ _ (λ q.
-    get-entries nodes_total c.insert.new.self.entries q
-    ∙ (c.in_ok-insert.ensures.updates.0 q
-    ∙ ((λ i. cond ((eq_by_cmp_equiv nodes_total).symm node q i) (Some (is i)) ((sym (get-entries nodes_total c.self.inside.places.entries q) ∙ ap (λ m. map.get m q) c.self.view_is) i))
-    ∙ sym (map.get-insert nodes_total now node (got_after (map.get now node) place) q))))
+    map.get-from_entries nodes_total c.put.new.self q
+    ∙ (ap (find node_cmp q) c.in_ok-put.ensures.ok
+    ∙ (find-put node_cmp nodes_total q node c.match-get.latest c.self.inside.places
+    ∙ ((λ i. cond (eq_by_cmp node_cmp q node) (Some (is i)) ((sym (map.get-from_entries nodes_total c.self.inside.places q) ∙ ap (λ m. map.get m q) c.self.view_is) i))
+    ∙ sym (map.get-insert nodes_total now node (got_after (map.get now node) place) q)))))

@@ -1,4 +1,4 @@
-use Rattle.dac_store.specs.DotFuns.{fun_laws}
+use Rattle.dac_store.specs.laws.DotFuns.{fun_laws}
 use Rattle.dac_store.proofs.dot_fun.DotFunDotStore.join_in.Goals as goal
 
 pub invariant_of-result : goal.invariant_of-result

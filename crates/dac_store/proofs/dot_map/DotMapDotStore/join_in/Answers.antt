@@ -1,5 +1,5 @@
 use Rattle.std.proofs.Common.{refl}
-use Rattle.dac_store.specs.DotMaps.{keyed_laws}
+use Rattle.dac_store.specs.laws.DotMaps.{keyed_laws}
 use Rattle.dac_store.proofs.dot_map.DotMapDotStore.join_in.Goals as goal
 
 pub invariant_of-result : goal.invariant_of-result

@@ -2,7 +2,8 @@ use Rattle.std.proofs.Common.{◌∙◌, sym, refl}
 use Rattle.std.proofs.lemmas.Bool.{false≢true}
 use Rattle.std.specs.FinMap.{find}
 use Rattle.dac_lattice.specs.laws.EntryLaws.{no_more, one_more, at_place}
-use Rattle.dac_store.specs.DotMaps.{store_at, at_store}
+use Rattle.dac_store.specs.DotMaps.{store_at}
+use Rattle.dac_store.specs.laws.DotMaps.{at_store}
 use Rattle.dac_store.proofs.dot_map.DotMapDotStore.leq_in.Goals as goal
 
 pub loop-key-preserved : goal.loop-key-preserved

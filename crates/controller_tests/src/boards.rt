@@ -1,0 +1,95 @@
+//! Boards: what they say and how often they looked, where c2@h runs the second application.
+use crate::placement::RUNNING;
+use crate::steps::{Kind, Step, TWO, state_after};
+use dac_base::{AppId, NodeId};
+use dac_board::Board;
+use dac_config::read_config;
+use dac_placement::Verdict;
+use dac_state::How;
+use std::alloc::Global;
+
+const C1: NodeId = NodeId(0);
+
+const C2: NodeId = NodeId(1);
+
+const C3: NodeId = NodeId(2);
+
+/// A step, and what the board says after it: how often it looked, both verdicts, and the load of c2@h for the first
+/// application. When it is made it looks at the four pairs of the lists.
+const STEPS: &[(Step, u64, Verdict, Verdict, u32)] = &[
+    // A claim touches nothing.
+    (
+        (0, 1, Kind::Claim(0, 1, How::Normal, None)),
+        4,
+        Verdict::Kept(C1),
+        Verdict::Kept(C2),
+        1,
+    ),
+    // A permit touches one pair.
+    (
+        (0, 1, Kind::Forbid(0)),
+        5,
+        Verdict::Start(C3),
+        Verdict::Kept(C2),
+        1,
+    ),
+    // So does a stop.
+    (
+        (1, 1, Kind::Stop(1)),
+        5,
+        Verdict::Start(C1),
+        Verdict::Halted(C2),
+        0,
+    ),
+    // Who goes down is in both lists.
+    (
+        (2, 1, Kind::Down(1, 1)),
+        6,
+        Verdict::Start(C1),
+        Verdict::Nobody,
+        0,
+    ),
+    // And so is who is drained.
+    (
+        (1, 1, Kind::Drain),
+        6,
+        Verdict::Start(C1),
+        Verdict::Nobody,
+        0,
+    ),
+];
+
+/// What a board says that took up one step, and what its copy says.
+fn said_after(alloc: Global, step: Step) -> Option<[(u64, Verdict, Verdict, u32); 2]> {
+    let config = read_config(alloc, TWO).ok()?;
+    let old = state_after(alloc, RUNNING, &[])?;
+    let delta = state_after(alloc, &[], &[step])?;
+    let new = state_after(alloc, RUNNING, &[step])?;
+    let mut board = Board::new(alloc, &config, &old).ok()?;
+    board.absorb(&config, &old, &new, &delta);
+    let copied = board.copy().ok()?;
+    Some([said_by(&board), said_by(&copied)])
+}
+
+/// What a board says.
+fn said_by(board: &Board) -> (u64, Verdict, Verdict, u32) {
+    let first = board.verdict(AppId(0));
+    let second = board.verdict(AppId(1));
+    (board.looked(), first, second, board.load(AppId(0), C2))
+}
+
+/// Whether the row of this number is so.
+fn is_so(alloc: Global, row: usize) -> bool {
+    let Some((step, looked, first, second, load)) = STEPS.get(row) else {
+        return false;
+    };
+    let said = (*looked, *first, *second, *load);
+    said_after(alloc, *step) == Some([said, said])
+}
+
+#[test]
+fn boards_look_at_what_is_touched(rt: HostRuntime) {
+    for row in 0..STEPS.len() {
+        assert!(rt; is_so(rt.alloc(), row));
+    }
+}

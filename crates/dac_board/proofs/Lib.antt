@@ -1,0 +1,6 @@
+mod Counting
+mod Filling
+mod Untouched
+mod Shown
+mod Marking
+mod Kept

@@ -1,0 +1,57 @@
+-- Decisions that are kept up. A board keeps of each application how it stands at its holder and which nodes may run
+-- it. It shows a state where it keeps what the definitions of placement say of that state. Then it gives the state's
+-- verdicts and loads.
+use Rattle.std.specs.Prelude.{◌≡◌, ℕ, List, map as list_map, Option, None, if◌then◌else◌}
+use Rattle.std.specs.Option.{option_map}
+use Rattle.dac_base.specs.declared.NodeId.{NodeId}
+use Rattle.dac_base.specs.declared.AppId.{AppId}
+use Rattle.dac_config.specs.Table.{Table, group_of}
+use Rattle.dac_meaning.specs.StateValue.{StateValue}
+use Rattle.dac_placement.specs.declared.standing.Standing.{Standing}
+use Rattle.dac_placement.specs.declared.standing.Standing.TheVariants.{Unclaimed, Lost, Stopped, Barred, Upheld}
+use Rattle.dac_placement.specs.Placement.{is_eligible, standing_of, apps_of, nodes_of}
+use Rattle.dac_board.specs.declared.spot.Spot.{Spot}
+
+-- one application: node by node the group of each that may run it, how it stands at its holder, and the group of the
+-- holder where all is well there
+pub record RowValue : Type 0 where
+  pub spots : List (Option Spot)
+  pub standing : Standing
+  pub group : Option ℕ
+
+-- the applications in the order of the file, and how often it was asked whether a node may run one
+pub record BoardValue : Type 0 where
+  pub rows : List RowValue
+  pub looked : ℕ
+
+-- the node with its group, where it may run the application
+abbrev pub spot_of : Table → StateValue → AppId → NodeId → Option Spot
+spot_of table s app node =
+    if is_eligible table s app node then option_map (λ group. record { group = group; node = node }) (group_of table app node)
+    else None
+
+abbrev pub spots_of : Table → StateValue → AppId → List (Option Spot)
+spots_of table s app = list_map (spot_of table s app) (nodes_of table)
+
+-- the group of the holder, where all is well there
+abbrev pub group_held : Table → AppId → Standing → Option ℕ
+group_held table app Unclaimed = None
+group_held table app Lost = None
+group_held table app (Stopped n) = None
+group_held table app Barred = None
+group_held table app (Upheld n) = group_of table app n
+
+-- what a board that shows a state keeps of an application
+abbrev pub row_of : Table → StateValue → AppId → RowValue
+row_of table s app = record {
+  spots = spots_of table s app;
+  standing = standing_of table s app;
+  group = group_held table app (standing_of table s app);
+}
+
+abbrev pub rows_of : Table → StateValue → List RowValue
+rows_of table s = list_map (row_of table s) (apps_of table)
+
+-- The board shows the state under the configuration: it keeps of each application what the definitions say.
+abbrev pub Shows : Table → BoardValue → StateValue → Type 0
+Shows table board s = board.rows ≡ rows_of table s

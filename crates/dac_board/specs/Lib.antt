@@ -1,0 +1,4 @@
+pub mod Boards
+pub mod Rows
+pub mod Touched
+pub mod Grown

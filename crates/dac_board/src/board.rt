@@ -1,0 +1,195 @@
+//! Decisions that are kept up.
+ghost use Rattle.std.specs.Prelude.{◌≡◌, ◌<◌, ◌≤◌, ◌+◌, ◌^◌, IfOk, IsTrue, ◌↔◌, length};
+ghost use Rattle.dac_base.specs.declared.AppId.{AppId as App};
+ghost use Rattle.dac_base.specs.declared.NodeId.{NodeId as Named};
+ghost use Rattle.dac_config.specs.Table.{Table, app_count};
+ghost use Rattle.dac_meaning.specs.StateValue.{StateValue, join};
+ghost use Rattle.dac_placement.specs.Placement.{verdict_of, load_of};
+ghost use Rattle.dac_board.specs.Boards.{Shows};
+ghost use Rattle.dac_board.specs.Rows.{load_on, rank_on, first_on, verdict_on, row_verdict};
+ghost use Rattle.dac_board.specs.Touched.{touched, is_touched, IsTouched};
+
+use crate::moving::{Grown, moved_by};
+use crate::row::Row;
+use crate::spot::Spot;
+use dac_base::{AppId, NoMemory, NodeId};
+use dac_config::Config;
+use dac_placement::{Rank, Standing, State, Verdict, lesser};
+use std::alloc::Global;
+use std::marker::Model;
+
+/// The verdicts and loads of a state, kept up as the state grows.
+///
+/// A board keeps which nodes may run each application and how the application stands at its holder. When the state
+/// takes something in, the board looks again only at pairs of an application and a node that this touches. Contracts
+/// say which states a board shows under a configuration; of these it gives the verdicts and the loads.
+#[derive(Drop)]
+pub struct Board {
+    rows: Vec<Row>,
+    looked: u64,
+}
+
+impl Model for Board {
+    ghost use Rattle.std.specs.Prelude.{◌<◌, ◌^◌, length};
+    ghost use Rattle.dac_board.specs.Boards.{BoardValue};
+
+    ghost Value = { BoardValue };
+
+    ghost view = { λ a. record { rows = a.rows.items; looked = a.looked } };
+
+    ghost invariant = { λ a. length a.rows.items < 2 ^ 16 };
+}
+
+impl Board {
+    /// The board of a state. [`NoMemory`] is the only error.
+    pub fn new(alloc: Global, config: &Config, state: &State) -> Result<Self, NoMemory>
+        ensures { IfOk result (λ board. Shows config.now board state.now) }
+    {
+        let mut looked = 0;
+        let mut rows = Vec::new(alloc);
+        for number in 0..config.apps() {
+            let row = Row::new(alloc, config, state, AppId(number), &mut looked)?;
+            rows.push(row)?;
+        }
+        Ok(Board { rows, looked })
+    }
+
+    /// What is to become of an application, by the state that is shown. It takes no memory.
+    pub fn verdict(&self, app: AppId) -> Verdict
+        ensures value { (table : Table) (s : StateValue) → Shows table self.now s → app.0 < app_count table
+            → result ≡ verdict_of table s app }
+    {
+        verdict_on(&self.rows, app)
+    }
+
+    /// How many other applications run at a node, by the state that is shown. It takes no memory.
+    pub fn load(&self, app: AppId, node: NodeId) -> u32
+        ensures { (table : Table) (s : StateValue) → Shows table self.now s → result ≡ load_of table s app node }
+    {
+        load_on(&self.rows, app, node)
+    }
+
+    /// How often it was looked whether a node may run an application, since the board was made; the greatest number
+    /// stays. It takes no memory.
+    pub fn looked(&self) -> u64
+        ensures { result ≡ self.now.looked }
+    {
+        self.looked
+    }
+
+    /// Takes up that the state `old`, which is shown, was joined with `delta`, which gave `new`. It looks again only at
+    /// pairs of an application and a node that this touches, at each once. It takes no memory.
+    pub fn absorb(&mut self, config: &Config, old: &State, new: &State, delta: &State)
+        ensures shows { Shows config.now self.old old.now → new.now ≡ join old.now delta.now
+            → Shows config.now self.new new.now }
+        ensures few { self.new.looked ≤ self.old.looked + touched config.now old.now new.now }
+        ensures rises { self.old.looked ≤ self.new.looked }
+        // what is counted
+        ensures pairs { (app : App) (node : Named)
+            → IsTrue (is_touched config.now old.now new.now app node) ↔ IsTouched config.now old.now new.now app node }
+    {
+        let moved = moved_by(old, delta);
+        let mut looked = self.looked;
+        let places = self.rows.len().min(config.apps() as usize);
+        for place in 0..places {
+            let change = Grown {
+                old,
+                new,
+                delta,
+                keeps: !moved[place],
+            };
+            let row = &mut self.rows[place];
+            row.absorb(config, &change, AppId(place as u16), &mut looked);
+        }
+        self.looked = looked;
+    }
+
+    /// An equal board, with memory of its own. [`NoMemory`] is the only error.
+    pub fn copy(&self) -> Result<Self, NoMemory>
+        ensures { IfOk result (λ copied. copied ≡ self.now) }
+    {
+        let mut rows = Vec::new(*self.rows.allocator());
+        for row in &self.rows {
+            rows.push(row.copy()?)?;
+        }
+        Ok(Board {
+            rows,
+            looked: self.looked,
+        })
+    }
+}
+
+/// How many rows but one run at a node.
+fn load_on(rows: &[Row], app: AppId, node: NodeId) -> u32
+    requires { length rows.now < 2 ^ 16 }
+    ensures { result ≡ load_on rows.now app node }
+{
+    let mut load = 0;
+    for other in 0..rows.len() {
+        let row = &rows[other];
+        let runs = row.runs(node);
+        if other != app.0 as usize && runs {
+            load += 1;
+        }
+    }
+    load
+}
+
+/// Where a node that may run an application stands among them.
+fn rank_on(rows: &[Row], app: AppId, spot: Option<Spot>) -> Option<Rank>
+    requires { length rows.now < 2 ^ 16 }
+    ensures { result ≡ rank_on rows.now app spot }
+{
+    let spot = spot?;
+    let load = load_on(rows, app, spot.node);
+    Some(Rank {
+        group: spot.group,
+        load,
+        node: spot.node,
+    })
+}
+
+/// The least rank of these nodes.
+fn first_on(rows: &[Row], app: AppId, spots: &[Option<Spot>]) -> Option<Rank>
+    requires { length rows.now < 2 ^ 16 }
+    ensures { result ≡ first_on rows.now app spots.now }
+{
+    let mut first = None;
+    for spot in spots {
+        let rank = rank_on(rows, app, *spot);
+        first = lesser(first, rank);
+    }
+    first
+}
+
+/// The verdict of an application, by its row and those of the others.
+fn verdict_on(rows: &[Row], app: AppId) -> Verdict
+    requires { length rows.now < 2 ^ 16 }
+    ensures { result ≡ row_verdict rows.now app }
+{
+    match rows.get(app.0 as usize) {
+        Some(row) => {
+            let first = first_on(rows, app, row.spots());
+            verdict_by(row.standing(), row.group(), first)
+        }
+        None => Verdict::Nobody,
+    }
+}
+
+/// The verdict, where the application stands so, with its holder in this group, and this is the first choice.
+fn verdict_by(standing: Standing, group: Option<u16>, first: Option<Rank>) -> Verdict
+    ensures { result ≡ verdict_on standing group first }
+{
+    match (standing, first) {
+        (Standing::Stopped(holder), _) => Verdict::Halted(holder),
+        (Standing::Upheld(holder), None) => Verdict::Kept(holder),
+        (Standing::Upheld(holder), Some(rank)) => match group {
+            Some(late) if rank.group < late => Verdict::Takeover(rank.node),
+            _ => Verdict::Kept(holder),
+        },
+        (Standing::Unclaimed, Some(rank)) => Verdict::Start(rank.node),
+        (Standing::Lost, Some(rank)) => Verdict::Failover(rank.node),
+        (Standing::Barred, Some(rank)) => Verdict::Move(rank.node),
+        (_, None) => Verdict::Nobody,
+    }
+}
