@@ -4,8 +4,7 @@
 //! that a contract says wholly. What scripts can say is tried by running the program.
 #![tactic(auto)]
 
-#[cfg(test)]
-mod bearing;
+pub mod bearing;
 #[cfg(test)]
 mod callers;
 #[cfg(test)]

@@ -1,0 +1,101 @@
+// Refuses one growth of memory of a program, or one of its reads or writes: loaded before the C library by LD_PRELOAD.
+//
+// One of these variables says which, by its number from 1 on:
+//
+//   GROWTH=N       the Nth growth from the start on
+//   CALLS_GROWTH=N the Nth growth behind a write that is ": " alone, and before the next write
+//   READ=N WRITE=N the Nth read of standard input, or write of standard output, fails
+//   ONE_READ=N ONE_WRITE=N it moves one byte
+//
+// Where it did so, it writes "refused" to standard error. It is written for the GNU C library and one program alone.
+
+#define _GNU_SOURCE
+#include <errno.h>
+#include <stdatomic.h>
+#include <stdlib.h>
+#include <string.h>
+#include <sys/syscall.h>
+#include <sys/uio.h>
+#include <unistd.h>
+
+extern void *__libc_malloc(size_t);
+extern void *__libc_calloc(size_t, size_t);
+extern void *__libc_realloc(void *, size_t);
+extern void *__libc_memalign(size_t, size_t);
+
+enum what { GROWTH, CALLS_GROWTH, READ, WRITE, ONE_READ, ONE_WRITE, KINDS };
+
+static const char *const names[KINDS] = {"GROWTH", "CALLS_GROWTH", "READ", "WRITE", "ONE_READ", "ONE_WRITE"};
+static atomic_long left[KINDS];
+static atomic_int is_call;
+
+__attribute__((constructor)) static void begin(void) {
+    for (int kind = 0; kind < KINDS; kind++) {
+        const char *number = getenv(names[kind]);
+        atomic_store(&left[kind], number ? atol(number) : 0);
+    }
+}
+
+// Whether this one is the one.
+static int is_refused(enum what kind) {
+    if (atomic_load(&left[kind]) <= 0 || atomic_fetch_sub(&left[kind], 1) != 1)
+        return 0;
+    syscall(SYS_write, STDERR_FILENO, "refused\n", 8);
+    return 1;
+}
+
+static int is_growth_refused(void) {
+    if (!is_refused(GROWTH) && !(atomic_load(&is_call) && is_refused(CALLS_GROWTH)))
+        return 0;
+    errno = ENOMEM;
+    return 1;
+}
+
+void *malloc(size_t size) { return is_growth_refused() ? NULL : __libc_malloc(size); }
+
+void *calloc(size_t count, size_t size) { return is_growth_refused() ? NULL : __libc_calloc(count, size); }
+
+void *realloc(void *old, size_t size) { return is_growth_refused() ? NULL : __libc_realloc(old, size); }
+
+void *memalign(size_t align, size_t size) { return is_growth_refused() ? NULL : __libc_memalign(align, size); }
+
+void *aligned_alloc(size_t align, size_t size) { return memalign(align, size); }
+
+int posix_memalign(void **out, size_t align, size_t size) {
+    void *found = memalign(align, size);
+    if (!found)
+        return ENOMEM;
+    *out = found;
+    return 0;
+}
+
+ssize_t read(int file, void *bytes, size_t count) {
+    if (file == STDIN_FILENO && is_refused(READ)) {
+        errno = EIO;
+        return -1;
+    }
+    if (file == STDIN_FILENO && count > 1 && is_refused(ONE_READ))
+        count = 1;
+    return syscall(SYS_read, file, bytes, count);
+}
+
+ssize_t write(int file, const void *bytes, size_t count) {
+    if (file == STDOUT_FILENO) {
+        atomic_store(&is_call, count == 2 && !memcmp(bytes, ": ", 2));
+        if (is_refused(WRITE)) {
+            errno = EIO;
+            return -1;
+        }
+        if (count > 1 && is_refused(ONE_WRITE))
+            count = 1;
+    }
+    return syscall(SYS_write, file, bytes, count);
+}
+
+// In place of a write of several pieces the first is written, as a write may.
+ssize_t writev(int file, const struct iovec *pieces, int count) {
+    for (int piece = 0; piece < count; piece++)
+        if (pieces[piece].iov_len)
+            return write(file, pieces[piece].iov_base, pieces[piece].iov_len);
+    return 0;
+}
