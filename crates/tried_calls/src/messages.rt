@@ -64,21 +64,20 @@ fn ops(alloc: Global) -> Option<OpList> {
 /// The bench of a call.
 pub fn messages(alloc: Global, asked: OfMessages) -> Option<MessageBench> {
     let config = config(alloc)?;
-    let message = whole(alloc);
     let dots = [dot(ME, 1), dot(ME, 2)];
     Some(MessageBench {
         alloc,
         asked,
         op: operation(alloc, ME, Does::Stop)?,
         dots: DotList::new(Vec::from_slice(alloc, &dots).ok()?),
-        body: message.body.copy().ok()?,
-        event: Event::Hear(message.copy().ok()?),
+        body: Body::Whole(State::bottom(alloc)),
+        event: Event::Hear(whole(alloc)),
         reply: Reply::Issued(operation(alloc, ME, Does::Stop)?),
         ops: ops(alloc)?,
         apps: AppList::new(Vec::from_slice(alloc, &[APP]).ok()?),
         waits: Waits::new(alloc, &config).ok()?,
         state: meaning(alloc, OTHER, Does::Up)?,
-        message,
+        message: whole(alloc),
         config,
     })
 }
