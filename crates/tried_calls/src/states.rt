@@ -103,13 +103,28 @@ fn of_packet_bytes(answer: Result<Vec<u8>, WireFault>) -> Said {
     }
 }
 
+/// Whether both are the same message.
+fn compared(read: &Packet, wanted: &Packet) -> Said {
+    match read {
+        Packet::Msg(read) => match wanted {
+            Packet::Msg(wanted) => Said::Well(u64::from(read.equal(wanted))),
+            Packet::Op(_) => Said::Other,
+        },
+        Packet::Op(_) => Said::Other,
+    }
+}
+
 /// What an answer of a packet says.
 fn of_packet(answer: Result<Packet, WireFault>, packet: &Packet) -> Said {
-    match (answer, packet) {
-        (Ok(Packet::Msg(read)), Packet::Msg(wanted)) => Said::Well(u64::from(read.equal(wanted))),
-        (Ok(_), _) => Said::Other,
-        (Err(fault), _) if fault.kind == WireFaultKind::NoMemory => Said::NoMemory,
-        (Err(_), _) => Said::Other,
+    match answer {
+        Ok(read) => compared(&read, packet),
+        Err(fault) => {
+            if fault.kind == WireFaultKind::NoMemory {
+                Said::NoMemory
+            } else {
+                Said::Other
+            }
+        }
     }
 }
 
