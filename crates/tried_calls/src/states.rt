@@ -108,9 +108,9 @@ fn compared(read: &Packet, wanted: &Packet) -> Said {
     match read {
         Packet::Msg(read) => match wanted {
             Packet::Msg(wanted) => Said::Well(u64::from(read.equal(wanted))),
-            Packet::Op(_) => Said::Other,
+            Packet::Single(_) => Said::Other,
         },
-        Packet::Op(_) => Said::Other,
+        Packet::Single(_) => Said::Other,
     }
 }
 
