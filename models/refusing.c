@@ -2,12 +2,12 @@
 //
 // One of these variables says which, by its number from 1 on:
 //
-//   GROWTH=N       the Nth growth from the start on
-//   CALLS_GROWTH=N the Nth growth behind a write that is ": " alone, and before the next write
-//   READ=N WRITE=N the Nth read of standard input, or write of standard output, fails
-//   ONE_READ=N ONE_WRITE=N it moves one byte
+//   GROWTH=N                  the Nth growth is refused
+//   CALLS_GROWTH=N            the same of those that come behind a write of ": " alone, and before the next write
+//   READ=N, WRITE=N           the Nth read of standard input, or write of standard output, fails
+//   ONE_READ=N, ONE_WRITE=N   it moves one byte
 //
-// Where it did so, it writes "refused" to standard error. It is written for the GNU C library and one program alone.
+// Where it did so, it writes "refused" to standard error. It is written for the GNU C library.
 
 #define _GNU_SOURCE
 #include <errno.h>
