@@ -275,7 +275,7 @@ pub enum OfBuffer {
 /// A number at a key.
 type Delta = MapOf<u64, Max<u64>>;
 
-/// A buffer of 31 deltas, with more to be pushed, and eleven acknowledgements.
+/// A buffer of 31 deltas, with more to be pushed, and fifteen acknowledgements.
 #[derive(Drop)]
 pub struct BufferBench {
     alloc: Global,
@@ -313,10 +313,10 @@ fn threes(alloc: Global) -> Option<Vec<Vec<Delta>>> {
     Some(all)
 }
 
-/// What eleven incarnations acknowledged: as many as there is room for.
+/// What fifteen incarnations acknowledged: as many as there is room for.
 fn acknowledged(alloc: Global) -> Option<Acks> {
     let mut acks = Acks::new(alloc);
-    for inc in 1..12u64 {
+    for inc in 1..16u64 {
         acks.raise(Origin { node: ME, inc }, 3).ok()?;
     }
     Some(acks)
