@@ -2,9 +2,10 @@
 use crate::steps::{Kind, Step, TWO, state_after};
 use dac_base::{AppId, NodeId};
 use dac_config::{Config, read_config};
-use dac_decide::{Verdict, eligible, load, verdict};
 use dac_dots::Origin;
-use dac_placement::{holder, is_permitted, is_started, is_up, runs_at};
+use dac_placement::{
+    Verdict, eligible, holder, is_permitted, is_started, is_up, load, runs_at, verdict,
+};
 use dac_state::{How, Key, State};
 use std::alloc::Global;
 

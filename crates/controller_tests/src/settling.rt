@@ -2,7 +2,7 @@
 use dac_base::{AppId, NodeId};
 use dac_config::{Config, read_config};
 use dac_core::{Command, Node, What, World, WorldEvent};
-use dac_decide::{Verdict, verdict};
+use dac_placement::{Verdict, verdict};
 use std::alloc::Global;
 
 /// An application at c1@h, or else at c2@h or c3@h.

@@ -12,8 +12,8 @@ use Rattle.dac_config.specs.Table.{Table, node_count, app_count, group_of}
 use Rattle.dac_placement.specs.Placement.{is_up, is_eligible, is_earlier, runs_at, runner_of}
 use Rattle.dac_events.specs.declared.Command.{Command}
 use Rattle.dac_events.specs.declared.Command.TheVariants.{Down, Permit, Start, Stop, Drain, Takeover}
-use Rattle.dac_commands.specs.declared.refusal.Refusal.{Refusal}
-use Rattle.dac_commands.specs.declared.refusal.Refusal.TheVariants.{DeclaredDown, UnknownApp, UnknownNode, OnSelf, NotInList, NotLive, NotStarted, NotEligible, NotRunning, AlreadyHolder, LowerPriority, TooManyDots, TermsUsedUp, DotsUsedUp}
+use Rattle.dac_events.specs.declared.refusal.Refusal.{Refusal}
+use Rattle.dac_events.specs.declared.refusal.Refusal.TheVariants.{DeclaredDown, UnknownApp, UnknownNode, OnSelf, NotInList, NotLive, NotStarted, NotEligible, NotRunning, AlreadyHolder, LowerPriority, TooManyDots, TermsUsedUp, DotsUsedUp}
 use Rattle.dac_commands.specs.Commands.{live, live_key, live_origin, standing_starts, standing_permits, standing_drains, greatest_counter, next_term}
 
 -- the first of these causes that holds

@@ -1,4 +1,3 @@
-pub mod Refusals
 pub mod Commands
 pub mod Causes
 pub mod Written

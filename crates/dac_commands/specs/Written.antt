@@ -90,18 +90,18 @@ pub record TakesOver (t : Table) (s : StateValue) (app : AppId) (act : Act) : Ty
 -- The act says the command. A Down names the live incarnation of the node, and a takeover claims the application from
 -- where it runs. The others write at the key of the application at the node's live incarnation. They replace exactly
 -- what stands there of their kind.
-abbrev pub Says : Table → StateValue → Command → Act → Type 0
-Says t s (Down node) act = (inc : ℕ) × ((act ≡ Downs node inc) × IsLive s.lives node inc)
-Says t s (Permit app node value) act = WritesAt s app node (PermitStands s) (λ key over. Permits key value over) act
-Says t s (Start app node) act = WritesAt s app node (StartStands s) Starts act
-Says t s (Stop app node) act = WritesAt s app node (StartStands s) Stops act
-Says t s (Drain node value) act = DrainsLive s node value act
-Says t s (Takeover app) act = TakesOver t s app act
+abbrev pub SaysCommand : Table → StateValue → Command → Act → Type 0
+SaysCommand t s (Down node) act = (inc : ℕ) × ((act ≡ Downs node inc) × IsLive s.lives node inc)
+SaysCommand t s (Permit app node value) act = WritesAt s app node (PermitStands s) (λ key over. Permits key value over) act
+SaysCommand t s (Start app node) act = WritesAt s app node (StartStands s) Starts act
+SaysCommand t s (Stop app node) act = WritesAt s app node (StartStands s) Stops act
+SaysCommand t s (Drain node value) act = DrainsLive s node value act
+SaysCommand t s (Takeover app) act = TakesOver t s app act
 
 -- an operation of this incarnation under its next dot that says the command
 pub record IsWritten (t : Table) (own : Origin) (s : StateValue) (c : Command) (o : Operation) : Type 0 where
   pub dot : IsNext s.known own o.dot
-  pub says : Says t s c o.act
+  pub says : SaysCommand t s c o.act
 
 -- what an accepted command issues is so
 abbrev pub WritesWhatIsSaid : Type 0

@@ -5,12 +5,11 @@ ghost use Rattle.dac_commands.specs.Causes.{first, causes_of, causes_to_permit, 
 
 use crate::counters::dots_used_up;
 use crate::keys::{key_of, live_of, refusal_to_name};
-use crate::refusal::Refusal;
 use crate::taking::refusal_to_take;
 use dac_base::{AppId, MAX_REPLACED, NodeId};
 use dac_config::Config;
 use dac_dots::Origin;
-use dac_events::Command;
+use dac_events::{Command, Refusal};
 use dac_placement::{State, is_up};
 
 /// Why a controller that runs as this incarnation with this state refuses a command, if it does. It is the cause of

@@ -4,9 +4,9 @@ ghost use Rattle.std.specs.Prelude.{◌≡◌};
 ghost use Rattle.dac_commands.specs.Commands.{live_or_none, live_key};
 ghost use Rattle.dac_commands.specs.Causes.{first, causes_to_name};
 
-use crate::refusal::Refusal;
 use dac_base::{AppId, NodeId};
 use dac_config::Config;
+use dac_events::Refusal;
 use dac_placement::State;
 use dac_wishes::Key;
 

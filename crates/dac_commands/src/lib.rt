@@ -2,7 +2,6 @@
 //! state.
 //!
 //! [`refusal_of`] tells why a command is refused, and [`operation_of`] gives the operation that an accepted one issues.
-//! A [`Refusal`] is the cause why an event does nothing, for commands and for all other events of a controller.
 //! [`claim`] gives the operation by which a controller claims an application where no command asks for it. Nothing here
 //! keeps or changes a state.
 #![tactic(auto)]
@@ -10,11 +9,9 @@
 pub use causes::refusal_of;
 pub use counters::{dots_used_up, terms_used_up};
 pub use issue::{claim, operation_of};
-pub use refusal::Refusal;
 
 mod causes;
 mod counters;
 mod issue;
 mod keys;
-mod refusal;
 mod taking;

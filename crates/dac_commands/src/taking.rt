@@ -3,10 +3,10 @@ ghost use Rattle.std.specs.Prelude.{◌≡◌};
 ghost use Rattle.dac_commands.specs.Causes.{first, causes_to_take, causes_to_claim};
 
 use crate::counters::{dots_used_up, terms_used_up};
-use crate::refusal::Refusal;
 use dac_base::{AppId, NodeId};
 use dac_config::Config;
 use dac_dots::Origin;
+use dac_events::Refusal;
 use dac_placement::{State, eligible, is_earlier, runner, runs_at};
 
 /// Why a controller's own node doesn't take an application over, if it doesn't.

@@ -37,10 +37,9 @@
 //! ```
 #![tactic(auto)]
 
-pub use dac_events::{Command, What, WorldEvent};
+pub use dac_events::{Command, What, WorldEvent, WorldFault};
 pub use dac_messages::{AppList, Body, Event, Message, OpList, Reply};
 pub use dac_node::{Node, Refusal};
-pub use dac_settle::dac_model_world::WorldFault;
 pub use world::World;
 
 mod sharing;

@@ -1,8 +1,15 @@
-//! What may happen in a cluster of controllers: the events that a script names and the world plays.
+//! What may happen in a cluster of controllers: the events that a script names and the world plays. And why one of them
+//! does nothing: a [`Refusal`] of a controller, or a [`WorldFault`] of the world.
 //!
 //! Nothing here does anything. Which events a controller refuses, and what an accepted one does, are the rules of the
 //! crates above.
 #![tactic(auto)]
+
+pub use refusal::Refusal;
+pub use world_fault::WorldFault;
+
+mod refusal;
+mod world_fault;
 
 use dac_base::{AppId, NodeId};
 

@@ -7,7 +7,7 @@ use Rattle.dac_shapes.specs.declared.draft.SyncWait.TheVariants.{NoSync}
 use Rattle.dac_config.specs.Table.{Table}
 use Rattle.dac_messages.specs.declared.event.Event.{Event}
 use Rattle.dac_messages.specs.declared.reply.Reply.{Reply}
-use Rattle.dac_commands.specs.declared.refusal.Refusal.{Refusal}
+use Rattle.dac_events.specs.declared.refusal.Refusal.{Refusal}
 use Rattle.dac_model_world.specs.NodeValue.{NodeValue}
 use Rattle.dac_model_world.specs.ModelNode.{ModelNode, shown}
 use Rattle.dac_model_world.specs.Histories.{Entry, IsHistory, off_after}

@@ -10,5 +10,5 @@ pub use Rattle.dac_model_world.specs.ModelWorld
 pub use Rattle.dac_model_world.specs.NodeValue
 pub use Rattle.dac_model_world.specs.Records
 pub use Rattle.dac_model_world.specs.Step
-pub use Rattle.dac_model_world.specs.declared.fault.WorldFault
+pub use Rattle.dac_events.specs.declared.world_fault.WorldFault
 pub mod laws

@@ -1,6 +1,6 @@
 //! What a journal and a seat keep of a call.
 
-use dac_commands::Refusal;
+use dac_events::Refusal;
 use dac_messages::{Event, Reply};
 
 /// What a node answers to an event.

@@ -12,13 +12,13 @@ Paper = Option (List ℕ)
 abbrev pub log : Bool → Bool → List Paper → List Paper → Log
 log a b put taken = record { puts = a; takes = b; put = put; taken = taken }
 
-abbrev pub Fits : ℕ → ℕ → List Paper → List Paper → ℕ → Log → Type 0
-Fits writer reader put taken port v = (v.puts ≡ true → (port ≡ writer) × (v.put ≡ put)) × (v.takes ≡ true → (port ≡ reader) × (v.taken ≡ taken))
+abbrev pub RelayFits : ℕ → ℕ → List Paper → List Paper → ℕ → Log → Type 0
+RelayFits writer reader put taken port v = (v.puts ≡ true → (port ≡ writer) × (v.put ≡ put)) × (v.takes ≡ true → (port ≡ reader) × (v.taken ≡ taken))
 
 abbrev pub Relayed : List Paper → List Log → Type 0
 Relayed items views =
     (writer : ℕ) × (reader : ℕ) × (put : List Paper) × (taken : List Paper) × (put ≡ taken ++ items)
-    × ((port : ℕ) (v : Log) → get_elem? views port ≡ some v → Fits writer reader put taken port v)
+    × ((port : ℕ) (v : Log) → get_elem? views port ≡ some v → RelayFits writer reader put taken port v)
 
 -- the one list begins with the other
 abbrev pub StartsWith : List Paper → List Paper → Type 0

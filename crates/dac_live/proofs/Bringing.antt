@@ -6,8 +6,8 @@ use Rattle.dac_config.specs.Table.{Table}
 use Rattle.dac_journal.specs.ModelNode.{ModelNode}
 use Rattle.dac_messages.specs.declared.event.Event.{Event}
 use Rattle.dac_messages.specs.declared.reply.Reply.{Reply}
-use Rattle.dac_commands.specs.declared.refusal.Refusal.{Refusal}
-use Rattle.dac_commands.specs.declared.refusal.Refusal.TheVariants.{NoMemory}
+use Rattle.dac_events.specs.declared.refusal.Refusal.{Refusal}
+use Rattle.dac_events.specs.declared.refusal.Refusal.TheVariants.{NoMemory}
 use Rattle.dac_journal.specs.NodeValue.{NodeValue}
 use Rattle.dac_journal.specs.Step.{model_step, Steps}
 use Rattle.dac_live.specs.Replayed.{GoesOn}

@@ -3,7 +3,7 @@
 use Rattle.std.specs.Prelude.{◌≡◌, ◌≢◌, ◌⊎◌, ◌+◌, ◌<◌, ⊤, ℕ, suc, List, [], ◌∷◌, ◌++◌, length, All, Result, Err}
 use Rattle.dac_messages.specs.declared.event.Event.{Event}
 use Rattle.dac_messages.specs.declared.reply.Reply.{Reply}
-use Rattle.dac_commands.specs.declared.refusal.Refusal.{Refusal}
+use Rattle.dac_events.specs.declared.refusal.Refusal.{Refusal}
 use Rattle.dac_journal.specs.declared.limits.TheConstants.{MAX_RECORDS}
 use Rattle.dac_journal.specs.declared.record.Record.{Record}
 use Rattle.dac_live.specs.declared.faults.LiveFault.{LiveFault}

@@ -2,8 +2,8 @@
 use Rattle.std.specs.Prelude.{◌≡◌, ◌≢◌, ℕ, ◌+◌, List, [], ◌∷◌, ◌++◌, length, Result, Err}
 use Rattle.dac_messages.specs.declared.event.Event.{Event}
 use Rattle.dac_messages.specs.declared.reply.Reply.{Reply}
-use Rattle.dac_commands.specs.declared.refusal.Refusal.{Refusal}
-use Rattle.dac_commands.specs.declared.refusal.Refusal.TheVariants.{NoMemory as WantOfMemory}
+use Rattle.dac_events.specs.declared.refusal.Refusal.{Refusal}
+use Rattle.dac_events.specs.declared.refusal.Refusal.TheVariants.{NoMemory as WantOfMemory}
 use Rattle.dac_journal.specs.declared.record.Record.{Record}
 use Rattle.dac_journal.specs.declared.record.Call.{Call}
 use Rattle.dac_live.specs.declared.faults.LiveFault.{LiveFault}

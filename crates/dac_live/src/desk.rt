@@ -8,8 +8,8 @@ ghost use Rattle.dac_status.specs.Summaries.{summary_of};
 ghost use Rattle.dac_live.specs.Paged.{page_after, page_of, known_in};
 
 use dac_base::NoMemory;
-use dac_commands::Refusal;
 use dac_config::Config;
+use dac_events::Refusal;
 use dac_journal::{Answer, Call, Journal, Node};
 use dac_lattice::Bottom;
 use dac_messages::Event;

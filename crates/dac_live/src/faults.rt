@@ -1,6 +1,6 @@
 //! What calls of a site refuse.
 
-use dac_commands::Refusal;
+use dac_events::Refusal;
 use thiserror::Error;
 
 /// Why a site is not opened.

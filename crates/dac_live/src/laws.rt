@@ -11,7 +11,7 @@ ghost use Rattle.dac_live.specs.Paged.{page_after};
 use crate::desk::Desk;
 use crate::faults::LiveFault;
 use crate::same::is_record;
-use dac_commands::Refusal;
+use dac_events::Refusal;
 use dac_journal::{Answer, Call, Record};
 use dac_messages::Event;
 use std::sync::Wait;

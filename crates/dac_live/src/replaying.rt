@@ -7,8 +7,8 @@ ghost use Rattle.dac_live.specs.Replayed.{GoesOn};
 
 use crate::desk::page_of;
 use dac_base::{NoMemory, NodeId};
-use dac_commands::Refusal;
 use dac_config::Config;
+use dac_events::Refusal;
 use dac_journal::{Node, Record};
 use dac_messages::{Event, Reply};
 use dac_pages::Page;

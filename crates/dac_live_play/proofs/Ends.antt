@@ -4,7 +4,7 @@ use Rattle.std.specs.Prelude.{IfSome}
 use Rattle.std.specs.Io.KnownBytes.{Appends}
 use Rattle.dac_config.specs.Table.{Table}
 use Rattle.dac_live_script.specs.declared.line.LiveLine.{LiveLine}
-use Rattle.dac_live_script.specs.LiveInputs.{Says, IsFailureOf}
+use Rattle.dac_live_script.specs.LiveInputs.{SaysLiveScript, IsFailureOf}
 use Rattle.dac_play.specs.Texts.{failure_text}
 use Rattle.dac_script.specs.declared.failure.Failure.{Failure}
 use Rattle.dac_script.specs.declared.source.Progress.TheVariants.{Ended}
@@ -17,7 +17,7 @@ use Rattle.dac_live_play.specs.Runs.{IsFaultOf}
 use Rattle.dac_live_play.specs.Lives.{IsPlayed, IsLived, EndsLive}
 
 -- the script that the input says was run, and its text was printed
-pub lived : (had old new : Option (List ℕ)) (table : Table) (script : List LiveLine) (text : List ℕ) → IfSome had (λ bytes. Says bytes table script) → IsPlayed table script text → Appends old new text
+pub lived : (had old new : Option (List ℕ)) (table : Table) (script : List LiveLine) (text : List ℕ) → IfSome had (λ bytes. SaysLiveScript bytes table script) → IsPlayed table script text → Appends old new text
     → IfSome had (λ bytes. EndsLive bytes ending.Done old new)
 lived None old new table script text says played printed = tt
 lived (Some bytes) old new table script text says played printed = record { table = table; script = script; says = says; text = text; played = played; printed = printed }
@@ -32,7 +32,7 @@ refused_ends (Some bytes) old new why (ending.Faulted found) fails refusal = abs
 refused_ends (Some bytes) old new why ending.Stopped fails refusal = tt
 
 -- the script wasn't run to its end, and the line of the fault was printed
-pub given_up_ends : (had old new : Option (List ℕ)) (table : Table) (script : List LiveLine) (why : PlayFault) (how : LiveEnding) → IfSome had (λ bytes. Says bytes table script) → IsFaultOf table script why → IsGivenUp table why how old new
+pub given_up_ends : (had old new : Option (List ℕ)) (table : Table) (script : List LiveLine) (why : PlayFault) (how : LiveEnding) → IfSome had (λ bytes. SaysLiveScript bytes table script) → IsFaultOf table script why → IsGivenUp table why how old new
     → IfSome had (λ bytes. EndsLive bytes how old new)
 given_up_ends None old new table script why how says fault_is given_up = tt
 given_up_ends (Some bytes) old new table script why ending.Done says fault_is given_up = absurd given_up

@@ -3,7 +3,7 @@ use Rattle.std.specs.Prelude.{◌≡◌, ℕ, List, Option}
 use Rattle.std.specs.Io.KnownBytes.{Appends}
 use Rattle.dac_config.specs.Table.{Table}
 use Rattle.dac_live_script.specs.declared.line.LiveLine.{LiveLine}
-use Rattle.dac_live_script.specs.LiveInputs.{Says, IsFailureOf}
+use Rattle.dac_live_script.specs.LiveInputs.{SaysLiveScript, IsFailureOf}
 use Rattle.dac_play.specs.Texts.{failure_text}
 use Rattle.dac_report.specs.declared.report.LiveReport.{LiveReport}
 use Rattle.dac_live_play.specs.declared.fault.PlayFault.{PlayFault}
@@ -24,7 +24,7 @@ pub record IsPlayed (table : Table) (script : List LiveLine) (text : List ℕ) :
 pub record IsLived (bytes : List ℕ) (old new : Option (List ℕ)) : Type 0 where
   pub table : Table
   pub script : List LiveLine
-  pub says : Says bytes table script
+  pub says : SaysLiveScript bytes table script
   pub text : List ℕ
   pub played : IsPlayed table script text
   pub printed : Appends old new text
@@ -33,7 +33,7 @@ pub record IsLived (bytes : List ℕ) (old new : Option (List ℕ)) : Type 0 whe
 pub record IsFaulted (bytes : List ℕ) (why : PlayFault) (old new : Option (List ℕ)) : Type 0 where
   pub table : Table
   pub script : List LiveLine
-  pub says : Says bytes table script
+  pub says : SaysLiveScript bytes table script
   pub fault_is : IsFaultOf table script why
   pub printed : Appends old new (fault_text table why)
 

@@ -4,7 +4,7 @@ use Rattle.std.specs.List.{flat_map}
 use Rattle.std.specs.Option.{option_map_or}
 use Rattle.std.specs.Fmt.{decimal}
 use Rattle.dac_base.specs.declared.NodeId.{NodeId}
-use Rattle.dac_commands.specs.Refusals.{number_of, name_of}
+use Rattle.dac_events.specs.Refusals.{number_of, name_of}
 use Rattle.dac_config.specs.Table.{Table, node_count, node_name}
 use Rattle.dac_config.specs.Canonical.{name_text}
 use Rattle.dac_live_script.specs.declared.line.LiveLine.{LiveLine}

@@ -34,7 +34,7 @@ IsPartsFailure text (failure.Script fault) = HasScriptFault text fault
 IsPartsFailure text why = inputs.IsPartsFailure text why
 
 -- an input isn't too long, and says this configuration and this script
-pub record Says (bytes : List ℕ) (table : Table) (lines : List LiveLine) : Type 0 where
+pub record SaysLiveScript (bytes : List ℕ) (table : Table) (lines : List LiveLine) : Type 0 where
   pub taken : IsTaken bytes
   pub parts : HasParts bytes table lines
 

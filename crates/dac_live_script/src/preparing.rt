@@ -5,7 +5,7 @@ ghost use Rattle.dac_config.specs.Table.{node_count};
 ghost use Rattle.dac_script.specs.Input.{IsReadWithinBound};
 ghost use Rattle.dac_script.specs.Sources.{IsReadBy};
 ghost use Rattle.dac_live_script.specs.LiveLines.{HasActors};
-ghost use Rattle.dac_live_script.specs.LiveInputs.{HasParts, IsPartsFailure, Says, IsFailureOf};
+ghost use Rattle.dac_live_script.specs.LiveInputs.{HasParts, IsPartsFailure, SaysLiveScript, IsFailureOf};
 
 use crate::line::LiveLine;
 use crate::script::read_live_script;
@@ -34,7 +34,7 @@ pub fn prepare_live<R: Read>(
     alloc: Global,
     source: &mut Source<'_, R>,
 ) -> Result<(Config, Vec<LiveLine>), Failure>
-    ensures says { IfOk result (λ both. IfSome source.old.left (λ bytes. Says bytes both.0 both.1.items)) }
+    ensures says { IfOk result (λ both. IfSome source.old.left (λ bytes. SaysLiveScript bytes both.0 both.1.items)) }
     ensures actors { IfOk result (λ both. All (HasActors (node_count both.0)) both.1.items) }
     ensures fails { IfErr result (λ why. IfSome source.old.left (λ bytes. IsFailureOf bytes why)) }
     ensures reads { IsReadBy result source.new }

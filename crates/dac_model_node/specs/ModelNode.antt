@@ -8,7 +8,7 @@ use Rattle.dac_config.specs.Table.{Table}
 use Rattle.dac_deltas.specs.Logs.{kept_of}
 use Rattle.dac_peers.specs.Peers.{PeersValue}
 use Rattle.dac_decide.specs.FailoverWait.{Note, waits_of}
-use Rattle.dac_model_node.specs.declared.moments.Moments.{Moments}
+use Rattle.dac_decide.specs.declared.moments.Moments.{Moments}
 use Rattle.dac_model_node.specs.NodeValue.{NodeValue, RunValue}
 use Rattle.dac_deltas.specs.declared.buffer.TheConstants.{MAX_DELTAS}
 

@@ -10,7 +10,7 @@ use Rattle.dac_peers.specs.Peers.{PeersValue, coded_peers}
 use Rattle.dac_decide.specs.declared.waits.Noted.{Noted}
 use Rattle.dac_decide.specs.FailoverWait.{coded_noted}
 use Rattle.dac_commands.specs.Commands.{KnowsItself}
-use Rattle.dac_model_node.specs.declared.moments.Moments.{Moments}
+use Rattle.dac_decide.specs.declared.moments.Moments.{Moments}
 
 -- What a running node keeps: its present incarnation, when it was booted and ticked last, and whether its start gate
 -- is open. It also keeps how long each failover has been waiting, its state and the newest of the deltas that made

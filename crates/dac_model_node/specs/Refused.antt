@@ -20,9 +20,9 @@ use Rattle.dac_events.specs.declared.Command.TheVariants.{Down, Permit, Start, S
 use Rattle.dac_messages.specs.declared.message.Message.{Message}
 use Rattle.dac_messages.specs.declared.event.Event.{Event}
 use Rattle.dac_messages.specs.declared.event.Event.TheVariants.{Boot, Crash, Command as Told, Tick, Ship, Hear, HearOp}
-use Rattle.dac_commands.specs.declared.refusal.Refusal.{Refusal}
-use Rattle.dac_commands.specs.declared.refusal.Refusal.TheVariants.{Off, AlreadyOn, DeclaredDown, UnknownApp, UnknownNode, OnSelf, NotInList, MomentBack, NotLive, NotStarted, NotEligible, NotRunning, AlreadyHolder, LowerPriority, NotForMe, UpToDate, TooManyDots, TermsUsedUp, DotsUsedUp, IncarnationsUsedUp, NoMemory}
-use Rattle.dac_commands.specs.Refusals.{number_of}
+use Rattle.dac_events.specs.declared.refusal.Refusal.{Refusal}
+use Rattle.dac_events.specs.declared.refusal.Refusal.TheVariants.{Off, AlreadyOn, DeclaredDown, UnknownApp, UnknownNode, OnSelf, NotInList, MomentBack, NotLive, NotStarted, NotEligible, NotRunning, AlreadyHolder, LowerPriority, NotForMe, UpToDate, TooManyDots, TermsUsedUp, DotsUsedUp, IncarnationsUsedUp, NoMemory}
+use Rattle.dac_events.specs.Refusals.{number_of}
 use Rattle.dac_commands.specs.Commands.{live_key, live_origin, standing_starts, standing_permits, standing_drains}
 use Rattle.dac_commands.specs.Written.{HasLastTerm}
 use Rattle.dac_model_node.specs.NodeValue.{NodeValue, RunValue}

@@ -7,7 +7,5 @@
 
 pub use dac_commands;
 pub use dac_ticks;
-pub use moments::Moments;
 
 pub mod laws;
-mod moments;

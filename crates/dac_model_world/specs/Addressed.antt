@@ -5,7 +5,7 @@ use Rattle.dac_events.specs.declared.WorldEvent.{WorldEvent}
 use Rattle.dac_events.specs.declared.What.TheVariants.{Ship as Ships}
 use Rattle.dac_messages.specs.declared.reply.Reply.{Reply}
 use Rattle.dac_messages.specs.declared.reply.Reply.TheVariants.{Shipped}
-use Rattle.dac_model_world.specs.declared.fault.WorldFault.{WorldFault}
+use Rattle.dac_events.specs.declared.world_fault.WorldFault.{WorldFault}
 
 -- A message is the answer to a ship at the node that it is from to the node that it is for. A ship that isn't refused has no other answer.
 abbrev pub IsAddressed : WorldEvent → Result Reply WorldFault → Type 0

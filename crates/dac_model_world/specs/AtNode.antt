@@ -8,7 +8,7 @@ use Rattle.dac_messages.specs.declared.event.Event.{Event}
 use Rattle.dac_messages.specs.declared.reply.Reply.{Reply}
 use Rattle.dac_model_node.specs.NodeValue.{NodeValue}
 use Rattle.dac_model_node.specs.Hearing.{HearsExactly}
-use Rattle.dac_model_world.specs.declared.fault.WorldFault.{WorldFault}
+use Rattle.dac_events.specs.declared.world_fault.WorldFault.{WorldFault}
 use Rattle.dac_model_world.specs.WorldValue.{WorldValue}
 use Rattle.dac_model_world.specs.ModelWorld.{Follows, happens_by, event_of}
 

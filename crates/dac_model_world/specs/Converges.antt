@@ -5,7 +5,7 @@ use Rattle.dac_events.specs.declared.WorldEvent.{WorldEvent}
 use Rattle.dac_lattice.specs.Lattices.{IsLattice}
 use Rattle.dac_meaning.specs.StateValue.{IsState, IsBelow, join}
 use Rattle.dac_messages.specs.declared.reply.Reply.{Reply}
-use Rattle.dac_model_world.specs.declared.fault.WorldFault.{WorldFault}
+use Rattle.dac_events.specs.declared.world_fault.WorldFault.{WorldFault}
 use Rattle.dac_model_world.specs.WorldValue.{WorldValue}
 use Rattle.dac_model_world.specs.SetWorld.{set_run, no_sets}
 use Rattle.dac_model_world.specs.Convergence.{EachIsMeaning, Agrees, DistinctDots, HoldsSets, ListsAll, CarryMeanings}

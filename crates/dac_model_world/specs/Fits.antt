@@ -9,9 +9,9 @@ use Rattle.dac_events.specs.declared.What.{What}
 use Rattle.dac_events.specs.declared.What.TheVariants.{Deliver, Hand}
 use Rattle.dac_messages.specs.declared.reply.Reply.{Reply}
 use Rattle.dac_messages.specs.declared.reply.Reply.TheVariants.{Booted, Heard}
-use Rattle.dac_commands.specs.declared.refusal.Refusal.TheVariants.{DotsUsedUp}
-use Rattle.dac_model_world.specs.declared.fault.WorldFault.{WorldFault}
-use Rattle.dac_model_world.specs.declared.fault.WorldFault.TheVariants.{Refused}
+use Rattle.dac_events.specs.declared.refusal.Refusal.TheVariants.{DotsUsedUp}
+use Rattle.dac_events.specs.declared.world_fault.WorldFault.{WorldFault}
+use Rattle.dac_events.specs.declared.world_fault.WorldFault.TheVariants.{Refused}
 use Rattle.dac_model_world.specs.ModelWorld.{counted, issued_by, out_of_memory}
 use Rattle.dac_model_world.specs.SetWorld.{SetWorld, NodeSet, Copy, is_for, operations_of, set_step}
 

@@ -10,7 +10,7 @@ use Rattle.dac_meaning.specs.Meaning.{In}
 use Rattle.dac_events.specs.declared.WorldEvent.{WorldEvent}
 use Rattle.dac_messages.specs.declared.reply.Reply.{Reply}
 use Rattle.dac_messages.specs.declared.reply.Reply.TheVariants.{Booted, Issued, Ticked}
-use Rattle.dac_model_world.specs.declared.fault.WorldFault.{WorldFault}
+use Rattle.dac_events.specs.declared.world_fault.WorldFault.{WorldFault}
 use Rattle.dac_model_world.specs.SetWorld.{SetWorld, NodeSet, operations_of, set_step}
 use Rattle.dac_model_world.specs.Convergence.{origin_by}
 

@@ -6,10 +6,10 @@ use Rattle.dac_config.specs.Table.{Table}
 use Rattle.dac_events.specs.declared.WorldEvent.{WorldEvent}
 use Rattle.dac_messages.specs.declared.event.Event.{Event}
 use Rattle.dac_messages.specs.declared.reply.Reply.{Reply}
-use Rattle.dac_commands.specs.declared.refusal.Refusal.{Refusal}
-use Rattle.dac_commands.specs.declared.refusal.Refusal.TheVariants.{NoMemory}
-use Rattle.dac_model_world.specs.declared.fault.WorldFault.{WorldFault}
-use Rattle.dac_model_world.specs.declared.fault.WorldFault.TheVariants.{Refused}
+use Rattle.dac_events.specs.declared.refusal.Refusal.{Refusal}
+use Rattle.dac_events.specs.declared.refusal.Refusal.TheVariants.{NoMemory}
+use Rattle.dac_events.specs.declared.world_fault.WorldFault.{WorldFault}
+use Rattle.dac_events.specs.declared.world_fault.WorldFault.TheVariants.{Refused}
 use Rattle.dac_model_node.specs.NodeValue.{NodeValue}
 use Rattle.dac_model_node.specs.ModelNode.{ModelNode, shown}
 use Rattle.dac_model_world.specs.Histories.{Entry, IsHistory, off_after}

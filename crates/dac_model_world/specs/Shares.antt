@@ -10,9 +10,9 @@ use Rattle.dac_events.specs.declared.What.{What}
 use Rattle.dac_events.specs.declared.What.TheVariants.{Ship as Ships, Deliver}
 use Rattle.dac_messages.specs.declared.reply.Reply.{Reply}
 use Rattle.dac_messages.specs.declared.reply.Reply.TheVariants.{Shipped, Heard}
-use Rattle.dac_commands.specs.declared.refusal.Refusal.TheVariants.{UpToDate}
-use Rattle.dac_model_world.specs.declared.fault.WorldFault.{WorldFault}
-use Rattle.dac_model_world.specs.declared.fault.WorldFault.TheVariants.{Refused}
+use Rattle.dac_events.specs.declared.refusal.Refusal.TheVariants.{UpToDate}
+use Rattle.dac_events.specs.declared.world_fault.WorldFault.{WorldFault}
+use Rattle.dac_events.specs.declared.world_fault.WorldFault.TheVariants.{Refused}
 use Rattle.dac_model_world.specs.SetWorld.{SetWorld, NodeSet, set_step, set_run, no_sets}
 use Rattle.dac_model_world.specs.Fits.{RunsIn, IsHeard}
 

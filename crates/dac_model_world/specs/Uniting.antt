@@ -8,7 +8,7 @@ use Rattle.dac_events.specs.declared.What.TheVariants.{Deliver, Hand}
 use Rattle.dac_messages.specs.declared.message.Message.{Message}
 use Rattle.dac_messages.specs.declared.reply.Reply.{Reply}
 use Rattle.dac_messages.specs.declared.reply.Reply.TheVariants.{Shipped, Heard}
-use Rattle.dac_model_world.specs.declared.fault.WorldFault.{WorldFault}
+use Rattle.dac_events.specs.declared.world_fault.WorldFault.{WorldFault}
 use Rattle.dac_model_world.specs.ModelWorld.{counted}
 use Rattle.dac_model_world.specs.SetWorld.{SetWorld, NodeSet, Copy, and_more, is_for, operations_of, set_step}
 

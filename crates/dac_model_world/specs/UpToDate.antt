@@ -7,9 +7,9 @@ use Rattle.dac_meaning.specs.Meaning.{meaning_of, Within}
 use Rattle.dac_events.specs.declared.WorldEvent.{WorldEvent}
 use Rattle.dac_events.specs.declared.What.TheVariants.{Ship as Ships}
 use Rattle.dac_messages.specs.declared.reply.Reply.{Reply}
-use Rattle.dac_commands.specs.declared.refusal.Refusal.TheVariants.{UpToDate}
-use Rattle.dac_model_world.specs.declared.fault.WorldFault.{WorldFault}
-use Rattle.dac_model_world.specs.declared.fault.WorldFault.TheVariants.{Refused}
+use Rattle.dac_events.specs.declared.refusal.Refusal.TheVariants.{UpToDate}
+use Rattle.dac_events.specs.declared.world_fault.WorldFault.{WorldFault}
+use Rattle.dac_events.specs.declared.world_fault.WorldFault.TheVariants.{Refused}
 use Rattle.dac_model_world.specs.SetWorld.{SetWorld, NodeSet, set_step}
 
 -- The sender runs and knows a life of the receiver. Where the receiver runs as the incarnation of that life, it has all

@@ -7,7 +7,4 @@
 //! kept.
 #![tactic(auto)]
 
-pub use fault::WorldFault;
-
-mod fault;
 pub mod laws;

@@ -10,7 +10,7 @@ use Rattle.dac_deltas.specs.Kept.{Kept}
 use Rattle.dac_peers.specs.Peers.{PeersValue, no_peers, coded_peers}
 use Rattle.dac_decide.specs.declared.waits.Noted.{Noted}
 use Rattle.dac_decide.specs.FailoverWait.{coded_noted, waits_of}
-use Rattle.dac_model_node.specs.declared.moments.Moments.{Moments}
+use Rattle.dac_decide.specs.declared.moments.Moments.{Moments}
 use Rattle.dac_model_node.specs.NodeValue.{RunValue, coded_moments}
 use Rattle.dac_model_node.specs.Deeds.{brings}
 use Rattle.dac_model_node.specs.Step.{up}

@@ -1,4 +1,3 @@
 pub mod Knowing
 pub mod After
 pub mod Changes
-pub use Rattle.dac_model_node.specs.dac_commands.Refusals

@@ -30,7 +30,7 @@
 #![tactic(auto)]
 
 pub use change::Change;
-pub use dac_model_node::dac_commands::Refusal;
+pub use dac_events::Refusal;
 pub use node::Node;
 
 mod change;

@@ -32,9 +32,9 @@ module _ {P A S : Type 0} {g : Ghosts Page Page S} where
   published_by (Some w) = record { shown = w.desk.shown.value; ready = last_of (drop w.behind w.log.items) }
 
   -- the writer is here, and it has seen no later place
-  abbrev pub IsReady : Option (Writer Page Page ℕ P A S g) → Type 0
-  IsReady None = ⊥
-  IsReady (Some w) = view w.desk.place ≤ w.desk.shown.value.place
+  abbrev pub IsWriterReady : Option (Writer Page Page ℕ P A S g) → Type 0
+  IsWriterReady None = ⊥
+  IsWriterReady (Some w) = view w.desk.place ≤ w.desk.shown.value.place
 
 module _ {P A : Type 0} where
   abbrev pub IsHere : Option (Reader Page ℕ P A) → Type 0

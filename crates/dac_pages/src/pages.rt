@@ -22,13 +22,13 @@ pub struct Pages {
 }
 
 impl Model for Pages {
-    ghost use Rattle.dac_pages.specs.Published.{PagesValue, IsReady, published_by};
+    ghost use Rattle.dac_pages.specs.Published.{PagesValue, IsWriterReady, published_by};
 
     ghost Value = { PagesValue };
 
     ghost view = { λ s. published_by s.writer };
 
-    ghost invariant = { λ s. IsReady s.writer };
+    ghost invariant = { λ s. IsWriterReady s.writer };
 }
 
 // The place is empty, and the writer goes back.

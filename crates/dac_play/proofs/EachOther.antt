@@ -4,7 +4,7 @@ use Rattle.std.specs.Prelude.{◌≢◌, ◌⊎◌, filter, flat_map, not, ◌==
 use Rattle.std.specs.List.{AllByRecursion, range_with_len}
 use Rattle.std.proofs.lemmas.Bool.{false≢true, eqb-true, eqb-false, eq-eqb}
 use Rattle.dac_base.specs.declared.NodeId.{NodeId}
-use Rattle.dac_play.specs.Pairs.{pairs_of, pairs, In, IsOrdered, IsEarlier, TellsEachOther}
+use Rattle.dac_play.specs.Pairs.{pairs_of, pairs, In, IsOrdered, ComesBefore, TellsEachOther}
 
 -- ---- lists
 In-front : {X : Type 0} (x : X) (xs ys : List X) → In x xs → In x (xs ++ ys)
@@ -98,10 +98,10 @@ pairing from t (to ∷ tos) (inr h) = inr (pairing from t tos h)
 abbrev IsLess : NodeId → NodeId → Type 0
 IsLess n m = n.0 < m.0
 
-paired_ordered : (from : NodeId) (tos : List NodeId) → IsOrdered IsLess tos → IsOrdered IsEarlier (map (λ to. (from, to)) tos)
+paired_ordered : (from : NodeId) (tos : List NodeId) → IsOrdered IsLess tos → IsOrdered ComesBefore (map (λ to. (from, to)) tos)
 paired_ordered from [] o = tt
 paired_ordered from (to ∷ tos) o =
-    (of_each (IsEarlier (from, to)) (map (λ t. (from, t)) tos) (λ p h. let q = paired from p.0 p.1 tos h in inr (sym q.0, of_one (IsLess to) p.1 tos o.0 q.1)), paired_ordered from tos o.1)
+    (of_each (ComesBefore (from, to)) (map (λ t. (from, t)) tos) (λ p h. let q = paired from p.0 p.1 tos h in inr (sym q.0, of_one (IsLess to) p.1 tos o.0 q.1)), paired_ordered from tos o.1)
 
 -- ---- all pairs
 module _ (nodes : List NodeId) where
@@ -120,10 +120,10 @@ module _ (nodes : List NodeId) where
       (subst (λ n. In (f, t) (pairs_of nodes n)) e (pairing f t (filter (λ to. not (to.0 == f.0)) nodes) (kept (λ to. not (to.0 == f.0)) t nodes k (is_other f t apart))))
   in_pairs f t (from ∷ froms) (inr h) k apart = In-back (f, t) (pairs_of nodes from) (flat_map (pairs_of nodes) froms) (in_pairs f t froms h k apart)
 
-  pairs_ordered : (froms : List NodeId) → IsOrdered IsLess nodes → IsOrdered IsLess froms → IsOrdered IsEarlier (flat_map (pairs_of nodes) froms)
+  pairs_ordered : (froms : List NodeId) → IsOrdered IsLess nodes → IsOrdered IsLess froms → IsOrdered ComesBefore (flat_map (pairs_of nodes) froms)
   pairs_ordered [] all o = tt
   pairs_ordered (from ∷ froms) all o =
-      IsOrdered-append IsEarlier (pairs_of nodes from) (flat_map (pairs_of nodes) froms)
+      IsOrdered-append ComesBefore (pairs_of nodes from) (flat_map (pairs_of nodes) froms)
       (paired_ordered from (filter (λ to. not (to.0 == from.0)) nodes) (IsOrdered-filter IsLess (λ to. not (to.0 == from.0)) nodes all))
       (pairs_ordered froms all o.1)
       (λ p q h k.

@@ -22,11 +22,11 @@ IsOrdered Before [] = Unit {0}
 IsOrdered Before (x ∷ xs) = AllByRecursion (Before x) xs × IsOrdered Before xs
 
 -- a pair comes before another one: by the node that tells, and then by the one that is told
-abbrev pub IsEarlier : NodeId × NodeId → NodeId × NodeId → Type 0
-IsEarlier pair other = (pair.0.0 < other.0.0) ⊎ ((pair.0 ≡ other.0) × (pair.1.0 < other.1.0))
+abbrev pub ComesBefore : NodeId × NodeId → NodeId × NodeId → Type 0
+ComesBefore pair other = (pair.0.0 < other.0.0) ⊎ ((pair.0 ≡ other.0) × (pair.1.0 < other.1.0))
 
 -- Each node that runs tells each other one that runs, and no other does, each once. They do so in the order of their
 -- numbers, which is that of their names.
 pub record TellsEachOther (Runs : NodeId → Type 0) (pairs : List (NodeId × NodeId)) : Type 0 where
   pub each : (from to : NodeId) → In (from, to) pairs ↔ (Runs from × (Runs to × (from ≢ to)))
-  pub ordered : IsOrdered IsEarlier pairs
+  pub ordered : IsOrdered ComesBefore pairs

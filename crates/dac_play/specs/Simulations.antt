@@ -4,7 +4,7 @@ use Rattle.std.specs.Io.KnownBytes.{Appends}
 use Rattle.dac_config.specs.Table.{Table}
 use Rattle.dac_core.specs.ModelWorld.{start}
 use Rattle.dac_script.specs.declared.line.ScriptLine.{ScriptLine}
-use Rattle.dac_script.specs.Inputs.{Says, IsFailureOf}
+use Rattle.dac_script.specs.Inputs.{SaysScript, IsFailureOf}
 use Rattle.dac_play.specs.declared.ending.Ending.{Ending}
 use Rattle.dac_play.specs.Endings.{Ends}
 use Rattle.dac_play.specs.Play.{script_text}
@@ -14,7 +14,7 @@ use Rattle.dac_play.specs.Runs.{PlaysRuns}
 pub record IsSimulated (bytes : List ℕ) (old new : Option (List ℕ)) : Type 0 where
   pub table : Table
   pub lines : List ScriptLine
-  pub says : Says bytes table lines
+  pub says : SaysScript bytes table lines
   pub printed : Appends old new (script_text table (start table) lines)
   pub runs : PlaysRuns table lines
 

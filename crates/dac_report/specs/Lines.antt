@@ -4,7 +4,7 @@ use Rattle.std.specs.Global.{Vec}
 use Rattle.std.specs.List.{AllZip}
 use Rattle.dac_messages.specs.declared.event.Event.{Event}
 use Rattle.dac_messages.specs.declared.reply.Reply.{Reply}
-use Rattle.dac_commands.specs.declared.refusal.Refusal.{Refusal}
+use Rattle.dac_events.specs.declared.refusal.Refusal.{Refusal}
 use Rattle.dac_run.specs.Record.{Record}
 use Rattle.dac_run.specs.Journals.{JournalValue}
 use Rattle.dac_run.specs.Compared.{found}

@@ -1,6 +1,6 @@
 //! What a run reports.
 
-use dac_commands::Refusal;
+use dac_events::Refusal;
 use dac_messages::Reply;
 use dac_run::{Closed, Page};
 

@@ -48,7 +48,7 @@ IsPartsFailure text (failure.Script fault) = HasScriptFault text fault
 IsPartsFailure text failure.NoMemory = Unit {0}
 
 -- an input isn't too long, and says this configuration and this script
-pub record Says (bytes : List ℕ) (table : Table) (lines : List ScriptLine) : Type 0 where
+pub record SaysScript (bytes : List ℕ) (table : Table) (lines : List ScriptLine) : Type 0 where
   pub taken : IsTaken bytes
   pub parts : HasParts bytes table lines
 

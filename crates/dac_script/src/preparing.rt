@@ -3,7 +3,7 @@
 ghost use Rattle.std.specs.Prelude.{◌≡◌, IfOk, IfErr, IfSome, All};
 ghost use Rattle.dac_config.specs.Table.{node_count};
 ghost use Rattle.dac_script.specs.Line.{HasActors};
-ghost use Rattle.dac_script.specs.Inputs.{HasParts, IsPartsFailure, Says, IsFailureOf};
+ghost use Rattle.dac_script.specs.Inputs.{HasParts, IsPartsFailure, SaysScript, IsFailureOf};
 ghost use Rattle.dac_script.specs.Input.{IsReadWithinBound};
 ghost use Rattle.dac_script.specs.Sources.{IsReadBy};
 
@@ -37,7 +37,7 @@ pub fn prepare<R: Read>(
     alloc: Global,
     source: &mut Source<'_, R>,
 ) -> Result<(Config, Vec<ScriptLine>), Failure>
-    ensures says { IfOk result (λ both. IfSome source.old.left (λ bytes. Says bytes both.0 both.1.items)) }
+    ensures says { IfOk result (λ both. IfSome source.old.left (λ bytes. SaysScript bytes both.0 both.1.items)) }
     ensures actors { IfOk result (λ both. All (HasActors (node_count both.0)) both.1.items) }
     ensures fails { IfErr result (λ why. IfSome source.old.left (λ bytes. IsFailureOf bytes why)) }
     ensures reads { IsReadBy result source.new }

@@ -12,7 +12,7 @@ use Rattle.dac_events.specs.declared.What.TheVariants.{Tick as Ticks}
 use Rattle.dac_messages.specs.declared.reply.Reply.{Reply}
 use Rattle.dac_messages.specs.declared.reply.Reply.TheVariants.{Ticked, Shipped, Heard}
 use Rattle.dac_model_world.specs.ModelNode.{ModelRun}
-use Rattle.dac_model_world.specs.declared.fault.WorldFault.{WorldFault}
+use Rattle.dac_events.specs.declared.world_fault.WorldFault.{WorldFault}
 use Rattle.dac_model_world.specs.WorldValue.{WorldValue}
 use Rattle.dac_model_world.specs.ModelWorld.{ModelWorld, AnsweredAs, start, went, world_after}
 use Rattle.dac_model_world.specs.SetWorld.{NodeSet, SetWorld, no_sets, set_run}

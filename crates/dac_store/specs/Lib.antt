@@ -5,5 +5,7 @@ pub mod DotFuns
 pub mod DotMaps
 pub mod Appending
 pub mod Few
+pub mod FewEntries
 pub mod Keeping
 pub mod SameDots
+pub mod laws

@@ -16,12 +16,12 @@ use dac_base::{AppId, NoMemory, NodeId};
 use dac_chains::How;
 use dac_commands::{claim, terms_used_up};
 use dac_config::Config;
-use dac_decide::{Verdict, Waits, verdict};
+use dac_decide::Waits;
 use dac_dots::Origin;
 use dac_lattice::Lattice;
 use dac_messages::{AppList, OpList};
 use dac_operations::Op;
-use dac_placement::{State, eligible, holder};
+use dac_placement::{State, Verdict, eligible, holder, verdict};
 use std::alloc::Global;
 
 /// What a controller does at a tick.

@@ -9,7 +9,7 @@ use Rattle.std.proofs.lemmas.Bool.{cases_lt}
 use Rattle.dac_base.specs.declared.NodeId.{NodeId}
 use Rattle.dac_config.specs.Table.{Table}
 use Rattle.dac_messages.specs.declared.reply.Reply.{Reply}
-use Rattle.dac_commands.specs.declared.refusal.Refusal.{Refusal}
+use Rattle.dac_events.specs.declared.refusal.Refusal.{Refusal}
 use Rattle.dac_messages.specs.declared.message.Message.{Message}
 use Rattle.dac_operations.specs.Operations.{Operation}
 use Rattle.dac_events.specs.declared.WorldEvent.{WorldEvent}
@@ -24,7 +24,7 @@ use Rattle.dac_weave.specs.Woven.{Seen, seen_of, seen_in, as_seen, told, worldly
 use Rattle.dac_weave.specs.Replay.{node_step, replayed, AreAnswered}
 use Rattle.dac_journal.specs.EveryList.{run_from}
 use Rattle.dac_weave.specs.Names.{Begins, issued_in, shipped_in}
-use Rattle.dac_weave.specs.Placing.{IsStrand, Fits, Weaves, IsReady, IsStill, StillBetween, AllStill, Places, PlacesRecord, longer, IsLeft, IsLeftAt, AllWhole}
+use Rattle.dac_weave.specs.Placing.{IsStrand, HaveStrands, Weaves, CanBePlaced, IsStill, StillBetween, AllStill, Places, PlacesRecord, longer, IsLeft, IsLeftAt, AllWhole}
 use Rattle.dac_weave.specs.laws.Members.{not_true}
 use Rattle.dac_weave.specs.laws.Runs.{eq_self, node-after, count-after, seen-append, run-append, steps_node, grows, shipped_of, issued_of}
 use Rattle.dac_weave.proofs.Replays.{take-push, told-at, so_far}
@@ -99,7 +99,7 @@ weaves-new t js l zip empty = record {
   messages = empty.messages ∙ ap (λ es. (run_from t (start t) es).messages) (sym empty.events);
 }
 
-pub fits-weaves : (t : Table) (js : List JournalValue) (l : Loom) → Weaves t js l → Fits js l.strands.items
+pub fits-weaves : (t : Table) (js : List JournalValue) (l : Loom) → Weaves t js l → HaveStrands js l.strands.items
 fits-weaves t js l w = record { count = w.count; within = λ i j s at sat. (w.strands i j s at sat).longest.within }
 
 -- ---- placing one
@@ -124,7 +124,7 @@ shipped-worldly : (a : Result Reply Refusal) → shipped_of (worldly a) ≡ ship
 shipped-worldly (Ok x) = refl
 shipped-worldly (Err x) = refl
 
-module _ (t : Table) (js : List JournalValue) (old : Loom) (i : ℕ) (what : What) (w : Weaves t js old) (fit : AllFit js) (ready : IsReady js old i what) where
+module _ (t : Table) (js : List JournalValue) (old : Loom) (i : ℕ) (what : What) (w : Weaves t js old) (fit : AllFit js) (ready : CanBePlaced js old i what) where
   abbrev world : ModelWorld
   world = run_from t (start t) old.events.items
 
@@ -249,7 +249,7 @@ unplaced-set (k ∷ js) (r ∷ ss) zero j s at sat lt =
     less m n a b u e f lt = omega arith
 unplaced-set (k ∷ js) (r ∷ ss) (suc i) j s at sat lt = let h = unplaced-set js ss i j s at sat lt in omega arith
 
-pub unplaced-place : (t : Table) (js : List JournalValue) (old : Loom) (i : ℕ) (what : What) (new : Loom) → Weaves t js old → IsReady js old i what → Places js old i what new → unplaced js new.strands.items < unplaced js old.strands.items
+pub unplaced-place : (t : Table) (js : List JournalValue) (old : Loom) (i : ℕ) (what : What) (new : Loom) → Weaves t js old → CanBePlaced js old i what → Places js old i what new → unplaced js new.strands.items < unplaced js old.strands.items
 unplaced-place t js old i what new w ready placed =
     subst (λ ss. unplaced js ss < unplaced js old.strands.items) (sym (placed.each ready.journal ready.strand ready.next ready.at ready.strand_at ready.next_at).strands)
     (unplaced-set js old.strands.items i ready.journal ready.strand ready.at ready.strand_at within)

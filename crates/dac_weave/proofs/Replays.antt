@@ -11,7 +11,7 @@ use Rattle.dac_config.specs.Table.{Table, node_count}
 use Rattle.dac_journal.specs.NodeValue.{NodeValue}
 use Rattle.dac_messages.specs.declared.event.Event.{Event}
 use Rattle.dac_messages.specs.declared.reply.Reply.{Reply}
-use Rattle.dac_commands.specs.declared.refusal.Refusal.{Refusal}
+use Rattle.dac_events.specs.declared.refusal.Refusal.{Refusal}
 use Rattle.dac_journal.specs.WorldFault.TheVariants.{NoSuchNode}
 use Rattle.dac_journal.specs.ModelNode.{ModelNode, shown}
 use Rattle.dac_journal.specs.Step.{model_step, Steps}

@@ -19,7 +19,7 @@ pub record IsStrand (t : Table) (j : JournalValue) (s : Strand) : Type 0 where
   pub longest : IsLongest t j s.good
 
 -- there is a strand for each journal, and no strand is longer than its journal
-pub record Fits (js : List JournalValue) (ss : List Strand) : Type 0 where
+pub record HaveStrands (js : List JournalValue) (ss : List Strand) : Type 0 where
   pub count : length ss ≡ length js
   pub within : (i : ℕ) (j : JournalValue) (s : Strand) → At js i j → At ss i s → s.good ≤ length j.records
 
@@ -33,7 +33,7 @@ pub record Weaves (t : Table) (js : List JournalValue) (l : Loom) : Type 0 where
   pub messages : l.messages ≡ (run_from t (start t) l.events.items).messages
 
 -- the next record of the i-th journal can be placed, by this event of the world
-pub record IsReady (js : List JournalValue) (l : Loom) (i : ℕ) (what : What) : Type 0 where
+pub record CanBePlaced (js : List JournalValue) (l : Loom) (i : ℕ) (what : What) : Type 0 where
   pub journal : JournalValue
   pub strand : Strand
   pub next : Record

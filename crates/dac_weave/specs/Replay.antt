@@ -4,7 +4,7 @@ use Rattle.dac_base.specs.declared.NodeId.{NodeId}
 use Rattle.dac_config.specs.Table.{Table, node_count}
 use Rattle.dac_messages.specs.declared.event.Event.{Event}
 use Rattle.dac_messages.specs.declared.reply.Reply.{Reply}
-use Rattle.dac_commands.specs.declared.refusal.Refusal.{Refusal}
+use Rattle.dac_events.specs.declared.refusal.Refusal.{Refusal}
 use Rattle.dac_journal.specs.WorldFault.{WorldFault}
 use Rattle.dac_journal.specs.WorldFault.TheVariants.{NoSuchNode, Refused}
 use Rattle.dac_journal.specs.NodeValue.{NodeValue}

@@ -84,7 +84,7 @@ impl<'a> Loom<'a> {
     ghost use Rattle.std.specs.Prelude.{ℕ, ◌<◌, ◌≤◌, IfOk, OnOk, MatchOption, length};
     ghost use Rattle.dac_journal.specs.Journals.{JournalValue};
     ghost use Rattle.dac_weave.specs.Woven.{AllFit, IsFirst};
-    ghost use Rattle.dac_weave.specs.Placing.{Fits, Weaves, IsReady, IsStill, AllStill, StillBetween, Places, IsLeft, IsLeftAt, AllWhole};
+    ghost use Rattle.dac_weave.specs.Placing.{HaveStrands, Weaves, CanBePlaced, IsStill, AllStill, StillBetween, Places, IsLeft, IsLeftAt, AllWhole};
 
     /// Nothing placed.
     pub(crate) fn new(
@@ -108,9 +108,9 @@ impl<'a> Loom<'a> {
 
     /// The event of the world that places the next record of a journal, if it can be placed.
     fn ready(&self, journals: &[Closed], i: usize) -> Option<What>
-        requires fits { Fits journals.now self.now.strands.items }
+        requires fits { HaveStrands journals.now self.now.strands.items }
         requires within { i < length journals.now }
-        ensures { MatchOption result (IsStill journals.now self.now i) (IsReady journals.now self.now i) }
+        ensures { MatchOption result (IsStill journals.now self.now i) (CanBePlaced journals.now self.now i) }
     {
         let strand = &self.strands[i];
         let records = journals[i].records();
@@ -127,9 +127,9 @@ impl<'a> Loom<'a> {
 
     /// A journal between two places whose next record can be placed, with the event of the world that places it.
     fn find_between(&self, journals: &[Closed], low: usize, high: usize) -> Option<(usize, What)>
-        requires fits { Fits journals.now self.now.strands.items }
+        requires fits { HaveStrands journals.now self.now.strands.items }
         requires within { high ≤ length journals.now }
-        ensures { MatchOption result (StillBetween journals.now self.now low high) (λ found. (found.0 < length journals.now) × IsReady journals.now self.now found.0 found.1) }
+        ensures { MatchOption result (StillBetween journals.now self.now low high) (λ found. (found.0 < length journals.now) × CanBePlaced journals.now self.now found.0 found.1) }
     {
         for i in low..high {
             match self.ready(journals, i) {
@@ -143,9 +143,9 @@ impl<'a> Loom<'a> {
     /// A journal whose next record can be placed, with the event of the world that places it. It is sought from this
     /// one on, and then from the first one on.
     fn find(&self, journals: &[Closed], from: usize) -> Option<(usize, What)>
-        requires fits { Fits journals.now self.now.strands.items }
+        requires fits { HaveStrands journals.now self.now.strands.items }
         requires within { from ≤ length journals.now }
-        ensures { MatchOption result (AllStill journals.now self.now) (λ found. (found.0 < length journals.now) × IsReady journals.now self.now found.0 found.1) }
+        ensures { MatchOption result (AllStill journals.now self.now) (λ found. (found.0 < length journals.now) × CanBePlaced journals.now self.now found.0 found.1) }
     {
         match self.find_between(journals, from, journals.len()) {
             Some(found) => Some(found),
@@ -155,9 +155,9 @@ impl<'a> Loom<'a> {
 
     /// Places the next record of a journal.
     fn place(&mut self, journals: &'a [Closed], i: usize, what: What) -> Result<(), NoMemory>
-        requires fits { Fits journals.now self.old.strands.items }
+        requires fits { HaveStrands journals.now self.old.strands.items }
         requires within { i < length journals.now }
-        requires ready { IsReady journals.now self.old i what }
+        requires ready { CanBePlaced journals.now self.old i what }
         ensures { OnOk result (Places journals.now self.old i what self.new) }
     {
         let journal = &journals[i];
@@ -204,7 +204,7 @@ impl<'a> Loom<'a> {
 
     /// The node of the least-named journal that isn't placed whole, and the place of its first record that isn't.
     pub(crate) fn first_left(&self, journals: &[Closed]) -> Option<(NodeId, u64)>
-        requires { Fits journals.now self.now.strands.items }
+        requires { HaveStrands journals.now self.now.strands.items }
         ensures { MatchOption result (AllWhole journals.now self.now.strands.items) (λ found. IsLeftAt journals.now self.now.strands.items found.0 found.1) }
     {
         match self.left(journals) {

@@ -4,8 +4,8 @@ ghost use Rattle.std.specs.Prelude.{◌≡◌, ◌↔◌, ◌≢◌, true, false
 ghost use Rattle.dac_weave.specs.Replay.{IsLongest, Repeats};
 
 use dac_base::{NoMemory, NodeId};
-use dac_commands::Refusal;
 use dac_config::Config;
+use dac_events::Refusal;
 use dac_journal::{Answer, Closed, Node, Record};
 use dac_messages::Reply;
 use std::alloc::Global;

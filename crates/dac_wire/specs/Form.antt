@@ -46,10 +46,10 @@ IsAck version nodes None = Unit {0}
 IsAck version nodes (Some ack) = IsOrigin version nodes ack.0 × (ack.1 ≤ MAX_COUNTER)
 
 -- the state that it brings, if any, is in form
-abbrev pub IsBody : Version → Table → Body → Type 0
-IsBody version t (Whole s) = IsInForm version t s
-IsBody version t (Interval s) = IsInForm version t s
-IsBody version t Nothing = Unit {0}
+abbrev pub IsBodyInForm : Version → Table → Body → Type 0
+IsBodyInForm version t (Whole s) = IsInForm version t s
+IsBodyInForm version t (Interval s) = IsInForm version t s
+IsBodyInForm version t Nothing = Unit {0}
 
 -- a message that can be read
 pub record IsMessage (version : Version) (t : Table) (m : Message) : Type 0 where
@@ -61,7 +61,7 @@ pub record IsMessage (version : Version) (t : Table) (m : Message) : Type 0 wher
   -- a number of deltas that there can be
   pub up_to : m.up_to ≤ MAX_COUNTER
   pub ack : IsAck version (node_count t) m.ack
-  pub body : IsBody version t m.body
+  pub body : IsBodyInForm version t m.body
 
 -- ---- operations
 
@@ -72,7 +72,7 @@ pub record AreOver (version : Version) (nodes : ℕ) (over : List Dot) : Type 0 
   pub count : length over < 2 ^ 16
 
 -- a claim by a node in the application's list
-pub record IsClaim (t : Table) (issuer : NodeId) (claimed : AppId) (number : ℕ) (how : How) (taken : Option NodeId) : Type 0 where
+pub record IsClaimInForm (t : Table) (issuer : NodeId) (claimed : AppId) (number : ℕ) (how : How) (taken : Option NodeId) : Type 0 where
   -- there is such an application
   pub app : claimed.0 < app_count t
   -- its term is one that can be issued
@@ -91,7 +91,7 @@ IsAct version t issuer (Permit key value over) = IsKey version t key × AreOver 
 IsAct version t issuer (Start key over) = IsKey version t key × AreOver version (node_count t) over
 IsAct version t issuer (Stop key over) = IsKey version t key × AreOver version (node_count t) over
 IsAct version t issuer (Drain node inc value over) = IsOrigin version (node_count t) (origin node inc) × AreOver version (node_count t) over
-IsAct version t issuer (Claim app term how from) = IsClaim t issuer app term how from
+IsAct version t issuer (Claim app term how from) = IsClaimInForm t issuer app term how from
 
 -- an operation that can be read
 pub record IsOperation (version : Version) (t : Table) (o : Operation) : Type 0 where

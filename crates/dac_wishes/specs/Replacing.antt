@@ -1,18 +1,18 @@
 -- Operations that replace dots: which dots they name, and which of their writes stand. A set of operations is given as a list; order and repeats don't matter.
 use Rattle.std.specs.Prelude.{◌≡◌, Bool, true, false, ◌||◌, List, [], ◌∷◌, refl}
-use Rattle.std.proofs.Common.{sym, ap, subst, ◌∙◌, inl, inr}
+use Rattle.std.proofs.Common.{ap, ◌∙◌, inl}
 use Rattle.std.specs.List.{list_any}
 use Rattle.std.specs.FinSet as set
-use Rattle.std.proofs.lemmas.Bool.{false≢true, or_cases, or_left, or_right}
 use Rattle.dac_dots.specs.declared.dot.Dot.{Dot}
-use Rattle.dac_dots.specs.Dots.{Dots, dot_cmp, dots_total}
+use Rattle.dac_dots.specs.Dots.{Dots, dot_cmp}
+use Rattle.dac_dots.specs.laws.Dots.{dots_total}
 use Rattle.dac_dots.specs.Keys.{has_key}
-use Rattle.dac_lattice.specs.Pieces.{In, AreOperations}
+use Rattle.dac_lattice.specs.Pieces.{AreOperations}
 use Rattle.dac_wishes.specs.Writes.{same_dot, same_dot_is}
 
 -- the operation has this dot
-abbrev pub has_dot : {A : Type 0} → Dot → Dot × A → Bool
-has_dot x o = same_dot x o.0
+abbrev pub is_under : {A : Type 0} → Dot → Dot × A → Bool
+is_under x o = same_dot x o.0
 
 module _ {A : Type 0} (over : A → List Dot) where
   -- the operation replaces this dot
@@ -25,7 +25,7 @@ module _ {A : Type 0} (over : A → List Dot) where
 
   -- the operation has this dot, or replaces it
   abbrev pub names : Dot → Dot × A → Bool
-  names x o = has_dot x o || replaces x o
+  names x o = is_under x o || replaces x o
 
   -- an act doesn't replace the dot that it has
   abbrev pub SparesItself : Dot → A → Type 0
@@ -58,9 +58,9 @@ module _ {A : Type 0} (over : A → List Dot) where
       ∙ or_turn (list_any (names x) os) (names x o)
 
   -- what is named is replaced, or the dot of one
-  pub names-or : (x : Dot) (os : List (Dot × A)) → list_any (names x) os ≡ (is_replaced x os || list_any (has_dot x) os)
+  pub names-or : (x : Dot) (os : List (Dot × A)) → list_any (names x) os ≡ (is_replaced x os || list_any (is_under x) os)
   names-or x [] = refl
-  names-or x (o ∷ os) = ap (λ b. (has_dot x o || replaces x o) || b) (names-or x os) ∙ regroup (has_dot x o) (replaces x o) (is_replaced x os) (list_any (has_dot x) os)
+  names-or x (o ∷ os) = ap (λ b. (is_under x o || replaces x o) || b) (names-or x os) ∙ regroup (is_under x o) (replaces x o) (is_replaced x os) (list_any (is_under x) os)
     where
       regroup : (a b c e : Bool) → ((a || b) || (c || e)) ≡ ((b || c) || (a || e))
       regroup true true c e = refl
@@ -71,26 +71,5 @@ module _ {A : Type 0} (over : A → List Dot) where
       regroup false false false e = refl
 
   -- an operation spares its own dot
-  pub spares : (os : List (Dot × A)) (o : Dot × A) → AreOperations SparesItself (o ∷ os) → (x : Dot) → has_dot x o ≡ true → replaces x o ≡ false
+  pub spares : (os : List (Dot × A)) (o : Dot × A) → AreOperations SparesItself (o ∷ os) → (x : Dot) → is_under x o ≡ true → replaces x o ≡ false
   spares os o h x e = ap (has_key dot_cmp (over o.1)) (same_dot_is x o.0 e) ∙ h.fit o (inl refl)
-
--- what a test finds is one of the operations
-pub found : {A : Type 0} (p : Dot × A → Bool) (os : List (Dot × A)) → list_any p os ≡ true → (o : Dot × A) × (In o os × (p o ≡ true))
-found p [] h = absurd (false≢true h)
-found p (o ∷ os) h = elim (or_cases (p o) (list_any p os) h) [
-  | inl t ↦ (o, (inl refl, t))
-  | inr r ↦ let f = found p os r in (f.0, (inr f.1.0, f.1.1))
-]
-
--- a test that one of the operations passes finds one
-pub finds : {A : Type 0} (p : Dot × A → Bool) (os : List (Dot × A)) (o : Dot × A) → In o os → p o ≡ true → list_any p os ≡ true
-finds p [] o h t = absurd h
-finds p (x ∷ os) o (inl e) t = or_left (p x) (list_any p os) (ap p (sym e) ∙ t)
-finds p (x ∷ os) o (inr h) t = or_right (p x) (list_any p os) (finds p os o h t)
-
--- an operation whose dot the others have is one of them
-pub again : {A : Type 0} (fits : Dot → A → Type 0) (os : List (Dot × A)) (o : Dot × A) → AreOperations fits (o ∷ os) → (x : Dot) → has_dot x o ≡ true → list_any (has_dot x) os ≡ true → In o os
-again fits os o h x e there =
-    let p = found (has_dot x) os there in
-    let same : o ≡ p.0 = h.agree o p.0 (inl refl) (inr p.1.0) (sym (same_dot_is x o.0 e) ∙ same_dot_is x p.0.0 p.1.1) in
-    subst (λ q. In q os) (sym same) p.1.0

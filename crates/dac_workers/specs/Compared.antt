@@ -6,7 +6,7 @@ use Rattle.dac_messages.specs.declared.event.Event.TheVariants as event
 use Rattle.dac_messages.specs.declared.message.Message.{Message}
 use Rattle.dac_messages.specs.declared.reply.Reply.{Reply}
 use Rattle.dac_messages.specs.declared.reply.Reply.TheVariants as reply
-use Rattle.dac_commands.specs.declared.refusal.Refusal.{Refusal}
+use Rattle.dac_events.specs.declared.refusal.Refusal.{Refusal}
 use Rattle.dac_live.specs.Record.{Record}
 
 -- in front of these, if there is one

@@ -3,10 +3,9 @@ ghost use Rattle.dac_live.specs.Sites.{IsBlankOf};
 
 use crate::sites::{EXAMPLE, closed_with_none};
 use dac_base::{AppId, NodeId};
-use dac_commands::Refusal;
 use dac_config::read_config;
 use dac_dots::{Dot, Origin};
-use dac_events::Command;
+use dac_events::{Command, Refusal};
 use dac_live::{
     Closed, LiveFault, PageReader, Receipt, Seat, Site, SiteBlank, SiteName, blank_site, open_site,
 };

@@ -1,5 +1,5 @@
 //! Where a seat's calls and its records first differ.
-use dac_commands::Refusal;
+use dac_events::Refusal;
 use dac_live::laws::same_calls;
 use dac_live::{Answer, Call, Record};
 use dac_messages::{Event, Reply};

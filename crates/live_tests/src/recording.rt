@@ -1,7 +1,7 @@
 //! Records of a journal that is lent.
 use dac_base::NodeId;
-use dac_commands::Refusal;
 use dac_config::read_config;
+use dac_events::Refusal;
 use dac_live::blank_site;
 use dac_live::laws::add_record;
 use dac_messages::{Event, Reply};

@@ -3,9 +3,9 @@ ghost use Rattle.std.specs.Prelude.{◌≡◌};
 ghost use Rattle.dac_live.specs.Sites.{IsBlankOf};
 
 use dac_base::NodeId;
-use dac_commands::Refusal;
 use dac_config::read_config;
 use dac_dots::Origin;
+use dac_events::Refusal;
 use dac_live::{
     CloseFault, Closed, LiveFault, OpenFault, PageReader, Receipt, Record, Seat, Site, SiteBlank,
     SiteName, blank_site, open_site,

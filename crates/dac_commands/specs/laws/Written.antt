@@ -4,24 +4,25 @@ use Rattle.std.specs.Prelude.{is_some, unwrap_or}
 use Rattle.dac_base.specs.declared.NodeId.{NodeId}
 use Rattle.dac_base.specs.declared.AppId.{AppId}
 use Rattle.dac_dots.specs.declared.dot.Origin.{Origin}
-use Rattle.dac_dots.specs.Dots.{dots_total, exact_dots}
-use Rattle.dac_dots.specs.InOrder.{has_key-in_order}
+use Rattle.dac_dots.specs.laws.Dots.{dots_total, exact_dots}
+use Rattle.dac_dots.specs.laws.InOrder.{has_key-in_order}
 use Rattle.dac_chains.specs.Lives.{IsLive}
 use Rattle.dac_chains.specs.laws.Live.{live_is}
 use Rattle.dac_chains.specs.declared.claims.How.TheVariants.{Takeover as TakenOver}
 use Rattle.dac_wishes.specs.declared.key.Key.{Key}
-use Rattle.dac_wishes.specs.Writes.{dots_at, contains-dots_at}
+use Rattle.dac_wishes.specs.Writes.{dots_at}
+use Rattle.dac_wishes.specs.laws.Writes.{contains-dots_at}
 use Rattle.dac_placement.specs.StateValue.{StateValue}
 use Rattle.dac_config.specs.Table.{Table}
 use Rattle.dac_placement.specs.Placement.{runner_of}
 use Rattle.dac_placement.specs.laws.Tests.{runner_is}
 use Rattle.dac_events.specs.declared.Command.{Command}
 use Rattle.dac_events.specs.declared.Command.TheVariants.{Down, Permit, Start, Stop, Drain, Takeover}
-use Rattle.dac_commands.specs.declared.refusal.Refusal.{Refusal}
-use Rattle.dac_commands.specs.declared.refusal.Refusal.TheVariants.{DeclaredDown}
+use Rattle.dac_events.specs.declared.refusal.Refusal.{Refusal}
+use Rattle.dac_events.specs.declared.refusal.Refusal.TheVariants.{DeclaredDown}
 use Rattle.dac_commands.specs.Commands.{live, live_or_none, live_key, live_origin, standing_starts, standing_permits, standing_drains, claim_act, act_of}
 use Rattle.dac_commands.specs.Causes.{first, causes_of, refusal_of_command, declared_down, not_live, terms_used_up, used_up}
-use Rattle.dac_commands.specs.Written.{IsKeyAt, StartStands, PermitStands, DrainStands, AreThose, TakesOver, Says, WritesWhatIsSaid}
+use Rattle.dac_commands.specs.Written.{IsKeyAt, StartStands, PermitStands, DrainStands, AreThose, TakesOver, SaysCommand, WritesWhatIsSaid}
 use Rattle.dac_commands.specs.laws.Counters.{next_of_is}
 use Rattle.dac_commands.specs.laws.Standing.{permits_at-has, drains_at-has}
 use Rattle.dac_commands.specs.laws.Terms.{next_claim_is}
@@ -89,7 +90,7 @@ module _ (t : Table) (own : Origin) (s : StateValue) where
       by_runner None e p = absurd (true≢false p)
       by_runner (Some n) e p = record { runner = n; runs = (runner_is t s app n).0 e; claims = next_claim_is s app TakenOver (Some n) terms }
 
-  says : (c : Command) → refusal_of_command t own s c ≡ None → Says t s c (act_of t s c)
+  says : (c : Command) → refusal_of_command t own s c ≡ None → SaysCommand t s c (act_of t s c)
   says (Down node) e = (live_or_none s node, (refl, live_there node (none_is (all_causes t own s (Down node)) e).1.1.1.0))
   says (Permit app node value) e =
       let live = (none_is (all_causes t own s (Permit app node value)) e).1.1.1.1.0 in

@@ -2,7 +2,7 @@
 use Rattle.std.proofs.Common.{◌≡◌, ℕ, List, [], ◌∷◌, ◌++◌, map, Result, refl, sym, ap, subst}
 use Rattle.dac_messages.specs.declared.reply.Reply.{Reply}
 use Rattle.dac_messages.specs.declared.event.Event.{Event}
-use Rattle.dac_commands.specs.declared.refusal.Refusal.{Refusal}
+use Rattle.dac_events.specs.declared.refusal.Refusal.{Refusal}
 use Rattle.dac_model_world.specs.NodeValue.{NodeValue}
 use Rattle.dac_model_world.specs.Step.{Steps, model_step}
 use Rattle.dac_model_world.specs.Histories.{Entry, IsHistory, off_after}

@@ -20,8 +20,8 @@ use Rattle.dac_decide.specs.FailoverWait.{Note, waits_of}
 use Rattle.dac_messages.specs.declared.event.Event.TheVariants.{Tick}
 use Rattle.dac_messages.specs.declared.reply.Reply.{Reply}
 use Rattle.dac_messages.specs.declared.reply.Reply.TheVariants.{Ticked}
-use Rattle.dac_commands.specs.declared.refusal.Refusal.{Refusal}
-use Rattle.dac_commands.specs.declared.refusal.Refusal.TheVariants.{DeclaredDown, MomentBack, DotsUsedUp}
+use Rattle.dac_events.specs.declared.refusal.Refusal.{Refusal}
+use Rattle.dac_events.specs.declared.refusal.Refusal.TheVariants.{DeclaredDown, MomentBack, DotsUsedUp}
 use Rattle.dac_commands.specs.Commands.{next_operation}
 use Rattle.dac_commands.specs.Causes.{first as first_cause, declared_down}
 use Rattle.dac_commands.specs.laws.Written.{none_is}

@@ -14,7 +14,7 @@ use Rattle.dac_messages.specs.declared.event.Event.{Event}
 use Rattle.dac_messages.specs.declared.event.Event.TheVariants.{Boot, Crash, Command as Told, Tick, Ship, Hear, HearOp}
 use Rattle.dac_messages.specs.declared.reply.Reply.{Reply}
 use Rattle.dac_messages.specs.declared.reply.Reply.TheVariants.{Shipped}
-use Rattle.dac_commands.specs.declared.refusal.Refusal.{Refusal}
+use Rattle.dac_events.specs.declared.refusal.Refusal.{Refusal}
 use Rattle.dac_model_node.specs.NodeValue.{NodeValue, RunValue}
 use Rattle.dac_model_node.specs.ModelNode.{ModelRun, joined, run_shown}
 use Rattle.dac_model_node.specs.EventRefusals.{refusal_to_ship}

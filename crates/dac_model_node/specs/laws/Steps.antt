@@ -8,7 +8,8 @@ use Rattle.dac_base.specs.declared.NodeId.{NodeId}
 use Rattle.dac_config.specs.Table.{Table}
 use Rattle.dac_meaning.specs.StateValue.{StateValue, bottom, join}
 use Rattle.dac_deltas.specs.Kept.{pushed, trimmed}
-use Rattle.dac_deltas.specs.Logs.{kept_of, pushes_append_all, trims_move_the_base}
+use Rattle.dac_deltas.specs.Logs.{kept_of}
+use Rattle.dac_deltas.specs.laws.Logs.{pushes_append_all, trims_move_the_base}
 use Rattle.dac_peers.specs.Peers.{PeersValue}
 use Rattle.dac_decide.specs.declared.start_gate.Opening.{Opening}
 use Rattle.dac_decide.specs.declared.start_gate.Opening.TheVariants.{Shut, Opened, GiveUp}
@@ -17,8 +18,8 @@ use Rattle.dac_decide.specs.FailoverWait.{Note, waits_of}
 use Rattle.dac_messages.specs.declared.event.Event.{Event}
 use Rattle.dac_messages.specs.declared.event.Event.TheVariants.{Boot, Crash, Command as Told, Tick, Ship, Hear, HearOp}
 use Rattle.dac_messages.specs.declared.reply.Reply.{Reply}
-use Rattle.dac_commands.specs.declared.refusal.Refusal.{Refusal}
-use Rattle.dac_commands.specs.declared.refusal.Refusal.TheVariants.{NoMemory}
+use Rattle.dac_events.specs.declared.refusal.Refusal.{Refusal}
+use Rattle.dac_events.specs.declared.refusal.Refusal.TheVariants.{NoMemory}
 use Rattle.dac_model_node.specs.NodeValue.{NodeValue, RunValue, off}
 use Rattle.dac_model_node.specs.ModelNode.{ModelNode, ModelRun, base_after, shown, run_shown, joined}
 use Rattle.dac_model_node.specs.EventRefusals.{refusal_of}

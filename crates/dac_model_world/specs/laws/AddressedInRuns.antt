@@ -16,9 +16,9 @@ use Rattle.dac_events.specs.declared.What.TheVariants.{Ship as Ships, Deliver, H
 use Rattle.dac_messages.specs.declared.message.Message.{Message}
 use Rattle.dac_messages.specs.declared.event.Event.{Event}
 use Rattle.dac_messages.specs.declared.event.Event.TheVariants.{Tick, Ship}
-use Rattle.dac_commands.specs.declared.refusal.Refusal.TheVariants.{Off}
-use Rattle.dac_model_world.specs.declared.fault.WorldFault.{WorldFault}
-use Rattle.dac_model_world.specs.declared.fault.WorldFault.TheVariants.{NoSuchNode}
+use Rattle.dac_events.specs.declared.refusal.Refusal.TheVariants.{Off}
+use Rattle.dac_events.specs.declared.world_fault.WorldFault.{WorldFault}
+use Rattle.dac_events.specs.declared.world_fault.WorldFault.TheVariants.{NoSuchNode}
 use Rattle.dac_model_node.specs.NodeValue.{RunValue}
 use Rattle.dac_model_node.specs.ModelNode.{ModelRun, joined, shown, run_shown}
 use Rattle.dac_model_node.specs.EventRefusals.{refusal_of, refusal_by}

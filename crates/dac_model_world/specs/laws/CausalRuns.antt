@@ -23,7 +23,7 @@ use Rattle.dac_messages.specs.declared.event.Event.{Event}
 use Rattle.dac_messages.specs.declared.event.Event.TheVariants.{Boot, Crash, Command as Told, Tick, Ship, Hear, HearOp}
 use Rattle.dac_messages.specs.declared.reply.Reply.{Reply}
 use Rattle.dac_commands.specs.Commands.{act_of, next_operation}
-use Rattle.dac_commands.specs.declared.refusal.Refusal.{Refusal}
+use Rattle.dac_events.specs.declared.refusal.Refusal.{Refusal}
 use Rattle.dac_commands.specs.Causes.{refusal_of_command}
 use Rattle.dac_model_node.specs.Ticks.{turn_of}
 use Rattle.dac_model_node.specs.laws.Claims.{claims_are}
@@ -33,7 +33,7 @@ use Rattle.dac_model_node.specs.Deeds.{ticks_by, opening_at, note_of}
 use Rattle.dac_model_node.specs.Step.{step_by, up, goes_on, accepted}
 use Rattle.dac_model_node.specs.laws.Counters.{leaves_room}
 use Rattle.dac_model_node.specs.laws.Options.{some_same}
-use Rattle.dac_model_world.specs.declared.fault.WorldFault.TheVariants.{NoSuchNode}
+use Rattle.dac_events.specs.declared.world_fault.WorldFault.TheVariants.{NoSuchNode}
 use Rattle.dac_model_world.specs.ModelWorld.{ModelWorld, happens, happens_by, answered_by, event_of, counted, Step, Run}
 use Rattle.dac_model_world.specs.SetWorld.{SetWorld, NodeSet, Issue, Copy, with_set, held_by, united, issues_of, is_for, copied_by, copied_to, brought_to, booting, issuing, going_off, set_step, set_run, no_sets}
 use Rattle.dac_model_world.specs.Causality.{IsNoHanding, HandsNothing}

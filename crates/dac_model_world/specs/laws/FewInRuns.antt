@@ -19,7 +19,7 @@ use Rattle.dac_messages.specs.declared.event.Event.{Event}
 use Rattle.dac_messages.specs.declared.event.Event.TheVariants.{Boot, Crash, Command as Told, Tick, Ship, Hear, HearOp}
 use Rattle.dac_messages.specs.declared.reply.Reply.{Reply}
 use Rattle.dac_messages.specs.declared.reply.Reply.TheVariants.{Booted, Heard}
-use Rattle.dac_commands.specs.declared.refusal.Refusal.TheVariants.{NoMemory}
+use Rattle.dac_events.specs.declared.refusal.Refusal.TheVariants.{NoMemory}
 use Rattle.dac_model_node.specs.Ticks.{turn_of}
 use Rattle.dac_model_node.specs.NodeValue.{RunValue}
 use Rattle.dac_model_node.specs.ModelNode.{ModelNode, ModelRun, joined, shown, run_shown}
@@ -27,8 +27,8 @@ use Rattle.dac_model_node.specs.EventRefusals.{refusal_of}
 use Rattle.dac_model_node.specs.Deeds.{Deed, brings, deed_of, ticks_by, opening_at, moment_of, note_of}
 use Rattle.dac_model_node.specs.Step.{step_by, up, comes_up, goes_on, deed_on, accepted}
 use Rattle.dac_model_node.specs.laws.Options.{some_same}
-use Rattle.dac_model_world.specs.declared.fault.WorldFault.{WorldFault}
-use Rattle.dac_model_world.specs.declared.fault.WorldFault.TheVariants.{NoSuchNode, Refused}
+use Rattle.dac_events.specs.declared.world_fault.WorldFault.{WorldFault}
+use Rattle.dac_events.specs.declared.world_fault.WorldFault.TheVariants.{NoSuchNode, Refused}
 use Rattle.dac_model_world.specs.ModelWorld.{ModelWorld, happens, happens_by, answered_by, event_of, with_node, Step}
 use Rattle.dac_model_world.specs.Fits.{deltas_after, deltas_with}
 use Rattle.dac_model_world.specs.laws.OneNode.{own_origin, runs_as}

@@ -6,9 +6,9 @@ use Rattle.std.proofs.lemmas.List.{take_more}
 use Rattle.dac_config.specs.Table.{Table}
 use Rattle.dac_events.specs.declared.WorldEvent.{WorldEvent}
 use Rattle.dac_messages.specs.declared.reply.Reply.{Reply}
-use Rattle.dac_commands.specs.declared.refusal.Refusal.TheVariants.{NoMemory}
-use Rattle.dac_model_world.specs.declared.fault.WorldFault.{WorldFault}
-use Rattle.dac_model_world.specs.declared.fault.WorldFault.TheVariants.{Refused}
+use Rattle.dac_events.specs.declared.refusal.Refusal.TheVariants.{NoMemory}
+use Rattle.dac_events.specs.declared.world_fault.WorldFault.{WorldFault}
+use Rattle.dac_events.specs.declared.world_fault.WorldFault.TheVariants.{Refused}
 use Rattle.dac_model_node.specs.NodeValue.{NodeValue}
 use Rattle.dac_model_node.specs.ModelNode.{shown}
 use Rattle.dac_model_node.specs.laws.Options.{some_same}

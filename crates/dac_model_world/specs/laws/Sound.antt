@@ -32,7 +32,7 @@ use Rattle.dac_messages.specs.Bodies.{content_of}
 use Rattle.dac_messages.specs.declared.event.Event.{Event}
 use Rattle.dac_messages.specs.declared.event.Event.TheVariants.{Boot, Crash, Command as Told, Tick, Ship, Hear, HearOp}
 use Rattle.dac_messages.specs.declared.reply.Reply.{Reply}
-use Rattle.dac_commands.specs.declared.refusal.Refusal.TheVariants.{OnSelf, NotForMe, DotsUsedUp}
+use Rattle.dac_events.specs.declared.refusal.Refusal.TheVariants.{OnSelf, NotForMe, DotsUsedUp}
 use Rattle.dac_commands.specs.Causes.{first}
 use Rattle.dac_commands.specs.Commands.{act_of, next_operation}
 use Rattle.dac_model_node.specs.Ticks.{turn_of}
@@ -43,8 +43,8 @@ use Rattle.dac_model_node.specs.EventRefusals.{refusal_of, refusal_by, refusal_t
 use Rattle.dac_model_node.specs.Deeds.{meanings, brings, body_from, message_of, ticks_by, opening_at, moment_of, note_of}
 use Rattle.dac_model_node.specs.Step.{step_by, up, comes_up, goes_on, accepted}
 use Rattle.dac_model_node.specs.laws.Options.{some_same}
-use Rattle.dac_model_world.specs.declared.fault.WorldFault.{WorldFault}
-use Rattle.dac_model_world.specs.declared.fault.WorldFault.TheVariants.{NoSuchNode}
+use Rattle.dac_events.specs.declared.world_fault.WorldFault.{WorldFault}
+use Rattle.dac_events.specs.declared.world_fault.WorldFault.TheVariants.{NoSuchNode}
 use Rattle.dac_model_world.specs.ModelWorld.{ModelWorld, happens, happens_by, answered_by, event_of, heard_by, handed_by, counted, with_node, Step, Run, start}
 use Rattle.dac_model_world.specs.SetWorld.{SetWorld, NodeSet, Issue, Copy, with_set, and_more, united, held_by, issues_of, operations_of, copied_by, copied_to, is_for, alone, brought_to, booting, issuing, going_off, set_step, set_run, no_sets}
 use Rattle.dac_model_world.specs.Convergence.{DistinctDots}

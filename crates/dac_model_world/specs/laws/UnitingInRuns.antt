@@ -14,7 +14,7 @@ use Rattle.dac_events.specs.declared.What.{What}
 use Rattle.dac_messages.specs.declared.message.Message.{Message}
 use Rattle.dac_messages.specs.declared.event.Event.{Event}
 use Rattle.dac_messages.specs.declared.event.Event.TheVariants.{Boot, Crash, Command as Told, Tick, Ship, Hear, HearOp}
-use Rattle.dac_model_world.specs.declared.fault.WorldFault.TheVariants.{NoSuchNode}
+use Rattle.dac_events.specs.declared.world_fault.WorldFault.TheVariants.{NoSuchNode}
 use Rattle.dac_model_node.specs.NodeValue.{RunValue}
 use Rattle.dac_model_node.specs.ModelNode.{ModelRun, joined, shown, run_shown}
 use Rattle.dac_model_node.specs.EventRefusals.{refusal_of, refusal_by}

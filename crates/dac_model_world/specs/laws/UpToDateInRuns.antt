@@ -15,8 +15,8 @@ use Rattle.dac_events.specs.declared.WorldEvent.{WorldEvent}
 use Rattle.dac_events.specs.declared.What.{What}
 use Rattle.dac_messages.specs.declared.event.Event.TheVariants.{Ship}
 use Rattle.dac_messages.specs.declared.reply.Reply.{Reply}
-use Rattle.dac_commands.specs.declared.refusal.Refusal.{Refusal}
-use Rattle.dac_commands.specs.declared.refusal.Refusal.TheVariants.{Off, UnknownNode, OnSelf, UpToDate}
+use Rattle.dac_events.specs.declared.refusal.Refusal.{Refusal}
+use Rattle.dac_events.specs.declared.refusal.Refusal.TheVariants.{Off, UnknownNode, OnSelf, UpToDate}
 use Rattle.dac_commands.specs.Causes.{first, no_node}
 use Rattle.dac_model_node.specs.Place.{Place}
 use Rattle.dac_model_node.specs.Peers.{PeersValue, begins, has_all, acked_by, acked_at, kept_from, is_up_to_date}
@@ -24,7 +24,7 @@ use Rattle.dac_model_node.specs.ModelNode.{ModelRun, joined, shown, run_shown}
 use Rattle.dac_model_node.specs.EventRefusals.{refusal_of, refusal_by}
 use Rattle.dac_model_node.specs.Step.{step_by, accepted}
 use Rattle.dac_model_node.specs.laws.Options.{some_same}
-use Rattle.dac_model_world.specs.declared.fault.WorldFault.TheVariants.{NoSuchNode, Refused}
+use Rattle.dac_events.specs.declared.world_fault.WorldFault.TheVariants.{NoSuchNode, Refused}
 use Rattle.dac_model_world.specs.ModelWorld.{ModelWorld, happens, happens_by, answered_by, event_of, out_of_memory, Step, Run}
 use Rattle.dac_model_world.specs.SetWorld.{SetWorld, set_step}
 use Rattle.dac_model_world.specs.UpToDate.{HasAll, TellsUpToDate, TellUpToDate}

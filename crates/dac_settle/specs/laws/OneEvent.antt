@@ -20,15 +20,15 @@ use Rattle.dac_messages.specs.Bodies.{content_of}
 use Rattle.dac_messages.specs.declared.event.Event.{Event as NodeEvent}
 use Rattle.dac_messages.specs.declared.event.Event.TheVariants.{Boot, Crash, Command as Told, Tick as Ticks, Ship as ShipsTo, Hear, HearOp}
 use Rattle.dac_messages.specs.declared.reply.Reply.TheVariants.{Ticked, Shipped, Heard}
-use Rattle.dac_commands.specs.declared.refusal.Refusal.TheVariants.{NoMemory}
+use Rattle.dac_events.specs.declared.refusal.Refusal.TheVariants.{NoMemory}
 use Rattle.dac_ticks.specs.Ticks.{Turn}
 use Rattle.dac_ticks.specs.laws.Again.{tick_of}
 use Rattle.dac_model_world.specs.ModelNode.{ModelNode, ModelRun, joined, shown, run_shown}
 use Rattle.dac_model_world.specs.EventRefusals.{refusal_of, refusal_by}
 use Rattle.dac_model_world.specs.Deeds.{message_of, hears, hears_message, ships, looks_after, ticks_by, opening_at, note_of}
 use Rattle.dac_model_world.specs.Step.{step_by, goes_on, accepted}
-use Rattle.dac_model_world.specs.declared.fault.WorldFault.{WorldFault}
-use Rattle.dac_model_world.specs.declared.fault.WorldFault.TheVariants.{NoSuchNode, Refused}
+use Rattle.dac_events.specs.declared.world_fault.WorldFault.{WorldFault}
+use Rattle.dac_events.specs.declared.world_fault.WorldFault.TheVariants.{NoSuchNode, Refused}
 use Rattle.dac_model_world.specs.ModelWorld.{ModelWorld, WorldStepped, happens, happens_by, answered_by, event_of, counted, with_node, Step}
 use Rattle.dac_model_world.specs.SetWorld.{SetWorld, NodeSet, Copy, with_set, united, copied_by, copied_to, brought_to, issuing, set_step}
 use Rattle.dac_model_world.specs.Uniting.{Unites}

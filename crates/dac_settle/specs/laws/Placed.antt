@@ -12,16 +12,18 @@ use Rattle.std.proofs.lemmas.Cmp.{ranked}
 use Rattle.dac_base.specs.declared.NodeId.{NodeId}
 use Rattle.dac_base.specs.declared.AppId.{AppId}
 use Rattle.dac_dots.specs.declared.dot.Origin.{Origin}
-use Rattle.dac_lattice.specs.Chains.{IsAtMost, chain_laws}
+use Rattle.dac_lattice.specs.Chains.{IsAtMost}
+use Rattle.dac_lattice.specs.laws.Chains.{chain_laws}
 use Rattle.dac_chains.specs.Greatest.{IsGreatest}
 use Rattle.dac_chains.specs.declared.claims.Claim.{Claim}
-use Rattle.dac_chains.specs.Claims.{claim_cmp, claims_total, how_cmp, exact_hows, exact_claims}
+use Rattle.dac_chains.specs.Claims.{claim_cmp, how_cmp}
+use Rattle.dac_chains.specs.laws.Claims.{claims_total, exact_hows, exact_claims}
 use Rattle.dac_chains.specs.Lives.{Lives, IsLive, live_at}
 use Rattle.dac_chains.specs.laws.Live.{live_is}
 use Rattle.dac_operations.specs.Operations.{Operation}
 use Rattle.dac_meaning.specs.Meaning.{In, meaning_of, claim_said}
 use Rattle.dac_meaning.specs.laws.Joins.{meaning-same}
-use Rattle.dac_meaning.specs.Chained.{Says}
+use Rattle.dac_meaning.specs.Chained.{SaysFor}
 use Rattle.dac_config.specs.Table.{Table}
 use Rattle.dac_placement.specs.Placement.{IsStartedAt, IsAllowedAt, key_at, apps_of, verdict_of, candidate_of}
 use Rattle.dac_placement.specs.laws.Rests.{candidate_is}
@@ -120,17 +122,17 @@ module _ (t : Table) where
       same_said : {b : AppId} {c d : Claim} → ◌≡◌ {A = Option (AppId × Claim)} (Some (app, c)) (Some (b, d)) → (app ≡ b) × (c ≡ d)
       same_said {b = b} {c = c} {d = d} e = let pair : ◌≡◌ {A = AppId × Claim} (app, c) (b, d) = one e in (ap (λ (p : AppId × Claim). p.0) pair, ap (λ (p : AppId × Claim). p.1) pair)
 
-      kept : (c : Claim) → Says claim_said s app c → Says claim_said x app c
+      kept : (c : Claim) → SaysFor claim_said s app c → SaysFor claim_said x app c
       kept c says = (says.0, (g.keeps says.0 says.1.0, says.1.1))
 
       taken : (c : Claim) (o : Operation) → map.get (meaning_of x).claims app ≡ Some c → In o x → IsGood t s app o → claim_said o.dot o.act ≡ Some (app, c) → IsTaken
       taken c o is there good says = record { by = o; there = there; good = good; greatest = is ∙ ap (λ d. Some d) (same_said (sym says ∙ good.says)).1 }
 
-      old_greatest : (c : Claim) (d : Option Claim) → IsGreatest claim_cmp (Says claim_said x app) (Some c) → IsGreatest claim_cmp (Says claim_said s app) d → Says claim_said s app c → Some c ≡ d
+      old_greatest : (c : Claim) (d : Option Claim) → IsGreatest claim_cmp (SaysFor claim_said x app) (Some c) → IsGreatest claim_cmp (SaysFor claim_said s app) d → SaysFor claim_said s app c → Some c ≡ d
       old_greatest c None now before says = absurd (before c says)
       old_greatest c (Some d) now before says = ap (λ z. Some z) ((chain_laws claims_total (exact_claims how_cmp exact_hows)).antisymm c d tt tt (before.1 c says) (now.1 d (kept d before.0)))
 
-      by_greatest : (c d : Option Claim) → map.get (meaning_of x).claims app ≡ c → IsGreatest claim_cmp (Says claim_said x app) c → IsGreatest claim_cmp (Says claim_said s app) d → (c ≡ d) ⊎ IsTaken
+      by_greatest : (c d : Option Claim) → map.get (meaning_of x).claims app ≡ c → IsGreatest claim_cmp (SaysFor claim_said x app) c → IsGreatest claim_cmp (SaysFor claim_said s app) d → (c ≡ d) ⊎ IsTaken
       by_greatest None None is now before = inl refl
       by_greatest None (Some d) is now before = absurd (now d (kept d before.0))
       by_greatest (Some c) d is now before = elim (g.new now.0.0 now.0.1.0) [
@@ -174,7 +176,7 @@ module _ (t : Table) where
           past : (a b : ℕ) → a ≤ b → a ≡ b + 1 → ⊥
           past a b le e = omega arith
 
-          above : (c : Option Claim) → IsGreatest claim_cmp (Says claim_said x app) c → good.claim.term ≡ term_after c → ⊥
+          above : (c : Option Claim) → IsGreatest claim_cmp (SaysFor claim_said x app) c → good.claim.term ≡ term_after c → ⊥
           above None greatest e = greatest good.claim (o, (there, good.says))
           above (Some c) greatest e = past good.claim.term c.term (terms_at_most good.claim c (greatest.1 good.claim (o, (there, good.says)))) e
 

@@ -15,7 +15,8 @@ use Rattle.dac_wishes.specs.declared.key.Key.{Key}
 use Rattle.dac_operations.specs.declared.act.Act.TheVariants.{Start}
 use Rattle.dac_operations.specs.Operations.{Operation}
 use Rattle.dac_meaning.specs.Meaning.{In, meaning_of, pairs, life_said, claim_said, lives_of, claims_of}
-use Rattle.dac_meaning.specs.Chained.{Says, of_said, is_said}
+use Rattle.dac_meaning.specs.Chained.{SaysFor}
+use Rattle.dac_meaning.specs.laws.Chained.{of_said, is_said}
 use Rattle.dac_meaning.specs.laws.Readers.{lives-meaning, lives_are, claims-meaning, claims_are}
 use Rattle.dac_settle.specs.Worked.{IsEither, first_node, second_node, up_of, begun}
 
@@ -54,7 +55,7 @@ module _ (starts : List Operation) (are : AreStarts starts) where
   up_says m o is n l says = pair_of (sym (ap (λ (q : Operation). life_said q.dot q.act) is) ∙ says)
 
   -- each life that is said is that of the first incarnation of either node, up
-  said_life : (n : NodeId) (l : Life) → Says life_said s n l → IsEither n × (up_life ≡ l)
+  said_life : (n : NodeId) (l : Life) → SaysFor life_said s n l → IsEither n × (up_life ≡ l)
   said_life n l says = elim says.1.0 [
     | inl one ↦ let is = up_says first_node says.0 one n l says.1.1 in (inl (sym is.0), is.1)
     | inr more ↦ elim more [
@@ -63,7 +64,7 @@ module _ (starts : List Operation) (are : AreStarts starts) where
     ]
   ]
 
-  up_said : (n : NodeId) → IsEither n → Says life_said s n up_life
+  up_said : (n : NodeId) → IsEither n → SaysFor life_said s n up_life
   up_said n either = elim either [
     | inl one ↦ (up_of first_node, (inl refl, ap (λ m. Some (m, up_life)) (sym one)))
     | inr two ↦ (up_of second_node, (inr (inl refl), ap (λ m. Some (m, up_life)) (sym two)))
@@ -87,7 +88,7 @@ module _ (starts : List Operation) (are : AreStarts starts) where
 
   -- ---- claims
 
-  pub no_claim_said : (app : AppId) (c : Claim) → Says claim_said s app c → ⊥
+  pub no_claim_said : (app : AppId) (c : Claim) → SaysFor claim_said s app c → ⊥
   no_claim_said app c says = elim says.1.0 [
     | inl one ↦ none_some (sym (ap (λ (q : Operation). claim_said q.dot q.act) one) ∙ says.1.1)
     | inr more ↦ elim more [

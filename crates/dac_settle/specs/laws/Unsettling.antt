@@ -23,7 +23,7 @@ use Rattle.dac_operations.specs.Operations.{Operation, operation}
 use Rattle.dac_meaning.specs.StateValue.{StateValue}
 use Rattle.dac_meaning.specs.Meaning.{meaning_of, claim_said}
 use Rattle.dac_meaning.specs.laws.Members.{In-append_left, In-append_right, In-append_cases}
-use Rattle.dac_meaning.specs.Chained.{Says}
+use Rattle.dac_meaning.specs.Chained.{SaysFor}
 use Rattle.dac_meaning.specs.laws.Readers.{starts-meaning, permits-meaning, drains-meaning}
 use Rattle.dac_shapes.specs.declared.draft.SyncWait.TheVariants.{NoSync}
 use Rattle.dac_config.specs.Table.{Table, group_of}
@@ -103,7 +103,7 @@ begun_alike = alike (begun the_starts) s adds
 is_live : (n : NodeId) → IsEither n → IsLive known.lives n 1
 is_live n either = subst (λ (l : Lives). IsLive l n 1) (sym begun_alike.lives) (are_live the_starts are_starts n either)
 
-said_by : (app : AppId) (c : Claim) → Says claim_said s app c → (the_app ≡ app) × (the_claim ≡ c)
+said_by : (app : AppId) (c : Claim) → SaysFor claim_said s app c → (the_app ≡ app) × (the_claim ≡ c)
 said_by app c says = elim (In-append_cases says.0 (begun the_starts) (claiming ∷ []) says.1.0) [
   | inl old ↦ absurd (no_claim_said the_starts are_starts app c (says.0, (old, says.1.1)))
   | inr new ↦ elim new [
@@ -118,7 +118,7 @@ said_by app c says = elim (In-append_cases says.0 (begun the_starts) (claiming �
 a_claimed : map.get known.claims the_app ≡ Some the_claim
 a_claimed = by_claim (map.get known.claims the_app) (claim_greatest s the_app)
   where
-    by_claim : (o : Option Claim) → IsGreatest claim_cmp (Says claim_said s the_app) o → o ≡ Some the_claim
+    by_claim : (o : Option Claim) → IsGreatest claim_cmp (SaysFor claim_said s the_app) o → o ≡ Some the_claim
     by_claim None none = absurd (none the_claim (claiming, (In-append_right claiming (begun the_starts) (claiming ∷ []) (inl refl), refl)))
     by_claim (Some c) is = ap (λ k. Some k) (sym (said_by the_app c is.0).1)
 
@@ -128,7 +128,7 @@ b_unclaimed = by_claim (map.get known.claims other_app) (claim_greatest s other_
     apart : the_app ≡ other_app → ⊥
     apart e = let same : ◌≡◌ {A = ℕ} 0 1 = ap (λ (a : AppId). a.0) e in absurd (omega arith)
 
-    by_claim : (o : Option Claim) → IsGreatest claim_cmp (Says claim_said s other_app) o → o ≡ None
+    by_claim : (o : Option Claim) → IsGreatest claim_cmp (SaysFor claim_said s other_app) o → o ≡ None
     by_claim None none = refl
     by_claim (Some c) is = absurd (apart (said_by other_app c is.0).0)
 

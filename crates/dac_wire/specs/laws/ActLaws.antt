@@ -7,7 +7,8 @@ use Rattle.dac_base.specs.declared.limits.TheConstants.{MAX_COUNTER}
 use Rattle.dac_chains.specs.declared.claims.How.{How}
 use Rattle.dac_dots.specs.declared.dot.Dot.{Dot}
 use Rattle.dac_dots.specs.declared.dot.Origin.{Origin}
-use Rattle.dac_dots.specs.Dots.{dot_cmp, dots_total}
+use Rattle.dac_dots.specs.Dots.{dot_cmp}
+use Rattle.dac_dots.specs.laws.Dots.{dots_total}
 use Rattle.dac_dots.specs.Keys.{IsRising}
 use Rattle.dac_wishes.specs.declared.key.Key.{Key}
 use Rattle.dac_config.specs.Table.{Table, node_count, app_count}
@@ -20,7 +21,8 @@ use Rattle.dac_bytes.specs.Numbers.{u8_bytes, u16_bytes, u64_bytes}
 use Rattle.dac_bytes.specs.Ranges.{IsOrigin, IsDot}
 use Rattle.dac_bytes.specs.Reading.{Rest, number_at, range_at, counter_at, origin_at, dot_at, dot_above_at}
 use Rattle.dac_bytes.specs.Spelling.{dot_bytes, origin_bytes}
-use Rattle.dac_bytes.specs.Takes.{IsCodec, Passes, Takes, TakesAs, Takes-none, TakesAs-made, Again, Again-made, ok_is}
+use Rattle.dac_bytes.specs.Takes.{IsCodec, Passes, Takes, TakesAs, Again}
+use Rattle.dac_bytes.specs.laws.Takes.{Takes-none, TakesAs-made, Again-made, ok_is}
 use Rattle.dac_part_bytes.specs.ChainForm.{IsFromFor}
 use Rattle.dac_part_bytes.specs.KeyedForm.{IsKey, IsKeyAbove}
 use Rattle.dac_part_bytes.specs.Reading.{app_at, key_above_at, manner_at, is_listed}
@@ -31,7 +33,7 @@ use Rattle.dac_operations.specs.declared.act.Act.{Act}
 use Rattle.dac_operations.specs.declared.act.Act.TheVariants.{Up as UpAct, Down as DownAct, Permit as PermitAct, Start as StartAct, Stop as StopAct, Drain as DrainAct, Claim as ClaimAct}
 use Rattle.dac_operations.specs.Operations.{Operation, operation, fault_of}
 use Rattle.dac_wire.specs.Codes.{kind_of_act, IsKindIn, value_code, value_of_code}
-use Rattle.dac_wire.specs.Form.{AreOver, IsClaim, IsAct, IsOperation}
+use Rattle.dac_wire.specs.Form.{AreOver, IsClaimInForm, IsAct, IsOperation}
 use Rattle.dac_wire.specs.Reading.{ClaimFields, over_at, keyed_over_at, valued_over_at, permit_fields_at, drain_fields_at, term_and_manner_at, claim_fields_at, listed_claim_at, act_fields_at, act_kind_at, act_at, dot_and_act_at, operation_at}
 use Rattle.dac_wire.specs.Spelling.{over_bytes, act_fields_bytes, act_bytes, operation_bytes}
 use Rattle.dac_wire.specs.declared.codes.ActKind.{ActKind}
@@ -180,10 +182,10 @@ module _ (version : Version) (t : Table) (parts : PartCodecs version t) where
         let wrong : Rest → ClaimFields × Rest → ReadFault = λ r _. record { kind = NotInList; at = r.at } in
         codec_wanted (claim_fields_at t) claim_bytes AreFields claim_fields_codec is_issuer_listed wrong
 
-    claim_is : (c : ClaimFields) → Passes AreFields is_issuer_listed c → IsClaim t issuer c.0 c.1.0 c.1.1.0 c.1.1.1
+    claim_is : (c : ClaimFields) → Passes AreFields is_issuer_listed c → IsClaimInForm t issuer c.0 c.1.0 c.1.1.0 c.1.1.1
     claim_is c is = record { app = is.0.0; first = is.0.1.0.0; last = is.0.1.0.1; listed = is.1; from = is.0.1.1 }
 
-    claim_has : (c : ClaimFields) → IsClaim t issuer c.0 c.1.0 c.1.1.0 c.1.1.1 → Passes AreFields is_issuer_listed c
+    claim_has : (c : ClaimFields) → IsClaimInForm t issuer c.0 c.1.0 c.1.1.0 c.1.1.1 → Passes AreFields is_issuer_listed c
     claim_has c is = ((is.app, ((is.first, is.last), is.from)), is.listed)
 
     -- ---- acts

@@ -7,7 +7,8 @@ use Rattle.dac_config.specs.Table.{Table, node_count}
 use Rattle.dac_bytes.specs.declared.fault.ReadFaultKind.TheVariants.{Trailing}
 use Rattle.dac_bytes.specs.laws.Codecs.{codec_both, codec_pair}
 use Rattle.dac_bytes.specs.Reading.{Rest, ◌>>=◌, after, whole, fault}
-use Rattle.dac_bytes.specs.Takes.{IsBytes, IsCodec, Takes-front, TakesAs, TakesAs-made, Again, Again-made, bind_ok, wanted_ok}
+use Rattle.dac_bytes.specs.Takes.{IsBytes, IsCodec, TakesAs, Again}
+use Rattle.dac_bytes.specs.laws.Takes.{Takes-front, TakesAs-made, Again-made, bind_ok, wanted_ok}
 use Rattle.dac_meaning.specs.StateValue.{StateValue}
 use Rattle.dac_part_bytes.specs.PartCodecs.{PartCodecs}
 use Rattle.dac_state.specs.StateForm.{IsInForm}
@@ -19,7 +20,7 @@ use Rattle.dac_messages.specs.declared.message.Message.{Message}
 use Rattle.dac_wire.specs.Codes.{kind_of_body, kind_of_packet}
 use Rattle.dac_wire.specs.Decoding.{front_fault, unless, packet_in}
 use Rattle.dac_wire.specs.Faults.{in_packet}
-use Rattle.dac_wire.specs.Form.{is_whole, IsBody, IsMessage, IsOperation, IsPacket}
+use Rattle.dac_wire.specs.Form.{is_whole, IsBodyInForm, IsMessage, IsOperation, IsPacket}
 use Rattle.dac_wire.specs.Reading.{message_of, head_at, head_and_state_at, operation_at, packet_kind_at, content_at, kind_and_content_at, fields_at}
 use Rattle.dac_wire.specs.Spelling.{body_bytes, message_bytes, operation_bytes, content_bytes, preamble_bytes, packet_bytes}
 use Rattle.dac_wire.specs.declared.codes.PacketKind.{PacketKind}
@@ -57,7 +58,7 @@ module _ (version : Version) (t : Table) (parts : PartCodecs version t) (states 
     carrying_codec =
         codec_pair (head_at version nodes whole) (head_bytes version) (IsHead version nodes whole) (head_codec version nodes parts.fields whole) (λ _ r. parts_at version t r) (λ _. state.state_bytes version) (λ _. IsInForm version t) (λ _ _. states)
 
-  message_is : (h : Head) (body : Body) → IsHead version nodes (is_whole body) h → IsBody version t body → IsMessage version t (message_of h body)
+  message_is : (h : Head) (body : Body) → IsHead version nodes (is_whole body) h → IsBodyInForm version t body → IsMessage version t (message_of h body)
   message_is h body is so = record { from = is.from; to = is.to; only = is.only; up_to = is.up_to; ack = is.ack; body = so }
 
   head_is : (h : Head) (body : Body) → IsMessage version t (message_of h body) → IsHead version nodes (is_whole body) h

@@ -8,13 +8,13 @@ use Rattle.dac_commands.proofs.Issues.{issues}
 use Rattle.dac_commands.proofs.issue.operation_of.Goals as goal
 
 pub issue-requires-clause-left : goal.issue-requires-clause-left
-issue-requires-clause-left c = (issues c.args.config.now c.args.own c.args.state.now c.args.command c.known.ensures c.requires.knows c.requires.accepted).left
+issue-requires-clause-left c = (issues c.args.config.now c.args.own c.args.state.now c.args.command c.tells_invariant.ensures c.requires.knows c.requires.accepted).left
 
 pub issue-requires-clause-sound : goal.issue-requires-clause-sound
 issue-requires-clause-sound c =
     let s = c.args.state.now in
     ap (λ (a : Act). fault_of (next_operation s c.args.own a).dot a) c.in_ok-act.ensures
-    ∙ (issues c.args.config.now c.args.own s c.args.command c.known.ensures c.requires.knows c.requires.accepted).sound
+    ∙ (issues c.args.config.now c.args.own s c.args.command c.tells_invariant.ensures c.requires.knows c.requires.accepted).sound
 
 pub returns-clause-written : goal.returns-clause-written
 returns-clause-written c =

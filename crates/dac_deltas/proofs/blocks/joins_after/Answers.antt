@@ -35,7 +35,7 @@ pub overflow_add-most : goal.overflow_add-most
 overflow_add-most g c = let long = c.args.kept.now.ok.0 in omega arith
 
 pub loop-level-init : goal.loop-level-init
-loop-level-init g c = made_one g.L.Lattice.is_value g.L.Lattice.join c.args.kept.now.items c.args.delta.now c.new-joins.result.items c.known.ensures c.new-joins.ensures.items
+loop-level-init g c = made_one g.L.Lattice.is_value g.L.Lattice.join c.args.kept.now.items c.args.delta.now c.new-joins.result.items c.tells_invariant.ensures c.new-joins.ensures.items
 
 pub returns-in_err-joined : goal.returns-in_err-joined
 returns-in_err-joined g c = IfOk-from_err c.from_residual.result _ c.from_residual.ensures.0

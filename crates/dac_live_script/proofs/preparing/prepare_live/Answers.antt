@@ -1,5 +1,5 @@
 use Rattle.std.proofs.lemmas.Result.{err_from_is_err_and}
-use Rattle.dac_live_script.specs.LiveInputs.{Says, IsFailureOf}
+use Rattle.dac_live_script.specs.LiveInputs.{SaysLiveScript, IsFailureOf}
 use Rattle.dac_live_script.proofs.WholeInput.{of_bytes, read_fails, parts_fail, left_by_parts}
 use Rattle.dac_live_script.proofs.preparing.prepare_live.Goals as goal
 
@@ -21,5 +21,5 @@ returns-in_err-both-clause-reads g c =
 
 pub returns-clause-says : goal.returns-clause-says
 returns-clause-says g c =
-    let says : Says c.in_ok-text.text.items c.in_ok-both.both.0 c.in_ok-both.both.1.items = record { taken = c.in_ok-text.ensures.short; parts = rw c.deref.ensures.value at c.in_ok-both.ensures.says } in
-    of_bytes _ c.in_ok-text.text.items (λ bytes. Says bytes c.in_ok-both.both.0 c.in_ok-both.both.1.items) c.in_ok-text.ensures.whole says
+    let says : SaysLiveScript c.in_ok-text.text.items c.in_ok-both.both.0 c.in_ok-both.both.1.items = record { taken = c.in_ok-text.ensures.short; parts = rw c.deref.ensures.value at c.in_ok-both.ensures.says } in
+    of_bytes _ c.in_ok-text.text.items (λ bytes. SaysLiveScript bytes c.in_ok-both.both.0 c.in_ok-both.both.1.items) c.in_ok-text.ensures.whole says

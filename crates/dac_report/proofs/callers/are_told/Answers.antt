@@ -1,6 +1,6 @@
 use Rattle.std.proofs.Common.{◌≡◌, ◌++◌, ◌∷◌, [], ◌<◌, length, take, Some, None, Result, Bor, sym, ◌∙◌, arith, append-nil}
 use Rattle.dac_messages.specs.declared.reply.Reply.{Reply}
-use Rattle.dac_commands.specs.declared.refusal.Refusal.{Refusal}
+use Rattle.dac_events.specs.declared.refusal.Refusal.{Refusal}
 use Rattle.dac_run.specs.Compared.{found}
 use Rattle.dac_report.specs.Asked.{answer_one}
 use Rattle.dac_report.proofs.Found.{found_more, taken_more}

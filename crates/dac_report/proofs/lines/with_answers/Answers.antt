@@ -1,7 +1,7 @@
 use Rattle.std.proofs.Common.{◌≡◌, ◌+◌, ◌++◌, ◌∷◌, [], ◌<◌, length, take, map, zip, Option, Some, None, Result, Bor, sym, ap, ◌∙◌, arith, append-nil}
 use Rattle.std.proofs.lemmas.List.{map_push}
 use Rattle.dac_messages.specs.declared.reply.Reply.{Reply}
-use Rattle.dac_commands.specs.declared.refusal.Refusal.{Refusal}
+use Rattle.dac_events.specs.declared.refusal.Refusal.{Refusal}
 use Rattle.dac_run.specs.Compared.{found}
 use Rattle.dac_report.specs.Lines.{told_one}
 use Rattle.dac_report.proofs.Spoken.{found_on, zip_within, zip_at, zip_all}

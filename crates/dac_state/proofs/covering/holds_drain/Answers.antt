@@ -11,5 +11,5 @@ pub returns : goal.returns
 returns c =
     let o = c.args.op.now in
     let asked : drain_delta c.dot.result (drain_act c.drain_in.result c.over.result.now) ≡ drain_delta o.dot (drain_act (drain_vote o.act) (over_list o.act)) = λ i. drain_delta (c.dot.ensures i) (drain_act ((c.drain_in.ensures ∙ ap drain_vote c.act.ensures) i) ((c.over.ensures ∙ ap over_list c.act-2.ensures) i)) in
-    let is = asked ∙ (ap (drain_delta o.dot) (drain_seen o c.known.ensures) ∙ c.delta_is_meaning.ensures.drains o) in
+    let is = asked ∙ (ap (drain_delta o.dot) (drain_seen o c.tells_invariant.ensures) ∙ c.delta_is_meaning.ensures.drains o) in
     (λ e. subst (λ v. AreDrainsBelow v c.args.drains.now) is (c.covers.ensures.0 e), λ below. c.covers.ensures.1 (subst (λ v. AreDrainsBelow v c.args.drains.now) (sym is) below))

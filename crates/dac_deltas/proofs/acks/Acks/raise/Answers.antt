@@ -1,7 +1,7 @@
 use Rattle.std.proofs.Common.{◌≡◌, cond, Some, Result, Ok, Err, OnErr, ap, sym, ◌∙◌}
 use Rattle.std.specs.Cmp.{eq_by_cmp_equiv}
 use Rattle.std.specs.FinMap as map
-use Rattle.dac_dots.specs.Dots.{origins_total, exact_origins}
+use Rattle.dac_dots.specs.laws.Dots.{origins_total, exact_origins}
 use Rattle.dac_deltas.specs.Numbers.{greater}
 use Rattle.dac_deltas.proofs.Tables.{get-entries}
 use Rattle.dac_deltas.proofs.acks.Acks.raise.Goals as goal

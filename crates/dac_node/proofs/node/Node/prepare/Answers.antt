@@ -13,7 +13,7 @@ returns-in_ok-of-in-Some-run-clause-ok c =
     let last = c.self.inside.last in
     let none = subst (λ run. refusal_by t last run e ≡ None) c.in-Some-run.is (subst (λ (v : NodeValue). refusal_of t v e ≡ None) (sym c.self.view_is) (sym c.in_default.ensures)) in
     subst (λ (v : NodeValue). Prepared t c.args.self_id v e change) c.self.view_is
-    (subst (λ run. Prepared t c.args.self_id (record { last = last; run = run }) e change) (sym c.in-Some-run.is) (effect_prepared t c.args.self_id last c.in-Some-run.run' e change none c.known.ensures.newest c.known.ensures.state c.in_ok-of-in-Some-run.ensures.effect))
+    (subst (λ run. Prepared t c.args.self_id (record { last = last; run = run }) e change) (sym c.in-Some-run.is) (effect_prepared t c.args.self_id last c.in-Some-run.run' e change none c.tells_invariant.ensures.newest c.tells_invariant.ensures.state c.in_ok-of-in-Some-run.ensures.effect))
 
 pub returns-in_ok-of-in-Some-run-clause-fits : goal.returns-in_ok-of-in-Some-run-clause-fits
 returns-in_ok-of-in-Some-run-clause-fits c =
@@ -23,4 +23,4 @@ returns-in_ok-of-in-Some-run-clause-fits c =
     let last = c.self.inside.last in
     let none = subst (λ run. refusal_by t last run e ≡ None) c.in-Some-run.is (subst (λ (v : NodeValue). refusal_of t v e ≡ None) (sym c.self.view_is) (sym c.in_default.ensures)) in
     subst (λ (v : NodeValue). Fits v change) c.self.view_is
-    (subst (λ run. Fits (record { last = last; run = run }) change) (sym c.in-Some-run.is) (effect_fits t last c.in-Some-run.run' e change none c.known.ensures.countable c.in_ok-of-in-Some-run.ensures.effect))
+    (subst (λ run. Fits (record { last = last; run = run }) change) (sym c.in-Some-run.is) (effect_fits t last c.in-Some-run.run' e change none c.tells_invariant.ensures.countable c.in_ok-of-in-Some-run.ensures.effect))

@@ -1,7 +1,7 @@
 use Rattle.std.proofs.Common.{◌≡◌, cond, Some, ap, sym, ◌∙◌}
 use Rattle.std.specs.Cmp.{eq_by_cmp_equiv}
 use Rattle.std.specs.FinMap as map
-use Rattle.dac_base.specs.Ids.{nodes_total, exact_nodes}
+use Rattle.dac_base.specs.laws.Ids.{nodes_total, exact_nodes}
 use Rattle.dac_peers.specs.Peers.{got_after}
 use Rattle.dac_peers.proofs.Tables.{get-entries}
 use Rattle.dac_peers.proofs.places.Places.raise.Goals as goal

@@ -9,7 +9,7 @@ returns-then-branch g c =
     let theirs = c.args.other.now in
     let stays : join mine.store mine.context theirs.store theirs.context ≡ mine.store =
     ap (λ t. join mine.store mine.context t theirs.context) (c.in_ok-leaves.ensures.nothing c.if-branch.true)
-    ∙ g.met.S.DotStore.laws.alone mine.store mine.context theirs.context c.known.ensures.store (c.in_ok-leaves.ensures.unheard c.if-branch.true) in
+    ∙ g.met.S.DotStore.laws.alone mine.store mine.context theirs.context c.tells_invariant.ensures.store (c.in_ok-leaves.ensures.unheard c.if-branch.true) in
     subst (λ s. IfOk c.share.result (λ kept. kept_in kept ≡ s)) (sym stays) c.share.ensures
 
 pub returns-then-branch-2 : goal.returns-then-branch-2
@@ -19,5 +19,5 @@ returns-then-branch-2 g c =
     let theirs = c.args.other.now in
     let stays : join mine.store mine.context theirs.store theirs.context ≡ theirs.store =
     ap (λ s. join s mine.context theirs.store theirs.context) (c.in_ok-leaves-2.ensures.nothing c.if-branch-2.true)
-    ∙ g.met.S.DotStore.laws.alone_right theirs.store theirs.context mine.context c.known-2.ensures.store (c.in_ok-leaves-2.ensures.unheard c.if-branch-2.true) in
+    ∙ g.met.S.DotStore.laws.alone_right theirs.store theirs.context mine.context c.tells_invariant-2.ensures.store (c.in_ok-leaves-2.ensures.unheard c.if-branch-2.true) in
     subst (λ s. IfOk c.share-then-branch-2.result (λ kept. kept_in kept ≡ s)) (sym stays) c.share-then-branch-2.ensures

@@ -3,7 +3,7 @@ use Rattle.std.proofs.lemmas.Bool.{false≢true}
 use Rattle.dac_store.proofs.causal.Causal.new.Goals as goal
 
 pub invariant_of-result : goal.invariant_of-result
-invariant_of-result g c = rw c.of-shared.ensures (record { store = c.known.ensures; held = c.within.ensures.0 c.if-within.true })
+invariant_of-result g c = rw c.of-shared.ensures (record { store = c.tells_invariant.ensures; held = c.within.ensures.0 c.if-within.true })
 
 pub returns-then-within-clause-ok : goal.returns-then-within-clause-ok
 returns-then-within-clause-ok g c = (λ i. record { store = c.args.store; context = c.of-shared.ensures i }, c.within.ensures.0 c.if-within.true)

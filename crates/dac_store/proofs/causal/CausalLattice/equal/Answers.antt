@@ -1,18 +1,18 @@
 use Rattle.std.proofs.Common.{◌∙◌, sym}
 use Rattle.std.proofs.lemmas.Bool.{false≢true}
-use Rattle.dac_store.specs.Stores.{causal_laws}
+use Rattle.dac_store.specs.laws.Stores.{causal_laws}
 use Rattle.dac_store.proofs.causal.CausalLattice.equal.Goals as goal
 
 pub returns-then-leq : goal.returns-then-leq
 returns-then-leq g c =
     let laws = causal_laws g.met.S.DotStore.laws in (
-      λ e. laws.antisymm _ _ c.known.ensures c.known-2.ensures (c.leq.ensures.0 c.if-leq.true) (c.leq-then-leq.ensures.0 e),
-      λ same. c.leq-then-leq.ensures.1 (rw same (laws.refl _ c.known-2.ensures)),
+      λ e. laws.antisymm _ _ c.tells_invariant.ensures c.tells_invariant-2.ensures (c.leq.ensures.0 c.if-leq.true) (c.leq-then-leq.ensures.0 e),
+      λ same. c.leq-then-leq.ensures.1 (rw same (laws.refl _ c.tells_invariant-2.ensures)),
     )
 
 pub returns-else-leq : goal.returns-else-leq
 returns-else-leq g c =
     let laws = causal_laws g.met.S.DotStore.laws in (
       λ e. absurd (false≢true (sym c.if-leq.false ∙ e)),
-      λ same. absurd (false≢true (sym c.if-leq.false ∙ c.leq.ensures.1 (rw same (laws.refl _ c.known-2.ensures)))),
+      λ same. absurd (false≢true (sym c.if-leq.false ∙ c.leq.ensures.1 (rw same (laws.refl _ c.tells_invariant-2.ensures)))),
     )

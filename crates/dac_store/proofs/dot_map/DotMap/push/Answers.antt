@@ -2,7 +2,8 @@ use Rattle.std.proofs.Common.{◌∙◌, ◌++◌, [], ◌∷◌, not, ap, sym, 
 use Rattle.std.proofs.lemmas.Bool.{and_from}
 use Rattle.std.proofs.lemmas.Result.{IfOk-from_err}
 use Rattle.dac_store.specs.DotMaps.{IsKept, IsKeyed}
-use Rattle.dac_store.specs.Appending.{is_above_entries, sorted_appended, find_appended}
+use Rattle.dac_store.specs.Appending.{is_above_entries}
+use Rattle.dac_store.specs.laws.Appending.{sorted_appended, find_appended}
 use Rattle.dac_store.proofs.Passing.{fails_so}
 use Rattle.dac_store.proofs.dot_map.DotMap.push.Goals as goal
 
@@ -12,7 +13,7 @@ invariant_of-self-2 g c =
     let e : g.row.K.Denot × g.row.S.Denot = (c.args.key, c.args.store) in
     rw c.in_ok-push.ensures.items (record {
       in_order = sorted_appended g.met.K.Ord.total es e c.self.invariant.in_order (sym (rw c.deref.ensures.value at c.ends_below.ensures) ∙ c.if-not-ends_below.false);
-      stores = λ q. find_appended g.met.K.Ord.total (IsKept g.S.DotStore.is_store g.S.DotStore.is_empty) es e q (c.self.invariant.stores q) (c.known.ensures, sym c.is_empty.ensures ∙ c.if-is_empty.false);
+      stores = λ q. find_appended g.met.K.Ord.total (IsKept g.S.DotStore.is_store g.S.DotStore.is_empty) es e q (c.self.invariant.stores q) (c.tells_invariant.ensures, sym c.is_empty.ensures ∙ c.if-is_empty.false);
     })
 
 pub invariant_of-self : goal.invariant_of-self

@@ -1,6 +1,6 @@
 //! Why nothing happens in the world of all controllers.
 
-use dac_commands::Refusal;
+use crate::Refusal;
 
 /// Why an event of the world does nothing. The causes are looked for in this order.
 #[derive(Clone, Copy, Debug, PartialEq, Eq)]

@@ -55,7 +55,7 @@ pub enum Refusal {
 }
 
 impl Refusal {
-    ghost use Rattle.dac_commands.specs.Refusals.{number_of, name_of};
+    ghost use Rattle.dac_events.specs.Refusals.{number_of, name_of};
 
     /// The number that stands for it in the program's output, 1 to 21.
     pub fn number(self) -> u8
@@ -118,7 +118,7 @@ impl Refusal {
 
 impl fmt::Display for Refusal {
     ghost use Rattle.std.specs.Prelude.{Some};
-    ghost use Rattle.dac_commands.specs.Refusals.{name_of};
+    ghost use Rattle.dac_events.specs.Refusals.{name_of};
 
     ghost output = { λ why. Some (name_of why) };
 
@@ -129,7 +129,7 @@ impl fmt::Display for Refusal {
 
 impl From<NoMemory> for Refusal {
     ghost use Rattle.std.specs.Prelude.{◌≡◌};
-    ghost use Rattle.dac_commands.specs.declared.refusal.Refusal.TheVariants.{NoMemory as WantOfMemory};
+    ghost use Rattle.dac_events.specs.declared.refusal.Refusal.TheVariants.{NoMemory as WantOfMemory};
 
     ghost from_gives = { λ _ why. why ≡ WantOfMemory };
 
