@@ -1,8 +1,7 @@
 //! Steps of a node, and calls of a journal.
 use dac_base::NodeId;
-use dac_commands::Refusal;
 use dac_config::Config;
-use dac_events::Command;
+use dac_events::{Command, Refusal};
 use dac_journal::{Journal, Node};
 use dac_lattice::Lattice;
 use dac_messages::{Body, Event, Reply};
