@@ -1,5 +1,5 @@
 -- What an accepted event brings about at its node.
-use Rattle.std.proofs.Common.{◌≡◌, ℕ, Bool, true, false, not, List, [], ◌∷◌, Option, Some, None, refl, sym, ap, subst, ◌∙◌, inl, inr, true≢false}
+use Rattle.std.proofs.Common.{◌≡◌, ℕ, Bool, true, false, not, List, [], ◌∷◌, Option, Some, None, refl, sym, subst, ◌∙◌, inl, inr, true≢false}
 use Rattle.std.specs.Prelude.{IfSome}
 use Rattle.dac_base.specs.declared.NodeId.{NodeId}
 use Rattle.dac_dots.specs.declared.dot.Origin.{Origin}
@@ -21,12 +21,11 @@ use Rattle.dac_events.specs.declared.Command.{Command}
 use Rattle.dac_events.specs.declared.Command.TheVariants.{Down, Permit, Start, Stop, Drain, Takeover}
 use Rattle.dac_messages.specs.declared.event.Event.{Event}
 use Rattle.dac_messages.specs.declared.event.Event.TheVariants.{Boot, Crash, Command as Told, Tick, Ship, Hear, HearOp}
-use Rattle.dac_messages.specs.declared.reply.Reply.{Reply}
 use Rattle.dac_commands.specs.Commands.{next_operation, next_term, act_of}
 use Rattle.dac_commands.specs.laws.Written.{none_is}
 use Rattle.dac_model_node.specs.NodeValue.{NodeValue, RunValue}
-use Rattle.dac_model_node.specs.EventRefusals.{causes_to_tick, refusal_on, refusal_by, refusal_to_tick}
-use Rattle.dac_model_node.specs.Deeds.{deed_of, opening_at, ticks_by}
+use Rattle.dac_model_node.specs.EventRefusals.{causes_to_tick, refusal_by, refusal_to_tick}
+use Rattle.dac_model_node.specs.Deeds.{opening_at, ticks_by}
 use Rattle.dac_model_node.specs.Accepted.{left_by, reply_by, run_by}
 use Rattle.dac_model_node.specs.Effect.{HasEffect}
 use Rattle.dac_model_node.specs.laws.Numbers.{obeyed}
