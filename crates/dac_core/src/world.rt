@@ -4,9 +4,8 @@ ghost use Rattle.std.specs.Prelude.{◌≡◌, ◌<◌, ◌≤◌, ◌+◌, ◌+
 ghost use Rattle.dac_settle.specs.dac_model_world.ModelWorld.{issued_by, shipped_by};
 ghost use Rattle.dac_settle.specs.dac_model_world.WorldChanges.{NodeChanges};
 ghost use Rattle.dac_node.specs.Changes.{changed};
-ghost use Rattle.dac_core.specs.Ready.{IsReadyAt};
+ghost use Rattle.dac_core.specs.Ready.{IsReadyAt, IsOwnAt};
 
-use crate::sharing::copy_after;
 use dac_base::{NoMemory, NodeId};
 use dac_config::Config;
 use dac_events::{What, WorldEvent};
@@ -234,6 +233,7 @@ impl World {
             return change_node(&mut self.nodes, node, change);
         }
         let noted = make_room(&mut self.operations, &mut self.messages, change.reply())?;
+        remember(&mut self.nodes, node, change.reply());
         let reply = change_node(&mut self.nodes, node, change)?;
         note(&mut self.operations, &mut self.messages, noted);
         Ok(reply)
@@ -245,6 +245,15 @@ fn is_crash(change: &Change) -> bool
     ensures { IsTrue result ↔ (change.now.reply ≡ Reply.Crashed) }
 {
     matches!(change.reply(), Reply::Crashed)
+}
+
+/// A node keeps the interval that it is about to ship, if it ships one.
+fn remember(nodes: &mut Vec<Node>, node: NodeId, reply: &Reply)
+    requires inside { node.0 < length nodes.old.items }
+    requires own { IsOwnAt nodes.old.items node reply.now }
+    ensures { nodes.new.items ≡ nodes.old.items }
+{
+    nodes[node.0 as usize].remember(reply);
 }
 
 /// Does what a node prepared.
@@ -284,7 +293,7 @@ fn make_room(
 {
     operations.reserve(issued_count(reply))?;
     messages.reserve(1)?;
-    let copied = copy_after(messages.as_slice(), reply)?;
+    let copied = reply.copy()?;
     Ok(copied)
 }
 

@@ -1,7 +1,8 @@
 //! The newest deltas, by number.
-ghost use Rattle.std.specs.Prelude.{◌≡◌, ◌+◌, ◌-◌, ◌<◌, ◌≤◌, fold, drop, length, Ok, None, OnOk, OnErr, IfOk, IfSome, IsSome, unwrap_or};
+ghost use Rattle.std.specs.Prelude.{◌≡◌, ◌+◌, ◌-◌, ◌<◌, ◌≤◌, fold, drop, length, Ok, None, Some, OnOk, OnErr, IfOk, IfSome, IsSome, unwrap_or};
 ghost use Rattle.dac_deltas.specs.Kept.{IsBuffer, empty, pushed, trimmed, numbered_from, interval_of, IsJoinOf};
 ghost use Rattle.dac_deltas.specs.Blocks.{AreBlocks};
+ghost use Rattle.dac_deltas.specs.Endings.{IsReady};
 ghost use Rattle.dac_deltas.specs.declared.buffer.TheConstants.{MAX_DELTAS};
 
 use crate::blocks::{Ending, add_all, level_at};
@@ -19,23 +20,25 @@ pub const MAX_DELTAS: usize = 256;
 /// first.
 ///
 /// Beside its deltas a buffer keeps the joins of their aligned blocks of 2 to 256 deltas. A full one has at
-/// most 255 of these, and an interval takes at most 16 joins.
+/// most 255 of these, and an interval takes at most 16 joins. It keeps one interval that was made too, until a
+/// delta comes: where several peers are to get the same interval, they share it.
 #[derive(Drop)]
 pub struct Buffer<L: Bottom> {
     alloc: Global,
     count: u64,
     kept: VecDeque<Ending<L>>,
+    ready: Option<(u64, L)>,
 }
 
 impl<L: Bottom> Model for Buffer<L> {
     ghost use Rattle.dac_deltas.specs.Kept.{Kept, newest};
-    ghost use Rattle.dac_deltas.specs.Endings.{IsKept, deltas_of};
+    ghost use Rattle.dac_deltas.specs.Endings.{IsHeld, deltas_of};
 
     ghost Value = { Kept L };
 
     ghost view = { λ b. newest b.count (deltas_of b.kept.items) };
 
-    ghost invariant = { λ b. IsKept L.is_value L.join b.count b.kept.items };
+    ghost invariant = { λ b. IsHeld L.is_value L.join L.bottom b.count b.kept.items b.ready };
 }
 
 /// Drops all but the newest 256.
@@ -78,6 +81,7 @@ impl<L: Bottom> Buffer<L> {
             alloc,
             count: 0,
             kept: VecDeque::new(alloc),
+            ready: None,
         }
     }
 
@@ -113,6 +117,7 @@ impl<L: Bottom> Buffer<L> {
         let base = self.base();
         let ending = Ending::next(self.alloc, &self.kept, base, delta)?;
         self.kept.push_back(ending)?;
+        self.ready = None;
         self.count += 1;
         keep_newest(&mut self.kept);
         Ok(())
@@ -125,6 +130,9 @@ impl<L: Bottom> Buffer<L> {
         ensures ok { OnOk result (self.new ≡ fold pushed self.old deltas.items) }
         ensures err { OnErr result (self.new ≡ self.old) }
     {
+        if deltas.is_empty() {
+            return Ok(());
+        }
         let base = self.base();
         let before = self.kept.len();
         let added = deltas.len() as u64;
@@ -132,6 +140,7 @@ impl<L: Bottom> Buffer<L> {
             self.kept.truncate(before);
             return Err(refused);
         }
+        self.ready = None;
         self.count += added;
         keep_newest(&mut self.kept);
         Ok(())
@@ -150,17 +159,43 @@ impl<L: Bottom> Buffer<L> {
     /// delta from `a` on is no longer kept. The caller owes that `a` is at most the count. [`NoMemory`] is the only
     /// error, and comes only where all deltas from `a` on are kept.
     ///
-    /// It joins the blocks that [`Buffer::blocks`] lists, from the first to the last.
+    /// It joins the blocks that [`Buffer::blocks`] lists, from the first to the last. An interval from there that was
+    /// made since the last delta came, and is remembered, is taken as it is.
     pub fn interval(&self, a: u64) -> Result<Option<L>, NoMemory>
         requires { a ≤ self.now.count }
         ensures dropped { a < self.now.base → result ≡ Ok None }
         ensures value { IfOk result (λ found. found ≡ interval_of L.bottom L.join self.now a) }
         ensures least { IfOk result (λ found. IfSome found (IsJoinOf L.is_value L.below (numbered_from self.now a))) }
     {
-        let base = self.base();
-        if a < base {
+        if a < self.base() {
             return Ok(None);
         }
+        let joined = self.joined_from(a)?;
+        Ok(Some(joined))
+    }
+
+    /// The join of the deltas from number `a` on, all of which are kept.
+    fn joined_from(&self, a: u64) -> Result<L, NoMemory>
+        requires counted { a ≤ self.now.count }
+        requires kept { self.now.base ≤ a }
+        ensures { IfOk result (λ joined. joined ≡ fold L.join L.bottom (numbered_from self.now a)) }
+    {
+        if let Some((from, joined)) = &self.ready {
+            if *from == a {
+                let copied = joined.copy()?;
+                return Ok(copied);
+            }
+        }
+        self.made_from(a)
+    }
+
+    /// The same, made of the blocks.
+    fn made_from(&self, a: u64) -> Result<L, NoMemory>
+        requires counted { a ≤ self.now.count }
+        requires kept { self.now.base ≤ a }
+        ensures { IfOk result (λ joined. joined ≡ fold L.join L.bottom (numbered_from self.now a)) }
+    {
+        let base = self.base();
         let mut joined = None;
         let mut at = a;
         while at < self.count {
@@ -170,7 +205,16 @@ impl<L: Bottom> Buffer<L> {
             joined = Some(join_on(joined, last.block(level))?);
             at = end;
         }
-        Ok(Some(or_bottom(self.alloc, joined)))
+        Ok(or_bottom(self.alloc, joined))
+    }
+
+    /// Keeps an interval that was made, with the number that it begins at, until a delta comes. The caller owes that it
+    /// is the join of the deltas from there on, if they are kept.
+    pub fn remember(&mut self, a: u64, joined: L)
+        requires { IsReady L.join L.bottom self.old (Some (a, joined)) }
+        ensures { self.new ≡ self.old }
+    {
+        self.ready = Some((a, joined));
     }
 
     /// The blocks that an interval joins, each as its first number and the one after its last. From `a` to the
@@ -210,6 +254,7 @@ impl<L: Bottom> Buffer<L> {
             alloc: self.alloc,
             count: self.count,
             kept,
+            ready: None,
         })
     }
 }

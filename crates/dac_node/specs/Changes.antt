@@ -1,14 +1,15 @@
 -- What an accepted event does to what a node holds.
-use Rattle.std.specs.Prelude.{◌≡◌, ℕ, ◌+◌, List, Option, refl}
+use Rattle.std.specs.Prelude.{◌≡◌, ℕ, ◌+◌, List, Option, Some, refl}
 use Rattle.std.specs.Coded.{Coded, code_by, coded×, coded_ℕ}
 use Rattle.dac_base.specs.declared.NodeId.{NodeId}
 use Rattle.dac_config.specs.Table.{Table}
 use Rattle.dac_decide.specs.declared.waits.Noted.{Noted}
 use Rattle.dac_messages.specs.declared.event.Event.{Event}
+use Rattle.dac_messages.specs.declared.message.Message.{Message}
 use Rattle.dac_messages.specs.declared.reply.Reply.{Reply}
-use Rattle.dac_messages.specs.declared.reply.Reply.TheVariants.{Booted}
+use Rattle.dac_messages.specs.declared.reply.Reply.TheVariants.{Booted, Shipped}
 use Rattle.dac_model_node.specs.NodeValue.{NodeValue, RunValue}
-use Rattle.dac_model_node.specs.Deeds.{deed_of}
+use Rattle.dac_model_node.specs.Deeds.{deed_of, message_of}
 use Rattle.dac_model_node.specs.Step.{up}
 use Rattle.dac_model_node.specs.Accepted.{AcceptedAs, IsNoting, booted}
 use Rattle.dac_node.specs.declared.change.After.{After}
@@ -53,3 +54,11 @@ pub record Effect (t : Table) (number : ℕ) (r : RunValue) (e : Event) (change 
 -- the event isn't refused, and this is what it does
 abbrev pub Prepared : Table → NodeId → NodeValue → Event → ChangeValue → Type 0
 Prepared t me v e change = AcceptedAs t me v e (changed v change) change.reply
+
+-- what a reply ships is the message that the node ships as it is
+abbrev pub ShipsOwn : NodeValue → Reply → Type 0
+ShipsOwn v reply = (r : RunValue) (m : Message) → v.run ≡ Some r → reply ≡ Shipped m → m ≡ message_of r m.to
+
+-- so is what it prepares
+abbrev pub PreparedShipOwn : Type 0
+PreparedShipOwn = (t : Table) (me : NodeId) (v : NodeValue) (e : Event) (change : ChangeValue) → Prepared t me v e change → ShipsOwn v change.reply

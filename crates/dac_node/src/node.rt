@@ -58,7 +58,7 @@ impl Node {
     ghost use Rattle.dac_model_node.specs.Keeping.{Keeps};
     ghost use Rattle.dac_model_node.specs.Effect.{HasEffect};
     ghost use Rattle.dac_model_node.specs.Shipping.{ShipsSo};
-    ghost use Rattle.dac_node.specs.Changes.{changed, Fits, Prepared};
+    ghost use Rattle.dac_node.specs.Changes.{changed, Fits, Prepared, ShipsOwn};
     ghost use Rattle.dac_model_node.specs.Hearing.{HearsExactly};
     ghost use Rattle.dac_model_node.specs.Refused.{IsAnsweredBy, IsFree};
 
@@ -219,6 +219,20 @@ impl Node {
         }
         run.tells_invariant();
         Ok(Change::hear_op(self.last, run, operation)?)
+    }
+
+    /// Keeps the interval that this node ships by a reply, if it ships one, until it adds a delta: it ships the same memory
+    /// to the next node that is to get this interval. The caller owes that the reply was prepared by this node, which has
+    /// been as it is since then.
+    pub fn remember(&mut self, reply: &Reply)
+        requires { ShipsOwn self.old reply.now }
+        ensures { self.new ≡ self.old }
+    {
+        if let Reply::Shipped(message) = reply {
+            if let Some(run) = &mut self.run {
+                run.remember(message);
+            }
+        }
     }
 
     /// Does what was prepared, and gives the reply. It is a step of the event where this node prepared the change, and

@@ -23,7 +23,7 @@ returns-in_err-push_back g c = IfOk-from_err c.from_residual-in_err-push_back.re
 pub invariant_of-result : goal.invariant_of-result
 invariant_of-result g c =
     let whole = copied_whole c.loop-ending.kept.items (deque_iter_rest c.loop-ending.ending-iterator) c.self.inside.kept.items c.in-None.ensures.steps.0 c.loop-ending.invariant in
-    subst (IsKept g.L.Lattice.is_value g.L.Lattice.join c.self.inside.count) (sym whole) c.self.invariant
+    record { kept = subst (IsKept g.L.Lattice.is_value g.L.Lattice.join c.self.inside.count) (sym whole) c.self.invariant.kept; ready = tt }
 
 pub returns : goal.returns
 returns g c =
