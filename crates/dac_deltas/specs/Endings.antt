@@ -38,6 +38,6 @@ module _ {L : Type 0} (join : L → L → L) (bottom : L) where
   IsReady k (Some made) = k.base ≤ made.0 → made.1 ≡ fold join bottom (numbered_from k made.0)
 
 -- what a buffer keeps, and the interval that was made already, if there is one
-pub record IsHeld {L : Type 0} (is_value : L → Type 0) (join : L → L → L) (bottom : L) (count : ℕ) (es : List (L × List L)) (ready : Option (ℕ × L)) : Type 0 where
+pub record IsHeld {L : Type 0} (is_value : L → Type 0) (join : L → L → L) (bottom : L) (count : ℕ) (es : List (L × List L)) (made : Option (ℕ × L)) : Type 0 where
   pub kept : IsKept is_value join count es
-  pub ready : IsReady join bottom (newest count (deltas_of es)) ready
+  pub ready : IsReady join bottom (newest count (deltas_of es)) made

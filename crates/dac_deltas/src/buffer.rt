@@ -167,7 +167,9 @@ impl<L: Bottom> Buffer<L> {
         ensures value { IfOk result (λ found. found ≡ interval_of L.bottom L.join self.now a) }
         ensures least { IfOk result (λ found. IfSome found (IsJoinOf L.is_value L.below (numbered_from self.now a))) }
     {
-        if a < self.base() {
+        self.tells_invariant();
+        let base = self.base();
+        if a < base {
             return Ok(None);
         }
         let joined = self.joined_from(a)?;
