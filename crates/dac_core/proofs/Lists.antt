@@ -1,5 +1,5 @@
 -- A list with one place set.
-use Rattle.std.proofs.Common.{◌≡◌, ℕ, zero, suc, ◌<◌, Bool, true, false, cond, List, [], ◌∷◌, Some, length, nat_eq, refl, sym, ap, ◌∙◌, arith, eq-eqb}
+use Rattle.std.proofs.Common.{◌≡◌, ℕ, zero, suc, ◌<◌, Bool, true, false, cond, List, [], ◌∷◌, Some, length, get_or, nat_eq, refl, sym, ap, ◌∙◌, arith, eq-eqb}
 use Rattle.std.specs.List.{slice_get}
 use Rattle.std.proofs.lemmas.Bool.{false_from_ne_true}
 use Rattle.std.proofs.Math.ListN.{set}
@@ -26,3 +26,9 @@ slice_get-set (y ∷ xs) (suc i) (suc n) x h =
     slice_get-set xs i n x (omega arith)
     ∙ ap (λ b. cond b (Some x) (slice_get xs n)) (same_answer (nat_eq n i) (nat_eq (suc n) (suc i))
     (λ t. eq-eqb (suc n) (suc i) (ap suc (exact_unsigned_eq n i t))) (λ t. eq-eqb n i (pred_eq n i (exact_unsigned_eq (suc n) (suc i) t))))
+
+-- to set what is there changes nothing
+pub set_same : {X : Type 0} (xs : List X) (i : ℕ) (x : X) → x ≡ get_or xs i x → set xs i x ≡ xs
+set_same [] i x h = refl
+set_same (y ∷ xs) zero x h = ap (λ z. z ∷ xs) h
+set_same (y ∷ xs) (suc i) x h = ap (λ zs. y ∷ zs) (set_same xs i x h)

@@ -1,7 +1,7 @@
 //! Buffers of deltas, and what was acknowledged.
 use crate::sample::origin;
 use dac_base::NoMemory;
-use dac_deltas::{Acks, Buffer};
+use dac_deltas::{Acks, Buffer, Entries};
 use dac_lattice::Max;
 use std::alloc::Global;
 
@@ -152,4 +152,19 @@ fn acknowledged(alloc: Global, first: u64, second: u64) -> Result<Option<u64>, N
 #[test]
 fn greatest_acknowledged_stays(rt: HostRuntime) {
     assert!(rt; acknowledged(rt.alloc(), 3, 2) == Ok(Some(3)));
+}
+
+/// What three keys have once two of them were put, the greater first, and that one again.
+fn put_twice(alloc: Global) -> Result<[Option<u64>; 3], NoMemory> {
+    let mut entries: Entries<u64, u64> = Entries::new(alloc);
+    entries.put(2, 20)?;
+    entries.put(1, 10)?;
+    entries.put(2, 21)?;
+    let copied = entries.copy()?;
+    Ok([copied.get(1), copied.get(2), copied.get(3)])
+}
+
+#[test]
+fn entries_are_put_in_order(rt: HostRuntime) {
+    assert!(rt; put_twice(rt.alloc()) == Ok([Some(10), Some(21), None]));
 }
