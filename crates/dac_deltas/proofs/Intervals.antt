@@ -1,5 +1,5 @@
 -- An interval that was made already.
-use Rattle.std.specs.Prelude.{◌≡◌, ℕ, ◌+◌, ◌-◌, ◌≤◌, List, fold, drop, cond, Option, Some, None}
+use Rattle.std.specs.Prelude.{◌≡◌, ℕ, ◌+◌, ◌-◌, ◌≤◌, fold, drop, cond, Option, Some, None}
 use Rattle.std.proofs.Common.{sym, ap, ◌∙◌, arith, drop-drop, le-ltb}
 use Rattle.dac_deltas.specs.Kept.{Kept, cut, numbered_from, interval_of}
 use Rattle.dac_deltas.specs.Endings.{IsReady}

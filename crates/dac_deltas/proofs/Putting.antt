@@ -1,5 +1,5 @@
 -- What is in a list of entries in order, once one is put where a search answers.
-use Rattle.std.specs.Prelude.{◌≡◌, ℕ, ◌<◌, ◌≤◌, false, cond, T, List, [], ◌∷◌, length, slice_set, None, Some, Ok, Err, refl}
+use Rattle.std.specs.Prelude.{◌≡◌, ℕ, ◌<◌, ◌≤◌, false, cond, List, [], ◌∷◌, length, slice_set, None, Some, Ok, Err, refl}
 use Rattle.std.proofs.Common.{zero, suc, sym, ap, subst, ◌∙◌, arith, get_or, add-one}
 use Rattle.std.specs.declared.cmp.Ordering.{Ordering}
 use Rattle.std.specs.declared.cmp.Ordering.TheVariants.{Less, Equal, Greater}
@@ -10,7 +10,7 @@ use Rattle.std.specs.List.Sorted.{IsBinarySearchResult, IsNonDecreasingBy}
 use Rattle.std.proofs.lemmas.Cmp.{tied_back}
 use Rattle.std.proofs.lemmas.Map.Lookups.{CmpEqualImpliesEq}
 use Rattle.std.proofs.lemmas.List.Sorted.{searchable_from_sorted}
-use Rattle.std.specs.FinMap.{find, put, is_sorted}
+use Rattle.std.specs.FinMap.{find, put}
 use Rattle.std.specs.FinMap.Entries.{by_order, is_sorted-put}
 use Rattle.dac_lattice.specs.Search.{IsInOrder}
 use Rattle.dac_lattice.specs.laws.EntryLaws.{first, second, greater, above_at}

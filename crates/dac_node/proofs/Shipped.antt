@@ -1,5 +1,5 @@
 -- An interval that is shipped.
-use Rattle.std.specs.Prelude.{◌≡◌, Bool, true, false, cond, fold, Option, Some}
+use Rattle.std.specs.Prelude.{◌≡◌, Bool, true, false, cond, fold, Some}
 use Rattle.std.proofs.Common.{sym, ap, ◌∙◌}
 use Rattle.dac_meaning.specs.StateValue.{StateValue, bottom, join}
 use Rattle.dac_deltas.specs.Kept.{numbered_from}
