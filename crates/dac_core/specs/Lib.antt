@@ -1,10 +1,10 @@
 pub mod Ready
-pub use Rattle.dac_node.specs.Refusals
+pub use Rattle.dac_events.specs.Refusals
 pub use Rattle.dac_settle.specs.dac_model_world.Converges
 pub use Rattle.dac_settle.specs.dac_model_world.EveryList
 pub use Rattle.dac_settle.specs.dac_model_world.ModelNode
 pub use Rattle.dac_settle.specs.dac_model_world.ModelWorld
 pub use Rattle.dac_settle.specs.dac_model_world.NodeValue
 pub use Rattle.dac_settle.specs.dac_model_world.WorldValue
-pub use Rattle.dac_settle.specs.dac_model_world.declared.fault.WorldFault
+pub use Rattle.dac_events.specs.declared.world_fault.WorldFault
 pub mod laws

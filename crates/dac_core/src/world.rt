@@ -8,10 +8,10 @@ ghost use Rattle.dac_core.specs.Ready.{IsReadyAt, IsOwnAt};
 
 use dac_base::{NoMemory, NodeId};
 use dac_config::Config;
-use dac_events::{What, WorldEvent};
+use dac_events::{What, WorldEvent, WorldFault};
 use dac_messages::{Event, Message, Reply};
 use dac_node::{Change, Node, Refusal};
-use dac_settle::dac_model_world::{WorldFault, laws};
+use dac_settle::dac_model_world::laws;
 use dac_settle::laws::rounds_settle;
 use dac_state::Op;
 use std::alloc::Global;

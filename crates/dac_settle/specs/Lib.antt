@@ -5,6 +5,5 @@ pub mod Staying
 pub mod Worked
 pub mod WorldRounds
 pub mod WorkedLoss
-pub mod WorkedFailover
 pub mod laws
 pub use Rattle.dac_model_world.specs as dac_model_world

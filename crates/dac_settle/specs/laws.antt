@@ -11,6 +11,3 @@ pub mod WorldsSettle
 pub mod Started
 pub mod WorkedRound
 pub mod Unsettling
-pub mod Losing
-pub mod LostClaim
-pub mod FailsOver

@@ -4,8 +4,7 @@ ghost use Rattle.dac_settle.specs.Worked.{RoundsCanBe};
 ghost use Rattle.dac_settle.specs.Rules.{judged, restless_of};
 ghost use Rattle.dac_settle.specs.Staying.{Stays};
 ghost use Rattle.dac_settle.specs.WorldRounds.{Settles};
-ghost use Rattle.dac_settle.specs.WorkedLoss.{LossCanBe};
-ghost use Rattle.dac_settle.specs.WorkedFailover.{RunsCanFailOver};
+ghost use Rattle.dac_settle.specs.WorkedLoss.{RunsCanFailOver};
 ghost use Rattle.dac_model_world.specs.ModelWorld.{InEachRun};
 
 /// Rounds settle all. As many rounds as the configuration has applications, begun in a ready world, settle each
@@ -20,11 +19,9 @@ pub fn rounds_settle()
 pub fn rounds_can_be()
     // Two nodes are ready, and a round settles their application.
     ensures members { RoundsCanBe }
-    // A run from the start leads to a ready world in which a claim is lost and was noted. The next tick is a round, and
-    // fails over.
+    // A run from the start leads to a ready world in which a claim is lost, and two nodes noted it. Once its time is over
+    // both tick, ship and hear: a round, which fails over.
     ensures runs { RunsCanFailOver }
-    // In a ready world a claim is lost. Two nodes tick once its time is over, ship and hear: a round.
-    ensures losses { LossCanBe }
 {}
 
 /// What is settled stays so, whatever is claimed beside it.

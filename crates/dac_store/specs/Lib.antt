@@ -5,5 +5,6 @@ pub mod DotFuns
 pub mod DotMaps
 pub mod Appending
 pub mod Few
+pub mod FewEntries
 pub mod Keeping
 pub mod SameDots

@@ -9,18 +9,20 @@ ghost use Rattle.dac_store.specs.AtDot.{StandsBelow};
 
 use crate::DotStore;
 use crate::appending::ends_below;
+use crate::few_entries::{FewEntries, merge_few};
 use dac_contexts::Context;
 use dac_dots::{Dot, NoMemory};
 use dac_lattice::Lattice;
-use dac_lattice::merging::{Combine, merge, value_at};
+use dac_lattice::merging::{Combine, value_at};
 use std::alloc::Global;
 use std::marker::Model;
 
-/// A value of a lattice at each of some dots. Contracts see it as the list of the dots with their values,
-/// in the order of the dots.
+/// A value of a lattice at each of some dots. A single one takes no memory. Contracts see it as the list of the dots
+/// with their values, in the order of the dots.
 #[derive(Drop)]
 pub struct DotFun<V: Lattice> {
-    entries: Vec<(Dot, V)>,
+    alloc: Global,
+    few: FewEntries<V>,
 }
 
 impl<V: Lattice> Model for DotFun<V> {
@@ -28,12 +30,13 @@ impl<V: Lattice> Model for DotFun<V> {
     ghost use Rattle.dac_dots.specs.Dots.{dot_cmp};
     ghost use Rattle.dac_dots.specs.declared.Dot.{Dot};
     ghost use Rattle.dac_lattice.specs.Maps.{IsMap};
+    ghost use Rattle.dac_store.specs.FewEntries.{entries_of};
 
     ghost Value = { List (Dot × V) };
 
-    ghost view = { λ a. a.entries.items };
+    ghost view = { λ a. entries_of a.few };
 
-    ghost invariant = { λ a. IsMap dot_cmp V.is_value a.entries.items };
+    ghost invariant = { λ a. IsMap dot_cmp V.is_value (entries_of a.few) };
 }
 
 impl<V: Lattice> DotFun<V> {
@@ -55,10 +58,10 @@ impl<V: Lattice> DotFun<V> {
         ensures last { OnErr result (is_above_entries dot_cmp self.old dot ≡ true) }
     {
         value.tells_invariant();
-        if !ends_below(&self.entries, dot) {
+        if !ends_below(self.few.as_slice(), dot) {
             return Ok(false);
         }
-        self.entries.push((dot, value))?;
+        self.few.push(self.alloc, dot, value)?;
         Ok(true)
     }
 
@@ -66,14 +69,14 @@ impl<V: Lattice> DotFun<V> {
     pub fn get(&self, dot: Dot) -> Option<&V>
         ensures { option_copied result ≡ find dot_cmp dot self.now }
     {
-        value_at(&self.entries, dot)
+        value_at(self.few.as_slice(), dot)
     }
 
     /// The dots with their values, in the order of the dots. It takes no memory.
     pub fn entries(&self) -> &[(Dot, V)]
         ensures { result.now ≡ self.now }
     {
-        self.entries.as_slice()
+        self.few.as_slice()
     }
 
     /// Whether the other side may hold this value at a dot. This side hasn't heard of the dot, or holds it with a
@@ -146,25 +149,22 @@ impl<V: Lattice> DotStore for DotFun<V> {
     ghost laws = { fun_laws V.laws };
 
     fn tells_invariant(&self) {
-        let _entries = &self.entries;
+        let _few = &self.few;
     }
 
     fn empty(alloc: Global) -> Self {
-        DotFun {
-            entries: Vec::new(alloc),
-        }
+        let few = FewEntries::Empty;
+        DotFun { alloc, few }
     }
 
     fn allocator(&self) -> Global {
-        *self.entries.allocator()
+        self.alloc
     }
 
     fn copy(&self) -> Result<Self, NoMemory> {
-        let mut entries = Vec::with_capacity(*self.entries.allocator(), self.entries.len())?;
-        for (dot, value) in &self.entries {
-            entries.push((*dot, value.copy()?))?;
-        }
-        Ok(DotFun { entries })
+        let alloc = self.alloc;
+        let few = self.few.copy(alloc)?;
+        Ok(DotFun { alloc, few })
     }
 
     fn join_in(
@@ -177,17 +177,13 @@ impl<V: Lattice> DotStore for DotFun<V> {
             mine: heard,
             theirs: other_heard,
         };
-        let entries = merge(
-            *self.entries.allocator(),
-            &how,
-            &self.entries,
-            &other.entries,
-        )?;
-        Ok(DotFun { entries })
+        let alloc = self.alloc;
+        let few = merge_few(alloc, &how, self.few.as_slice(), other.few.as_slice())?;
+        Ok(DotFun { alloc, few })
     }
 
     fn leq_in(&self, heard: &Context, other: &Self, _other_heard: &Context) -> bool {
-        for (dot, theirs) in &other.entries {
+        for (dot, theirs) in other.few.as_slice() {
             if !self.lets_stand(heard, *dot, theirs) {
                 return false;
             }
@@ -200,7 +196,7 @@ impl<V: Lattice> DotStore for DotFun<V> {
     }
 
     fn within(&self, context: &Context) -> bool {
-        for (dot, _) in &self.entries {
+        for (dot, _) in self.few.as_slice() {
             if !context.contains(*dot) {
                 return false;
             }
@@ -209,7 +205,7 @@ impl<V: Lattice> DotStore for DotFun<V> {
     }
 
     fn is_unheard(&self, heard: &Context) -> bool {
-        for (dot, _) in &self.entries {
+        for (dot, _) in self.few.as_slice() {
             if heard.contains(*dot) {
                 return false;
             }
@@ -218,6 +214,6 @@ impl<V: Lattice> DotStore for DotFun<V> {
     }
 
     fn is_empty(&self) -> bool {
-        self.entries.is_empty()
+        self.few.as_slice().is_empty()
     }
 }

@@ -25,4 +25,5 @@ mod dot_map;
 mod dot_set;
 mod dot_store;
 mod few;
+mod few_entries;
 mod kept;

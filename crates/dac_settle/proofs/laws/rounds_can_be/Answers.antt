@@ -1,6 +1,5 @@
 use Rattle.dac_settle.specs.laws.WorkedRound.{rounds_can_be}
-use Rattle.dac_settle.specs.laws.FailsOver.{runs_can_fail_over}
-use Rattle.dac_settle.specs.laws.Losing.{loss_can_be}
+use Rattle.dac_settle.proofs.FailsOver.{runs_can_fail_over}
 use Rattle.dac_settle.proofs.laws.rounds_can_be.Goals as goal
 
 pub returns-clause-members : goal.returns-clause-members
@@ -8,6 +7,3 @@ returns-clause-members c = rounds_can_be
 
 pub returns-clause-runs : goal.returns-clause-runs
 returns-clause-runs c = runs_can_fail_over
-
-pub returns-clause-losses : goal.returns-clause-losses
-returns-clause-losses c = loss_can_be

@@ -1,7 +1,7 @@
 use Rattle.std.proofs.Common.{◌≡◌, ◌<◌, ◌-◌, length, get_or, rules, sym, subst, Err, Some}
 use Rattle.dac_messages.specs.declared.message.Message.{Message}
 use Rattle.dac_messages.specs.declared.event.Event.TheVariants.{Crash, Hear}
-use Rattle.dac_settle.specs.dac_model_world.declared.fault.WorldFault.TheVariants.{Refused}
+use Rattle.dac_events.specs.declared.world_fault.WorldFault.TheVariants.{Refused}
 use Rattle.dac_settle.specs.dac_model_world.WorldValue.{WorldValue}
 use Rattle.dac_settle.specs.dac_model_world.ModelWorld.{heard_by, counted}
 use Rattle.dac_settle.specs.dac_model_world.AtNode.{HappensAt}

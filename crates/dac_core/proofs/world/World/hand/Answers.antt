@@ -1,7 +1,7 @@
 use Rattle.std.proofs.Common.{◌≡◌, ◌<◌, ◌-◌, length, get_or, rules, sym, subst, Err, Some}
 use Rattle.dac_operations.specs.Operations.{Operation}
 use Rattle.dac_messages.specs.declared.event.Event.TheVariants.{Crash, HearOp}
-use Rattle.dac_settle.specs.dac_model_world.declared.fault.WorldFault.TheVariants.{Refused}
+use Rattle.dac_events.specs.declared.world_fault.WorldFault.TheVariants.{Refused}
 use Rattle.dac_settle.specs.dac_model_world.WorldValue.{WorldValue}
 use Rattle.dac_settle.specs.dac_model_world.ModelWorld.{handed_by, counted}
 use Rattle.dac_settle.specs.dac_model_world.AtNode.{HappensAt}

@@ -5,7 +5,7 @@ use Rattle.dac_config.specs.Table.{Table}
 use Rattle.dac_events.specs.declared.WorldEvent.{WorldEvent}
 use Rattle.dac_events.specs.declared.What.TheVariants.{Boot}
 use Rattle.dac_messages.specs.declared.reply.Reply.{Reply}
-use Rattle.dac_settle.specs.dac_model_world.declared.fault.WorldFault.{WorldFault}
+use Rattle.dac_events.specs.declared.world_fault.WorldFault.{WorldFault}
 use Rattle.dac_settle.specs.dac_model_world.WorldValue.{WorldValue}
 use Rattle.dac_settle.specs.dac_model_world.ModelWorld.{RanAs}
 use Rattle.dac_settle.specs.dac_model_world.laws.Runs.{ran_turn}

@@ -14,12 +14,12 @@ loop-dot-preserved g c =
 
 pub returns-then-not-lets_stand : goal.returns-then-not-lets_stand
 returns-then-not-lets_stand g c =
-    let at = at_place dots_total exact_dots (λ x v. set.contains c.args.heard.now x ≡ true → StandsBelow g.V.Lattice.below (find dot_cmp x c.args.self.now) v) c.deref-dot-items.result.now _ _
-    (rw c.deref-dot-items.ensures.value c.other.invariant.in_order) c.loop-dot-test.true c.loop-dot-item.is in
-    (λ e. absurd (false≢true e), λ below. absurd (false≢true (sym c.if-not-lets_stand.true ∙ c.lets_stand.ensures.1 (at (rw (c.deref-dot-items.ensures.value, c.other.view_is) below)))))
+    let at = at_place dots_total exact_dots (λ x v. set.contains c.args.heard.now x ≡ true → StandsBelow g.V.Lattice.below (find dot_cmp x c.args.self.now) v) c.as_slice-dot-items.result.now _ _
+    (rw c.as_slice-dot-items.ensures c.other.invariant.in_order) c.loop-dot-test.true c.loop-dot-item.is in
+    (λ e. absurd (false≢true e), λ below. absurd (false≢true (sym c.if-not-lets_stand.true ∙ c.lets_stand.ensures.1 (at (rw (c.as_slice-dot-items.ensures, c.other.view_is) below)))))
 
 pub returns : goal.returns
 returns g c =
     let all = no_more dots_total exact_dots (λ x v. set.contains c.args.heard.now x ≡ true → StandsBelow g.V.Lattice.below (find dot_cmp x c.args.self.now) v) (λ _ _. tt) _ _
     c.loop-dot-test.false c.loop-dot.invariant in
-    (λ _. rw (← c.other.view_is, ← c.deref-dot-items.ensures.value) all, λ _. refl)
+    (λ _. rw (← c.other.view_is, ← c.as_slice-dot-items.ensures) all, λ _. refl)

@@ -1,5 +1,5 @@
--- What the lost node and the first one know in the worked run: who is live, which counters are used, and the verdicts. Each of them says
--- that it may run the application, and the lost one claims it.
+-- Nodes that come up in the worked run: who is live, which counters are used. Each of them says that it may run the application,
+-- and the one that is lost claims it.
 use Rattle.std.proofs.Common.{◌≡◌, ℕ, ◌+◌, ◌<◌, Bool, true, false, not, cond, ◌||◌, List, [], ◌∷◌, length, Option, Some, None, option_map, refl, sym, ap, subst, ◌∙◌, arith, inl, inr}
 use Rattle.std.specs.Prelude.{nat_lt, nat_le, unwrap_or}
 use Rattle.std.specs.Option.{is_some, option_map_or}
@@ -10,7 +10,6 @@ use Rattle.dac_base.specs.declared.NodeId.{NodeId}
 use Rattle.dac_base.specs.declared.AppId.{AppId}
 use Rattle.dac_base.specs.declared.limits.TheConstants.{MAX_COUNTER}
 use Rattle.dac_dots.specs.declared.dot.Dot.{Dot}
-use Rattle.dac_dots.specs.declared.dot.Origin.{Origin}
 use Rattle.dac_dots.specs.Dots.{dot, dot_cmp, dots_total, exact_dots}
 use Rattle.dac_dots.specs.Keys.{has_key}
 use Rattle.dac_dots.specs.InOrder.{has_key-in_order}
@@ -33,12 +32,12 @@ use Rattle.dac_meaning.specs.Meaning.{In, meaning_of, pairs, life_said, claim_sa
 use Rattle.dac_meaning.specs.Chained.{SaysFor, of_said, is_said}
 use Rattle.dac_meaning.specs.laws.Members.{found, finds}
 use Rattle.dac_meaning.specs.laws.Readers.{known-meaning, starts-meaning, permits-meaning, drains-meaning, lives-meaning, lives_are}
-use Rattle.dac_placement.specs.Placement.{IsUp, is_up, IsEligible, key_at, holder_of, IsVerdict, verdict_of, candidate_of}
+use Rattle.dac_placement.specs.Placement.{is_up, IsEligible, key_at, holder_of, IsVerdict, verdict_of, candidate_of}
 use Rattle.dac_placement.specs.declared.verdicts.Verdict.{Verdict}
 use Rattle.dac_placement.specs.declared.verdicts.Verdict.TheVariants.{Start as ToStart, Failover, Halted, Move, Takeover, Kept, Nobody}
 use Rattle.dac_placement.specs.laws.Judged.{verdict_in_words}
 use Rattle.dac_placement.specs.laws.Tests.{up_is}
-use Rattle.dac_decide.specs.FailoverWait.{is_due_by, noted_at, IsLost, waits_of}
+use Rattle.dac_decide.specs.FailoverWait.{is_due_by, noted_at, waits_of}
 use Rattle.dac_decide.specs.declared.waits.Noted.{Noted}
 use Rattle.dac_events.specs.declared.Command.TheVariants.{Start}
 use Rattle.dac_messages.specs.declared.event.Event.TheVariants.{Command as Told, Tick}
@@ -56,8 +55,8 @@ use Rattle.dac_model_world.specs.Step.{comes_up}
 use Rattle.dac_meaning.specs.laws.StateLaws.{bottom-join}
 use Rattle.dac_meaning.specs.laws.Joins.{meaning-state, join-meaning}
 use Rattle.dac_model_world.specs.laws.Operations.{DistinctDots-agree}
-use Rattle.dac_settle.specs.Worked.{first_node, the_app, first_of, up_of, start_of}
-use Rattle.dac_settle.specs.WorkedLoss.{lost_node, loss_table, lost_claim}
+use Rattle.dac_settle.specs.Worked.{the_app, first_of, up_of, start_of}
+use Rattle.dac_settle.specs.WorkedLoss.{lost_node, loss_table}
 use Rattle.dac_settle.specs.laws.AnyPlacement.{one}
 use Rattle.dac_settle.specs.laws.OnlyClaims.{claim_greatest}
 use Rattle.dac_settle.specs.laws.Started.{up_life}
@@ -114,27 +113,18 @@ start_at n = start_of the_app n 2
 abbrev pub claiming : Operation
 claiming = operation (dot (first_of lost_node) 3) (Claims the_app 1 Normal None)
 
--- what a node holds once it came up, once it may run the application, and once it knows the claim
+-- what a node holds once it came up, and once it may run the application
 abbrev came : NodeId → List Operation
 came n = up_of n ∷ []
 
 abbrev begun : NodeId → List Operation
 begun n = up_of n ∷ start_at n ∷ []
 
-abbrev pub knows : List Operation
-knows = up_of first_node ∷ start_at first_node ∷ claiming ∷ []
-
 no_life_came : SayNoLife []
 no_life_came o i = absurd i
 
 no_life_begun : (n : NodeId) → SayNoLife (start_at n ∷ [])
 no_life_begun n o i m l e = elim i [ inl same ↦ none_some (sym (ap (λ (q : Operation). life_said q.dot q.act) same) ∙ e) | inr none ↦ absurd none ]
-
-no_life_knows : SayNoLife (start_at first_node ∷ claiming ∷ [])
-no_life_knows o i m l e = elim i [
-  | inl same ↦ none_some (sym (ap (λ (q : Operation). life_said q.dot q.act) same) ∙ e)
-  | inr more ↦ elim more [ inl same ↦ none_some (sym (ap (λ (q : Operation). life_said q.dot q.act) same) ∙ e) | inr none ↦ absurd none ]
-]
 
 bare_by : (o p : Operation) (d : Dot) → o ≡ p → replaces d p ≡ false → replaces d o ≡ false
 bare_by o p d same bare = ap (replaces d) same ∙ bare
@@ -147,12 +137,6 @@ begun_bare : (n : NodeId) (o : Operation) → In o (begun n) → (d : Dot) → r
 begun_bare n o (inl a) d = bare_by o (up_of n) d a refl
 begun_bare n o (inr (inl a)) d = bare_by o (start_at n) d a refl
 begun_bare n o (inr (inr none)) d = absurd none
-
-knows_bare : (o : Operation) → In o knows → (d : Dot) → replaces d o ≡ false
-knows_bare o (inl a) d = bare_by o (up_of first_node) d a refl
-knows_bare o (inr (inl a)) d = bare_by o (start_at first_node) d a refl
-knows_bare o (inr (inr (inl a))) d = bare_by o claiming d a refl
-knows_bare o (inr (inr (inr none))) d = absurd none
 
 number_of : (d : Dot) (o p : Operation) → d ≡ o.dot → o ≡ p → d.n ≡ p.dot.n
 number_of d o p e same = ap (λ (x : Dot). x.n) e ∙ ap (λ (q : Operation). q.dot.n) same
@@ -185,26 +169,6 @@ begun_counter n = sym (ap (λ (d : Dot). d.n) (next-is (meaning_of (begun n)).kn
     at_most j o (inr (inl a)) e = below j 2 3 (number_of (dot (first_of n) j) o (start_at n) e a) (omega arith)
     at_most j o (inr (inr none)) e = absurd none
 
-two_zero : (n : NodeId) → lost_node ≡ n → first_node ≡ n → ⊥
-two_zero n a b = apart (ap (λ (m : NodeId). m.0) (a ∙ sym b))
-  where
-    apart : ◌≡◌ {A = ℕ} 2 0 → ⊥
-    apart e = absurd (omega (arith, e))
-
-pub knows_counter : greatest_counter (first_of first_node) (meaning_of knows).known + 1 ≡ 3
-knows_counter = sym (ap (λ (d : Dot). d.n) (next-is (meaning_of knows).known (first_of first_node) (dot (first_of first_node) 3) (record {
-  same_origin = refl;
-  above = λ j t. let f = named_in knows knows_bare (dot (first_of first_node) j) t in at_most j f.0 f.1.0 f.1.1;
-  tight = inr (known-meaning knows (dot (first_of first_node) 2) ∙ finds (names (dot (first_of first_node) 2)) knows (start_at first_node) (inr (inl refl)) (ap (λ b. b || replaces (dot (first_of first_node) 2) (start_at first_node)) (same_dot_itself (dot (first_of first_node) 2))));
-  at_most = leb-true 3 MAX_COUNTER refl;
-})))
-  where
-    at_most : (j : ℕ) (o : Operation) → In o knows → dot (first_of first_node) j ≡ o.dot → j < 3
-    at_most j o (inl a) e = below j 1 3 (number_of (dot (first_of first_node) j) o (up_of first_node) e a) (omega arith)
-    at_most j o (inr (inl a)) e = below j 2 3 (number_of (dot (first_of first_node) j) o (start_at first_node) e a) (omega arith)
-    at_most j o (inr (inr (inl a))) e = absurd (two_zero first_node (sym (ap (λ (d : Dot). d.origin.node) e ∙ ap (λ (q : Operation). q.dot.origin.node) a)) refl)
-    at_most j o (inr (inr (inr none))) e = absurd none
-
 -- ---- claims
 no_claim_begun : (n : NodeId) (app : AppId) (c : Claim) → SaysFor claim_said (begun n) app c → ⊥
 no_claim_begun n app c says = elim says.1.0 [
@@ -219,47 +183,12 @@ none_claimed n app = by_claim (map.get (meaning_of (begun n)).claims app) (claim
     by_claim None none = refl
     by_claim (Some c) is = absurd (no_claim_begun n app c is.0)
 
-said_by : (app : AppId) (c : Claim) → SaysFor claim_said knows app c → (the_app ≡ app) × (lost_claim ≡ c)
-said_by app c says = elim says.1.0 [
-  | inl a ↦ none_some (sym (ap (λ (q : Operation). claim_said q.dot q.act) a) ∙ says.1.1)
-  | inr more ↦ elim more [
-    | inl b ↦ none_some (sym (ap (λ (q : Operation). claim_said q.dot q.act) b) ∙ says.1.1)
-    | inr last ↦ elim last [ inl same ↦ pair_of (sym (ap (λ (q : Operation). claim_said q.dot q.act) same) ∙ says.1.1) | inr none ↦ absurd none ]
-  ]
-]
-
-pub claimed : map.get (meaning_of knows).claims the_app ≡ Some lost_claim
-claimed = by_claim (map.get (meaning_of knows).claims the_app) (claim_greatest knows the_app)
-  where
-    by_claim : (o : Option Claim) → IsGreatest claim_cmp (SaysFor claim_said knows the_app) o → o ≡ Some lost_claim
-    by_claim None none = absurd (none lost_claim (claiming, (inr (inr (inl refl)), refl)))
-    by_claim (Some c) is = ap (λ k. Some k) (sym (said_by the_app c is.0).1)
-
-pub only_claimed : (app : AppId) (c : Claim) → map.get (meaning_of knows).claims app ≡ Some c → the_app ≡ app
-only_claimed app c e = by_claim (map.get (meaning_of knows).claims app) (claim_greatest knows app) e
-  where
-    by_claim : (o : Option Claim) → IsGreatest claim_cmp (SaysFor claim_said knows app) o → o ≡ Some c → the_app ≡ app
-    by_claim None none e = none_some e
-    by_claim (Some k) is e = (said_by app k is.0).0
-
 -- ---- the states
 abbrev begun_state : NodeId → StateValue
 begun_state n = meaning_of (begun n)
 
-abbrev pub known_state : StateValue
-known_state = meaning_of knows
-
 begun_live : (n : NodeId) → IsLive (begun_state n).lives n 1
 begun_live n = is_live n (start_at n ∷ []) (no_life_begun n)
-
-pub known_live : IsLive known_state.lives first_node 1
-known_live = is_live first_node (start_at first_node ∷ claiming ∷ []) no_life_knows
-
-pub known_only : (m : NodeId) (inc : ℕ) → IsLive known_state.lives m inc → (first_node ≡ m) × (1 ≡ inc)
-known_only = live_only first_node (start_at first_node ∷ claiming ∷ []) no_life_knows
-
-pub is_lost : IsLost known_state the_app lost_claim
-is_lost = record { greatest = claimed; down = λ up. two_zero lost_node refl (known_only lost_node 1 up).0 }
 
 may_begin : IsEligible loss_table (begun_state lost_node) the_app lost_node
 may_begin = record {
@@ -268,15 +197,6 @@ may_begin = record {
   live = begun_live lost_node;
   allowed = (inl (λ d. permits-meaning (begun lost_node) (write (key_at the_app lost_node 1) d), refl), λ d. none_some (sym (drains-meaning (begun lost_node) (keyed_write (origin lost_node 1) d.0)) ∙ d.1));
   started = (dot (first_of lost_node) 2, starts-meaning (begun lost_node) (write (key_at the_app lost_node 1) (dot (first_of lost_node) 2)));
-}
-
-may_take : IsEligible loss_table known_state the_app first_node
-may_take = record {
-  listed = refl;
-  inc = 1;
-  live = known_live;
-  allowed = (inl (λ d. permits-meaning knows (write (key_at the_app first_node 1) d), refl), λ d. none_some (sym (drains-meaning knows (keyed_write (origin first_node 1) d.0)) ∙ d.1));
-  started = (dot (first_of first_node) 2, starts-meaning knows (write (key_at the_app first_node 1) (dot (first_of first_node) 2)));
 }
 
 -- ---- the verdicts
@@ -294,23 +214,6 @@ is_start Nobody is = absurd (is.0 lost_node (omega arith) may_begin)
 
 starts_it : verdict_of loss_table (begun_state lost_node) the_app ≡ ToStart lost_node
 starts_it = is_start (verdict_of loss_table (begun_state lost_node) the_app) (verdict_in_words loss_table (begun_state lost_node) the_app)
-
-never_up : (o : Origin) → holder_of known_state the_app ≡ Some o → IsUp known_state o → ⊥
-never_up o held up =
-    let is : first_of lost_node ≡ o = one (sym (ap (option_map (λ (c : Claim). c.origin)) claimed) ∙ held) in
-    is_lost.down (subst (IsUp known_state) (sym is) up)
-
-is_failover : (v : Verdict) → IsVerdict loss_table known_state the_app v → v ≡ Failover first_node
-is_failover (ToStart n) is = none_some (sym is.0 ∙ ap (option_map (λ (c : Claim). c.origin)) claimed)
-is_failover (Failover n) is = ap (λ k. Failover k) (sym (known_only n is.1.eligible.inc is.1.eligible.live).0)
-is_failover (Halted n) is = absurd (never_up is.0 is.1 is.2.1)
-is_failover (Move n) is = absurd (never_up is.0.0 is.0.1 is.0.2.0)
-is_failover (Takeover n) is = absurd (never_up is.1.0 is.1.1 is.1.2.1)
-is_failover (Kept n) is = absurd (never_up is.0.0 is.0.1 is.0.2.1)
-is_failover Nobody is = absurd (is.0 first_node (omega arith) may_take)
-
-pub takes_it : verdict_of loss_table known_state the_app ≡ Failover first_node
-takes_it = is_failover (verdict_of loss_table known_state the_app) (verdict_in_words loss_table known_state the_app)
 
 -- ---- a node that came up says that it may run the application
 came_live : (n : NodeId) → IsLive (meaning_of (came n)).lives n 1

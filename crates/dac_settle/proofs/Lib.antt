@@ -1,0 +1,4 @@
+pub mod LostClaim
+pub mod Losing
+pub mod LossRound
+pub mod FailsOver

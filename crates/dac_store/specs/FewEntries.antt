@@ -1,0 +1,10 @@
+-- The dots of a store with their values, wherever it keeps them.
+use Rattle.std.specs.Prelude.{List, [], ◌∷◌}
+use Rattle.dac_dots.specs.declared.dot.Dot.{Dot}
+use Rattle.dac_store.specs.declared.few_entries.FewEntries.{FewEntries}
+use Rattle.dac_store.specs.declared.few_entries.FewEntries.TheVariants.{Empty, One, Sorted}
+
+abbrev pub entries_of : {V : Type 0} → FewEntries V → List (Dot × V)
+entries_of Empty = []
+entries_of (One single) = single
+entries_of (Sorted entries) = entries.items

@@ -1,0 +1,169 @@
+//! Few values at dots, with little memory.
+ghost use Rattle.std.specs.Prelude.{◌≡◌, ◌++◌, [], ◌∷◌, IfOk, OnOk, OnErr};
+ghost use Rattle.std.specs.Option.{option_copied, option_to_list};
+ghost use Rattle.dac_dots.specs.Dots.{dot_cmp};
+ghost use Rattle.dac_lattice.specs.Entries.{merge_entries, keep};
+ghost use Rattle.dac_store.specs.FewEntries.{entries_of};
+
+use dac_dots::{Dot, NoMemory};
+use dac_lattice::Lattice;
+use dac_lattice::merging::{Combine, merge};
+use std::alloc::Global;
+use std::cmp::Ordering;
+use std::mem::replace;
+
+/// The dots of a store with their values, in the order of the dots. A single one takes no memory.
+#[derive(Drop)]
+pub(crate) enum FewEntries<V: Lattice> {
+    /// No dots.
+    Empty,
+    /// A single dot with its value.
+    One([(Dot, V); 1]),
+    /// A list of dots with their values.
+    Sorted(Vec<(Dot, V)>),
+}
+
+impl<V: Lattice> FewEntries<V> {
+    /// The dots with their values, in order. It takes no memory.
+    pub(crate) fn as_slice(&self) -> &[(Dot, V)]
+        ensures { result.now ≡ entries_of self.now }
+    {
+        match self {
+            FewEntries::Empty => &[],
+            FewEntries::One(single) => single.as_slice(),
+            FewEntries::Sorted(entries) => entries.as_slice(),
+        }
+    }
+
+    /// Equal values at the same dots.
+    pub(crate) fn copy(&self, alloc: Global) -> Result<Self, NoMemory>
+        ensures { IfOk result (λ copied. entries_of copied ≡ entries_of self.now) }
+    {
+        match self {
+            FewEntries::Empty => Ok(FewEntries::Empty),
+            FewEntries::One([(dot, value)]) => {
+                let copied = value.copy()?;
+                Ok(FewEntries::One([(*dot, copied)]))
+            }
+            FewEntries::Sorted(entries) => {
+                let copied = copy_each(alloc, entries)?;
+                Ok(FewEntries::Sorted(copied))
+            }
+        }
+    }
+
+    /// Puts a dot with its value at the end. Where memory is refused the entries stay as they were.
+    pub(crate) fn push(&mut self, alloc: Global, dot: Dot, value: V) -> Result<(), NoMemory>
+        ensures ok { OnOk result (entries_of self.new ≡ entries_of self.old ++ (dot, value) ∷ []) }
+        ensures err { OnErr result (entries_of self.new ≡ entries_of self.old) }
+    {
+        match self {
+            FewEntries::Empty => *self = FewEntries::One([(dot, value)]),
+            FewEntries::One(_) => {
+                let mut both = Vec::with_capacity(alloc, 2)?;
+                let first = match replace(self, FewEntries::Empty) {
+                    FewEntries::One([first]) => first,
+                    FewEntries::Empty => unreachable!(),
+                    FewEntries::Sorted(_entries) => unreachable!(),
+                };
+                both.push_reserved(first);
+                both.push_reserved((dot, value));
+                *self = FewEntries::Sorted(both);
+            }
+            FewEntries::Sorted(entries) => entries.push((dot, value))?,
+        }
+        Ok(())
+    }
+}
+
+/// Equal values at the dots of a list.
+fn copy_each<V: Lattice>(alloc: Global, entries: &[(Dot, V)]) -> Result<Vec<(Dot, V)>, NoMemory>
+    ensures { IfOk result (λ copied. copied.items ≡ entries.now) }
+{
+    let mut copied = Vec::with_capacity(alloc, entries.len())?;
+    for (dot, value) in entries {
+        copied.push((*dot, value.copy()?))?;
+    }
+    Ok(copied)
+}
+
+/// The entries of both lists as `how` combines them. Where each has at most one, it takes memory only for two that
+/// are kept.
+pub(crate) fn merge_few<V: Lattice, C: Combine<Dot, V>>(
+    alloc: Global,
+    how: &C,
+    mine: &[(Dot, V)],
+    theirs: &[(Dot, V)],
+) -> Result<FewEntries<V>, NoMemory>
+    ensures { IfOk result (λ merged. entries_of merged ≡ merge_entries dot_cmp (C.combined how.now) mine.now theirs.now) }
+{
+    if mine.len() <= 1 && theirs.len() <= 1 {
+        return merge_singles(alloc, how, mine.first(), theirs.first());
+    }
+    let merged = merge(alloc, how, mine, theirs)?;
+    Ok(FewEntries::Sorted(merged))
+}
+
+/// At most one entry of each side, as `how` combines them.
+fn merge_singles<V: Lattice, C: Combine<Dot, V>>(
+    alloc: Global,
+    how: &C,
+    mine: Option<&(Dot, V)>,
+    theirs: Option<&(Dot, V)>,
+) -> Result<FewEntries<V>, NoMemory>
+    ensures { IfOk result (λ merged. entries_of merged
+        ≡ merge_entries dot_cmp (C.combined how.now) (option_to_list (option_copied mine.entry)) (option_to_list (option_copied theirs.entry))) }
+{
+    match (mine, theirs) {
+        (Some(mine), Some(theirs)) => merge_pair(alloc, how, mine, theirs),
+        (Some((dot, mine)), None) => Ok(kept(*dot, how.left(*dot, mine)?)),
+        (None, Some((dot, theirs))) => Ok(kept(*dot, how.right(*dot, theirs)?)),
+        (None, None) => Ok(FewEntries::Empty),
+    }
+}
+
+/// One entry of each side, as `how` combines them.
+fn merge_pair<V: Lattice, C: Combine<Dot, V>>(
+    alloc: Global,
+    how: &C,
+    mine: &(Dot, V),
+    theirs: &(Dot, V),
+) -> Result<FewEntries<V>, NoMemory>
+    ensures { IfOk result (λ merged. entries_of merged ≡ merge_entries dot_cmp (C.combined how.now) (mine.now ∷ []) (theirs.now ∷ [])) }
+{
+    let (x, mine) = mine;
+    let (y, theirs) = theirs;
+    match x.cmp(y) {
+        Ordering::Less => kept_both(alloc, *x, how.left(*x, mine)?, *y, how.right(*y, theirs)?),
+        Ordering::Equal => Ok(kept(*x, how.both(*x, mine, theirs)?)),
+        Ordering::Greater => kept_both(alloc, *y, how.right(*y, theirs)?, *x, how.left(*x, mine)?),
+    }
+}
+
+/// What is kept at one dot.
+fn kept<V: Lattice>(dot: Dot, value: Option<V>) -> FewEntries<V>
+    ensures { entries_of result ≡ keep dot value [] }
+{
+    match value {
+        Some(value) => FewEntries::One([(dot, value)]),
+        None => FewEntries::Empty,
+    }
+}
+
+/// What is kept at two dots, of which the lower one comes first.
+fn kept_both<V: Lattice>(
+    alloc: Global,
+    lower: Dot,
+    value: Option<V>,
+    upper: Dot,
+    other: Option<V>,
+) -> Result<FewEntries<V>, NoMemory>
+    ensures { IfOk result (λ both. entries_of both ≡ keep lower value (keep upper other [])) }
+{
+    let Some(other) = other else {
+        return Ok(kept(lower, value));
+    };
+    let mut both = kept(lower, value);
+    both.push(alloc, upper, other)?;
+    Ok(both)
+}
