@@ -1,2 +1,3 @@
 pub mod Ids
 pub mod Limits
+pub mod laws

@@ -8,8 +8,9 @@ use Rattle.std.proofs.Common.{inl, inr, sym, ap, subst, ◌∙◌, arith}
 use Rattle.std.proofs.lemmas.Bool.{and_from, or_cases, or_parts, or_left, or_right, ltb-false, cases_lt, false≢true}
 use Rattle.dac_base.specs.declared.limits.TheConstants.{MAX_COUNTER}
 use Rattle.dac_dots.specs.Keys.{has_key}
-use Rattle.dac_dots.specs.InOrder.{less, tie}
-use Rattle.dac_dots.specs.Dots.{Dots, dot_cmp, origin_cmp, origins_total, exact_origins}
+use Rattle.dac_dots.specs.laws.InOrder.{less, tie}
+use Rattle.dac_dots.specs.Dots.{Dots, dot_cmp, origin_cmp}
+use Rattle.dac_dots.specs.laws.Dots.{origins_total, exact_origins}
 use Rattle.dac_dots.specs.declared.dot.Origin.{Origin}
 use Rattle.dac_contexts.specs.laws.RowSets.{rises_to, is_dots_in, kept_are, dots_back}
 use Rattle.dac_contexts.specs.Rows.{Row, rows_of, dots_in, origins, rises_on, HasSome, EndBefore, CanFollow}
@@ -17,8 +18,9 @@ use Rattle.dac_bytes.specs.declared.version.Version.{Version}
 use Rattle.dac_bytes.specs.declared.fault.ReadFaultKind.TheVariants.{BadOrder, BadNumber}
 use Rattle.dac_bytes.specs.Reading.{Rest, Field, Gives, ◌>>=◌, fault, rows_at, context_at, is_above, number_at, range_at, counter_at, origin_at, origin_above_at, items_at, further_at, further_count_at, row_at}
 use Rattle.dac_bytes.specs.declared.fault.ReadFault.{ReadFault}
-use Rattle.dac_bytes.specs.Items.{with_front, Fails-on}
-use Rattle.dac_bytes.specs.Takes.{bind_ok, guard_ok, wanted_ok, ok_is}
+use Rattle.dac_bytes.specs.Items.{with_front}
+use Rattle.dac_bytes.specs.laws.Items.{Fails-on}
+use Rattle.dac_bytes.specs.laws.Takes.{bind_ok, guard_ok, wanted_ok, ok_is}
 
 -- further counters rise
 further_rise : (count low : ℕ) (r : Rest) (x : List ℕ × Rest) → items_at further_at (λ n. n) count low r ≡ Ok x → (rises_on low x.0 ≡ true) × (length x.0 ≡ count)

@@ -6,3 +6,5 @@ pub mod Fields
 pub mod FurtherLaws
 pub mod RisingLaws
 pub mod SetLaws
+pub mod Items
+pub mod Takes

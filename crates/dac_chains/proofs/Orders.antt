@@ -5,7 +5,7 @@ use Rattle.std.specs.Option.{option_cmp}
 use Rattle.dac_base.specs.Ids.{node_cmp}
 use Rattle.dac_lattice.specs.Dots.{origin_cmp}
 use Rattle.dac_lattice.specs.contracts.flags.FlagOrd.TheImpl.{cmp-value as flags}
-use Rattle.dac_lattice.specs.Flags.{same_flag_cmp}
+use Rattle.dac_lattice.specs.laws.Flags.{same_flag_cmp}
 use Rattle.dac_chains.specs.contracts.lives.LifeOrd.TheImpl.{cmp-value as lives}
 use Rattle.dac_chains.specs.contracts.claims.ClaimOrd.TheImpl.{cmp-value as claims}
 use Rattle.dac_chains.specs.Lives.{life_cmp}

@@ -2,22 +2,18 @@
 -- started or moved, after a failover or by a takeover. (The ways are those of OTP's distributed applications. The
 -- order of claims is this project's own.)
 use Rattle.std.specs.Prelude.{◌≡◌, ℕ, List, Option, None, Some, refl}
-use Rattle.std.proofs.Common.{zero, suc, ap}
+use Rattle.std.proofs.Common.{zero, suc}
 use Rattle.std.specs.declared.cmp.Ordering.{Ordering}
 use Rattle.std.specs.Ordering.{nat_cmp, ordering_then}
 use Rattle.std.specs.Option.{option_cmp}
-use Rattle.std.specs.Cmp.{IsTotalOrder}
-use Rattle.std.specs.Cmp.Lexicographic.{options_total}
 use Rattle.std.specs.FinMap as map
 use Rattle.std.specs.Coded.{Coded, code_by, coded×, coded_ℕ, coded_option}
-use Rattle.std.proofs.lemmas.Cmp.{nat_cmp_total, on_total, then_total}
-use Rattle.std.proofs.lemmas.Map.Lookups.{CmpEqualImpliesEq, exact_pairs, exact_unsigned}
 use Rattle.dac_base.specs.declared.NodeId.{NodeId}
 use Rattle.dac_base.specs.declared.AppId.{AppId}
-use Rattle.dac_base.specs.Ids.{app_cmp, node_cmp, nodes_total, exact_nodes, coded_node}
+use Rattle.dac_base.specs.Ids.{app_cmp, node_cmp, coded_node}
 use Rattle.dac_lattice.specs.Dot.{Dot}
 use Rattle.dac_lattice.specs.Origin.{Origin}
-use Rattle.dac_lattice.specs.Dots.{origin_cmp, origins_total, exact_origins, coded_origin}
+use Rattle.dac_lattice.specs.Dots.{origin_cmp, coded_origin}
 use Rattle.dac_chains.specs.Greatest.{IsGreatest, IsSaid}
 use Rattle.dac_chains.specs.declared.claims.How.{How}
 use Rattle.dac_chains.specs.declared.claims.How.TheVariants.{Normal, Failover, Takeover}
@@ -59,43 +55,6 @@ IsGreatestClaimOf app os claim = IsGreatest claim_cmp (IsSaid said_claim os app)
 -- each application has its greatest claim by the operations
 abbrev pub AreGreatestClaims : List (Dot × ClaimAct) → Claims → Type 0
 AreGreatestClaims os claims = (app : AppId) → IsGreatestClaimOf app os (map.get claims app)
-
--- ---- laws
-
-pub hows_total : IsTotalOrder how_cmp
-hows_total = on_total place nat_cmp_total
-
-pub claims_total : IsTotalOrder claim_cmp
-claims_total =
-    then_total (on_total (λ (c : Claim). c.term) nat_cmp_total)
-    (then_total (on_total (λ (c : Claim). c.origin) origins_total)
-    (then_total (on_total (λ (c : Claim). c.how) hows_total) (on_total (λ (c : Claim). c.from) (options_total nodes_total))))
-
-pub exact_hows : CmpEqualImpliesEq how_cmp
-exact_hows Normal Normal e = refl
-exact_hows Normal Failover e = cc
-exact_hows Normal Takeover e = cc
-exact_hows Failover Normal e = cc
-exact_hows Failover Failover e = refl
-exact_hows Failover Takeover e = cc
-exact_hows Takeover Normal e = cc
-exact_hows Takeover Failover e = cc
-exact_hows Takeover Takeover e = refl
-
-exact_options : CmpEqualImpliesEq (option_cmp node_cmp)
-exact_options None None e = refl
-exact_options None (Some y) e = cc
-exact_options (Some x) None e = cc
-exact_options (Some x) (Some y) e = ap (λ n. Some n) (exact_nodes x y e)
-
--- only equal claims tie, where only equal ways to claim do
-pub exact_claims : (hows : How → How → Ordering) → CmpEqualImpliesEq hows
-    → CmpEqualImpliesEq (λ (a b : Claim). ordering_then (nat_cmp a.term b.term) (ordering_then (origin_cmp a.origin b.origin) (manner_cmp hows (a.how, a.from) (b.how, b.from))))
-exact_claims hows exact a b h =
-    let manners = exact_pairs hows (option_cmp node_cmp) exact exact_options in
-    let rest : CmpEqualImpliesEq (λ (x y : Origin × (How × Option NodeId)). ordering_then (origin_cmp x.0 y.0) (manner_cmp hows x.1 y.1)) = exact_pairs origin_cmp (manner_cmp hows) exact_origins manners in
-    ap (λ (p : ℕ × (Origin × (How × Option NodeId))). record { term = p.0; origin = p.1.0; how = p.1.1.0; from = p.1.1.1 })
-    (exact_pairs nat_cmp (λ x y. ordering_then (origin_cmp x.0 y.0) (manner_cmp hows x.1 y.1)) exact_unsigned rest (a.term, (a.origin, (a.how, a.from))) (b.term, (b.origin, (b.how, b.from))) h)
 
 abbrev how_at : ℕ → How
 how_at zero = Normal

@@ -9,8 +9,10 @@ use Rattle.std.proofs.lemmas.Bool.{true≢false}
 use Rattle.std.proofs.lemmas.Cmp.{tied_itself}
 use Rattle.std.proofs.lemmas.Map.Lookups.{CmpEqualImpliesEq}
 use Rattle.dac_lattice.specs.Dot.{Dot}
-use Rattle.dac_lattice.specs.Chains.{IsAny, IsAtMost, chain_laws}
-use Rattle.dac_lattice.specs.Lattices.{IsLattice, IsIn, IsWithin, join_options, optional_laws}
+use Rattle.dac_lattice.specs.Chains.{IsAny, IsAtMost}
+use Rattle.dac_lattice.specs.laws.Chains.{chain_laws}
+use Rattle.dac_lattice.specs.Lattices.{IsLattice, IsIn, IsWithin, join_options}
+use Rattle.dac_lattice.specs.laws.Lattices.{optional_laws}
 use Rattle.dac_lattice.specs.Entries.{merge_entries, find_merge}
 use Rattle.dac_lattice.specs.Pieces.{In, IsPiece}
 

@@ -5,7 +5,8 @@ use Rattle.std.proofs.lemmas.Map.Lookups.{CmpEqualImpliesEq}
 use Rattle.dac_chains.specs.declared.claims.How.{How}
 use Rattle.dac_chains.specs.declared.claims.How.TheVariants.{Normal, Failover, Takeover}
 use Rattle.dac_chains.specs.contracts.claims.HowOrd.TheImpl.{cmp-value}
-use Rattle.dac_chains.specs.Claims.{how_cmp, exact_hows}
+use Rattle.dac_chains.specs.Claims.{how_cmp}
+use Rattle.dac_chains.specs.laws.Claims.{exact_hows}
 
 pub same_hows : (x y : How) → cmp-value.it x y ≡ how_cmp x y
 same_hows Normal Normal = refl

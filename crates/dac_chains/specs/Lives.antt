@@ -1,20 +1,16 @@
 -- The life of each node: the greatest of what was said of it, by incarnation, and Up below Down at one incarnation.
 -- So who went down stays down until it comes up as a later incarnation. (The order is this project's own.)
 use Rattle.std.specs.Prelude.{◌≡◌, ℕ, List, Option, None, Some, option_and_then, refl}
-use Rattle.std.proofs.Common.{ap}
 use Rattle.std.specs.declared.cmp.Ordering.{Ordering}
 use Rattle.std.specs.Ordering.{nat_cmp, ordering_then}
-use Rattle.std.specs.Cmp.{IsTotalOrder}
 use Rattle.std.specs.FinMap as map
 use Rattle.std.specs.Coded.{Coded, code_by, coded×, coded_ℕ}
-use Rattle.std.proofs.lemmas.Cmp.{nat_cmp_total, on_total, then_total}
-use Rattle.std.proofs.lemmas.Map.Lookups.{CmpEqualImpliesEq, exact_pairs, exact_unsigned}
 use Rattle.dac_base.specs.declared.NodeId.{NodeId}
 use Rattle.dac_base.specs.Ids.{node_cmp}
 use Rattle.dac_lattice.specs.Dot.{Dot}
 use Rattle.dac_lattice.specs.declared.flags.Flag.{Flag}
 use Rattle.dac_lattice.specs.declared.flags.Flag.TheVariants.{Up, Down}
-use Rattle.dac_lattice.specs.Flags.{flag_cmp, flags_total, coded_flag}
+use Rattle.dac_lattice.specs.Flags.{flag_cmp, coded_flag}
 use Rattle.dac_chains.specs.Greatest.{IsGreatest, IsSaid}
 use Rattle.dac_chains.specs.declared.lives.Life.{Life}
 use Rattle.dac_chains.specs.declared.lives.LifeAct.{LifeAct}
@@ -55,15 +51,6 @@ if_up i Down = None
 -- the incarnation of the node that is live, if any
 abbrev pub live_at : Lives → NodeId → Option ℕ
 live_at lives n = option_and_then (λ (l : Life). if_up l.inc l.flag) (map.get lives n)
-
--- ---- laws
-
-pub lives_total : IsTotalOrder life_cmp
-lives_total = then_total (on_total (λ (l : Life). l.inc) nat_cmp_total) (on_total (λ (l : Life). l.flag) flags_total)
-
--- only equal lives tie, where only equal flags do
-pub exact_lives : (flags : Flag → Flag → Ordering) → CmpEqualImpliesEq flags → CmpEqualImpliesEq (λ (a b : Life). ordering_then (nat_cmp a.inc b.inc) (flags a.flag b.flag))
-exact_lives flags exact a b h = ap (λ (p : ℕ × Flag). record { inc = p.0; flag = p.1 }) (exact_pairs nat_cmp flags exact_unsigned exact (a.inc, a.flag) (b.inc, b.flag) h)
 
 -- a life as a number and a flag
 abbrev pub coded_life : Coded Life

@@ -1,2 +1,4 @@
 pub mod Live
 pub mod InWords
+pub mod Claims
+pub mod Lives

@@ -23,8 +23,8 @@ pub struct Life {
 
 impl MapKey for Life {
     ghost use Rattle.std.specs.Prelude.{refl};
-    ghost use Rattle.dac_lattice.specs.Flags.{exact_flags};
-    ghost use Rattle.dac_chains.specs.Lives.{exact_lives};
+    ghost use Rattle.dac_lattice.specs.laws.Flags.{exact_flags};
+    ghost use Rattle.dac_chains.specs.laws.Lives.{exact_lives};
 
     ghost exact = { exact_lives ⟦<Flag as Ord>⟧.cmp (exact_flags ⟦<Flag as Ord>⟧.cmp refl refl) };
 }
@@ -114,11 +114,13 @@ impl Lives {
 }
 
 impl Lattice for Lives {
-    ghost use Rattle.dac_base.specs.Ids.{nodes_total, exact_nodes};
+    ghost use Rattle.dac_base.specs.laws.Ids.{nodes_total, exact_nodes};
     ghost use Rattle.dac_lattice.specs.Chains.{IsAny};
-    ghost use Rattle.dac_lattice.specs.Flags.{flag_cmp, flags_exact};
+    ghost use Rattle.dac_lattice.specs.Flags.{flag_cmp};
+    ghost use Rattle.dac_lattice.specs.laws.Flags.{flags_exact};
     ghost use Rattle.dac_chains.specs.Greatest.{AreNotAbove, greater, greatest_laws};
-    ghost use Rattle.dac_chains.specs.Lives.{life_cmp, lives_total, exact_lives};
+    ghost use Rattle.dac_chains.specs.Lives.{life_cmp};
+    ghost use Rattle.dac_chains.specs.laws.Lives.{lives_total, exact_lives};
 
     ghost is_value = { IsAny };
 
@@ -155,10 +157,11 @@ impl Lattice for Lives {
 
 impl Bottom for Lives {
     ghost use Rattle.std.specs.FinMap as map;
-    ghost use Rattle.dac_base.specs.Ids.{nodes_total, exact_nodes};
-    ghost use Rattle.dac_lattice.specs.Flags.{flag_cmp, flags_exact};
+    ghost use Rattle.dac_base.specs.laws.Ids.{nodes_total, exact_nodes};
+    ghost use Rattle.dac_lattice.specs.Flags.{flag_cmp};
+    ghost use Rattle.dac_lattice.specs.laws.Flags.{flags_exact};
     ghost use Rattle.dac_chains.specs.Greatest.{empty_is_least};
-    ghost use Rattle.dac_chains.specs.Lives.{lives_total, exact_lives};
+    ghost use Rattle.dac_chains.specs.laws.Lives.{lives_total, exact_lives};
 
     ghost bottom = { map.empty };
 
@@ -174,10 +177,12 @@ impl Bottom for Lives {
 }
 
 impl Piece for Lives {
-    ghost use Rattle.dac_base.specs.Ids.{nodes_total, exact_nodes};
-    ghost use Rattle.dac_lattice.specs.Flags.{flag_cmp, flags_exact};
+    ghost use Rattle.dac_base.specs.laws.Ids.{nodes_total, exact_nodes};
+    ghost use Rattle.dac_lattice.specs.Flags.{flag_cmp};
+    ghost use Rattle.dac_lattice.specs.laws.Flags.{flags_exact};
     ghost use Rattle.dac_chains.specs.Greatest.{alone, greatest_piece};
-    ghost use Rattle.dac_chains.specs.Lives.{AreLives, lives_total, exact_lives, said_life};
+    ghost use Rattle.dac_chains.specs.Lives.{AreLives, said_life};
+    ghost use Rattle.dac_chains.specs.laws.Lives.{lives_total, exact_lives};
 
     type Act = LifeAct;
 

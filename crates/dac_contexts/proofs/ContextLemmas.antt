@@ -11,8 +11,9 @@ use Rattle.std.proofs.lemmas.List.Elements.{All-head, All-tail, All-from_recursi
 use Rattle.std.proofs.lemmas.List.Folds.{list_any_more, list_any_at}
 use Rattle.dac_base.specs.declared.limits.TheConstants.{MAX_COUNTER}
 use Rattle.dac_dots.specs.Keys.{is_below_all, is_rising, IsRising, has_key}
-use Rattle.dac_dots.specs.InOrder.{tie, less}
-use Rattle.dac_dots.specs.Dots.{Dots, dot, dots_total, exact_dots, origin_cmp, origins_total, exact_origins, IsSubset, IsNext, IsUsedUp, IsVector}
+use Rattle.dac_dots.specs.laws.InOrder.{tie, less}
+use Rattle.dac_dots.specs.Dots.{Dots, dot, origin_cmp, IsSubset, IsNext, IsUsedUp, IsVector}
+use Rattle.dac_dots.specs.laws.Dots.{dots_total, exact_dots, origins_total, exact_origins}
 use Rattle.dac_dots.specs.declared.dot.Origin.{Origin}
 use Rattle.dac_dots.specs.declared.dot.Dot.{Dot}
 use Rattle.dac_contexts.specs.laws.CounterLaws.{less as number_less, is_same}

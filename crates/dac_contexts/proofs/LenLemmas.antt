@@ -14,8 +14,10 @@ use Rattle.std.proofs.lemmas.List.Concat.{flat_map-cons}
 use Rattle.std.proofs.lemmas.List.Folds.{list_any-append, list_any_more}
 use Rattle.std.proofs.lemmas.List.Sums.{sum_by-cons}
 use Rattle.dac_dots.specs.Keys.{is_below_all, is_rising, IsRising, has_key}
-use Rattle.dac_dots.specs.InOrder.{tie, in_order, in_order-one, below_absent}
-use Rattle.dac_dots.specs.Dots.{Dots, dot, dot_cmp, dots_total, exact_dots, origin_cmp, exact_origins}
+use Rattle.dac_dots.specs.InOrder.{in_order}
+use Rattle.dac_dots.specs.laws.InOrder.{tie, in_order-one, below_absent}
+use Rattle.dac_dots.specs.Dots.{Dots, dot, dot_cmp, origin_cmp}
+use Rattle.dac_dots.specs.laws.Dots.{dots_total, exact_dots, exact_origins}
 use Rattle.dac_dots.specs.declared.dot.Origin.{Origin}
 use Rattle.dac_dots.specs.declared.dot.Dot.{Dot}
 use Rattle.dac_contexts.specs.laws.CounterLaws.{is_eq-then}

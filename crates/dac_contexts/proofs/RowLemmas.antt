@@ -8,7 +8,7 @@ use Rattle.std.proofs.lemmas.Map.Lookups.{exact_unsigned}
 use Rattle.std.proofs.lemmas.List.{take_all}
 use Rattle.std.proofs.lemmas.List.Folds.{list_any_more}
 use Rattle.dac_dots.specs.Keys.{is_below_all, is_rising, IsRising, has_key}
-use Rattle.dac_dots.specs.InOrder.{same_rising, below_absent}
+use Rattle.dac_dots.specs.laws.InOrder.{same_rising, below_absent}
 use Rattle.dac_contexts.specs.laws.CounterLaws.{grows, on_the_way, ends_there, has_key-filter, rising_filter, same, is_same, less as number_less}
 use Rattle.dac_contexts.specs.laws.RowLaws.{splits}
 use Rattle.dac_contexts.specs.laws.RowSets.{some_counter}

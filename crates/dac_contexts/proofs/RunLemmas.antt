@@ -11,7 +11,7 @@ use Rattle.std.proofs.lemmas.List.Folds.{list_any-append, list_any_none, list_an
 use Rattle.dac_dots.specs.Keys.{is_below_all, is_rising, IsRising, has_key}
 use Rattle.std.proofs.lemmas.Cmp.{nat_cmp_total}
 use Rattle.std.proofs.lemmas.Map.Lookups.{exact_unsigned}
-use Rattle.dac_dots.specs.InOrder.{or_swap, same_rising}
+use Rattle.dac_dots.specs.laws.InOrder.{or_swap, same_rising}
 use Rattle.dac_contexts.specs.laws.CounterLaws.{is_less, on_the_way, ends_there, rising_filter, has_key-filter}
 use Rattle.dac_contexts.specs.Rows.{IsGreatest, further_of, reach_of}
 use Rattle.dac_contexts.specs.Runs.{from_on, counters_of_run, counters_in, run_has, any_run, any_past, are_apart, AreRuns, HaveEnded, IsPlaceFor, joined, absorbed}

@@ -1,12 +1,17 @@
 //! Sets of counters, kept as runs of counters that follow one another.
 ghost use Rattle.std.specs.Prelude.{◌≡◌, ◌↔◌, ◌+◌, ◌-◌, ◌^◌, ◌<◌, ◌≤◌, ◌⊎◌, ◌||◌, ◌&&◌, ◌∷◌, [], false, true, length, nat_le, nat_lt, take, drop, vec_capacity, IfOk, IsTrue, OnErr, OnOk};
 ghost use Rattle.std.specs.Ordering.{eq_by_cmp, nat_cmp};
+ghost use Rattle.dac_dots.specs.Dots.{dot};
 ghost use Rattle.dac_dots.specs.Keys.{IsRising, has_key};
+ghost use Rattle.dac_dots.specs.declared.dot.Dot.{Dot};
+ghost use Rattle.dac_contexts.specs.Marks.{is_marked};
 ghost use Rattle.dac_contexts.specs.Rows.{IsGreatest, further_of, reach_of};
 ghost use Rattle.dac_contexts.specs.Runs.{AreRuns, HaveEnded, IsPlaceFor, any_past, any_run, are_apart, run_has, joined, absorbed};
 
+use crate::marks::Marks;
 use dac_base::NoMemory;
 use dac_dots::keys::insert_key;
+use dac_dots::{Dot, Origin};
 use std::alloc::Global;
 use std::marker::Model;
 
@@ -95,6 +100,21 @@ fn list_past(counters: &mut Vec<u64>, upto: u64, runs: &[Run]) -> Result<(), NoM
         }
     }
     Ok(())
+}
+
+/// Sets the mark of each dot of an origin whose counter is in a run.
+fn mark_run(origin: Origin, run: Run, marks: &mut Marks)
+    requires { run.first ≤ run.last }
+    ensures own { (n : _) → run_has n run ≡ true → is_marked marks.new.set (dot origin n) ≡ true }
+    ensures more { (q : Dot) → is_marked marks.old.set q ≡ true → is_marked marks.new.set q ≡ true }
+{
+    for n in run.first..run.last {
+        marks.put(Dot { origin, n });
+    }
+    marks.put(Dot {
+        origin,
+        n: run.last,
+    });
 }
 
 /// For how many runs a copy of so many has room. A set without a gap mostly grows without one, so it gets no
@@ -325,6 +345,16 @@ impl Counters {
         }
         list_past(&mut further, self.upto(), &self.runs)?;
         Ok(further)
+    }
+
+    /// Sets the mark of each dot of an origin whose counter is in the set.
+    pub(crate) fn mark(&self, origin: Origin, marks: &mut Marks)
+        ensures own { (n : _) → has_key nat_cmp self.now n ≡ true → is_marked marks.new.set (dot origin n) ≡ true }
+        ensures more { (q : Dot) → is_marked marks.old.set q ≡ true → is_marked marks.new.set q ≡ true }
+    {
+        for run in &self.runs {
+            mark_run(origin, *run, marks);
+        }
     }
 
     /// The counters in rising order.

@@ -10,10 +10,13 @@
 #![tactic(auto)]
 
 pub use context::Context;
+pub use marked::MarkedContext;
 pub use row::Further;
 pub use shared::SharedContext;
 
 mod context;
 mod counters;
+mod marked;
+mod marks;
 mod row;
 mod shared;

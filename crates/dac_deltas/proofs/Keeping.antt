@@ -5,7 +5,7 @@ use Rattle.std.proofs.lemmas.List.{length-drop, length-append, length-map, lengt
 use Rattle.std.specs.List.{All}
 use Rattle.dac_base.specs.declared.limits.TheConstants.{MAX_COUNTER}
 use Rattle.dac_deltas.specs.Kept.{Kept, newest, pushed, trimmed}
-use Rattle.dac_deltas.specs.Logs.{same_kept, pushes_drop_together}
+use Rattle.dac_deltas.specs.laws.Logs.{same_kept, pushes_drop_together}
 use Rattle.dac_deltas.specs.Endings.{HasJoins, AreJoined, IsKept, deltas_of}
 use Rattle.dac_deltas.proofs.Joining.{joined_push, joined_drop}
 use Rattle.dac_deltas.specs.declared.buffer.TheConstants.{MAX_DELTAS}

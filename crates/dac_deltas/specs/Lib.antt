@@ -4,3 +4,4 @@ pub mod Endings
 pub mod Joins
 pub mod Logs
 pub mod Numbers
+pub mod laws

@@ -11,7 +11,7 @@ use Rattle.std.proofs.lemmas.Cmp.{tied_back}
 use Rattle.std.proofs.lemmas.List.Folds.{list_any-append, list_any_none}
 use Rattle.std.proofs.lemmas.List.Sorted.{searchable_from_sorted}
 use Rattle.std.proofs.lemmas.Map.Lookups.{CmpEqualImpliesEq}
-use Rattle.dac_dots.specs.InOrder.{less, tie, or_swap, below_more, below_absent}
+use Rattle.dac_dots.specs.laws.InOrder.{less, tie, or_swap, below_more, below_absent}
 use Rattle.dac_dots.specs.laws.KeyLaws.{has_at, greater, smaller, below_at, neighbours, rising_insert}
 use Rattle.dac_dots.specs.Keys.{is_below_all, IsRising, has_key}
 

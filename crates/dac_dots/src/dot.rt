@@ -26,13 +26,13 @@ pub struct Dot {
 }
 
 impl MapKey for Origin {
-    ghost use Rattle.dac_dots.specs.Dots.{exact_origins};
+    ghost use Rattle.dac_dots.specs.laws.Dots.{exact_origins};
 
     ghost exact = { exact_origins };
 }
 
 impl MapKey for Dot {
-    ghost use Rattle.dac_dots.specs.Dots.{exact_dots};
+    ghost use Rattle.dac_dots.specs.laws.Dots.{exact_dots};
 
     ghost exact = { exact_dots };
 }

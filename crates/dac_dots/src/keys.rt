@@ -38,13 +38,13 @@ impl MapKey for u64 {
 }
 
 impl MapKey for NodeId {
-    ghost use Rattle.dac_base.specs.Ids.{exact_nodes};
+    ghost use Rattle.dac_base.specs.laws.Ids.{exact_nodes};
 
     ghost exact = { exact_nodes };
 }
 
 impl MapKey for AppId {
-    ghost use Rattle.dac_base.specs.Ids.{exact_apps};
+    ghost use Rattle.dac_base.specs.laws.Ids.{exact_apps};
 
     ghost exact = { exact_apps };
 }

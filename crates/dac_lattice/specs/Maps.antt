@@ -6,7 +6,8 @@ use Rattle.std.specs.Cmp.{IsTotalOrder}
 use Rattle.std.proofs.lemmas.Map.Lookups.{CmpEqualImpliesEq}
 use Rattle.std.specs.FinMap.{find, is_sorted}
 use Rattle.std.specs.FinMap.Entries.{same_entries}
-use Rattle.dac_lattice.specs.Lattices.{IsLattice, IsIn, IsWithin, join_options, optional_laws}
+use Rattle.dac_lattice.specs.Lattices.{IsLattice, IsIn, IsWithin, join_options}
+use Rattle.dac_lattice.specs.laws.Lattices.{optional_laws}
 use Rattle.dac_lattice.specs.Entries.{merge_entries, sorted_merge, find_merge}
 
 -- the keys strictly rise, and each value is one

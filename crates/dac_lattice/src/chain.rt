@@ -24,8 +24,9 @@ impl<T: MapKey> Max<T> {
 impl<T: MapKey> Lattice for Max<T> {
     ghost use Rattle.std.specs.Prelude.{refl};
     ghost use Rattle.std.specs.Ordering.{ord_max};
-    ghost use Rattle.dac_lattice.specs.Chains.{IsAny, IsAtMost, chain_laws};
-    ghost use Rattle.dac_lattice.specs.Lattices.{wrapped_laws};
+    ghost use Rattle.dac_lattice.specs.Chains.{IsAny, IsAtMost};
+    ghost use Rattle.dac_lattice.specs.laws.Chains.{chain_laws};
+    ghost use Rattle.dac_lattice.specs.laws.Lattices.{wrapped_laws};
 
     ghost is_value = { IsAny };
 
@@ -56,7 +57,7 @@ impl<T: MapKey> Lattice for Max<T> {
 
 /// The least number is 0.
 impl Bottom for Max<u64> {
-    ghost use Rattle.dac_lattice.specs.Chains.{zero_is_least};
+    ghost use Rattle.dac_lattice.specs.laws.Chains.{zero_is_least};
 
     ghost bottom = { record { value = 0 } };
 

@@ -17,14 +17,15 @@ pub enum Flag {
 
 impl MapKey for Flag {
     ghost use Rattle.std.specs.Prelude.{refl};
-    ghost use Rattle.dac_lattice.specs.Flags.{exact_flags};
+    ghost use Rattle.dac_lattice.specs.laws.Flags.{exact_flags};
 
     ghost exact = { exact_flags ⟦<Flag as Ord>⟧.cmp refl refl };
 }
 
 impl Lattice for Flag {
     ghost use Rattle.dac_lattice.specs.Chains.{IsAny};
-    ghost use Rattle.dac_lattice.specs.Flags.{IsFlagBelow, join_flags, flag_laws};
+    ghost use Rattle.dac_lattice.specs.Flags.{IsFlagBelow, join_flags};
+    ghost use Rattle.dac_lattice.specs.laws.Flags.{flag_laws};
 
     ghost is_value = { IsAny };
 

@@ -8,7 +8,7 @@ use std::alloc::Global;
 /// Values with an order in which any two have a least upper bound, their join.
 ///
 /// The laws are one ghost member: the order is a partial order, and the join is the least value that is
-/// above both. Each law asks that its values are values of the type, which `known` tells.
+/// above both. Each law asks that its values are values of the type, which `tells_invariant` tells.
 pub trait Lattice: Drop {
     /// Holds of the values of the type.
     ghost is_value: { Self → Type 0 };

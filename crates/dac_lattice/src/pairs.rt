@@ -26,7 +26,7 @@ impl<A: Lattice, B: Lattice> Pair<A, B> {
 
 impl<A: Lattice, B: Lattice> Lattice for Pair<A, B> {
     ghost use Rattle.std.specs.Prelude.{refl};
-    ghost use Rattle.dac_lattice.specs.Lattices.{wrapped_laws, paired_laws};
+    ghost use Rattle.dac_lattice.specs.laws.Lattices.{wrapped_laws, paired_laws};
 
     ghost is_value = { λ p. A.is_value p.first × B.is_value p.second };
 

@@ -6,27 +6,33 @@ use Rattle.std.specs.Cmp.{IsTotalOrder}
 use Rattle.std.proofs.lemmas.Map.Lookups.{CmpEqualImpliesEq}
 use Rattle.std.specs.FinSet as set
 use Rattle.std.specs.FinMap as map
-use Rattle.dac_base.specs.Ids.{nodes_total, exact_nodes, apps_total, exact_apps}
+use Rattle.dac_base.specs.laws.Ids.{nodes_total, exact_nodes, apps_total, exact_apps}
 use Rattle.dac_dots.specs.declared.dot.Dot.{Dot}
-use Rattle.dac_dots.specs.Dots.{Dots, dot_cmp, dots_total, exact_dots, origins_total, exact_origins}
+use Rattle.dac_dots.specs.Dots.{Dots, dot_cmp}
+use Rattle.dac_dots.specs.laws.Dots.{dots_total, exact_dots, origins_total, exact_origins}
 use Rattle.dac_dots.specs.Keys.{has_key}
 use Rattle.dac_lattice.specs.declared.flags.Flag.{Flag}
 use Rattle.dac_lattice.specs.declared.flags.Flag.TheVariants.{Up as IsUp, Down as IsDown}
-use Rattle.dac_lattice.specs.Flags.{flag_cmp, flags_exact}
-use Rattle.dac_chains.specs.Lives.{lives_total, exact_lives}
-use Rattle.dac_chains.specs.Claims.{claims_total, exact_claims, exact_hows, how_cmp}
+use Rattle.dac_lattice.specs.Flags.{flag_cmp}
+use Rattle.dac_lattice.specs.laws.Flags.{flags_exact}
+use Rattle.dac_chains.specs.laws.Lives.{lives_total, exact_lives}
+use Rattle.dac_chains.specs.Claims.{how_cmp}
+use Rattle.dac_chains.specs.laws.Claims.{claims_total, exact_claims, exact_hows}
 use Rattle.dac_wishes.specs.declared.wish_act.WishAct.TheVariants.{Other as NoWish}
 use Rattle.dac_wishes.specs.declared.permit_act.PermitAct.TheVariants.{Other as NoPermit}
 use Rattle.dac_wishes.specs.declared.key.Key.{Key}
-use Rattle.dac_wishes.specs.Keys.{keys_total, exact_keys}
+use Rattle.dac_wishes.specs.laws.Keys.{keys_total, exact_keys}
 use Rattle.dac_wishes.specs.KeyedWrites.{KeyedWrite}
-use Rattle.dac_wishes.specs.Votes.{VotesValue, same_votes}
-use Rattle.dac_wishes.specs.VoteMeaning.{says_of, vote_in, vote_delta, get-vote_delta}
+use Rattle.dac_wishes.specs.Votes.{VotesValue}
+use Rattle.dac_wishes.specs.laws.Votes.{same_votes}
+use Rattle.dac_wishes.specs.VoteMeaning.{says_of, vote_in, vote_delta}
+use Rattle.dac_wishes.specs.laws.VoteMeaning.{get-vote_delta}
 use Rattle.dac_wishes.specs.Writes.{Write, same_dot, same_dot_is}
 use Rattle.dac_wishes.specs.Replacing.{contains-named_by}
-use Rattle.dac_wishes.specs.WishesValue.{same_wishes}
+use Rattle.dac_wishes.specs.laws.WishesValue.{same_wishes}
 use Rattle.dac_wishes.specs.PermissionsValue.{flag_of}
 use Rattle.dac_wishes.specs.WishMeaning as wish
+use Rattle.dac_wishes.specs.laws.WishMeaning as wish_laws
 use Rattle.dac_wishes.specs.PermitMeaning as permit
 use Rattle.dac_wishes.specs.DrainMeaning as drain
 use Rattle.dac_wishes.specs.DrainsValue.{flag_of as drain_flag}
@@ -37,7 +43,7 @@ use Rattle.dac_operations.specs.Operations.{Operation, over_list, replaces_itsel
 use Rattle.dac_operations.specs.Seen.{wish_in, permit_in, drain_in, without, seen_by, seen_wish}
 use Rattle.dac_meaning.specs.StateValue.{permissions_of, wishes_of, drains_of}
 use Rattle.dac_meaning.specs.Meaning.{meaning_of, has_dot, replaces, names, wishes, is_start, is_same, flag_said, told, vote_at, permit_vote, drain_vote, life_said, claim_said}
-use Rattle.dac_meaning.specs.Chained.{greatest-one}
+use Rattle.dac_meaning.specs.laws.Chained.{greatest-one}
 use Rattle.dac_meaning.specs.laws.Readers.{or-false, heard-meaning, known-meaning, starts-meaning, permits-meaning, lives-meaning, claims-meaning, drains-meaning}
 use Rattle.dac_meaning.specs.DeltaLaws.{OneIsHeard, PermitDeltaIsMeaning, DrainDeltaIsMeaning, WishDeltaIsMeaning, LifeDeltaIsMeaning, ClaimDeltaIsMeaning}
 
@@ -140,7 +146,7 @@ module _ (o : Operation) (w : Write) where
 pub wish_delta_is_meaning : WishDeltaIsMeaning
 wish_delta_is_meaning o = same_wishes (wish.wish_delta o.dot (seen_wish o.dot o.act)) (wishes_of (meaning_of (o ∷ [])))
     (known_alone o _ (λ x. contains-named_by wish.over_of o.dot (seen_wish o.dot o.act) x ∙ seen_names wish.over_of NoWish wish_in (λ _. refl) wish_over o.dot x o.act))
-    (λ w. wish.contains-delta o.dot (seen_wish o.dot o.act) w ∙ start_here o w)
+    (λ w. wish_laws.contains-delta o.dot (seen_wish o.dot o.act) w ∙ start_here o w)
 
 -- ---- votes
 

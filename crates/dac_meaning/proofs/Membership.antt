@@ -16,25 +16,29 @@ use Rattle.dac_lattice.specs.declared.flags.Flag.{Flag}
 use Rattle.dac_lattice.specs.declared.flags.Flag.TheVariants.{Up as IsUp, Down as IsDown}
 use Rattle.dac_chains.specs.declared.lives.Life.{Life}
 use Rattle.dac_chains.specs.declared.claims.Claim.{Claim as ClaimValue}
-use Rattle.dac_lattice.specs.Flags.{flag_cmp, flags_exact}
+use Rattle.dac_lattice.specs.Flags.{flag_cmp}
+use Rattle.dac_lattice.specs.laws.Flags.{flags_exact}
 use Rattle.dac_lattice.specs.Chains.{IsAtMost}
 use Rattle.dac_chains.specs.Greatest.{IsGreatest, greatest_same, IsSaid}
-use Rattle.dac_chains.specs.Lives.{life_cmp, lives_total, exact_lives}
-use Rattle.dac_chains.specs.Claims.{claim_cmp, claims_total, exact_claims, exact_hows, how_cmp}
+use Rattle.dac_chains.specs.Lives.{life_cmp}
+use Rattle.dac_chains.specs.laws.Lives.{lives_total, exact_lives}
+use Rattle.dac_chains.specs.Claims.{claim_cmp, how_cmp}
+use Rattle.dac_chains.specs.laws.Claims.{claims_total, exact_claims, exact_hows}
 use Rattle.dac_wishes.specs.declared.key.Key.{Key}
-use Rattle.dac_wishes.specs.Keys.{same_key_is, same_key_itself, keys_total, exact_keys}
-use Rattle.dac_wishes.specs.KeyedWrites.{KeyedWrite, tied_is}
+use Rattle.dac_wishes.specs.laws.Keys.{same_key_is, same_key_itself, keys_total, exact_keys}
+use Rattle.dac_wishes.specs.KeyedWrites.{KeyedWrite}
+use Rattle.dac_wishes.specs.laws.KeyedWrites.{tied_is}
 use Rattle.dac_wishes.specs.Writes.{Write, same_dot, same_dot_is, same_dot_itself}
 use Rattle.dac_wishes.specs.PermissionsValue.{says_true}
 use Rattle.dac_wishes.specs.DrainsValue.{origin, says_drained}
-use Rattle.dac_dots.specs.Dots.{origins_total, exact_origins}
+use Rattle.dac_dots.specs.laws.Dots.{origins_total, exact_origins}
 use Rattle.dac_operations.specs.declared.act.Act.{Act}
 use Rattle.dac_operations.specs.declared.act.Act.TheVariants.{Up, Down, Permit, Start, Stop, Drain, Claim}
 use Rattle.dac_operations.specs.Operations.{Operation}
 use Rattle.dac_meaning.specs.Meaning.{meaning_of, has_dot, replaces, is_replaced, names, wishes, is_start, is_same, flag_said, told, value_of, is_vote, vote_said, vote_at, permit_vote, drain_vote, pairs, life_said, claim_said, In, Agree, Stands}
 use Rattle.dac_meaning.specs.MeaningLaws.{HeardAreDots, KnownAreNamed, Names, IsStart, StartsAreUnreplaced, IsVote, PermitsAreUnreplaced, DrainsAreUnreplaced, SaysLife, LivesAreGreatest, DownStaysDown, IsClaim, ClaimsAreGreatest}
 use Rattle.dac_meaning.specs.laws.Members.{found, finds}
-use Rattle.dac_meaning.specs.Chained.{of_said, is_said}
+use Rattle.dac_meaning.specs.laws.Chained.{of_said, is_said}
 use Rattle.dac_meaning.specs.laws.Readers.{heard-meaning, known-meaning, starts-meaning, permits-meaning, drains-meaning, lives-meaning, claims-meaning, lives_are, claims_are}
 
 -- ---- dots

@@ -2,12 +2,13 @@
 use Rattle.std.proofs.Common.{[], sym, ◌∙◌}
 use Rattle.std.specs.FinSet as set
 use Rattle.std.specs.FinMap as map
-use Rattle.dac_dots.specs.Dots.{dot_cmp, dots_total, exact_dots, origin_cmp}
+use Rattle.dac_dots.specs.Dots.{dot_cmp, origin_cmp}
+use Rattle.dac_dots.specs.laws.Dots.{dots_total, exact_dots}
 use Rattle.dac_wishes.specs.KeyedWrites.{keyed_write_cmp}
-use Rattle.dac_wishes.specs.DrainsValue.{same_drains}
+use Rattle.dac_wishes.specs.laws.DrainsValue.{same_drains}
 use Rattle.dac_wishes.specs.Writes.{write_cmp}
-use Rattle.dac_wishes.specs.WishesValue.{same_wishes}
-use Rattle.dac_wishes.specs.PermissionsValue.{same_permissions}
+use Rattle.dac_wishes.specs.laws.WishesValue.{same_wishes}
+use Rattle.dac_wishes.specs.laws.PermissionsValue.{same_permissions}
 use Rattle.dac_meaning.specs.laws.StateLaws.{same_state}
 use Rattle.dac_meaning.specs.StateValue.{bottom, permissions_of, wishes_of, drains_of}
 use Rattle.dac_meaning.specs.Meaning.{meaning_of}

@@ -1,13 +1,7 @@
 -- Finite maps that are given by a function at some keys.
-use Rattle.std.specs.Prelude.{◌≡◌, Bool, true, false, cond, ◌||◌, List, [], ◌∷◌, Option, Some, None, refl}
-use Rattle.std.proofs.Common.{sym, ap, ◌∙◌}
+use Rattle.std.specs.Prelude.{List, [], ◌∷◌, Option, Some, None}
 use Rattle.std.specs.declared.cmp.Ordering.{Ordering}
-use Rattle.std.specs.Ordering.{eq_by_cmp}
-use Rattle.std.specs.List.{list_any}
-use Rattle.std.specs.Cmp.{IsTotalOrder, Equal-is}
 use Rattle.std.specs.FinMap as map
-use Rattle.std.specs.FinMap.Entries.{find}
-use Rattle.std.proofs.lemmas.Map.Lookups.{CmpEqualImpliesEq}
 
 -- the entry of a key before others, where it has a value
 abbrev pub with_entry : {K V : Type 0} → K → Option V → List (K × V) → List (K × V)
@@ -22,35 +16,3 @@ entries_at f (k ∷ ks) = with_entry k (f k) (entries_at f ks)
 -- the map that has f's values at these keys
 abbrev pub table : {K V : Type 0} (R : K → K → Ordering) → List K → (K → Option V) → map.FinMap R V
 table R ks f = map.from_entries (entries_at f ks)
-
-none_either : {V : Type 0} (b : Bool) (w : Option V) → None ≡ w → cond b w None ≡ w
-none_either true w h = refl
-none_either false w h = h
-
-pub given_or_none : {V : Type 0} (b : Bool) (v : Option V) → (b ≡ false → v ≡ None) → cond b v None ≡ v
-given_or_none true v h = refl
-given_or_none false v h = sym (h refl)
-
-module _ {K V : Type 0} {R : K → K → Ordering} (o : IsTotalOrder R) (exact : CmpEqualImpliesEq R) (f : K → Option V) (q : K) where
-  tied_value : (k : K) → eq_by_cmp R q k ≡ true → f k ≡ f q
-  tied_value k t = ap f (sym (exact q k ((Equal-is (R q k)).0 t)))
-
-  one_more_entry : (k : K) (v : Option V) (es : List (K × V)) (b : Bool) → v ≡ f k → find R q es ≡ cond b (f q) None → find R q (with_entry k v es) ≡ cond (eq_by_cmp R q k || b) (f q) None
-  one_more_entry k None es b e rest =
-      elim (eq_by_cmp R q k) as (λ t. eq_by_cmp R q k ≡ t → find R q es ≡ cond (t || b) (f q) None) [
-        | true ↦ λ t. rest ∙ none_either b (f q) (e ∙ tied_value k t)
-        | false ↦ λ t. rest
-      ] refl
-  one_more_entry k (Some w) es b e rest =
-      elim (eq_by_cmp R q k) as (λ t. eq_by_cmp R q k ≡ t → cond t (Some w) (find R q es) ≡ cond (t || b) (f q) None) [
-        | true ↦ λ t. e ∙ tied_value k t
-        | false ↦ λ t. rest
-      ] refl
-
-  find-entries_at : (ks : List K) → find R q (entries_at f ks) ≡ cond (list_any (eq_by_cmp R q) ks) (f q) None
-  find-entries_at [] = refl
-  find-entries_at (k ∷ ks) = one_more_entry k (f k) (entries_at f ks) (list_any (eq_by_cmp R q) ks) refl (find-entries_at ks)
-
-  -- what the map that a function gives at some keys has at one
-  pub get-table : (ks : List K) → map.get (table R ks f) q ≡ cond (list_any (eq_by_cmp R q) ks) (f q) None
-  get-table ks = map.get-from_entries o (entries_at f ks) q ∙ find-entries_at ks

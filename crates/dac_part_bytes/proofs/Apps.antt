@@ -7,7 +7,8 @@ use Rattle.dac_base.specs.declared.AppId.{AppId}
 use Rattle.dac_bytes.specs.declared.fault.ReadFaultKind.TheVariants.{BadName}
 use Rattle.dac_bytes.specs.laws.Fields.{u16_takes, u16_again}
 use Rattle.dac_bytes.specs.Reading.{Rest, fault, ◌>>=◌, number_at}
-use Rattle.dac_bytes.specs.Takes.{Takes, TakesAs, Again, bind_ok, wanted_ok}
+use Rattle.dac_bytes.specs.Takes.{Takes, TakesAs, Again}
+use Rattle.dac_bytes.specs.laws.Takes.{bind_ok, wanted_ok}
 use Rattle.dac_part_bytes.specs.Reading.{app_at}
 use Rattle.dac_part_bytes.specs.Spelling.{app_bytes}
 

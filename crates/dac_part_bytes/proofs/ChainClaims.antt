@@ -18,7 +18,8 @@ use Rattle.dac_bytes.specs.Numbers.{u8_bytes, u16_bytes, u64_bytes}
 use Rattle.dac_bytes.specs.Ranges.{IsOrigin}
 use Rattle.dac_bytes.specs.Reading.{Rest, fault, ◌>>=◌, number_at, range_at, counter_at, origin_at, is_above}
 use Rattle.dac_bytes.specs.Spelling.{origin_bytes}
-use Rattle.dac_bytes.specs.Takes.{TakesAs, TakesAs-more, TakesAs-made, TakesAs-both, TakesAs-guard, TakesAs-wanted, Again, Again-made, Again-both, Again-guard, Again-wanted}
+use Rattle.dac_bytes.specs.Takes.{TakesAs, Again}
+use Rattle.dac_bytes.specs.laws.Takes.{TakesAs-more, TakesAs-made, TakesAs-both, TakesAs-guard, TakesAs-wanted, Again-made, Again-both, Again-guard, Again-wanted}
 use Rattle.dac_bytes.specs.laws.Ascending.{IsNext}
 use Rattle.dac_part_bytes.specs.ChainForm.{IsFromFor, IsClaimInForm}
 use Rattle.dac_part_bytes.specs.Reading.{app_at, is_listed, how_of, how_at, from_code_at, is_from_of, fitting_code_at, from_of, from_at, manner_at, claimer_at, claim_of, term_and_claimer_at, claim_fields_at, listed_claim_at, claim_at}

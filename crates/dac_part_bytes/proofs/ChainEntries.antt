@@ -8,7 +8,8 @@ use Rattle.std.specs.FinMap as map
 use Rattle.std.proofs.lemmas.Map.Lookups.{CmpEqualImpliesEq}
 use Rattle.dac_dots.specs.Keys.{IsRising}
 use Rattle.dac_bytes.specs.Reading.{Rest, Field, ◌>>=◌, counted_at}
-use Rattle.dac_bytes.specs.Takes.{TakesAs, TakesAs-made, Again, Again-made}
+use Rattle.dac_bytes.specs.Takes.{TakesAs, Again}
+use Rattle.dac_bytes.specs.laws.Takes.{TakesAs-made, Again-made}
 use Rattle.dac_bytes.specs.laws.Ascending.{IsNext, counted_takes, counted_again}
 use Rattle.dac_part_bytes.proofs.Entries.{entries_rise, map_of_entries, entries_of_map}
 

@@ -3,14 +3,15 @@ use Rattle.std.specs.Prelude.{ℕ, ◌<◌, ◌≤◌, ◌^◌, length}
 use Rattle.std.specs.List.{AllByRecursion}
 use Rattle.std.specs.Int.{w8, w16}
 use Rattle.std.specs.FinMap as map
-use Rattle.dac_base.specs.Ids.{nodes_total, apps_total, exact_nodes, exact_apps}
+use Rattle.dac_base.specs.laws.Ids.{nodes_total, apps_total, exact_nodes, exact_apps}
 use Rattle.dac_chains.specs.Lives.{Lives}
 use Rattle.dac_chains.specs.Claims.{Claims}
 use Rattle.dac_config.specs.Table.{Table, node_count, app_count}
 use Rattle.dac_bytes.specs.laws.Fields.{u8_takes, u8_again, u16_takes, u16_again}
 use Rattle.dac_bytes.specs.Numbers.{u8_bytes, u16_bytes}
 use Rattle.dac_bytes.specs.Reading.{number_at}
-use Rattle.dac_bytes.specs.Takes.{TakesAs, TakesAs-more, Again}
+use Rattle.dac_bytes.specs.Takes.{TakesAs, Again}
+use Rattle.dac_bytes.specs.laws.Takes.{TakesAs-more}
 use Rattle.dac_part_bytes.proofs.ChainClaims.{claim_takes, claim_again}
 use Rattle.dac_part_bytes.proofs.ChainEntries.{map_takes, map_again}
 use Rattle.dac_part_bytes.specs.ChainForm.{IsLifeInForm, AreLivesInForm, IsClaimInForm, AreClaimsInForm}

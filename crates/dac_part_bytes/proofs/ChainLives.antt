@@ -13,7 +13,8 @@ use Rattle.dac_bytes.specs.Numbers.{u8_bytes}
 use Rattle.dac_bytes.specs.Ranges.{IsIncarnation}
 use Rattle.dac_bytes.specs.Spelling.{incarnation_bytes}
 use Rattle.dac_bytes.specs.Reading.{range_at, node_at, incarnation_at, is_above}
-use Rattle.dac_bytes.specs.Takes.{TakesAs, TakesAs-both, TakesAs-wanted, Again, Again-both, Again-wanted}
+use Rattle.dac_bytes.specs.Takes.{TakesAs, Again}
+use Rattle.dac_bytes.specs.laws.Takes.{TakesAs-both, TakesAs-wanted, Again-both, Again-wanted}
 use Rattle.dac_bytes.specs.laws.Ascending.{IsNext}
 use Rattle.dac_part_bytes.specs.ChainForm.{IsLifeInForm}
 use Rattle.dac_part_bytes.specs.Reading.{node_above_at, flag_of, inc_and_flag_at, life_at}

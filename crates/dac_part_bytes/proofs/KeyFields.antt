@@ -11,7 +11,8 @@ use Rattle.dac_bytes.specs.declared.fault.ReadFaultKind.TheVariants.{BadOrder, N
 use Rattle.dac_bytes.specs.Ranges.{IsOrigin, IsDot}
 use Rattle.dac_bytes.specs.Reading.{origin_at, dot_above_at, is_above}
 use Rattle.dac_bytes.specs.Spelling.{origin_bytes, dot_bytes}
-use Rattle.dac_bytes.specs.Takes.{TakesAs, Again, TakesAs-more, TakesAs-wanted, TakesAs-both, Again-wanted, Again-both}
+use Rattle.dac_bytes.specs.Takes.{TakesAs, Again}
+use Rattle.dac_bytes.specs.laws.Takes.{TakesAs-more, TakesAs-wanted, TakesAs-both, Again-wanted, Again-both}
 use Rattle.dac_bytes.specs.laws.Fields.{origin_takes, origin_again, dot_above_takes, dot_above_again}
 use Rattle.dac_bytes.specs.laws.Ascending.{IsNext}
 use Rattle.dac_part_bytes.specs.Reading.{app_at, key_of, is_listed, key_fields_at, listed_key_at, key_above_at, known_dot_at}

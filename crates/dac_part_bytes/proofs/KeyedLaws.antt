@@ -6,22 +6,26 @@ use Rattle.std.specs.declared.cmp.Ordering.{Ordering}
 use Rattle.std.specs.Cmp.{IsTotalOrder}
 use Rattle.std.specs.FinMap as map
 use Rattle.std.proofs.lemmas.Map.Lookups.{CmpEqualImpliesEq}
-use Rattle.dac_dots.specs.Dots.{Dots, origins_total, exact_origins}
+use Rattle.dac_dots.specs.Dots.{Dots}
+use Rattle.dac_dots.specs.laws.Dots.{origins_total, exact_origins}
 use Rattle.dac_lattice.specs.declared.flags.Flag.{Flag}
 use Rattle.dac_lattice.specs.declared.flags.Flag.TheVariants.{Up, Down}
-use Rattle.dac_wishes.specs.Keys.{keys_total, exact_keys}
+use Rattle.dac_wishes.specs.laws.Keys.{keys_total, exact_keys}
 use Rattle.dac_wishes.specs.Writes.{Writes}
 use Rattle.dac_wishes.specs.DrainsValue.{Drains}
 use Rattle.dac_wishes.specs.StoredVotes.{votes_of}
-use Rattle.dac_wishes.specs.VotesByKey.{votes_by_key, votes_by_key_again}
+use Rattle.dac_wishes.specs.VotesByKey.{votes_by_key}
+use Rattle.dac_wishes.specs.laws.VotesByKey.{votes_by_key_again}
 use Rattle.dac_wishes.specs.StoredWishes.{writes_of}
-use Rattle.dac_wishes.specs.StartsByKey.{starts_by_key, writes_again}
+use Rattle.dac_wishes.specs.StartsByKey.{starts_by_key}
+use Rattle.dac_wishes.specs.laws.StartsByKey.{writes_again}
 use Rattle.dac_config.specs.Table.{Table, node_count, app_count}
 use Rattle.dac_bytes.specs.FieldCodecs.{FieldCodecs}
 use Rattle.dac_bytes.specs.Ranges.{IsOrigin}
 use Rattle.dac_bytes.specs.Reading.{Rest, Field, is_above, origin_above_at}
 use Rattle.dac_bytes.specs.Spelling.{origin_bytes}
-use Rattle.dac_bytes.specs.Takes.{IsCodec, Passes, Takes, Takes-none, TakesAs, TakesAs-made, Again, Again-made, ok_is}
+use Rattle.dac_bytes.specs.Takes.{IsCodec, Passes, Takes, TakesAs, Again}
+use Rattle.dac_bytes.specs.laws.Takes.{Takes-none, TakesAs-made, Again-made, ok_is}
 use Rattle.dac_bytes.specs.declared.version.Version.{Version}
 use Rattle.dac_bytes.specs.declared.version.Version.TheVariants.{One, Two}
 use Rattle.dac_bytes.specs.laws.Codecs.{codec_made}

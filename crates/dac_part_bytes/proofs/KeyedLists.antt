@@ -5,16 +5,20 @@ use Rattle.std.specs.Int.{w32}
 use Rattle.std.specs.FinSet as set
 use Rattle.std.proofs.Common.{sym, ap, subst, ◌∙◌, arith, append_assoc}
 use Rattle.dac_dots.specs.declared.dot.Dot.{Dot}
-use Rattle.dac_dots.specs.Dots.{Dots, dot_cmp, dots_total, exact_dots}
+use Rattle.dac_dots.specs.Dots.{Dots, dot_cmp}
+use Rattle.dac_dots.specs.laws.Dots.{dots_total, exact_dots}
 use Rattle.dac_dots.specs.Keys.{IsRising}
-use Rattle.dac_dots.specs.InOrder.{in_order, in_order-one, in_order-same}
+use Rattle.dac_dots.specs.InOrder.{in_order}
+use Rattle.dac_dots.specs.laws.InOrder.{in_order-one, in_order-same}
 use Rattle.dac_wishes.specs.declared.key.Key.{Key}
-use Rattle.dac_wishes.specs.Keys.{key_cmp, keys_total}
+use Rattle.dac_wishes.specs.Keys.{key_cmp}
+use Rattle.dac_wishes.specs.laws.Keys.{keys_total}
 use Rattle.dac_config.specs.Table.{Table, node_count, app_count}
 use Rattle.dac_bytes.specs.Numbers.{u32_bytes}
 use Rattle.dac_bytes.specs.Reading.{number_at}
 use Rattle.dac_bytes.specs.Spelling.{dot_bytes}
-use Rattle.dac_bytes.specs.Takes.{TakesAs, TakesAs-both, Again, Again-both}
+use Rattle.dac_bytes.specs.Takes.{TakesAs, Again}
+use Rattle.dac_bytes.specs.laws.Takes.{TakesAs-both, Again-both}
 use Rattle.dac_bytes.specs.laws.Fields.{u32_takes, u32_again, u32_in_takes, u32_in_again}
 use Rattle.std.proofs.lemmas.List.{map-id}
 use Rattle.dac_bytes.specs.laws.Ascending.{IsNext, counted_takes, counted_again}

@@ -8,7 +8,8 @@ use Rattle.std.specs.FinMap.{find}
 use Rattle.std.proofs.lemmas.Bool.{false≢true, true≢false}
 use Rattle.std.proofs.lemmas.Map.Lookups.{CmpEqualImpliesEq}
 use Rattle.dac_dots.specs.declared.dot.Dot.{Dot}
-use Rattle.dac_dots.specs.Dots.{Dots, dot_cmp, dots_total, exact_dots}
+use Rattle.dac_dots.specs.Dots.{Dots, dot_cmp}
+use Rattle.dac_dots.specs.laws.Dots.{dots_total, exact_dots}
 use Rattle.dac_lattice.specs.declared.flags.Flag.{Flag}
 use Rattle.dac_lattice.specs.Chains.{IsAny}
 use Rattle.dac_lattice.specs.Lattices.{IsIn}
@@ -18,7 +19,8 @@ use Rattle.dac_store.specs.DotMaps.{store_at, IsKept}
 use Rattle.dac_wishes.specs.KeyedWrites.{KeyedWrite, keyed_write}
 use Rattle.dac_wishes.specs.StoredVotes.{DotFlags, AreKeyedVotes, votes_of}
 use Rattle.dac_wishes.specs.Votes.{Votes, votes_at}
-use Rattle.dac_wishes.specs.VotesByKey.{votes_by_key, get-votes_of, find-votes_at, votes_stored, are_votes, votes_again, votes_by_key_again}
+use Rattle.dac_wishes.specs.VotesByKey.{votes_by_key}
+use Rattle.dac_wishes.specs.laws.VotesByKey.{get-votes_of, find-votes_at, votes_stored, are_votes, votes_again, votes_by_key_again}
 use Rattle.dac_config.specs.Table.{Table}
 use Rattle.dac_bytes.specs.declared.version.Version.{Version}
 use Rattle.dac_part_bytes.specs.KeyedForm.{IsKnownDot, IsKnownWrite, AreVotesInForm}

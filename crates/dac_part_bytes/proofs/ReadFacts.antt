@@ -10,7 +10,8 @@ use Rattle.std.proofs.lemmas.Bool.{false≢true, or_cases, ltb-false}
 use Rattle.std.proofs.lemmas.List.Elements.{All-from_recursion}
 use Rattle.dac_dots.specs.declared.dot.Origin.{Origin}
 use Rattle.dac_dots.specs.declared.dot.Dot.{Dot}
-use Rattle.dac_dots.specs.Dots.{Dots, dot_cmp, dots_total, exact_dots, origin_cmp, origins_total}
+use Rattle.dac_dots.specs.Dots.{Dots, dot_cmp, origin_cmp}
+use Rattle.dac_dots.specs.laws.Dots.{dots_total, exact_dots, origins_total}
 use Rattle.dac_dots.specs.laws.KeyLaws.{each_key}
 use Rattle.dac_lattice.specs.declared.flags.Flag.{Flag}
 use Rattle.dac_lattice.specs.declared.flags.Flag.TheVariants.{Up, Down}
@@ -24,13 +25,14 @@ use Rattle.dac_store.specs.DotFuns.{has_dot, is_empty_list}
 use Rattle.dac_store.specs.DotSets.{is_empty_set}
 use Rattle.dac_store.specs.DotMaps.{has_in}
 use Rattle.dac_wishes.specs.declared.key.Key.{Key}
-use Rattle.dac_wishes.specs.Keys.{key_cmp, keys_total}
+use Rattle.dac_wishes.specs.Keys.{key_cmp}
+use Rattle.dac_wishes.specs.laws.Keys.{keys_total}
 use Rattle.dac_wishes.specs.Writes.{same_dot, same_dot_is}
 use Rattle.dac_wishes.specs.StoredVotes.{DotFlags}
 use Rattle.dac_config.specs.Table.{Table, node_count}
 use Rattle.dac_bytes.specs.declared.fault.ReadFaultKind.TheVariants.{BadNumber, BadOrder, NotKnown}
 use Rattle.dac_bytes.specs.Reading.{Rest, Field, fault, ◌>>=◌, number_at, range_at, node_at, origin_at, origin_above_at, dot_at, dot_above_at, items_at, is_above}
-use Rattle.dac_bytes.specs.Takes.{bind_ok, guard_ok, wanted_ok, ok_is}
+use Rattle.dac_bytes.specs.laws.Takes.{bind_ok, guard_ok, wanted_ok, ok_is}
 use Rattle.dac_part_bytes.specs.Reading.{known_dot_at, said_flag, vote_at, some_at, votes_of_key_at, key_above_at, listed_key_at, keyed_votes_at, permits_of_key_at, drains_of_key_at, dots_of_key_at, keyed_dots_at, node_above_at, inc_and_flag_at, life_at, claim_at, listed_claim_at}
 use Rattle.dac_bytes.specs.laws.Ascending.{IsNext, counted_chain, items_chain, chain_each}
 use Rattle.dac_part_bytes.proofs.InOrder.{not_empty, not_empty_set}

@@ -3,7 +3,8 @@ use Rattle.std.specs.Ordering.{nat_cmp, ordering_then}
 use Rattle.std.specs.declared.cmp.Ordering.{Ordering}
 use Rattle.std.specs.Cmp.{IsTotalOrder}
 use Rattle.std.proofs.lemmas.Cmp.{nat_cmp_total, on_total, then_total}
-use Rattle.dac_base.specs.Ids.{node_cmp, nodes_total}
+use Rattle.dac_base.specs.Ids.{node_cmp}
+use Rattle.dac_base.specs.laws.Ids.{nodes_total}
 pub use Rattle.dac_placement.specs.declared.ranking.Rank.{Rank}
 
 -- the order of ranks: by group, then by load, then by name

@@ -2,7 +2,7 @@
 use Rattle.std.specs.Prelude.{◌≡◌}
 use Rattle.std.specs.FinSet as set
 use Rattle.dac_dots.specs.Dots.{Dots, IsSubset}
-use Rattle.dac_wishes.specs.Stores.{same_context, subset_left, subset_right, subset_union}
+use Rattle.dac_wishes.specs.laws.Stores.{same_context, subset_left, subset_right, subset_union}
 
 -- where one side or the other heard each dot that either knows, what either heard is what either knows
 pub all_heard : (h g k m : Dots) → IsSubset h k → IsSubset g m → IsSubset k (set.union h g) → IsSubset m (set.union h g) → set.union h g ≡ set.union k m

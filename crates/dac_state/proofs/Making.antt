@@ -6,7 +6,8 @@ use Rattle.dac_dots.specs.Dots.{Dots, IsSubset}
 use Rattle.dac_chains.specs.Greatest.{greater}
 use Rattle.dac_chains.specs.Lives.{Lives, life_cmp}
 use Rattle.dac_chains.specs.Claims.{Claims, claim_cmp}
-use Rattle.dac_wishes.specs.WishesValue.{WishesValue, AreWishes, join_wishes, known-join}
+use Rattle.dac_wishes.specs.WishesValue.{WishesValue, AreWishes, join_wishes}
+use Rattle.dac_wishes.specs.laws.WishesValue.{known-join}
 use Rattle.dac_wishes.specs.PermissionsValue.{PermissionsValue, ArePermissions, IsPermissionsBelow, join_permissions}
 use Rattle.dac_wishes.specs.DrainsValue.{DrainsValue, AreDrains, AreDrainsBelow, join_drains}
 use Rattle.dac_meaning.specs.StateValue.{StateValue, IsState, permissions_of, wishes_of, drains_of, join}

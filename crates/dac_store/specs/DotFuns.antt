@@ -7,13 +7,15 @@ use Rattle.std.specs.Ordering.{is_eq}
 use Rattle.std.specs.FinSet as set
 use Rattle.std.specs.FinMap.{find}
 use Rattle.std.specs.FinMap.Entries.{same_entries}
-use Rattle.dac_dots.specs.Dots.{Dots, dot_cmp, dots_total, exact_dots}
+use Rattle.dac_dots.specs.Dots.{Dots, dot_cmp}
+use Rattle.dac_dots.specs.laws.Dots.{dots_total, exact_dots}
 use Rattle.dac_dots.specs.declared.dot.Dot.{Dot}
 use Rattle.dac_lattice.specs.Lattices.{IsLattice, IsIn}
 use Rattle.dac_lattice.specs.Maps.{IsMap}
 use Rattle.dac_lattice.specs.Entries.{merge_entries, sorted_merge, find_merge}
 use Rattle.dac_store.specs.Stores.{IsWithin, IsDotStore}
-use Rattle.dac_store.specs.AtDot.{StandsBelow, join_at, Under, at_alone, at_alone_right, at_unheard, at_refl, at_trans, at_antisymm, at_closed, at_comes, at_left, at_right, at_least}
+use Rattle.dac_store.specs.AtDot.{StandsBelow, join_at, Under}
+use Rattle.dac_store.specs.laws.AtDot.{at_alone, at_alone_right, at_unheard, at_refl, at_trans, at_antisymm, at_closed, at_comes, at_left, at_right, at_least}
 
 -- whether there is a value at a dot
 abbrev pub has_dot : {V : Type 0} → List (Dot × V) → Dot → Bool

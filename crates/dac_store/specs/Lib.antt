@@ -8,3 +8,4 @@ pub mod Few
 pub mod FewEntries
 pub mod Keeping
 pub mod SameDots
+pub mod laws

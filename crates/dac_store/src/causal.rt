@@ -200,7 +200,8 @@ fn holds_none<S: DotStore>(store: &S, heard: &Context) -> Result<bool, NoMemory>
 }
 
 impl<S: DotStore> Lattice for Causal<S> {
-    ghost use Rattle.dac_store.specs.Stores.{IsStored, IsStoredBelow, join_stored, causal_laws};
+    ghost use Rattle.dac_store.specs.Stores.{IsStored, IsStoredBelow, join_stored};
+    ghost use Rattle.dac_store.specs.laws.Stores.{causal_laws};
 
     ghost is_value = { IsStored S.is_store S.has };
 
@@ -239,7 +240,7 @@ impl<S: DotStore> Lattice for Causal<S> {
 
 impl<S: DotStore> Bottom for Causal<S> {
     ghost use Rattle.std.specs.FinSet as set;
-    ghost use Rattle.dac_store.specs.Stores.{bottom_least, bottom_within};
+    ghost use Rattle.dac_store.specs.laws.Stores.{bottom_least, bottom_within};
 
     ghost bottom = { record { store = S.nothing; context = set.empty } };
 

@@ -7,7 +7,7 @@ ghost use Rattle.dac_store.specs.DotMaps.{kept, store_at};
 
 use crate::DotStore;
 use crate::appending::ends_below;
-use dac_contexts::Context;
+use dac_contexts::{Context, MarkedContext};
 use dac_dots::{Dot, MapKey, NoMemory};
 use dac_lattice::merging::{Combine, merge, value_at};
 use std::alloc::Global;
@@ -81,7 +81,7 @@ impl<K: MapKey, S: DotStore> DotMap<K, S> {
     }
 
     /// Whether what is at a key is below a store of the other side.
-    fn leq_at(&self, heard: &Context, key: K, theirs: &S, other_heard: &Context) -> bool
+    fn leq_at(&self, heard: &MarkedContext<'_>, key: K, theirs: &S, other_heard: &Context) -> bool
         ensures { IsTrue result
             ↔ S.below (store_at S.nothing (find K.cmp key self.now)) heard.now theirs.now other_heard.now }
     {
@@ -89,6 +89,7 @@ impl<K: MapKey, S: DotStore> DotMap<K, S> {
         if theirs.is_unheard(heard) {
             return true;
         }
+        let heard = heard.context();
         match self.get(key) {
             Some(mine) => mine.leq_in(heard, theirs, other_heard),
             None => S::empty(*self.entries.allocator()).leq_in(heard, theirs, other_heard),
@@ -100,8 +101,8 @@ impl<K: MapKey, S: DotStore> DotMap<K, S> {
 #[derive(Clone, Copy)]
 struct JoinStores<'a> {
     alloc: Global,
-    mine: &'a Context,
-    theirs: &'a Context,
+    mine: &'a MarkedContext<'a>,
+    theirs: &'a MarkedContext<'a>,
 }
 
 impl<K: MapKey, S: DotStore> Combine<K, S> for JoinStores<'_> {
@@ -114,7 +115,11 @@ impl<K: MapKey, S: DotStore> Combine<K, S> for JoinStores<'_> {
             mine.tells_invariant();
             return Ok(kept(mine.copy()?));
         }
-        Ok(kept(mine.join_in(self.mine, &S::empty(self.alloc), self.theirs)?))
+        Ok(kept(mine.join_in(
+            self.mine.context(),
+            &S::empty(self.alloc),
+            self.theirs.context(),
+        )?))
     }
 
     fn right(&self, _key: K, theirs: &S) -> Result<Option<S>, NoMemory> {
@@ -122,11 +127,11 @@ impl<K: MapKey, S: DotStore> Combine<K, S> for JoinStores<'_> {
             theirs.tells_invariant();
             return Ok(kept(theirs.copy()?));
         }
-        Ok(kept(S::empty(self.alloc).join_in(self.mine, theirs, self.theirs)?))
+        Ok(kept(S::empty(self.alloc).join_in(self.mine.context(), theirs, self.theirs.context())?))
     }
 
     fn both(&self, _key: K, mine: &S, theirs: &S) -> Result<Option<S>, NoMemory> {
-        Ok(kept(mine.join_in(self.mine, theirs, self.theirs)?))
+        Ok(kept(mine.join_in(self.mine.context(), theirs, self.theirs.context())?))
     }
 }
 
@@ -178,10 +183,12 @@ impl<K: MapKey, S: DotStore> DotStore for DotMap<K, S> {
         other_heard: &Context,
     ) -> Result<Self, NoMemory> {
         let alloc = *self.entries.allocator();
+        let mine = MarkedContext::of(heard, other.entries.len());
+        let theirs = MarkedContext::of(other_heard, self.entries.len());
         let how = JoinStores {
             alloc,
-            mine: heard,
-            theirs: other_heard,
+            mine: &mine,
+            theirs: &theirs,
         };
         let entries = merge(alloc, &how, &self.entries, &other.entries)?;
         Ok(DotMap { entries })
@@ -189,8 +196,9 @@ impl<K: MapKey, S: DotStore> DotStore for DotMap<K, S> {
 
     fn leq_in(&self, heard: &Context, other: &Self, other_heard: &Context) -> bool {
         self.tells_invariant();
+        let marked = MarkedContext::of(heard, other.entries.len());
         for (key, theirs) in &other.entries {
-            if !self.leq_at(heard, *key, theirs, other_heard) {
+            if !self.leq_at(&marked, *key, theirs, other_heard) {
                 return false;
             }
         }
@@ -215,7 +223,7 @@ impl<K: MapKey, S: DotStore> DotStore for DotMap<K, S> {
         true
     }
 
-    fn is_unheard(&self, heard: &Context) -> bool {
+    fn is_unheard(&self, heard: &MarkedContext<'_>) -> bool {
         for (_, store) in &self.entries {
             if !store.is_unheard(heard) {
                 return false;

@@ -7,7 +7,7 @@ ghost use Rattle.dac_store.specs.DotSets.{join_sets, may_stay};
 
 use crate::DotStore;
 use crate::few::FewDots;
-use dac_contexts::Context;
+use dac_contexts::{Context, MarkedContext};
 use dac_dots::keys::holds_key;
 use dac_dots::{Dot, NoMemory};
 use std::alloc::Global;
@@ -183,7 +183,8 @@ impl DotSet {
 impl DotStore for DotSet {
     ghost use Rattle.std.specs.FinSet as set;
     ghost use Rattle.dac_lattice.specs.Chains.{IsAny};
-    ghost use Rattle.dac_store.specs.DotSets.{IsSetBelow, join_sets, is_empty_set, set_laws};
+    ghost use Rattle.dac_store.specs.DotSets.{IsSetBelow, join_sets, is_empty_set};
+    ghost use Rattle.dac_store.specs.laws.DotSets.{set_laws};
 
     ghost is_store = { IsAny };
 
@@ -257,7 +258,11 @@ impl DotStore for DotSet {
         true
     }
 
-    fn is_unheard(&self, heard: &Context) -> bool {
+    fn is_unheard(&self, heard: &MarkedContext<'_>) -> bool {
+        // Most sets have a single dot.
+        if let FewDots::One(dot) = &self.few {
+            return !heard.contains(*dot);
+        }
         for dot in self.dots() {
             if heard.contains(*dot) {
                 return false;

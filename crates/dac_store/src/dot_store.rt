@@ -4,7 +4,7 @@ ghost use Rattle.dac_dots.specs.Dots.{Dots};
 ghost use Rattle.dac_dots.specs.declared.Dot.{Dot};
 ghost use Rattle.dac_store.specs.Stores.{IsDotStore, IsHeld, IsUnheard};
 
-use dac_contexts::Context;
+use dac_contexts::{Context, MarkedContext};
 use dac_dots::{Dot, NoMemory};
 use std::alloc::Global;
 
@@ -13,7 +13,7 @@ use std::alloc::Global;
 ///
 /// The laws are one ghost member. They are of stores whose dots are in their contexts. The order is a partial order,
 /// and the join is the least upper bound under the union of the contexts. Each law asks that its values are values of
-/// the type, which `known` tells.
+/// the type, which `tells_invariant` tells.
 pub trait DotStore: Drop {
     /// Holds of the values of the type.
     ghost is_store: { Self → Type 0 };
@@ -72,7 +72,7 @@ pub trait DotStore: Drop {
         ensures { IsTrue result ↔ IsHeld (has self.now) context.now };
 
     /// Whether the store holds none of the dots that have been heard of.
-    fn is_unheard(&self, heard: &Context) -> bool
+    fn is_unheard(&self, heard: &MarkedContext<'_>) -> bool
         ensures { IsTrue result ↔ IsUnheard (has self.now) heard.now };
 
     /// Whether the store holds no dot.

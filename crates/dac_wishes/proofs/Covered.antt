@@ -13,9 +13,11 @@ use Rattle.std.proofs.lemmas.Cmp.{tied_itself}
 use Rattle.std.proofs.lemmas.Map.Lookups.{CmpEqualImpliesEq}
 use Rattle.dac_dots.specs.declared.dot.Dot.{Dot}
 use Rattle.dac_dots.specs.declared.dot.Origin.{Origin}
-use Rattle.dac_dots.specs.Dots.{Dots, IsSubset, dot_cmp, dots_total, exact_dots, origin_cmp, origins_total, exact_origins}
+use Rattle.dac_dots.specs.Dots.{Dots, IsSubset, dot_cmp, origin_cmp}
+use Rattle.dac_dots.specs.laws.Dots.{dots_total, exact_dots, origins_total, exact_origins}
 use Rattle.dac_dots.specs.Keys.{has_key}
-use Rattle.dac_dots.specs.InOrder.{in_order, has_key-in_order}
+use Rattle.dac_dots.specs.InOrder.{in_order}
+use Rattle.dac_dots.specs.laws.InOrder.{has_key-in_order}
 use Rattle.dac_lattice.specs.declared.flags.Flag.{Flag}
 use Rattle.dac_lattice.specs.declared.flags.Flag.TheVariants.{Up, Down}
 use Rattle.dac_lattice.specs.Chains.{IsAny}
@@ -27,20 +29,26 @@ use Rattle.dac_store.specs.AtDot.{StandsBelow}
 use Rattle.dac_store.specs.DotFuns.{is_empty_list}
 use Rattle.dac_store.specs.DotMaps.{store_at, IsKept}
 use Rattle.dac_wishes.specs.declared.key.Key.{Key}
-use Rattle.dac_wishes.specs.KeyedWrites.{KeyedWrite, keyed_write, same_dot, same_dot_is, same_dot_itself, tied_is}
-use Rattle.dac_wishes.specs.Keys.{key_cmp, keys_total, exact_keys}
+use Rattle.dac_wishes.specs.KeyedWrites.{KeyedWrite, keyed_write, same_dot}
+use Rattle.dac_wishes.specs.laws.KeyedWrites.{same_dot_is, same_dot_itself, tied_is}
+use Rattle.dac_wishes.specs.Keys.{key_cmp}
+use Rattle.dac_wishes.specs.laws.Keys.{keys_total, exact_keys}
 use Rattle.dac_wishes.specs.Writes.{Write, write}
 use Rattle.dac_wishes.specs.Votes.{Votes, VotesValue, AreVotesBelow}
 use Rattle.dac_wishes.specs.StoredVotes.{DotFlags}
-use Rattle.dac_wishes.specs.VotesByKey.{votes_by_key, get-votes_of, are_votes, votes_by_key_again}
-use Rattle.dac_wishes.specs.VoteMeaning.{says_of, votes_in, get-vote_delta}
+use Rattle.dac_wishes.specs.VotesByKey.{votes_by_key}
+use Rattle.dac_wishes.specs.laws.VotesByKey.{get-votes_of, are_votes, votes_by_key_again}
+use Rattle.dac_wishes.specs.VoteMeaning.{says_of, votes_in}
+use Rattle.dac_wishes.specs.laws.VoteMeaning.{get-vote_delta}
 use Rattle.dac_wishes.specs.PermissionsValue.{PermissionsValue, IsPermissionsBelow, flag_of as permit_flag}
 use Rattle.dac_wishes.specs.PermitMeaning.{permit_delta, vote_of as permits_by}
 use Rattle.dac_wishes.specs.DrainsValue.{DrainsValue, AreDrainsBelow, flag_of as drain_flag}
 use Rattle.dac_wishes.specs.DrainMeaning.{drain_delta, vote_of as drains_by}
 use Rattle.dac_wishes.specs.WishesValue.{WishesValue, AreWishesBelow}
-use Rattle.dac_wishes.specs.WishMeaning.{wish_delta, contains-delta, wishes}
-use Rattle.dac_wishes.specs.StartsByKey.{starts_by_key, contains-writes_of, are_starts, writes_again}
+use Rattle.dac_wishes.specs.WishMeaning.{wish_delta, wishes}
+use Rattle.dac_wishes.specs.laws.WishMeaning.{contains-delta}
+use Rattle.dac_wishes.specs.StartsByKey.{starts_by_key}
+use Rattle.dac_wishes.specs.laws.StartsByKey.{contains-writes_of, are_starts, writes_again}
 use Rattle.dac_wishes.specs.Covering.{permit_act, drain_act, wish_act, is_said_below, lets_stand, let_stand, is_wish_of, lets_wish, let_wishes}
 
 -- ---- what passes a test in a list

@@ -6,7 +6,8 @@ use Rattle.std.specs.FinSet as set
 use Rattle.std.specs.FinMap.{find}
 use Rattle.std.proofs.lemmas.Bool.{false≢true, or_left}
 use Rattle.dac_dots.specs.declared.dot.Dot.{Dot}
-use Rattle.dac_dots.specs.Dots.{dot_cmp, dots_total}
+use Rattle.dac_dots.specs.Dots.{dot_cmp}
+use Rattle.dac_dots.specs.laws.Dots.{dots_total}
 use Rattle.dac_lattice.specs.Chains.{IsAny}
 use Rattle.dac_store.specs.Stores.{IsHeld}
 use Rattle.dac_store.specs.DotSets.{is_empty_set}
@@ -15,11 +16,12 @@ use Rattle.dac_wishes.specs.declared.wish_act.WishAct.{WishAct}
 use Rattle.dac_wishes.specs.declared.wish_act.WishAct.TheVariants.{Start, Other as OtherWish}
 use Rattle.dac_wishes.specs.Keys.{key_cmp, same_key}
 use Rattle.dac_wishes.specs.Writes.{Write, same_dot}
-use Rattle.dac_wishes.specs.WishesValue.{same_wishes}
+use Rattle.dac_wishes.specs.laws.WishesValue.{same_wishes}
 use Rattle.dac_wishes.specs.Replacing.{named_by, contains-named_by, replaces}
 use Rattle.dac_wishes.specs.StoredWishes.{StoredDots, AreStoredDots, wishes_of}
-use Rattle.dac_wishes.specs.StartsByKey.{contains-writes_of}
-use Rattle.dac_wishes.specs.WishMeaning.{wish_delta, contains-delta, wishes}
+use Rattle.dac_wishes.specs.laws.StartsByKey.{contains-writes_of}
+use Rattle.dac_wishes.specs.WishMeaning.{wish_delta, wishes}
+use Rattle.dac_wishes.specs.laws.WishMeaning.{contains-delta}
 use Rattle.dac_wishes.specs.WishMeaning as wish
 use Rattle.dac_wishes.specs.StoredDeltas.{stored_start}
 

@@ -10,23 +10,28 @@ use Rattle.std.specs.FinMap.{find}
 use Rattle.std.proofs.lemmas.Bool.{false≢true, or_left, or_right}
 use Rattle.std.proofs.lemmas.Map.Lookups.{CmpEqualImpliesEq}
 use Rattle.dac_dots.specs.declared.dot.Dot.{Dot}
-use Rattle.dac_dots.specs.Dots.{dot_cmp, dots_total}
+use Rattle.dac_dots.specs.Dots.{dot_cmp}
+use Rattle.dac_dots.specs.laws.Dots.{dots_total}
 use Rattle.dac_dots.specs.Keys.{has_key}
 use Rattle.dac_lattice.specs.declared.flags.Flag.{Flag}
 use Rattle.dac_lattice.specs.Chains.{IsAny}
-use Rattle.dac_lattice.specs.Flags.{IsFlagBelow, join_flags, flag_laws}
+use Rattle.dac_lattice.specs.Flags.{IsFlagBelow, join_flags}
+use Rattle.dac_lattice.specs.laws.Flags.{flag_laws}
 use Rattle.dac_lattice.specs.Lattices.{IsIn}
 use Rattle.dac_lattice.specs.Maps.{IsMap}
-use Rattle.dac_store.specs.Stores.{IsHeld, IsStoredBelow, join_stored, causal_laws}
+use Rattle.dac_store.specs.Stores.{IsHeld, IsStoredBelow, join_stored}
+use Rattle.dac_store.specs.laws.Stores.{causal_laws}
 use Rattle.dac_store.specs.AtDot.{StandsBelow}
 use Rattle.dac_store.specs.DotFuns.{has_dot, IsFunBelow, join_funs, is_empty_list, fun_laws, find_join}
 use Rattle.dac_store.specs.DotMaps.{has_in, store_at, IsKept, IsKeyedBelow, join_keyed, keyed_laws, at_join, at_store}
 use Rattle.dac_wishes.specs.KeyedWrites.{KeyedWrite, keyed_write, same_dot}
-use Rattle.dac_wishes.specs.Votes.{AreVotes, AreVotesBelow, join_votes, joined_vote, known-join_votes, standing-join_votes, same_votes}
+use Rattle.dac_wishes.specs.Votes.{AreVotes, AreVotesBelow, join_votes, joined_vote}
+use Rattle.dac_wishes.specs.laws.Votes.{known-join_votes, standing-join_votes, same_votes}
 use Rattle.dac_wishes.specs.StoredVotes.{DotFlags, StoredVotes, AreKeyedVotes, AreStoredVotes, votes_of, votes_value_of, stored_vote}
-use Rattle.dac_wishes.specs.VotesByKey.{get-votes_of}
+use Rattle.dac_wishes.specs.laws.VotesByKey.{get-votes_of}
 use Rattle.dac_wishes.specs.Replacing.{named_by}
-use Rattle.dac_wishes.specs.VoteMeaning.{vote_delta, says_of, get-vote_delta}
+use Rattle.dac_wishes.specs.VoteMeaning.{vote_delta, says_of}
+use Rattle.dac_wishes.specs.laws.VoteMeaning.{get-vote_delta}
 
 -- ---- what is stored is known
 

@@ -8,15 +8,19 @@ use Rattle.std.proofs.lemmas.Bool.{false≢true, or_left, or_right}
 use Rattle.dac_dots.specs.declared.dot.Dot.{Dot}
 use Rattle.dac_dots.specs.Dots.{Dots, dot_cmp}
 use Rattle.dac_lattice.specs.Chains.{IsAny}
-use Rattle.dac_store.specs.Stores.{IsStoredBelow, join_stored, causal_laws, both_ways}
-use Rattle.dac_store.specs.DotSets.{IsSetBelow, join_sets, is_empty_set, set_laws, contains_join}
+use Rattle.dac_store.specs.Stores.{IsStoredBelow, join_stored}
+use Rattle.dac_store.specs.laws.Stores.{causal_laws, both_ways}
+use Rattle.dac_store.specs.DotSets.{IsSetBelow, join_sets, is_empty_set}
+use Rattle.dac_store.specs.laws.DotSets.{set_laws, contains_join}
 use Rattle.dac_store.specs.DotMaps.{has_in, store_at, IsKept, IsKeyedBelow, join_keyed, keyed_laws, at_join}
 use Rattle.dac_wishes.specs.declared.key.Key.{Key}
-use Rattle.dac_wishes.specs.Keys.{key_cmp, same_key, keys_total, exact_keys}
+use Rattle.dac_wishes.specs.Keys.{key_cmp, same_key}
+use Rattle.dac_wishes.specs.laws.Keys.{keys_total, exact_keys}
 use Rattle.dac_wishes.specs.Writes.{Write, write, same_dot, same_dot_itself}
-use Rattle.dac_wishes.specs.WishesValue.{AreWishes, AreWishesBelow, join_wishes, is_wished, SomeStands, known-join, standing-join, same_wishes}
+use Rattle.dac_wishes.specs.WishesValue.{AreWishes, AreWishesBelow, join_wishes, is_wished, SomeStands}
+use Rattle.dac_wishes.specs.laws.WishesValue.{known-join, standing-join, same_wishes}
 use Rattle.dac_wishes.specs.StoredWishes.{StoredDots, AreStoredDots, writes_of, wishes_of}
-use Rattle.dac_wishes.specs.StartsByKey.{contains-writes_of}
+use Rattle.dac_wishes.specs.laws.StartsByKey.{contains-writes_of}
 use Rattle.dac_wishes.specs.laws.Wished.{is_wished-some}
 
 -- ---- what is stored is known

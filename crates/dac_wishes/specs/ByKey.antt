@@ -1,21 +1,17 @@
 -- A list by key: for each key of a rising list what is at the key.
-use Rattle.std.specs.Prelude.{◌≡◌, Bool, true, false, not, cond, ◌||◌, ◌&&◌, T, List, [], ◌∷◌, Option, None, Some, filter, map as list_map, refl}
-use Rattle.std.proofs.Common.{sym, ap, subst, ◌∙◌}
+use Rattle.std.specs.Prelude.{◌≡◌, Bool, true, false, not, cond, ◌||◌, List, [], ◌∷◌, filter, map as list_map, refl}
+use Rattle.std.proofs.Common.{sym, ap, ◌∙◌}
 use Rattle.std.specs.List.{list_any}
 use Rattle.std.specs.declared.cmp.Ordering.{Ordering}
 use Rattle.std.specs.Ordering.{eq_by_cmp}
 use Rattle.std.specs.Cmp.{IsTotalOrder}
 use Rattle.std.specs.FinSet as set
-use Rattle.std.specs.FinMap.{find, is_sorted}
-use Rattle.std.specs.FinMap.Entries.{below_all}
-use Rattle.std.proofs.lemmas.Bool.{and_parts}
 use Rattle.std.proofs.lemmas.Cmp.{eq_by_cmp_equiv}
 use Rattle.std.proofs.lemmas.Map.Lookups.{CmpEqualImpliesEq}
-use Rattle.dac_dots.specs.Keys.{IsRising, is_below_all, has_key}
-use Rattle.dac_dots.specs.InOrder.{in_order, in_order-rising, has_key-in_order}
+use Rattle.dac_dots.specs.Keys.{IsRising, has_key}
+use Rattle.dac_dots.specs.InOrder.{in_order}
+use Rattle.dac_dots.specs.laws.InOrder.{in_order-rising, has_key-in_order}
 use Rattle.dac_store.specs.DotFuns.{is_empty_list}
-use Rattle.dac_store.specs.DotMaps.{kept, store_at, IsKept, IsKeyed}
-use Rattle.dac_wishes.specs.KeyedWrites.{tied_is}
 
 -- each key with what is at it
 abbrev pub by_key : {K S : Type 0} → (K → S) → List K → List (K × S)
@@ -64,58 +60,3 @@ module _ {K X : Type 0} {R : K → K → Ordering} (keys_total : IsTotalOrder R)
       mapped : (ys : List X) → is_empty_list (list_map f ys) ≡ is_empty_list ys
       mapped [] = refl
       mapped (y ∷ ys) = refl
-
-both : (a b : Bool) → T a → T b → T (a && b)
-both true b p q = q
-both false b p q = p
-
-module _ {K S : Type 0} {R : K → K → Ordering} (exact_keys : CmpEqualImpliesEq R) (at : K → S) where
-  find-by_key : (ks : List K) (q : K) → find R q (by_key at ks) ≡ cond (has_key R ks q) (Some (at q)) None
-  find-by_key [] q = refl
-  find-by_key (k ∷ ks) q = elim (eq_by_cmp R q k) as (λ b. eq_by_cmp R q k ≡ b → cond b (Some (at k)) (find R q (by_key at ks)) ≡ cond (b || has_key R ks q) (Some (at q)) None) [
-    | true ↦ λ t. ap (λ x. Some (at x)) (sym (tied_is exact_keys q k t))
-    | false ↦ λ t. find-by_key ks q
-  ] refl
-
-  below_by_key : (x : K) (ks : List K) → is_below_all R x ks ≡ true → T (below_all R x (by_key at ks))
-  below_by_key x [] h = tt
-  below_by_key x (k ∷ ks) h = both _ _ (subst T (sym (and_parts _ _ h).0) tt) (below_by_key x ks (and_parts _ _ h).1)
-
-  pub sorted_by_key : (ks : List K) → IsRising R ks → T (is_sorted R (by_key at ks))
-  sorted_by_key [] h = tt
-  sorted_by_key (k ∷ ks) h = both _ _ (below_by_key k ks (and_parts _ _ h).0) (sorted_by_key ks (and_parts _ _ h).1)
-
-  module _ (is_empty : S → Bool) where
-    -- what is found is what is at the key, unless it is empty
-    pub find_kept : (ks : List K) (q : K) → is_empty (at q) ≡ not (has_key R ks q) → find R q (by_key at ks) ≡ kept is_empty (at q)
-    find_kept ks q e =
-        find-by_key ks q
-        ∙ elim (has_key R ks q) as (λ b. is_empty (at q) ≡ not b → cond b (Some (at q)) None ≡ kept is_empty (at q)) [
-          | true ↦ λ e. ap (λ b. cond b None (Some (at q))) (sym e)
-          | false ↦ λ e. ap (λ b. cond b None (Some (at q))) (sym e)
-        ] e
-
-    -- such a list is kept so
-    pub keyed_by_key : (is_store : S → Type 0) → ((k : K) → is_store (at k)) → (ks : List K) → IsRising R ks → ((q : K) → is_empty (at q) ≡ not (has_key R ks q)) → IsKeyed R is_store is_empty (by_key at ks)
-    keyed_by_key is_store stores ks h e = record {
-      in_order = sorted_by_key ks h;
-      stores = λ q. subst (IsKept is_store is_empty) (sym (find_kept ks q (e q))) (is_kept q);
-    }
-      where
-        is_kept : (q : K) → IsKept is_store is_empty (kept is_empty (at q))
-        is_kept q = elim (is_empty (at q)) as (λ b. is_empty (at q) ≡ b → IsKept is_store is_empty (cond b None (Some (at q)))) [
-          | true ↦ λ _. tt
-          | false ↦ λ t. (stores q, t)
-        ] refl
-
-module _ {S : Type 0} (is_empty : S → Bool) (nothing : S) where
-  -- what a list that is kept so has at a key
-  pub kept_again : (is_store : S → Type 0) (v : Option S) → is_empty nothing ≡ true → IsKept is_store is_empty v → kept is_empty (store_at nothing v) ≡ v
-  kept_again is_store None e u = ap (λ b. cond b None (Some nothing)) e
-  kept_again is_store (Some s) e u = ap (λ b. cond b None (Some s)) u.1
-
-  pub again_kept : (s : S) → (is_empty s ≡ true → s ≡ nothing) → store_at nothing (kept is_empty s) ≡ s
-  again_kept s one = elim (is_empty s) as (λ b. is_empty s ≡ b → store_at nothing (cond b None (Some s)) ≡ s) [
-    | true ↦ λ t. sym (one t)
-    | false ↦ λ t. refl
-  ] refl

@@ -1,15 +1,12 @@
 -- What a set of operations means for drains: which drains stand, with their values, and which dots are known.
-use Rattle.std.specs.Prelude.{◌≡◌, List, Option, None, Some}
-use Rattle.std.specs.FinMap as map
+use Rattle.std.specs.Prelude.{List, Option, None, Some}
 use Rattle.dac_dots.specs.declared.dot.Dot.{Dot}
 use Rattle.dac_dots.specs.declared.dot.Origin.{Origin}
-use Rattle.dac_dots.specs.Dots.{origin_cmp, origins_total, exact_origins}
+use Rattle.dac_dots.specs.Dots.{origin_cmp}
 use Rattle.dac_lattice.specs.declared.flags.Flag.{Flag}
-use Rattle.dac_lattice.specs.Pieces.{IsPiece}
 use Rattle.dac_wishes.specs.declared.drain_act.DrainAct.{DrainAct}
 use Rattle.dac_wishes.specs.declared.drain_act.DrainAct.TheVariants.{Drain, Other}
-use Rattle.dac_wishes.specs.DrainsValue.{DrainsValue, DrainWrite, AreDrains, join_drains, no_drains, flag_of}
-use Rattle.dac_wishes.specs.Replacing.{SparesItself}
+use Rattle.dac_wishes.specs.DrainsValue.{DrainsValue, flag_of}
 use Rattle.dac_wishes.specs.VoteMeaning as votes
 
 -- the dots that an act replaces
@@ -29,10 +26,3 @@ IsMeaning = votes.IsVoteMeaning origin_cmp over_of vote_of
 -- what one operation adds
 abbrev pub drain_delta : Dot → DrainAct → DrainsValue
 drain_delta = votes.vote_delta origin_cmp over_of vote_of
-
-pub get-delta : (d : Dot) (a : DrainAct) (w : DrainWrite) → map.get (drain_delta d a).standing w ≡ votes.vote_in origin_cmp vote_of w (d, a)
-get-delta = votes.get-vote_delta origins_total exact_origins over_of vote_of
-
--- the joined deltas of operations are what they mean
-pub drain_piece : IsPiece AreDrains join_drains no_drains (SparesItself over_of) drain_delta IsMeaning
-drain_piece = votes.vote_piece origins_total exact_origins over_of vote_of

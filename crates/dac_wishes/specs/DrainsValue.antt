@@ -3,17 +3,15 @@
 use Rattle.std.specs.Prelude.{◌≡◌, ℕ, Bool, true, false, List, Some}
 use Rattle.std.specs.List.{list_any}
 use Rattle.std.specs.Coded.{Coded}
-use Rattle.std.specs.FinSet as set
 use Rattle.std.specs.FinMap as map
 use Rattle.dac_base.specs.declared.NodeId.{NodeId}
 use Rattle.dac_dots.specs.declared.dot.Dot.{Dot}
 use Rattle.dac_dots.specs.declared.dot.Origin.{Origin}
-use Rattle.dac_dots.specs.Dots.{origin_cmp, origins_total, exact_origins, coded_origin}
+use Rattle.dac_dots.specs.Dots.{origin_cmp, coded_origin}
 use Rattle.dac_lattice.specs.declared.flags.Flag.{Flag}
 use Rattle.dac_lattice.specs.declared.flags.Flag.TheVariants.{Up, Down}
-use Rattle.dac_lattice.specs.Lattices.{IsLattice}
 use Rattle.dac_wishes.specs.KeyedWrites.{KeyedWrite, keyed_write}
-use Rattle.dac_wishes.specs.Votes.{Votes, VotesValue, coded_votes, AreVotes, AreVotesBelow, no_votes, joined_vote, join_votes, votes_at, known-join_votes, standing-join_votes, same_votes, votes_laws, no_votes_value, no_votes_least}
+use Rattle.dac_wishes.specs.Votes.{Votes, VotesValue, coded_votes, AreVotes, AreVotesBelow, no_votes, join_votes, votes_at}
 
 -- the flag says that the node is drained
 abbrev pub says_drained : Flag → Bool
@@ -68,24 +66,3 @@ is_drained at v = list_any (λ (p : Dot × Flag). says_drained p.1) (drains_at a
 -- some drain of the origin stands that says true, by its dot
 abbrev pub IsDrained : Origin → DrainsValue → Type 0
 IsDrained at v = (d : Dot) × (map.get v.standing (keyed_write at d) ≡ Some Down)
-
--- ---- the laws
-
-pub known-join : (x y : DrainsValue) → (join_drains x y).known ≡ set.union x.known y.known
-known-join = known-join_votes origin_cmp
-
-pub standing-join : (x y : DrainsValue) (w : DrainWrite) → map.get (join_drains x y).standing w ≡ joined_vote origin_cmp x y w (map.get x.standing w) (map.get y.standing w)
-standing-join = standing-join_votes origins_total exact_origins
-
--- two values that show the same are equal
-pub same_drains : (x y : DrainsValue) → x.known ≡ y.known → ((w : DrainWrite) → map.get x.standing w ≡ map.get y.standing w) → x ≡ y
-same_drains = same_votes origins_total exact_origins
-
-pub drains_laws : IsLattice AreDrains AreDrainsBelow join_drains
-drains_laws = votes_laws origins_total exact_origins
-
-pub no_drains_value : AreDrains no_drains
-no_drains_value = no_votes_value origin_cmp
-
-pub no_drains_least : (x : DrainsValue) → AreDrainsBelow no_drains x
-no_drains_least = no_votes_least origin_cmp

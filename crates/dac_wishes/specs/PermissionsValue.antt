@@ -3,17 +3,15 @@
 use Rattle.std.specs.Prelude.{◌≡◌, ◌⊎◌, Bool, true, false, List, Option, None, Some, if◌then◌else◌}
 use Rattle.std.specs.List.{list_all}
 use Rattle.std.specs.Coded.{Coded}
-use Rattle.std.specs.FinSet as set
 use Rattle.std.specs.FinMap as map
 use Rattle.dac_dots.specs.declared.dot.Dot.{Dot}
 use Rattle.dac_lattice.specs.declared.flags.Flag.{Flag}
 use Rattle.dac_lattice.specs.declared.flags.Flag.TheVariants.{Up, Down}
-use Rattle.dac_lattice.specs.Lattices.{IsLattice}
 use Rattle.dac_store.specs.DotFuns.{is_empty_list}
 use Rattle.dac_wishes.specs.declared.key.Key.{Key}
-use Rattle.dac_wishes.specs.Keys.{key_cmp, keys_total, exact_keys, coded_key}
+use Rattle.dac_wishes.specs.Keys.{key_cmp, coded_key}
 use Rattle.dac_wishes.specs.Writes.{Write, write}
-use Rattle.dac_wishes.specs.Votes.{Votes, VotesValue, coded_votes, AreVotes, AreVotesBelow, no_votes, joined_vote, join_votes, votes_among, votes_at, known-join_votes, standing-join_votes, same_votes, votes_laws, no_votes_value, no_votes_least}
+use Rattle.dac_wishes.specs.Votes.{Votes, VotesValue, coded_votes, AreVotes, AreVotesBelow, no_votes, joined_vote, join_votes, votes_among, votes_at}
 
 -- the flag says true
 abbrev pub says_true : Flag → Bool
@@ -83,24 +81,3 @@ AllSayTrue key v = (d : Dot) (f : Flag) → map.get v.standing (write key d) ≡
 -- no permit of the key stands and the default is true, or some stand and all say true
 abbrev pub IsPermitted : Key → Bool → PermissionsValue → Type 0
 IsPermitted key default v = (NoneStands key v × (default ≡ true)) ⊎ (SomePermitStands key v × AllSayTrue key v)
-
--- ---- the laws
-
-pub known-join : (x y : PermissionsValue) → (join_permissions x y).known ≡ set.union x.known y.known
-known-join = known-join_votes key_cmp
-
-pub standing-join : (x y : PermissionsValue) (w : Write) → map.get (join_permissions x y).standing w ≡ joined_permit x y w (map.get x.standing w) (map.get y.standing w)
-standing-join = standing-join_votes keys_total exact_keys
-
--- two values that show the same are equal
-pub same_permissions : (x y : PermissionsValue) → x.known ≡ y.known → ((w : Write) → map.get x.standing w ≡ map.get y.standing w) → x ≡ y
-same_permissions = same_votes keys_total exact_keys
-
-pub permissions_laws : IsLattice ArePermissions IsPermissionsBelow join_permissions
-permissions_laws = votes_laws keys_total exact_keys
-
-pub no_permissions_value : ArePermissions no_permissions
-no_permissions_value = no_votes_value key_cmp
-
-pub no_permissions_least : (x : PermissionsValue) → IsPermissionsBelow no_permissions x
-no_permissions_least = no_votes_least key_cmp

@@ -1,18 +1,16 @@
 -- What a set of operations means for permissions: which permits stand, with their values, and which dots are known.
-use Rattle.std.specs.Prelude.{◌≡◌, List, Option, None, Some}
-use Rattle.std.specs.FinMap as map
+use Rattle.std.specs.Prelude.{List, Option, None, Some}
 use Rattle.dac_dots.specs.declared.dot.Dot.{Dot}
 use Rattle.dac_lattice.specs.declared.flags.Flag.{Flag}
-use Rattle.dac_lattice.specs.Pieces.{IsPiece}
 use Rattle.dac_wishes.specs.declared.key.Key.{Key}
 use Rattle.dac_wishes.specs.declared.permit_act.PermitAct.{PermitAct}
 use Rattle.dac_wishes.specs.declared.permit_act.PermitAct.TheVariants.{Permit, Other}
-use Rattle.dac_wishes.specs.Keys.{key_cmp, keys_total, exact_keys}
+use Rattle.dac_wishes.specs.Keys.{key_cmp}
 use Rattle.dac_wishes.specs.Writes.{Write}
-use Rattle.dac_wishes.specs.PermissionsValue.{PermissionsValue, ArePermissions, join_permissions, no_permissions, flag_of}
-use Rattle.dac_wishes.specs.Replacing.{SparesItself}
+use Rattle.dac_wishes.specs.PermissionsValue.{PermissionsValue, flag_of}
 use Rattle.dac_wishes.specs.VoteMeaning as votes
-pub use Rattle.dac_wishes.specs.VoteMeaning.{or_else, else_none}
+pub use Rattle.dac_wishes.specs.VoteMeaning.{or_else}
+pub use Rattle.dac_wishes.specs.laws.VoteMeaning.{else_none}
 
 -- the dots that an act replaces
 abbrev pub over_of : PermitAct → List Dot
@@ -39,10 +37,3 @@ IsMeaning = votes.IsVoteMeaning key_cmp over_of vote_of
 -- what one operation adds
 abbrev pub permit_delta : Dot → PermitAct → PermissionsValue
 permit_delta = votes.vote_delta key_cmp over_of vote_of
-
-pub get-delta : (d : Dot) (a : PermitAct) (w : Write) → map.get (permit_delta d a).standing w ≡ permit_in w (d, a)
-get-delta = votes.get-vote_delta keys_total exact_keys over_of vote_of
-
--- the joined deltas of operations are what they mean
-pub permit_piece : IsPiece ArePermissions join_permissions no_permissions (SparesItself over_of) permit_delta IsMeaning
-permit_piece = votes.vote_piece keys_total exact_keys over_of vote_of

@@ -158,7 +158,8 @@ fn some_says_drained(drains: &[(Dot, Flag)]) -> bool
 }
 
 impl Lattice for Drains {
-    ghost use Rattle.dac_wishes.specs.DrainsValue.{AreDrains, AreDrainsBelow, join_drains, drains_laws};
+    ghost use Rattle.dac_wishes.specs.DrainsValue.{AreDrains, AreDrainsBelow, join_drains};
+    ghost use Rattle.dac_wishes.specs.laws.DrainsValue.{drains_laws};
 
     ghost is_value = { AreDrains };
 
@@ -194,7 +195,8 @@ impl Lattice for Drains {
 }
 
 impl Bottom for Drains {
-    ghost use Rattle.dac_wishes.specs.DrainsValue.{no_drains, no_drains_value, no_drains_least};
+    ghost use Rattle.dac_wishes.specs.DrainsValue.{no_drains};
+    ghost use Rattle.dac_wishes.specs.laws.DrainsValue.{no_drains_value, no_drains_least};
 
     ghost bottom = { no_drains };
 
@@ -211,7 +213,8 @@ impl Bottom for Drains {
 
 impl Piece for Drains {
     ghost use Rattle.dac_wishes.specs.Replacing.{SparesItself};
-    ghost use Rattle.dac_wishes.specs.DrainMeaning.{over_of, drain_delta, IsMeaning, drain_piece};
+    ghost use Rattle.dac_wishes.specs.DrainMeaning.{over_of, drain_delta, IsMeaning};
+    ghost use Rattle.dac_wishes.specs.laws.DrainMeaning.{drain_piece};
 
     type Act = DrainAct;
 

@@ -17,7 +17,7 @@ pub struct Key {
 }
 
 impl MapKey for Key {
-    ghost use Rattle.dac_wishes.specs.Keys.{exact_keys};
+    ghost use Rattle.dac_wishes.specs.laws.Keys.{exact_keys};
 
     ghost exact = { exact_keys };
 }

@@ -162,7 +162,8 @@ fn all_say_true(permits: &[(Dot, Flag)]) -> bool
 }
 
 impl Lattice for Permissions {
-    ghost use Rattle.dac_wishes.specs.PermissionsValue.{ArePermissions, IsPermissionsBelow, join_permissions, permissions_laws};
+    ghost use Rattle.dac_wishes.specs.PermissionsValue.{ArePermissions, IsPermissionsBelow, join_permissions};
+    ghost use Rattle.dac_wishes.specs.laws.PermissionsValue.{permissions_laws};
 
     ghost is_value = { ArePermissions };
 
@@ -198,7 +199,8 @@ impl Lattice for Permissions {
 }
 
 impl Bottom for Permissions {
-    ghost use Rattle.dac_wishes.specs.PermissionsValue.{no_permissions, no_permissions_value, no_permissions_least};
+    ghost use Rattle.dac_wishes.specs.PermissionsValue.{no_permissions};
+    ghost use Rattle.dac_wishes.specs.laws.PermissionsValue.{no_permissions_value, no_permissions_least};
 
     ghost bottom = { no_permissions };
 
@@ -215,7 +217,8 @@ impl Bottom for Permissions {
 
 impl Piece for Permissions {
     ghost use Rattle.dac_wishes.specs.Replacing.{SparesItself};
-    ghost use Rattle.dac_wishes.specs.PermitMeaning.{over_of, permit_delta, IsMeaning, permit_piece};
+    ghost use Rattle.dac_wishes.specs.PermitMeaning.{over_of, permit_delta, IsMeaning};
+    ghost use Rattle.dac_wishes.specs.laws.PermitMeaning.{permit_piece};
 
     type Act = PermitAct;
 

@@ -148,7 +148,8 @@ fn start_in(alloc: Global, dot: Dot, act: &WishAct) -> Result<DotMap<Key, DotSet
 }
 
 impl Lattice for Wishes {
-    ghost use Rattle.dac_wishes.specs.WishesValue.{AreWishes, AreWishesBelow, join_wishes, wishes_laws};
+    ghost use Rattle.dac_wishes.specs.WishesValue.{AreWishes, AreWishesBelow, join_wishes};
+    ghost use Rattle.dac_wishes.specs.laws.WishesValue.{wishes_laws};
 
     ghost is_value = { AreWishes };
 
@@ -184,7 +185,8 @@ impl Lattice for Wishes {
 }
 
 impl Bottom for Wishes {
-    ghost use Rattle.dac_wishes.specs.WishesValue.{no_wishes, no_wishes_value, no_wishes_least};
+    ghost use Rattle.dac_wishes.specs.WishesValue.{no_wishes};
+    ghost use Rattle.dac_wishes.specs.laws.WishesValue.{no_wishes_value, no_wishes_least};
 
     ghost bottom = { no_wishes };
 
@@ -201,7 +203,8 @@ impl Bottom for Wishes {
 
 impl Piece for Wishes {
     ghost use Rattle.dac_wishes.specs.Replacing.{SparesItself};
-    ghost use Rattle.dac_wishes.specs.WishMeaning.{over_of, wish_delta, IsMeaning, wish_piece};
+    ghost use Rattle.dac_wishes.specs.WishMeaning.{over_of, wish_delta, IsMeaning};
+    ghost use Rattle.dac_wishes.specs.laws.WishMeaning.{wish_piece};
 
     type Act = WishAct;
 

@@ -1,7 +1,7 @@
 //! Contexts, and sorted lists of keys.
 use crate::sample::{dot, heard, origin};
 use dac_base::{AppId, NoMemory};
-use dac_contexts::{Context, Further};
+use dac_contexts::{Context, Further, MarkedContext};
 use dac_dots::keys::{MapKey, holds_key, insert_key, remove_key};
 use std::alloc::Global;
 
@@ -74,6 +74,23 @@ fn has_its_dots(alloc: Global) -> Result<bool, NoMemory> {
 #[test]
 fn dots_of_a_vector(rt: HostRuntime) {
     assert!(rt; matches!(has_its_dots(rt.alloc()), Ok(true)));
+}
+
+/// Whether a context that is asked about so many dots has the fourth dot of node 0, and not the third.
+fn tells_its_dots(context: &Context, asked: usize) -> bool {
+    let marked = MarkedContext::of(context, asked);
+    marked.contains(dot(0, 4)) && !marked.contains(dot(0, 3)) && marked.context().len() == 3
+}
+
+/// Whether that is so of a context of three dots, with marks and without.
+fn tells_with_marks(alloc: Global) -> Result<bool, NoMemory> {
+    let context = heard(alloc, &[1, 2, 4])?;
+    Ok(tells_its_dots(&context, 100) && tells_its_dots(&context, 1))
+}
+
+#[test]
+fn dots_are_told_by_marks(rt: HostRuntime) {
+    assert!(rt; matches!(tells_with_marks(rt.alloc()), Ok(true)));
 }
 
 /// The counters up to 40 that leave this rest when they are halved: twenty of them, no two of which are neighbours.

@@ -9,10 +9,12 @@ use Rattle.std.proofs.Math.Bool.{and-true}
 use Rattle.std.proofs.lemmas.Bool.{and_parts, and_from}
 use Rattle.std.proofs.lemmas.List.Folds.{list_all-append}
 use Rattle.dac_dots.specs.Keys.{is_below_all, IsRising}
-use Rattle.dac_dots.specs.InOrder.{less, below_more}
+use Rattle.dac_dots.specs.laws.InOrder.{less, below_more}
 use Rattle.dac_bytes.specs.Reading.{Rest, Field, ◌>>=◌, items_at, is_above, counted_at}
-use Rattle.dac_bytes.specs.Takes.{IsCodec, TakesAs, TakesAs-both, Again, Again-both, bind_ok, ok_is}
-use Rattle.dac_bytes.specs.Items.{Chain, items_takes, items_again}
+use Rattle.dac_bytes.specs.Takes.{IsCodec, TakesAs, Again}
+use Rattle.dac_bytes.specs.laws.Takes.{TakesAs-both, Again-both, bind_ok, ok_is}
+use Rattle.dac_bytes.specs.Items.{Chain}
+use Rattle.dac_bytes.specs.laws.Items.{items_takes, items_again}
 
 -- a key is above the one before it exactly if it is above that of each item so far
 abbrev pub Reaches : {K X : Type 0} → (K → K → Ordering) → (X → K) → Option K → List X → Type 0

@@ -3,7 +3,7 @@ use Rattle.std.specs.Prelude.{◌≡◌, ℕ, List, Result, Ok, Err}
 use Rattle.std.proofs.Common.{sym, ap, subst, ◌∙◌}
 use Rattle.dac_bytes.specs.declared.fault.ReadFault.{ReadFault}
 use Rattle.dac_bytes.specs.Reading.{Rest, Field, Gives, IsOfBytes}
-use Rattle.dac_bytes.specs.Items.{Fails-from}
+use Rattle.dac_bytes.specs.laws.Items.{Fails-from}
 use Rattle.dac_bytes.specs.Takes.{TakesAs, Again, IsFoundAs, IsReadAgain}
 
 -- a call that takes no memory gives what is read

@@ -3,7 +3,8 @@ use Rattle.std.specs.Prelude.{◌≡◌, ℕ, ◌+◌, Bool, true, false, cond, 
 use Rattle.std.proofs.Common.{sym, ap, subst, ◌∙◌}
 use Rattle.dac_bytes.specs.declared.fault.ReadFault.{ReadFault}
 use Rattle.dac_bytes.specs.Reading.{Rest, Field, ◌>>=◌}
-use Rattle.dac_bytes.specs.Takes.{IsCodec, Passes, Takes, TakesAs-more, TakesAs-made, TakesAs-both, Again, Again-made, Again-both, bind_ok}
+use Rattle.dac_bytes.specs.Takes.{IsCodec, Passes, Takes, Again}
+use Rattle.dac_bytes.specs.laws.Takes.{TakesAs-more, TakesAs-made, TakesAs-both, Again-made, Again-both, bind_ok}
 
 -- what reads alike is one to one alike
 pub codec_alike : {X : Type 0} (read other : Rest → Field X) (text : X → List ℕ) (Is : X → Type 0) → ((r : Rest) → other r ≡ read r) → IsCodec read text Is → IsCodec other text Is

@@ -5,12 +5,14 @@ use Rattle.std.specs.Int.{w16, w64}
 use Rattle.std.proofs.Common.{sym, subst, arith, append_assoc}
 use Rattle.std.proofs.lemmas.Bool.{ltb-true, lt-ltb, eqb-true, eqb-false}
 use Rattle.dac_base.specs.declared.limits.TheConstants.{MAX_COUNTER}
-use Rattle.dac_dots.specs.Dots.{Dots, origin_cmp, origins_total}
+use Rattle.dac_dots.specs.Dots.{Dots, origin_cmp}
+use Rattle.dac_dots.specs.laws.Dots.{origins_total}
 use Rattle.dac_dots.specs.declared.dot.Origin.{Origin}
 use Rattle.dac_bytes.specs.declared.version.Version.{Version}
 use Rattle.dac_bytes.specs.declared.fault.ReadFaultKind.TheVariants.{BadOrder}
 use Rattle.dac_bytes.specs.laws.Fields.{u16_takes, u16_again, u32_in_takes, u32_in_again, u64_in_takes, u64_in_again, counter_takes, counter_again, origin_above_takes, origin_above_again}
-use Rattle.dac_bytes.specs.Items.{Chain, items_takes, items_again}
+use Rattle.dac_bytes.specs.Items.{Chain}
+use Rattle.dac_bytes.specs.laws.Items.{items_takes, items_again}
 use Rattle.dac_bytes.specs.Numbers.{u16_bytes, u32_bytes, u64_bytes}
 use Rattle.dac_bytes.specs.Ranges.{IsOrigin, IsFurther, IsRow, CountsFit, IsContext}
 use Rattle.dac_bytes.specs.Reading.{Rest, ◌>>=◌, fault, is_above, number_at, range_at, counter_at, origin_above_at, items_at, further_at, further_count_at, row_at, rows_at, context_at}
@@ -20,7 +22,8 @@ use Rattle.dac_contexts.specs.laws.RowSets.{dots_back}
 use Rattle.dac_contexts.specs.Rows.{Row, rows_of, dots_in}
 use Rattle.dac_bytes.specs.laws.SetLaws.{rows_in_range, are_rows, rows_are_read}
 use Rattle.dac_bytes.specs.Spelling.{origin_bytes, row_bytes, context_bytes}
-use Rattle.dac_bytes.specs.Takes.{Takes, Takes-then, TakesAs, TakesAs-more, TakesAs-wanted, Again, Again-then, Again-made, Again-wanted, bind_ok, ok_is}
+use Rattle.dac_bytes.specs.Takes.{Takes, TakesAs, Again}
+use Rattle.dac_bytes.specs.laws.Takes.{Takes-then, TakesAs-more, TakesAs-wanted, Again-then, Again-made, Again-wanted, bind_ok, ok_is}
 
 -- ---- a row
 

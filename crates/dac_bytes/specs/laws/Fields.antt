@@ -18,7 +18,8 @@ use Rattle.dac_bytes.specs.Numbers.{u8_bytes, u16_bytes, u32_bytes, u64_bytes}
 use Rattle.dac_bytes.specs.Ranges.{IsIncarnation, IsOrigin, IsDot}
 use Rattle.dac_bytes.specs.Reading.{Rest, ◌>>=◌, after, fault, number_at, range_at, node_at, incarnation_at, incarnation_or_zero_at, counter_at, origin_at, dot_at, is_above, origin_above_at, dot_above_at}
 use Rattle.dac_bytes.specs.Spelling.{incarnation_bytes, origin_bytes, dot_bytes}
-use Rattle.dac_bytes.specs.Takes.{IsBytes, IsBytes-take, Takes, TakesAs, Again, Takes-front, bind_ok, guard_ok, wanted_ok, TakesAs-more, TakesAs-guard, TakesAs-wanted, TakesAs-both, Again-guard, Again-wanted, Again-both}
+use Rattle.dac_bytes.specs.Takes.{IsBytes, Takes, TakesAs, Again}
+use Rattle.dac_bytes.specs.laws.Takes.{IsBytes-take, Takes-front, bind_ok, guard_ok, wanted_ok, TakesAs-more, TakesAs-guard, TakesAs-wanted, TakesAs-both, Again-guard, Again-wanted, Again-both}
 
 -- ---- numbers
 

@@ -10,16 +10,17 @@ use Rattle.std.specs.FinMap.{is_sorted}
 use Rattle.std.specs.FinMap.Entries.{below_all, is_some-find}
 use Rattle.dac_dots.specs.declared.dot.Dot.{Dot}
 use Rattle.dac_dots.specs.declared.dot.Origin.{Origin}
-use Rattle.dac_dots.specs.Dots.{dot_cmp, origins_total, exact_origins}
+use Rattle.dac_dots.specs.Dots.{dot_cmp}
+use Rattle.dac_dots.specs.laws.Dots.{origins_total, exact_origins}
 use Rattle.dac_dots.specs.Keys.{is_below_all, is_rising, IsRising, has_key}
 use Rattle.dac_lattice.specs.declared.flags.Flag.{Flag}
 use Rattle.dac_wishes.specs.declared.key.Key.{Key}
 use Rattle.dac_wishes.specs.Writes.{write}
 use Rattle.dac_wishes.specs.PermissionsValue.{Permits, permits_at}
-use Rattle.dac_wishes.specs.Keys.{keys_total, exact_keys}
+use Rattle.dac_wishes.specs.laws.Keys.{keys_total, exact_keys}
 use Rattle.dac_wishes.specs.KeyedWrites.{keyed_write}
 use Rattle.dac_wishes.specs.Votes.{Votes, votes_at}
-use Rattle.dac_wishes.specs.VotesByKey.{find-votes_at, votes_at-sorted}
+use Rattle.dac_wishes.specs.laws.VotesByKey.{find-votes_at, votes_at-sorted}
 use Rattle.dac_wishes.specs.DrainsValue.{Drains, drains_at}
 
 holds : (b : Bool) → T b → b ≡ true

@@ -4,13 +4,14 @@ use Rattle.std.specs.Prelude.{is_some, unwrap_or}
 use Rattle.dac_base.specs.declared.NodeId.{NodeId}
 use Rattle.dac_base.specs.declared.AppId.{AppId}
 use Rattle.dac_dots.specs.declared.dot.Origin.{Origin}
-use Rattle.dac_dots.specs.Dots.{dots_total, exact_dots}
-use Rattle.dac_dots.specs.InOrder.{has_key-in_order}
+use Rattle.dac_dots.specs.laws.Dots.{dots_total, exact_dots}
+use Rattle.dac_dots.specs.laws.InOrder.{has_key-in_order}
 use Rattle.dac_chains.specs.Lives.{IsLive}
 use Rattle.dac_chains.specs.laws.Live.{live_is}
 use Rattle.dac_chains.specs.declared.claims.How.TheVariants.{Takeover as TakenOver}
 use Rattle.dac_wishes.specs.declared.key.Key.{Key}
-use Rattle.dac_wishes.specs.Writes.{dots_at, contains-dots_at}
+use Rattle.dac_wishes.specs.Writes.{dots_at}
+use Rattle.dac_wishes.specs.laws.Writes.{contains-dots_at}
 use Rattle.dac_placement.specs.StateValue.{StateValue}
 use Rattle.dac_config.specs.Table.{Table}
 use Rattle.dac_placement.specs.Placement.{runner_of}

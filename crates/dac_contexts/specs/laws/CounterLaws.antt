@@ -8,7 +8,8 @@ use Rattle.std.proofs.lemmas.Bool.{and_parts, and_from, or_from, or_left, or_rig
 use Rattle.std.proofs.lemmas.Bool.Decides.{nat_tests}
 use Rattle.std.proofs.lemmas.Cmp.{tied_itself}
 use Rattle.dac_dots.specs.Keys.{is_below_all, is_rising, IsRising, has_key}
-use Rattle.dac_dots.specs.Dots.{dot, dot_cmp, origin_cmp, origins_total}
+use Rattle.dac_dots.specs.Dots.{dot, dot_cmp, origin_cmp}
+use Rattle.dac_dots.specs.laws.Dots.{origins_total}
 use Rattle.dac_dots.specs.laws.KeyLaws.{equal_origins}
 use Rattle.dac_dots.specs.declared.dot.Origin.{Origin}
 use Rattle.dac_dots.specs.declared.dot.Dot.{Dot}

@@ -12,8 +12,9 @@ use Rattle.std.proofs.lemmas.List.Concat.{flat_map-cons}
 use Rattle.std.proofs.lemmas.List.Folds.{list_any-append}
 use Rattle.std.proofs.lemmas.Map.Lookups.{exact_unsigned}
 use Rattle.dac_dots.specs.Keys.{is_below_all, is_rising, IsRising, has_key}
-use Rattle.dac_dots.specs.InOrder.{tie, less, same_rising}
-use Rattle.dac_dots.specs.Dots.{Dots, dot, dot_cmp, dots_total, exact_dots, origin_cmp, origins_total, exact_origins}
+use Rattle.dac_dots.specs.laws.InOrder.{tie, less, same_rising}
+use Rattle.dac_dots.specs.Dots.{Dots, dot, dot_cmp, origin_cmp}
+use Rattle.dac_dots.specs.laws.Dots.{dots_total, exact_dots, origins_total, exact_origins}
 use Rattle.dac_dots.specs.declared.dot.Origin.{Origin}
 use Rattle.dac_dots.specs.declared.dot.Dot.{Dot}
 use Rattle.dac_contexts.specs.laws.CounterLaws.{is_eq-then, is_same, is_less, below_more}

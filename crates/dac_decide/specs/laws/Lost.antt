@@ -8,7 +8,8 @@ use Rattle.std.proofs.lemmas.Bool.{true≢false, false≢true}
 use Rattle.std.proofs.lemmas.Cmp.{tied_itself}
 use Rattle.dac_base.specs.declared.AppId.{AppId}
 use Rattle.dac_chains.specs.declared.claims.Claim.{Claim}
-use Rattle.dac_chains.specs.Claims.{claim_cmp, claims_total, how_cmp, exact_hows, exact_claims}
+use Rattle.dac_chains.specs.Claims.{claim_cmp, how_cmp}
+use Rattle.dac_chains.specs.laws.Claims.{claims_total, exact_hows, exact_claims}
 use Rattle.dac_placement.specs.StateValue.{StateValue}
 use Rattle.dac_placement.specs.Placement.{IsUp, is_up}
 use Rattle.dac_placement.specs.laws.Tests.{up_is}

@@ -14,7 +14,7 @@ use Rattle.std.proofs.lemmas.List.Elements.{All-head, All-tail}
 use Rattle.std.proofs.lemmas.List.Folds.{list_any_at}
 use Rattle.std.proofs.lemmas.Map.Lookups.{CmpEqualImpliesEq}
 use Rattle.dac_dots.specs.Keys.{is_below_all, IsRising, has_key}
-use Rattle.dac_dots.specs.InOrder.{less, tie, below_absent, below_more}
+use Rattle.dac_dots.specs.laws.InOrder.{less, tie, below_absent, below_more}
 use Rattle.dac_dots.specs.declared.dot.Origin.{Origin}
 
 module _ {K : Type 0} {R : K → K → Ordering} (o : IsTotalOrder R) where

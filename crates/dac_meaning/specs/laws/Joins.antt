@@ -9,31 +9,40 @@ use Rattle.std.specs.FinMap as map
 use Rattle.std.proofs.lemmas.Map.Lookups.{CmpEqualImpliesEq}
 use Rattle.std.proofs.lemmas.Bool.{false≢true, and_parts, or_left, or_cases}
 use Rattle.std.proofs.lemmas.List.Folds.{list_any-append}
-use Rattle.dac_base.specs.Ids.{nodes_total, exact_nodes, apps_total, exact_apps}
+use Rattle.dac_base.specs.laws.Ids.{nodes_total, exact_nodes, apps_total, exact_apps}
 use Rattle.dac_dots.specs.declared.dot.Dot.{Dot}
-use Rattle.dac_dots.specs.Dots.{Dots, dots_total, exact_dots, origin_cmp, origins_total, exact_origins}
+use Rattle.dac_dots.specs.Dots.{Dots, origin_cmp}
+use Rattle.dac_dots.specs.laws.Dots.{dots_total, exact_dots, origins_total, exact_origins}
 use Rattle.dac_lattice.specs.declared.flags.Flag.{Flag}
 use Rattle.dac_lattice.specs.Lattices.{join_options}
-use Rattle.dac_lattice.specs.Flags.{join_flags, flag_cmp, flags_exact}
-use Rattle.dac_wishes.specs.Stores.{both_ways}
+use Rattle.dac_lattice.specs.Flags.{join_flags, flag_cmp}
+use Rattle.dac_lattice.specs.laws.Flags.{flags_exact}
+use Rattle.dac_wishes.specs.laws.Stores.{both_ways}
 use Rattle.dac_wishes.specs.AtDot.{join_at}
 use Rattle.dac_chains.specs.Greatest.{greater}
-use Rattle.dac_chains.specs.Lives.{life_cmp, lives_total, exact_lives}
-use Rattle.dac_chains.specs.Claims.{claim_cmp, how_cmp, claims_total, exact_hows, exact_claims}
+use Rattle.dac_chains.specs.Lives.{life_cmp}
+use Rattle.dac_chains.specs.laws.Lives.{lives_total, exact_lives}
+use Rattle.dac_chains.specs.Claims.{claim_cmp, how_cmp}
+use Rattle.dac_chains.specs.laws.Claims.{claims_total, exact_hows, exact_claims}
 use Rattle.dac_wishes.specs.Writes.{Write}
-use Rattle.dac_wishes.specs.Keys.{key_cmp, keys_total, exact_keys}
+use Rattle.dac_wishes.specs.Keys.{key_cmp}
+use Rattle.dac_wishes.specs.laws.Keys.{keys_total, exact_keys}
 use Rattle.dac_wishes.specs.KeyedWrites.{KeyedWrite}
-use Rattle.dac_wishes.specs.Votes.{VotesValue, join_votes, known-join_votes, standing-join_votes, same_votes}
-use Rattle.dac_wishes.specs.WishesValue.{join_wishes, same_wishes, known-join as known-wishes, standing-join as standing-wishes}
-use Rattle.dac_wishes.specs.PermissionsValue.{join_permissions, same_permissions}
-use Rattle.dac_wishes.specs.DrainsValue.{join_drains, same_drains}
+use Rattle.dac_wishes.specs.Votes.{VotesValue, join_votes}
+use Rattle.dac_wishes.specs.laws.Votes.{known-join_votes, standing-join_votes, same_votes}
+use Rattle.dac_wishes.specs.WishesValue.{join_wishes}
+use Rattle.dac_wishes.specs.laws.WishesValue.{same_wishes, known-join as known-wishes, standing-join as standing-wishes}
+use Rattle.dac_wishes.specs.PermissionsValue.{join_permissions}
+use Rattle.dac_wishes.specs.laws.PermissionsValue.{same_permissions}
+use Rattle.dac_wishes.specs.DrainsValue.{join_drains}
+use Rattle.dac_wishes.specs.laws.DrainsValue.{same_drains}
 use Rattle.dac_operations.specs.declared.act.Act.{Act}
 use Rattle.dac_operations.specs.Operations.{Operation}
 use Rattle.dac_meaning.specs.StateValue.{IsState, permissions_of, wishes_of, drains_of, join}
 use Rattle.dac_meaning.specs.laws.StateLaws.{same_state, heard-join, permissions-join, wishes-join, lives-join, claims-join, drains-join}
 use Rattle.dac_meaning.specs.Meaning.{meaning_of, has_dot, replaces, is_replaced, names, wishes, is_start, flag_said, told, is_vote, vote_said, vote_at, permit_vote, drain_vote, life_said, claim_said, Within, Agree}
 use Rattle.dac_meaning.specs.laws.Members.{In-append_left, In-append_right, list_any-same, list_any-wider, shared}
-use Rattle.dac_meaning.specs.Chained.{greatest-same, greatest-append}
+use Rattle.dac_meaning.specs.laws.Chained.{greatest-same, greatest-append}
 use Rattle.dac_meaning.specs.laws.Readers.{heard-meaning, known-meaning, starts-meaning, permits-meaning, lives-meaning, claims-meaning, drains-meaning}
 
 -- sets of the same dots are equal

@@ -10,24 +10,29 @@ use Rattle.std.proofs.lemmas.Bool.{false≢true, and_parts, and_from, or_left}
 use Rattle.std.proofs.lemmas.List.Folds.{list_any-append}
 use Rattle.std.proofs.lemmas.Map.Lookups.{CmpEqualImpliesEq}
 use Rattle.dac_dots.specs.declared.dot.Dot.{Dot}
-use Rattle.dac_dots.specs.Dots.{dots_total, origins_total, exact_origins}
+use Rattle.dac_dots.specs.laws.Dots.{dots_total, origins_total, exact_origins}
 use Rattle.dac_lattice.specs.declared.flags.Flag.{Flag}
-use Rattle.dac_base.specs.Ids.{nodes_total, exact_nodes, apps_total, exact_apps}
-use Rattle.dac_lattice.specs.Flags.{flag_cmp, flags_exact}
+use Rattle.dac_base.specs.laws.Ids.{nodes_total, exact_nodes, apps_total, exact_apps}
+use Rattle.dac_lattice.specs.Flags.{flag_cmp}
+use Rattle.dac_lattice.specs.laws.Flags.{flags_exact}
 use Rattle.dac_chains.specs.Greatest.{AreGreatest}
-use Rattle.dac_chains.specs.Lives.{life_cmp, lives_total, exact_lives}
-use Rattle.dac_chains.specs.Claims.{claim_cmp, how_cmp, claims_total, exact_hows, exact_claims}
-use Rattle.dac_wishes.specs.Keys.{keys_total, exact_keys}
-use Rattle.dac_wishes.specs.KeyedWrites.{KeyedWrite, keyed_write, keyed_write_cmp, keyed_writes_total, exact_keyed_writes, same_keyed_write}
-use Rattle.dac_wishes.specs.Writes.{Write, write_cmp, writes_total, exact_writes, same_dot, same_write, list_any-alike}
+use Rattle.dac_chains.specs.Lives.{life_cmp}
+use Rattle.dac_chains.specs.laws.Lives.{lives_total, exact_lives}
+use Rattle.dac_chains.specs.Claims.{claim_cmp, how_cmp}
+use Rattle.dac_chains.specs.laws.Claims.{claims_total, exact_hows, exact_claims}
+use Rattle.dac_wishes.specs.laws.Keys.{keys_total, exact_keys}
+use Rattle.dac_wishes.specs.KeyedWrites.{KeyedWrite, keyed_write, keyed_write_cmp}
+use Rattle.dac_wishes.specs.laws.KeyedWrites.{keyed_writes_total, exact_keyed_writes, same_keyed_write}
+use Rattle.dac_wishes.specs.Writes.{Write, write_cmp, same_dot}
+use Rattle.dac_wishes.specs.laws.Writes.{writes_total, exact_writes, same_write, list_any-alike}
 use Rattle.dac_wishes.specs.DrainsValue.{DrainWrite}
 use Rattle.dac_operations.specs.declared.act.Act.{Act}
 use Rattle.dac_operations.specs.declared.act.Act.TheVariants.{Up, Down, Permit, Start, Stop, Drain, Claim}
 use Rattle.dac_operations.specs.Operations.{Operation, over_list}
-use Rattle.dac_meaning.specs.Tables.{get-table, given_or_none}
+use Rattle.dac_meaning.specs.laws.Tables.{get-table, given_or_none}
 use Rattle.dac_meaning.specs.Meaning.{meaning_of, has_dot, is_replaced, names, starts_in, wishes, is_start, is_same, flag_said, told, told_in, is_vote, vote_at, votes_of, permit_vote, permit_at, drain_vote, drain_at, pairs, life_said, claim_said, lives_of, claims_of}
 use Rattle.dac_meaning.specs.laws.Members.{list_any-narrower}
-use Rattle.dac_meaning.specs.Chained.{are_greatest}
+use Rattle.dac_meaning.specs.laws.Chained.{are_greatest}
 
 list_any-list_map : {X Y : Type 0} (p : Y → Bool) (f : X → Y) (xs : List X) → list_any p (list_map f xs) ≡ list_any (λ x. p (f x)) xs
 list_any-list_map p f [] = refl

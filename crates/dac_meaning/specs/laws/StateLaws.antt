@@ -2,18 +2,24 @@
 use Rattle.std.specs.Prelude.{◌≡◌, refl}
 use Rattle.std.proofs.Common.{sym, subst}
 use Rattle.std.specs.FinSet as set
-use Rattle.dac_base.specs.Ids.{nodes_total, exact_nodes, apps_total, exact_apps}
+use Rattle.dac_base.specs.laws.Ids.{nodes_total, exact_nodes, apps_total, exact_apps}
 use Rattle.dac_dots.specs.Dots.{IsSubset}
 use Rattle.dac_lattice.specs.Lattices.{IsLattice}
 use Rattle.dac_lattice.specs.Chains.{IsAny}
-use Rattle.dac_lattice.specs.Flags.{flag_cmp, flags_exact}
-use Rattle.dac_wishes.specs.Stores.{subset_left, subset_right, subset_union, subset_empty, same_context}
+use Rattle.dac_lattice.specs.Flags.{flag_cmp}
+use Rattle.dac_lattice.specs.laws.Flags.{flags_exact}
+use Rattle.dac_wishes.specs.laws.Stores.{subset_left, subset_right, subset_union, subset_empty, same_context}
 use Rattle.dac_chains.specs.Greatest.{AreNotAbove, greater, greatest_laws, empty_is_least}
-use Rattle.dac_chains.specs.Lives.{Lives, life_cmp, lives_total, exact_lives}
-use Rattle.dac_chains.specs.Claims.{Claims, claim_cmp, how_cmp, claims_total, exact_hows, exact_claims}
-use Rattle.dac_wishes.specs.WishesValue.{AreWishes, AreWishesBelow, join_wishes, known-join as known-wishes, wishes_laws, no_wishes_value, no_wishes_least}
-use Rattle.dac_wishes.specs.PermissionsValue.{ArePermissions, IsPermissionsBelow, join_permissions, known-join as known-permissions, permissions_laws, no_permissions_value, no_permissions_least}
-use Rattle.dac_wishes.specs.DrainsValue.{AreDrains, AreDrainsBelow, join_drains, known-join as known-drains, drains_laws, no_drains_value, no_drains_least}
+use Rattle.dac_chains.specs.Lives.{Lives, life_cmp}
+use Rattle.dac_chains.specs.laws.Lives.{lives_total, exact_lives}
+use Rattle.dac_chains.specs.Claims.{Claims, claim_cmp, how_cmp}
+use Rattle.dac_chains.specs.laws.Claims.{claims_total, exact_hows, exact_claims}
+use Rattle.dac_wishes.specs.WishesValue.{AreWishes, AreWishesBelow, join_wishes}
+use Rattle.dac_wishes.specs.laws.WishesValue.{known-join as known-wishes, wishes_laws, no_wishes_value, no_wishes_least}
+use Rattle.dac_wishes.specs.PermissionsValue.{ArePermissions, IsPermissionsBelow, join_permissions}
+use Rattle.dac_wishes.specs.laws.PermissionsValue.{known-join as known-permissions, permissions_laws, no_permissions_value, no_permissions_least}
+use Rattle.dac_wishes.specs.DrainsValue.{AreDrains, AreDrainsBelow, join_drains}
+use Rattle.dac_wishes.specs.laws.DrainsValue.{known-join as known-drains, drains_laws, no_drains_value, no_drains_least}
 use Rattle.dac_meaning.specs.StateValue.{StateValue, IsState, IsBelow, permissions_of, wishes_of, drains_of, bottom, join}
 
 pub life_laws : IsLattice {T = Lives} IsAny (AreNotAbove life_cmp) (greater life_cmp)

@@ -5,14 +5,16 @@ use Rattle.std.specs.List.{list_any}
 use Rattle.std.specs.FinSet as set
 use Rattle.dac_base.specs.declared.NodeId.{NodeId}
 use Rattle.dac_dots.specs.declared.dot.Dot.{Dot}
-use Rattle.dac_dots.specs.Dots.{Dots, IsSubset, dot_cmp, dots_total, exact_dots}
-use Rattle.dac_store.specs.Stores.{same_context, subset_left, subset_union}
+use Rattle.dac_dots.specs.Dots.{Dots, IsSubset, dot_cmp}
+use Rattle.dac_dots.specs.laws.Dots.{dots_total, exact_dots}
+use Rattle.dac_store.specs.laws.Stores.{same_context, subset_left, subset_union}
 use Rattle.dac_wishes.specs.Writes.{same_dot}
 use Rattle.dac_operations.specs.Operations.{Operation}
 use Rattle.dac_meaning.specs.StateValue.{StateValue, join}
 use Rattle.dac_meaning.specs.laws.StateLaws.{heard-join}
 use Rattle.dac_meaning.specs.Meaning.{meaning_of}
-use Rattle.dac_meaning.specs.Below.{is_below, is_below-is}
+use Rattle.dac_meaning.specs.Below.{is_below}
+use Rattle.dac_meaning.specs.laws.Below.{is_below-is}
 use Rattle.dac_config.specs.Table.{Table}
 use Rattle.dac_decide.specs.declared.start_gate.Opening.{Opening}
 use Rattle.dac_decide.specs.declared.start_gate.Opening.TheVariants.{Shut, Opened, GiveUp}

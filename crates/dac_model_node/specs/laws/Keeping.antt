@@ -7,7 +7,7 @@ use Rattle.dac_meaning.specs.StateValue.{StateValue, join}
 use Rattle.dac_meaning.specs.Meaning.{meaning_of}
 use Rattle.dac_meaning.specs.Below.{is_below}
 use Rattle.dac_deltas.specs.Kept.{Kept, pushed, trimmed}
-use Rattle.dac_deltas.specs.Logs.{same_kept, pushes_drop_together}
+use Rattle.dac_deltas.specs.laws.Logs.{same_kept, pushes_drop_together}
 use Rattle.dac_decide.specs.declared.start_gate.Opening.{Opening}
 use Rattle.dac_decide.specs.declared.start_gate.Opening.TheVariants.{Shut, Opened, GiveUp}
 use Rattle.dac_decide.specs.declared.waits.Noted.{Noted}

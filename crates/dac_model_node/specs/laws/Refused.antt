@@ -15,7 +15,8 @@ use Rattle.dac_wishes.specs.WishesValue.{is_wished}
 use Rattle.dac_wishes.specs.laws.Wished.{is_wished-some}
 use Rattle.dac_meaning.specs.StateValue.{StateValue, wishes_of, IsBelow}
 use Rattle.dac_meaning.specs.Meaning.{meaning_of}
-use Rattle.dac_meaning.specs.Below.{is_below, is_below-is}
+use Rattle.dac_meaning.specs.Below.{is_below}
+use Rattle.dac_meaning.specs.laws.Below.{is_below-is}
 use Rattle.dac_peers.specs.Peers.{is_up_to_date}
 use Rattle.dac_messages.specs.Bodies.{content_of}
 use Rattle.dac_decide.specs.Placement.{is_up, is_eligible, runs_at, runner_of}

@@ -8,7 +8,8 @@ use Rattle.dac_base.specs.declared.NodeId.{NodeId}
 use Rattle.dac_config.specs.Table.{Table}
 use Rattle.dac_meaning.specs.StateValue.{StateValue, bottom, join}
 use Rattle.dac_deltas.specs.Kept.{pushed, trimmed}
-use Rattle.dac_deltas.specs.Logs.{kept_of, pushes_append_all, trims_move_the_base}
+use Rattle.dac_deltas.specs.Logs.{kept_of}
+use Rattle.dac_deltas.specs.laws.Logs.{pushes_append_all, trims_move_the_base}
 use Rattle.dac_peers.specs.Peers.{PeersValue}
 use Rattle.dac_decide.specs.declared.start_gate.Opening.{Opening}
 use Rattle.dac_decide.specs.declared.start_gate.Opening.TheVariants.{Shut, Opened, GiveUp}

@@ -24,7 +24,8 @@ use Rattle.dac_messages.specs.declared.event.Event.{Event}
 use Rattle.dac_messages.specs.declared.event.Event.TheVariants.{Boot, Tick, Hear, HearOp}
 use Rattle.dac_events.specs.declared.refusal.Refusal.TheVariants.{AlreadyOn}
 use Rattle.dac_events.specs.declared.world_fault.WorldFault.TheVariants.{NoSuchNode}
-use Rattle.dac_meaning.specs.Below.{is_below, is_below-is}
+use Rattle.dac_meaning.specs.Below.{is_below}
+use Rattle.dac_meaning.specs.laws.Below.{is_below-is}
 use Rattle.dac_model_node.specs.NodeValue.{RunValue}
 use Rattle.dac_model_node.specs.ModelNode.{ModelRun, joined, shown, run_shown}
 use Rattle.dac_model_node.specs.EventRefusals.{refusal_of, refusal_by}

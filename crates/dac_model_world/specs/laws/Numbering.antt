@@ -10,7 +10,8 @@ use Rattle.std.proofs.lemmas.Bool.{or_cases}
 use Rattle.dac_base.specs.declared.NodeId.{NodeId}
 use Rattle.dac_dots.specs.declared.dot.Dot.{Dot}
 use Rattle.dac_dots.specs.declared.dot.Origin.{Origin}
-use Rattle.dac_dots.specs.Dots.{dot, origin_cmp, exact_origins, origins_total}
+use Rattle.dac_dots.specs.Dots.{dot, origin_cmp}
+use Rattle.dac_dots.specs.laws.Dots.{exact_origins, origins_total}
 use Rattle.dac_lattice.specs.declared.flags.Flag.TheVariants.{Up as IsUp}
 use Rattle.dac_chains.specs.declared.lives.Life.{Life}
 use Rattle.dac_chains.specs.Greatest.{IsGreatest, IsSaid}
@@ -20,7 +21,8 @@ use Rattle.dac_operations.specs.declared.act.Act.{Act}
 use Rattle.dac_operations.specs.declared.act.Act.TheVariants.{Up, Down, Permit, Start, Stop, Drain, Claim}
 use Rattle.dac_operations.specs.Operations.{Operation}
 use Rattle.dac_meaning.specs.Meaning.{meaning_of, In, Within, has_dot, replaces, names, pairs, life_said}
-use Rattle.dac_meaning.specs.Chained.{SaysFor, of_said}
+use Rattle.dac_meaning.specs.Chained.{SaysFor}
+use Rattle.dac_meaning.specs.laws.Chained.{of_said}
 use Rattle.dac_meaning.specs.laws.Members.{Within-append, In-append_left, In-append_right, In-append_cases, found, finds}
 use Rattle.dac_meaning.specs.laws.Readers.{known-meaning, lives-meaning, lives_are}
 use Rattle.dac_model_world.specs.News.{HasDot}

@@ -4,12 +4,14 @@ use Rattle.std.proofs.Common.{◌≡◌, inl, inr, None, List, [], ◌∷◌, �
 use Rattle.std.proofs.lemmas.Bool.{leb-true}
 use Rattle.dac_base.specs.declared.limits.TheConstants.{MAX_COUNTER}
 use Rattle.dac_dots.specs.declared.dot.Origin.{Origin}
-use Rattle.dac_dots.specs.Dots.{dot, dots_total, exact_dots, IsNext}
-use Rattle.dac_dots.specs.InOrder.{has_key-in_order}
+use Rattle.dac_dots.specs.Dots.{dot, IsNext}
+use Rattle.dac_dots.specs.laws.Dots.{dots_total, exact_dots}
+use Rattle.dac_dots.specs.laws.InOrder.{has_key-in_order}
 use Rattle.dac_chains.specs.Lives.{IsLive}
 use Rattle.dac_wishes.specs.DrainsValue.{origin}
 use Rattle.dac_wishes.specs.declared.key.Key.{Key}
-use Rattle.dac_wishes.specs.Writes.{dots_at, contains-dots_at}
+use Rattle.dac_wishes.specs.Writes.{dots_at}
+use Rattle.dac_wishes.specs.laws.Writes.{contains-dots_at}
 use Rattle.dac_operations.specs.declared.act.Act.{Act}
 use Rattle.dac_operations.specs.declared.act.Act.TheVariants.{Down, Permit, Start, Stop, Drain}
 use Rattle.dac_operations.specs.Operations.{Operation}

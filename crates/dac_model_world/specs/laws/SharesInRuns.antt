@@ -18,7 +18,7 @@ use Rattle.dac_chains.specs.declared.lives.Life.{Life}
 use Rattle.dac_chains.specs.Greatest.{IsGreatest, IsSaid}
 use Rattle.dac_chains.specs.Lives.{life_cmp}
 use Rattle.dac_meaning.specs.Meaning.{meaning_of, In, pairs, life_said}
-use Rattle.dac_meaning.specs.Chained.{is_said}
+use Rattle.dac_meaning.specs.laws.Chained.{is_said}
 use Rattle.dac_meaning.specs.laws.Readers.{lives-meaning, lives_are}
 use Rattle.dac_config.specs.Table.{Table}
 use Rattle.dac_events.specs.declared.WorldEvent.{WorldEvent}

@@ -6,14 +6,16 @@ use Rattle.std.specs.List.{slice_get}
 use Rattle.std.proofs.lemmas.Bool.{false_from_ne_true}
 use Rattle.std.proofs.lemmas.Map.Views.{exact_unsigned_eq}
 use Rattle.dac_base.specs.declared.NodeId.{NodeId}
-use Rattle.dac_lattice.specs.Chains.{chain_laws}
-use Rattle.dac_lattice.specs.Flags.{flag_cmp, flags_exact}
+use Rattle.dac_lattice.specs.laws.Chains.{chain_laws}
+use Rattle.dac_lattice.specs.Flags.{flag_cmp}
+use Rattle.dac_lattice.specs.laws.Flags.{flags_exact}
 use Rattle.dac_chains.specs.declared.lives.Life.{Life}
 use Rattle.dac_chains.specs.Greatest.{IsGreatest, IsSaid}
-use Rattle.dac_chains.specs.Lives.{life_cmp, lives_total, exact_lives}
+use Rattle.dac_chains.specs.Lives.{life_cmp}
+use Rattle.dac_chains.specs.laws.Lives.{lives_total, exact_lives}
 use Rattle.dac_operations.specs.Operations.{Operation}
 use Rattle.dac_meaning.specs.Meaning.{meaning_of, In, Within, pairs, life_said, lives_of}
-use Rattle.dac_meaning.specs.Chained.{of_said, is_said}
+use Rattle.dac_meaning.specs.laws.Chained.{of_said, is_said}
 use Rattle.dac_meaning.specs.laws.Members.{In-append_left, In-append_right, In-append_cases}
 use Rattle.dac_meaning.specs.laws.Readers.{lives-meaning, lives_are}
 use Rattle.dac_events.specs.declared.WorldEvent.{WorldEvent}

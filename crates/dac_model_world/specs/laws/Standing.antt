@@ -8,12 +8,15 @@ use Rattle.std.specs.Cmp.{tied_itself}
 use Rattle.std.proofs.lemmas.Bool.{false≢true, and_parts, and_from}
 use Rattle.dac_dots.specs.declared.dot.Dot.{Dot}
 use Rattle.dac_dots.specs.declared.dot.Origin.{Origin}
-use Rattle.dac_dots.specs.Dots.{dot_cmp, origin_cmp, origins_total, exact_origins}
+use Rattle.dac_dots.specs.Dots.{dot_cmp, origin_cmp}
+use Rattle.dac_dots.specs.laws.Dots.{origins_total, exact_origins}
 use Rattle.dac_dots.specs.Keys.{has_key}
 use Rattle.dac_lattice.specs.declared.flags.Flag.{Flag}
 use Rattle.dac_wishes.specs.declared.key.Key.{Key}
-use Rattle.dac_wishes.specs.Keys.{key_cmp, same_key, same_key_is, same_key_itself}
-use Rattle.dac_wishes.specs.KeyedWrites.{keyed_write, tied_is}
+use Rattle.dac_wishes.specs.Keys.{key_cmp, same_key}
+use Rattle.dac_wishes.specs.laws.Keys.{same_key_is, same_key_itself}
+use Rattle.dac_wishes.specs.KeyedWrites.{keyed_write}
+use Rattle.dac_wishes.specs.laws.KeyedWrites.{tied_is}
 use Rattle.dac_wishes.specs.DrainsValue.{origin}
 use Rattle.dac_wishes.specs.Writes.{Write, write, same_dot, same_dot_is, same_dot_itself}
 use Rattle.dac_operations.specs.declared.act.Act.{Act}

@@ -8,7 +8,8 @@ use Rattle.std.specs.Cmp.{Equal-is}
 use Rattle.std.proofs.lemmas.Cmp.{tied_itself}
 use Rattle.std.specs.FinMap as map
 use Rattle.dac_base.specs.declared.NodeId.{NodeId}
-use Rattle.dac_base.specs.Ids.{node_cmp, nodes_total, exact_nodes}
+use Rattle.dac_base.specs.Ids.{node_cmp}
+use Rattle.dac_base.specs.laws.Ids.{nodes_total, exact_nodes}
 use Rattle.dac_dots.specs.declared.dot.Origin.{Origin}
 use Rattle.dac_messages.specs.declared.message.Body.{Body}
 use Rattle.dac_messages.specs.declared.message.Body.TheVariants.{Whole, Interval, Nothing}

@@ -5,7 +5,8 @@ use Rattle.std.proofs.lemmas.Bool.{true≢false}
 use Rattle.std.specs.Ordering.{eq_by_cmp}
 use Rattle.std.specs.FinSet as set
 use Rattle.dac_base.specs.declared.NodeId.{NodeId}
-use Rattle.dac_base.specs.Ids.{node_cmp, nodes_total}
+use Rattle.dac_base.specs.Ids.{node_cmp}
+use Rattle.dac_base.specs.laws.Ids.{nodes_total}
 use Rattle.dac_dots.specs.declared.dot.Origin.{Origin}
 use Rattle.dac_messages.specs.declared.message.Body.{Body}
 use Rattle.dac_messages.specs.declared.message.Body.TheVariants.{Whole, Interval, Nothing}

@@ -9,27 +9,32 @@ use Rattle.std.proofs.lemmas.Bool.{false≢true, true≢false}
 use Rattle.std.proofs.lemmas.Map.Lookups.{CmpEqualImpliesEq}
 use Rattle.dac_base.specs.declared.NodeId.{NodeId}
 use Rattle.dac_base.specs.declared.AppId.{AppId}
-use Rattle.dac_base.specs.Ids.{nodes_total, exact_nodes}
+use Rattle.dac_base.specs.laws.Ids.{nodes_total, exact_nodes}
 use Rattle.dac_dots.specs.declared.dot.Dot.{Dot}
-use Rattle.dac_lattice.specs.Chains.{chain_laws}
-use Rattle.dac_lattice.specs.Flags.{flag_cmp, flags_exact}
-use Rattle.dac_store.specs.Stores.{both_ways}
+use Rattle.dac_lattice.specs.laws.Chains.{chain_laws}
+use Rattle.dac_lattice.specs.Flags.{flag_cmp}
+use Rattle.dac_lattice.specs.laws.Flags.{flags_exact}
+use Rattle.dac_store.specs.laws.Stores.{both_ways}
 use Rattle.dac_chains.specs.Greatest.{IsGreatest, IsSaid}
 use Rattle.dac_chains.specs.declared.claims.Claim.{Claim as ClaimValue}
 use Rattle.dac_chains.specs.declared.claims.How.{How}
-use Rattle.dac_chains.specs.Lives.{lives_total, exact_lives}
+use Rattle.dac_chains.specs.laws.Lives.{lives_total, exact_lives}
 use Rattle.dac_chains.specs.Claims.{claim_cmp}
-use Rattle.dac_dots.specs.Dots.{origin_cmp, origins_total, exact_origins}
+use Rattle.dac_dots.specs.Dots.{origin_cmp}
+use Rattle.dac_dots.specs.laws.Dots.{origins_total, exact_origins}
 use Rattle.dac_wishes.specs.Keys.{key_cmp}
-use Rattle.dac_wishes.specs.KeyedWrites.{KeyedWrite, keyed_writes_total, exact_keyed_writes}
-use Rattle.dac_wishes.specs.Writes.{Write, writes_total, exact_writes}
+use Rattle.dac_wishes.specs.KeyedWrites.{KeyedWrite}
+use Rattle.dac_wishes.specs.laws.KeyedWrites.{keyed_writes_total, exact_keyed_writes}
+use Rattle.dac_wishes.specs.Writes.{Write}
+use Rattle.dac_wishes.specs.laws.Writes.{writes_total, exact_writes}
 use Rattle.dac_operations.specs.declared.act.Act.{Act}
 use Rattle.dac_operations.specs.declared.act.Act.TheVariants.{Up, Down, Permit, Start, Stop, Drain, Claim}
 use Rattle.dac_operations.specs.Operations.{Operation, operation}
 use Rattle.dac_meaning.specs.Meaning.{In, Within, meaning_of, has_dot, replaces, is_start, told, is_vote, vote_at, permit_vote, drain_vote, flag_said, pairs, life_said, claim_said}
 use Rattle.dac_meaning.specs.laws.Members.{found, finds}
 use Rattle.dac_meaning.specs.laws.Readers.{starts-meaning, permits-meaning, drains-meaning, lives-meaning, lives_are, claims-meaning, claims_are}
-use Rattle.dac_meaning.specs.Chained.{SaysFor, of_said, is_said}
+use Rattle.dac_meaning.specs.Chained.{SaysFor}
+use Rattle.dac_meaning.specs.laws.Chained.{of_said, is_said}
 use Rattle.dac_ticks.specs.laws.Claimed.{Alike}
 
 -- the act is a claim

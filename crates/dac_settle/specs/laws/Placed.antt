@@ -12,10 +12,12 @@ use Rattle.std.proofs.lemmas.Cmp.{ranked}
 use Rattle.dac_base.specs.declared.NodeId.{NodeId}
 use Rattle.dac_base.specs.declared.AppId.{AppId}
 use Rattle.dac_dots.specs.declared.dot.Origin.{Origin}
-use Rattle.dac_lattice.specs.Chains.{IsAtMost, chain_laws}
+use Rattle.dac_lattice.specs.Chains.{IsAtMost}
+use Rattle.dac_lattice.specs.laws.Chains.{chain_laws}
 use Rattle.dac_chains.specs.Greatest.{IsGreatest}
 use Rattle.dac_chains.specs.declared.claims.Claim.{Claim}
-use Rattle.dac_chains.specs.Claims.{claim_cmp, claims_total, how_cmp, exact_hows, exact_claims}
+use Rattle.dac_chains.specs.Claims.{claim_cmp, how_cmp}
+use Rattle.dac_chains.specs.laws.Claims.{claims_total, exact_hows, exact_claims}
 use Rattle.dac_chains.specs.Lives.{Lives, IsLive, live_at}
 use Rattle.dac_chains.specs.laws.Live.{live_is}
 use Rattle.dac_operations.specs.Operations.{Operation}

@@ -15,7 +15,8 @@ use Rattle.dac_wishes.specs.declared.key.Key.{Key}
 use Rattle.dac_operations.specs.declared.act.Act.TheVariants.{Start}
 use Rattle.dac_operations.specs.Operations.{Operation}
 use Rattle.dac_meaning.specs.Meaning.{In, meaning_of, pairs, life_said, claim_said, lives_of, claims_of}
-use Rattle.dac_meaning.specs.Chained.{SaysFor, of_said, is_said}
+use Rattle.dac_meaning.specs.Chained.{SaysFor}
+use Rattle.dac_meaning.specs.laws.Chained.{of_said, is_said}
 use Rattle.dac_meaning.specs.laws.Readers.{lives-meaning, lives_are, claims-meaning, claims_are}
 use Rattle.dac_settle.specs.Worked.{IsEither, first_node, second_node, up_of, begun}
 

@@ -13,12 +13,15 @@ use Rattle.std.proofs.lemmas.Bool.{false≢true, false_from_ne_true, and_parts, 
 use Rattle.std.proofs.lemmas.Cmp.{tied_itself}
 use Rattle.dac_base.specs.declared.AppId.{AppId}
 use Rattle.dac_base.specs.declared.NodeId.{NodeId}
-use Rattle.dac_base.specs.Ids.{app_cmp, apps_total, exact_apps, nodes_total, exact_nodes}
+use Rattle.dac_base.specs.Ids.{app_cmp}
+use Rattle.dac_base.specs.laws.Ids.{apps_total, exact_apps, nodes_total, exact_nodes}
 use Rattle.dac_dots.specs.declared.dot.Origin.{Origin}
 use Rattle.dac_dots.specs.declared.dot.Dot.{Dot}
-use Rattle.dac_dots.specs.Dots.{dot, origins_total, exact_origins}
+use Rattle.dac_dots.specs.Dots.{dot}
+use Rattle.dac_dots.specs.laws.Dots.{origins_total, exact_origins}
 use Rattle.dac_lattice.specs.declared.flags.Flag.{Flag}
-use Rattle.dac_lattice.specs.Flags.{flag_cmp, flags_exact}
+use Rattle.dac_lattice.specs.Flags.{flag_cmp}
+use Rattle.dac_lattice.specs.laws.Flags.{flags_exact}
 use Rattle.dac_lattice.specs.laws.Joins.{join_bottom}
 use Rattle.dac_lattice.specs.Lattices.{join_options}
 use Rattle.dac_chains.specs.declared.claims.Claim.{Claim}
@@ -26,14 +29,20 @@ use Rattle.dac_chains.specs.declared.claims.How.{How}
 use Rattle.dac_chains.specs.declared.claims.How.TheVariants.{Normal, Failover as FailedOver, Takeover as TakenOver}
 use Rattle.dac_chains.specs.Greatest.{alone, empty_is_least, get-greater, greater}
 use Rattle.dac_chains.specs.declared.lives.LifeAct.TheVariants.{Other as NoLife}
-use Rattle.dac_chains.specs.Lives.{life_cmp, lives_total, exact_lives, said_life}
-use Rattle.dac_chains.specs.Claims.{claim_cmp, how_cmp, claims_total, exact_hows, exact_claims}
-use Rattle.dac_wishes.specs.Writes.{Write, writes_total, exact_writes, same_dot_is}
-use Rattle.dac_wishes.specs.WishesValue.{WishesValue, may_stand, standing-join as standing-wishes}
+use Rattle.dac_chains.specs.Lives.{life_cmp, said_life}
+use Rattle.dac_chains.specs.laws.Lives.{lives_total, exact_lives}
+use Rattle.dac_chains.specs.Claims.{claim_cmp, how_cmp}
+use Rattle.dac_chains.specs.laws.Claims.{claims_total, exact_hows, exact_claims}
+use Rattle.dac_wishes.specs.Writes.{Write, same_dot_is}
+use Rattle.dac_wishes.specs.laws.Writes.{writes_total, exact_writes}
+use Rattle.dac_wishes.specs.WishesValue.{WishesValue, may_stand}
+use Rattle.dac_wishes.specs.laws.WishesValue.{standing-join as standing-wishes}
 use Rattle.dac_wishes.specs.PermissionsValue.{PermissionsValue}
-use Rattle.dac_wishes.specs.Keys.{keys_total, exact_keys}
-use Rattle.dac_wishes.specs.KeyedWrites.{KeyedWrite, keyed_writes_total, exact_keyed_writes}
-use Rattle.dac_wishes.specs.Votes.{VotesValue, joined_vote, join_votes, standing-join_votes}
+use Rattle.dac_wishes.specs.laws.Keys.{keys_total, exact_keys}
+use Rattle.dac_wishes.specs.KeyedWrites.{KeyedWrite}
+use Rattle.dac_wishes.specs.laws.KeyedWrites.{keyed_writes_total, exact_keyed_writes}
+use Rattle.dac_wishes.specs.Votes.{VotesValue, joined_vote, join_votes}
+use Rattle.dac_wishes.specs.laws.Votes.{standing-join_votes}
 use Rattle.dac_wishes.specs.DrainsValue.{DrainsValue, DrainWrite}
 use Rattle.dac_operations.specs.declared.act.Act.{Act}
 use Rattle.dac_operations.specs.Operations.{Operation}
@@ -41,7 +50,7 @@ use Rattle.dac_operations.specs.Seen.{seen_life}
 use Rattle.dac_meaning.specs.StateValue.{StateValue, IsState, join, permissions_of, wishes_of, drains_of}
 use Rattle.dac_meaning.specs.laws.StateLaws.{state_laws, life_laws, lives-join, claims-join, wishes-join, permissions-join, drains-join}
 use Rattle.dac_meaning.specs.Meaning.{meaning_of, life_said, claim_said, is_replaced}
-use Rattle.dac_meaning.specs.Chained.{greatest-one}
+use Rattle.dac_meaning.specs.laws.Chained.{greatest-one}
 use Rattle.dac_meaning.specs.laws.Joins.{meaning-state}
 use Rattle.dac_meaning.specs.laws.Readers.{starts-meaning, permits-meaning, drains-meaning, lives-meaning, claims-meaning}
 use Rattle.dac_placement.specs.declared.verdicts.Verdict.{Verdict}

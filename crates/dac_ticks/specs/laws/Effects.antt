@@ -9,26 +9,33 @@ use Rattle.std.proofs.lemmas.Bool.{false≢true, false_from_ne_true}
 use Rattle.std.proofs.lemmas.Cmp.{nat_cmp_total, tied_itself}
 use Rattle.dac_base.specs.declared.AppId.{AppId}
 use Rattle.dac_base.specs.declared.NodeId.{NodeId}
-use Rattle.dac_base.specs.Ids.{node_cmp, nodes_total, exact_nodes}
+use Rattle.dac_base.specs.Ids.{node_cmp}
+use Rattle.dac_base.specs.laws.Ids.{nodes_total, exact_nodes}
 use Rattle.dac_dots.specs.declared.dot.Origin.{Origin}
 use Rattle.dac_dots.specs.declared.dot.Dot.{Dot}
-use Rattle.dac_dots.specs.Dots.{dot_cmp, dots_total, exact_dots, origins_total, exact_origins}
+use Rattle.dac_dots.specs.Dots.{dot_cmp}
+use Rattle.dac_dots.specs.laws.Dots.{dots_total, exact_dots, origins_total, exact_origins}
 use Rattle.dac_dots.specs.Keys.{has_key}
-use Rattle.dac_dots.specs.InOrder.{has_key-in_order}
+use Rattle.dac_dots.specs.laws.InOrder.{has_key-in_order}
 use Rattle.dac_lattice.specs.declared.flags.Flag.{Flag}
 use Rattle.dac_lattice.specs.declared.flags.Flag.TheVariants.{Up as IsUp, Down as IsDown}
-use Rattle.dac_lattice.specs.Flags.{flag_cmp, flags_exact}
+use Rattle.dac_lattice.specs.Flags.{flag_cmp}
+use Rattle.dac_lattice.specs.laws.Flags.{flags_exact}
 use Rattle.dac_lattice.specs.Lattices.{join_options}
 use Rattle.dac_chains.specs.declared.lives.Life.{Life}
 use Rattle.dac_chains.specs.declared.claims.Claim.{Claim}
 use Rattle.dac_chains.specs.declared.claims.How.{How}
 use Rattle.dac_chains.specs.Greatest.{get-greater}
-use Rattle.dac_chains.specs.Lives.{Lives, IsLive, life_cmp, lives_total, exact_lives}
+use Rattle.dac_chains.specs.Lives.{Lives, IsLive, life_cmp}
+use Rattle.dac_chains.specs.laws.Lives.{lives_total, exact_lives}
 use Rattle.dac_config.specs.Table.{Table, default_permission}
 use Rattle.dac_wishes.specs.declared.key.Key.{Key}
-use Rattle.dac_wishes.specs.Keys.{keys_total, exact_keys, same_key, same_key_itself}
-use Rattle.dac_wishes.specs.Writes.{Write, write, same_dot, same_dot_itself, dots_at, contains-dots_at}
-use Rattle.dac_wishes.specs.WishesValue.{WishesValue, SomeStands, may_stand, standing-join}
+use Rattle.dac_wishes.specs.Keys.{same_key}
+use Rattle.dac_wishes.specs.laws.Keys.{keys_total, exact_keys, same_key_itself}
+use Rattle.dac_wishes.specs.Writes.{Write, write, same_dot, same_dot_itself, dots_at}
+use Rattle.dac_wishes.specs.laws.Writes.{contains-dots_at}
+use Rattle.dac_wishes.specs.WishesValue.{WishesValue, SomeStands, may_stand}
+use Rattle.dac_wishes.specs.laws.WishesValue.{standing-join}
 use Rattle.dac_wishes.specs.PermissionsValue.{PermissionsValue, IsPermitted, join_permissions}
 use Rattle.dac_wishes.specs.DrainsValue.{DrainsValue, IsDrained, origin}
 use Rattle.dac_operations.specs.declared.act.Act.{Act}
@@ -36,7 +43,7 @@ use Rattle.dac_operations.specs.declared.act.Act.TheVariants.{Start as Starts, S
 use Rattle.dac_operations.specs.Operations.{Operation}
 use Rattle.dac_meaning.specs.StateValue.{StateValue, IsState, join, wishes_of, permissions_of, drains_of}
 use Rattle.dac_meaning.specs.Meaning.{meaning_of, life_said, permit_vote, drain_vote}
-use Rattle.dac_meaning.specs.Chained.{greatest-one}
+use Rattle.dac_meaning.specs.laws.Chained.{greatest-one}
 use Rattle.dac_meaning.specs.laws.StateLaws.{lives-join, wishes-join, permissions-join, drains-join}
 use Rattle.dac_meaning.specs.laws.Readers.{starts-meaning, permits-meaning, drains-meaning, lives-meaning}
 use Rattle.dac_placement.specs.Placement.{IsEligible, RunsAt, key_at}

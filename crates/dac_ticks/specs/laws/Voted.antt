@@ -18,8 +18,10 @@ use Rattle.dac_lattice.specs.declared.flags.Flag.{Flag}
 use Rattle.dac_lattice.specs.declared.flags.Flag.TheVariants.{Up, Down}
 use Rattle.dac_lattice.specs.Flags.{join_flags}
 use Rattle.dac_store.specs.AtDot.{join_at}
-use Rattle.dac_wishes.specs.KeyedWrites.{KeyedWrite, keyed_write, same_dot, same_dot_itself}
-use Rattle.dac_wishes.specs.Votes.{Votes, VotesValue, AreVotes, joined_vote, join_votes, standing-join_votes}
+use Rattle.dac_wishes.specs.KeyedWrites.{KeyedWrite, keyed_write, same_dot}
+use Rattle.dac_wishes.specs.laws.KeyedWrites.{same_dot_itself}
+use Rattle.dac_wishes.specs.Votes.{Votes, VotesValue, AreVotes, joined_vote, join_votes}
+use Rattle.dac_wishes.specs.laws.Votes.{standing-join_votes}
 use Rattle.dac_operations.specs.declared.act.Act.{Act}
 use Rattle.dac_operations.specs.Operations.{Operation, over_list}
 use Rattle.dac_meaning.specs.StateValue.{StateValue}

@@ -7,7 +7,8 @@ use Rattle.dac_base.specs.declared.limits.TheConstants.{MAX_COUNTER}
 use Rattle.dac_chains.specs.declared.claims.How.{How}
 use Rattle.dac_dots.specs.declared.dot.Dot.{Dot}
 use Rattle.dac_dots.specs.declared.dot.Origin.{Origin}
-use Rattle.dac_dots.specs.Dots.{dot_cmp, dots_total}
+use Rattle.dac_dots.specs.Dots.{dot_cmp}
+use Rattle.dac_dots.specs.laws.Dots.{dots_total}
 use Rattle.dac_dots.specs.Keys.{IsRising}
 use Rattle.dac_wishes.specs.declared.key.Key.{Key}
 use Rattle.dac_config.specs.Table.{Table, node_count, app_count}
@@ -20,7 +21,8 @@ use Rattle.dac_bytes.specs.Numbers.{u8_bytes, u16_bytes, u64_bytes}
 use Rattle.dac_bytes.specs.Ranges.{IsOrigin, IsDot}
 use Rattle.dac_bytes.specs.Reading.{Rest, number_at, range_at, counter_at, origin_at, dot_at, dot_above_at}
 use Rattle.dac_bytes.specs.Spelling.{dot_bytes, origin_bytes}
-use Rattle.dac_bytes.specs.Takes.{IsCodec, Passes, Takes, TakesAs, Takes-none, TakesAs-made, Again, Again-made, ok_is}
+use Rattle.dac_bytes.specs.Takes.{IsCodec, Passes, Takes, TakesAs, Again}
+use Rattle.dac_bytes.specs.laws.Takes.{Takes-none, TakesAs-made, Again-made, ok_is}
 use Rattle.dac_part_bytes.specs.ChainForm.{IsFromFor}
 use Rattle.dac_part_bytes.specs.KeyedForm.{IsKey, IsKeyAbove}
 use Rattle.dac_part_bytes.specs.Reading.{app_at, key_above_at, manner_at, is_listed}

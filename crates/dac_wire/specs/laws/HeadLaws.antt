@@ -14,7 +14,8 @@ use Rattle.dac_bytes.specs.Numbers.{u8_bytes, u64_bytes}
 use Rattle.dac_bytes.specs.Ranges.{IsOrigin}
 use Rattle.dac_bytes.specs.Reading.{Rest, range_at, node_at, incarnation_or_zero_at, origin_at}
 use Rattle.dac_bytes.specs.Spelling.{incarnation_bytes, origin_bytes}
-use Rattle.dac_bytes.specs.Takes.{IsCodec, Passes, Takes, TakesAs, Takes-none, TakesAs-made, Again, Again-made, ok_is}
+use Rattle.dac_bytes.specs.Takes.{IsCodec, Passes, Takes, TakesAs, Again}
+use Rattle.dac_bytes.specs.laws.Takes.{Takes-none, TakesAs-made, Again-made, ok_is}
 use Rattle.dac_bytes.specs.Versions.{highest_incarnation}
 use Rattle.dac_wire.specs.Codes.{only_code, only_of_code, ack_code}
 use Rattle.dac_wire.specs.Form.{IsOnly, IsAck}

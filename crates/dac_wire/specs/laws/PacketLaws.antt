@@ -7,7 +7,8 @@ use Rattle.dac_config.specs.Table.{Table, node_count}
 use Rattle.dac_bytes.specs.declared.fault.ReadFaultKind.TheVariants.{Trailing}
 use Rattle.dac_bytes.specs.laws.Codecs.{codec_both, codec_pair}
 use Rattle.dac_bytes.specs.Reading.{Rest, ◌>>=◌, after, whole, fault}
-use Rattle.dac_bytes.specs.Takes.{IsBytes, IsCodec, Takes-front, TakesAs, TakesAs-made, Again, Again-made, bind_ok, wanted_ok}
+use Rattle.dac_bytes.specs.Takes.{IsBytes, IsCodec, TakesAs, Again}
+use Rattle.dac_bytes.specs.laws.Takes.{Takes-front, TakesAs-made, Again-made, bind_ok, wanted_ok}
 use Rattle.dac_meaning.specs.StateValue.{StateValue}
 use Rattle.dac_part_bytes.specs.PartCodecs.{PartCodecs}
 use Rattle.dac_state.specs.StateForm.{IsInForm}

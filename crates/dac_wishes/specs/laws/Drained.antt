@@ -8,15 +8,17 @@ use Rattle.std.specs.FinMap.{find, is_sorted}
 use Rattle.std.proofs.lemmas.Bool.{false≢true, or_cases, or_left, or_right}
 use Rattle.dac_dots.specs.declared.dot.Dot.{Dot}
 use Rattle.dac_dots.specs.declared.dot.Origin.{Origin}
-use Rattle.dac_dots.specs.Dots.{dot_cmp, dots_total, exact_dots, origins_total, exact_origins}
+use Rattle.dac_dots.specs.Dots.{dot_cmp}
+use Rattle.dac_dots.specs.laws.Dots.{dots_total, exact_dots, origins_total, exact_origins}
 use Rattle.dac_lattice.specs.declared.flags.Flag.{Flag}
 use Rattle.dac_lattice.specs.declared.flags.Flag.TheVariants.{Up, Down}
 use Rattle.dac_lattice.specs.Entries.{find_below}
 use Rattle.dac_lattice.specs.laws.EntryLaws.{first, second}
-use Rattle.dac_wishes.specs.KeyedWrites.{same_dot, same_dot_is}
+use Rattle.dac_wishes.specs.KeyedWrites.{same_dot}
+use Rattle.dac_wishes.specs.laws.KeyedWrites.{same_dot_is}
 use Rattle.dac_wishes.specs.StoredVotes.{DotFlags}
 use Rattle.dac_wishes.specs.DrainsValue.{DrainsValue, drains_at, says_drained, is_drained, IsDrained}
-use Rattle.dac_wishes.specs.VotesByKey.{find-votes_at, votes_at-sorted}
+use Rattle.dac_wishes.specs.laws.VotesByKey.{find-votes_at, votes_at-sorted}
 
 down_if : (f : Flag) → says_drained f ≡ true → f ≡ Down
 down_if Up e = absurd (false≢true e)

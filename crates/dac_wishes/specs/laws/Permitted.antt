@@ -8,7 +8,8 @@ use Rattle.std.specs.FinMap.{find, is_sorted}
 use Rattle.std.proofs.lemmas.Bool.{false≢true, and_parts, and_from}
 use Rattle.std.proofs.lemmas.List.Elements.{All-head, All-tail}
 use Rattle.dac_dots.specs.declared.dot.Dot.{Dot}
-use Rattle.dac_dots.specs.Dots.{dot_cmp, dots_total, exact_dots}
+use Rattle.dac_dots.specs.Dots.{dot_cmp}
+use Rattle.dac_dots.specs.laws.Dots.{dots_total, exact_dots}
 use Rattle.dac_lattice.specs.declared.flags.Flag.{Flag}
 use Rattle.dac_lattice.specs.declared.flags.Flag.TheVariants.{Up, Down}
 use Rattle.dac_lattice.specs.laws.EntryLaws.{each_entry}
@@ -16,7 +17,7 @@ use Rattle.dac_wishes.specs.declared.key.Key.{Key}
 use Rattle.dac_wishes.specs.Writes.{same_dot}
 use Rattle.dac_wishes.specs.PermissionsValue.{PermissionsValue, permits_at, is_permitted_by, is_permitted, says_true, IsPermitted}
 use Rattle.dac_wishes.specs.StoredPermits.{DotFlags}
-use Rattle.dac_wishes.specs.PermitsByKey.{find-permits_at, permits_at-sorted}
+use Rattle.dac_wishes.specs.laws.PermitsByKey.{find-permits_at, permits_at-sorted}
 
 up_if : (f : Flag) → says_true f ≡ true → f ≡ Up
 up_if Up e = refl

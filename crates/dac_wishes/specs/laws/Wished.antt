@@ -8,8 +8,10 @@ use Rattle.std.specs.FinSet as set
 use Rattle.std.proofs.lemmas.Bool.{false≢true, or_cases, or_left, or_right}
 use Rattle.dac_dots.specs.declared.dot.Dot.{Dot}
 use Rattle.dac_wishes.specs.declared.key.Key.{Key}
-use Rattle.dac_wishes.specs.Keys.{same_key, same_key_is, same_key_itself}
-use Rattle.dac_wishes.specs.Writes.{Write, write, write_cmp, writes_total, exact_writes}
+use Rattle.dac_wishes.specs.Keys.{same_key}
+use Rattle.dac_wishes.specs.laws.Keys.{same_key_is, same_key_itself}
+use Rattle.dac_wishes.specs.Writes.{Write, write, write_cmp}
+use Rattle.dac_wishes.specs.laws.Writes.{writes_total, exact_writes}
 use Rattle.dac_wishes.specs.WishesValue.{WishesValue, is_wished, SomeStands}
 
 -- the writes have one of the key

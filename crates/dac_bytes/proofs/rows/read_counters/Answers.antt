@@ -1,7 +1,7 @@
 use Rattle.std.proofs.Common.{sym}
 use Rattle.std.proofs.lemmas.Result.{err_from_is_err_and}
 use Rattle.dac_bytes.specs.Reading.{further_at, items_at}
-use Rattle.dac_bytes.specs.Items.{Fails-from, ends, goes_on, is_done}
+use Rattle.dac_bytes.specs.laws.Items.{Fails-from, ends, goes_on, is_done}
 use Rattle.dac_bytes.proofs.rows.read_counters.Goals as goal
 
 pub returns-in_err-n : goal.returns-in_err-n

@@ -1,4 +1,4 @@
-use Rattle.dac_deltas.specs.Numbers.{nothing_is_greatest, raises_acknowledge}
+use Rattle.dac_deltas.specs.laws.Numbers.{nothing_is_greatest, raises_acknowledge}
 use Rattle.dac_deltas.proofs.laws.acks_are_greatest.Goals as goal
 
 pub returns : goal.returns

@@ -1,6 +1,7 @@
 use Rattle.std.proofs.Common.{[], ◌∷◌}
 use Rattle.dac_meaning.specs.Meaning.{meaning_of}
-use Rattle.dac_meaning.specs.Below.{is_below, is_below-is}
+use Rattle.dac_meaning.specs.Below.{is_below}
+use Rattle.dac_meaning.specs.laws.Below.{is_below-is}
 use Rattle.dac_node.proofs.Tests.{same}
 use Rattle.dac_node.proofs.knowledge.covers.Goals as goal
 

@@ -1,4 +1,5 @@
-use Rattle.dac_meaning.specs.Below.{is_below, is_below-is}
+use Rattle.dac_meaning.specs.Below.{is_below}
+use Rattle.dac_meaning.specs.laws.Below.{is_below-is}
 use Rattle.dac_node.proofs.Tests.{same}
 use Rattle.dac_node.proofs.knowledge.is_below.Goals as goal
 

@@ -3,11 +3,12 @@ use Rattle.std.proofs.lemmas.Result.{err_from_is_err_and}
 use Rattle.std.specs.FinMap as map
 use Rattle.dac_chains.specs.Greatest.{greater}
 use Rattle.dac_base.specs.declared.AppId.{AppId}
-use Rattle.dac_base.specs.Ids.{app_cmp, apps_total, exact_apps}
+use Rattle.dac_base.specs.Ids.{app_cmp}
+use Rattle.dac_base.specs.laws.Ids.{apps_total, exact_apps}
 use Rattle.dac_chains.specs.declared.claims.Claim.{Claim}
 use Rattle.dac_chains.specs.Claims.{claim_cmp}
 use Rattle.dac_bytes.specs.Reading.{items_at}
-use Rattle.dac_bytes.specs.Items.{ends, goes_on, is_done, Fails-from}
+use Rattle.dac_bytes.specs.laws.Items.{ends, goes_on, is_done, Fails-from}
 use Rattle.dac_part_bytes.specs.Reading.{claim_at}
 use Rattle.dac_bytes.specs.laws.Ascending.{reaches_more}
 use Rattle.dac_part_bytes.proofs.ReadFacts.{claim_next}

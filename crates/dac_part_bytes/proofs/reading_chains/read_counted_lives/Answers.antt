@@ -3,11 +3,12 @@ use Rattle.std.proofs.lemmas.Result.{err_from_is_err_and}
 use Rattle.std.specs.FinMap as map
 use Rattle.dac_chains.specs.Greatest.{greater}
 use Rattle.dac_base.specs.declared.NodeId.{NodeId}
-use Rattle.dac_base.specs.Ids.{node_cmp, nodes_total, exact_nodes}
+use Rattle.dac_base.specs.Ids.{node_cmp}
+use Rattle.dac_base.specs.laws.Ids.{nodes_total, exact_nodes}
 use Rattle.dac_chains.specs.declared.lives.Life.{Life}
 use Rattle.dac_chains.specs.Lives.{life_cmp}
 use Rattle.dac_bytes.specs.Reading.{items_at}
-use Rattle.dac_bytes.specs.Items.{ends, goes_on, is_done, Fails-from}
+use Rattle.dac_bytes.specs.laws.Items.{ends, goes_on, is_done, Fails-from}
 use Rattle.dac_part_bytes.specs.Reading.{life_at}
 use Rattle.dac_bytes.specs.laws.Ascending.{reaches_more}
 use Rattle.dac_part_bytes.proofs.ReadFacts.{life_next}

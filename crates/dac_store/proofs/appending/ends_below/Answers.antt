@@ -1,5 +1,5 @@
 use Rattle.std.proofs.Common.{sym, arith}
-use Rattle.dac_store.specs.Appending.{above_last_entry, all_without_last}
+use Rattle.dac_store.specs.laws.Appending.{above_last_entry, all_without_last}
 use Rattle.dac_store.proofs.appending.ends_below.Goals as goal
 
 pub returns-in-Some : goal.returns-in-Some

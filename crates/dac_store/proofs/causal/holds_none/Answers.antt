@@ -2,9 +2,9 @@ use Rattle.std.proofs.Common.{◌∙◌, ◌≡◌, false, sym, refl}
 use Rattle.std.proofs.lemmas.Bool.{false≢true}
 use Rattle.std.proofs.lemmas.List.Elements.{All-more}
 use Rattle.std.specs.FinSet as set
-use Rattle.dac_dots.specs.Dots.{dots_total, exact_dots}
+use Rattle.dac_dots.specs.laws.Dots.{dots_total, exact_dots}
 use Rattle.dac_dots.specs.laws.KeyLaws.{each_member, member_at}
-use Rattle.dac_store.specs.Stores.{held_unheard}
+use Rattle.dac_store.specs.laws.Stores.{held_unheard}
 use Rattle.dac_store.proofs.causal.holds_none.Goals as goal
 
 pub loop-dot-preserved : goal.loop-dot-preserved

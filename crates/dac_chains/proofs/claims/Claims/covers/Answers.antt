@@ -1,5 +1,5 @@
 use Rattle.std.proofs.Common.{refl, sym, subst}
-use Rattle.dac_base.specs.Ids.{apps_total, exact_apps}
+use Rattle.dac_base.specs.laws.Ids.{apps_total, exact_apps}
 use Rattle.dac_chains.specs.Greatest.{AreNotAbove, alone}
 use Rattle.dac_chains.specs.Claims.{claim_cmp, said_claim}
 use Rattle.dac_chains.proofs.OneBelow.{nothing_below}

@@ -1,6 +1,6 @@
 use Rattle.std.proofs.Common.{◌∙◌, ap}
 use Rattle.std.specs.FinMap as map
-use Rattle.dac_base.specs.Ids.{apps_total, exact_apps}
+use Rattle.dac_base.specs.laws.Ids.{apps_total, exact_apps}
 use Rattle.dac_chains.proofs.KeptLemmas.{entries-kept}
 use Rattle.dac_chains.proofs.claims.Claims.entries.Goals as goal
 

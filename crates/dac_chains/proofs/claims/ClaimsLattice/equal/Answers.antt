@@ -1,4 +1,4 @@
-use Rattle.dac_base.specs.Ids.{apps_total, exact_apps}
+use Rattle.dac_base.specs.laws.Ids.{apps_total, exact_apps}
 use Rattle.dac_chains.proofs.KeptLemmas.{equal-kept}
 use Rattle.dac_chains.proofs.claims.ClaimsLattice.equal.Goals as goal
 

@@ -1,5 +1,6 @@
 use Rattle.std.proofs.Common.{ap, ◌∙◌}
-use Rattle.dac_base.specs.Ids.{app_cmp, apps_total, exact_apps}
+use Rattle.dac_base.specs.Ids.{app_cmp}
+use Rattle.dac_base.specs.laws.Ids.{apps_total, exact_apps}
 use Rattle.dac_chains.specs.Greatest.{greater}
 use Rattle.dac_chains.specs.Kept.{kept}
 use Rattle.dac_chains.specs.Claims.{claim_cmp}

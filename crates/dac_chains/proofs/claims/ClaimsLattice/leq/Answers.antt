@@ -1,4 +1,4 @@
-use Rattle.dac_base.specs.Ids.{apps_total, exact_apps}
+use Rattle.dac_base.specs.laws.Ids.{apps_total, exact_apps}
 use Rattle.dac_chains.proofs.KeptLemmas.{below-kept}
 use Rattle.dac_chains.proofs.Orders.{order_of_claims}
 use Rattle.dac_chains.proofs.claims.ClaimsLattice.leq.Goals as goal

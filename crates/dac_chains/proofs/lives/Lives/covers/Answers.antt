@@ -1,5 +1,5 @@
 use Rattle.std.proofs.Common.{refl, sym, subst}
-use Rattle.dac_base.specs.Ids.{nodes_total, exact_nodes}
+use Rattle.dac_base.specs.laws.Ids.{nodes_total, exact_nodes}
 use Rattle.dac_chains.specs.Greatest.{AreNotAbove, alone}
 use Rattle.dac_chains.specs.Lives.{life_cmp, said_life}
 use Rattle.dac_chains.proofs.OneBelow.{nothing_below}

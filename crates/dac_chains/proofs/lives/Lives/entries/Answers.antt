@@ -1,6 +1,6 @@
 use Rattle.std.proofs.Common.{◌∙◌, ap}
 use Rattle.std.specs.FinMap as map
-use Rattle.dac_base.specs.Ids.{nodes_total, exact_nodes}
+use Rattle.dac_base.specs.laws.Ids.{nodes_total, exact_nodes}
 use Rattle.dac_chains.proofs.KeptLemmas.{entries-kept}
 use Rattle.dac_chains.proofs.lives.Lives.entries.Goals as goal
 

@@ -1,6 +1,6 @@
 use Rattle.std.proofs.Common.{Some, sym, subst, ◌∙◌}
 use Rattle.std.proofs.lemmas.Bool.{false≢true}
-use Rattle.dac_base.specs.Ids.{nodes_total, exact_nodes}
+use Rattle.dac_base.specs.laws.Ids.{nodes_total, exact_nodes}
 use Rattle.dac_lattice.specs.Chains.{IsAtMost}
 use Rattle.dac_lattice.specs.Lattices.{IsWithin}
 use Rattle.dac_chains.specs.Lives.{life_cmp}

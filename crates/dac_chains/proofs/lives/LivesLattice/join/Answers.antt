@@ -1,5 +1,6 @@
 use Rattle.std.proofs.Common.{ap, ◌∙◌}
-use Rattle.dac_base.specs.Ids.{node_cmp, nodes_total, exact_nodes}
+use Rattle.dac_base.specs.Ids.{node_cmp}
+use Rattle.dac_base.specs.laws.Ids.{nodes_total, exact_nodes}
 use Rattle.dac_chains.specs.Greatest.{greater}
 use Rattle.dac_chains.specs.Kept.{kept}
 use Rattle.dac_chains.specs.Lives.{life_cmp}

@@ -1,4 +1,4 @@
-use Rattle.dac_base.specs.Ids.{nodes_total, exact_nodes}
+use Rattle.dac_base.specs.laws.Ids.{nodes_total, exact_nodes}
 use Rattle.dac_chains.proofs.KeptLemmas.{below-kept}
 use Rattle.dac_chains.proofs.Orders.{order_of_lives}
 use Rattle.dac_chains.proofs.lives.LivesLattice.leq.Goals as goal

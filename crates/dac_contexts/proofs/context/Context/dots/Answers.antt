@@ -1,7 +1,7 @@
 use Rattle.std.proofs.Common.{◌∙◌, ap}
 use Rattle.std.specs.FinSet as set
-use Rattle.dac_dots.specs.Dots.{dots_total, exact_dots}
-use Rattle.dac_dots.specs.InOrder.{in_order-same}
+use Rattle.dac_dots.specs.laws.Dots.{dots_total, exact_dots}
+use Rattle.dac_dots.specs.laws.InOrder.{in_order-same}
 use Rattle.dac_contexts.proofs.LenLemmas.{dots_more, dots_are}
 use Rattle.dac_contexts.proofs.context.Context.dots.Goals as goal
 

@@ -1,5 +1,5 @@
 use Rattle.std.proofs.Common.{◌∙◌}
-use Rattle.dac_wishes.specs.Stores.{subset_left, subset_right}
+use Rattle.dac_wishes.specs.laws.Stores.{subset_left, subset_right}
 use Rattle.dac_state.proofs.Hearing.{all_heard}
 use Rattle.dac_state.proofs.heard.Heard.join.Goals as goal
 

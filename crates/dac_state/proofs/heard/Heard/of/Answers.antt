@@ -1,4 +1,4 @@
-use Rattle.dac_wishes.specs.Stores.{same_context}
+use Rattle.dac_wishes.specs.laws.Stores.{same_context}
 use Rattle.dac_state.proofs.heard.Heard.of.Goals as goal
 
 pub returns-then-is_subset : goal.returns-then-is_subset

@@ -1,4 +1,4 @@
-use Rattle.dac_store.specs.Stores.{within_join}
+use Rattle.dac_store.specs.laws.Stores.{within_join}
 use Rattle.dac_store.proofs.causal.Causal.join_beside.Goals as goal
 
 pub invariant_of-result : goal.invariant_of-result

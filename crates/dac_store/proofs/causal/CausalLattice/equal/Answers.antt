@@ -1,6 +1,6 @@
 use Rattle.std.proofs.Common.{◌∙◌, sym}
 use Rattle.std.proofs.lemmas.Bool.{false≢true}
-use Rattle.dac_store.specs.Stores.{causal_laws}
+use Rattle.dac_store.specs.laws.Stores.{causal_laws}
 use Rattle.dac_store.proofs.causal.CausalLattice.equal.Goals as goal
 
 pub returns-then-leq : goal.returns-then-leq

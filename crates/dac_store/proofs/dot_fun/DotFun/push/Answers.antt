@@ -1,10 +1,12 @@
 use Rattle.std.proofs.Common.{◌∙◌, ◌++◌, [], ◌∷◌, ap, sym, subst}
 use Rattle.std.proofs.lemmas.Result.{IfOk-from_err}
-use Rattle.dac_dots.specs.Dots.{dot_cmp, dots_total}
+use Rattle.dac_dots.specs.Dots.{dot_cmp}
+use Rattle.dac_dots.specs.laws.Dots.{dots_total}
 use Rattle.dac_dots.specs.declared.dot.Dot.{Dot}
 use Rattle.dac_lattice.specs.Lattices.{IsIn}
 use Rattle.dac_lattice.specs.Maps.{IsMap}
-use Rattle.dac_store.specs.Appending.{is_above_entries, sorted_appended, find_appended}
+use Rattle.dac_store.specs.Appending.{is_above_entries}
+use Rattle.dac_store.specs.laws.Appending.{sorted_appended, find_appended}
 use Rattle.dac_store.specs.FewEntries.{entries_of}
 use Rattle.dac_store.proofs.Passing.{fails_so}
 use Rattle.dac_store.proofs.dot_fun.DotFun.push.Goals as goal

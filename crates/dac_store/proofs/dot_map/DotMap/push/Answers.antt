@@ -2,7 +2,8 @@ use Rattle.std.proofs.Common.{◌∙◌, ◌++◌, [], ◌∷◌, not, ap, sym, 
 use Rattle.std.proofs.lemmas.Bool.{and_from}
 use Rattle.std.proofs.lemmas.Result.{IfOk-from_err}
 use Rattle.dac_store.specs.DotMaps.{IsKept, IsKeyed}
-use Rattle.dac_store.specs.Appending.{is_above_entries, sorted_appended, find_appended}
+use Rattle.dac_store.specs.Appending.{is_above_entries}
+use Rattle.dac_store.specs.laws.Appending.{sorted_appended, find_appended}
 use Rattle.dac_store.proofs.Passing.{fails_so}
 use Rattle.dac_store.proofs.dot_map.DotMap.push.Goals as goal
 

@@ -1,7 +1,7 @@
 use Rattle.std.proofs.Common.{ap, sym}
 use Rattle.std.specs.Cmp.Lexicographic.{pointwise_decides}
 use Rattle.std.specs.FinSet as set
-use Rattle.dac_store.specs.SameDots.{same_dots}
+use Rattle.dac_store.specs.laws.SameDots.{same_dots}
 use Rattle.dac_store.proofs.dot_set.DotSet.has_same_dots.Goals as goal
 
 pub returns : goal.returns

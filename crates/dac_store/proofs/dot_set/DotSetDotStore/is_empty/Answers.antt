@@ -1,7 +1,8 @@
 use Rattle.std.proofs.Common.{◌∙◌, ap, nat_eq}
 use Rattle.std.specs.FinSet as set
-use Rattle.dac_dots.specs.Dots.{dots_total, exact_dots}
-use Rattle.dac_dots.specs.InOrder.{in_order, in_order-rising, in_order-same}
+use Rattle.dac_dots.specs.laws.Dots.{dots_total, exact_dots}
+use Rattle.dac_dots.specs.InOrder.{in_order}
+use Rattle.dac_dots.specs.laws.InOrder.{in_order-rising, in_order-same}
 use Rattle.dac_dots.specs.laws.KeyLaws.{len_rising}
 use Rattle.dac_store.proofs.dot_set.DotSetDotStore.is_empty.Goals as goal
 

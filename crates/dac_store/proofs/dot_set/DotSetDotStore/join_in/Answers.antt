@@ -1,5 +1,6 @@
 use Rattle.std.proofs.Common.{◌≡◌, ◌∙◌, IfOk, subst, sym, ap}
-use Rattle.dac_store.specs.DotSets.{join_same, join_sets, join_turned}
+use Rattle.dac_store.specs.DotSets.{join_sets}
+use Rattle.dac_store.specs.laws.DotSets.{join_same, join_turned}
 use Rattle.dac_store.proofs.dot_set.DotSetDotStore.join_in.Goals as goal
 
 pub returns-then-has_at_most-2 : goal.returns-then-has_at_most-2

@@ -1,5 +1,5 @@
 use Rattle.std.specs.Cmp.Lexicographic.{pointwise_decides}
-use Rattle.dac_store.specs.SameDots.{same_dots}
+use Rattle.dac_store.specs.laws.SameDots.{same_dots}
 use Rattle.dac_wishes.proofs.dot_list.DotList.equal.Goals as goal
 
 pub returns : goal.returns

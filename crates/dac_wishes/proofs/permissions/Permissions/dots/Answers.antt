@@ -1,5 +1,5 @@
 use Rattle.std.proofs.Common.{◌∙◌}
-use Rattle.dac_wishes.specs.PermitsByKey.{permits_stored}
+use Rattle.dac_wishes.specs.laws.PermitsByKey.{permits_stored}
 use Rattle.dac_wishes.proofs.permissions.Permissions.dots.Goals as goal
 
 pub returns : goal.returns

@@ -1,6 +1,7 @@
 use Rattle.std.proofs.Common.{◌∙◌, ap, sym}
 use Rattle.dac_wishes.specs.PermissionsValue.{PermissionsValue}
-use Rattle.dac_wishes.specs.PermitsByKey.{permits_by_key, permits_again}
+use Rattle.dac_wishes.specs.PermitsByKey.{permits_by_key}
+use Rattle.dac_wishes.specs.laws.PermitsByKey.{permits_again}
 use Rattle.dac_wishes.proofs.permissions.Permissions.entries.Goals as goal
 
 pub returns : goal.returns

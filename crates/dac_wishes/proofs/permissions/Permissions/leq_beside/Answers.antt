@@ -1,4 +1,4 @@
-use Rattle.dac_wishes.specs.Keys.{keys_total, exact_keys}
+use Rattle.dac_wishes.specs.laws.Keys.{keys_total, exact_keys}
 use Rattle.dac_wishes.proofs.VoteStoring.{below_if_stored, stored_if_below}
 use Rattle.dac_wishes.proofs.permissions.Permissions.leq_beside.Goals as goal
 

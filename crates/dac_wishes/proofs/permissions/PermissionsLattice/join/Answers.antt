@@ -1,5 +1,5 @@
 use Rattle.std.proofs.Common.{◌∙◌, ap}
-use Rattle.dac_wishes.specs.Keys.{keys_total, exact_keys}
+use Rattle.dac_wishes.specs.laws.Keys.{keys_total, exact_keys}
 use Rattle.dac_wishes.specs.StoredPermits.{permissions_of}
 use Rattle.dac_wishes.proofs.VoteStoring.{votes_value_of-join}
 use Rattle.dac_wishes.proofs.permissions.PermissionsLattice.join.Goals as goal

@@ -1,4 +1,4 @@
-use Rattle.dac_wishes.specs.Keys.{keys_total, exact_keys}
+use Rattle.dac_wishes.specs.laws.Keys.{keys_total, exact_keys}
 use Rattle.dac_wishes.proofs.VoteStoring.{stored_votes}
 use Rattle.dac_wishes.proofs.permissions.PermissionsLattice.tells_invariant.Goals as goal
 

@@ -1,6 +1,7 @@
 use Rattle.std.proofs.Common.{◌∙◌, ap, sym}
 use Rattle.dac_wishes.specs.WishesValue.{WishesValue}
-use Rattle.dac_wishes.specs.StartsByKey.{starts_by_key, starts_again}
+use Rattle.dac_wishes.specs.StartsByKey.{starts_by_key}
+use Rattle.dac_wishes.specs.laws.StartsByKey.{starts_again}
 use Rattle.dac_wishes.proofs.wishes.Wishes.entries.Goals as goal
 
 pub returns : goal.returns

@@ -1,6 +1,6 @@
 use Rattle.std.proofs.Common.{◌∙◌, sym}
 use Rattle.std.proofs.lemmas.Bool.{false≢true}
-use Rattle.dac_wishes.specs.WishesValue.{wishes_laws}
+use Rattle.dac_wishes.specs.laws.WishesValue.{wishes_laws}
 use Rattle.dac_wishes.proofs.wishes.WishesLattice.equal.Goals as goal
 
 pub returns-then-leq : goal.returns-then-leq

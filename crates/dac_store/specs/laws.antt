@@ -1,0 +1,5 @@
+pub mod Appending
+pub mod AtDot
+pub mod DotSets
+pub mod SameDots
+pub mod Stores

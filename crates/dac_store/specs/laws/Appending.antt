@@ -1,0 +1,97 @@
+-- Laws of the definitions in `Appending`.
+use Rattle.std.specs.Prelude.{◌≡◌, ℕ, ◌+◌, ◌-◌, ◌<◌, ◌≤◌, Bool, true, false, cond, ◌&&◌, T, List, [], ◌∷◌, ◌++◌, length, Option, None, Some, unwrap_or, refl}
+use Rattle.std.proofs.Common.{sym, ap, subst, ◌∙◌, arith, zero, suc}
+use Rattle.std.specs.declared.cmp.Ordering.{Ordering}
+use Rattle.std.specs.Ordering.{is_lt, eq_by_cmp}
+use Rattle.std.specs.Cmp.{IsTotalOrder}
+use Rattle.std.specs.List.{list_all, slice_get}
+use Rattle.std.specs.FinMap.{find, is_sorted}
+use Rattle.std.specs.FinMap.Entries.{below_all}
+use Rattle.std.proofs.Math.Bool.{and-true}
+use Rattle.std.proofs.lemmas.Bool.{and_parts, and_from}
+use Rattle.dac_dots.specs.Keys.{is_below_all, IsRising}
+use Rattle.dac_dots.specs.laws.InOrder.{less}
+use Rattle.dac_lattice.specs.laws.EntryLaws.{first, second, less as below}
+use Rattle.dac_store.specs.Appending.{is_above_entries, is_above_keys}
+
+-- ---- what is last decides
+
+implied : (a b : Bool) → (b ≡ true → a ≡ true) → (a && b) ≡ b
+implied true b f = refl
+implied false true f = f refl
+implied false false f = refl
+
+nothing : {A : Type 0} {x : A} → ◌≡◌ {A = Option A} None (Some x) → ⊥
+nothing e = cc
+
+some_at : {X : Type 0} (xs : List X) (i : ℕ) → i < length xs → None ≡ slice_get xs i → ⊥
+some_at [] i p e = absurd (omega arith)
+some_at (x ∷ xs) zero p e = nothing e
+some_at (x ∷ xs) (suc i) p e = some_at xs i (omega arith) e
+
+-- where there is no last one, each passes
+pub all_without_last : {X : Type 0} (p : X → Bool) (xs : List X) → None ≡ slice_get xs (length xs - 1) → true ≡ list_all p xs
+all_without_last p [] e = refl
+all_without_last p (x ∷ xs) e = absurd (some_at (x ∷ xs) (length (x ∷ xs) - 1) (omega arith) e)
+
+both : (a b : Bool) → T a → T b → T (a && b)
+both true b p q = q
+both false b p q = p
+
+module _ {K : Type 0} {R : K → K → Ordering} (o : IsTotalOrder R) where
+  below_at : (x : K) (ks : List K) (i : ℕ) (y : K) → is_below_all R x ks ≡ true → slice_get ks i ≡ Some y → is_lt (R x y) ≡ true
+  below_at x [] i y h e = absurd (nothing e)
+  below_at x (k ∷ ks) zero y h e = ap (λ z. is_lt (R x (unwrap_or z x))) (sym e) ∙ (and_parts _ _ h).0
+  below_at x (k ∷ ks) (suc i) y h e = below_at x ks i y (and_parts _ _ h).1 e
+
+  -- a key is above a list that rises exactly if it is above the last one
+  pub above_last_key : (ks : List K) (i : ℕ) (last k : K) → IsRising R ks → length ks ≤ i + 1 → slice_get ks i ≡ Some last → is_above_keys R ks k ≡ is_lt (R last k)
+  above_last_key [] i last k h p e = absurd (nothing e)
+  above_last_key (x ∷ []) zero last k h p e = and-true _ ∙ ap (λ z. is_lt (R (unwrap_or z x) k)) e
+  above_last_key (x ∷ []) (suc i) last k h p e = absurd (nothing e)
+  above_last_key (x ∷ y ∷ ys) zero last k h p e = absurd (omega arith)
+  above_last_key (x ∷ y ∷ ys) (suc i) last k h p e =
+      ap (λ b. is_lt (R x k) && b) (above_last_key (y ∷ ys) i last k (and_parts _ _ h).1 (omega arith) e)
+      ∙ implied (is_lt (R x k)) (is_lt (R last k)) (λ t. ap is_lt (o.trans x last k (less _ (below_at x (y ∷ ys) i last (and_parts _ _ h).0 e)) (less _ t)))
+
+  rising_below : (x : K) (ks : List K) (k : K) → is_below_all R x ks ≡ true → is_lt (R x k) ≡ true → is_below_all R x (ks ++ k ∷ []) ≡ true
+  rising_below x [] k h e = and_from _ _ e refl
+  rising_below x (y ∷ ks) k h e = and_from _ _ (and_parts _ _ h).0 (rising_below x ks k (and_parts _ _ h).1 e)
+
+  -- what is above all of them keeps a list rising
+  pub rising_appended : (ks : List K) (k : K) → IsRising R ks → is_above_keys R ks k ≡ true → IsRising R (ks ++ k ∷ [])
+  rising_appended [] k h a = refl
+  rising_appended (x ∷ ks) k h a = and_from _ _ (rising_below x ks k (and_parts _ _ h).0 (and_parts _ _ a).0) (rising_appended ks k (and_parts _ _ h).1 (and_parts _ _ a).1)
+
+module _ {K X : Type 0} {R : K → K → Ordering} (o : IsTotalOrder R) where
+  entry_at : (x : K) (es : List (K × X)) (i : ℕ) (y : K × X) → T (below_all R x es) → slice_get es i ≡ Some y → is_lt (R x y.0) ≡ true
+  entry_at x [] i y h e = absurd (nothing e)
+  entry_at x (z ∷ es) zero y h e = ap (λ (r : Option (K × X)). is_lt (R x (unwrap_or r z).0)) (sym e) ∙ ap is_lt (below (R x z.0) (first _ _ h))
+  entry_at x (z ∷ es) (suc i) y h e = entry_at x es i y (second _ _ h) e
+
+  -- a key is above entries in order exactly if it is above the last one
+  pub above_last_entry : (es : List (K × X)) (i : ℕ) (last : K × X) (k : K) → T (is_sorted R es) → length es ≤ i + 1 → slice_get es i ≡ Some last → is_above_entries R es k ≡ is_lt (R last.0 k)
+  above_last_entry [] i last k h p e = absurd (nothing e)
+  above_last_entry (x ∷ []) zero last k h p e = and-true _ ∙ ap (λ (r : Option (K × X)). is_lt (R (unwrap_or r x).0 k)) e
+  above_last_entry (x ∷ []) (suc i) last k h p e = absurd (nothing e)
+  above_last_entry (x ∷ y ∷ ys) zero last k h p e = absurd (omega arith)
+  above_last_entry (x ∷ y ∷ ys) (suc i) last k h p e =
+      ap (λ b. is_lt (R x.0 k) && b) (above_last_entry (y ∷ ys) i last k (second _ _ h) (omega arith) e)
+      ∙ implied (is_lt (R x.0 k)) (is_lt (R last.0 k)) (λ t. ap is_lt (o.trans x.0 last.0 k (less _ (entry_at x.0 (y ∷ ys) i last (first _ _ h) e)) (less _ t)))
+
+  sorted_below : (x : K) (es : List (K × X)) (e : K × X) → T (below_all R x es) → is_lt (R x e.0) ≡ true → T (below_all R x (es ++ e ∷ []))
+  sorted_below x [] e h t = both _ _ (subst T (sym t) tt) tt
+  sorted_below x (y ∷ es) e h t = both _ _ (first _ _ h) (sorted_below x es e (second _ _ h) t)
+
+  -- what is above all of them keeps entries in order
+  pub sorted_appended : (es : List (K × X)) (e : K × X) → T (is_sorted R es) → is_above_entries R es e.0 ≡ true → T (is_sorted R (es ++ e ∷ []))
+  sorted_appended [] e h a = tt
+  sorted_appended (x ∷ es) e h a = both _ _ (sorted_below x.0 es e (first _ _ h) (and_parts _ _ a).0) (sorted_appended es e (second _ _ h) (and_parts _ _ a).1)
+
+  -- what holds of what is at a key, and of a new value, holds of what is there with the new value
+  pub find_appended : (P : Option X → Type 0) (es : List (K × X)) (e : K × X) (q : K) → P (find R q es) → P (Some e.1) → P (find R q (es ++ e ∷ []))
+  find_appended P [] e q none here = elim (eq_by_cmp R q e.0) as (λ t. P (cond t (Some e.1) None)) [ true ↦ here | false ↦ none ]
+  find_appended P (x ∷ es) e q at here = elim (eq_by_cmp R q x.0) as (λ t. P (cond t (Some x.1) (find R q es)) → P (cond t (Some x.1) (find R q (es ++ e ∷ [])))) [
+    | true ↦ λ at. at
+    | false ↦ λ at. find_appended P es e q at here
+  ] at

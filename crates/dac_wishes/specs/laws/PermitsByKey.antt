@@ -1,0 +1,42 @@
+-- Laws of the definitions in `PermitsByKey`.
+use Rattle.std.specs.Prelude.{◌≡◌, T, List, []}
+use Rattle.std.specs.FinMap as map
+use Rattle.std.specs.FinMap.{find, is_sorted}
+use Rattle.dac_dots.specs.declared.dot.Dot.{Dot}
+use Rattle.dac_dots.specs.Dots.{dot_cmp}
+use Rattle.dac_store.specs.DotMaps.{store_at}
+use Rattle.dac_wishes.specs.declared.key.Key.{Key}
+use Rattle.dac_wishes.specs.Keys.{key_cmp}
+use Rattle.dac_wishes.specs.laws.Keys.{keys_total, exact_keys}
+use Rattle.dac_wishes.specs.Writes.{Write, write}
+use Rattle.dac_wishes.specs.PermissionsValue.{Permits, permits_at}
+use Rattle.dac_wishes.specs.StoredPermits.{DotFlags, permits_of}
+use Rattle.dac_wishes.specs.laws.VotesByKey.{get-votes_of, find-votes_at, votes_at-sorted, votes_stored, are_votes, votes_again, votes_by_key_again}
+use Rattle.dac_wishes.specs.PermitsByKey.{ArePermits, permits_by_key}
+
+-- what stands of a permit is what is at its dot at its key
+pub get-permits_of : (m : List (Key × DotFlags)) → T (is_sorted key_cmp m) → (w : Write) → map.get (permits_of m) w ≡ find dot_cmp w.dot (store_at [] (find key_cmp w.key m))
+get-permits_of = get-votes_of keys_total exact_keys
+
+-- what stands at a key is the permit at its dot
+pub find-permits_at : (key : Key) (permits : Permits) (d : Dot) → find dot_cmp d (permits_at key permits) ≡ map.get permits (write key d)
+find-permits_at = find-votes_at keys_total exact_keys
+
+pub permits_at-sorted : (key : Key) (permits : Permits) → T (is_sorted dot_cmp (permits_at key permits))
+permits_at-sorted = votes_at-sorted keys_total exact_keys
+
+-- the permits at a key are those that stand there
+pub permits_stored : (m : List (Key × DotFlags)) → ArePermits m → (key : Key) → store_at [] (find key_cmp key m) ≡ permits_at key (permits_of m)
+permits_stored = votes_stored keys_total exact_keys
+
+-- the permits by key are kept so
+pub are_permits : (permits : Permits) → ArePermits (permits_by_key permits)
+are_permits = are_votes keys_total exact_keys
+
+-- what is kept so is its permits by key
+pub permits_again : (m : List (Key × DotFlags)) → ArePermits m → permits_by_key (permits_of m) ≡ m
+permits_again = votes_again keys_total exact_keys
+
+-- and the permits are those of their list by key
+pub by_key_again : (permits : Permits) → permits_of (permits_by_key permits) ≡ permits
+by_key_again = votes_by_key_again keys_total exact_keys
