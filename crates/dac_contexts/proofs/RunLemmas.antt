@@ -14,7 +14,7 @@ use Rattle.std.proofs.lemmas.Map.Lookups.{exact_unsigned}
 use Rattle.dac_dots.specs.laws.InOrder.{or_swap, same_rising}
 use Rattle.dac_contexts.specs.laws.CounterLaws.{is_less, on_the_way, ends_there, rising_filter, has_key-filter}
 use Rattle.dac_contexts.specs.Rows.{IsGreatest, further_of, reach_of}
-use Rattle.dac_contexts.specs.Runs.{from_on, counters_of_run, counters_in, run_has, any_run, any_past, are_apart, AreRuns, HaveEnded, IsPlaceFor, joined, absorbed}
+use Rattle.dac_contexts.specs.Runs.{from_on, counters_of_run, counters_in, run_has, any_run, any_past, are_apart, AreRuns, HaveEnded, IsPlaceFor, hull, absorbed}
 use Rattle.dac_contexts.specs.declared.counters.Run.{Run}
 use Rattle.dac_contexts.proofs.PlaceLemmas.{or_assoc}
 
@@ -161,9 +161,9 @@ IsNext run (next ∷ runs) = run.first ≤ next.last + 1
 joined_has : (a b c d n : ℕ) → a ≤ b → c ≤ d → a ≤ d + 1 → c ≤ b + 1 → (nat_le (min a c) n && nat_le n (max b d)) ≡ ((nat_le a n && nat_le n b) || (nat_le c n && nat_le n d))
 joined_has a b c d n p q r s = grind (arith, nat_tests)
 
-joined_next : (run next : Run) (runs : List Run) → next.first ≤ next.last → run.first ≤ next.last + 1 → are_apart (next.last + 2) runs ≡ true → IsNext (joined run next) runs
-joined_next run next [] v p h = tt
-joined_next run next (after ∷ runs) v p h =
+hull_next : (run next : Run) (runs : List Run) → next.first ≤ next.last → run.first ≤ next.last + 1 → are_apart (next.last + 2) runs ≡ true → IsNext (hull run next) runs
+hull_next run next [] v p h = tt
+hull_next run next (after ∷ runs) v p h =
     let is = apart_first (next.last + 2) after runs h in
     let a = is.0 in
     let b = is.1.0 in
@@ -174,9 +174,9 @@ absorbed_has run [] low v at h n = refl
 absorbed_has run (next ∷ runs) low v at h n =
     let is = apart_first low next runs h in
     let w = is.1.0 in
-    elim (nat_le next.first (run.last + 1)) as (λ b. nat_le next.first (run.last + 1) ≡ b → any_run (cond b (absorbed (joined run next) runs) (run ∷ next ∷ runs)) n ≡ (run_has n run || (run_has n next || any_run runs n))) [
+    elim (nat_le next.first (run.last + 1)) as (λ b. nat_le next.first (run.last + 1) ≡ b → any_run (cond b (absorbed (hull run next) runs) (run ∷ next ∷ runs)) n ≡ (run_has n run || (run_has n next || any_run runs n))) [
       | true ↦ λ e.
-          absorbed_has (joined run next) runs (next.last + 2) (omega arith) (joined_next run next runs w at is.1.1) is.1.1 n
+          absorbed_has (hull run next) runs (next.last + 2) (omega arith) (hull_next run next runs w at is.1.1) is.1.1 n
           ∙ ap (λ b. b || any_run runs n) (joined_has run.first run.last next.first next.last n v w at (leb-true _ _ e))
           ∙ or_assoc (run_has n run) (run_has n next) (any_run runs n)
       | false ↦ λ e. refl
@@ -188,8 +188,8 @@ absorbed_apart run (next ∷ runs) low v p h =
     let is = apart_first low next runs h in
     let q = is.0 in
     let w = is.1.0 in
-    elim (nat_le next.first (run.last + 1)) as (λ b. nat_le next.first (run.last + 1) ≡ b → are_apart low (cond b (absorbed (joined run next) runs) (run ∷ next ∷ runs)) ≡ true) [
-      | true ↦ λ e. absorbed_apart (joined run next) runs low (omega arith) (omega arith) (apart_lower low (next.last + 2) runs (omega arith) is.1.1)
+    elim (nat_le next.first (run.last + 1)) as (λ b. nat_le next.first (run.last + 1) ≡ b → are_apart low (cond b (absorbed (hull run next) runs) (run ∷ next ∷ runs)) ≡ true) [
+      | true ↦ λ e. absorbed_apart (hull run next) runs low (omega arith) (omega arith) (apart_lower low (next.last + 2) runs (omega arith) is.1.1)
       | false ↦ λ e. let far = leb-false _ _ e in apart_from low run (next ∷ runs) p v (apart_from (run.last + 2) next runs (omega arith) w is.1.1)
     ] refl
 
@@ -248,16 +248,16 @@ length_removed [] i p = absurd (omega arith)
 length_removed (run ∷ runs) zero p = omega arith
 length_removed (run ∷ runs) (suc i) p = let more = length_removed runs i (omega arith) in omega arith
 
-absorbed_reached : (run next : Run) (runs : List Run) → nat_le next.first (run.last + 1) ≡ true → absorbed run (next ∷ runs) ≡ absorbed (joined run next) runs
-absorbed_reached run next runs e = ap (λ b. cond b (absorbed (joined run next) runs) (run ∷ next ∷ runs)) e
+absorbed_reached : (run next : Run) (runs : List Run) → nat_le next.first (run.last + 1) ≡ true → absorbed run (next ∷ runs) ≡ absorbed (hull run next) runs
+absorbed_reached run next runs e = ap (λ b. cond b (absorbed (hull run next) runs) (run ∷ next ∷ runs)) e
 
 absorbed_far : (run next : Run) (runs : List Run) → nat_le next.first (run.last + 1) ≡ false → absorbed run (next ∷ runs) ≡ run ∷ next ∷ runs
-absorbed_far run next runs e = ap (λ b. cond b (absorbed (joined run next) runs) (run ∷ next ∷ runs)) e
+absorbed_far run next runs e = ap (λ b. cond b (absorbed (hull run next) runs) (run ∷ next ∷ runs)) e
 
 -- a run that is reached is taken out, and joined
-pub absorbed_more : (run : Run) (runs : List Run) (i : ℕ) (d : Run) → i < length runs → nat_le (get_or runs i d).first (run.last + 1) ≡ true → absorbed run (drop i runs) ≡ absorbed (joined run (get_or runs i d)) (drop i (take i runs ++ drop (suc i) runs))
+pub absorbed_more : (run : Run) (runs : List Run) (i : ℕ) (d : Run) → i < length runs → nat_le (get_or runs i d).first (run.last + 1) ≡ true → absorbed run (drop i runs) ≡ absorbed (hull run (get_or runs i d)) (drop i (take i runs ++ drop (suc i) runs))
 absorbed_more run runs i d p e =
-    ap (absorbed run) (drop_here runs i d p) ∙ absorbed_reached run (get_or runs i d) (drop (suc i) runs) e ∙ ap (absorbed (joined run (get_or runs i d))) (sym (drop_removed runs i p))
+    ap (absorbed run) (drop_here runs i d p) ∙ absorbed_reached run (get_or runs i d) (drop (suc i) runs) e ∙ ap (absorbed (hull run (get_or runs i d))) (sym (drop_removed runs i p))
 
 -- nothing is left to be joined
 pub absorbed_end : (run : Run) (runs : List Run) (i : ℕ) → length runs ≤ i → absorbed run (drop i runs) ≡ run ∷ drop i runs

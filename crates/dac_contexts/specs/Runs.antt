@@ -48,10 +48,10 @@ abbrev pub HaveEnded : List Run → ℕ → ℕ → Type 0
 HaveEnded runs place n = AllWithin (λ (run : Run). nat_lt run.last n ≡ true) runs 0 place × AllWithin (λ (run : Run). nat_lt run.last n ≡ false) runs place (length runs)
 
 -- from where the first of both begins to where the last of both ends
-abbrev pub joined : Run → Run → Run
-joined a b = record { first = min a.first b.first; last = max a.last b.last }
+abbrev pub hull : Run → Run → Run
+hull a b = record { first = min a.first b.first; last = max a.last b.last }
 
 -- the run and those after it, the ones that it reaches joined with it
 abbrev pub absorbed : Run → List Run → List Run
 absorbed run [] = run ∷ []
-absorbed run (next ∷ runs) = cond (nat_le next.first (run.last + 1)) (absorbed (joined run next) runs) (run ∷ next ∷ runs)
+absorbed run (next ∷ runs) = cond (nat_le next.first (run.last + 1)) (absorbed (hull run next) runs) (run ∷ next ∷ runs)

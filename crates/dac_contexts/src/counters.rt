@@ -6,7 +6,7 @@ ghost use Rattle.dac_dots.specs.Keys.{IsRising, has_key};
 ghost use Rattle.dac_dots.specs.declared.dot.Dot.{Dot};
 ghost use Rattle.dac_contexts.specs.Marks.{is_marked};
 ghost use Rattle.dac_contexts.specs.Rows.{IsGreatest, further_of, reach_of};
-ghost use Rattle.dac_contexts.specs.Runs.{AreRuns, HaveEnded, IsPlaceFor, any_past, any_run, are_apart, run_has, joined, absorbed};
+ghost use Rattle.dac_contexts.specs.Runs.{AreRuns, HaveEnded, IsPlaceFor, any_past, any_run, are_apart, hull, run_has, absorbed};
 
 use crate::marks::Marks;
 use dac_base::NoMemory;
@@ -50,8 +50,8 @@ impl Run {
     }
 
     /// From where the first of both begins to where the last of both ends.
-    fn joined(self, other: Run) -> Run
-        ensures { result ≡ joined self other }
+    fn hull(self, other: Run) -> Run
+        ensures { result ≡ hull self other }
     {
         Run {
             first: self.first.min(other.first),
@@ -68,7 +68,7 @@ fn take_touched(runs: &mut Vec<Run>, place: usize, run: Run) -> Run
 {
     let mut joined = run;
     while place < runs.len() && joined.reaches(runs[place]) {
-        joined = joined.joined(runs.remove(place));
+        joined = joined.hull(runs.remove(place));
     }
     joined
 }

@@ -16,8 +16,8 @@ abbrev pub store_at : {S : Type 0} → S → Option S → S
 store_at nothing v = unwrap_or v nothing
 
 -- a store, unless it holds no dots
-abbrev pub kept : {S : Type 0} → (S → Bool) → S → Option S
-kept is_empty s = if is_empty s then None else Some s
+abbrev pub unless_empty : {S : Type 0} → (S → Bool) → S → Option S
+unless_empty is_empty s = if is_empty s then None else Some s
 
 -- a store that is kept holds dots
 abbrev pub IsKept : {S : Type 0} → (S → Type 0) → (S → Bool) → Option S → Type 0
@@ -35,4 +35,4 @@ IsKeyedBelow {K} R nothing below m c t d = (k : K) → below (store_at nothing (
 
 -- at each key the join of the stores there, unless it holds no dots
 abbrev pub join_keyed : {K S : Type 0} → (K → K → Ordering) → S → (S → Bool) → (S → Dots → S → Dots → S) → List (K × S) → Dots → List (K × S) → Dots → List (K × S)
-join_keyed R nothing is_empty join m c t d = merge_entries R (λ _ v w. kept is_empty (join (store_at nothing v) c (store_at nothing w) d)) m t
+join_keyed R nothing is_empty join m c t d = merge_entries R (λ _ v w. unless_empty is_empty (join (store_at nothing v) c (store_at nothing w) d)) m t

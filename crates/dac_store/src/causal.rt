@@ -131,7 +131,7 @@ impl<S: DotStore> Causal<S> {
         ensures { IfOk result (λ kept. kept_in kept ≡ self.now.store) }
     {
         match &self.kept {
-            Kept::Here(store) => shared(store.copy()?),
+            Kept::Here(store) => share_store(store.copy()?),
             Kept::Shared(store) => Ok(Kept::Shared(Arc::try_clone(store)?)),
         }
     }
@@ -174,12 +174,12 @@ impl<S: DotStore> Causal<S> {
         let store = self
             .store()
             .join_in(self.context(), other.store(), other.context())?;
-        shared(store)
+        share_store(store)
     }
 }
 
 /// A store that others may have too.
-fn shared<S: DotStore>(store: S) -> Result<Kept<S>, NoMemory>
+fn share_store<S: DotStore>(store: S) -> Result<Kept<S>, NoMemory>
     ensures { IfOk result (λ kept. kept_in kept ≡ store) }
 {
     let shared = Arc::new(store.allocator(), store)?;

@@ -3,7 +3,7 @@ ghost use Rattle.std.specs.Prelude.{◌≡◌, ◌↔◌, ◌&&◌, [], ◌∷�
 ghost use Rattle.std.specs.Option.{option_copied};
 ghost use Rattle.std.specs.FinMap.{find};
 ghost use Rattle.dac_store.specs.Appending.{is_above_entries};
-ghost use Rattle.dac_store.specs.DotMaps.{kept, store_at};
+ghost use Rattle.dac_store.specs.DotMaps.{unless_empty, store_at};
 
 use crate::DotStore;
 use crate::appending::ends_below;
@@ -32,8 +32,8 @@ impl<K: MapKey, S: DotStore> Model for DotMap<K, S> {
 }
 
 /// The store, unless it holds no dots.
-fn kept<S: DotStore>(store: S) -> Option<S>
-    ensures { result ≡ kept S.is_empty store }
+fn unless_empty<S: DotStore>(store: S) -> Option<S>
+    ensures { result ≡ unless_empty S.is_empty store }
 {
     if store.is_empty() { None } else { Some(store) }
 }
@@ -106,16 +106,16 @@ struct JoinStores<'a> {
 }
 
 impl<K: MapKey, S: DotStore> Combine<K, S> for JoinStores<'_> {
-    ghost use Rattle.dac_store.specs.DotMaps.{kept, store_at};
+    ghost use Rattle.dac_store.specs.DotMaps.{unless_empty, store_at};
 
-    ghost combined = { λ h _ v w. kept S.is_empty (S.join (store_at S.nothing v) h.mine.now (store_at S.nothing w) h.theirs.now) };
+    ghost combined = { λ h _ v w. unless_empty S.is_empty (S.join (store_at S.nothing v) h.mine.now (store_at S.nothing w) h.theirs.now) };
 
     fn left(&self, _key: K, mine: &S) -> Result<Option<S>, NoMemory> {
         if mine.is_unheard(self.theirs) {
             mine.tells_invariant();
-            return Ok(kept(mine.copy()?));
+            return Ok(unless_empty(mine.copy()?));
         }
-        Ok(kept(mine.join_in(
+        Ok(unless_empty(mine.join_in(
             self.mine.context(),
             &S::empty(self.alloc),
             self.theirs.context(),
@@ -125,13 +125,17 @@ impl<K: MapKey, S: DotStore> Combine<K, S> for JoinStores<'_> {
     fn right(&self, _key: K, theirs: &S) -> Result<Option<S>, NoMemory> {
         if theirs.is_unheard(self.mine) {
             theirs.tells_invariant();
-            return Ok(kept(theirs.copy()?));
+            return Ok(unless_empty(theirs.copy()?));
         }
-        Ok(kept(S::empty(self.alloc).join_in(self.mine.context(), theirs, self.theirs.context())?))
+        Ok(unless_empty(S::empty(self.alloc).join_in(
+            self.mine.context(),
+            theirs,
+            self.theirs.context(),
+        )?))
     }
 
     fn both(&self, _key: K, mine: &S, theirs: &S) -> Result<Option<S>, NoMemory> {
-        Ok(kept(mine.join_in(self.mine.context(), theirs, self.theirs.context())?))
+        Ok(unless_empty(mine.join_in(self.mine.context(), theirs, self.theirs.context())?))
     }
 }
 

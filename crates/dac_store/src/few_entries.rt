@@ -116,8 +116,8 @@ fn merge_singles<V: Lattice, C: Combine<Dot, V>>(
 {
     match (mine, theirs) {
         (Some(mine), Some(theirs)) => merge_pair(alloc, how, mine, theirs),
-        (Some((dot, mine)), None) => Ok(kept(*dot, how.left(*dot, mine)?)),
-        (None, Some((dot, theirs))) => Ok(kept(*dot, how.right(*dot, theirs)?)),
+        (Some((dot, mine)), None) => Ok(keep_one(*dot, how.left(*dot, mine)?)),
+        (None, Some((dot, theirs))) => Ok(keep_one(*dot, how.right(*dot, theirs)?)),
         (None, None) => Ok(FewEntries::Empty),
     }
 }
@@ -134,14 +134,14 @@ fn merge_pair<V: Lattice, C: Combine<Dot, V>>(
     let (x, mine) = mine;
     let (y, theirs) = theirs;
     match x.cmp(y) {
-        Ordering::Less => kept_both(alloc, *x, how.left(*x, mine)?, *y, how.right(*y, theirs)?),
-        Ordering::Equal => Ok(kept(*x, how.both(*x, mine, theirs)?)),
-        Ordering::Greater => kept_both(alloc, *y, how.right(*y, theirs)?, *x, how.left(*x, mine)?),
+        Ordering::Less => keep_both(alloc, *x, how.left(*x, mine)?, *y, how.right(*y, theirs)?),
+        Ordering::Equal => Ok(keep_one(*x, how.both(*x, mine, theirs)?)),
+        Ordering::Greater => keep_both(alloc, *y, how.right(*y, theirs)?, *x, how.left(*x, mine)?),
     }
 }
 
 /// What is kept at one dot.
-fn kept<V: Lattice>(dot: Dot, value: Option<V>) -> FewEntries<V>
+fn keep_one<V: Lattice>(dot: Dot, value: Option<V>) -> FewEntries<V>
     ensures { entries_of result ≡ keep dot value [] }
 {
     match value {
@@ -151,7 +151,7 @@ fn kept<V: Lattice>(dot: Dot, value: Option<V>) -> FewEntries<V>
 }
 
 /// What is kept at two dots, of which the lower one comes first.
-fn kept_both<V: Lattice>(
+fn keep_both<V: Lattice>(
     alloc: Global,
     lower: Dot,
     value: Option<V>,
@@ -161,9 +161,9 @@ fn kept_both<V: Lattice>(
     ensures { IfOk result (λ both. entries_of both ≡ keep lower value (keep upper other [])) }
 {
     let Some(other) = other else {
-        return Ok(kept(lower, value));
+        return Ok(keep_one(lower, value));
     };
-    let mut both = kept(lower, value);
+    let mut both = keep_one(lower, value);
     both.push(alloc, upper, other)?;
     Ok(both)
 }

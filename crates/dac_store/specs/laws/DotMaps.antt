@@ -17,7 +17,7 @@ use Rattle.dac_lattice.specs.laws.EntryLaws.{first, second}
 use Rattle.dac_store.specs.Stores.{IsWithin, IsDotStore}
 use Rattle.dac_store.specs.DotFuns.{is_empty_list}
 use Rattle.dac_store.specs.laws.DotFuns.{when_empty}
-use Rattle.dac_store.specs.DotMaps.{IsKept, IsKeyed, IsKeyedBelow, has_in, join_keyed, kept, store_at}
+use Rattle.dac_store.specs.DotMaps.{IsKept, IsKeyed, IsKeyedBelow, has_in, join_keyed, store_at, unless_empty}
 
 module _ {K : Type 0} {R : K → K → Ordering} (o : IsTotalOrder R) (exact : CmpEqualImpliesEq R) {S : Type 0} {is_store : S → Type 0} {has : S → Dot → Bool} {below : S → Dots → S → Dots → Type 0} {join : S → Dots → S → Dots → S} {nothing : S} {is_empty : S → Bool} (laws : IsDotStore is_store has below join nothing is_empty) where
   pub at_store : (v : Option S) → IsKept is_store is_empty v → is_store (store_at nothing v)
@@ -27,17 +27,17 @@ module _ {K : Type 0} {R : K → K → Ordering} (o : IsTotalOrder R) (exact : C
   empty_nothing : is_empty nothing ≡ true
   empty_nothing = laws.bare nothing laws.empty_store laws.empty_has
 
-  kept_at : (v : Option S) → IsKept is_store is_empty v → kept is_empty (store_at nothing v) ≡ v
+  kept_at : (v : Option S) → IsKept is_store is_empty v → unless_empty is_empty (store_at nothing v) ≡ v
   kept_at None u = ap (λ b. cond b None (Some nothing)) empty_nothing
   kept_at (Some s) u = ap (λ b. cond b None (Some s)) u.1
 
-  at_kept : (s : S) → is_store s → store_at nothing (kept is_empty s) ≡ s
+  at_kept : (s : S) → is_store s → store_at nothing (unless_empty is_empty s) ≡ s
   at_kept s u = elim (is_empty s) as (λ b. is_empty s ≡ b → store_at nothing (cond b None (Some s)) ≡ s) [
     | true ↦ λ e. sym (laws.one_empty s u e)
     | false ↦ λ e. refl
   ] refl
 
-  is_kept : (s : S) → is_store s → IsKept is_store is_empty (kept is_empty s)
+  is_kept : (s : S) → is_store s → IsKept is_store is_empty (unless_empty is_empty s)
   is_kept s u = elim (is_empty s) as (λ b. is_empty s ≡ b → IsKept is_store is_empty (cond b None (Some s))) [
     | true ↦ λ e. tt
     | false ↦ λ e. (u, e)
@@ -85,7 +85,7 @@ module _ {K : Type 0} {R : K → K → Ordering} (o : IsTotalOrder R) (exact : C
   joined_store : (m : List (K × S)) (c : Dots) (t : List (K × S)) (d : Dots) → IsKeyed R is_store is_empty m → IsKeyed R is_store is_empty t → (k : K) → is_store (joined_at m c t d k)
   joined_store m c t d u v k = laws.stored _ c _ d (at_store _ (u.stores k)) (at_store _ (v.stores k))
 
-  none_join : (c d : Dots) → kept is_empty (join nothing c nothing d) ≡ None
+  none_join : (c d : Dots) → unless_empty is_empty (join nothing c nothing d) ≡ None
   none_join c d = ap (λ b. cond b None (Some (join nothing c nothing d)))
       (laws.bare _ (laws.stored nothing c nothing d laws.empty_store laws.empty_store) (λ x. false_from_ne_true _ (λ e.
       elim (or_cases _ _ (laws.comes nothing c nothing d x laws.empty_store laws.empty_store e)) [
@@ -93,8 +93,8 @@ module _ {K : Type 0} {R : K → K → Ordering} (o : IsTotalOrder R) (exact : C
         | inr b ↦ false≢true (sym (laws.empty_has x) ∙ b)
       ])))
 
-  find_keyed : (m : List (K × S)) (c : Dots) (t : List (K × S)) (d : Dots) → IsKeyed R is_store is_empty m → IsKeyed R is_store is_empty t → (k : K) → find R k (join_keyed R nothing is_empty join m c t d) ≡ kept is_empty (joined_at m c t d k)
-  find_keyed m c t d u v k = find_merge o exact (λ _ v w. kept is_empty (join (store_at nothing v) c (store_at nothing w) d)) (λ _. none_join c d) k m t u.in_order v.in_order
+  find_keyed : (m : List (K × S)) (c : Dots) (t : List (K × S)) (d : Dots) → IsKeyed R is_store is_empty m → IsKeyed R is_store is_empty t → (k : K) → find R k (join_keyed R nothing is_empty join m c t d) ≡ unless_empty is_empty (joined_at m c t d k)
+  find_keyed m c t d u v k = find_merge o exact (λ _ v w. unless_empty is_empty (join (store_at nothing v) c (store_at nothing w) d)) (λ _. none_join c d) k m t u.in_order v.in_order
 
   pub at_join : (m : List (K × S)) (c : Dots) (t : List (K × S)) (d : Dots) → IsKeyed R is_store is_empty m → IsKeyed R is_store is_empty t → (k : K) → store_at nothing (find R k (join_keyed R nothing is_empty join m c t d)) ≡ joined_at m c t d k
   at_join m c t d u v k = ap (store_at nothing) (find_keyed m c t d u v k) ∙ at_kept _ (joined_store m c t d u v k)
@@ -110,13 +110,13 @@ module _ {K : Type 0} {R : K → K → Ordering} (o : IsTotalOrder R) (exact : C
     refl = λ s c u k. laws.refl _ c (within_at s c u k);
     trans = λ s c t d u e us ut uu cd de p q k. laws.trans _ c _ d _ e (within_at s c us k) (within_at t d ut k) (within_at u e uu k) cd de (p k) (q k);
     antisymm = λ s t c us ut p q. same_entries R o exact s t us.store.in_order ut.store.in_order (λ k.
-        sym (kept_at _ (us.store.stores k)) ∙ ap (kept is_empty) (laws.antisymm _ _ c (within_at s c us k) (within_at t c ut k) (p k) (q k)) ∙ kept_at _ (ut.store.stores k));
+        sym (kept_at _ (us.store.stores k)) ∙ ap (unless_empty is_empty) (laws.antisymm _ _ c (within_at s c us k) (within_at t c ut k) (p k) (q k)) ∙ kept_at _ (ut.store.stores k));
     stored = λ s c t d us ut. record {
-      in_order = sorted_merge o exact (λ _ v w. kept is_empty (join (store_at nothing v) c (store_at nothing w) d)) s t us.in_order ut.in_order;
+      in_order = sorted_merge o exact (λ _ v w. unless_empty is_empty (join (store_at nothing v) c (store_at nothing w) d)) s t us.in_order ut.in_order;
       stores = λ k. subst (IsKept is_store is_empty) (sym (find_keyed s c t d us ut k)) (is_kept _ (joined_store s c t d us ut k));
     };
     comes = λ s c t d x us ut h.
-        let in_order = sorted_merge o exact (λ _ v w. kept is_empty (join (store_at nothing v) c (store_at nothing w) d)) s t us.in_order ut.in_order in
+        let in_order = sorted_merge o exact (λ _ v w. unless_empty is_empty (join (store_at nothing v) c (store_at nothing w) d)) s t us.in_order ut.in_order in
         let at = found_has (join_keyed R nothing is_empty join s c t d) x in_order h in
         elim (or_cases _ _ (laws.comes _ c _ d x (at_store _ (us.stores at.0)) (at_store _ (ut.stores at.0)) (ap (λ j. has j x) (sym (at_join s c t d us ut at.0)) ∙ at.1))) [
           | inl a ↦ or_left _ _ (has_found s at.0 x a)
@@ -133,14 +133,14 @@ module _ {K : Type 0} {R : K → K → Ordering} (o : IsTotalOrder R) (exact : C
     cleared = λ s c d u k. laws.cleared _ c d (at_store _ (u.stores k));
     first = λ s c u k. laws.first _ c (within_at s c u k);
     alone = λ s c d u h. same_entries R o exact (join_keyed R nothing is_empty join s c [] d) s
-        (sorted_merge o exact (λ _ v w. kept is_empty (join (store_at nothing v) c (store_at nothing w) d)) s [] u.in_order tt) u.in_order
+        (sorted_merge o exact (λ _ v w. unless_empty is_empty (join (store_at nothing v) c (store_at nothing w) d)) s [] u.in_order tt) u.in_order
         (λ k. find_keyed s c [] d u (record { in_order = tt; stores = λ k. tt }) k
-        ∙ ap (kept is_empty) (laws.alone _ c d (at_store _ (u.stores k)) (λ x e. h x (has_found s k x e)))
+        ∙ ap (unless_empty is_empty) (laws.alone _ c d (at_store _ (u.stores k)) (λ x e. h x (has_found s k x e)))
         ∙ kept_at _ (u.stores k));
     alone_right = λ s c d u h. same_entries R o exact (join_keyed R nothing is_empty join [] d s c) s
-        (sorted_merge o exact (λ _ v w. kept is_empty (join (store_at nothing v) d (store_at nothing w) c)) [] s tt u.in_order) u.in_order
+        (sorted_merge o exact (λ _ v w. unless_empty is_empty (join (store_at nothing v) d (store_at nothing w) c)) [] s tt u.in_order) u.in_order
         (λ k. find_keyed [] d s c (record { in_order = tt; stores = λ k. tt }) u k
-        ∙ ap (kept is_empty) (laws.alone_right _ c d (at_store _ (u.stores k)) (λ x e. h x (has_found s k x e)))
+        ∙ ap (unless_empty is_empty) (laws.alone_right _ c d (at_store _ (u.stores k)) (λ x e. h x (has_found s k x e)))
         ∙ kept_at _ (u.stores k));
     unheard = λ s t c d h k. laws.unheard _ _ c d (λ x e. h x (has_found t k x e));
   }

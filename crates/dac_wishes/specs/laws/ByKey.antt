@@ -9,7 +9,7 @@ use Rattle.std.proofs.lemmas.Bool.{and_parts}
 use Rattle.std.proofs.lemmas.Map.Lookups.{CmpEqualImpliesEq}
 use Rattle.dac_dots.specs.Keys.{IsRising, is_below_all, has_key}
 use Rattle.dac_dots.specs.InOrder.{in_order}
-use Rattle.dac_store.specs.DotMaps.{kept, store_at, IsKept, IsKeyed}
+use Rattle.dac_store.specs.DotMaps.{store_at, unless_empty, IsKept, IsKeyed}
 use Rattle.dac_wishes.specs.laws.KeyedWrites.{tied_is}
 use Rattle.dac_wishes.specs.ByKey.{by_key}
 
@@ -35,10 +35,10 @@ module _ {K S : Type 0} {R : K → K → Ordering} (exact_keys : CmpEqualImplies
 
   module _ (is_empty : S → Bool) where
     -- what is found is what is at the key, unless it is empty
-    pub find_kept : (ks : List K) (q : K) → is_empty (at q) ≡ not (has_key R ks q) → find R q (by_key at ks) ≡ kept is_empty (at q)
+    pub find_kept : (ks : List K) (q : K) → is_empty (at q) ≡ not (has_key R ks q) → find R q (by_key at ks) ≡ unless_empty is_empty (at q)
     find_kept ks q e =
         find-by_key ks q
-        ∙ elim (has_key R ks q) as (λ b. is_empty (at q) ≡ not b → cond b (Some (at q)) None ≡ kept is_empty (at q)) [
+        ∙ elim (has_key R ks q) as (λ b. is_empty (at q) ≡ not b → cond b (Some (at q)) None ≡ unless_empty is_empty (at q)) [
           | true ↦ λ e. ap (λ b. cond b None (Some (at q))) (sym e)
           | false ↦ λ e. ap (λ b. cond b None (Some (at q))) (sym e)
         ] e
@@ -50,7 +50,7 @@ module _ {K S : Type 0} {R : K → K → Ordering} (exact_keys : CmpEqualImplies
       stores = λ q. subst (IsKept is_store is_empty) (sym (find_kept ks q (e q))) (is_kept q);
     }
       where
-        is_kept : (q : K) → IsKept is_store is_empty (kept is_empty (at q))
+        is_kept : (q : K) → IsKept is_store is_empty (unless_empty is_empty (at q))
         is_kept q = elim (is_empty (at q)) as (λ b. is_empty (at q) ≡ b → IsKept is_store is_empty (cond b None (Some (at q)))) [
           | true ↦ λ _. tt
           | false ↦ λ t. (stores q, t)
@@ -58,11 +58,11 @@ module _ {K S : Type 0} {R : K → K → Ordering} (exact_keys : CmpEqualImplies
 
 module _ {S : Type 0} (is_empty : S → Bool) (nothing : S) where
   -- what a list that is kept so has at a key
-  pub kept_again : (is_store : S → Type 0) (v : Option S) → is_empty nothing ≡ true → IsKept is_store is_empty v → kept is_empty (store_at nothing v) ≡ v
+  pub kept_again : (is_store : S → Type 0) (v : Option S) → is_empty nothing ≡ true → IsKept is_store is_empty v → unless_empty is_empty (store_at nothing v) ≡ v
   kept_again is_store None e u = ap (λ b. cond b None (Some nothing)) e
   kept_again is_store (Some s) e u = ap (λ b. cond b None (Some s)) u.1
 
-  pub again_kept : (s : S) → (is_empty s ≡ true → s ≡ nothing) → store_at nothing (kept is_empty s) ≡ s
+  pub again_kept : (s : S) → (is_empty s ≡ true → s ≡ nothing) → store_at nothing (unless_empty is_empty s) ≡ s
   again_kept s one = elim (is_empty s) as (λ b. is_empty s ≡ b → store_at nothing (cond b None (Some s)) ≡ s) [
     | true ↦ λ t. sym (one t)
     | false ↦ λ t. refl

@@ -18,7 +18,7 @@ use Rattle.dac_lattice.specs.Entries.{find_below}
 use Rattle.dac_lattice.specs.laws.EntryLaws.{first, second}
 use Rattle.dac_store.specs.DotFuns.{is_empty_list}
 use Rattle.dac_store.specs.DotSets.{is_empty_set}
-use Rattle.dac_store.specs.DotMaps.{store_at, kept}
+use Rattle.dac_store.specs.DotMaps.{store_at, unless_empty}
 use Rattle.dac_wishes.specs.declared.key.Key.{Key}
 use Rattle.dac_wishes.specs.Keys.{key_cmp, same_key}
 use Rattle.dac_wishes.specs.laws.Keys.{keys_total, exact_keys, same_key_is}
@@ -92,7 +92,7 @@ unfolding keys_of
 bare_exactly writes key =
     bare_list (dots_among key (set.items writes)) ∙ none_if_absent keys_total exact_keys (λ (w : Write). w.key) (λ (w : Write). w.dot) key (set.items writes)
 
-find-starts : (writes : Writes) (key : Key) → find key_cmp key (starts_by_key writes) ≡ kept is_empty_set (dots_at key writes)
+find-starts : (writes : Writes) (key : Key) → find key_cmp key (starts_by_key writes) ≡ unless_empty is_empty_set (dots_at key writes)
 unfolding starts_by_key
 find-starts writes key = find_kept exact_keys (λ k. dots_at k writes) is_empty_set (keys_of writes) key (bare_exactly writes key)
 
@@ -104,7 +104,7 @@ are_starts writes = keyed_by_key exact_keys (λ k. dots_at k writes) is_empty_se
 -- what is kept so is its writes by key
 pub starts_again : (m : List (Key × Dots)) → AreStarts m → starts_by_key (writes_of m) ≡ m
 starts_again m u = same_entries key_cmp keys_total exact_keys _ m (are_starts (writes_of m)).in_order u.in_order (λ q.
-    find-starts (writes_of m) q ∙ ap (kept is_empty_set) (sym (dots_stored m u.in_order q)) ∙ kept_again is_empty_set set.empty IsAny (find key_cmp q m) (ap (λ n. nat_eq n 0) (set.len-empty dot_cmp)) (u.stores q))
+    find-starts (writes_of m) q ∙ ap (unless_empty is_empty_set) (sym (dots_stored m u.in_order q)) ∙ kept_again is_empty_set set.empty IsAny (find key_cmp q m) (ap (λ n. nat_eq n 0) (set.len-empty dot_cmp)) (u.stores q))
 
 -- and the writes are those of their list by key
 pub writes_again : (writes : Writes) → writes_of (starts_by_key writes) ≡ writes

@@ -23,7 +23,7 @@ use Rattle.dac_lattice.specs.Entries.{find_below}
 use Rattle.dac_lattice.specs.laws.EntryLaws.{first, second}
 use Rattle.dac_store.specs.DotFuns.{is_empty_list}
 use Rattle.dac_store.specs.laws.DotFuns.{when_empty, fun_laws}
-use Rattle.dac_store.specs.DotMaps.{store_at, kept}
+use Rattle.dac_store.specs.DotMaps.{store_at, unless_empty}
 use Rattle.dac_store.specs.laws.DotMaps.{at_store}
 use Rattle.dac_wishes.specs.KeyedWrites.{KeyedWrite, keyed_write, keyed_write_cmp, same_dot}
 use Rattle.dac_wishes.specs.laws.KeyedWrites.{keyed_writes_total, exact_keyed_writes, tied_is, same_keyed_write, at_keyed_write}
@@ -130,7 +130,7 @@ module _ {K : Type 0} {R : K → K → Ordering} (keys_total : IsTotalOrder R) (
   unfolding voted_keys
   bare_exactly votes key = none_if_absent keys_total exact_keys (λ (e : KeyedWrite K × Flag). e.0.key) (λ (e : KeyedWrite K × Flag). (e.0.dot, e.1)) key (map.entries votes)
 
-  find-votes : (votes : Votes R) (key : K) → find R key (votes_by_key R votes) ≡ kept is_empty_list (votes_at R key votes)
+  find-votes : (votes : Votes R) (key : K) → find R key (votes_by_key R votes) ≡ unless_empty is_empty_list (votes_at R key votes)
   unfolding votes_by_key
   find-votes votes key = find_kept exact_keys (λ k. votes_at R k votes) is_empty_list (voted_keys R votes) key (bare_exactly votes key)
 
@@ -144,7 +144,7 @@ module _ {K : Type 0} {R : K → K → Ordering} (keys_total : IsTotalOrder R) (
   -- what is kept so is its votes by key
   pub votes_again : (m : List (K × DotFlags)) → AreKeyedVotes R m → votes_by_key R (votes_of R m) ≡ m
   votes_again m u = same_entries R keys_total exact_keys _ m (are_votes (votes_of R m)).in_order u.in_order (λ q.
-      find-votes (votes_of R m) q ∙ ap (kept is_empty_list) (sym (votes_stored m u q)) ∙ kept_again is_empty_list [] (IsMap dot_cmp IsAny) (find R q m) refl (u.stores q))
+      find-votes (votes_of R m) q ∙ ap (unless_empty is_empty_list) (sym (votes_stored m u q)) ∙ kept_again is_empty_list [] (IsMap dot_cmp IsAny) (find R q m) refl (u.stores q))
 
   -- and the votes are those of their list by key
   pub votes_by_key_again : (votes : Votes R) → votes_of R (votes_by_key R votes) ≡ votes
