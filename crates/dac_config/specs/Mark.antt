@@ -2,9 +2,9 @@
 use Rattle.std.specs.Prelude.{ℕ, ◌*◌, ◌%◌, ◌^◌, List, fold, bit_xor}
 
 -- one more byte
-abbrev pub mixed : ℕ → ℕ → ℕ
-mixed mark byte = (bit_xor mark byte * 1099511628211) % 2 ^ 64
+abbrev pub mix_byte : ℕ → ℕ → ℕ
+mix_byte mark byte = (bit_xor mark byte * 1099511628211) % 2 ^ 64
 
 -- begin with this number, and mix in each byte
 abbrev pub fnv1a : List ℕ → ℕ
-fnv1a text = fold mixed 14695981039346656037 text
+fnv1a text = fold mix_byte 14695981039346656037 text

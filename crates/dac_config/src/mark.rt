@@ -1,7 +1,7 @@
 //! The mark of a text.
 
 ghost use Rattle.std.specs.Prelude.{◌≡◌, []};
-ghost use Rattle.dac_config.specs.Mark.{mixed, fnv1a};
+ghost use Rattle.dac_config.specs.Mark.{mix_byte, fnv1a};
 
 use crate::sink::Sink;
 
@@ -12,8 +12,8 @@ const NO_BYTES: u64 = 14695981039346656037;
 const FACTOR: u64 = 1099511628211;
 
 /// One more byte.
-fn mixed(mark: u64, byte: u8) -> u64
-    ensures { result ≡ mixed mark byte }
+fn mix_byte(mark: u64, byte: u8) -> u64
+    ensures { result ≡ mix_byte mark byte }
 {
     (mark ^ u64::from(byte)).wrapping_mul(FACTOR)
 }
@@ -37,7 +37,7 @@ impl Sink for Mark {
 
     fn put(&mut self, bytes: &[u8]) {
         for byte in bytes {
-            self.value = mixed(self.value, *byte);
+            self.value = mix_byte(self.value, *byte);
         }
     }
 }

@@ -72,7 +72,7 @@ impl<'a> Pair<'a> for DraftApp<'a> {
         parser.advance()?;
         let timeout = parser.timeout()?;
         let groups = parser.groups()?;
-        parser.closed(DraftApp {
+        parser.close_pair(DraftApp {
             name,
             timeout,
             groups,

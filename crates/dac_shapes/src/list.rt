@@ -29,7 +29,10 @@ pub trait Elements<'a> {
 
 impl<'a> Parser<'a> {
     /// Elements parted by commas, of which the first begins with the token, up to the closing symbol.
-    pub fn parted<E: Elements<'a>>(&mut self, close: Symbol) -> Result<Vec<E::Element>, ConfigFault>
+    pub fn comma_list<E: Elements<'a>>(
+        &mut self,
+        close: Symbol,
+    ) -> Result<Vec<E::Element>, ConfigFault>
         ensures read { Gives (λ all. (map E.said all.items, parser_state self.new)) result (from_here (comma_list E.read_at close (room (parser_state self.old)) []) self.old) }
         ensures left { tokens_left self.new ≤ tokens_left self.old }
     {
@@ -54,6 +57,6 @@ impl<'a> Parser<'a> {
         if self.is(Symbol::CloseList) {
             return Ok(Vec::new(self.alloc));
         }
-        self.parted::<E>(Symbol::CloseList)
+        self.comma_list::<E>(Symbol::CloseList)
     }
 }

@@ -102,7 +102,7 @@ impl<'a> Parser<'a> {
         if self.is(Symbol::CloseTuple) {
             return Err(fault(FaultKind::EmptyTuple, brace));
         }
-        self.parted::<Nodes>(Symbol::CloseTuple)
+        self.comma_list::<Nodes>(Symbol::CloseTuple)
     }
 
     /// A node list, whose opening bracket is the token.
@@ -120,6 +120,6 @@ impl<'a> Parser<'a> {
             return Err(fault(FaultKind::EmptyList, bracket));
         }
         self.listed.clear();
-        self.parted::<Groups>(Symbol::CloseList)
+        self.comma_list::<Groups>(Symbol::CloseList)
     }
 }

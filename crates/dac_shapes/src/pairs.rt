@@ -71,7 +71,7 @@ impl<'a, P: Pair<'a>> Elements<'a> for Pairs<'a, P> {
 
 impl<'a> Parser<'a> {
     /// This value, if the brace that closes its pair comes next.
-    pub fn closed<T: Drop>(&mut self, value: T) -> Result<T, ConfigFault>
+    pub fn close_pair<T: Drop>(&mut self, value: T) -> Result<T, ConfigFault>
         ensures read { Gives (λ _. parser_state self.new) result (symbol_at CloseTuple (parser_state self.old)) }
         ensures same { IfOk result (λ x. x ≡ value) }
         ensures left { tokens_left self.new ≤ tokens_left self.old }

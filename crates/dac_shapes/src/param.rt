@@ -40,7 +40,7 @@ pub enum Section<'a> {
 
 impl ParamName {
     /// The parameter that has this name in the text, if it is read.
-    pub fn named(name: &[u8]) -> Option<Self>
+    pub fn of_name(name: &[u8]) -> Option<Self>
         ensures { result ≡ param_named name.now }
     {
         if spells(b"distributed", name) {

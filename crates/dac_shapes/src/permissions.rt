@@ -50,6 +50,6 @@ impl<'a> Pair<'a> for Permission<'a> {
     fn rest(parser: &mut Parser<'a>, name: &'a [u8]) -> Result<Permission<'a>, ConfigFault> {
         parser.advance()?;
         let value = parser.flag()?;
-        parser.closed(Permission { name, value })
+        parser.close_pair(Permission { name, value })
     }
 }

@@ -81,7 +81,7 @@ impl<'a> Pair<'a> for Param<'a> {
     #[tactic(auto, using(crate::proofs::Loops::has_params), unfolding(crate::specs::Shape::param_name_of))]
     fn name(parser: &Parser<'a>, before: &[Param<'a>]) -> Result<Option<ParamName>, ConfigFault> {
         let name = parser.atom()?;
-        let Some(param) = ParamName::named(name) else {
+        let Some(param) = ParamName::of_name(name) else {
             return Ok(None);
         };
         if has_param(param, before) {
@@ -97,7 +97,7 @@ impl<'a> Pair<'a> for Param<'a> {
             return Ok(Param::Other);
         };
         let param = parser.param_value(name)?;
-        parser.closed(param)
+        parser.close_pair(param)
     }
 }
 
@@ -156,6 +156,6 @@ impl<'a> Pair<'a> for Section<'a> {
             return Ok(Section::Other);
         }
         let params = parser.list::<Pairs<Param<'a>>>()?;
-        parser.closed(Section::Kernel(params))
+        parser.close_pair(Section::Kernel(params))
     }
 }

@@ -1,7 +1,7 @@
 use Rattle.std.proofs.Common.{◌≡◌, ◌++◌, ◌∷◌, [], map, arith}
 use Rattle.std.proofs.lemmas.List.{map_push}
 use Rattle.dac_shapes.proofs.Loops.{failed, fails_reading, fails_after, ends, fails_at_token, goes_on}
-use Rattle.dac_shapes.proofs.parser.Parser.parted.Goals as goal
+use Rattle.dac_shapes.proofs.parser.Parser.comma_list.Goals as goal
 
 pub returns-in_err-element-clause-read : goal.returns-in_err-element-clause-read
 returns-in_err-element-clause-read g c =

@@ -3,7 +3,7 @@ use Rattle.dac_tokens.specs.Words.{located_of}
 use Rattle.dac_shapes.specs.Shape.{comma_list, room}
 use Rattle.dac_shapes.specs.Views.{parser_state, tokens_left}
 use Rattle.dac_shapes.proofs.Loops.{Goes}
-use Rattle.dac_shapes.proofs.parser.Parser.parted.Given as goal
+use Rattle.dac_shapes.proofs.parser.Parser.comma_list.Given as goal
 
 abbrev pub invariant-loop-all : goal.invariant-loop-all
 invariant-loop-all g l =
