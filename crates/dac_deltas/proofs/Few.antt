@@ -1,9 +1,11 @@
 -- Blocks that cover few deltas are few: first each is longer than the one before, and later each is shorter.
-use Rattle.std.specs.Prelude.{◌≡◌, ℕ, ◌+◌, ◌-◌, ◌%◌, ◌≤◌, ◌<◌, ◌^◌, List, [], ◌∷◌, length}
+use Rattle.std.specs.Prelude.{◌≡◌, ℕ, ◌+◌, ◌-◌, ◌*◌, ◌%◌, ◌≤◌, ◌<◌, ◌^◌, List, [], ◌∷◌, length}
 use Rattle.std.proofs.Common.{arith, sym, ap, subst, ◌∙◌, zero, suc, inl, inr, refl, true, false, leb}
 use Rattle.std.proofs.Math.Nat.{pow-le-pow_right, mod-one}
 use Rattle.std.proofs.lemmas.Bool.{leb-true, leb-false}
 use Rattle.dac_deltas.specs.Blocks.{IsLongestBlock, AreBlocks}
+use Rattle.dac_deltas.specs.declared.blocks.TheConstants.{MOST_LEVEL}
+use Rattle.dac_deltas.specs.declared.buffer.TheConstants.{MAX_DELTAS}
 use Rattle.dac_deltas.proofs.Places.{next_power, aligned_below, aligned_after, aligned_more}
 
 -- a lesser power has a lesser exponent
@@ -19,7 +21,7 @@ module _ (a count : ℕ) (b : ℕ × ℕ) (w : IsLongestBlock a count b) where
   after = ap (λ (p : ℕ × ℕ). p.1) w.2
 
 -- from a multiple of 2^j on, where less than 2^j deltas are left, there are at most j blocks
-down : (bs : List (ℕ × ℕ)) (a count j : ℕ) → j ≤ 8 → a % 2 ^ j ≡ 0 → a ≤ count → count - a < 2 ^ j → AreBlocks a count bs → length bs ≤ j
+down : (bs : List (ℕ × ℕ)) (a count j : ℕ) → j ≤ MOST_LEVEL → a % 2 ^ j ≡ 0 → a ≤ count → count - a < 2 ^ j → AreBlocks a count bs → length bs ≤ j
 down [] a count j small at in' left w = omega arith
 down (b ∷ bs) a count j small at in' left w =
     let k = w.0.0 in
@@ -36,48 +38,48 @@ down (b ∷ bs) a count j small at in' left w =
     let rest = down bs (a + 2 ^ k) count k (omega arith) (aligned_after a k (longest.aligned)) (omega arith) less (subst (λ n. AreBlocks n count bs) to w.1) in
     omega arith
 
--- from a multiple of 2^j on, where at most 256 deltas are left, there are at most 8 blocks beside those that grow
-up : (f : ℕ) (bs : List (ℕ × ℕ)) (a count j : ℕ) → j + f ≡ 8 → a % 2 ^ j ≡ 0 → a ≤ count → count - a ≤ 256 → AreBlocks a count bs → length bs ≤ f + 8
+-- from a multiple of 2^j on, where no more deltas are left than are kept, there are at most MOST_LEVEL blocks beside those that grow
+up : (f : ℕ) (bs : List (ℕ × ℕ)) (a count j : ℕ) → j + f ≡ MOST_LEVEL → a % 2 ^ j ≡ 0 → a ≤ count → count - a ≤ MAX_DELTAS → AreBlocks a count bs → length bs ≤ f + MOST_LEVEL
 up f [] a count j small at in' left w = omega arith
-up zero (b ∷ bs) a count j small at in' left w = elim (leb 256 (count - a)) as (λ t. leb 256 (count - a) ≡ t → length (b ∷ bs) ≤ 8) [
+up zero (b ∷ bs) a count j small at in' left w = elim (leb MAX_DELTAS (count - a)) as (λ t. leb MAX_DELTAS (count - a) ≡ t → length (b ∷ bs) ≤ MOST_LEVEL) [
   | true ↦ λ e.
       let all = leb-true _ _ e in
-      let last : j ≡ 8 = omega arith in
-      let eight : a % 2 ^ 8 ≡ 0 = subst (λ n. a % 2 ^ n ≡ 0) last at in
+      let last : j ≡ MOST_LEVEL = omega arith in
+      let aligned : a % 2 ^ MOST_LEVEL ≡ 0 = subst (λ n. a % 2 ^ n ≡ 0) last at in
       let longest = w.0.1 in
-      let top = longest.longest 8 (omega arith) eight (omega arith) in
+      let top = longest.longest MOST_LEVEL (omega arith) aligned (omega arith) in
       let bound = longest.small in
-      let is : w.0.0 ≡ 8 = omega arith in
+      let is : w.0.0 ≡ MOST_LEVEL = omega arith in
       let to = after a count b w.0 ∙ ap (λ n. a + 2 ^ n) is in
       let rest = down bs b.1 count 0 (omega arith) (mod-one b.1) (omega arith) (omega arith) w.1 in
       omega arith
   | false ↦ λ e.
       let few = leb-false _ _ e in
-      let last : j ≡ 8 = omega arith in
-      down (b ∷ bs) a count 8 (omega arith) (subst (λ n. a % 2 ^ n ≡ 0) last at) in' (omega arith) w
+      let last : j ≡ MOST_LEVEL = omega arith in
+      down (b ∷ bs) a count MOST_LEVEL (omega arith) (subst (λ n. a % 2 ^ n ≡ 0) last at) in' (omega arith) w
 ] refl
 up (suc f) (b ∷ bs) a count j small at in' left w =
     let k = w.0.0 in
     let longest = w.0.1 in
     let fits = longest.fits in
     let to = after a count b w.0 in
-    let more : a % 2 ^ (j + 1) ≡ 0 → length (b ∷ bs) ≤ suc f + 8 = λ p. let rest = up f (b ∷ bs) a count (j + 1) (omega arith) p in' left w in omega arith in
-    let one : (a + 2 ^ j) % 2 ^ (j + 1) ≡ 0 → k ≡ j → length (b ∷ bs) ≤ suc f + 8 = λ p is.
+    let more : a % 2 ^ (j + 1) ≡ 0 → length (b ∷ bs) ≤ suc f + MOST_LEVEL = λ p. let rest = up f (b ∷ bs) a count (j + 1) (omega arith) p in' left w in omega arith in
+    let one : (a + 2 ^ j) % 2 ^ (j + 1) ≡ 0 → k ≡ j → length (b ∷ bs) ≤ suc f + MOST_LEVEL = λ p is.
     let to' : b.1 ≡ a + 2 ^ j = to ∙ ap (λ n. a + 2 ^ n) is in
     let same = ap (λ n. 2 ^ n) is in
     let rest = up f bs b.1 count (j + 1) (omega arith) (subst (λ n. n % 2 ^ (j + 1) ≡ 0) (sym to') p) (omega arith) (omega arith) w.1 in
     omega arith
     in
-    elim (leb (2 ^ j) (count - a)) as (λ t. leb (2 ^ j) (count - a) ≡ t → length (b ∷ bs) ≤ suc f + 8) [
+    elim (leb (2 ^ j) (count - a)) as (λ t. leb (2 ^ j) (count - a) ≡ t → length (b ∷ bs) ≤ suc f + MOST_LEVEL) [
       | true ↦ λ e.
           let least = longest.longest j (omega arith) at (leb-true _ _ e) in
-          elim (leb (j + 1) k) as (λ t. leb (j + 1) k ≡ t → length (b ∷ bs) ≤ suc f + 8) [
+          elim (leb (j + 1) k) as (λ t. leb (j + 1) k ≡ t → length (b ∷ bs) ≤ suc f + MOST_LEVEL) [
             | true ↦ λ e. more (aligned_below a (j + 1) k (leb-true _ _ e) (longest.aligned))
             | false ↦ λ e. let above = leb-false _ _ e in elim (aligned_more a j at) [ inl p ↦ more p | inr p ↦ one p (omega arith) ]
           ] refl
       | false ↦ λ e. let under = leb-false _ _ e in let rest = down (b ∷ bs) a count j (omega arith) at in' (omega arith) w in omega arith
     ] refl
 
--- the blocks that cover at most 256 deltas are at most 16
-pub few_blocks : (bs : List (ℕ × ℕ)) (a count : ℕ) → a ≤ count → count - a ≤ 256 → AreBlocks a count bs → length bs ≤ 16
-few_blocks bs a count in' left w = up 8 bs a count 0 (omega arith) (mod-one a) in' left w
+-- the blocks that cover no more deltas than are kept are at most two of each level but the lowest
+pub few_blocks : (bs : List (ℕ × ℕ)) (a count : ℕ) → a ≤ count → count - a ≤ MAX_DELTAS → AreBlocks a count bs → length bs ≤ 2 * MOST_LEVEL
+few_blocks bs a count in' left w = up MOST_LEVEL bs a count 0 (omega arith) (mod-one a) in' left w

@@ -10,6 +10,7 @@ use Rattle.dac_lattice.specs.Lattices.{IsLattice}
 use Rattle.dac_lattice.specs.laws.Joins.{join_assoc}
 use Rattle.dac_deltas.proofs.Places.{below_longest, next_power, aligned_below, aligned_before, aligned_after}
 use Rattle.dac_deltas.specs.Blocks.{IsLongest}
+use Rattle.dac_deltas.specs.declared.blocks.TheConstants.{MOST_LEVEL}
 use Rattle.dac_deltas.specs.Endings.{deltas_of, join_at, StandsFor, HasJoins, AreJoined}
 
 module _ {L : Type 0} (is_value : L → Type 0) (join : L → L → L) where
@@ -67,7 +68,7 @@ module _ {L : Type 0} (is_value : L → Type 0) (join : L → L → L) where
       has_same _ _ _ _ _ _ refl same refl (has_less _ n _ _ had)
 
   -- a block that is wholly kept has its join where it ends
-  kept_block : (base a k i : ℕ) (es : List (L × List L)) (d : L × List L) → AreJoined is_value join base es → base ≤ a → k ≤ 8 → a % 2 ^ k ≡ 0 → base + (i + 1) ≡ a + 2 ^ k → i < length es → (k ≤ length (get_or es i d).1) × StandsFor is_value join (join_at (get_or es i d) k) (take (2 ^ k) (drop (a - base) (deltas_of es)))
+  kept_block : (base a k i : ℕ) (es : List (L × List L)) (d : L × List L) → AreJoined is_value join base es → base ≤ a → k ≤ MOST_LEVEL → a % 2 ^ k ≡ 0 → base + (i + 1) ≡ a + 2 ^ k → i < length es → (k ≤ length (get_or es i d).1) × StandsFor is_value join (join_at (get_or es i d) k) (take (2 ^ k) (drop (a - base) (deltas_of es)))
   kept_block base a k i es d h from small at to lt =
       let many = length-map es (λ (x : L × List L). x.0) in
       let long = length-take (i + 1) (deltas_of es) in

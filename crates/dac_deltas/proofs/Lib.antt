@@ -5,3 +5,4 @@ mod Joining
 mod Listing
 mod Putting
 mod Copying
+mod Intervals

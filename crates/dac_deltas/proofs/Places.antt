@@ -3,6 +3,7 @@ use Rattle.std.specs.Prelude.{◌≡◌, ℕ, ◌+◌, ◌-◌, ◌*◌, ◌/◌
 use Rattle.std.proofs.Common.{arith, sym, ap, ◌∙◌, add-one, zero, suc, ◌⊎◌, inl, inr, refl, true, false, leb}
 use Rattle.std.proofs.lemmas.Bool.{leb-true, leb-false}
 use Rattle.dac_deltas.specs.Blocks.{IsLongest}
+use Rattle.dac_deltas.specs.declared.blocks.TheConstants.{MOST_LEVEL}
 use Rattle.std.proofs.Math.Nat.{pow-le-pow_right, two-pow-succ, zero-mod, add-mod_right, mul-mod_left, mod-add-div'}
 use Rattle.std.proofs.lemmas.Nat.{pow_pos, one_shl}
 use Rattle.std.proofs.Math.Pow.{mod-mod-pow}
@@ -44,7 +45,7 @@ aligned_more x k p =
     rw next_power (one_more (q % 2) (q / 2) (2 ^ k) x (omega arith) is)
 
 -- a level at which a block fits, where none of the next one does, is the longest block's
-pub longest_level : (place most level : ℕ) → level ≤ 8 → place % 2 ^ level ≡ 0 → 2 ^ level ≤ most → (level < 8 → place % 2 ^ (level + 1) ≡ 0 → 2 ^ (level + 1) ≤ most → ⊥) → IsLongest place most level
+pub longest_level : (place most level : ℕ) → level ≤ MOST_LEVEL → place % 2 ^ level ≡ 0 → 2 ^ level ≤ most → (level < MOST_LEVEL → place % 2 ^ (level + 1) ≡ 0 → 2 ^ (level + 1) ≤ most → ⊥) → IsLongest place most level
 longest_level place most level small at fits none = record {
   small = small;
   aligned = at;
@@ -60,7 +61,7 @@ longest_level place most level small at fits none = record {
 
 -- below the level of the longest block, one of the next level fits
 pub record Fits (place most level : ℕ) : Type 0 where
-  pub low : level < 8
+  pub low : level < MOST_LEVEL
   pub aligned : place % 2 ^ (level + 1) ≡ 0
   pub fits : 2 ^ (level + 1) ≤ most
   pub twice : 2 ^ (level + 1) ≡ 2 ^ level + 2 ^ level

@@ -1,7 +1,7 @@
 -- What is kept of each delta: the delta itself, and the joins of the blocks that end with it. A pair of the two is called an ending.
-use Rattle.std.specs.Prelude.{◌≡◌, ℕ, ◌+◌, ◌-◌, ◌%◌, ◌≤◌, ◌<◌, ◌^◌, List, ◌∷◌, length, map, fold, take, drop, slice_index_or}
+use Rattle.std.specs.Prelude.{◌≡◌, ℕ, ◌+◌, ◌-◌, ◌%◌, ◌≤◌, ◌<◌, ◌^◌, List, ◌∷◌, length, map, fold, take, drop, slice_index_or, Option, Some, None}
 use Rattle.dac_deltas.specs.declared.blocks.TheConstants.{MOST_LEVEL}
-use Rattle.dac_deltas.specs.Kept.{IsBuffer, newest}
+use Rattle.dac_deltas.specs.Kept.{Kept, IsBuffer, newest, numbered_from}
 
 -- the deltas of some endings
 abbrev pub deltas_of : {L : Type 0} → List (L × List L) → List L
@@ -30,3 +30,14 @@ module _ {L : Type 0} (is_value : L → Type 0) (join : L → L → L) where
   pub record IsKept (count : ℕ) (es : List (L × List L)) : Type 0 where
     pub buffer : IsBuffer is_value (newest count (deltas_of es))
     pub joined : AreJoined (count - length es) es
+
+module _ {L : Type 0} (join : L → L → L) (bottom : L) where
+  -- an interval that was made already, by its first number: while all deltas from there on are kept, it is their join
+  abbrev pub IsReady : Kept L → Option (ℕ × L) → Type 0
+  IsReady k None = Unit {0}
+  IsReady k (Some made) = k.base ≤ made.0 → made.1 ≡ fold join bottom (numbered_from k made.0)
+
+-- what a buffer keeps, and the interval that was made already, if there is one
+pub record IsHeld {L : Type 0} (is_value : L → Type 0) (join : L → L → L) (bottom : L) (count : ℕ) (es : List (L × List L)) (made : Option (ℕ × L)) : Type 0 where
+  pub kept : IsKept is_value join count es
+  pub ready : IsReady join bottom (newest count (deltas_of es)) made

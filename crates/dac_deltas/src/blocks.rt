@@ -10,7 +10,7 @@ use std::collections::VecDeque;
 use std::marker::Model;
 
 /// The level of the longest blocks, which have 256 deltas.
-const MOST_LEVEL: usize = 8;
+pub(crate) const MOST_LEVEL: usize = 8;
 
 /// The level of the longest aligned block that begins at a place, or that ends there, with at most so many
 /// deltas. It has 2^level of them.

@@ -1,41 +1,44 @@
 //! The newest deltas, by number.
-ghost use Rattle.std.specs.Prelude.{◌≡◌, ◌+◌, ◌-◌, ◌<◌, ◌≤◌, fold, drop, length, Ok, None, OnOk, OnErr, IfOk, IfSome, IsSome, unwrap_or};
+ghost use Rattle.std.specs.Prelude.{◌≡◌, ◌+◌, ◌-◌, ◌*◌, ◌<◌, ◌≤◌, fold, drop, length, Ok, None, Some, OnOk, OnErr, IfOk, IfSome, IsSome, unwrap_or};
 ghost use Rattle.dac_deltas.specs.Kept.{IsBuffer, empty, pushed, trimmed, numbered_from, interval_of, IsJoinOf};
 ghost use Rattle.dac_deltas.specs.Blocks.{AreBlocks};
+ghost use Rattle.dac_deltas.specs.declared.blocks.TheConstants.{MOST_LEVEL};
 ghost use Rattle.dac_deltas.specs.declared.buffer.TheConstants.{MAX_DELTAS};
 
-use crate::blocks::{Ending, add_all, level_at};
+use crate::blocks::{Ending, MOST_LEVEL, add_all, level_at};
 use dac_base::{MAX_COUNTER, NoMemory};
-use dac_lattice::Bottom;
+use dac_lattice::{Bottom, Lattice};
 use std::alloc::Global;
 use std::collections::VecDeque;
 use std::marker::Model;
 
 /// How many deltas a buffer keeps at most. The number is this project's own.
-pub const MAX_DELTAS: usize = 256;
+pub const MAX_DELTAS: usize = 1 << MOST_LEVEL;
 
 /// The newest deltas of a log, at most 256. Deltas are numbered in the order in which they are pushed, from
 /// 0. Contracts see how many there were ever, the least number that is kept, and those kept, the oldest
 /// first.
 ///
 /// Beside its deltas a buffer keeps the joins of their aligned blocks of 2 to 256 deltas. A full one has at
-/// most 255 of these, and an interval takes at most 16 joins.
+/// most 255 of these, and an interval takes at most 16 joins. It keeps one interval too, until a delta comes:
+/// peers that are to get the same one share it.
 #[derive(Drop)]
 pub struct Buffer<L: Bottom> {
     alloc: Global,
     count: u64,
     kept: VecDeque<Ending<L>>,
+    ready: Option<(u64, L)>,
 }
 
 impl<L: Bottom> Model for Buffer<L> {
     ghost use Rattle.dac_deltas.specs.Kept.{Kept, newest};
-    ghost use Rattle.dac_deltas.specs.Endings.{IsKept, deltas_of};
+    ghost use Rattle.dac_deltas.specs.Endings.{IsHeld, deltas_of};
 
     ghost Value = { Kept L };
 
     ghost view = { λ b. newest b.count (deltas_of b.kept.items) };
 
-    ghost invariant = { λ b. IsKept L.is_value L.join b.count b.kept.items };
+    ghost invariant = { λ b. IsHeld L.is_value L.join L.bottom b.count b.kept.items b.ready };
 }
 
 /// Drops all but the newest 256.
@@ -59,6 +62,17 @@ fn join_on<L: Bottom>(joined: Option<L>, block: &L) -> Result<L, NoMemory>
     }
 }
 
+/// A copy of an interval that was made already, with its first number.
+fn copy_ready<L: Lattice>(ready: &Option<(u64, L)>) -> Result<Option<(u64, L)>, NoMemory>
+    ensures { IfOk result (λ copied. copied ≡ ready.now) }
+{
+    let Some((a, joined)) = ready else {
+        return Ok(None);
+    };
+    let copied = joined.copy()?;
+    Ok(Some((*a, copied)))
+}
+
 /// What is joined, and the least value where nothing is.
 fn or_bottom<L: Bottom>(alloc: Global, joined: Option<L>) -> L
     ensures { result ≡ unwrap_or joined L.bottom }
@@ -78,6 +92,7 @@ impl<L: Bottom> Buffer<L> {
             alloc,
             count: 0,
             kept: VecDeque::new(alloc),
+            ready: None,
         }
     }
 
@@ -113,6 +128,7 @@ impl<L: Bottom> Buffer<L> {
         let base = self.base();
         let ending = Ending::next(self.alloc, &self.kept, base, delta)?;
         self.kept.push_back(ending)?;
+        self.ready = None;
         self.count += 1;
         keep_newest(&mut self.kept);
         Ok(())
@@ -125,6 +141,9 @@ impl<L: Bottom> Buffer<L> {
         ensures ok { OnOk result (self.new ≡ fold pushed self.old deltas.items) }
         ensures err { OnErr result (self.new ≡ self.old) }
     {
+        if deltas.is_empty() {
+            return Ok(());
+        }
         let base = self.base();
         let before = self.kept.len();
         let added = deltas.len() as u64;
@@ -132,6 +151,7 @@ impl<L: Bottom> Buffer<L> {
             self.kept.truncate(before);
             return Err(refused);
         }
+        self.ready = None;
         self.count += added;
         keep_newest(&mut self.kept);
         Ok(())
@@ -150,17 +170,42 @@ impl<L: Bottom> Buffer<L> {
     /// delta from `a` on is no longer kept. The caller owes that `a` is at most the count. [`NoMemory`] is the only
     /// error, and comes only where all deltas from `a` on are kept.
     ///
-    /// It joins the blocks that [`Buffer::blocks`] lists, from the first to the last.
+    /// It joins the blocks that [`Buffer::blocks`] lists, from the first to the last. Where this interval is remembered,
+    /// it is a copy of that one, and joins nothing.
     pub fn interval(&self, a: u64) -> Result<Option<L>, NoMemory>
         requires { a ≤ self.now.count }
         ensures dropped { a < self.now.base → result ≡ Ok None }
         ensures value { IfOk result (λ found. found ≡ interval_of L.bottom L.join self.now a) }
         ensures least { IfOk result (λ found. IfSome found (IsJoinOf L.is_value L.below (numbered_from self.now a))) }
     {
+        self.tells_invariant();
         let base = self.base();
         if a < base {
             return Ok(None);
         }
+        let joined = self.joined_from(a)?;
+        Ok(Some(joined))
+    }
+
+    /// The join of the deltas from number `a` on, all of which are kept.
+    fn joined_from(&self, a: u64) -> Result<L, NoMemory>
+        requires counted { a ≤ self.now.count }
+        requires kept { self.now.base ≤ a }
+        ensures { IfOk result (λ joined. joined ≡ fold L.join L.bottom (numbered_from self.now a)) }
+    {
+        match &self.ready {
+            Some((from, joined)) if *from == a => joined.copy(),
+            _ => self.made_from(a),
+        }
+    }
+
+    /// The same, where none was made already: the joins of its blocks, joined.
+    fn made_from(&self, a: u64) -> Result<L, NoMemory>
+        requires counted { a ≤ self.now.count }
+        requires kept { self.now.base ≤ a }
+        ensures { IfOk result (λ joined. joined ≡ fold L.join L.bottom (numbered_from self.now a)) }
+    {
+        let base = self.base();
         let mut joined = None;
         let mut at = a;
         while at < self.count {
@@ -170,7 +215,16 @@ impl<L: Bottom> Buffer<L> {
             joined = Some(join_on(joined, last.block(level))?);
             at = end;
         }
-        Ok(Some(or_bottom(self.alloc, joined)))
+        Ok(or_bottom(self.alloc, joined))
+    }
+
+    /// Keeps the interval that begins at number `a` until a delta comes, so that [`Buffer::interval`] shares it from
+    /// then on. The caller owes that it is that interval. It takes no memory, and contracts see no change.
+    pub fn remember(&mut self, a: u64, joined: L)
+        requires { interval_of L.bottom L.join self.old a ≡ Some joined }
+        ensures { self.new ≡ self.old }
+    {
+        self.ready = Some((a, joined));
     }
 
     /// The blocks that an interval joins, each as its first number and the one after its last. From `a` to the
@@ -183,7 +237,7 @@ impl<L: Bottom> Buffer<L> {
         ensures dropped { a < self.now.base → result ≡ Ok None }
         ensures kept { self.now.base ≤ a → IfOk result (λ found. IsSome found) }
         ensures blocks { IfOk result (λ found. IfSome found (λ bs. AreBlocks a self.now.count bs.items)) }
-        ensures few { IfOk result (λ found. IfSome found (λ bs. length bs.items ≤ 16)) }
+        ensures few { IfOk result (λ found. IfSome found (λ bs. length bs.items ≤ 2 * MOST_LEVEL)) }
     {
         if a < self.base() {
             return Ok(None);
@@ -210,6 +264,7 @@ impl<L: Bottom> Buffer<L> {
             alloc: self.alloc,
             count: self.count,
             kept,
+            ready: copy_ready(&self.ready)?,
         })
     }
 }

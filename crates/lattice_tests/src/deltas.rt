@@ -100,6 +100,31 @@ fn several_are_pushed(rt: HostRuntime) {
     assert!(rt; has_three(rt.alloc(), 257, 8) == Ok(true));
 }
 
+/// The greatest of the numbers from 1 to 9 from a delta on, where another interval is remembered. Then the same once 100 is
+/// pushed.
+fn remembered(
+    alloc: Global,
+    from: u64,
+    asked: u64,
+) -> Result<(Option<u64>, Option<u64>), NoMemory> {
+    let mut buffer = numbers_below(alloc, 10)?;
+    if from <= buffer.count() {
+        if let Some(joined) = buffer.interval(from)? {
+            buffer.remember(from, joined);
+        }
+    }
+    let before = greatest(&buffer, asked)?;
+    push(&mut buffer, 100)?;
+    Ok((before, greatest(&buffer, asked)?))
+}
+
+#[test]
+fn interval_is_remembered_until_a_delta_comes(rt: HostRuntime) {
+    assert!(rt; remembered(rt.alloc(), 3, 3) == Ok((Some(9), Some(100))));
+    assert!(rt; remembered(rt.alloc(), 9, 3) == Ok((Some(9), Some(100))));
+    assert!(rt; remembered(rt.alloc(), 3, 9) == Ok((Some(0), Some(100))));
+}
+
 /// The blocks from a delta on.
 fn blocks(buffer: &Buffer<Max<u64>>, from: u64) -> Result<Option<Vec<(u64, u64)>>, NoMemory> {
     if from > buffer.count() {

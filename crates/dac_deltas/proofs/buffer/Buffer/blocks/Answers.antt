@@ -13,7 +13,7 @@ pub returns-clause-few : goal.returns-clause-few
 returns-clause-few g c =
     let shown = ap (λ (k : Kept g.row.L.Denot). k.count) c.self.view_is in
     let base = ap (λ (k : Kept g.row.L.Denot). k.base) c.self.view_is in
-    let buffer = c.self.invariant.buffer in
+    let buffer = c.self.invariant.kept.buffer in
     few_blocks c.loop-at.blocks.items c.args.a c.self.inside.count (omega arith) (omega arith) (listing_all c.args.a c.self.inside.count c.loop-at.at c.loop-at.blocks.items c.loop-at-test.false c.loop-at.invariant)
 
 pub loop-at-init : goal.loop-at-init
@@ -27,7 +27,7 @@ overflow_shl-end g c = let small = c.level_at.ensures.small in omega arith
 pub overflow_add-end : goal.overflow_add-end
 overflow_add-end g c =
     let ends = block_end c.self.inside.count c.loop-at.at c.level_at.result c.loop-at-test.true c.level_at.ensures in
-    let countable = c.self.invariant.buffer.countable in
+    let countable = c.self.invariant.kept.buffer.countable in
     omega arith
 
 pub returns-in_err-push-clause-kept : goal.returns-in_err-push-clause-kept

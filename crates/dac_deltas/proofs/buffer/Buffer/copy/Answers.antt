@@ -2,7 +2,7 @@ use Rattle.std.proofs.Common.{◌++◌, ap, sym, subst, ◌∙◌}
 use Rattle.std.proofs.lemmas.Result.{IfOk-from_err}
 use Rattle.std.specs.VecDeque.Iter.{deque_iter_rest}
 use Rattle.dac_deltas.specs.Kept.{newest}
-use Rattle.dac_deltas.specs.Endings.{IsKept, deltas_of}
+use Rattle.dac_deltas.specs.Endings.{IsKept, IsReady, deltas_of}
 use Rattle.dac_deltas.proofs.Copying.{copied_next, copied_whole}
 use Rattle.dac_deltas.proofs.buffer.Buffer.copy.Goals as goal
 
@@ -22,8 +22,10 @@ returns-in_err-push_back g c = IfOk-from_err c.from_residual-in_err-push_back.re
 
 pub invariant_of-result : goal.invariant_of-result
 invariant_of-result g c =
+    let join = g.L.Lattice.join in
     let whole = copied_whole c.loop-ending.kept.items (deque_iter_rest c.loop-ending.ending-iterator) c.self.inside.kept.items c.in-None.ensures.steps.0 c.loop-ending.invariant in
-    subst (IsKept g.L.Lattice.is_value g.L.Lattice.join c.self.inside.count) (sym whole) c.self.invariant
+    let ready = subst (λ es. IsReady join g.L.Bottom.bottom (newest c.self.inside.count (deltas_of es)) c.in_ok-copy_ready.field-0) (sym whole) (subst (IsReady join g.L.Bottom.bottom (newest c.self.inside.count (deltas_of c.self.inside.kept.items))) (sym c.in_ok-copy_ready.ensures) c.self.invariant.ready) in
+    record { kept = subst (IsKept g.L.Lattice.is_value join c.self.inside.count) (sym whole) c.self.invariant.kept; ready = ready }
 
 pub returns : goal.returns
 returns g c =

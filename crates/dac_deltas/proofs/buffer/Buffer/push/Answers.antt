@@ -2,7 +2,7 @@ use Rattle.std.proofs.Common.{◌+◌, ◌≤◌, ◌∷◌, [], refl, sym, ap, 
 use Rattle.std.proofs.lemmas.Result.{IfOk-from_err}
 use Rattle.dac_base.specs.declared.limits.TheConstants.{MAX_COUNTER}
 use Rattle.dac_deltas.specs.Kept.{Kept, newest, pushed}
-use Rattle.dac_deltas.specs.Endings.{AreJoined, IsKept, deltas_of}
+use Rattle.dac_deltas.specs.Endings.{AreJoined, IsHeld, deltas_of}
 use Rattle.dac_deltas.proofs.Keeping.{kept_added, shown_added, whole, base_is, joined_one}
 use Rattle.dac_deltas.proofs.Copying.{fails_so}
 use Rattle.dac_deltas.proofs.buffer.Buffer.push.Goals as goal
@@ -12,7 +12,7 @@ next-requires-clause-joined g c =
     let is_value = g.L.Lattice.is_value in
     let join = g.L.Lattice.join in
     let es = c.self.inside.kept.items in
-    subst (λ b. AreJoined is_value join b es) (sym (base_is is_value join c.self.inside.count es c.self.invariant c.args.self.now c.base-base.result c.self.view_is c.base-base.ensures)) c.self.invariant.joined
+    subst (λ b. AreJoined is_value join b es) (sym (base_is is_value join c.self.inside.count es c.self.invariant.kept c.args.self.now c.base-base.result c.self.view_is c.base-base.ensures)) c.self.invariant.kept.joined
 
 pub invariant_of-self-2 : goal.invariant_of-self-2
 invariant_of-self-2 g c =
@@ -21,10 +21,10 @@ invariant_of-self-2 g c =
     let count = c.self.inside.count in
     let es = c.self.inside.kept.items in
     let mid = c.push_back.new.self.items in
-    let base = base_is is_value join count es c.self.invariant c.args.self.now c.base-base.result c.self.view_is c.base-base.ensures in
-    let one = joined_one is_value join count es c.self.invariant mid c.in_ok-ending.ending c.args.delta c.base-base.result base c.in_ok-ending.ensures.delta c.in_ok-ending.ensures.joins c.in_ok-push_back.ensures.items in
+    let base = base_is is_value join count es c.self.invariant.kept c.args.self.now c.base-base.result c.self.view_is c.base-base.ensures in
+    let one = joined_one is_value join count es c.self.invariant.kept mid c.in_ok-ending.ending c.args.delta c.base-base.result base c.in_ok-ending.ensures.delta c.in_ok-ending.ensures.joins c.in_ok-push_back.ensures.items in
     let room : count + 1 ≤ MAX_COUNTER = let shown = ap (λ (k : Kept g.row.L.Denot). k.count) c.self.view_is in omega arith in
-    kept_added is_value join count es c.self.invariant mid c.keep_newest.new.kept.items (c.args.delta ∷ []) room one.0 one.1 c.keep_newest.ensures
+    record { kept = kept_added is_value join count es c.self.invariant.kept mid c.keep_newest.new.kept.items (c.args.delta ∷ []) room one.0 one.1 c.keep_newest.ensures; ready = tt }
 
 pub next-requires-clause-room : goal.next-requires-clause-room
 next-requires-clause-room g c =
@@ -32,8 +32,8 @@ next-requires-clause-room g c =
     let join = g.L.Lattice.join in
     let count = c.self.inside.count in
     let es = c.self.inside.kept.items in
-    let base = base_is is_value join count es c.self.invariant c.args.self.now c.base-base.result c.self.view_is c.base-base.ensures in
-    let all = whole is_value join count es c.self.invariant in
+    let base = base_is is_value join count es c.self.invariant.kept c.args.self.now c.base-base.result c.self.view_is c.base-base.ensures in
+    let all = whole is_value join count es c.self.invariant.kept in
     let shown = ap (λ (k : Kept g.row.L.Denot). k.count) c.self.view_is in
     omega arith
 
@@ -44,7 +44,7 @@ pub returns-in_err-ending-clause-err : goal.returns-in_err-ending-clause-err
 returns-in_err-ending-clause-err g c = fails_so c.from_residual.result refl
 
 pub invariant_of-self : goal.invariant_of-self
-invariant_of-self g c = subst (IsKept g.L.Lattice.is_value g.L.Lattice.join c.self.inside.count) (sym c.in_err-push_back.ensures.items) c.self.invariant
+invariant_of-self g c = subst (λ es. IsHeld g.L.Lattice.is_value g.L.Lattice.join g.L.Bottom.bottom c.self.inside.count es c.self.inside.ready) (sym c.in_err-push_back.ensures.items) c.self.invariant
 
 pub returns-in_err-push_back-clause-ok : goal.returns-in_err-push_back-clause-ok
 returns-in_err-push_back-clause-ok g c = IfOk-from_err c.from_residual-in_err-push_back.result _ c.from_residual-in_err-push_back.ensures.0
@@ -60,6 +60,6 @@ returns-clause-ok g c =
     let count = c.self.inside.count in
     let es = c.self.inside.kept.items in
     let mid = c.push_back.new.self.items in
-    let base = base_is is_value join count es c.self.invariant c.args.self.now c.base-base.result c.self.view_is c.base-base.ensures in
-    let one = joined_one is_value join count es c.self.invariant mid c.in_ok-ending.ending c.args.delta c.base-base.result base c.in_ok-ending.ensures.delta c.in_ok-ending.ensures.joins c.in_ok-push_back.ensures.items in
-    shown_added is_value join count es c.self.invariant mid c.keep_newest.new.kept.items (c.args.delta ∷ []) one.1 c.keep_newest.ensures ∙ ap (λ k. pushed k c.args.delta) c.self.view_is
+    let base = base_is is_value join count es c.self.invariant.kept c.args.self.now c.base-base.result c.self.view_is c.base-base.ensures in
+    let one = joined_one is_value join count es c.self.invariant.kept mid c.in_ok-ending.ending c.args.delta c.base-base.result base c.in_ok-ending.ensures.delta c.in_ok-ending.ensures.joins c.in_ok-push_back.ensures.items in
+    shown_added is_value join count es c.self.invariant.kept mid c.keep_newest.new.kept.items (c.args.delta ∷ []) one.1 c.keep_newest.ensures ∙ ap (λ k. pushed k c.args.delta) c.self.view_is
