@@ -2,3 +2,4 @@ pub mod Knows
 pub mod Effects
 pub mod Gates
 pub mod Tests
+pub mod Shipped
