@@ -2,7 +2,7 @@ use Rattle.std.proofs.Common.{sym, ap, ◌∙◌}
 use Rattle.dac_placement.specs.Placement.{first_choice, verdict_by}
 use Rattle.dac_placement.specs.laws.FirstChoice.{first_is}
 use Rattle.dac_placement.specs.laws.Judged.{kept_by}
-use Rattle.dac_placement.proofs.deciding.settled.Goals as goal
+use Rattle.dac_placement.proofs.deciding.early_verdict.Goals as goal
 
 pub returns-in-Upheld : goal.returns-in-Upheld
 returns-in-Upheld c =
