@@ -217,7 +217,7 @@ pub(crate) struct Open<L: SiteName> {
 }
 
 /// Opens a site, with its team.
-pub(crate) fn opened<L: SiteName, R: Wait>(
+pub(crate) fn open_with_team<L: SiteName, R: Wait>(
     rt: &R,
     alloc: Global,
     blank: SiteBlank,

@@ -1,5 +1,5 @@
 use Rattle.std.proofs.Common.{◌≡◌, ◌+◌, length, sum_by, vec_len}
-use Rattle.dac_live.proofs.site.merged.Given as goal
+use Rattle.dac_live.proofs.site.merge_shares.Given as goal
 
 abbrev pub invariant-loop-seat : goal.invariant-loop-seat
 invariant-loop-seat g l = record {

@@ -1,6 +1,6 @@
 use Rattle.std.proofs.Common.{length}
 use Rattle.dac_script.proofs.Parting.{IsFront}
-use Rattle.dac_script.proofs.input.parted.Given as goal
+use Rattle.dac_script.proofs.input.split_input.Given as goal
 
 abbrev pub invariant-loop-rest : goal.invariant-loop-rest
 invariant-loop-rest l = IsFront l.text l.rest

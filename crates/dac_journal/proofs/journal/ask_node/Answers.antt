@@ -4,7 +4,7 @@ use Rattle.dac_model_world.specs.NodeValue.{NodeValue}
 use Rattle.dac_model_world.specs.Step.{Steps}
 use Rattle.dac_model_world.specs.laws.Steps.{steps, answered_steps}
 use Rattle.dac_node.specs.Changes.{changed}
-use Rattle.dac_journal.proofs.journal.asked.Goals as goal
+use Rattle.dac_journal.proofs.journal.ask_node.Goals as goal
 
 pub returns-in_ok-reply-in-Ok-clause-steps : goal.returns-in_ok-reply-in-Ok-clause-steps
 returns-in_ok-reply-in-Ok-clause-steps c =

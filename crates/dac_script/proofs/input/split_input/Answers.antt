@@ -1,7 +1,7 @@
 use Rattle.std.proofs.Common.{refl}
 use Rattle.std.specs.Cmp.Lexicographic.{same_text, other_text}
 use Rattle.dac_script.proofs.Parting.{front_more, parted_here, unparted}
-use Rattle.dac_script.proofs.input.parted.Goals as goal
+use Rattle.dac_script.proofs.input.split_input.Goals as goal
 
 pub returns-then-eq : goal.returns-then-eq
 returns-then-eq c =

@@ -11,7 +11,7 @@ use Rattle.dac_live_play.specs.Runs.{IsReport, IsReportOf}
 use Rattle.dac_live_play.specs.Texts.{run_text}
 use Rattle.dac_live_play.proofs.Owed.{phases_owe}
 use Rattle.dac_live_play.proofs.Reports.{no_error, asks_script, weave_fails}
-use Rattle.dac_live_play.proofs.playing.played.Goals as goal
+use Rattle.dac_live_play.proofs.playing.play_live.Goals as goal
 
 pub run_live-requires-after_bounds : goal.run_live-requires-after_bounds
 run_live-requires-after_bounds g c κs within =

@@ -1,5 +1,5 @@
 use Rattle.std.proofs.Common.{◌≡◌, ◌+◌, vec_len}
-use Rattle.dac_live.proofs.site.named.Given as goal
+use Rattle.dac_live.proofs.site.name_readers.Given as goal
 
 abbrev pub invariant-loop-reader : goal.invariant-loop-reader
 invariant-loop-reader g l = vec_len l.all + vec_len l.readers ≡ vec_len l.fn.readers

@@ -6,7 +6,7 @@ use Rattle.clap.specs.declared.parser.matches.ArgMatches.TheViews.{out-ArgMatche
 use Rattle.std.specs.Box.{box_value}
 use Rattle.clap.proofs.OnLiterals.{clap_on_literals}
 use Rattle.dac_program.specs.CommandLine.{distac, check_words, sim_words, live_words, subcommand_in, request_in}
-use Rattle.dac_program.proofs.command_line.asked.Goals as goal
+use Rattle.dac_program.proofs.command_line.read_request.Goals as goal
 
 is_taken : (name : Text) → takes distac (sim_words name) ≡ true
 unfolding clap_on_literals
