@@ -398,7 +398,7 @@ pub enum Pushed {
     OneAtKey,
 }
 
-/// A set of one dot, two stores of none, and stores that are put at a key.
+/// A set and a function of one dot, a map of none, and stores that are put at a key.
 #[derive(Drop)]
 pub struct PushBench {
     alloc: Global,
@@ -418,7 +418,7 @@ pub fn pushes(alloc: Global, pushed: Pushed) -> Option<PushBench> {
         alloc,
         pushed,
         set: DotSet::one(alloc, dot(ME, 1)),
-        fun: DotFun::empty(alloc),
+        fun: DotFun::one(alloc, dot(ME, 1), Flag::Up).ok()?,
         map: DotMap::empty(alloc),
         more,
     })
