@@ -3,6 +3,7 @@
 // One of these variables says which, by its number from 1 on:
 //
 //   GROWTH=N                  the Nth growth is refused
+//   CALLS_GROWTH=N            the same of those that come behind a write of ": " alone, and before the next write
 //   READ=N, WRITE=N           the Nth read of standard input, or write of standard output, fails
 //   ONE_READ=N, ONE_WRITE=N   it moves one byte
 //
@@ -12,6 +13,7 @@
 #include <errno.h>
 #include <stdatomic.h>
 #include <stdlib.h>
+#include <string.h>
 #include <sys/syscall.h>
 #include <sys/uio.h>
 #include <unistd.h>
@@ -21,10 +23,11 @@ extern void *__libc_calloc(size_t, size_t);
 extern void *__libc_realloc(void *, size_t);
 extern void *__libc_memalign(size_t, size_t);
 
-enum what { GROWTH, READ, WRITE, ONE_READ, ONE_WRITE, KINDS };
+enum what { GROWTH, CALLS_GROWTH, READ, WRITE, ONE_READ, ONE_WRITE, KINDS };
 
-static const char *const names[KINDS] = {"GROWTH", "READ", "WRITE", "ONE_READ", "ONE_WRITE"};
+static const char *const names[KINDS] = {"GROWTH", "CALLS_GROWTH", "READ", "WRITE", "ONE_READ", "ONE_WRITE"};
 static atomic_long left[KINDS];
+static atomic_int is_call;
 
 __attribute__((constructor)) static void begin(void) {
     for (int kind = 0; kind < KINDS; kind++) {
@@ -42,7 +45,7 @@ static int is_refused(enum what kind) {
 }
 
 static int is_growth_refused(void) {
-    if (!is_refused(GROWTH))
+    if (!is_refused(GROWTH) && !(atomic_load(&is_call) && is_refused(CALLS_GROWTH)))
         return 0;
     errno = ENOMEM;
     return 1;
@@ -78,6 +81,7 @@ ssize_t read(int file, void *bytes, size_t count) {
 
 ssize_t write(int file, const void *bytes, size_t count) {
     if (file == STDOUT_FILENO) {
+        atomic_store(&is_call, count == 2 && !memcmp(bytes, ": ", 2));
         if (is_refused(WRITE)) {
             errno = EIO;
             return -1;

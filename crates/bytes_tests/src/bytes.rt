@@ -149,7 +149,7 @@ fn read_first(bytes: &[u8]) -> Result<Dot, ReadFault> {
 fn version_one_has_incarnations_of_four_bytes(rt: HostRuntime) {
     let last = dot(2, 4_294_967_295, 5);
     assert!(rt; read_first(FOUR) == Ok(last));
-    let written = written(rt.alloc(), Version::One, last.origin, last);
+    let written = write_both(rt.alloc(), Version::One, last.origin, last);
     assert!(rt;
         are_bytes(
             written,
@@ -159,14 +159,19 @@ fn version_one_has_incarnations_of_four_bytes(rt: HostRuntime) {
 }
 
 /// An origin and a dot as bytes.
-fn written(alloc: Global, version: Version, origin: Origin, dot: Dot) -> Result<Vec<u8>, NoMemory> {
+fn write_both(
+    alloc: Global,
+    version: Version,
+    origin: Origin,
+    dot: Dot,
+) -> Result<Vec<u8>, NoMemory> {
     let writer = ByteWriter::new(alloc).write_origin(version, origin)?;
     Ok(writer.write_dot(version, dot)?.into_bytes())
 }
 
 #[test]
 fn origin_and_dot(rt: HostRuntime) {
-    let bytes = written(rt.alloc(), Version::Two, origin(2, 1), dot(2, 1, 258));
+    let bytes = write_both(rt.alloc(), Version::Two, origin(2, 1), dot(2, 1, 258));
     let wanted =
         b"\x02\x00\x00\x00\x00\x00\x00\x00\x01\x02\x00\x00\x00\x00\x00\x00\x00\x01\x00\x00\x00\x00\x00\x00\x01\x02";
     assert!(rt; are_bytes(bytes, wanted));

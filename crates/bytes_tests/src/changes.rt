@@ -1,6 +1,8 @@
 //! Packets of which one byte is another: each is refused, or spells a packet whose bytes these are. Every byte is tried at
 //! every place.
-use crate::messages::{BOOTED, INTERVAL, OPERATIONS, booted, changed, has_bytes, packet_bytes};
+use crate::messages::{
+    BOOTED, INTERVAL, OPERATIONS, boot_bytes, has_bytes, packet_bytes, with_byte,
+};
 use crate::sample::{EXAMPLE, config, origin};
 use crate::state_bytes::{LISTS, full};
 use dac_base::NodeId;
@@ -21,7 +23,7 @@ fn is_refused_or_read(alloc: Global, config: &Config, bytes: &[u8]) -> bool {
 fn wrong_place(alloc: Global, text: &[u8], bytes: &[u8], byte: u8) -> Option<Option<usize>> {
     let config = config(alloc, text)?;
     for at in 0..bytes.len() {
-        let bytes = changed(alloc, bytes, at, byte).ok()?;
+        let bytes = with_byte(alloc, bytes, at, byte).ok()?;
         if !is_refused_or_read(alloc, &config, &bytes) {
             return Some(Some(at));
         }
@@ -31,7 +33,7 @@ fn wrong_place(alloc: Global, text: &[u8], bytes: &[u8], byte: u8) -> Option<Opt
 
 /// The same of the message of a node that booted.
 fn wrong_in_message(alloc: Global, byte: u8) -> Option<Option<usize>> {
-    wrong_place(alloc, EXAMPLE, &booted(alloc).ok()?, byte)
+    wrong_place(alloc, EXAMPLE, &boot_bytes(alloc).ok()?, byte)
 }
 
 #[test]

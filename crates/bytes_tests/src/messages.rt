@@ -68,7 +68,7 @@ fn bytes_after(alloc: Global, front: &[u8], fields: &[&[u8]]) -> Result<Vec<u8>,
 }
 
 /// The bytes of the message of a node that booted.
-pub fn booted(alloc: Global) -> Result<Vec<u8>, NoMemory> {
+pub fn boot_bytes(alloc: Global) -> Result<Vec<u8>, NoMemory> {
     packet_bytes(alloc, &[WHOLE, BOOTED])
 }
 
@@ -152,7 +152,7 @@ fn every_message(rt: HostRuntime) {
 fn is_read_in_version_one(alloc: Global) -> Option<bool> {
     let config = config(alloc, EXAMPLE)?;
     let packet = decode(alloc, &config, &booted_one(alloc).ok()?).ok()?;
-    let newer = booted(alloc).ok()?;
+    let newer = boot_bytes(alloc).ok()?;
     Some(are_equal(&packet, &whole(state(alloc)?)) && has_bytes(alloc, &config, &packet, &newer))
 }
 
@@ -316,7 +316,7 @@ fn every_operation(rt: HostRuntime) {
 }
 
 /// Why the bytes are refused under this configuration, if they are.
-fn refused(alloc: Global, config: &Config, bytes: &[u8]) -> Option<WireFault> {
+fn fault_of(alloc: Global, config: &Config, bytes: &[u8]) -> Option<WireFault> {
     decode(alloc, config, bytes).err()
 }
 
@@ -363,7 +363,7 @@ fn are_refused(
 ) -> bool {
     for length in lengths.0..lengths.1 {
         let (front, _) = bytes.split_at(length.min(bytes.len()));
-        if refused(alloc, config, front) != Some(fault) {
+        if fault_of(alloc, config, front) != Some(fault) {
             return false;
         }
     }
@@ -424,7 +424,7 @@ fn are_fronts_refused(
 
 /// Whether each front of the message has its fault, in both versions.
 fn are_all_fronts_refused(alloc: Global) -> Option<bool> {
-    let newer = booted(alloc).ok()?;
+    let newer = boot_bytes(alloc).ok()?;
     let older = booted_one(alloc).ok()?;
     Some(
         are_fronts_refused(alloc, &newer, FRONTS)?
@@ -438,7 +438,7 @@ fn fronts_of_a_message(rt: HostRuntime) {
 }
 
 /// These bytes with another one at a place.
-pub fn changed(alloc: Global, bytes: &[u8], at: usize, byte: u8) -> Result<Vec<u8>, NoMemory> {
+pub fn with_byte(alloc: Global, bytes: &[u8], at: usize, byte: u8) -> Result<Vec<u8>, NoMemory> {
     let mut changed = Vec::from_slice(alloc, bytes)?;
     if let Some(there) = changed.get_mut(at) {
         *there = byte;
@@ -475,8 +475,8 @@ const CHANGES: &[(usize, u8, WireFaultKind, usize)] = &[
 /// The fault of the message where one byte is another.
 fn fault_of_change(alloc: Global, place: usize, byte: u8) -> Option<WireFault> {
     let config = config(alloc, EXAMPLE)?;
-    let bytes = booted(alloc).ok()?;
-    refused(alloc, &config, &changed(alloc, &bytes, place, byte).ok()?)
+    let bytes = boot_bytes(alloc).ok()?;
+    fault_of(alloc, &config, &with_byte(alloc, &bytes, place, byte).ok()?)
 }
 
 #[test]
@@ -494,16 +494,16 @@ fn one_fault_of_a_message(rt: HostRuntime) {
 /// Why the message is refused with a byte after it.
 fn trailing(alloc: Global) -> Option<WireFault> {
     let config = config(alloc, EXAMPLE)?;
-    let mut bytes = booted(alloc).ok()?;
+    let mut bytes = boot_bytes(alloc).ok()?;
     bytes.push(0).ok()?;
-    refused(alloc, &config, &bytes)
+    fault_of(alloc, &config, &bytes)
 }
 
 /// Why the message is refused under another configuration.
 fn under_another(alloc: Global) -> Option<WireFault> {
     let other = config(alloc, b"[{kernel,[{distributed,[{a,[b@h,c@h]}]}]}].")?;
-    let bytes = booted(alloc).ok()?;
-    refused(alloc, &other, &bytes)
+    let bytes = boot_bytes(alloc).ok()?;
+    fault_of(alloc, &other, &bytes)
 }
 
 /// Why one byte more than a packet can have is refused.
@@ -511,7 +511,7 @@ fn too_long(alloc: Global) -> Option<WireFault> {
     let config = config(alloc, EXAMPLE)?;
     let mut bytes = Vec::new(alloc);
     bytes.resize(4_194_305, 0).ok()?;
-    refused(alloc, &config, &bytes)
+    fault_of(alloc, &config, &bytes)
 }
 
 #[test]
@@ -541,7 +541,7 @@ const STOP: &[u8] = b"\x04\x01\x00\x00\x00\x00\x00\x00\x00\x02\x00\x00\x00\x00\x
 fn fault_of_stop(alloc: Global, first: &[u8], second: &[u8]) -> Option<WireFault> {
     let config = config(alloc, EXAMPLE)?;
     let bytes = packet_bytes(alloc, &[STOP, first, second]).ok()?;
-    refused(alloc, &config, &bytes)
+    fault_of(alloc, &config, &bytes)
 }
 
 /// A dot of the second node.
@@ -579,14 +579,14 @@ const DRAIN_ONE: &[u8] = b"\x04\x01\x00\x00\x00\x02\x00\x00\x00\x00\x00\x00\x00\
 fn fault_of_drain(alloc: Global, rest: &[u8]) -> Option<WireFault> {
     let config = config(alloc, EXAMPLE)?;
     let bytes = packet_bytes(alloc, &[DRAIN, rest]).ok()?;
-    refused(alloc, &config, &bytes)
+    fault_of(alloc, &config, &bytes)
 }
 
 /// Why the drain is refused in version 1.
 fn fault_in_version_one(alloc: Global) -> Option<WireFault> {
     let config = config(alloc, EXAMPLE)?;
     let bytes = bytes_after(alloc, FRONT_ONE, &[DRAIN_ONE]).ok()?;
-    refused(alloc, &config, &bytes)
+    fault_of(alloc, &config, &bytes)
 }
 
 #[test]

@@ -200,7 +200,7 @@ fn every_part_is_read(rt: HostRuntime) {
 }
 
 /// Why the bytes are refused under this configuration, if they are.
-fn refused(alloc: Global, config: &Config, bytes: &[u8]) -> Option<StateFault> {
+fn fault_of(alloc: Global, config: &Config, bytes: &[u8]) -> Option<StateFault> {
     State::decode(alloc, config, bytes).err()
 }
 
@@ -212,12 +212,12 @@ fn has_fault(
     to: usize,
     fault: StateFault,
 ) -> Option<bool> {
-    let bytes = replaced(alloc, from, others, to).ok()?;
-    Some(refused(alloc, &config(alloc, EXAMPLE)?, &bytes) == Some(fault))
+    let bytes = with_others(alloc, from, others, to).ok()?;
+    Some(fault_of(alloc, &config(alloc, EXAMPLE)?, &bytes) == Some(fault))
 }
 
 /// The bytes of the node that booted, with others in place of those between two places.
-fn replaced(alloc: Global, from: usize, others: &[u8], to: usize) -> Result<Vec<u8>, NoMemory> {
+fn with_others(alloc: Global, from: usize, others: &[u8], to: usize) -> Result<Vec<u8>, NoMemory> {
     let mut bytes = Vec::from_slice(alloc, BOOTED)?;
     bytes.truncate(from);
     bytes.extend_from_slice(others)?;
@@ -249,7 +249,7 @@ fn faults_of_a_node_that_booted(rt: HostRuntime) {
 }
 
 /// These bytes with another one at a place.
-fn changed(alloc: Global, bytes: &[u8], at: usize, byte: u8) -> Result<Vec<u8>, NoMemory> {
+fn with_byte(alloc: Global, bytes: &[u8], at: usize, byte: u8) -> Result<Vec<u8>, NoMemory> {
     let mut changed = Vec::from_slice(alloc, bytes)?;
     if let Some(there) = changed.get_mut(at) {
         *there = byte;
@@ -314,8 +314,8 @@ const CHANGES: &[(usize, u8, StateFaultKind, usize)] = &[
 
 /// The fault of the state with every part where one byte is another.
 fn fault_of_change(alloc: Global, place: usize, byte: u8) -> Option<StateFault> {
-    let bytes = changed(alloc, FULL, place, byte).ok()?;
-    refused(alloc, &config(alloc, LISTS)?, &bytes)
+    let bytes = with_byte(alloc, FULL, place, byte).ok()?;
+    fault_of(alloc, &config(alloc, LISTS)?, &bytes)
 }
 
 #[test]
@@ -333,7 +333,7 @@ fn faults_of_every_part(rt: HostRuntime) {
 /// Whether a front of the bytes is short.
 fn is_short(alloc: Global, config: &Config, bytes: &[u8], length: usize) -> bool {
     let (front, _) = bytes.split_at(length.min(bytes.len()));
-    match refused(alloc, config, front) {
+    match fault_of(alloc, config, front) {
         Some(fault) => fault.kind == StateFaultKind::Short,
         None => false,
     }
@@ -368,7 +368,7 @@ fn is_refused_or_spelled(alloc: Global, config: &Config, bytes: &[u8]) -> Result
 fn all_are_refused_or_spelled(alloc: Global, text: &[u8], bytes: &[u8], byte: u8) -> Option<bool> {
     let config = config(alloc, text)?;
     for at in 0..bytes.len() {
-        let bytes = changed(alloc, bytes, at, byte).ok()?;
+        let bytes = with_byte(alloc, bytes, at, byte).ok()?;
         if !is_refused_or_spelled(alloc, &config, &bytes).ok()? {
             return Some(false);
         }
@@ -446,7 +446,7 @@ fn refused_in_version_one(alloc: Global, bytes: &[u8]) -> Option<StateFault> {
 
 /// The fault of version one where one byte is another.
 fn fault_in_version_one(alloc: Global, place: usize, byte: u8) -> Option<StateFault> {
-    let bytes = changed(alloc, BOOTED_ONE, place, byte).ok()?;
+    let bytes = with_byte(alloc, BOOTED_ONE, place, byte).ok()?;
     refused_in_version_one(alloc, &bytes)
 }
 

@@ -132,7 +132,7 @@ fn refuses_all(config: &Config, node: &Node, why: Refusal) -> bool {
 }
 
 /// The second node in its first incarnation.
-pub fn booted(alloc: Global, config: &Config) -> Option<Node> {
+pub fn boot_second(alloc: Global, config: &Config) -> Option<Node> {
     let mut node = Node::off(alloc, 0);
     let _reply = step(config, &mut node, Event::Boot { now: 0 }).ok()?;
     Some(node)
@@ -171,7 +171,7 @@ fn hears_drains(alloc: Global, config: &Config, node: &mut Node, end: u64) -> bo
 /// Whether 1,024 starts are replaced by a stop, and one more is too many.
 fn starts_are_too_many(alloc: Global) -> Option<bool> {
     let config = read_config(alloc, ONE).ok()?;
-    let mut node = booted(alloc, &config)?;
+    let mut node = boot_second(alloc, &config)?;
     let most = hears_starts(alloc, &config, &mut node, 1_026) && accepts(&config, &node, STOP);
     let more = hears(&config, &mut node, dot(0, 1, 1_026), start(alloc));
     Some(
@@ -190,7 +190,7 @@ fn too_many_starts(rt: HostRuntime) {
 /// Whether 1,025 permits are too many to be replaced.
 fn permits_are_too_many(alloc: Global) -> Option<bool> {
     let config = read_config(alloc, ONE).ok()?;
-    let mut node = booted(alloc, &config)?;
+    let mut node = boot_second(alloc, &config)?;
     let more = hears_permits(alloc, &config, &mut node);
     Some(
         more && refuses(&config, &node, PERMIT, Refusal::TooManyDots)
@@ -206,7 +206,7 @@ fn too_many_permits(rt: HostRuntime) {
 /// Whether 1,024 drains are replaced by another, and one more is too many.
 fn drains_are_too_many(alloc: Global) -> Option<bool> {
     let config = read_config(alloc, ONE).ok()?;
-    let mut node = booted(alloc, &config)?;
+    let mut node = boot_second(alloc, &config)?;
     let most = hears_drains(alloc, &config, &mut node, 1_026) && accepts(&config, &node, DRAIN);
     let more = hears(&config, &mut node, dot(0, 1, 1_026), drain(alloc));
     Some(
@@ -224,7 +224,7 @@ fn too_many_drains(rt: HostRuntime) {
 /// Whether a node that heard of an operation of its own with the last counter refuses each command.
 fn is_used_up(alloc: Global) -> Option<bool> {
     let config = read_config(alloc, ONE).ok()?;
-    let mut node = booted(alloc, &config)?;
+    let mut node = boot_second(alloc, &config)?;
     let up = hears(&config, &mut node, dot(0, 1, 1), Act::Up);
     let last = hears(&config, &mut node, dot(1, 1, 1 << 62), start(alloc));
     Some(up && last && refuses_all(&config, &node, Refusal::DotsUsedUp))
@@ -238,7 +238,7 @@ fn no_counter_is_left(rt: HostRuntime) {
 /// Whether a node ticks that heard of an operation of its own with this counter, or else has no counter left.
 fn ticks_after(alloc: Global, counter: u64) -> Option<bool> {
     let config = read_config(alloc, ONE).ok()?;
-    let mut node = booted(alloc, &config)?;
+    let mut node = boot_second(alloc, &config)?;
     if !hears(&config, &mut node, dot(1, 1, counter), start(alloc)) {
         return None;
     }
@@ -257,7 +257,7 @@ fn a_tick_needs_a_counter_for_each_application(rt: HostRuntime) {
 
 /// The second node, started, after it heard that the first is up and started and claims the application under this term.
 fn with_claim(alloc: Global, config: &Config, term: u64) -> Option<Node> {
-    let mut node = booted(alloc, config)?;
+    let mut node = boot_second(alloc, config)?;
     let claim = Act::Claim {
         app: APP,
         term,
@@ -291,7 +291,7 @@ fn no_term_is_left(rt: HostRuntime) {
 
 /// How many applications a tick claims and how many it passes, after the first node claimed the application under this
 /// term and went down.
-fn ticked(alloc: Global, config: &Config, term: u64) -> Option<(usize, usize)> {
+fn tick_counts(alloc: Global, config: &Config, term: u64) -> Option<(usize, usize)> {
     let mut node = with_claim(alloc, config, term)?;
     let _down = step(config, &mut node, Event::Command(DOWN)).ok()?;
     match step(config, &mut node, Event::Tick { now: 0 }).ok()? {
@@ -303,8 +303,8 @@ fn ticked(alloc: Global, config: &Config, term: u64) -> Option<(usize, usize)> {
 /// Whether the application is passed under the last term, and claimed under the one before.
 fn ticks_pass(alloc: Global) -> Option<bool> {
     let config = read_config(alloc, PEERS).ok()?;
-    let passed = ticked(alloc, &config, LAST_TERM) == Some((0, 1));
-    Some(passed && ticked(alloc, &config, LAST_TERM - 1) == Some((1, 0)))
+    let passed = tick_counts(alloc, &config, LAST_TERM) == Some((0, 1));
+    Some(passed && tick_counts(alloc, &config, LAST_TERM - 1) == Some((1, 0)))
 }
 
 #[test]
@@ -315,7 +315,7 @@ fn ticks_pass_what_has_no_term_left(rt: HostRuntime) {
 /// Whether a node that the first node declared down refuses each command.
 fn is_declared_down(alloc: Global) -> Option<bool> {
     let config = read_config(alloc, ONE).ok()?;
-    let mut node = booted(alloc, &config)?;
+    let mut node = boot_second(alloc, &config)?;
     let down = Act::Down {
         node: SECOND,
         inc: 1,

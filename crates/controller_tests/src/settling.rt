@@ -163,7 +163,7 @@ fn rounds_of(alloc: Global, apps: u16, rounds: u8) -> Option<Vec<WorldEvent>> {
 }
 
 /// How many applications somebody is to claim, by what the node knows.
-fn unsettled(config: &Config, node: &Node) -> Option<usize> {
+fn count_unsettled(config: &Config, node: &Node) -> Option<usize> {
     let state = node.state()?;
     let apps = 0..config.apps();
     Some(
@@ -180,8 +180,8 @@ fn left_after(alloc: Global, config: &Config, rounds: u8) -> Option<(usize, usiz
         return None;
     }
     Some((
-        unsettled(config, world.node(C1))?,
-        unsettled(config, world.node(C2))?,
+        count_unsettled(config, world.node(C1))?,
+        count_unsettled(config, world.node(C2))?,
     ))
 }
 

@@ -1,5 +1,5 @@
 //! What nodes ship once deltas are dropped, and which acknowledgements and messages they pass over or refuse.
-use crate::nodes::{FIRST, ONE, SECOND, booted, hears_starts, message, step};
+use crate::nodes::{FIRST, ONE, SECOND, boot_second, hears_starts, message, step};
 use crate::steps::dot;
 use dac_base::NodeId;
 use dac_config::{Config, read_config};
@@ -20,8 +20,8 @@ fn acknowledgement(number: u64) -> Message {
 }
 
 /// The second node with two deltas, its own boot and that of the first, after the first acknowledged so many.
-fn acknowledged(alloc: Global, config: &Config, number: u64) -> Option<Node> {
-    let mut node = booted(alloc, config)?;
+fn node_after_ack(alloc: Global, config: &Config, number: u64) -> Option<Node> {
+    let mut node = boot_second(alloc, config)?;
     let _up = step(config, &mut node, Event::Hear(message(alloc)?)).ok()?;
     let _ack = step(config, &mut node, Event::Hear(acknowledgement(number))).ok()?;
     Some(node)
@@ -31,7 +31,7 @@ fn acknowledged(alloc: Global, config: &Config, number: u64) -> Option<Node> {
 /// second heard of each of its starts below this counter.
 fn ships_whole(alloc: Global, number: u64, end: u64) -> Option<bool> {
     let config = read_config(alloc, ONE).ok()?;
-    let mut node = acknowledged(alloc, &config, number)?;
+    let mut node = node_after_ack(alloc, &config, number)?;
     if !hears_starts(alloc, &config, &mut node, end) {
         return None;
     }
@@ -73,7 +73,7 @@ fn messages_for_others_are_refused(rt: HostRuntime) {
 }
 
 /// The whole state that the second node ships once it boots after this last incarnation.
-fn shipped(alloc: Global, config: &Config, last: u64) -> Option<Message> {
+fn ship_whole(alloc: Global, config: &Config, last: u64) -> Option<Message> {
     let mut node = Node::off(alloc, last);
     let _up = step(config, &mut node, Event::Boot { now: 0 }).ok()?;
     match step(config, &mut node, Event::Ship { to: FIRST }).ok()? {
@@ -85,7 +85,7 @@ fn shipped(alloc: Global, config: &Config, last: u64) -> Option<Message> {
 /// Whether that message is of this incarnation, and is read from its bytes again.
 fn is_read_again(alloc: Global, last: u64, inc: u64) -> Option<bool> {
     let config = read_config(alloc, ONE).ok()?;
-    let message = shipped(alloc, &config, last)?;
+    let message = ship_whole(alloc, &config, last)?;
     let bytes = encode(alloc, &config, &Packet::Msg(message.copy().ok()?)).ok()?;
     match decode(alloc, &config, &bytes).ok()? {
         Packet::Msg(read) => Some(read.from.inc == inc && read.equal(&message)),

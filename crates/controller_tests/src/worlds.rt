@@ -129,7 +129,7 @@ const GIVING_UP: &[Case] = &[
 const RUNS: &[(&[Case], usize, usize)] = &[(TELLING, 4, 2), (STARTING, 7, 12), (GIVING_UP, 2, 0)];
 
 /// What an answer says.
-fn said(answer: &Result<Reply, WorldFault>) -> Answer {
+fn answer_of(answer: &Result<Reply, WorldFault>) -> Answer {
     match answer {
         Ok(reply) => said_by(reply),
         Err(fault) => said_of(*fault),
@@ -182,7 +182,7 @@ fn are_answered(cases: &[Case], answers: &[Result<Reply, WorldFault>]) -> bool {
         let Some(answer) = answers.get(i) else {
             return false;
         };
-        if said(answer) != *wanted {
+        if answer_of(answer) != *wanted {
             return false;
         }
     }

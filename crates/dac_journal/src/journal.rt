@@ -149,7 +149,7 @@ impl Journal {
     {
         let place = self.records.len() as u64 + 1;
         let kept = event.copy()?;
-        let (node, answer, second, third) = stepped(&self.config, self.me, &self.node, &event)?;
+        let (node, answer, second, third) = step_copy(&self.config, self.me, &self.node, &event)?;
         Ok(Next {
             entry: Record {
                 seat,
@@ -193,7 +193,7 @@ impl Journal {
 }
 
 // The node after its answer, and the answer, three times. The node that is lent stays as it is.
-fn stepped(
+fn step_copy(
     config: &Config,
     me: NodeId,
     node: &Node,
@@ -204,12 +204,12 @@ fn stepped(
     ensures answered { IfOk result (λ r. IfErr r.1 (λ why. why ≢ Refusal.NoMemory)) }
 {
     let mut after = node.copy()?;
-    let (answer, second, third) = asked(config, me, &mut after, event)?;
+    let (answer, second, third) = ask_node(config, me, &mut after, event)?;
     Ok((after, answer, second, third))
 }
 
 // The answer of the node, three times. At `Err` it is as before.
-fn asked(
+fn ask_node(
     config: &Config,
     me: NodeId,
     node: &mut Node,
@@ -222,7 +222,7 @@ fn asked(
 {
     match node.prepare(config, me, event) {
         Ok(change) => {
-            let (reply, second, third) = done(node, change)?;
+            let (reply, second, third) = apply_change(node, change)?;
             Ok((Ok(reply), Ok(second), Ok(third)))
         }
         Err(why) => {
@@ -235,7 +235,7 @@ fn asked(
 }
 
 // Does what was prepared. It gives the reply, three times. At `Err` the node is as before.
-fn done(node: &mut Node, change: Change) -> Result<(Reply, Reply, Reply), NoMemory>
+fn apply_change(node: &mut Node, change: Change) -> Result<(Reply, Reply, Reply), NoMemory>
     requires { Fits node.old change }
     ensures new { IfOk result (λ _. node.new ≡ changed node.old change) }
     ensures reply { IfOk result (λ r. r.0 ≡ change.reply) }

@@ -124,7 +124,7 @@ fn deal<L: SiteName>(
 }
 
 /// Readers under the site's name.
-fn named<L: SiteName>(
+fn name_readers<L: SiteName>(
     alloc: Global,
     mut readers: Vec<RawReader>,
 ) -> Result<Vec<PageReader<L>>, NoMemory>
@@ -156,7 +156,7 @@ pub fn open_site<L: SiteName, R: Wait>(
         alloc,
     } = blank;
     let dealt = deal::<L>(alloc, blank, seats);
-    let readers = named::<L>(alloc, readers);
+    let readers = name_readers::<L>(alloc, readers);
     let (Ok((book, all)), Ok(readers)) = (dealt, readers) else {
         desk.end(rt);
         return Err(NoMemory);
@@ -209,7 +209,7 @@ fn stranger<L: SiteName>(records: &[Record], seats: &[Seat<L>]) -> Option<u64>
 }
 
 // All shares in one.
-fn merged<L: SiteName>(mut seats: Vec<Seat<L>>, mut all: Share<L>) -> Share<L>
+fn merge_shares<L: SiteName>(mut seats: Vec<Seat<L>>, mut all: Share<L>) -> Share<L>
     ensures { (result.parts ≡ all.parts + vec_len seats) × (result.amount ≡ all.amount + sum_by (λ s. length s.calls) seats.items) }
 {
     while let Some(seat) = seats.pop() {
@@ -284,7 +284,7 @@ impl<L: SiteName> Site<L> {
             return Err(CloseFault::Mismatch { place });
         }
         let none = seats[0].share.empty();
-        let mut all = merged(seats, none);
+        let mut all = merge_shares(seats, none);
         book.audit(&mut all);
         Ok(journal.close())
     }

@@ -93,7 +93,7 @@ fn fault_line(alloc: Global, config: &Config, fault: PlayFault) -> Result<Vec<u8
 }
 
 /// Prints why nothing is run.
-pub(crate) fn refused<W: Write>(alloc: Global, failure: Failure, output: &mut W) -> LiveEnding
+pub(crate) fn refuse_live<W: Write>(alloc: Global, failure: Failure, output: &mut W) -> LiveEnding
     ensures { IsRefusal failure result (W.contents output.old) (W.contents output.new) }
 {
     match refuse(alloc, failure, output) {

@@ -22,7 +22,7 @@ mod texts;
 pub use ending::LiveEnding;
 pub use fault::PlayFault;
 pub use phases::{parts_of, phases_of};
-pub use playing::played;
+pub use playing::play_live;
 pub use printing::live_lines;
 pub use running::{live, live_source};
 pub use texts::CALLERS;

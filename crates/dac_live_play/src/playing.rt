@@ -30,7 +30,7 @@ impl Gate for Open {
 /// Runs a script at sites in threads, weaves their journals, and gives what is printed of it.
 ///
 /// [`PlayFault::NoMemory`] is answered wherever memory is refused before another fault is met.
-pub fn played<T: Threads + Wait + Sync>(
+pub fn play_live<T: Threads + Wait + Sync>(
     rt: &T,
     alloc: Global,
     config: &Config,

@@ -5,8 +5,8 @@ ghost use Rattle.dac_script.specs.Input.{IsReadWithinBound};
 ghost use Rattle.dac_live_play.specs.Endings.{IsLeftAt};
 ghost use Rattle.dac_live_play.specs.Lives.{EndsLive};
 
-use crate::ending::{LiveEnding, given_up, refused};
-use crate::playing::played;
+use crate::ending::{LiveEnding, given_up, refuse_live};
+use crate::playing::play_live;
 use dac_live_script::prepare_live;
 use dac_play::print;
 use dac_script::Source;
@@ -33,9 +33,9 @@ pub fn live_source<R: Read, W: Write, T: Threads + Wait + Sync>(
 {
     let (config, script) = match prepare_live(alloc, source) {
         Ok(both) => both,
-        Err(failure) => return refused(alloc, failure, output),
+        Err(failure) => return refuse_live(alloc, failure, output),
     };
-    let text = match played(rt, alloc, &config, &script) {
+    let text = match play_live(rt, alloc, &config, &script) {
         Ok(text) => text,
         Err(fault) => return given_up(alloc, &config, fault, output),
     };

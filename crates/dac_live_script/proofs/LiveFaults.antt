@@ -17,7 +17,7 @@ use Rattle.dac_script.specs.declared.fault.ScriptFaultKind.TheVariants.{BadWord,
 use Rattle.dac_script.specs.declared.line.ScriptLine.{ScriptLine}
 use Rattle.dac_script.specs.Faults.{script_number}
 use Rattle.dac_script.specs.Words.{bytes_in}
-use Rattle.dac_script.specs.Asked.{◌>>=◌, one, three, four, named, truth, actor, node_and_number, nodes_in, node_and_about, node_and_app, wish_in}
+use Rattle.dac_script.specs.Asked.{◌>>=◌, one, three, four, name_word, truth, actor, node_and_number, nodes_in, node_and_about, node_and_app, wish_in}
 use Rattle.dac_script.specs.Line as sim
 use Rattle.dac_script.specs.LineFaults.{Role, AreWrong, IsLeast}
 use Rattle.dac_live_script.specs.declared.line.Deed.{Deed}
@@ -115,7 +115,7 @@ module _ (table : Table) (words : List (List ℕ)) where
 
   crash_judged : Asked (codes "crash")
   unfolding sim.line_of
-  crash_judged = taken _ deed_in (sim.crash_line table words) (if_ok _ (one words) _ (λ word. if_ok _ (named word) _ (λ name. if_ok _ (actor table name) _ (λ node. tt)))) (one_judged table _ words)
+  crash_judged = taken _ deed_in (sim.crash_line table words) (if_ok _ (one words) _ (λ word. if_ok _ (name_word word) _ (λ name. if_ok _ (actor table name) _ (λ node. tt)))) (one_judged table _ words)
 
   tick_judged : Asked (codes "tick")
   unfolding sim.line_of

@@ -11,7 +11,7 @@ use Rattle.dac_script.specs.declared.fault.ScriptFaultKind.{ScriptFaultKind}
 use Rattle.dac_script.specs.declared.fault.ScriptFaultKind.TheVariants.{BadWord, BadCount, BadName, BadNumber, UnknownActor, BadHex}
 use Rattle.dac_script.specs.declared.line.ScriptLine.{ScriptLine}
 use Rattle.dac_script.specs.declared.line.ScriptLine.TheVariants as says
-use Rattle.dac_script.specs.Asked.{◌>>=◌, one, named, actor}
+use Rattle.dac_script.specs.Asked.{◌>>=◌, one, name_word, actor}
 use Rattle.dac_script.specs.Line.{line_of}
 use Rattle.dac_live_script.specs.declared.line.Deed.{Deed}
 use Rattle.dac_live_script.specs.declared.line.Deed.TheVariants as deed
@@ -66,7 +66,7 @@ caller_of word =
 abbrev pub read_line : Table → List (List ℕ) → Result (NodeId × Option Deed) ScriptFaultKind
 read_line table words = do
   word ← one words
-  name ← named word
+  name ← name_word word
   node ← actor table name
   Ok (node, None)
 

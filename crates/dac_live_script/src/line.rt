@@ -9,7 +9,7 @@ ghost use Rattle.dac_live_script.specs.LiveLines.{deed_of, deed_in, is_deed_verb
 use dac_base::{NoMemory, NodeId};
 use dac_config::Config;
 use dac_events::{Command, What};
-use dac_script::{ByteList, ScriptFaultKind, ScriptLine, actor, line_of, named, one};
+use dac_script::{ByteList, ScriptFaultKind, ScriptLine, actor, line_of, name_word, one};
 use std::alloc::Global;
 
 /// What a caller asks of a node.
@@ -123,7 +123,7 @@ fn read_line(config: &Config, words: &[&[u8]]) -> Result<(NodeId, Option<Deed>),
     ensures actor { IfOk result (λ both. both.0.0 < node_count config.now) }
 {
     let node = one(words)?;
-    let node = named(node)?;
+    let node = name_word(node)?;
     let node = actor(config, node)?;
     Ok((node, None))
 }

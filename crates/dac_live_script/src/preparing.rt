@@ -10,7 +10,7 @@ ghost use Rattle.dac_live_script.specs.LiveInputs.{HasParts, IsPartsFailure, Say
 use crate::line::LiveLine;
 use crate::script::read_live_script;
 use dac_config::{Config, read_config};
-use dac_script::{Failure, InputFault, Source, parted, read_input};
+use dac_script::{Failure, InputFault, Source, read_input, split_input};
 use std::alloc::Global;
 use std::io::Read;
 
@@ -20,7 +20,7 @@ fn parts_of(alloc: Global, text: &[u8]) -> Result<(Config, Vec<LiveLine>), Failu
     ensures actors { IfOk result (λ both. All (HasActors (node_count both.0)) both.1.items) }
     ensures fails { IfErr result (IsPartsFailure text.now) }
 {
-    let Some((config, script)) = parted(text) else {
+    let Some((config, script)) = split_input(text) else {
         return Err(Failure::Input(InputFault::NoScript));
     };
     let config = read_config(alloc, config)?;

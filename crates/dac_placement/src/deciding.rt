@@ -21,7 +21,7 @@ pub fn verdict(config: &Config, state: &State, app: AppId) -> Verdict
     ensures cases { IsVerdict config.now state.now app result }
 {
     let standing = standing_of(config, state, app);
-    if let Some(verdict) = settled(config, state, app, standing) {
+    if let Some(verdict) = early_verdict(config, state, app, standing) {
         return verdict;
     }
     let first = first_choice(config, state, app);
@@ -29,7 +29,7 @@ pub fn verdict(config: &Config, state: &State, app: AppId) -> Verdict
 }
 
 /// The verdict, where the application stands so and no load is asked for it.
-fn settled(config: &Config, state: &State, app: AppId, standing: Standing) -> Option<Verdict>
+fn early_verdict(config: &Config, state: &State, app: AppId, standing: Standing) -> Option<Verdict>
     requires { app.0 < app_count config.now }
     ensures { IfSome result (λ verdict. verdict ≡ verdict_by config.now app standing (first_choice config.now state.now app)) }
 {

@@ -39,7 +39,7 @@ fn running(alloc: Global, config: &Config, world: &World) -> Result<Vec<NodeId>,
 }
 
 /// Whether an event was accepted. `NoMemory` is no answer: such an event is no event.
-fn accepted(answer: &Result<Reply, WorldFault>) -> Result<bool, NoMemory>
+fn was_accepted(answer: &Result<Reply, WorldFault>) -> Result<bool, NoMemory>
     ensures known { IfOk result (λ accepted. accepted ≡ is_ok answer.now) }
     ensures enough { OnOk result (answer.now ≢ out_of_memory) }
 {
@@ -56,7 +56,7 @@ fn accepts(config: &Config, world: &mut World, event: &WorldEvent) -> Result<boo
     ensures answers { IfOk result (λ accepted. IsAnswered config.now world.old event.now accepted world.new) }
 {
     let answer = world.step(config, event);
-    accepted(&answer)
+    was_accepted(&answer)
 }
 
 /// A node ships to another one, and the message is delivered at once.

@@ -4,7 +4,7 @@
 //! in threads. The program itself is this crate's [`run`] over the process' own words, standard input and standard output.
 #![tactic(auto)]
 
-pub use command_line::{Request, asked};
+pub use command_line::{Request, read_request};
 pub use program::run;
 
 mod command_line;

@@ -10,7 +10,7 @@ ghost use Rattle.dac_live_play.specs.dac_play.Simulations.{EndsSim};
 ghost use Rattle.dac_live_play.specs.dac_script.Input.{IsReadWithinBound};
 ghost use Rattle.dac_program.specs.CommandLine.{check_words, sim_words, live_words};
 
-use crate::command_line::{Request, asked};
+use crate::command_line::{Request, read_request};
 use clap::Error;
 use clap::error::ErrorKind;
 use dac_live_play::dac_play::{OUT_OF_MEMORY, check, simulate};
@@ -61,7 +61,7 @@ pub fn run<'a, T: Print + Eprint, H: Threads + Wait + Sync, R: Read, W: Write>(
     // However it ends, no more was read than the bound and one byte.
     ensures bound { IsReadWithinBound (R.remaining input.old) (R.remaining input.new) }
 {
-    match asked(alloc, words) {
+    match read_request(alloc, words) {
         Ok(Some(Request::Check)) => check(alloc, input, output).status(),
         Ok(Some(Request::Sim)) => simulate(alloc, input, output).status(),
         Ok(Some(Request::Live)) => live(threads, alloc, input, output).status(),

@@ -61,7 +61,7 @@ fn answer_of(one: &Record, seat: u16) -> Option<&Answer>
 }
 
 // A copy of an answer.
-fn copied(answer: &Answer) -> Result<Answer, NoMemory>
+fn copy_answer(answer: &Answer) -> Result<Answer, NoMemory>
     ensures { IfOk result (λ copy. copy ≡ answer.now) }
 {
     match answer {
@@ -77,7 +77,7 @@ fn copied(answer: &Answer) -> Result<Answer, NoMemory>
 fn put_answer(all: &mut Vec<Answer>, answer: &Answer) -> Result<(), NoMemory>
     ensures { OnOk result (all.new.items ≡ all.old.items ++ answer.now ∷ []) }
 {
-    let copy = copied(answer)?;
+    let copy = copy_answer(answer)?;
     all.push(copy)?;
     Ok(())
 }

@@ -1,6 +1,5 @@
 //! Who sits where at a site, and with which ends of links.
 
-ghost use Rattle.std.specs.Prelude.{◌≡◌};
 ghost use Rattle.dac_workers.specs.Sites.{IsBlankOf};
 
 use crate::endings::shut;
@@ -217,7 +216,7 @@ pub(crate) struct Open<L: SiteName> {
 }
 
 /// Opens a site, with its team.
-pub(crate) fn opened<L: SiteName, R: Wait>(
+pub(crate) fn open_with_team<L: SiteName, R: Wait>(
     rt: &R,
     alloc: Global,
     blank: SiteBlank,

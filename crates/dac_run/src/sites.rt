@@ -7,7 +7,7 @@ ghost use Rattle.std.specs.Prelude.{◌≡◌};
 ghost use Rattle.dac_workers.specs.Sites.{IsBlankOf};
 
 use crate::endings::{end_site, shut};
-use crate::hiring::{CALLERS, LinkEnds, Open, all_links, last_ends, opened};
+use crate::hiring::{CALLERS, LinkEnds, Open, all_links, last_ends, open_with_team};
 use crate::phases::{Outcome, Phase};
 use crate::rounds::{Pair, SitePair, Sites, Teams, run_phases};
 use crate::team::{Shared, Team};
@@ -141,7 +141,7 @@ fn with_first<
     requires { IsBlankOf blank L.name L.parts L.seats L.opening }
 {
     let here = ends_for(shared, &mut ends, NodeId(0));
-    let Open { site, team, last } = opened::<L, R>(rt, shared.alloc, blank, here)?;
+    let Open { site, team, last } = open_with_team::<L, R>(rt, shared.alloc, blank, here)?;
     let first = Crew { site: &site, team };
     let ran = run_four(rt, shared, phases, first, second, third, fourth);
     match ran {
@@ -218,7 +218,7 @@ fn with_second<
     requires { IsBlankOf blank M.name M.parts M.seats M.opening }
 {
     let here = ends_for(shared, &mut ends, NodeId(1));
-    let Open { site, team, last } = opened::<M, R>(rt, shared.alloc, blank, here)?;
+    let Open { site, team, last } = open_with_team::<M, R>(rt, shared.alloc, blank, here)?;
     let second = Crew { site: &site, team };
     let ran = at_first(rt, shared, phases, ends, second, third, fourth);
     match ran {
@@ -284,7 +284,7 @@ fn with_third<
     requires { IsBlankOf blank N.name N.parts N.seats N.opening }
 {
     let here = ends_for(shared, &mut ends, NodeId(2));
-    let Open { site, team, last } = opened::<N, R>(rt, shared.alloc, blank, here)?;
+    let Open { site, team, last } = open_with_team::<N, R>(rt, shared.alloc, blank, here)?;
     let third = Crew { site: &site, team };
     let ran = at_second(rt, shared, phases, ends, third, fourth);
     match ran {
@@ -338,7 +338,7 @@ fn with_fourth<O: SiteName + Send + Sync, G: Gate, R: Threads + Wait + Sync>(
     requires { IsBlankOf blank O.name O.parts O.seats O.opening }
 {
     let here = ends_for(shared, &mut ends, NodeId(3));
-    let Open { site, team, last } = opened::<O, R>(rt, shared.alloc, blank, here)?;
+    let Open { site, team, last } = open_with_team::<O, R>(rt, shared.alloc, blank, here)?;
     let fourth = Crew { site: &site, team };
     let ran = at_third(rt, shared, phases, ends, fourth);
     match ran {

@@ -20,7 +20,7 @@ use Rattle.dac_script.specs.declared.line.Verb.{Verb}
 use Rattle.dac_script.specs.declared.line.Verb.TheVariants as verb
 use Rattle.dac_script.specs.Faults.{script_number}
 use Rattle.dac_script.specs.Words.{name_in, number_in, bytes_in}
-use Rattle.dac_script.specs.Asked.{◌>>=◌, one, three, named, truth, actor, node_and_number, nodes_in, node_and_about, node_and_app, wish_in}
+use Rattle.dac_script.specs.Asked.{◌>>=◌, one, three, name_word, truth, actor, node_and_number, nodes_in, node_and_about, node_and_app, wish_in}
 use Rattle.dac_script.specs.Line.{verb_of, said_by, line_of, permit_line, drain_line, share_line, same_line, bytes_line, feed_line}
 use Rattle.dac_script.specs.LineFaults.{Role, roles_of, IsNoFlag, IsNoHex, IsWrong, AreWrong, HasFault, IsFaultless, IsLeast}
 use Rattle.dac_script.specs.LineFaults.Role.{Actor, Application, About, Number, Flag, Hex}
@@ -194,7 +194,7 @@ module _ (table : Table) where
       none_left P (are_low 7 roles words refl (actor_known a name is node known, (given BadName (name_in b) app also, tt))))))
   app_judged (a ∷ b ∷ c ∷ words) = miscounted (Actor ∷ Application ∷ []) (a ∷ b ∷ c ∷ words) (λ e. absurd (omega (arith, e)))
 
-  one_judged : (g : NodeId → ScriptLine) (words : List (List ℕ)) → Judges (AreWrong table (Actor ∷ []) words) (one words >>= λ word. named word >>= λ name. actor table name >>= λ node. Ok (g node))
+  one_judged : (g : NodeId → ScriptLine) (words : List (List ℕ)) → Judges (AreWrong table (Actor ∷ []) words) (one words >>= λ word. name_word word >>= λ name. actor table name >>= λ node. Ok (g node))
   one_judged g [] = miscounted (Actor ∷ []) [] (λ e. absurd (omega (arith, e)))
   one_judged g (a ∷ []) =
       let roles = Actor ∷ [] in

@@ -46,12 +46,12 @@ four _ = Err BadCount
 -- ---- what a single word says
 
 -- a word that has to be a name
-abbrev pub named : List ℕ → Result (List ℕ) ScriptFaultKind
-named word = ok_or (name_in word) BadName
+abbrev pub name_word : List ℕ → Result (List ℕ) ScriptFaultKind
+name_word word = ok_or (name_in word) BadName
 
 -- a word that has to be a number
-abbrev pub numbered : List ℕ → Result ℕ ScriptFaultKind
-numbered word = ok_or (number_in word) BadNumber
+abbrev pub number_word : List ℕ → Result ℕ ScriptFaultKind
+number_word word = ok_or (number_in word) BadNumber
 
 -- a word that has to be `true` or `false`, without quotes
 abbrev pub truth : List ℕ → Result Bool ScriptFaultKind
@@ -78,16 +78,16 @@ application table name = unwrap_or (app_named table name) (record { 0 = app_coun
 abbrev pub node_and_number : Table → List (List ℕ) → Result (NodeId × ℕ) ScriptFaultKind
 node_and_number table words = do
   both ← two words
-  name ← named both.0
-  number ← numbered both.1
+  name ← name_word both.0
+  number ← number_word both.1
   node ← actor table name
   Ok (node, number)
 
 -- the node where something happens, and one that it is about
 abbrev pub nodes_in : Table → List ℕ → List ℕ → Result (NodeId × NodeId) ScriptFaultKind
 nodes_in table at subject = do
-  name ← named at
-  subject_name ← named subject
+  name ← name_word at
+  subject_name ← name_word subject
   node ← actor table name
   Ok (node, about table subject_name)
 
@@ -101,16 +101,16 @@ node_and_about table words = do
 abbrev pub node_and_app : Table → List (List ℕ) → Result (NodeId × AppId) ScriptFaultKind
 node_and_app table words = do
   both ← two words
-  name ← named both.0
-  app ← named both.1
+  name ← name_word both.0
+  app ← name_word both.1
   node ← actor table name
   Ok (node, application table app)
 
 -- the node where a command is given, and the application and the node that it is about
 abbrev pub wish_in : Table → List ℕ → List ℕ → List ℕ → Result Wish ScriptFaultKind
 wish_in table at app subject = do
-  name ← named at
-  app_name ← named app
-  subject_name ← named subject
+  name ← name_word at
+  app_name ← name_word app
+  subject_name ← name_word subject
   node ← actor table name
   Ok (record { at = node; app = application table app_name; node = about table subject_name })

@@ -14,7 +14,7 @@ use Rattle.dac_script.specs.declared.line.ScriptLine.TheVariants as says
 use Rattle.dac_script.specs.declared.line.Verb.{Verb}
 use Rattle.dac_script.specs.declared.line.Verb.TheVariants as verb
 use Rattle.dac_script.specs.Words.{bytes_in}
-use Rattle.dac_script.specs.Asked.{◌>>=◌, one, two, three, four, named, numbered, truth, actor, node_and_number, nodes_in, node_and_about, node_and_app, wish_in}
+use Rattle.dac_script.specs.Asked.{◌>>=◌, one, two, three, four, name_word, number_word, truth, actor, node_and_number, nodes_in, node_and_about, node_and_app, wish_in}
 
 -- the commands that operators give
 abbrev pub command_verb : List ℕ → Option Verb
@@ -63,7 +63,7 @@ boot_line table words = do
 abbrev pub crash_line : Table → List (List ℕ) → Result ScriptLine ScriptFaultKind
 crash_line table words = do
   word ← one words
-  name ← named word
+  name ← name_word word
   node ← actor table name
   happens node what.Crash
 
@@ -142,7 +142,7 @@ share_line (word ∷ words) = Err BadCount
 abbrev pub page_line : Table → List (List ℕ) → Result ScriptLine ScriptFaultKind
 page_line table words = do
   word ← one words
-  name ← named word
+  name ← name_word word
   node ← actor table name
   Ok (says.Page node)
 
@@ -150,7 +150,7 @@ page_line table words = do
 abbrev pub state_line : Table → List (List ℕ) → Result ScriptLine ScriptFaultKind
 state_line table words = do
   word ← one words
-  name ← named word
+  name ← name_word word
   node ← actor table name
   Ok (says.State node)
 
@@ -158,8 +158,8 @@ state_line table words = do
 abbrev pub same_line : Table → List (List ℕ) → Result ScriptLine ScriptFaultKind
 same_line table words = do
   both ← two words
-  name ← named both.0
-  other ← named both.1
+  name ← name_word both.0
+  other ← name_word both.1
   first ← actor table name
   second ← actor table other
   Ok (says.Same first second)
@@ -168,7 +168,7 @@ same_line table words = do
 abbrev pub bytes_line : List (List ℕ) → Result ScriptLine ScriptFaultKind
 bytes_line words = do
   word ← one words
-  message ← numbered word
+  message ← number_word word
   Ok (says.Bytes message)
 
 -- `feed HEX`: bytes to be read as a message or an operation

@@ -2,7 +2,7 @@
 
 ghost use Rattle.std.specs.Prelude.{◌≡◌, ◌<◌, IfOk, map};
 ghost use Rattle.dac_config.specs.Table.{node_count};
-ghost use Rattle.dac_script.specs.Asked.{seen, one, two, three, four, named, numbered, truth, actor, about, application, node_and_number, nodes_in, node_and_about, node_and_app, wish_in};
+ghost use Rattle.dac_script.specs.Asked.{seen, one, two, three, four, name_word, number_word, truth, actor, about, application, node_and_number, nodes_in, node_and_about, node_and_app, wish_in};
 
 use crate::fault::ScriptFaultKind;
 use crate::words::{name_in, number_in};
@@ -63,15 +63,15 @@ pub fn four<'a>(
 }
 
 /// A word that has to be a name.
-pub fn named(word: &[u8]) -> Result<&[u8], ScriptFaultKind>
-    ensures { seen (λ name. name.now) result ≡ named word.now }
+pub fn name_word(word: &[u8]) -> Result<&[u8], ScriptFaultKind>
+    ensures { seen (λ name. name.now) result ≡ name_word word.now }
 {
     name_in(word).ok_or(ScriptFaultKind::BadName)
 }
 
 /// A word that has to be a number.
-pub fn numbered(word: &[u8]) -> Result<u64, ScriptFaultKind>
-    ensures { result ≡ numbered word.now }
+pub fn number_word(word: &[u8]) -> Result<u64, ScriptFaultKind>
+    ensures { result ≡ number_word word.now }
 {
     number_in(word).ok_or(ScriptFaultKind::BadNumber)
 }
@@ -115,8 +115,8 @@ pub fn node_and_number(config: &Config, words: &[&[u8]]) -> Result<(NodeId, u64)
     ensures below { IfOk result (λ both. both.0.0 < node_count config.now) }
 {
     let (node, number) = two(words)?;
-    let node = named(node)?;
-    let number = numbered(number)?;
+    let node = name_word(node)?;
+    let number = number_word(number)?;
     let node = actor(config, node)?;
     Ok((node, number))
 }
@@ -130,8 +130,8 @@ pub fn nodes_in(
     ensures words { result ≡ nodes_in config.now at.now subject.now }
     ensures below { IfOk result (λ both. both.0.0 < node_count config.now) }
 {
-    let at = named(at)?;
-    let subject = named(subject)?;
+    let at = name_word(at)?;
+    let subject = name_word(subject)?;
     let at = actor(config, at)?;
     Ok((at, about(config, subject)))
 }
@@ -151,8 +151,8 @@ pub fn node_and_app(config: &Config, words: &[&[u8]]) -> Result<(NodeId, AppId),
     ensures below { IfOk result (λ both. both.0.0 < node_count config.now) }
 {
     let (node, app) = two(words)?;
-    let node = named(node)?;
-    let app = named(app)?;
+    let node = name_word(node)?;
+    let app = name_word(app)?;
     let node = actor(config, node)?;
     Ok((node, application(config, app)))
 }
@@ -167,9 +167,9 @@ pub fn wish_in(
     ensures words { result ≡ wish_in config.now at.now app.now subject.now }
     ensures below { IfOk result (λ wish. wish.at.0 < node_count config.now) }
 {
-    let at = named(at)?;
-    let app = named(app)?;
-    let subject = named(subject)?;
+    let at = name_word(at)?;
+    let app = name_word(app)?;
+    let subject = name_word(subject)?;
     let at = actor(config, at)?;
     Ok(Wish {
         at,

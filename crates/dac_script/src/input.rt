@@ -42,7 +42,7 @@ fn first_line(text: &[u8]) -> (&[u8], Option<&[u8]>)
 /// Parts an input at its first line that is exactly `--`. The first part is what stands before it, up to and with the
 /// line feed that ends the line before. The second is what stands behind its own line feed. `None` where no line is
 /// the mark.
-pub fn parted(text: &[u8]) -> Option<(&[u8], &[u8])>
+pub fn split_input(text: &[u8]) -> Option<(&[u8], &[u8])>
     ensures { MatchOption result (All (λ line. line ≢ mark) (lines_of text.now)) (λ parts. IsParted text.now parts.0.now parts.1.now) }
 {
     let mut rest = text;

@@ -15,11 +15,11 @@ mod script;
 mod source;
 mod words;
 
-pub use asked::{actor, named, one};
+pub use asked::{actor, name_word, one};
 pub use byte_list::ByteList;
 pub use failure::Failure;
 pub use fault::{InputFault, ScriptFault, ScriptFaultKind};
-pub use input::{MAX_INPUT, parted, read_input};
+pub use input::{MAX_INPUT, read_input, split_input};
 pub use line::{ScriptLine, line_of};
 pub use preparing::prepare;
 pub use script::{is_said, read_script};

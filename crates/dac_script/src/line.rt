@@ -5,8 +5,8 @@ ghost use Rattle.dac_config.specs.Table.{node_count};
 ghost use Rattle.dac_script.specs.Line.{command_verb, wire_verb, verb_of, boot_line, crash_line, down_line, permit_line, start_line, stop_line, drain_line, takeover_line, tick_line, ship_line, hear_line, hand_line, share_line, page_line, state_line, same_line, bytes_line, feed_line, line_of, HasActors};
 
 use crate::asked::{
-    actor, four, named, node_and_about, node_and_app, node_and_number, nodes_in, numbered, one,
-    three, truth, two, wish_in,
+    actor, four, name_word, node_and_about, node_and_app, node_and_number, nodes_in, number_word,
+    one, three, truth, two, wish_in,
 };
 use crate::byte_list::ByteList;
 use crate::fault::ScriptFaultKind;
@@ -151,7 +151,7 @@ fn crash(config: &Config, words: &[&[u8]]) -> Result<ScriptLine, ScriptFaultKind
     ensures actors { IfOk result (HasActors (node_count config.now)) }
 {
     let node = one(words)?;
-    let node = named(node)?;
+    let node = name_word(node)?;
     let node = actor(config, node)?;
     Ok(ScriptLine::Event(WorldEvent {
         node,
@@ -312,7 +312,7 @@ fn page(config: &Config, words: &[&[u8]]) -> Result<ScriptLine, ScriptFaultKind>
     ensures actors { IfOk result (HasActors (node_count config.now)) }
 {
     let node = one(words)?;
-    let node = named(node)?;
+    let node = name_word(node)?;
     let node = actor(config, node)?;
     Ok(ScriptLine::Page(node))
 }
@@ -323,7 +323,7 @@ fn state(config: &Config, words: &[&[u8]]) -> Result<ScriptLine, ScriptFaultKind
     ensures actors { IfOk result (HasActors (node_count config.now)) }
 {
     let node = one(words)?;
-    let node = named(node)?;
+    let node = name_word(node)?;
     let node = actor(config, node)?;
     Ok(ScriptLine::State(node))
 }
@@ -334,8 +334,8 @@ fn same(config: &Config, words: &[&[u8]]) -> Result<ScriptLine, ScriptFaultKind>
     ensures actors { IfOk result (HasActors (node_count config.now)) }
 {
     let (first, second) = two(words)?;
-    let first = named(first)?;
-    let second = named(second)?;
+    let first = name_word(first)?;
+    let second = name_word(second)?;
     let first = actor(config, first)?;
     let second = actor(config, second)?;
     Ok(ScriptLine::Same(first, second))
@@ -347,7 +347,7 @@ fn bytes(words: &[&[u8]]) -> Result<ScriptLine, ScriptFaultKind>
     ensures actors { (nodes : ℕ) → IfOk result (HasActors nodes) }
 {
     let message = one(words)?;
-    let message = numbered(message)?;
+    let message = number_word(message)?;
     Ok(ScriptLine::Bytes(message))
 }
 

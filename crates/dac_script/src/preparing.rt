@@ -9,7 +9,7 @@ ghost use Rattle.dac_script.specs.Sources.{IsReadBy};
 
 use crate::failure::Failure;
 use crate::fault::InputFault;
-use crate::input::{parted, read_input};
+use crate::input::{read_input, split_input};
 use crate::line::ScriptLine;
 use crate::script::read_script;
 use crate::source::Source;
@@ -23,7 +23,7 @@ fn parts_of(alloc: Global, text: &[u8]) -> Result<(Config, Vec<ScriptLine>), Fai
     ensures actors { IfOk result (λ both. All (HasActors (node_count both.0)) both.1.items) }
     ensures fails { IfErr result (IsPartsFailure text.now) }
 {
-    let Some((config, script)) = parted(text) else {
+    let Some((config, script)) = split_input(text) else {
         return Err(Failure::Input(InputFault::NoScript));
     };
     let config = read_config(alloc, config)?;

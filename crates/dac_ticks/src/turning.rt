@@ -157,7 +157,7 @@ fn look_after(
         return Ok(Found::Passed);
     }
     let op = claim_by(own, state, app, verdict);
-    let after = heard(alloc, state, &op)?;
+    let after = join_operation(alloc, state, &op)?;
     Ok(Found::Claimed(op, after))
 }
 
@@ -209,7 +209,7 @@ fn held_by(state: &State, app: AppId) -> Option<NodeId>
 }
 
 /// The state that hearing an operation leaves.
-fn heard(alloc: Global, state: &State, op: &Op) -> Result<State, NoMemory>
+fn join_operation(alloc: Global, state: &State, op: &Op) -> Result<State, NoMemory>
     ensures { IfOk result (λ after. after ≡ join state.now (meaning_of (op.now ∷ []))) }
 {
     let delta = State::delta_of(alloc, op)?;

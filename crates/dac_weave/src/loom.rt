@@ -24,7 +24,7 @@ pub(crate) struct Loom<'a> {
 }
 
 /// The event of the world that is this event at its node, if there is one now.
-fn named(operations: &Operations<'_>, messages: &Messages<'_>, event: &Event) -> Option<What>
+fn name_event(operations: &Operations<'_>, messages: &Messages<'_>, event: &Event) -> Option<What>
     ensures { Names operations.now messages.now event.now result }
 {
     match event {
@@ -81,7 +81,7 @@ fn count_all(journals: &[Closed]) -> usize {
 }
 
 impl<'a> Loom<'a> {
-    ghost use Rattle.std.specs.Prelude.{ℕ, ◌<◌, ◌≤◌, IfOk, OnOk, MatchOption, length};
+    ghost use Rattle.std.specs.Prelude.{◌<◌, ◌≤◌, IfOk, OnOk, MatchOption, length};
     ghost use Rattle.dac_journal.specs.Journals.{JournalValue};
     ghost use Rattle.dac_weave.specs.Woven.{AllFit, IsFirst};
     ghost use Rattle.dac_weave.specs.Placing.{HaveStrands, Weaves, CanBePlaced, IsStill, AllStill, StillBetween, Places, IsLeft, IsLeftAt, AllWhole};
@@ -115,7 +115,7 @@ impl<'a> Loom<'a> {
         let strand = &self.strands[i];
         let records = journals[i].records();
         if strand.placed < strand.good {
-            named(
+            name_event(
                 &self.operations,
                 &self.messages,
                 &records[strand.placed].event,
@@ -189,7 +189,7 @@ impl<'a> Loom<'a> {
     }
 
     /// The least-named journal that isn't placed whole.
-    fn left(&self, journals: &[Closed]) -> Option<usize>
+    fn least_left(&self, journals: &[Closed]) -> Option<usize>
         requires { length self.now.strands.items ≡ length journals.now }
         ensures { MatchOption result (AllWhole journals.now self.now.strands.items) (λ i. (j : JournalValue) × IsFirst journals.now (IsLeft self.now.strands.items) i j) }
     {
@@ -207,7 +207,7 @@ impl<'a> Loom<'a> {
         requires { HaveStrands journals.now self.now.strands.items }
         ensures { MatchOption result (AllWhole journals.now self.now.strands.items) (λ found. IsLeftAt journals.now self.now.strands.items found.0 found.1) }
     {
-        match self.left(journals) {
+        match self.least_left(journals) {
             None => None,
             Some(i) => {
                 let journal = &journals[i];

@@ -1,6 +1,6 @@
 //! Messages as letters.
 
-ghost use Rattle.std.specs.Prelude.{◌≡◌, true, Ok, Some, IfOk};
+ghost use Rattle.std.specs.Prelude.{◌≡◌, true, Ok, IfOk};
 ghost use Rattle.dac_wire.specs.declared.packet.Packet.TheVariants.{Msg};
 ghost use Rattle.dac_wire.specs.Decoding.{packet_at};
 ghost use Rattle.dac_workers.specs.Letters.{IsLetterOf};
@@ -22,7 +22,7 @@ pub(crate) struct Ends {
 
 impl Ends {
     /// The link is lost.
-    pub(crate) fn lost(self) -> RunFault {
+    pub(crate) fn loss(self) -> RunFault {
         RunFault::LinkLost {
             from: self.from,
             to: self.to,
@@ -33,7 +33,7 @@ impl Ends {
     fn fault_of(self, fault: WireFault) -> RunFault {
         match fault.kind {
             WireFaultKind::NoMemory => RunFault::NoMemory,
-            _ => self.lost(),
+            _ => self.loss(),
         }
     }
 }
@@ -67,7 +67,7 @@ pub(crate) fn letter_of(
         Err(fault) => return Err(ends.fault_of(fault)),
     };
     if !is_same(&read, &packet) {
-        return Err(ends.lost());
+        return Err(ends.loss());
     }
     Ok(Letter::of(bytes))
 }
@@ -83,7 +83,7 @@ pub(crate) fn message_in(
 {
     match decode(alloc, config, bytes) {
         Ok(Packet::Msg(message)) => Ok(message),
-        Ok(Packet::Single(_)) => Err(ends.lost()),
+        Ok(Packet::Single(_)) => Err(ends.loss()),
         Err(fault) => Err(ends.fault_of(fault)),
     }
 }

@@ -34,7 +34,7 @@ fn put<R: Wait>(rt: &R, ends: Ends, out: &mut LinkSender, letter: Letter) -> Res
 {
     match out.put(rt, letter) {
         Ok(()) => Ok(()),
-        Err(_) => Err(ends.lost()),
+        Err(_) => Err(ends.loss()),
     }
 }
 
@@ -144,7 +144,7 @@ pub fn hear_link<L: SiteName, G: Gate, R: Wait>(
     let ends = Ends { from, to };
     for _ in rt.forever() {
         let Ok(letter) = link.take(rt) else {
-            return Err(ends.lost());
+            return Err(ends.loss());
         };
         match letter.into_bytes() {
             Some(bytes) => {

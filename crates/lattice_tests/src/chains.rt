@@ -33,13 +33,13 @@ fn act(claim: Claim) -> ClaimAct {
 }
 
 /// What a claim means alone.
-fn claimed(alloc: Global, claim: Claim) -> Result<Claims, NoMemory> {
+fn claims_of(alloc: Global, claim: Claim) -> Result<Claims, NoMemory> {
     Claims::delta(alloc, dot(claim.origin.node.0, 2), &act(claim))
 }
 
 /// The greater of two claims, that of the second joined to that of the first.
 fn greater(alloc: Global, first: Claim, second: Claim) -> Result<Option<Claim>, NoMemory> {
-    let both = claimed(alloc, first)?.join(&claimed(alloc, second)?)?;
+    let both = claims_of(alloc, first)?.join(&claims_of(alloc, second)?)?;
     Ok(both.greatest(APP))
 }
 
@@ -87,7 +87,7 @@ fn claims_of_two_applications(rt: HostRuntime) {
 }
 
 /// What these acts of node 1 mean together.
-fn told(alloc: Global, acts: &[LifeAct]) -> Result<Lives, NoMemory> {
+fn lives_after(alloc: Global, acts: &[LifeAct]) -> Result<Lives, NoMemory> {
     let mut lives = Lives::bottom(alloc);
     for act in acts {
         lives = lives.join(&Lives::delta(alloc, dot(1, 2), act)?)?;
@@ -111,7 +111,7 @@ fn is_ended(alloc: Global) -> Result<bool, NoMemory> {
         flag: Flag::Up,
     };
     let down = LifeAct::Down { node: A, inc: 1 };
-    let gone = told(alloc, &[down, LifeAct::Up, LifeAct::Other])?;
+    let gone = lives_after(alloc, &[down, LifeAct::Up, LifeAct::Other])?;
     let is_above = is_joined_above(alloc, &Lives::one(alloc, A, up)?, &gone)?;
     Ok(is_above && are_down_and_up(&gone) && gone.entries().len() == 2)
 }

@@ -23,7 +23,7 @@ fn numbers_below(alloc: Global, end: u64) -> Result<Buffer<Max<u64>>, NoMemory> 
 }
 
 /// The numbers from 1 to 257, pushed in this order and trimmed.
-fn trimmed(alloc: Global, to: u64) -> Result<Buffer<Max<u64>>, NoMemory> {
+fn trim_to(alloc: Global, to: u64) -> Result<Buffer<Max<u64>>, NoMemory> {
     let mut buffer = numbers_below(alloc, 258)?;
     buffer.trim(to);
     buffer.copy()
@@ -49,7 +49,7 @@ fn is_trimmed(
     from: u64,
     wanted: Option<u64>,
 ) -> Result<bool, NoMemory> {
-    let buffer = trimmed(alloc, to)?;
+    let buffer = trim_to(alloc, to)?;
     Ok(buffer.base() == base && buffer.count() == 257 && greatest(&buffer, from)? == wanted)
 }
 
@@ -102,7 +102,7 @@ fn several_are_pushed(rt: HostRuntime) {
 
 /// The greatest of the numbers from 1 to 9 from a delta on, where another interval is remembered. Then the same once 100 is
 /// pushed.
-fn remembered(
+fn interval_beside(
     alloc: Global,
     from: u64,
     asked: u64,
@@ -120,9 +120,9 @@ fn remembered(
 
 #[test]
 fn interval_is_remembered_until_a_delta_comes(rt: HostRuntime) {
-    assert!(rt; remembered(rt.alloc(), 3, 3) == Ok((Some(9), Some(100))));
-    assert!(rt; remembered(rt.alloc(), 9, 3) == Ok((Some(9), Some(100))));
-    assert!(rt; remembered(rt.alloc(), 3, 9) == Ok((Some(0), Some(100))));
+    assert!(rt; interval_beside(rt.alloc(), 3, 3) == Ok((Some(9), Some(100))));
+    assert!(rt; interval_beside(rt.alloc(), 9, 3) == Ok((Some(9), Some(100))));
+    assert!(rt; interval_beside(rt.alloc(), 3, 9) == Ok((Some(0), Some(100))));
 }
 
 /// The blocks from a delta on.
@@ -167,7 +167,7 @@ fn blocks_are_aligned(rt: HostRuntime) {
 }
 
 /// What an origin acknowledged by two numbers.
-fn acknowledged(alloc: Global, first: u64, second: u64) -> Result<Option<u64>, NoMemory> {
+fn acks_after(alloc: Global, first: u64, second: u64) -> Result<Option<u64>, NoMemory> {
     let mut acks = Acks::new(alloc);
     acks.raise(origin(0), first)?;
     acks.raise(origin(0), second)?;
@@ -176,7 +176,7 @@ fn acknowledged(alloc: Global, first: u64, second: u64) -> Result<Option<u64>, N
 
 #[test]
 fn greatest_acknowledged_stays(rt: HostRuntime) {
-    assert!(rt; acknowledged(rt.alloc(), 3, 2) == Ok(Some(3)));
+    assert!(rt; acks_after(rt.alloc(), 3, 2) == Ok(Some(3)));
 }
 
 /// What three keys have once two of them were put, the greater first, and that one again.

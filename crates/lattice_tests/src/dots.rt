@@ -1,5 +1,5 @@
 //! Contexts, and sorted lists of keys.
-use crate::sample::{dot, heard, origin};
+use crate::sample::{context_of, dot, origin};
 use dac_base::{AppId, NoMemory};
 use dac_contexts::{Context, Further, MarkedContext};
 use dac_dots::keys::{MapKey, holds_key, insert_key, remove_key};
@@ -35,7 +35,7 @@ fn is_kept(
     upto: u64,
     further: &[u64],
 ) -> Result<bool, NoMemory> {
-    let context = heard(alloc, counters)?;
+    let context = context_of(alloc, counters)?;
     Ok(goes_on(&context, next, is_vector) && is_row(alloc, &context, upto, further)?)
 }
 
@@ -62,7 +62,7 @@ fn is_its_union(context: &Context) -> Result<bool, NoMemory> {
 
 /// Whether a context of four dots has them in order, and is its union with itself.
 fn has_its_dots(alloc: Global) -> Result<bool, NoMemory> {
-    let context = heard(alloc, &[1, 2, 4, 3])?;
+    let context = context_of(alloc, &[1, 2, 4, 3])?;
     let dots = [dot(0, 1), dot(0, 2), dot(0, 3), dot(0, 4)];
     Ok(
         context.contains(dot(0, 4))
@@ -84,7 +84,7 @@ fn tells_its_dots(context: &Context, asked: usize) -> bool {
 
 /// Whether that is so of a context of three dots, with marks and without.
 fn tells_with_marks(alloc: Global) -> Result<bool, NoMemory> {
-    let context = heard(alloc, &[1, 2, 4])?;
+    let context = context_of(alloc, &[1, 2, 4])?;
     Ok(tells_its_dots(&context, 100) && tells_its_dots(&context, 1))
 }
 
@@ -119,7 +119,7 @@ fn gaps_of_many_runs_are_closed(rt: HostRuntime) {
 }
 
 /// How many dots a context of one row has, if the row is taken.
-fn pushed(alloc: Global, upto: u64, further: &[u64]) -> Result<Option<u128>, NoMemory> {
+fn len_after_push(alloc: Global, upto: u64, further: &[u64]) -> Result<Option<u128>, NoMemory> {
     let mut context = Context::empty(alloc);
     if !context.push_row(origin(0), upto, further)? {
         return Ok(None);
@@ -130,8 +130,8 @@ fn pushed(alloc: Global, upto: u64, further: &[u64]) -> Result<Option<u128>, NoM
 #[test]
 fn rows_are_appended(rt: HostRuntime) {
     let most = 1 << 62;
-    assert!(rt; pushed(rt.alloc(), most, &[]) == Ok(Some(1 << 62)));
-    assert!(rt; pushed(rt.alloc(), 1, &[2]) == Ok(None));
+    assert!(rt; len_after_push(rt.alloc(), most, &[]) == Ok(Some(1 << 62)));
+    assert!(rt; len_after_push(rt.alloc(), 1, &[2]) == Ok(None));
 }
 
 /// Whether two keys are listed, the greater one first, and found, and the lower one is taken out again.

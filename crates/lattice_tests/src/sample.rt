@@ -22,7 +22,7 @@ pub fn dot(node: u8, n: u64) -> Dot {
 }
 
 /// A context that has these dots of node 0, put into it in this order.
-pub fn heard(alloc: Global, counters: &[u64]) -> Result<Context, NoMemory> {
+pub fn context_of(alloc: Global, counters: &[u64]) -> Result<Context, NoMemory> {
     let mut context = Context::empty(alloc);
     for n in counters {
         context.insert(dot(0, *n))?;

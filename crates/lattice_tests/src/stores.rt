@@ -1,5 +1,5 @@
 //! Joins of stores.
-use crate::sample::{dot, heard, is_joined_above};
+use crate::sample::{context_of, dot, is_joined_above};
 use dac_base::NoMemory;
 use dac_contexts::Context;
 use dac_lattice::{Flag, Lattice};
@@ -9,7 +9,7 @@ use std::alloc::Global;
 /// A set of one dot beside the dots that were heard.
 fn one(alloc: Global, n: u64, counters: &[u64]) -> Option<Causal<DotSet>> {
     let set = DotSet::one(alloc, dot(0, n));
-    Causal::new(set, heard(alloc, counters).ok()?).ok()
+    Causal::new(set, context_of(alloc, counters).ok()?).ok()
 }
 
 /// Whether a set has the second dot alone, beside two dots that were heard.
@@ -71,18 +71,18 @@ fn is_kept<S: DotStore>(alloc: Global, store: &S, context: &Context) -> Result<b
 
 /// Whether a store of the first dot is kept and cleared.
 fn is_kept_and_cleared<S: DotStore>(alloc: Global, store: &S) -> Result<bool, NoMemory> {
-    let context = heard(alloc, &[1])?;
+    let context = context_of(alloc, &[1])?;
     Ok(is_kept(alloc, store, &context)? && is_cleared(alloc, store, &context)?)
 }
 
 /// The first dot, denied.
-fn denied(alloc: Global) -> Result<DotFun<Flag>, NoMemory> {
+fn first_denied(alloc: Global) -> Result<DotFun<Flag>, NoMemory> {
     DotFun::one(alloc, dot(0, 1), Flag::Down)
 }
 
 /// The first dot, denied, at a key.
 fn denied_at(alloc: Global, key: u64) -> Result<DotMap<u64, DotFun<Flag>>, NoMemory> {
-    DotMap::one(alloc, key, denied(alloc)?)
+    DotMap::one(alloc, key, first_denied(alloc)?)
 }
 
 /// Whether there was memory, and the store of the first dot is kept and cleared.
@@ -96,13 +96,13 @@ fn is_store<S: DotStore>(alloc: Global, store: Result<S, NoMemory>) -> bool {
 #[test]
 fn stores_of_all_kinds(rt: HostRuntime) {
     assert!(rt; is_store(rt.alloc(), Ok(DotSet::one(rt.alloc(), dot(0, 1)))));
-    assert!(rt; is_store(rt.alloc(), denied(rt.alloc())));
+    assert!(rt; is_store(rt.alloc(), first_denied(rt.alloc())));
     assert!(rt; is_store(rt.alloc(), denied_at(rt.alloc(), 7)));
 }
 
 /// Whether a second dot is appended to values at dots.
 fn a_value_is_appended(alloc: Global) -> Result<bool, NoMemory> {
-    let mut denied = denied(alloc)?;
+    let mut denied = first_denied(alloc)?;
     let pushed = denied.push(dot(0, 3), Flag::Up)?;
     Ok(pushed && denied.get(dot(0, 3)) == Some(&Flag::Up) && denied.entries().len() == 2)
 }
@@ -116,7 +116,7 @@ fn a_dot_is_appended(alloc: Global) -> Result<bool, NoMemory> {
 /// Whether a second key is appended.
 fn a_key_is_appended(alloc: Global) -> Result<bool, NoMemory> {
     let mut map = denied_at(alloc, 7)?;
-    let pushed = map.push(9, denied(alloc)?)?;
+    let pushed = map.push(9, first_denied(alloc)?)?;
     Ok(pushed && map.get(9).is_some() && map.entries().len() == 2)
 }
 

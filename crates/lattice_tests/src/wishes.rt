@@ -1,5 +1,5 @@
 //! Permits and start wishes of a few operations.
-use crate::sample::{dot, heard, is_joined_above};
+use crate::sample::{context_of, dot, is_joined_above};
 use dac_base::{AppId, NoMemory, NodeId};
 use dac_dots::Dot;
 use dac_lattice::{Bottom, Flag, Lattice, Piece};
@@ -20,19 +20,19 @@ fn delta_of<P: Piece>(alloc: Global, dot: Dot, act: &P::Act) -> Result<P, NoMemo
 }
 
 /// A start by an operation of this dot.
-fn started(alloc: Global, dot: Dot) -> Result<Wishes, NoMemory> {
+fn start_of(alloc: Global, dot: Dot) -> Result<Wishes, NoMemory> {
     let over = DotList::new(Vec::new(alloc));
     delta_of(alloc, dot, &WishAct::Start { key: KEY, over })
 }
 
 /// A stop of the start of a dot.
-fn stopped(alloc: Global, dot: Dot, start: Dot) -> Result<Wishes, NoMemory> {
+fn stop_of(alloc: Global, dot: Dot, start: Dot) -> Result<Wishes, NoMemory> {
     let over = DotList::new(Vec::from_slice(alloc, &[start])?);
     delta_of(alloc, dot, &WishAct::Other { over })
 }
 
 /// A permit by an operation of this dot.
-fn permitted(alloc: Global, dot: Dot, value: bool) -> Result<Permissions, NoMemory> {
+fn permit_of(alloc: Global, dot: Dot, value: bool) -> Result<Permissions, NoMemory> {
     let over = DotList::new(Vec::new(alloc));
     let key = KEY;
     delta_of(alloc, dot, &PermitAct::Permit { key, value, over })
@@ -47,8 +47,8 @@ fn has(wishes: &Wishes, dots: &[Dot], known: u128) -> bool {
 
 /// Whether these dots are left where the start of a dot is joined with a stop of the dot (0, 2).
 fn is_left(alloc: Global, start: Dot, dots: &[Dot], known: u128) -> Result<bool, NoMemory> {
-    let started = started(alloc, start)?;
-    let joined = stopped(alloc, dot(0, 3), dot(0, 2))?.join(&started)?;
+    let started = start_of(alloc, start)?;
+    let joined = stop_of(alloc, dot(0, 3), dot(0, 2))?.join(&started)?;
     Ok(has(&joined, dots, known) && is_joined_above(alloc, &started, &joined)?)
 }
 
@@ -62,8 +62,8 @@ fn a_stop_ends_what_it_names(rt: HostRuntime) {
 
 /// Whether a permit that says true is joined with one that says false, and false wins.
 fn false_wins(alloc: Global) -> Result<bool, NoMemory> {
-    let granted = permitted(alloc, dot(0, 2), true)?;
-    let joined = granted.join(&permitted(alloc, dot(1, 2), false)?)?;
+    let granted = permit_of(alloc, dot(0, 2), true)?;
+    let joined = granted.join(&permit_of(alloc, dot(1, 2), false)?)?;
     Ok(
         !joined.is_permitted(KEY, true)
             && has_two(&joined)
@@ -84,7 +84,7 @@ fn false_wins_among_permits(rt: HostRuntime) {
 /// Whether one permit that says true overrules the default, which holds where nothing is said.
 fn is_overruled(alloc: Global) -> Result<bool, NoMemory> {
     let nothing = Permissions::bottom(alloc);
-    let granted = permitted(alloc, dot(0, 2), true)?;
+    let granted = permit_of(alloc, dot(0, 2), true)?;
     Ok(
         granted.is_permitted(KEY, false)
             && nothing.is_permitted(KEY, true)
@@ -101,7 +101,7 @@ fn a_permit_overrules_the_default(rt: HostRuntime) {
 fn kept_start(alloc: Global) -> Option<Wishes> {
     let starts = DotSet::one(alloc, dot(0, 2));
     let store = DotMap::one(alloc, KEY, starts).ok()?;
-    let causal = Causal::new(store, heard(alloc, &[2]).ok()?).ok()?;
+    let causal = Causal::new(store, context_of(alloc, &[2]).ok()?).ok()?;
     Some(Wishes::new(causal))
 }
 
@@ -109,20 +109,20 @@ fn kept_start(alloc: Global) -> Option<Wishes> {
 fn kept_permit(alloc: Global) -> Option<Permissions> {
     let permits = DotFun::one(alloc, dot(0, 2), Flag::Up).ok()?;
     let store = DotMap::one(alloc, KEY, permits).ok()?;
-    let causal = Causal::new(store, heard(alloc, &[2]).ok()?).ok()?;
+    let causal = Causal::new(store, context_of(alloc, &[2]).ok()?).ok()?;
     Some(Permissions::new(causal))
 }
 
 /// Whether a start that is kept is one that was wished.
 fn is_start(alloc: Global) -> Option<bool> {
     let kept = kept_start(alloc)?;
-    Some(kept.entries().len() == 1 && kept.equal(&started(alloc, dot(0, 2)).ok()?))
+    Some(kept.entries().len() == 1 && kept.equal(&start_of(alloc, dot(0, 2)).ok()?))
 }
 
 /// Whether a permit that is kept is one that was given.
 fn is_permit(alloc: Global) -> Option<bool> {
     let kept = kept_permit(alloc)?;
-    Some(kept.entries().len() == 1 && kept.equal(&permitted(alloc, dot(0, 2), true).ok()?))
+    Some(kept.entries().len() == 1 && kept.equal(&permit_of(alloc, dot(0, 2), true).ok()?))
 }
 
 #[test]

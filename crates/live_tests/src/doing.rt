@@ -383,7 +383,7 @@ fn are_recorded(closed: &Closed) -> bool {
 
 /// Opens a site with a seat and a reader, and asks it all. It is the first wrong row, and whether the site is closed with
 /// these answers.
-fn opened<L: SiteName, R: Wait>(
+fn open_and_ask<L: SiteName, R: Wait>(
     rt: &R,
     alloc: Global,
     blank: SiteBlank,
@@ -402,7 +402,7 @@ fn opened<L: SiteName, R: Wait>(
 fn all_is_done<R: Wait>(rt: &R, alloc: Global) -> Option<(Option<Wrong>, bool)> {
     let config = read_config(alloc, EXAMPLE).ok()?;
     let blank = blank_site(rt, alloc, &config, ME, 0, 1, 1).ok()?;
-    opened::<Brand, R>(rt, alloc, blank)
+    open_and_ask::<Brand, R>(rt, alloc, blank)
 }
 
 #[test]

@@ -65,7 +65,7 @@ fn five_calls<L: SiteName, R: Wait>(
 }
 
 /// What the five calls were answered, and the site closed with both seats or with the first alone.
-fn worked<L: SiteName, R: Wait>(
+fn work<L: SiteName, R: Wait>(
     rt: &R,
     alloc: Global,
     blank: SiteBlank,
@@ -147,7 +147,7 @@ fn are_five(records: &[Record]) -> bool {
 /// Whether the five calls are answered so, and the journal is closed with their records.
 fn five_are_answered<R: Wait>(rt: &R, alloc: Global) -> Option<bool> {
     let blank = two_seats(rt, alloc, 0).ok()?;
-    let (answers, closed) = worked::<Brand, R>(rt, alloc, blank, true)?;
+    let (answers, closed) = work::<Brand, R>(rt, alloc, blank, true)?;
     let closed = closed.ok()?;
     Some(
         answers == ANSWERS
@@ -166,7 +166,7 @@ fn five_calls_of_two_seats(rt: HostRuntime) -> Result<(), Fail> {
 /// Why the site isn't closed with one of its seats.
 fn closed_with_one<R: Wait>(rt: &R, alloc: Global) -> Option<CloseFault> {
     let blank = two_seats(rt, alloc, 0).ok()?;
-    let (_, closed) = worked::<Brand, R>(rt, alloc, blank, false)?;
+    let (_, closed) = work::<Brand, R>(rt, alloc, blank, false)?;
     closed.err()
 }
 
@@ -183,7 +183,7 @@ fn a_seat_is_missing(rt: HostRuntime) -> Result<(), Fail> {
 type PageShort = (u64, Option<Origin>, u128, u128);
 
 /// Learns the receipt of a call, if it has one, and reads a page then.
-fn learned<L: SiteName>(
+fn learn<L: SiteName>(
     reader: &mut PageReader<L>,
     answer: Result<Receipt<L>, LiveFault>,
 ) -> Option<PageShort> {
@@ -205,16 +205,16 @@ fn pages_of_calls<L: SiteName, R: Wait>(
     seat: &mut Seat<L>,
     reader: &mut PageReader<L>,
 ) -> [Option<PageShort>; 5] {
-    let boot = learned(reader, site.call(rt, seat, Event::Boot { now: 0 }));
-    let tick = learned(reader, site.call(rt, seat, Event::Tick { now: 0 }));
-    let again = learned(reader, site.call(rt, seat, Event::Boot { now: 1 }));
-    let crash = learned(reader, site.call(rt, seat, Event::Crash));
-    let off = learned(reader, site.call(rt, seat, Event::Crash));
+    let boot = learn(reader, site.call(rt, seat, Event::Boot { now: 0 }));
+    let tick = learn(reader, site.call(rt, seat, Event::Tick { now: 0 }));
+    let again = learn(reader, site.call(rt, seat, Event::Boot { now: 1 }));
+    let crash = learn(reader, site.call(rt, seat, Event::Crash));
+    let off = learn(reader, site.call(rt, seat, Event::Crash));
     [boot, tick, again, crash, off]
 }
 
 /// A site with one reader, which reads after each call.
-fn watched<L: SiteName, R: Wait>(
+fn watch<L: SiteName, R: Wait>(
     rt: &R,
     alloc: Global,
     blank: SiteBlank,
@@ -236,7 +236,7 @@ fn watched<L: SiteName, R: Wait>(
 /// The same, from the opening on.
 fn pages_are_read<R: Wait>(rt: &R, alloc: Global) -> Option<[Option<PageShort>; 5]> {
     let blank = two_seats(rt, alloc, 1).ok()?;
-    watched::<Brand, R>(rt, alloc, blank)
+    watch::<Brand, R>(rt, alloc, blank)
 }
 
 /// The first incarnation of the first node.

@@ -1,5 +1,5 @@
 //! Command lines, and what is printed for those that ask for help or for nothing that there is.
-use dac_program::{Request, asked, run};
+use dac_program::{Request, read_request, run};
 use std::alloc::Global;
 use std::cell::Cell;
 use std::fmt::Display;
@@ -297,7 +297,7 @@ fn says_what_is_wrong_with_words(rt: HostRuntime) {
 
 /// Whether the words ask for this.
 fn asks_for(alloc: Global, words: &[&str], request: Request) -> bool {
-    match asked(alloc, words) {
+    match read_request(alloc, words) {
         Ok(asked) => asked == Some(request),
         Err(_) => false,
     }

@@ -1,5 +1,4 @@
 //! Links whose other end is gone.
-ghost use Rattle.std.specs.Prelude.{◌≡◌};
 ghost use Rattle.dac_workers.specs.Sites.{IsBlankOf};
 
 use dac_base::NodeId;
@@ -69,7 +68,7 @@ fn both_lost<L: SiteName, R: Wait>(
 }
 
 /// Opens a site with one seat, and closes it.
-fn opened<L: SiteName, R: Wait>(
+fn open_and_close<L: SiteName, R: Wait>(
     rt: &R,
     alloc: Global,
     config: &Config,
@@ -89,7 +88,7 @@ fn opened<L: SiteName, R: Wait>(
 fn lost_at_both<R: Wait>(rt: &R, alloc: Global) -> Option<Ended> {
     let config = read_config(alloc, TWO).ok()?;
     let blank = blank_site(rt, alloc, &config, NodeId(0), 0, 1, 0).ok()?;
-    opened::<Brand, R>(rt, alloc, &config, blank)
+    open_and_close::<Brand, R>(rt, alloc, &config, blank)
 }
 
 #[test]

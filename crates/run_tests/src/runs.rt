@@ -154,7 +154,7 @@ fn two_phases(alloc: Global) -> Option<Vec<Phase>> {
 }
 
 /// How many records the journals of three nodes have.
-fn counted(report: &LiveReport) -> Option<[usize; 3]> {
+fn record_counts(report: &LiveReport) -> Option<[usize; 3]> {
     match report.closed.as_slice() {
         [a, b, c] => Some([a.records().len(), b.records().len(), c.records().len()]),
         _ => None,
@@ -167,7 +167,7 @@ fn meets<R: Threads + Wait + Sync>(rt: &R, alloc: Global) -> Option<bool> {
     let gate = Both::new();
     let phases = two_phases(alloc)?;
     let report = ran(rt, alloc, EXAMPLE, phases.as_slice(), &gate)?.ok()?;
-    let records = counted(&report)?;
+    let records = record_counts(&report)?;
     Some(records[0] >= 22 && gate.met.load(Ordering::SeqCst) == 1)
 }
 

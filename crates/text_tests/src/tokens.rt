@@ -134,14 +134,14 @@ fn kinds_by_number_and_name(rt: HostRuntime) {
 }
 
 /// How a fault is printed.
-fn printed(alloc: Global, kind: FaultKind, at: usize) -> Option<String> {
+fn print_fault(alloc: Global, kind: FaultKind, at: usize) -> Option<String> {
     let fault = ConfigFault { kind, at };
     format!(in alloc; "{fault}").ok()
 }
 
 #[test]
 fn a_fault_is_printed(rt: HostRuntime) {
-    match printed(rt.alloc(), FaultKind::TwiceInList, 37) {
+    match print_fault(rt.alloc(), FaultKind::TwiceInList, 37) {
         Some(text) => assert!(rt; text.as_str() == "TwiceInList at 37"),
         None => assert!(rt; false),
     }

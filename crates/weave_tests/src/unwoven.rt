@@ -3,7 +3,7 @@ use crate::journals::{ask, close_three, example, journal};
 use dac_base::NodeId;
 use dac_dots::Origin;
 use dac_events::WorldEvent;
-use dac_journal::{Closed, Journal};
+use dac_journal::Closed;
 use dac_messages::{Body, Event, Message};
 use dac_weave::{WeaveFault, weave};
 use std::alloc::Global;
@@ -21,7 +21,7 @@ fn fault_of(alloc: Global, journals: &[Closed]) -> Option<WeaveFault> {
 }
 
 /// A message that no node shipped.
-fn invented() -> Message {
+fn strange_message() -> Message {
     Message {
         from: Origin {
             node: NodeId(0),
@@ -41,7 +41,7 @@ fn by_hand(alloc: Global) -> Option<WeaveFault> {
     let mut q = journal(alloc, 1, 0)?;
     let r = journal(alloc, 2, 0)?;
     let _up = ask(&mut q, Event::Boot { now: 0 })?;
-    let _heard = ask(&mut q, Event::Hear(invented()))?;
+    let _heard = ask(&mut q, Event::Hear(strange_message()))?;
     let journals = close_three(alloc, p, q, r)?;
     fault_of(alloc, journals.as_slice())
 }

@@ -1,7 +1,7 @@
 use Rattle.live_tests.proofs.sites.closed_with_one.Given as goal
 
-abbrev pub ghosts-worked-L-Ledger : goal.ghosts-worked-L-Ledger
-ghosts-worked-L-Ledger g a = record { name = a.blank.blank.name; parts = a.blank.blank.parts }
+abbrev pub ghosts-work-L-Ledger : goal.ghosts-work-L-Ledger
+ghosts-work-L-Ledger g a = record { name = a.blank.blank.name; parts = a.blank.blank.parts }
 
-abbrev pub ghosts-worked-L-SiteName : goal.ghosts-worked-L-SiteName
-ghosts-worked-L-SiteName g a = record { seats = a.blank.blank.parts; opening = a.blank.desk.journal.opening }
+abbrev pub ghosts-work-L-SiteName : goal.ghosts-work-L-SiteName
+ghosts-work-L-SiteName g a = record { seats = a.blank.blank.parts; opening = a.blank.desk.journal.opening }

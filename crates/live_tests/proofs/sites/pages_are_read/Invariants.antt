@@ -1,7 +1,7 @@
 use Rattle.live_tests.proofs.sites.pages_are_read.Given as goal
 
-abbrev pub ghosts-watched-L-Ledger : goal.ghosts-watched-L-Ledger
-ghosts-watched-L-Ledger g a = record { name = a.blank.blank.name; parts = a.blank.blank.parts }
+abbrev pub ghosts-watch-L-Ledger : goal.ghosts-watch-L-Ledger
+ghosts-watch-L-Ledger g a = record { name = a.blank.blank.name; parts = a.blank.blank.parts }
 
-abbrev pub ghosts-watched-L-SiteName : goal.ghosts-watched-L-SiteName
-ghosts-watched-L-SiteName g a = record { seats = a.blank.blank.parts; opening = a.blank.desk.journal.opening }
+abbrev pub ghosts-watch-L-SiteName : goal.ghosts-watch-L-SiteName
+ghosts-watch-L-SiteName g a = record { seats = a.blank.blank.parts; opening = a.blank.desk.journal.opening }

@@ -1,0 +1,292 @@
+//! Steps of a node, and calls of a journal.
+use dac_config::Config;
+use dac_events::{Command, Refusal};
+use dac_journal::{Journal, Node};
+use dac_lattice::Lattice;
+use dac_messages::{Body, Event, Reply};
+use std::alloc::Global;
+use tried_calls::sample::{APP, Does, ME, OTHER, config, meaning, message, operation};
+use tried_calls::trial::{Bench, Said};
+
+/// What happens at the node.
+#[derive(Clone, Copy, Debug, PartialEq, Eq)]
+pub enum Happens {
+    Boot,
+    Permit,
+    Start,
+    Stop,
+    Drain,
+    Down,
+    Takeover,
+    Tick,
+    ShipWhole,
+    ShipInterval,
+    ShipNothing,
+    HearWhole,
+    HearInterval,
+    HearNothing,
+    HearOp,
+    Crash,
+}
+
+/// The event of a command.
+fn command(command: Command) -> Option<Event> {
+    Some(Event::Command(command))
+}
+
+/// The event.
+fn event(alloc: Global, happens: Happens) -> Option<Event> {
+    match happens {
+        Happens::Boot => Some(Event::Boot { now: 0 }),
+        Happens::Permit => command(Command::Permit {
+            app: APP,
+            node: ME,
+            value: false,
+        }),
+        Happens::Start => command(Command::Start { app: APP, node: ME }),
+        Happens::Stop => command(Command::Stop { app: APP, node: ME }),
+        Happens::Drain => command(Command::Drain {
+            node: ME,
+            value: true,
+        }),
+        Happens::Down => command(Command::Down { node: OTHER }),
+        Happens::Takeover => command(Command::Takeover { app: APP }),
+        Happens::Tick => Some(Event::Tick { now: 9 }),
+        Happens::ShipWhole | Happens::ShipInterval | Happens::ShipNothing => {
+            Some(Event::Ship { to: OTHER })
+        }
+        Happens::Crash => Some(Event::Crash),
+        _ => what_comes(alloc, happens),
+    }
+}
+
+/// The message or the operation that comes.
+fn what_comes(alloc: Global, happens: Happens) -> Option<Event> {
+    match happens {
+        Happens::HearWhole => {
+            let body = Body::Whole(meaning(alloc, OTHER, Does::Permit)?);
+            Some(Event::Hear(message(body, 1)))
+        }
+        Happens::HearInterval => {
+            let body = Body::Interval(meaning(alloc, OTHER, Does::Claim)?);
+            Some(Event::Hear(message(body, 1)))
+        }
+        Happens::HearNothing => Some(Event::Hear(message(Body::Nothing, 2))),
+        _ => Some(Event::HearOp(operation(alloc, OTHER, Does::Drain)?)),
+    }
+}
+
+/// Hands an operation of the other node.
+fn hand(alloc: Global, does: Does) -> Option<Event> {
+    Some(Event::HearOp(operation(alloc, OTHER, does)?))
+}
+
+/// What is to come last before it, if anything.
+fn before(alloc: Global, happens: Happens) -> Option<Option<Event>> {
+    match happens {
+        Happens::Takeover => Some(Some(hand(alloc, Does::Claim)?)),
+        Happens::ShipInterval => Some(Some(Event::Hear(message(Body::Nothing, 2)))),
+        Happens::ShipNothing => {
+            let body = Body::Whole(meaning(alloc, OTHER, Does::Up)?);
+            Some(Some(Event::Hear(message(body, 4))))
+        }
+        _ => Some(None),
+    }
+}
+
+/// All that comes before it: the node boots and has its application started, and the other one too.
+pub fn all_before(alloc: Global, happens: Happens) -> Option<Vec<Event>> {
+    let mut events = Vec::new(alloc);
+    if happens == Happens::Boot {
+        return Some(events);
+    }
+    events.push(event(alloc, Happens::Boot)?).ok()?;
+    events.push(event(alloc, Happens::Start)?).ok()?;
+    events.push(hand(alloc, Does::Up)?).ok()?;
+    events.push(hand(alloc, Does::Start)?).ok()?;
+    if let Some(last) = before(alloc, happens)? {
+        events.push(last).ok()?;
+    }
+    Some(events)
+}
+
+/// The event twice, since it may have to be asked again.
+pub fn twice(alloc: Global, happens: Happens) -> Option<Vec<Event>> {
+    let mut events = Vec::new(alloc);
+    events.push(event(alloc, happens)?).ok()?;
+    events.push(event(alloc, happens)?).ok()?;
+    Some(events)
+}
+
+/// What a body is told apart by.
+fn number_of_body(body: &Body) -> u64 {
+    match body {
+        Body::Whole(_) => 1,
+        Body::Interval(_) => 2,
+        Body::Nothing => 3,
+    }
+}
+
+/// What a reply is told apart by.
+pub fn number_of(reply: &Reply) -> u64 {
+    match reply {
+        Reply::Booted(op) => op.dot().n.wrapping_mul(10).wrapping_add(1),
+        Reply::Crashed => 2,
+        Reply::Issued(op) => op.dot().n.wrapping_mul(10).wrapping_add(3),
+        Reply::Ticked { ops, .. } => (ops.as_slice().len() as u64)
+            .wrapping_mul(10)
+            .wrapping_add(4),
+        Reply::Held => 5,
+        Reply::GaveUp => 6,
+        Reply::Shipped(message) => number_of_body(&message.body)
+            .wrapping_mul(10)
+            .wrapping_add(7),
+        Reply::Heard(true) => 8,
+        Reply::Heard(false) => 9,
+    }
+}
+
+/// What an answer says.
+pub fn said(answer: &Result<Reply, Refusal>) -> Said {
+    match answer {
+        Ok(reply) => Said::Well(number_of(reply)),
+        Err(Refusal::NoMemory) => Said::NoMemory,
+        Err(_) => Said::Other,
+    }
+}
+
+/// Whether both run as the same incarnation and hold equal states.
+fn are_alike(one: &Node, other: &Node) -> bool {
+    if one.origin() != other.origin() {
+        return false;
+    }
+    match (one.state(), other.state()) {
+        (None, None) => true,
+        (Some(state), Some(second)) => state.equal(second),
+        _ => false,
+    }
+}
+
+/// A node before what happens, with a copy.
+#[derive(Drop)]
+pub struct StepBench {
+    config: Config,
+    node: Node,
+    kept: Node,
+    events: Vec<Event>,
+}
+
+/// A node after these events, if it takes them all.
+fn node_after(alloc: Global, config: &Config, events: Vec<Event>) -> Option<Node> {
+    let mut node = Node::off(alloc, 0);
+    for event in events {
+        let _reply = node.step(config, ME, event).ok()?;
+    }
+    Some(node)
+}
+
+/// The bench of a step.
+pub fn step(alloc: Global, happens: Happens) -> Option<StepBench> {
+    let config = config(alloc)?;
+    let node = node_after(alloc, &config, all_before(alloc, happens)?)?;
+    let kept = node.copy().ok()?;
+    let events = twice(alloc, happens)?;
+    Some(StepBench {
+        config,
+        node,
+        kept,
+        events,
+    })
+}
+
+impl Bench for StepBench {
+    fn call(&mut self) -> Said {
+        match self.events.pop() {
+            Some(event) => said(&self.node.step(&self.config, ME, event)),
+            None => Said::Other,
+        }
+    }
+
+    fn is_as_before(&self) -> bool {
+        are_alike(&self.node, &self.kept)
+    }
+}
+
+/// The copy of a node.
+#[derive(Drop)]
+pub struct CopyBench {
+    node: Node,
+}
+
+/// The bench of a node's copy.
+pub fn node_copy(alloc: Global) -> Option<CopyBench> {
+    let step = step(alloc, Happens::Tick)?;
+    let StepBench { node, .. } = step;
+    Some(CopyBench { node })
+}
+
+impl Bench for CopyBench {
+    fn call(&mut self) -> Said {
+        match self.node.copy() {
+            Ok(copied) => Said::Well(u64::from(are_alike(&self.node, &copied))),
+            Err(_) => Said::NoMemory,
+        }
+    }
+
+    fn is_as_before(&self) -> bool {
+        true
+    }
+}
+
+/// A journal before what happens, and a node as its own.
+#[derive(Drop)]
+pub struct AskBench {
+    journal: Journal,
+    kept: Node,
+    events: Vec<Event>,
+    records: usize,
+}
+
+/// Asks a journal, if it has room.
+fn ask(journal: &mut Journal, event: Event) -> Said {
+    if journal.is_full() {
+        return Said::Other;
+    }
+    match journal.ask(1, event) {
+        Ok((_, answer)) => said(&answer),
+        Err(_) => Said::NoMemory,
+    }
+}
+
+/// The bench of a journal that is asked.
+pub fn journal(alloc: Global, happens: Happens) -> Option<AskBench> {
+    let config = config(alloc)?;
+    let mut journal = Journal::new(alloc, config, ME, 0);
+    for event in all_before(alloc, happens)? {
+        if !matches!(ask(&mut journal, event), Said::Well(_)) {
+            return None;
+        }
+    }
+    let kept = journal.node().copy().ok()?;
+    let records = journal.records().len();
+    let events = twice(alloc, happens)?;
+    Some(AskBench {
+        journal,
+        kept,
+        events,
+        records,
+    })
+}
+
+impl Bench for AskBench {
+    fn call(&mut self) -> Said {
+        match self.events.pop() {
+            Some(event) => ask(&mut self.journal, event),
+            None => Said::Other,
+        }
+    }
+
+    fn is_as_before(&self) -> bool {
+        self.journal.records().len() == self.records && are_alike(self.journal.node(), &self.kept)
+    }
+}

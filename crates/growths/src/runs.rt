@@ -1,0 +1,112 @@
+//! Scripts that are read, and a run of sites in threads.
+use dac_base::NodeId;
+use dac_config::Config;
+use dac_live_play::dac_script::{Failure, read_script};
+use dac_live_script::read_live_script;
+use dac_messages::Event;
+use dac_report::{Ask, Gate, Line, Phase, are_runnable, run_live};
+use std::alloc::Global;
+use std::sync::Wait;
+use std::thread::Threads;
+use tried_calls::sample::config;
+use tried_calls::trial::{Bench, Said};
+
+/// A script of each verb.
+const VERBS: &[u8] =
+    b"boot c1@h 0\ncrash c1@h\ndown c1@h c2@h\npermit c1@h a c1@h true\nstart c1@h a c1@h\nstop c1@h a c1@h\ndrain c1@h c1@h true\ntakeover c1@h a\ntick c1@h 0\nship c1@h c2@h\nhear c2@h 1\nhand c2@h 1\nshare\npage c1@h\nstate c1@h\nsame c1@h c2@h\nbytes 1\nfeed 444143\n";
+
+/// A script of two callers in two phases.
+const CALLS: &[u8] = b"1 boot c1@h 0\n2 read c1@h\nphase\n1 drain c1@h c1@h true\n";
+
+/// What is read or run.
+#[derive(Clone, Copy, Debug, PartialEq, Eq)]
+pub enum OfRun {
+    Script,
+    LiveScript,
+    RunLive,
+}
+
+/// A gate that holds nobody.
+#[derive(Drop)]
+struct Open;
+
+impl Gate for Open {
+    fn before(&self, _from: NodeId, _to: NodeId, _k: u64) {}
+
+    fn after(&self, _from: NodeId, _to: NodeId, _k: u64) {}
+}
+
+/// A configuration, and phases of a run.
+#[derive(Drop)]
+pub struct RunBench<'a, T: Threads + Wait + Sync> {
+    rt: &'a T,
+    alloc: Global,
+    runs: OfRun,
+    config: Config,
+    phases: Vec<Phase>,
+}
+
+/// A phase in which the first node boots.
+fn phases(alloc: Global) -> Option<Vec<Phase>> {
+    let mut lines = Vec::new(alloc);
+    let line = Line {
+        node: NodeId(0),
+        caller: 1,
+        what: Ask::Do(Event::Boot { now: 0 }),
+    };
+    lines.push(line).ok()?;
+    let mut phases = Vec::new(alloc);
+    phases.push(Phase { lines }).ok()?;
+    Some(phases)
+}
+
+/// The bench of a run.
+pub fn runs<'a, T: Threads + Wait + Sync>(
+    rt: &'a T,
+    alloc: Global,
+    runs: OfRun,
+) -> Option<RunBench<'a, T>> {
+    Some(RunBench {
+        rt,
+        alloc,
+        runs,
+        config: config(alloc)?,
+        phases: phases(alloc)?,
+    })
+}
+
+/// What a script says that is read.
+fn of_script<S: Drop>(answer: Result<Vec<S>, Failure>) -> Said {
+    match answer {
+        Ok(lines) => Said::Well(lines.len() as u64),
+        Err(Failure::NoMemory) => Said::NoMemory,
+        Err(_) => Said::Other,
+    }
+}
+
+impl<T: Threads + Wait + Sync> RunBench<'_, T> {
+    /// Runs the phases. The parts of a run fail under names of their own.
+    fn run_phases(&self) -> Said {
+        if !are_runnable(&self.config, &self.phases) {
+            return Said::Other;
+        }
+        match run_live(self.rt, self.alloc, &self.config, &self.phases, &Open) {
+            Ok(report) => Said::Well(report.closed.len() as u64),
+            Err(_) => Said::NoMemory,
+        }
+    }
+}
+
+impl<T: Threads + Wait + Sync> Bench for RunBench<'_, T> {
+    fn call(&mut self) -> Said {
+        match self.runs {
+            OfRun::Script => of_script(read_script(self.alloc, &self.config, VERBS)),
+            OfRun::LiveScript => of_script(read_live_script(self.alloc, &self.config, CALLS)),
+            OfRun::RunLive => self.run_phases(),
+        }
+    }
+
+    fn is_as_before(&self) -> bool {
+        true
+    }
+}

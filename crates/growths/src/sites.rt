@@ -1,0 +1,177 @@
+//! Calls of a site, from its opening to its closing.
+ghost use Rattle.dac_live.specs.Sites.{IsBlankOf};
+
+use crate::nodes::{Happens, all_before, number_of, twice};
+use dac_config::Config;
+use dac_live::{
+    LiveFault, OpenFault, PageReader, Receipt, Seat, Site, SiteBlank, SiteName, blank_site,
+    open_site,
+};
+use dac_messages::Event;
+use std::alloc::Global;
+use std::io::Print;
+use std::marker::Brand;
+use std::sync::Wait;
+use tried_calls::sample::{ME, config};
+use tried_calls::trial::{Bench, Came, Said, try_call};
+
+/// What a call of a site says.
+fn said<L: SiteName>(answer: &Result<Receipt<L>, LiveFault>) -> Said {
+    match answer {
+        Ok(receipt) => {
+            let number = number_of(&receipt.reply);
+            Said::Well(number.wrapping_mul(100).wrapping_add(receipt.place))
+        }
+        Err(LiveFault::NoMemory) => Said::NoMemory,
+        Err(_) => Said::Other,
+    }
+}
+
+/// A site with its seat and its reader, and how many calls and records there are.
+#[derive(Drop)]
+struct SiteBench<'a, L: SiteName, R: Wait> {
+    rt: &'a R,
+    site: &'a Site<L>,
+    seat: &'a mut Seat<L>,
+    reader: &'a mut PageReader<L>,
+    events: Vec<Event>,
+    calls: usize,
+}
+
+/// The place of the page that a reader gets.
+fn page_of<L: SiteName>(reader: &mut PageReader<L>) -> Option<u64> {
+    match reader.read() {
+        Some(page) => Some(page.place),
+        None => None,
+    }
+}
+
+impl<L: SiteName, R: Wait> Bench for SiteBench<'_, L, R> {
+    fn call(&mut self) -> Said {
+        // The page before the call is that of the last record.
+        if page_of(self.reader) != Some(self.calls as u64) {
+            return Said::Other;
+        }
+        match self.events.pop() {
+            Some(event) => said(&self.site.call(self.rt, self.seat, event)),
+            None => Said::Other,
+        }
+    }
+
+    fn is_as_before(&self) -> bool {
+        self.seat.calls().len() == self.calls
+    }
+}
+
+/// Calls the site so that it is as before what happens, and then tries the call.
+fn call_after<L: SiteName, R: Print + Wait>(
+    rt: &R,
+    alloc: Global,
+    site: &Site<L>,
+    seat: &mut Seat<L>,
+    reader: &mut PageReader<L>,
+    happens: Happens,
+) -> Option<Came> {
+    for event in all_before(alloc, happens)? {
+        let _receipt = site.call(rt, seat, event).ok()?;
+    }
+    let events = twice(alloc, happens)?;
+    let calls = seat.calls().len();
+    let bench = SiteBench {
+        rt,
+        site,
+        seat,
+        reader,
+        events,
+        calls,
+    };
+    Some(try_call(rt, Some(bench)))
+}
+
+/// Opens a site, tries the call, and closes it. The journal then has a record for each call of the seat.
+fn open_and_call<L: SiteName, R: Print + Wait>(
+    rt: &R,
+    alloc: Global,
+    blank: SiteBlank,
+    happens: Happens,
+) -> Option<Came>
+    requires { IsBlankOf blank L.name L.parts L.seats L.opening }
+{
+    let (site, mut seats, mut readers) = open_site::<L, R>(rt, blank).ok()?;
+    let came = match (seats.first_mut(), readers.first_mut()) {
+        (Some(seat), Some(reader)) => call_after(rt, alloc, &site, seat, reader, happens),
+        _ => None,
+    };
+    let calls = match seats.first() {
+        Some(seat) => seat.calls().len(),
+        None => 0,
+    };
+    match site.close(rt, seats) {
+        Ok(closed) if closed.records().len() == calls => came,
+        _ => Some(Came::Wrong),
+    }
+}
+
+/// Tries a call of a site.
+pub fn site_call<R: Print + Wait>(rt: &R, alloc: Global, happens: Happens) -> Came {
+    let Some(config) = config(alloc) else {
+        return Came::SetUp;
+    };
+    match blank_site(rt, alloc, &config, ME, 0, 1, 1) {
+        Ok(blank) => match open_and_call::<Brand, R>(rt, alloc, blank, happens) {
+            Some(came) => came,
+            None => Came::SetUp,
+        },
+        Err(_) => Came::SetUp,
+    }
+}
+
+/// The opening of a site, of which its blank is a part.
+#[derive(Drop)]
+pub struct OpenBench<'a, R: Wait> {
+    rt: &'a R,
+    alloc: Global,
+    config: Config,
+    opens: bool,
+}
+
+/// The bench of an opening, or of the blank alone.
+pub fn opening<'a, R: Wait>(rt: &'a R, alloc: Global, opens: bool) -> Option<OpenBench<'a, R>> {
+    Some(OpenBench {
+        rt,
+        alloc,
+        config: config(alloc)?,
+        opens,
+    })
+}
+
+/// Opens a site and closes it.
+fn opens<L: SiteName, R: Wait>(rt: &R, blank: SiteBlank) -> Said
+    requires { IsBlankOf blank L.name L.parts L.seats L.opening }
+{
+    match open_site::<L, R>(rt, blank) {
+        Ok((site, seats, _readers)) => match site.close(rt, seats) {
+            Ok(closed) => Said::Well(closed.records().len() as u64),
+            Err(_) => Said::Other,
+        },
+        Err(_) => Said::NoMemory,
+    }
+}
+
+impl<R: Wait> Bench for OpenBench<'_, R> {
+    fn call(&mut self) -> Said {
+        match blank_site(self.rt, self.alloc, &self.config, ME, 0, 2, 2) {
+            Ok(blank) if self.opens => opens::<Brand, R>(self.rt, blank),
+            Ok(blank) => {
+                blank.give_up(self.rt);
+                Said::Well(0)
+            }
+            // The page structure's own refusal of a reader's place is that of memory too.
+            Err(OpenFault::NoReader) | Err(OpenFault::NoMemory) => Said::NoMemory,
+        }
+    }
+
+    fn is_as_before(&self) -> bool {
+        true
+    }
+}

@@ -1,0 +1,232 @@
+//! Calls of worlds, and journals that are woven.
+use crate::nodes::number_of;
+use dac_base::NodeId;
+use dac_config::Config;
+use dac_core::{Command, Refusal, Reply, What, World, WorldEvent, WorldFault};
+use dac_journal::{Closed, Journal, Record};
+use dac_live::replay;
+use dac_messages::Event;
+use dac_weave::{WeaveFault, weave};
+use std::alloc::Global;
+use tried_calls::sample::{APP, ME, OTHER, config};
+use tried_calls::trial::{Bench, Said};
+
+/// What is asked of a world.
+#[derive(Clone, Copy, Debug, PartialEq, Eq)]
+pub enum OfWorld {
+    New,
+    Run,
+    Boot,
+    Start,
+    Tick,
+    Ship,
+    Deliver,
+    Hand,
+}
+
+/// A run of a world, and what comes after it.
+#[derive(Drop)]
+pub struct WorldBench {
+    alloc: Global,
+    asked: OfWorld,
+    config: Config,
+    events: Vec<WorldEvent>,
+    world: World,
+    counts: (usize, usize),
+}
+
+const BOOT: What = What::Boot { now: 0 };
+
+const START: What = What::Command(Command::Start { app: APP, node: ME });
+
+/// What has happened.
+const EVENTS: [(NodeId, What); 7] = [
+    (ME, BOOT),
+    (OTHER, BOOT),
+    (ME, START),
+    (ME, What::Ship { to: OTHER }),
+    (OTHER, What::Deliver(1)),
+    (OTHER, What::Ship { to: ME }),
+    (ME, What::Deliver(2)),
+];
+
+fn events(alloc: Global) -> Option<Vec<WorldEvent>> {
+    let mut events = Vec::new(alloc);
+    for i in 0..EVENTS.len() {
+        let (node, what) = EVENTS[i];
+        events.push(WorldEvent { node, what }).ok()?;
+    }
+    Some(events)
+}
+
+/// The bench of a call.
+pub fn worlds(alloc: Global, asked: OfWorld) -> Option<WorldBench> {
+    let config = config(alloc)?;
+    let events = events(alloc)?;
+    let (world, _) = World::run(alloc, &config, &events).ok()?;
+    let counts = (world.operations().len(), world.messages().len());
+    Some(WorldBench {
+        alloc,
+        asked,
+        config,
+        events,
+        world,
+        counts,
+    })
+}
+
+/// What is asked of the world next.
+fn next(asked: OfWorld) -> WorldEvent {
+    let (node, what) = match asked {
+        OfWorld::Boot => (NodeId(2), BOOT),
+        OfWorld::Start => (
+            OTHER,
+            What::Command(Command::Start {
+                app: APP,
+                node: OTHER,
+            }),
+        ),
+        OfWorld::Ship => (ME, What::Ship { to: NodeId(2) }),
+        OfWorld::Deliver => (OTHER, What::Deliver(1)),
+        OfWorld::Hand => (OTHER, What::Hand(1)),
+        _ => (ME, What::Tick { now: 9 }),
+    };
+    WorldEvent { node, what }
+}
+
+/// What an answer says.
+fn said(answer: &Result<Reply, WorldFault>) -> Said {
+    match answer {
+        Ok(reply) => Said::Well(number_of(reply)),
+        Err(WorldFault::Refused(Refusal::NoMemory)) => Said::NoMemory,
+        Err(_) => Said::Other,
+    }
+}
+
+/// What the answers of a run say. Where one event was refused memory, the later ones may be refused for it.
+fn all_said(answers: &[Result<Reply, WorldFault>]) -> Said {
+    let mut sum = 0u64;
+    for answer in answers {
+        match said(answer) {
+            Said::Well(number) => sum = sum.wrapping_mul(31).wrapping_add(number),
+            other => return other,
+        }
+    }
+    Said::Well(sum)
+}
+
+impl WorldBench {
+    /// Makes a world and runs it.
+    fn run(&self) -> Said {
+        match World::run(self.alloc, &self.config, &self.events) {
+            Ok((_, answers)) => all_said(&answers),
+            Err(_) => Said::NoMemory,
+        }
+    }
+}
+
+impl Bench for WorldBench {
+    fn call(&mut self) -> Said {
+        match self.asked {
+            OfWorld::New => match World::new(self.alloc, &self.config) {
+                Ok(world) => Said::Well(world.operations().len() as u64),
+                Err(_) => Said::NoMemory,
+            },
+            OfWorld::Run => self.run(),
+            _ => said(&self.world.step(&self.config, &next(self.asked))),
+        }
+    }
+
+    fn is_as_before(&self) -> bool {
+        self.counts == (self.world.operations().len(), self.world.messages().len())
+    }
+}
+
+/// What is asked of closed journals.
+#[derive(Clone, Copy, Debug, PartialEq, Eq)]
+pub enum OfClosed {
+    Weave,
+    Replay,
+}
+
+/// The journals of two nodes, closed.
+#[derive(Drop)]
+pub struct ClosedBench {
+    alloc: Global,
+    asked: OfClosed,
+    config: Config,
+    closed: Vec<Closed>,
+}
+
+/// Asks a journal, and gives the reply.
+fn ask(journal: &mut Journal, event: Event) -> Option<Reply> {
+    if journal.is_full() {
+        return None;
+    }
+    let (_, answer) = journal.ask(1, event).ok()?;
+    answer.ok()
+}
+
+/// Two nodes of which the first tells the second of its start.
+fn two_journals(alloc: Global, config: &Config) -> Option<Vec<Closed>> {
+    let mut first = Journal::new(alloc, config.copy().ok()?, ME, 0);
+    let mut second = Journal::new(alloc, config.copy().ok()?, OTHER, 0);
+    let _up = ask(&mut first, Event::Boot { now: 0 })?;
+    let _up = ask(&mut second, Event::Boot { now: 0 })?;
+    let start = Command::Start { app: APP, node: ME };
+    let _start = ask(&mut first, Event::Command(start))?;
+    let Reply::Shipped(message) = ask(&mut first, Event::Ship { to: OTHER })? else {
+        return None;
+    };
+    let _heard = ask(&mut second, Event::Hear(message))?;
+    let mut closed = Vec::new(alloc);
+    closed.push(first.close()).ok()?;
+    closed.push(second.close()).ok()?;
+    Some(closed)
+}
+
+/// The bench of a call.
+pub fn journals(alloc: Global, asked: OfClosed) -> Option<ClosedBench> {
+    let config = config(alloc)?;
+    Some(ClosedBench {
+        alloc,
+        asked,
+        closed: two_journals(alloc, &config)?,
+        config,
+    })
+}
+
+impl ClosedBench {
+    /// Weaves them.
+    fn weave_all(&self) -> Said {
+        match weave(self.alloc, &self.config, &self.closed) {
+            Ok(events) => Said::Well(events.len() as u64),
+            Err(WeaveFault::NoMemory) => Said::NoMemory,
+            Err(_) => Said::Other,
+        }
+    }
+
+    /// Replays the records of a node.
+    fn replay_records(&self, me: NodeId, records: &[Record]) -> Said {
+        match replay(self.alloc, &self.config, me, 0, records) {
+            Ok(page) => Said::Well(page.place),
+            Err(_) => Said::NoMemory,
+        }
+    }
+}
+
+impl Bench for ClosedBench {
+    fn call(&mut self) -> Said {
+        if self.asked == OfClosed::Weave {
+            return self.weave_all();
+        }
+        match self.closed.first() {
+            Some(closed) => self.replay_records(closed.node(), closed.records()),
+            None => Said::Other,
+        }
+    }
+
+    fn is_as_before(&self) -> bool {
+        true
+    }
+}

@@ -1,0 +1,88 @@
+//! Waits and boards, by which decisions are kept, and pages, which show them.
+use crate::sample::{APP, Does, ME, OTHER, config, meaning};
+use crate::trial::{Bench, Said, of_any, of_bytes};
+use dac_base::NoMemory;
+use dac_board::Board;
+use dac_config::Config;
+use dac_decide::Waits;
+use dac_state::State;
+use dac_status::{Summary, header, page};
+use std::alloc::Global;
+
+/// What is asked.
+#[derive(Clone, Copy, Debug, PartialEq, Eq)]
+pub enum OfDecision {
+    NewWaits,
+    CopyWaits,
+    NewBoard,
+    CopyBoard,
+    Header,
+    Page,
+}
+
+/// A configuration and a state, and what decisions by them are kept in.
+#[derive(Drop)]
+pub struct DecisionBench {
+    alloc: Global,
+    asked: OfDecision,
+    config: Config,
+    state: State,
+    waits: Waits,
+    board: Board,
+}
+
+/// The bench of a call.
+pub fn decisions(alloc: Global, asked: OfDecision) -> Option<DecisionBench> {
+    let config = config(alloc)?;
+    let state = meaning(alloc, OTHER, Does::Up)?;
+    Some(DecisionBench {
+        alloc,
+        asked,
+        waits: Waits::new(alloc, &config).ok()?,
+        board: Board::new(alloc, &config, &state).ok()?,
+        config,
+        state,
+    })
+}
+
+/// What an answer of a board says: how many applications run at the other node.
+fn of_board(answer: Result<Board, NoMemory>) -> Said {
+    match answer {
+        Ok(board) => Said::Well(u64::from(board.load(APP, OTHER))),
+        Err(_) => Said::NoMemory,
+    }
+}
+
+impl DecisionBench {
+    /// The first line of the node's page.
+    fn head(&self) -> Said {
+        if ME.0 < self.config.nodes() {
+            of_bytes(header(self.alloc, &self.config, ME, None))
+        } else {
+            Said::Other
+        }
+    }
+
+    /// The rest of it.
+    fn rest(&self) -> Said {
+        let summary = Summary::of(&self.config, &self.state);
+        of_bytes(page(self.alloc, &self.config, &summary))
+    }
+}
+
+impl Bench for DecisionBench {
+    fn call(&mut self) -> Said {
+        match self.asked {
+            OfDecision::NewWaits => of_any(Waits::new(self.alloc, &self.config)),
+            OfDecision::CopyWaits => of_any(self.waits.copy()),
+            OfDecision::NewBoard => of_board(Board::new(self.alloc, &self.config, &self.state)),
+            OfDecision::CopyBoard => of_board(self.board.copy()),
+            OfDecision::Header => self.head(),
+            OfDecision::Page => self.rest(),
+        }
+    }
+
+    fn is_as_before(&self) -> bool {
+        true
+    }
+}

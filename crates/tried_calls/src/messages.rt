@@ -1,0 +1,101 @@
+//! Copies of messages, events and replies, and of lists in them.
+use crate::sample::{APP, Does, ME, message, operation};
+use crate::trial::{Bench, Said, of_any};
+use dac_lattice::Bottom;
+use dac_messages::{AppList, Body, Event, Message, OpList, Reply};
+use dac_state::State;
+use std::alloc::Global;
+
+/// What is asked of a message.
+#[derive(Clone, Copy, Debug, PartialEq, Eq)]
+pub enum OfMessage {
+    Copy,
+    CopyBody,
+    CopyEvent,
+    CopyReply,
+}
+
+/// A message with a state, an event that brings it, and a reply.
+#[derive(Drop)]
+pub struct MessageBench {
+    asked: OfMessage,
+    message: Message,
+    event: Event,
+    reply: Reply,
+}
+
+/// A message with a state whose copy takes memory, as that of any other doesn't.
+fn whole(alloc: Global) -> Message {
+    message(Body::Whole(State::bottom(alloc)), 1)
+}
+
+/// The bench of a call.
+pub fn messages(alloc: Global, asked: OfMessage) -> Option<MessageBench> {
+    Some(MessageBench {
+        asked,
+        reply: Reply::Issued(operation(alloc, ME, Does::Stop)?),
+        message: whole(alloc),
+        event: Event::Hear(whole(alloc)),
+    })
+}
+
+impl Bench for MessageBench {
+    fn call(&mut self) -> Said {
+        match self.asked {
+            OfMessage::Copy => of_any(self.message.copy()),
+            OfMessage::CopyBody => of_any(self.message.body.copy()),
+            OfMessage::CopyEvent => of_any(self.event.copy()),
+            OfMessage::CopyReply => of_any(self.reply.copy()),
+        }
+    }
+
+    fn is_as_before(&self) -> bool {
+        true
+    }
+}
+
+/// What is asked of the lists of a reply.
+#[derive(Clone, Copy, Debug, PartialEq, Eq)]
+pub enum OfList {
+    CopyOps,
+    CopyApps,
+}
+
+/// The operations of a tick, and the applications that it looked at.
+#[derive(Drop)]
+pub struct ListBench {
+    asked: OfList,
+    ops: OpList,
+    apps: AppList,
+}
+
+/// The operations of a tick.
+fn ops(alloc: Global) -> Option<OpList> {
+    let mut ops = Vec::new(alloc);
+    ops.push(operation(alloc, ME, Does::Claim)?).ok()?;
+    ops.push(operation(alloc, ME, Does::Stop)?).ok()?;
+    Some(OpList::new(ops))
+}
+
+/// The bench of a call.
+pub fn lists(alloc: Global, asked: OfList) -> Option<ListBench> {
+    let apps = Vec::from_slice(alloc, &[APP]).ok()?;
+    Some(ListBench {
+        asked,
+        ops: ops(alloc)?,
+        apps: AppList::new(apps),
+    })
+}
+
+impl Bench for ListBench {
+    fn call(&mut self) -> Said {
+        match self.asked {
+            OfList::CopyOps => of_any(self.ops.copy()),
+            OfList::CopyApps => of_any(self.apps.copy()),
+        }
+    }
+
+    fn is_as_before(&self) -> bool {
+        true
+    }
+}

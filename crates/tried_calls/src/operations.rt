@@ -1,0 +1,54 @@
+//! Copies of operations, and what pieces see of them.
+use crate::sample::{Does, ME, dot, operation};
+use crate::trial::{Bench, Said, of_any};
+use dac_state::{DotList, Op};
+use std::alloc::Global;
+
+/// What is asked of an operation.
+#[derive(Clone, Copy, Debug, PartialEq, Eq)]
+pub enum OfOperation {
+    Copy,
+    CopyAct,
+    CopyDots,
+    SeeWish,
+    SeePermit,
+    SeeDrain,
+}
+
+/// A stop, and the dots that it replaces.
+#[derive(Drop)]
+pub struct OperationBench {
+    alloc: Global,
+    asked: OfOperation,
+    op: Op,
+    dots: DotList,
+}
+
+/// The bench of a call.
+pub fn operations(alloc: Global, asked: OfOperation) -> Option<OperationBench> {
+    let dots = [dot(ME, 1), dot(ME, 2)];
+    let dots = Vec::from_slice(alloc, &dots).ok()?;
+    Some(OperationBench {
+        alloc,
+        asked,
+        op: operation(alloc, ME, Does::Stop)?,
+        dots: DotList::new(dots),
+    })
+}
+
+impl Bench for OperationBench {
+    fn call(&mut self) -> Said {
+        match self.asked {
+            OfOperation::Copy => of_any(self.op.copy()),
+            OfOperation::CopyAct => of_any(self.op.act().copy()),
+            OfOperation::CopyDots => of_any(self.dots.copy()),
+            OfOperation::SeeWish => of_any(self.op.wish_act(self.alloc)),
+            OfOperation::SeePermit => of_any(self.op.permit_act(self.alloc)),
+            OfOperation::SeeDrain => of_any(self.op.drain_act(self.alloc)),
+        }
+    }
+
+    fn is_as_before(&self) -> bool {
+        true
+    }
+}

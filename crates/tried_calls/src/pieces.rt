@@ -1,0 +1,461 @@
+//! Calls of lattices: pieces of states, stores, and maps.
+use crate::sample::{APP, ME, OTHER, dot, key, origin};
+use crate::trial::{Bench, Said, of_any};
+use dac_base::{AppId, NoMemory, NodeId};
+use dac_chains::{Claim, ClaimAct, Claims, How, Life, LifeAct, Lives};
+use dac_contexts::Context;
+use dac_dots::Dot;
+use dac_lattice::{Flag, Lattice, MapOf, Max, Pair, Piece};
+use dac_store::{Causal, DotFun, DotMap, DotSet, DotStore};
+use dac_wishes::{DotList, DrainAct, Drains, Permissions, PermitAct, WishAct, Wishes};
+use std::alloc::Global;
+
+/// What is asked of a lattice.
+#[derive(Clone, Copy, Debug, PartialEq, Eq)]
+pub enum OfLattice {
+    Join,
+    Copy,
+}
+
+/// Two values of a lattice, and what one of them was.
+#[derive(Drop)]
+pub struct LatticeBench<L: Lattice> {
+    asked: OfLattice,
+    one: L,
+    other: L,
+    kept: L,
+}
+
+/// The bench of two values of a lattice, if there was memory for both.
+fn both<L: Lattice>(
+    asked: OfLattice,
+    one: Result<L, NoMemory>,
+    other: Result<L, NoMemory>,
+) -> Option<LatticeBench<L>> {
+    let one = one.ok()?;
+    let kept = one.copy().ok()?;
+    Some(LatticeBench {
+        asked,
+        other: other.ok()?,
+        one,
+        kept,
+    })
+}
+
+impl<L: Lattice> Bench for LatticeBench<L> {
+    fn call(&mut self) -> Said {
+        match self.asked {
+            OfLattice::Join => match self.one.join(&self.other) {
+                Ok(both) => {
+                    let above = self.one.leq(&both) && self.other.leq(&both);
+                    Said::Well(u64::from(above))
+                }
+                Err(_) => Said::NoMemory,
+            },
+            OfLattice::Copy => match self.one.copy() {
+                Ok(copied) => Said::Well(u64::from(copied.equal(&self.one))),
+                Err(_) => Said::NoMemory,
+            },
+        }
+    }
+
+    fn is_as_before(&self) -> bool {
+        self.one.equal(&self.kept)
+    }
+}
+
+/// A rising list of dots.
+fn dots(alloc: Global, list: &[Dot]) -> Result<DotList, NoMemory> {
+    Ok(DotList::new(Vec::from_slice(alloc, list)?))
+}
+
+fn lives_of(alloc: Global, node: NodeId) -> Result<Lives, NoMemory> {
+    let life = Life {
+        inc: 1,
+        flag: Flag::Down,
+    };
+    Lives::one(alloc, node, life)
+}
+
+/// The bench of a call.
+pub fn lives(alloc: Global, asked: OfLattice) -> Option<LatticeBench<Lives>> {
+    both(asked, lives_of(alloc, ME), lives_of(alloc, OTHER))
+}
+
+fn claims_of(alloc: Global, app: u16) -> Result<Claims, NoMemory> {
+    let claim = Claim {
+        term: 1,
+        origin: origin(ME),
+        how: How::Normal,
+        from: None,
+    };
+    Claims::one(alloc, AppId(app), claim)
+}
+
+/// The bench of a call.
+pub fn claims(alloc: Global, asked: OfLattice) -> Option<LatticeBench<Claims>> {
+    both(asked, claims_of(alloc, 0), claims_of(alloc, 1))
+}
+
+fn start_at(alloc: Global, at: Dot) -> Result<Wishes, NoMemory> {
+    let act = WishAct::Start {
+        key: key(at.origin.node),
+        over: dots(alloc, &[dot(ME, 1), dot(OTHER, 1)])?,
+    };
+    Wishes::delta(alloc, at, &act)
+}
+
+/// The bench of a call.
+pub fn wishes(alloc: Global, asked: OfLattice) -> Option<LatticeBench<Wishes>> {
+    both(
+        asked,
+        start_at(alloc, dot(ME, 2)),
+        start_at(alloc, dot(OTHER, 3)),
+    )
+}
+
+fn permit_at(alloc: Global, at: Dot) -> Result<Permissions, NoMemory> {
+    let act = PermitAct::Permit {
+        key: key(at.origin.node),
+        value: false,
+        over: dots(alloc, &[dot(ME, 1), dot(OTHER, 1)])?,
+    };
+    Permissions::delta(alloc, at, &act)
+}
+
+/// The bench of a call.
+pub fn permissions(alloc: Global, asked: OfLattice) -> Option<LatticeBench<Permissions>> {
+    both(
+        asked,
+        permit_at(alloc, dot(ME, 2)),
+        permit_at(alloc, dot(OTHER, 3)),
+    )
+}
+
+fn drain_at(alloc: Global, at: Dot) -> Result<Drains, NoMemory> {
+    let act = DrainAct::Drain {
+        at: at.origin,
+        value: true,
+        over: dots(alloc, &[dot(ME, 1), dot(OTHER, 1)])?,
+    };
+    Drains::delta(alloc, at, &act)
+}
+
+/// The bench of a call.
+pub fn drains(alloc: Global, asked: OfLattice) -> Option<LatticeBench<Drains>> {
+    both(
+        asked,
+        drain_at(alloc, dot(ME, 2)),
+        drain_at(alloc, dot(OTHER, 3)),
+    )
+}
+
+fn map_of(alloc: Global, key: u64) -> Result<MapOf<u64, Max<u64>>, NoMemory> {
+    MapOf::one(alloc, key, Max::new(7))
+}
+
+/// The bench of a call.
+pub fn maps(alloc: Global, asked: OfLattice) -> Option<LatticeBench<MapOf<u64, Max<u64>>>> {
+    both(asked, map_of(alloc, 1), map_of(alloc, 2))
+}
+
+fn pair_of(alloc: Global, key: u64) -> Result<Pair<MapOf<u64, Max<u64>>, Max<u64>>, NoMemory> {
+    Ok(Pair::new(map_of(alloc, key)?, Max::new(key)))
+}
+
+/// The bench of a call.
+pub fn pairs(
+    alloc: Global,
+    asked: OfLattice,
+) -> Option<LatticeBench<Pair<MapOf<u64, Max<u64>>, Max<u64>>>> {
+    both(asked, pair_of(alloc, 1), pair_of(alloc, 2))
+}
+
+/// A context of these dots.
+pub fn context(alloc: Global, list: &[Dot]) -> Result<Context, NoMemory> {
+    let mut all = Context::empty(alloc);
+    for dot in list {
+        all.insert(*dot)?;
+    }
+    Ok(all)
+}
+
+/// Values at two dots of a node, at a key, beside what was heard.
+type Kept = DotMap<u64, DotFun<Flag>>;
+
+fn votes_of(alloc: Global, node: NodeId) -> Result<DotFun<Flag>, NoMemory> {
+    let mut votes = DotFun::one(alloc, dot(node, 1), Flag::Down)?;
+    let _pushed = votes.push(dot(node, 3), Flag::Up)?;
+    Ok(votes)
+}
+
+fn causal_of(alloc: Global, node: NodeId, key: u64) -> Result<Causal<Kept>, NoMemory> {
+    let store = DotMap::one(alloc, key, votes_of(alloc, node)?)?;
+    let heard = context(alloc, &[dot(node, 1), dot(node, 3), dot(node, 9)])?;
+    match Causal::new(store, heard) {
+        Ok(causal) => Ok(causal),
+        Err(_) => Err(NoMemory),
+    }
+}
+
+/// The bench of a call.
+pub fn causals(alloc: Global, asked: OfLattice) -> Option<LatticeBench<Causal<Kept>>> {
+    both(asked, causal_of(alloc, ME, 1), causal_of(alloc, OTHER, 2))
+}
+
+/// What is asked of a store.
+#[derive(Clone, Copy, Debug, PartialEq, Eq)]
+pub enum OfStore {
+    Join,
+    Copy,
+}
+
+/// Two stores, each beside what was heard.
+#[derive(Drop)]
+pub struct StoreBench<S: DotStore> {
+    asked: OfStore,
+    one: S,
+    heard: Context,
+    other: S,
+    other_heard: Context,
+}
+
+fn stores<S: DotStore>(
+    alloc: Global,
+    asked: OfStore,
+    one: Result<S, NoMemory>,
+    other: Result<S, NoMemory>,
+) -> Option<StoreBench<S>> {
+    let mine = [dot(ME, 1), dot(ME, 2), dot(ME, 3)];
+    let theirs = [dot(OTHER, 1), dot(OTHER, 2), dot(OTHER, 3)];
+    Some(StoreBench {
+        asked,
+        one: one.ok()?,
+        heard: context(alloc, &mine).ok()?,
+        other: other.ok()?,
+        other_heard: context(alloc, &theirs).ok()?,
+    })
+}
+
+impl<S: DotStore> Bench for StoreBench<S> {
+    fn call(&mut self) -> Said {
+        match self.asked {
+            OfStore::Join => {
+                of_any(
+                    self.one
+                        .join_in(&self.heard, &self.other, &self.other_heard),
+                )
+            }
+            OfStore::Copy => of_any(self.one.copy()),
+        }
+    }
+
+    fn is_as_before(&self) -> bool {
+        self.one.has(dot(ME, 1)) && !self.one.has(dot(OTHER, 1))
+    }
+}
+
+fn set_of(alloc: Global, node: NodeId) -> Result<DotSet, NoMemory> {
+    let mut set = DotSet::one(alloc, dot(node, 1));
+    let _pushed = set.push(dot(node, 3))?;
+    Ok(set)
+}
+
+/// The bench of a call.
+pub fn dot_sets(alloc: Global, asked: OfStore) -> Option<StoreBench<DotSet>> {
+    stores(alloc, asked, set_of(alloc, ME), set_of(alloc, OTHER))
+}
+
+/// The bench of a call.
+pub fn dot_funs(alloc: Global, asked: OfStore) -> Option<StoreBench<DotFun<Flag>>> {
+    stores(alloc, asked, votes_of(alloc, ME), votes_of(alloc, OTHER))
+}
+
+fn map_at(alloc: Global, node: NodeId, key: u64) -> Result<Kept, NoMemory> {
+    DotMap::one(alloc, key, votes_of(alloc, node)?)
+}
+
+/// The bench of a call.
+pub fn dot_maps(alloc: Global, asked: OfStore) -> Option<StoreBench<Kept>> {
+    stores(alloc, asked, map_at(alloc, ME, 1), map_at(alloc, OTHER, 2))
+}
+
+/// What is made anew.
+#[derive(Clone, Copy, Debug, PartialEq, Eq)]
+pub enum Made {
+    OneLife,
+    OneClaim,
+    OneOfMap,
+    OneAtDot,
+    LifeDelta,
+    ClaimDelta,
+}
+
+/// What is made of nothing else.
+#[derive(Drop)]
+pub struct MakingBench {
+    alloc: Global,
+    made: Made,
+}
+
+/// The bench of a call.
+pub fn making(alloc: Global, made: Made) -> Option<MakingBench> {
+    Some(MakingBench { alloc, made })
+}
+
+/// What a claim adds.
+fn claim_delta(alloc: Global) -> Result<Claims, NoMemory> {
+    let act = ClaimAct::Claim {
+        app: APP,
+        term: 1,
+        how: How::Normal,
+        from: None,
+    };
+    Claims::delta(alloc, dot(ME, 2), &act)
+}
+
+impl Bench for MakingBench {
+    fn call(&mut self) -> Said {
+        let alloc = self.alloc;
+        match self.made {
+            Made::OneLife => of_any(lives_of(alloc, ME)),
+            Made::OneClaim => of_any(claims_of(alloc, 0)),
+            Made::OneOfMap => of_any(map_of(alloc, 1)),
+            Made::OneAtDot => of_any(DotFun::one(alloc, dot(ME, 1), Flag::Down)),
+            Made::LifeDelta => of_any(Lives::delta(alloc, dot(ME, 1), &LifeAct::Up)),
+            Made::ClaimDelta => of_any(claim_delta(alloc)),
+        }
+    }
+
+    fn is_as_before(&self) -> bool {
+        true
+    }
+}
+
+/// Whose delta is made.
+#[derive(Clone, Copy, Debug, PartialEq, Eq)]
+pub enum OfAct {
+    Wish,
+    Permit,
+    Drain,
+}
+
+/// Acts that replace two dots.
+#[derive(Drop)]
+pub struct ActBench {
+    alloc: Global,
+    asked: OfAct,
+    wish: WishAct,
+    permit: PermitAct,
+    drain: DrainAct,
+}
+
+/// The two dots that each act replaces.
+fn replaced_dots(alloc: Global) -> Option<DotList> {
+    dots(alloc, &[dot(ME, 1), dot(OTHER, 1)]).ok()
+}
+
+/// The bench of a call.
+pub fn acts(alloc: Global, asked: OfAct) -> Option<ActBench> {
+    Some(ActBench {
+        alloc,
+        asked,
+        wish: WishAct::Start {
+            key: key(ME),
+            over: replaced_dots(alloc)?,
+        },
+        permit: PermitAct::Other {
+            over: replaced_dots(alloc)?,
+        },
+        drain: DrainAct::Drain {
+            at: origin(ME),
+            value: true,
+            over: replaced_dots(alloc)?,
+        },
+    })
+}
+
+impl Bench for ActBench {
+    fn call(&mut self) -> Said {
+        match self.asked {
+            OfAct::Wish => of_any(Wishes::delta(self.alloc, dot(ME, 2), &self.wish)),
+            OfAct::Permit => of_any(Permissions::delta(self.alloc, dot(ME, 2), &self.permit)),
+            OfAct::Drain => of_any(Drains::delta(self.alloc, dot(ME, 2), &self.drain)),
+        }
+    }
+
+    fn is_as_before(&self) -> bool {
+        true
+    }
+}
+
+/// What is pushed behind all that a store has, or made of a store.
+#[derive(Clone, Copy, Debug, PartialEq, Eq)]
+pub enum Pushed {
+    ToSet,
+    ToFun,
+    ToMap,
+    OneAtKey,
+}
+
+/// A set and a function of one dot, a map of none, and stores that are put at a key.
+#[derive(Drop)]
+pub struct PushBench {
+    alloc: Global,
+    pushed: Pushed,
+    set: DotSet,
+    fun: DotFun<Flag>,
+    map: Kept,
+    more: Vec<DotFun<Flag>>,
+}
+
+/// The bench of a call.
+pub fn pushes(alloc: Global, pushed: Pushed) -> Option<PushBench> {
+    let mut more = Vec::new(alloc);
+    more.push(votes_of(alloc, OTHER).ok()?).ok()?;
+    more.push(votes_of(alloc, OTHER).ok()?).ok()?;
+    Some(PushBench {
+        alloc,
+        pushed,
+        set: DotSet::one(alloc, dot(ME, 1)),
+        fun: DotFun::one(alloc, dot(ME, 1), Flag::Up).ok()?,
+        map: DotMap::empty(alloc),
+        more,
+    })
+}
+
+/// What an answer says of a push.
+fn of_push(answer: Result<bool, NoMemory>) -> Said {
+    match answer {
+        Ok(is_pushed) => Said::Well(u64::from(is_pushed)),
+        Err(_) => Said::NoMemory,
+    }
+}
+
+impl PushBench {
+    /// Puts a store behind the last key of the map, or makes a map of it.
+    fn put_store(&mut self) -> Said {
+        let Some(store) = self.more.pop() else {
+            return Said::Other;
+        };
+        if self.pushed == Pushed::OneAtKey {
+            return of_any(DotMap::one(self.alloc, 7u64, store));
+        }
+        of_push(self.map.push(2, store))
+    }
+}
+
+impl Bench for PushBench {
+    fn call(&mut self) -> Said {
+        match self.pushed {
+            Pushed::ToSet => of_push(self.set.push(dot(OTHER, 1))),
+            Pushed::ToFun => of_push(self.fun.push(dot(OTHER, 1), Flag::Up)),
+            Pushed::ToMap | Pushed::OneAtKey => self.put_store(),
+        }
+    }
+
+    fn is_as_before(&self) -> bool {
+        let dot = dot(OTHER, 1);
+        !self.set.has(dot) && !self.fun.has(dot) && !self.map.has(dot)
+    }
+}

@@ -1,0 +1,77 @@
+//! Calls of states.
+use crate::sample::{ALL, Does, ME, OTHER, meaning, operation};
+use crate::trial::{Bench, Said, short};
+use dac_base::NodeId;
+use dac_lattice::{Bottom, Lattice};
+use dac_state::{Op, State};
+use std::alloc::Global;
+
+/// What is asked of a state.
+#[derive(Clone, Copy, Debug, PartialEq, Eq)]
+pub enum OfState {
+    Join,
+    Copy,
+    DeltaOf,
+}
+
+/// A state of one node, what is joined to it, the least one, and an operation.
+#[derive(Drop)]
+pub struct StateBench {
+    alloc: Global,
+    asked: OfState,
+    state: State,
+    kept: State,
+    least: State,
+    other: State,
+    op: Op,
+}
+
+/// All that a node does, together.
+pub fn all_of(alloc: Global, node: NodeId) -> Option<State> {
+    let mut all = State::bottom(alloc);
+    for i in 0..ALL.len() {
+        all = all.join(&meaning(alloc, node, ALL[i])?).ok()?;
+    }
+    Some(all)
+}
+
+/// The bench of a call.
+pub fn states(alloc: Global, asked: OfState) -> Option<StateBench> {
+    let state = all_of(alloc, OTHER)?;
+    Some(StateBench {
+        alloc,
+        asked,
+        kept: state.copy().ok()?,
+        least: State::bottom(alloc),
+        other: all_of(alloc, ME)?,
+        op: operation(alloc, ME, Does::Stop)?,
+        state,
+    })
+}
+
+/// What an answer of a state says.
+pub fn of_state<E: Drop>(answer: Result<State, E>) -> Said {
+    match answer {
+        Ok(state) => {
+            let heard = short(state.heard().len());
+            let known = short(state.known().len());
+            Said::Well(heard.wrapping_mul(1_000).wrapping_add(known))
+        }
+        Err(_) => Said::NoMemory,
+    }
+}
+
+impl Bench for StateBench {
+    fn call(&mut self) -> Said {
+        match self.asked {
+            OfState::Join => of_state(self.state.join(&self.other)),
+            // A copy of any other state takes no memory.
+            OfState::Copy => of_state(self.least.copy()),
+            OfState::DeltaOf => of_state(State::delta_of(self.alloc, &self.op)),
+        }
+    }
+
+    fn is_as_before(&self) -> bool {
+        self.state.equal(&self.kept)
+    }
+}

@@ -1,0 +1,384 @@
+//! Calls of configurations, contexts, lists of keys, numbers as bytes, and buffers of deltas.
+use crate::pieces::context;
+use crate::sample::{ME, OTHER, TWO, config, dot, origin};
+use crate::trial::{Bench, Said, of_any, of_bytes, short};
+use dac_base::NoMemory;
+use dac_bytes::{ByteReader, ByteWriter, ReadFaultKind, Version};
+use dac_config::{Config, FaultKind, printed_name, read_config};
+use dac_contexts::{Context, SharedContext};
+use dac_deltas::{Acks, Buffer};
+use dac_dots::Origin;
+use dac_dots::keys::insert_key;
+use dac_lattice::{MapOf, Max};
+use std::alloc::Global;
+
+/// What is asked of a configuration.
+#[derive(Clone, Copy, Debug, PartialEq, Eq)]
+pub enum OfConfig {
+    Read,
+    CanonicalText,
+    Copy,
+    PrintedName,
+}
+
+/// A configuration.
+#[derive(Drop)]
+pub struct ConfigBench {
+    alloc: Global,
+    asked: OfConfig,
+    config: Config,
+}
+
+/// The bench of a call.
+pub fn configs(alloc: Global, asked: OfConfig) -> Option<ConfigBench> {
+    Some(ConfigBench {
+        alloc,
+        asked,
+        config: config(alloc)?,
+    })
+}
+
+/// What a configuration says that is read again.
+fn read(alloc: Global) -> Said {
+    match read_config(alloc, TWO) {
+        Ok(config) => Said::Well(config.mark()),
+        Err(fault) if fault.kind == FaultKind::NoMemory => Said::NoMemory,
+        Err(_) => Said::Other,
+    }
+}
+
+impl Bench for ConfigBench {
+    fn call(&mut self) -> Said {
+        match self.asked {
+            OfConfig::Read => read(self.alloc),
+            OfConfig::CanonicalText => of_bytes(self.config.canonical_text()),
+            OfConfig::Copy => match self.config.copy() {
+                Ok(copied) => Said::Well(copied.mark()),
+                Err(_) => Said::NoMemory,
+            },
+            OfConfig::PrintedName => of_bytes(printed_name(self.alloc, b"it's")),
+        }
+    }
+
+    fn is_as_before(&self) -> bool {
+        true
+    }
+}
+
+/// What is asked of a context.
+#[derive(Clone, Copy, Debug, PartialEq, Eq)]
+pub enum OfContext {
+    Insert,
+    Union,
+    Copy,
+    Dots,
+    PushRow,
+    Further,
+    Write,
+    Read,
+    Share,
+    ShareUnion,
+}
+
+/// A context, what is united with it, and its bytes.
+#[derive(Drop)]
+pub struct ContextBench {
+    alloc: Global,
+    asked: OfContext,
+    context: Context,
+    kept: Context,
+    other: Context,
+    shared: SharedContext,
+    other_shared: SharedContext,
+    bytes: Vec<u8>,
+}
+
+/// The bytes of a context.
+fn bytes_of(alloc: Global, context: &Context) -> Result<Vec<u8>, NoMemory> {
+    let writer = ByteWriter::new(alloc).write_context(Version::Two, context)?;
+    Ok(writer.into_bytes())
+}
+
+/// The bench of a call.
+pub fn contexts(alloc: Global, asked: OfContext) -> Option<ContextBench> {
+    let mine = [dot(ME, 1), dot(ME, 2), dot(ME, 5), dot(ME, 9)];
+    let theirs = [dot(OTHER, 1), dot(OTHER, 2), dot(ME, 3), dot(ME, 7)];
+    let all = context(alloc, &mine).ok()?;
+    Some(ContextBench {
+        alloc,
+        asked,
+        kept: all.copy().ok()?,
+        other: context(alloc, &theirs).ok()?,
+        shared: SharedContext::of(all.copy().ok()?),
+        other_shared: SharedContext::of(context(alloc, &theirs).ok()?),
+        bytes: bytes_of(alloc, &all).ok()?,
+        context: all,
+    })
+}
+
+/// What an answer of a shared context says.
+fn of_shared(answer: Result<SharedContext, NoMemory>) -> Said {
+    match answer {
+        Ok(shared) => Said::Well(short(shared.context().len())),
+        Err(_) => Said::NoMemory,
+    }
+}
+
+/// What an answer of a context says.
+fn of_context(answer: Result<Context, NoMemory>) -> Said {
+    match answer {
+        Ok(context) => Said::Well(short(context.len())),
+        Err(_) => Said::NoMemory,
+    }
+}
+
+impl ContextBench {
+    /// Reads its bytes.
+    fn read(&self) -> Said {
+        match ByteReader::new(&self.bytes).read_context(self.alloc, Version::Two, 3) {
+            Ok((context, _)) => Said::Well(short(context.len())),
+            Err(fault) if fault.kind == ReadFaultKind::NoMemory => Said::NoMemory,
+            Err(_) => Said::Other,
+        }
+    }
+
+    /// Lists the further counters of its row.
+    fn further(&self) -> Said {
+        match self.context.row(0) {
+            Some((_, _, further)) => of_any(further.list(self.alloc)),
+            None => Said::Other,
+        }
+    }
+
+    /// Puts a dot into it, or a row behind it.
+    fn grow(&mut self) -> Said {
+        let answer = if self.asked == OfContext::Insert {
+            self.context.insert(dot(OTHER, 4))
+        } else {
+            match self.context.push_row(origin(OTHER), 2, &[4, 6, 9]) {
+                Ok(_) => Ok(()),
+                Err(fault) => Err(fault),
+            }
+        };
+        match answer {
+            Ok(()) => Said::Well(short(self.context.len())),
+            Err(_) => Said::NoMemory,
+        }
+    }
+}
+
+impl Bench for ContextBench {
+    fn call(&mut self) -> Said {
+        match self.asked {
+            OfContext::Insert | OfContext::PushRow => self.grow(),
+            OfContext::Union => of_context(self.context.union(&self.other)),
+            OfContext::Copy => of_context(self.context.copy()),
+            OfContext::Dots => of_any(self.context.dots()),
+            OfContext::Further => self.further(),
+            OfContext::Write => of_bytes(bytes_of(self.alloc, &self.context)),
+            OfContext::Read => self.read(),
+            OfContext::Share => of_shared(self.shared.copy()),
+            OfContext::ShareUnion => of_shared(self.shared.union(&self.other_shared)),
+        }
+    }
+
+    fn is_as_before(&self) -> bool {
+        self.context.is_subset(&self.kept) && self.kept.is_subset(&self.context)
+    }
+}
+
+/// What is written, or put into a list.
+#[derive(Clone, Copy, Debug, PartialEq, Eq)]
+pub enum Written {
+    Bytes,
+    U8,
+    U16,
+    U32,
+    U64,
+    CountU8,
+    CountU16,
+    CountU32,
+    Incarnation,
+    Origin,
+    Dot,
+    Key,
+}
+
+/// What is written behind nothing.
+#[derive(Drop)]
+pub struct WritingBench {
+    alloc: Global,
+    written: Written,
+}
+
+/// The bench of a call.
+pub fn writing(alloc: Global, written: Written) -> Option<WritingBench> {
+    Some(WritingBench { alloc, written })
+}
+
+impl WritingBench {
+    /// Writes it behind nothing.
+    fn write(&self, writer: ByteWriter) -> Result<ByteWriter, NoMemory> {
+        match self.written {
+            Written::Bytes => writer.write_bytes(b"abc"),
+            Written::U8 => writer.write_u8(1),
+            Written::U16 => writer.write_u16(2),
+            Written::U32 => writer.write_u32(3),
+            Written::U64 => writer.write_u64(4),
+            Written::CountU8 => writer.write_count_u8(5),
+            Written::CountU16 => writer.write_count_u16(6),
+            Written::CountU32 => writer.write_count_u32(7),
+            Written::Incarnation => writer.write_incarnation(Version::Two, 8),
+            Written::Origin => writer.write_origin(Version::Two, origin(ME)),
+            Written::Dot | Written::Key => writer.write_dot(Version::Two, dot(ME, 9)),
+        }
+    }
+}
+
+/// Puts a key into an empty list.
+fn insert_one(alloc: Global) -> Said {
+    let mut keys = Vec::new(alloc);
+    match insert_key(&mut keys, 7u64) {
+        Ok(()) => Said::Well(keys.len() as u64),
+        Err(_) => Said::NoMemory,
+    }
+}
+
+impl Bench for WritingBench {
+    fn call(&mut self) -> Said {
+        if self.written == Written::Key {
+            return insert_one(self.alloc);
+        }
+        match self.write(ByteWriter::new(self.alloc)) {
+            Ok(writer) => of_bytes::<NoMemory>(Ok(writer.into_bytes())),
+            Err(_) => Said::NoMemory,
+        }
+    }
+
+    fn is_as_before(&self) -> bool {
+        true
+    }
+}
+
+/// What is asked of a buffer, or of what was acknowledged.
+#[derive(Clone, Copy, Debug, PartialEq, Eq)]
+pub enum OfBuffer {
+    Push,
+    PushAll,
+    Interval,
+    Blocks,
+    Copy,
+    Raise,
+    CopyAcks,
+}
+
+/// A number at a key.
+type Delta = MapOf<u64, Max<u64>>;
+
+/// A buffer of 31 deltas, with more to be pushed, and sixteen acknowledgements.
+#[derive(Drop)]
+pub struct BufferBench {
+    alloc: Global,
+    asked: OfBuffer,
+    buffer: Buffer<Delta>,
+    more: Vec<Vec<Delta>>,
+    acks: Acks,
+    count: u64,
+}
+
+/// Pushes a delta, if there may be one more.
+fn push(alloc: Global, buffer: &mut Buffer<Delta>, number: u64) -> Result<(), NoMemory> {
+    if buffer.count() < 1 << 62 {
+        buffer.push(MapOf::one(alloc, number, Max::new(number))?)?;
+    }
+    Ok(())
+}
+
+/// Three deltas.
+fn three(alloc: Global) -> Option<Vec<Delta>> {
+    let mut three = Vec::new(alloc);
+    for number in [7u64, 1000, 8] {
+        three
+            .push(MapOf::one(alloc, number, Max::new(number)).ok()?)
+            .ok()?;
+    }
+    Some(three)
+}
+
+/// Twice three deltas, since they may have to be pushed again.
+fn threes(alloc: Global) -> Option<Vec<Vec<Delta>>> {
+    let mut all = Vec::new(alloc);
+    all.push(three(alloc)?).ok()?;
+    all.push(three(alloc)?).ok()?;
+    Some(all)
+}
+
+/// What sixteen incarnations acknowledged: as many as there is room for.
+fn full_acks(alloc: Global) -> Option<Acks> {
+    let mut acks = Acks::new(alloc);
+    for inc in 1..17u64 {
+        acks.raise(Origin { node: ME, inc }, 3).ok()?;
+    }
+    Some(acks)
+}
+
+/// The bench of a call.
+pub fn buffers(alloc: Global, asked: OfBuffer) -> Option<BufferBench> {
+    let mut buffer = Buffer::new(alloc);
+    for number in 0..31u64 {
+        push(alloc, &mut buffer, number).ok()?;
+    }
+    Some(BufferBench {
+        alloc,
+        asked,
+        more: threes(alloc)?,
+        acks: full_acks(alloc)?,
+        count: buffer.count(),
+        buffer,
+    })
+}
+
+impl BufferBench {
+    /// Pushes several.
+    fn push_three(&mut self) -> Said {
+        let Some(more) = self.more.pop() else {
+            return Said::Other;
+        };
+        if self.buffer.count() < 1 << 61 && more.len() < 1 << 61 {
+            of_any(self.buffer.push_all(more))
+        } else {
+            Said::Other
+        }
+    }
+
+    /// The join of the deltas from the third on, or its blocks.
+    fn join_from_third(&self) -> Said {
+        if self.buffer.count() < 3 {
+            return Said::Other;
+        }
+        if self.asked == OfBuffer::Blocks {
+            of_any(self.buffer.blocks(3))
+        } else {
+            of_any(self.buffer.interval(3))
+        }
+    }
+}
+
+impl Bench for BufferBench {
+    fn call(&mut self) -> Said {
+        match self.asked {
+            OfBuffer::Push => of_any(push(self.alloc, &mut self.buffer, 99)),
+            OfBuffer::PushAll => self.push_three(),
+            OfBuffer::Interval | OfBuffer::Blocks => self.join_from_third(),
+            OfBuffer::Copy => of_any(self.buffer.copy()),
+            OfBuffer::Raise => of_any(self.acks.raise(origin(OTHER), 4)),
+            OfBuffer::CopyAcks => of_any(self.acks.copy()),
+        }
+    }
+
+    fn is_as_before(&self) -> bool {
+        self.buffer.count() == self.count
+            && self.acks.get(origin(ME)) == Some(3)
+            && self.acks.get(origin(OTHER)).is_none()
+    }
+}
