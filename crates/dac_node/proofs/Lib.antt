@@ -2,4 +2,3 @@ pub mod Knows
 pub mod Effects
 pub mod Gates
 pub mod Tests
-pub mod Shipped
