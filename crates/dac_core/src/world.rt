@@ -6,6 +6,7 @@ ghost use Rattle.dac_settle.specs.dac_model_world.WorldChanges.{NodeChanges};
 ghost use Rattle.dac_node.specs.Changes.{changed};
 ghost use Rattle.dac_core.specs.Ready.{IsReadyAt};
 
+use crate::sharing::share_last;
 use dac_base::{NoMemory, NodeId};
 use dac_config::Config;
 use dac_events::{What, WorldEvent, WorldFault};
@@ -222,7 +223,7 @@ impl World {
     }
 
     /// Does what a node prepared. All that takes memory comes before what can't be taken back.
-    fn change(&mut self, node: NodeId, change: Change) -> Result<Reply, NoMemory>
+    fn change(&mut self, node: NodeId, mut change: Change) -> Result<Reply, NoMemory>
         requires inside { node.0 < length self.old.nodes }
         requires ready { IsReadyAt self.old.nodes node change }
         ensures ok { IfOk result (λ reply. Goes self.old node (λ v. changed v change) change.reply reply self.new) }
@@ -232,6 +233,7 @@ impl World {
         if is_crash(&change) {
             return change_node(&mut self.nodes, node, change);
         }
+        share_last(self.messages.as_slice(), &mut change);
         let noted = make_room(&mut self.operations, &mut self.messages, change.reply())?;
         let reply = change_node(&mut self.nodes, node, change)?;
         note(&mut self.operations, &mut self.messages, noted);

@@ -14,8 +14,9 @@ use dac_base::{NoMemory, NodeId};
 use dac_config::Config;
 use dac_dots::Origin;
 use dac_events::Command;
-use dac_messages::{Event, Message, Reply};
-use dac_state::Op;
+use dac_lattice::Lattice;
+use dac_messages::{Body, Event, Message, Reply};
+use dac_state::{Op, State};
 use std::alloc::Global;
 use std::marker::Model;
 
@@ -61,6 +62,15 @@ impl Change {
         ensures { result.now ≡ self.now.reply }
     {
         &self.reply
+    }
+
+    /// Where it ships an interval that equals this state, it ships a copy of it from then on: the two share memory.
+    pub fn share(&mut self, other: &State)
+        ensures { self.new ≡ self.old }
+    {
+        if let Reply::Shipped(message) = &mut self.reply {
+            share_body(&mut message.body, other);
+        }
     }
 
     /// What ran goes on so, with this reply.
@@ -162,5 +172,19 @@ impl Change {
     {
         let (next, fresh) = run.hear_op(operation)?;
         Ok(Change::going_on(last, next, Reply::Heard(fresh)))
+    }
+}
+
+/// An interval that equals a state becomes a copy of it.
+fn share_body(body: &mut Body, other: &State)
+    ensures { body.new ≡ body.old }
+{
+    let Body::Interval(state) = body else {
+        return;
+    };
+    if state.equal(other) {
+        if let Ok(copied) = other.copy() {
+            *state = copied;
+        }
     }
 }

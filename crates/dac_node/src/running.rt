@@ -108,8 +108,8 @@ impl Running {
         Ok((Running { knowledge, buffer }, operation))
     }
 
-    /// Goes on so, with this reply. Only the deltas that come take memory, and all is as before where it is refused. An
-    /// interval that the reply ships is remembered.
+    /// Goes on so, with this reply. Where memory is refused for the deltas that come, all is as before. An interval that
+    /// the reply ships is remembered.
     pub(crate) fn go_on(&mut self, next: Next, reply: &Reply) -> Result<(), NoMemory>
         requires numbers { self.old.kept.count + length next.deltas ≤ LAST_NUMBER }
         requires ships { ShipsOwnIn (Some self.old) reply.now }

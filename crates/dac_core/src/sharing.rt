@@ -1,0 +1,32 @@
+//! Equal intervals of several nodes that share memory.
+
+ghost use Rattle.std.specs.Prelude.{◌≡◌};
+
+use dac_messages::{Body, Message, Reply};
+use dac_node::Change;
+use dac_state::State;
+
+/// Where the last message brings an interval of another node, an equal one that is shipped now becomes a copy of it. In a
+/// round the nodes that have heard of all ship equal ones. Those of one node share memory by themselves.
+pub(crate) fn share_last(messages: &[Message], change: &mut Change)
+    ensures { change.new ≡ change.old }
+{
+    if let Some(state) = last_of_another(messages, change.reply()) {
+        change.share(state);
+    }
+}
+
+/// The interval that the last message brings, where a reply ships one of another node.
+fn last_of_another<'a>(messages: &'a [Message], reply: &Reply) -> Option<&'a State> {
+    let Reply::Shipped(message) = reply else {
+        return None;
+    };
+    let last = messages.last()?;
+    if last.from.node.0 == message.from.node.0 {
+        return None;
+    }
+    match &last.body {
+        Body::Interval(state) => Some(state),
+        _ => None,
+    }
+}
