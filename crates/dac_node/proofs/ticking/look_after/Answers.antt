@@ -1,5 +1,6 @@
 use Rattle.std.proofs.Common.{◌≡◌, None, true, sym, ap, subst, ◌∙◌}
 use Rattle.std.specs.Prelude.{fold}
+use Rattle.std.specs.Arc.{arc_value}
 use Rattle.std.proofs.lemmas.Bool.{ltb-false}
 use Rattle.dac_meaning.specs.StateValue.{join}
 use Rattle.dac_decide.specs.declared.start_gate.Opening.TheVariants.{Opened}
@@ -22,10 +23,11 @@ ticked-requires-clause-grown c =
     let t = c.args.config.now in
     let k = c.run.inside.knowledge in
     let waits = c.in_ok-waits.waits in
-    let turn = turn_of t k.origin waits c.args.now k.state in
+    let state = arc_value k.state in
+    let turn = turn_of t k.origin waits c.args.now state in
     let made = c.in_ok-waits.ensures.turn in
     let items = c.in_ok-deltas.ensures ∙ ap meanings (c.as_slice.ensures ∙ made.ops) in
-    c.in_ok-state.ensures ∙ (left_is k.state turn c.in_ok-waits.turn made ∙ (state_joined t k.origin waits c.args.now k.state ∙ ap (fold join k.state) (sym items)))
+    c.in_ok-state.ensures ∙ (left_is state turn c.in_ok-waits.turn made ∙ (state_joined t k.origin waits c.args.now state ∙ ap (fold join state) (sym items)))
 
 pub returns : goal.returns
 returns c =
