@@ -5,7 +5,7 @@ use Rattle.std.specs.Option.{option_map_or}
 use Rattle.std.specs.Fmt.{decimal}
 use Rattle.dac_base.specs.declared.NodeId.{NodeId}
 use Rattle.dac_events.specs.Refusals.{number_of, name_of}
-use Rattle.dac_config.specs.Table.{Table, node_count, node_name}
+use Rattle.dac_config.specs.Table.{Table, node_name}
 use Rattle.dac_config.specs.Canonical.{name_text}
 use Rattle.dac_live_script.specs.declared.line.LiveLine.{LiveLine}
 use Rattle.dac_live_script.specs.declared.line.LiveLine.TheVariants as says

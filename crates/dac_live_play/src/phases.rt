@@ -1,10 +1,6 @@
 //! A script in phases, and what its callers are asked in each.
 
-ghost use Rattle.std.specs.Prelude.{◌≡◌, ◌<◌, All, IfOk, map};
-ghost use Rattle.std.specs.Option.{option_map};
-ghost use Rattle.dac_config.specs.Table.{node_count};
-ghost use Rattle.dac_live_script.specs.LiveLines.{HasActors};
-ghost use Rattle.dac_report.specs.Lines.{HasLines};
+ghost use Rattle.std.specs.Prelude.{◌≡◌, IfOk, map};
 ghost use Rattle.dac_live_play.specs.Phases.{is_mark, parts_of, event_of, asked_by, lines_in, AsksAs};
 
 use dac_base::NoMemory;

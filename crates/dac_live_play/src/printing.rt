@@ -1,6 +1,6 @@
 //! What is printed of a run.
 
-ghost use Rattle.std.specs.Prelude.{◌≡◌, ◌+◌, ◌<◌, ◌++◌, IfOk, OnOk, length, map};
+ghost use Rattle.std.specs.Prelude.{◌≡◌, ◌+◌, ◌<◌, ◌++◌, IfOk, OnOk, map};
 ghost use Rattle.std.specs.List.{flat_map};
 ghost use Rattle.dac_config.specs.Table.{node_count};
 ghost use Rattle.dac_live_play.specs.Phases.{lines_in, AsksAs};

@@ -143,7 +143,7 @@ impl Knowledge {
     }
 
     /// The same, where a state is joined and this is kept of peers.
-    pub(crate) fn joined(&self, other: &State, peers: Peers) -> Result<Self, NoMemory>
+    pub(crate) fn join_state(&self, other: &State, peers: Peers) -> Result<Self, NoMemory>
         ensures { IfOk result (λ knowledge. knowledge ≡ joining self.now (other.now ∷ []) peers) }
     {
         let waits = Arc::try_clone(&self.waits)?;
@@ -161,10 +161,10 @@ impl Knowledge {
     }
 
     /// What goes on after a delta comes that is to be added, where this is kept of peers.
-    pub(crate) fn added(&self, delta: State, peers: Peers) -> Result<Next, NoMemory>
+    pub(crate) fn add_delta(&self, delta: State, peers: Peers) -> Result<Next, NoMemory>
         ensures { IfOk result (λ next. next ≡ adding self.now (delta ∷ []) peers) }
     {
-        let knowledge = self.joined(&delta, peers)?;
+        let knowledge = self.join_state(&delta, peers)?;
         let mut deltas = Vec::new(self.alloc);
         deltas.push(delta)?;
         Ok(Next {
@@ -175,7 +175,7 @@ impl Knowledge {
     }
 
     /// What goes on after a state comes that may be below, where this is kept of peers.
-    pub(crate) fn heard(&self, body: &State, peers: Peers) -> Result<Next, NoMemory>
+    pub(crate) fn hear_state(&self, body: &State, peers: Peers) -> Result<Next, NoMemory>
         ensures { IfOk result (λ next. next ≡ hearing self.now body.now peers) }
     {
         if is_below(body, &self.state) {
@@ -187,17 +187,17 @@ impl Knowledge {
             });
         }
         let delta = body.copy()?;
-        let next = self.added(delta, peers)?;
+        let next = self.add_delta(delta, peers)?;
         Ok(next)
     }
 
     /// What goes on after a message's body comes, where this is kept of peers.
-    pub(crate) fn heard_body(&self, body: &Body, peers: Peers) -> Result<Next, NoMemory>
+    pub(crate) fn hear_body(&self, body: &Body, peers: Peers) -> Result<Next, NoMemory>
         ensures { IfOk result (λ next. next ≡ hearing self.now (content_of body.now) peers) }
     {
         match body.state() {
-            Some(state) => self.heard(state, peers),
-            None => self.heard(&State::bottom(self.alloc), peers),
+            Some(state) => self.hear_state(state, peers),
+            None => self.hear_state(&State::bottom(self.alloc), peers),
         }
     }
 

@@ -61,7 +61,7 @@ impl Next {
     }
 
     /// The same, where no delta below this number is kept any more.
-    pub(crate) fn trimmed(mut self, trim: u64) -> Self
+    pub(crate) fn with_trim(mut self, trim: u64) -> Self
         ensures { result ≡ record { knowledge = self.knowledge; deltas = self.deltas; trim = trim } }
     {
         self.trim = trim;

@@ -182,7 +182,7 @@ impl Running {
         if now < self.knowledge.moments.last {
             return Some(Refusal::MomentBack);
         }
-        if has_too_few(config, own, state) || self.lacks_numbers(needed(config)) {
+        if has_too_few(config, own, state) || self.lacks_numbers(tick_need(config)) {
             return Some(Refusal::DotsUsedUp);
         }
         None
@@ -264,18 +264,18 @@ impl Running {
         let known = &self.knowledge;
         known.tells_invariant();
         let operation = operation_of(known.alloc, config, known.origin, &known.state, command)?;
-        let next = self.issued(&operation)?;
+        let next = self.issue(&operation)?;
         Ok((next, operation))
     }
 
     /// What goes on after an operation of its own.
-    fn issued(&self, operation: &Op) -> Result<Next, NoMemory>
+    fn issue(&self, operation: &Op) -> Result<Next, NoMemory>
         ensures { IfOk result (λ next. next ≡ adding (knowledge_of self.now) (meaning_of (operation.now ∷ []) ∷ []) self.now.peers) }
     {
         let known = &self.knowledge;
         let delta = State::delta_of(known.alloc, operation)?;
         let peers = known.peers.copy()?;
-        known.added(delta, peers)
+        known.add_delta(delta, peers)
     }
 }
 
@@ -291,7 +291,7 @@ fn is_for(own: Origin, message: &Message) -> bool
 }
 
 /// How many counters and numbers of deltas a tick is taken to need.
-fn needed(config: &Config) -> u64
+fn tick_need(config: &Config) -> u64
     ensures needed { result ≡ needed config.now }
     ensures few { result ≤ 2 ^ 16 }
 {

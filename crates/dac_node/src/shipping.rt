@@ -98,9 +98,9 @@ impl Running {
         let known = &self.knowledge;
         let count = self.buffer.count();
         let peers = known.peers.heard_from(known.origin, count, message)?;
-        let next = known.heard_body(&message.body, peers)?;
+        let next = known.hear_body(&message.body, peers)?;
         let trim = next.knowledge.acked_by_all(config);
-        Ok(next.trimmed(trim))
+        Ok(next.with_trim(trim))
     }
 
     /// What goes on after one operation is heard that comes by itself, and whether it is new.
@@ -111,7 +111,7 @@ impl Running {
         let known = &self.knowledge;
         let delta = State::delta_of(known.alloc, operation)?;
         let peers = known.peers.copy()?;
-        let next = known.heard(&delta, peers)?;
+        let next = known.hear_state(&delta, peers)?;
         let fresh = next.has_news();
         Ok((next, fresh))
     }

@@ -33,7 +33,7 @@ pub(crate) fn tick(config: &Config, last: u64, run: &Running, now: u64) -> Resul
 {
     match run.opening(config, now) {
         Opening::Shut => {
-            let next = run.knowledge.held(now)?;
+            let next = run.knowledge.held_tick(now)?;
             Ok(Change::going_on(last, next, Reply::Held))
         }
         Opening::GiveUp => Ok(Change {
@@ -57,7 +57,7 @@ fn look_after(config: &Config, last: u64, run: &Running, now: u64) -> Result<Cha
     let deltas = deltas_of(known.alloc, ops.as_slice())?;
     let waits = Arc::new(known.alloc, waits)?;
     let state = known.left_by(left)?;
-    let next = known.ticked(now, true, waits, state, deltas)?;
+    let next = known.after_tick(now, true, waits, state, deltas)?;
     Ok(Change::going_on(last, next, Reply::Ticked { ops, passed }))
 }
 
@@ -102,13 +102,13 @@ impl Knowledge {
     }
 
     /// What goes on after a tick at this moment that finds the gate shut.
-    fn held(&self, now: u64) -> Result<Next, NoMemory>
+    fn held_tick(&self, now: u64) -> Result<Next, NoMemory>
         requires { self.now.moments.last ≤ now }
         ensures { IfOk result (λ next. next ≡ ticking self.now now false self.now.waits []) }
     {
         let waits = Arc::try_clone(&self.waits)?;
         let state = Arc::try_clone(&self.state)?;
-        self.ticked(now, false, waits, state, Vec::new(self.alloc))
+        self.after_tick(now, false, waits, state, Vec::new(self.alloc))
     }
 
     /// The state after claims that left this one, where there were any.
@@ -129,7 +129,7 @@ impl Knowledge {
 
     /// What goes on after a tick at this moment. The gate is so, so much is noted, and the claims' deltas left this
     /// state.
-    fn ticked(
+    fn after_tick(
         &self,
         now: u64,
         is_open: bool,

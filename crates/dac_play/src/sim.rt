@@ -1,6 +1,6 @@
 //! A script played in a world of controllers, with the line that is printed for each of its lines.
 
-ghost use Rattle.std.specs.Prelude.{◌≡◌, ◌<◌, ◌-◌, IfOk, IfSome, OnOk, All, length};
+ghost use Rattle.std.specs.Prelude.{◌≡◌, ◌<◌, IfOk, IfSome, OnOk, All, length};
 ghost use Rattle.std.specs.Io.KnownBytes.{Appends};
 ghost use Rattle.dac_config.specs.Table.{node_count};
 ghost use Rattle.dac_core.specs.ModelWorld.{start};

@@ -1,6 +1,5 @@
 //! Who sits where at a site, and with which ends of links.
 
-ghost use Rattle.std.specs.Prelude.{◌≡◌};
 ghost use Rattle.dac_workers.specs.Sites.{IsBlankOf};
 
 use crate::endings::shut;

@@ -1,6 +1,6 @@
 //! Numbers filed under labels.
 
-ghost use Rattle.std.specs.Prelude.{◌≡◌, ℕ, ◌<◌, ◌%◌, IfOk, OnOk, OnErr, length};
+ghost use Rattle.std.specs.Prelude.{◌≡◌, ℕ, ◌<◌, IfOk, OnOk, OnErr, length};
 ghost use Rattle.dac_weave.specs.Filing.{bucket_of, IsIn, Files, IsKept};
 
 use dac_base::NoMemory;

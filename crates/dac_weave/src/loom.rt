@@ -81,7 +81,7 @@ fn count_all(journals: &[Closed]) -> usize {
 }
 
 impl<'a> Loom<'a> {
-    ghost use Rattle.std.specs.Prelude.{ℕ, ◌<◌, ◌≤◌, IfOk, OnOk, MatchOption, length};
+    ghost use Rattle.std.specs.Prelude.{◌<◌, ◌≤◌, IfOk, OnOk, MatchOption, length};
     ghost use Rattle.dac_journal.specs.Journals.{JournalValue};
     ghost use Rattle.dac_weave.specs.Woven.{AllFit, IsFirst};
     ghost use Rattle.dac_weave.specs.Placing.{HaveStrands, Weaves, CanBePlaced, IsStill, AllStill, StillBetween, Places, IsLeft, IsLeftAt, AllWhole};

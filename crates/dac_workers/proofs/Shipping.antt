@@ -61,19 +61,6 @@ ships_more t to n old mid new put now after s o =
       sound = subst (All (ReadsBack t)) (sym (shipped_push made c)) (All-append (ReadsBack t) (shipped_in made) (shipped_by c.answer) s.sound o.sound);
     }
 
-pub ships_end_at : (t : Table) (to : NodeId) (m n : ℕ) (old new : List Call) (put now after last : List Paper) → m ≡ n → Ships t to m old new put now [] → after ≡ now ++ last → Ships t to n old new put after last
-ships_end_at t to m n old new put now after last is s e = record {
-  made = s.made;
-  calls = s.calls;
-  events = s.events ∙ ap (ships_to to) is;
-  letters = e ∙ ap (λ l. l ++ last) (s.letters ∙ append-nil (put ++ letters_of t (shipped_in s.made)));
-  sound = s.sound;
-}
-
--- one call that ships, and the last letters
-pub ships_one_end : (t : Table) (to : NodeId) (old new : List Call) (put now after last : List Paper) → ShipsOne t to old new put now → after ≡ now ++ last → Ships t to 1 old new put after last
-ships_one_end t to old new put now after last o e = ships_end_at t to 1 1 old new put now after last refl (ships_more t to 0 old old new put put now (ships_none t to old put) o) e
-
 -- ---- hearing
 pub hears_none : (t : Table) (old : List Call) (taken : List Paper) → Hears t old old taken taken []
 hears_none t old taken = record { made = []; papers = []; heard = []; calls = sym (append-nil old); events = refl; letters = sym (append-nil (taken ++ []) ∙ append-nil taken); reads = tt }

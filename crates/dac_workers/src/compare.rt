@@ -1,8 +1,8 @@
 //! What the records of two journals say of a link.
 
-ghost use Rattle.std.specs.Prelude.{◌≡◌, ◌*◌, true, map, length, IfOk};
+ghost use Rattle.std.specs.Prelude.{◌≡◌, true, map, length, IfOk};
 ghost use Rattle.std.specs.Option.{option_copied};
-ghost use Rattle.dac_workers.specs.Compared.{found, sent_one, heard_one, ship_one, Linked, IsPut};
+ghost use Rattle.dac_workers.specs.Compared.{found, sent_one, heard_one, ship_one, IsPut};
 
 use dac_base::{NoMemory, NodeId};
 use dac_live::Record;

@@ -1,6 +1,6 @@
 //! Messages as letters.
 
-ghost use Rattle.std.specs.Prelude.{◌≡◌, true, Ok, Some, IfOk};
+ghost use Rattle.std.specs.Prelude.{◌≡◌, true, Ok, IfOk};
 ghost use Rattle.dac_wire.specs.declared.packet.Packet.TheVariants.{Msg};
 ghost use Rattle.dac_wire.specs.Decoding.{packet_at};
 ghost use Rattle.dac_workers.specs.Letters.{IsLetterOf};

@@ -1,5 +1,4 @@
 //! Steps of a node, and calls of a journal.
-use dac_base::NodeId;
 use dac_config::Config;
 use dac_events::{Command, Refusal};
 use dac_journal::{Journal, Node};

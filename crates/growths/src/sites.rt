@@ -1,5 +1,4 @@
 //! Calls of a site, from its opening to its closing.
-ghost use Rattle.std.specs.Prelude.{◌≡◌};
 ghost use Rattle.dac_live.specs.Sites.{IsBlankOf};
 
 use crate::nodes::{Happens, all_before, number_of, twice};

@@ -1,5 +1,4 @@
 //! A caller as it stands in the first comment of `dac_live`.
-ghost use Rattle.std.specs.Prelude.{◌≡◌};
 ghost use Rattle.dac_live.specs.Sites.{IsBlankOf};
 
 use dac_base::NodeId;

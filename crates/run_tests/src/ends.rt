@@ -1,5 +1,4 @@
 //! Links whose other end is gone.
-ghost use Rattle.std.specs.Prelude.{◌≡◌};
 ghost use Rattle.dac_workers.specs.Sites.{IsBlankOf};
 
 use dac_base::NodeId;

@@ -3,7 +3,7 @@ use crate::journals::{ask, close_three, example, journal};
 use dac_base::NodeId;
 use dac_dots::Origin;
 use dac_events::WorldEvent;
-use dac_journal::{Closed, Journal};
+use dac_journal::Closed;
 use dac_messages::{Body, Event, Message};
 use dac_weave::{WeaveFault, weave};
 use std::alloc::Global;

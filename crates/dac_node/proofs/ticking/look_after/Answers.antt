@@ -18,8 +18,8 @@ use Rattle.dac_node.specs.Changes.{Effect}
 use Rattle.dac_node.proofs.Gates.{claimed_effect, left_is}
 use Rattle.dac_node.proofs.ticking.look_after.Goals as goal
 
-pub ticked-requires-clause-grown : goal.ticked-requires-clause-grown
-ticked-requires-clause-grown c =
+pub after_tick-requires-clause-grown : goal.after_tick-requires-clause-grown
+after_tick-requires-clause-grown c =
     let t = c.args.config.now in
     let k = c.run.inside.knowledge in
     let waits = c.in_ok-waits.waits in
@@ -43,8 +43,8 @@ returns c =
     subst (λ (x : RunValue). Effect t c.args.last x (Tick now) c.going_on.result) c.run.view_is
     (claimed_effect t c.args.last r now opened waits c.in_ok-waits.ensures.noted c.going_on.result (c.going_on.ensures ∙ (λ i. record { last = c.args.last; after = GoesOn (next i); reply = Ticked (made.ops i) (made.passed i) })))
 
-pub ticked-requires-clause-order : goal.ticked-requires-clause-order
-ticked-requires-clause-order c =
+pub after_tick-requires-clause-order : goal.after_tick-requires-clause-order
+after_tick-requires-clause-order c =
     let t = c.args.config.now in
     let r = run_of c.run.inside.knowledge c.run.inside.buffer in
     let accepted = subst (λ (x : RunValue). refusal_to_tick t x c.args.now ≡ None) (sym c.run.view_is) c.requires.accepted in

@@ -1,4 +1,4 @@
-use Rattle.std.proofs.Common.{refl, sym, ◌∙◌}
+use Rattle.std.proofs.Common.{sym, ◌∙◌}
 use Rattle.dac_play.proofs.Playing.{played_more, written}
 use Rattle.dac_play.proofs.ScriptRuns.{plays_runs}
 use Rattle.dac_play.proofs.sim.play.Goals as goal

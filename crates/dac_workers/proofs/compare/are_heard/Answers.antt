@@ -1,4 +1,4 @@
-use Rattle.std.proofs.Common.{◌≡◌, ◌+◌, ◌++◌, ◌∷◌, [], ◌<◌, length, take, map, Option, Some, None, Bor, sym, ap, ◌∙◌, arith, append-nil}
+use Rattle.std.proofs.Common.{◌≡◌, ◌+◌, ◌++◌, ◌∷◌, [], ◌<◌, length, take, Option, Some, None, Bor, sym, ◌∙◌, arith, append-nil}
 use Rattle.dac_messages.specs.declared.message.Message.{Message}
 use Rattle.dac_workers.specs.Compared.{found, heard_one}
 use Rattle.dac_workers.proofs.Found.{found_more, taken_more}

@@ -1,5 +1,5 @@
-use Rattle.std.proofs.Common.{arith, refl, ◌∙◌}
-use Rattle.dac_workers.proofs.Shipping.{ships_none, ships_more, ships_end_at}
+use Rattle.std.proofs.Common.{refl, ◌∙◌}
+use Rattle.dac_workers.proofs.Shipping.{ships_none, ships_more}
 use Rattle.dac_workers.proofs.links.ship_link.Goals as goal
 
 pub loop-count-init : goal.loop-count-init

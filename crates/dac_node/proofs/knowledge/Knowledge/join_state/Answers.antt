@@ -2,7 +2,7 @@ use Rattle.std.proofs.Common.{sym, subst, ◌∙◌}
 use Rattle.std.specs.Arc.{arc_value}
 use Rattle.dac_model_node.specs.dac_commands.Commands.{KnowsItself}
 use Rattle.dac_node.proofs.Knows.{knows-join}
-use Rattle.dac_node.proofs.knowledge.Knowledge.joined.Goals as goal
+use Rattle.dac_node.proofs.knowledge.Knowledge.join_state.Goals as goal
 
 pub invariant_of-result : goal.invariant_of-result
 invariant_of-result c = record {

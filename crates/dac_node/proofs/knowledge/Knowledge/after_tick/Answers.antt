@@ -5,7 +5,7 @@ use Rattle.dac_meaning.specs.StateValue.{join}
 use Rattle.dac_model_node.specs.dac_commands.Commands.{KnowsItself}
 use Rattle.dac_node.specs.Knowing.{KnowledgeValue}
 use Rattle.dac_node.proofs.Knows.{knows-grown}
-use Rattle.dac_node.proofs.knowledge.Knowledge.ticked.Goals as goal
+use Rattle.dac_node.proofs.knowledge.Knowledge.after_tick.Goals as goal
 
 pub invariant_of-knowledge : goal.invariant_of-knowledge
 invariant_of-knowledge c =
