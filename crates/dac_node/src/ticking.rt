@@ -55,9 +55,9 @@ fn look_after(config: &Config, last: u64, run: &Running, now: u64) -> Result<Cha
     let (waits, turn) = known.look_after(config, now)?;
     let Turn { ops, passed, left } = turn;
     let deltas = deltas_of(known.alloc, ops.as_slice())?;
-    let waits = Arc::new(known.alloc, waits)?;
+    let noted = Arc::new(known.alloc, waits)?;
     let state = known.left_by(left)?;
-    let next = known.after_tick(now, true, waits, state, deltas)?;
+    let next = known.after_tick(now, true, noted, state, deltas)?;
     Ok(Change::going_on(last, next, Reply::Ticked { ops, passed }))
 }
 

@@ -1,6 +1,5 @@
 use Rattle.std.proofs.Common.{◌≡◌, None, true, sym, ap, subst, ◌∙◌}
 use Rattle.std.specs.Prelude.{fold}
-use Rattle.std.specs.Arc.{arc_value}
 use Rattle.std.proofs.lemmas.Bool.{ltb-false}
 use Rattle.dac_meaning.specs.StateValue.{join}
 use Rattle.dac_decide.specs.declared.start_gate.Opening.TheVariants.{Opened}
@@ -23,11 +22,10 @@ after_tick-requires-clause-grown c =
     let t = c.args.config.now in
     let k = c.run.inside.knowledge in
     let waits = c.in_ok-waits.waits in
-    let state = arc_value k.state in
-    let turn = turn_of t k.origin waits c.args.now state in
+    let turn = turn_of t k.origin waits c.args.now k.state in
     let made = c.in_ok-waits.ensures.turn in
     let items = c.in_ok-deltas.ensures ∙ ap meanings (c.as_slice.ensures ∙ made.ops) in
-    c.in_ok-state.ensures ∙ (left_is state turn c.in_ok-waits.turn made ∙ (state_joined t k.origin waits c.args.now state ∙ ap (fold join state) (sym items)))
+    c.in_ok-state.ensures ∙ (left_is k.state turn c.in_ok-waits.turn made ∙ (state_joined t k.origin waits c.args.now k.state ∙ ap (fold join k.state) (sym items)))
 
 pub returns : goal.returns
 returns c =
@@ -38,7 +36,7 @@ returns c =
     let waits = c.in_ok-waits.waits in
     let made = c.in_ok-waits.ensures.turn in
     let items = c.in_ok-deltas.ensures ∙ ap meanings (c.as_slice.ensures ∙ made.ops) in
-    let next = c.in_ok-next.ensures ∙ ap (ticking k now true waits) items in
+    let next = c.in_ok-next.ensures ∙ (λ i. ticking k now true (c.in_ok-noted.ensures.ok i) (items i)) in
     let opened = subst (λ (x : RunValue). opening_at t x now ≡ Opened) (sym c.run.view_is) c.requires.open in
     subst (λ (x : RunValue). Effect t c.args.last x (Tick now) c.going_on.result) c.run.view_is
     (claimed_effect t c.args.last r now opened waits c.in_ok-waits.ensures.noted c.going_on.result (c.going_on.ensures ∙ (λ i. record { last = c.args.last; after = GoesOn (next i); reply = Ticked (made.ops i) (made.passed i) })))
