@@ -42,5 +42,4 @@ pub use dac_messages::{AppList, Body, Event, Message, OpList, Reply};
 pub use dac_node::{Node, Refusal};
 pub use world::World;
 
-mod sharing;
 mod world;

@@ -6,7 +6,6 @@ ghost use Rattle.dac_settle.specs.dac_model_world.WorldChanges.{NodeChanges};
 ghost use Rattle.dac_node.specs.Changes.{changed};
 ghost use Rattle.dac_core.specs.Ready.{IsReadyAt};
 
-use crate::sharing::copy_after;
 use dac_base::{NoMemory, NodeId};
 use dac_config::Config;
 use dac_events::{What, WorldEvent, WorldFault};
@@ -284,7 +283,7 @@ fn make_room(
 {
     operations.reserve(issued_count(reply))?;
     messages.reserve(1)?;
-    let copied = copy_after(messages.as_slice(), reply)?;
+    let copied = reply.copy()?;
     Ok(copied)
 }
 

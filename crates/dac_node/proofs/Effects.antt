@@ -7,18 +7,23 @@ use Rattle.dac_meaning.specs.StateValue.{StateValue, IsState}
 use Rattle.dac_meaning.specs.Meaning.{meaning_of}
 use Rattle.dac_config.specs.Table.{Table}
 use Rattle.dac_decide.specs.declared.waits.Noted.{Noted}
+use Rattle.dac_decide.specs.declared.start_gate.Opening.{Opening}
+use Rattle.dac_decide.specs.declared.start_gate.Opening.TheVariants.{Shut, Opened, GiveUp}
 use Rattle.dac_messages.specs.declared.event.Event.{Event}
+use Rattle.dac_messages.specs.declared.event.Event.TheVariants.{Boot, Crash, Tick, Ship, Hear, HearOp}
+use Rattle.dac_messages.specs.declared.event.Event.TheVariants.{Command as Told}
 use Rattle.dac_messages.specs.declared.reply.Reply.{Reply}
+use Rattle.dac_messages.specs.declared.reply.Reply.TheVariants.{Heard}
 use Rattle.dac_events.specs.declared.refusal.Refusal.TheVariants.{DotsUsedUp}
 use Rattle.dac_model_node.specs.dac_commands.laws.Written.{none_is}
 use Rattle.dac_model_node.specs.NodeValue.{RunValue}
 use Rattle.dac_model_node.specs.EventRefusals.{refusal_by, refusal_to_hear_op, overflows}
-use Rattle.dac_model_node.specs.Deeds.{Deed, deed_of, moment_of}
+use Rattle.dac_model_node.specs.Deeds.{Deed, deed_of, moment_of, opening_at, ticks_by}
 use Rattle.dac_model_node.specs.Accepted.{AreNewest, run_by}
 use Rattle.dac_model_node.specs.laws.Numbers.{fits, room_to_hear}
 use Rattle.dac_node.specs.declared.change.After.TheVariants.{Off, GoesOn}
 use Rattle.dac_node.specs.Knowing.{NextValue, hearing, knowledge_of}
-use Rattle.dac_node.specs.After.{run_after, after_by, gone_on, next_by, FitsIn}
+use Rattle.dac_node.specs.After.{run_after, after_by, gone_on, next_by, FitsIn, ShipsOwnIn}
 use Rattle.dac_node.specs.Changes.{ChangeValue, BootsBy, Effect, Fits, Prepared}
 
 -- an event that notes nothing
@@ -60,14 +65,39 @@ effect_prepared t me last r e change none newest is f =
     let run = ap (λ after. run_after after (Some r)) f.after ∙ run_after_by r f.noted (deed_of t r f.noted e) in
     record { accepted = none; newest = newest; state = is; noted = f.noted; noting = f.noting; left = λ i. record { last = f.last i; run = run i }; reply = f.reply }
 
+-- only a ship ships, and what it ships is its own
+ships_own : (t : Table) (r : RunValue) (noted : List (Option Noted)) (e : Event) → ShipsOwnIn (Some r) (deed_of t r noted e).reply
+ships_own t r noted (Boot now) = tt
+ships_own t r noted Crash = tt
+ships_own t r noted (Told c) = tt
+ships_own t r noted (Tick now) = by (opening_at t r now)
+  where
+    by : (o : Opening) → ShipsOwnIn (Some r) (ticks_by o t r noted now).reply
+    by Shut = tt
+    by GiveUp = tt
+    by Opened = tt
+ships_own t r noted (Ship to) = refl
+ships_own t r noted (Hear m) = tt
+ships_own t r noted (HearOp o) = tt
+
 -- numbers are left for what comes
 pub effect_fits : (t : Table) (last : ℕ) (r : RunValue) (e : Event) (change : ChangeValue) → refusal_by t last (Some r) e ≡ None → r.kept.count ≤ MAX_COUNTER → Effect t last r e change → Fits (record { last = last; run = Some r }) change
-effect_fits t last r e change none countable f = subst (FitsIn (Some r)) (sym f.after) (by (deed_of t r f.noted e).goes_off)
+effect_fits t last r e change none countable f = record {
+  numbers = subst (FitsIn (Some r)) (sym f.after) (by (deed_of t r f.noted e).goes_off);
+  ships = subst (ShipsOwnIn (Some r)) (sym f.reply) (ships_own t r f.noted e);
+}
   where
     by : (b : Bool) → FitsIn (Some r) (cond b Off (GoesOn (next_by r f.noted (deed_of t r f.noted e))))
     by true = tt
     by false = fits t r f.noted countable e none
 
 -- so they are for an operation that comes by itself
-pub hear_op_fits : (r : RunValue) (o : Operation) → refusal_to_hear_op r o ≡ None → r.kept.count ≤ MAX_COUNTER → FitsIn (Some r) (GoesOn (hearing (knowledge_of r) (meaning_of (o ∷ [])) r.peers))
-hear_op_fits r o none countable = room_to_hear r (meaning_of (o ∷ [])) countable (none_is ((overflows r (meaning_of (o ∷ [])), DotsUsedUp) ∷ []) none).0
+heard_op_fits : (r : RunValue) (o : Operation) → refusal_to_hear_op r o ≡ None → r.kept.count ≤ MAX_COUNTER → FitsIn (Some r) (GoesOn (hearing (knowledge_of r) (meaning_of (o ∷ [])) r.peers))
+heard_op_fits r o none countable = room_to_hear r (meaning_of (o ∷ [])) countable (none_is ((overflows r (meaning_of (o ∷ [])), DotsUsedUp) ∷ []) none).0
+
+pub hear_op_fits : (last : ℕ) (r : RunValue) (o : Operation) (fresh : Bool) (change : ChangeValue) → refusal_to_hear_op r o ≡ None → r.kept.count ≤ MAX_COUNTER →
+    change.after ≡ GoesOn (hearing (knowledge_of r) (meaning_of (o ∷ [])) r.peers) → change.reply ≡ Heard fresh → Fits (record { last = last; run = Some r }) change
+hear_op_fits last r o fresh change none countable after reply = record {
+  numbers = subst (FitsIn (Some r)) (sym after) (heard_op_fits r o none countable);
+  ships = subst (ShipsOwnIn (Some r)) (sym reply) tt;
+}

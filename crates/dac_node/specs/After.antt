@@ -1,12 +1,14 @@
 -- What runs after a change.
-use Rattle.std.specs.Prelude.{◌+◌, ◌≤◌, cond, List, length, Option, Some, None, fold}
+use Rattle.std.specs.Prelude.{◌≡◌, ◌+◌, ◌≤◌, cond, List, length, Option, Some, None, fold}
 use Rattle.std.specs.Option.{option_map}
 use Rattle.dac_base.specs.declared.limits.TheConstants.{MAX_COUNTER}
 use Rattle.dac_meaning.specs.StateValue.{join}
 use Rattle.dac_deltas.specs.Kept.{pushed, trimmed}
 use Rattle.dac_decide.specs.declared.waits.Noted.{Noted}
+use Rattle.dac_messages.specs.declared.reply.Reply.{Reply}
+use Rattle.dac_messages.specs.declared.reply.Reply.TheVariants.{Shipped}
 use Rattle.dac_model_node.specs.NodeValue.{RunValue}
-use Rattle.dac_model_node.specs.Deeds.{Deed}
+use Rattle.dac_model_node.specs.Deeds.{Deed, message_of}
 use Rattle.dac_node.specs.declared.change.After.{After}
 use Rattle.dac_node.specs.declared.change.After.TheVariants.{Off, Boots, GoesOn}
 use Rattle.dac_node.specs.Knowing.{NextValue, run_of}
@@ -25,6 +27,11 @@ run_after (GoesOn next) old = option_map (gone_on next) old
 abbrev pub FitsIn : Option RunValue → After → Type 0
 FitsIn (Some r) (GoesOn next) = r.kept.count + length next.deltas ≤ MAX_COUNTER
 FitsIn old after = Unit {0}
+
+-- a message that a reply ships is the one that this ships as it is
+abbrev pub ShipsOwnIn : Option RunValue → Reply → Type 0
+ShipsOwnIn (Some r) (Shipped m) = m ≡ message_of r m.to
+ShipsOwnIn old reply = Unit {0}
 
 -- ---- what a deed asks for
 

@@ -13,7 +13,7 @@ use Rattle.dac_model_node.specs.Step.{up}
 use Rattle.dac_model_node.specs.Accepted.{AcceptedAs, IsNoting, booted}
 use Rattle.dac_node.specs.declared.change.After.{After}
 use Rattle.dac_node.specs.declared.change.After.TheVariants.{Boots}
-use Rattle.dac_node.specs.After.{run_after, FitsIn, after_by}
+use Rattle.dac_node.specs.After.{run_after, FitsIn, ShipsOwnIn, after_by}
 
 -- the number of the last incarnation from then on, what runs from then on, and the reply
 pub record ChangeValue : Type 0 where
@@ -32,9 +32,10 @@ coded_change after reply =
 abbrev pub changed : NodeValue → ChangeValue → NodeValue
 changed v change = record { last = change.last; run = run_after change.after v.run }
 
--- where the node goes on, numbers are left for the deltas that come
-abbrev pub Fits : NodeValue → ChangeValue → Type 0
-Fits v change = FitsIn v.run change.after
+-- Where the node goes on, numbers are left for the deltas that come. A message that it ships is its own as it is
+pub record Fits (v : NodeValue) (change : ChangeValue) : Type 0 where
+  pub numbers : FitsIn v.run change.after
+  pub ships : ShipsOwnIn v.run change.reply
 
 -- what a boot does as this node at this moment, after so many incarnations
 pub record BootsBy (t : Table) (me : NodeId) (number : ℕ) (now : ℕ) (change : ChangeValue) : Type 0 where

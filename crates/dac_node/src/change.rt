@@ -1,8 +1,9 @@
 //! What an accepted event does, prepared before anything changes.
 
-ghost use Rattle.std.specs.Prelude.{◌≡◌, ◌<◌, ◌∷◌, [], IfOk, IfErr, None};
+ghost use Rattle.std.specs.Prelude.{◌≡◌, ◌<◌, ◌∷◌, [], not, IfOk, IfErr, None};
 ghost use Rattle.dac_base.specs.declared.limits.TheConstants.{MAX_INCARNATION};
 ghost use Rattle.dac_config.specs.Table.{Table};
+ghost use Rattle.dac_meaning.specs.Below.{is_below};
 ghost use Rattle.dac_meaning.specs.Meaning.{meaning_of};
 ghost use Rattle.dac_model_node.specs.EventRefusals.{refusal_on, refusal_to_obey};
 
@@ -157,6 +158,7 @@ impl Change {
     pub(crate) fn hear_op(last: u64, run: &Running, operation: &Op) -> Result<Self, NoMemory>
         ensures effect { IfOk result (λ change. (t : Table) → Effect t last run.now (Event.HearOp operation.now) change) }
         ensures after { IfOk result (λ change. change.after ≡ After.GoesOn (hearing (knowledge_of run.now) (meaning_of (operation.now ∷ [])) run.now.peers)) }
+        ensures reply { IfOk result (λ change. change.reply ≡ Reply.Heard (not (is_below (meaning_of (operation.now ∷ [])) run.now.state))) }
     {
         let (next, fresh) = run.hear_op(operation)?;
         Ok(Change::going_on(last, next, Reply::Heard(fresh)))

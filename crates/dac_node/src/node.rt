@@ -237,7 +237,7 @@ impl Node {
             After::Boots(run) => self.run = Some(run),
             After::GoesOn(next) => {
                 if let Some(run) = &mut self.run {
-                    run.go_on(next)?;
+                    run.go_on(next, &reply)?;
                 }
             }
         }

@@ -19,7 +19,7 @@ use dac_deltas::Buffer;
 use dac_dots::Origin;
 use dac_events::{Command, Refusal};
 use dac_lattice::{Bottom, Lattice};
-use dac_messages::{Event, Message};
+use dac_messages::{Event, Message, Reply};
 use dac_model_node::dac_commands::{operation_of, refusal_of};
 use dac_placement::is_up;
 use dac_state::{Op, State};
@@ -56,7 +56,7 @@ impl Model for Running {
 impl Running {
     ghost use Rattle.dac_model_node.specs.Accepted.{booted, AreNewest};
     ghost use Rattle.dac_node.specs.Knowing.{adding, knowledge_of};
-    ghost use Rattle.dac_node.specs.After.{gone_on};
+    ghost use Rattle.dac_node.specs.After.{gone_on, ShipsOwnIn};
 
     /// The deltas that are kept are the newest, and their count is at most 2^62. The state is one. This only tells proofs
     /// so, and does nothing when it runs.
@@ -109,12 +109,17 @@ impl Running {
         Ok((Running { knowledge, buffer }, operation))
     }
 
-    /// Goes on so. Only the deltas that come take memory, and all is as before where it is refused.
-    pub(crate) fn go_on(&mut self, next: Next) -> Result<(), NoMemory>
-        requires { self.old.kept.count + length next.deltas ≤ LAST_NUMBER }
+    /// Goes on so, with this reply. Only the deltas that come take memory, and all is as before where it is refused. An
+    /// interval that the reply ships is remembered.
+    pub(crate) fn go_on(&mut self, next: Next, reply: &Reply) -> Result<(), NoMemory>
+        requires numbers { self.old.kept.count + length next.deltas ≤ LAST_NUMBER }
+        requires ships { ShipsOwnIn (Some self.old) reply.now }
         ensures ok { OnOk result (self.new ≡ gone_on next self.old) }
         ensures err { OnErr result (self.new ≡ self.old) }
     {
+        if let Reply::Shipped(message) = reply {
+            self.remember(message);
+        }
         let (knowledge, deltas, trim) = next.into_parts();
         self.buffer.push_all(deltas)?;
         self.buffer.trim(trim);

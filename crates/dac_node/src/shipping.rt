@@ -77,6 +77,24 @@ impl Running {
         })
     }
 
+    /// Keeps the interval that a message of its own brings, if it brings one, for the next node that is to get it. Where
+    /// memory is refused for that, the next one is made anew.
+    pub(crate) fn remember(&mut self, message: &Message)
+        requires { message.now ≡ message_of self.old message.now.to }
+        ensures { self.new ≡ self.old }
+    {
+        let Body::Interval(state) = &message.body else {
+            return;
+        };
+        let known = &self.knowledge;
+        let base = self.buffer.base();
+        if let Some(place) = known.peers.begins(&known.state, base, message.to) {
+            if let Ok(joined) = state.copy() {
+                self.buffer.remember(place.number, joined);
+            }
+        }
+    }
+
     /// What goes on once a node was shipped to.
     fn shipped_to(&self, to: NodeId) -> Result<Next, NoMemory>
         ensures { IfOk result (λ next. next ≡ adding (knowledge_of self.now) [] (shipped_to self.now.peers to)) }

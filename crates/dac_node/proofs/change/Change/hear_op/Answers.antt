@@ -14,3 +14,6 @@ returns-clause-effect c = λ t.
 
 pub returns-clause-after : goal.returns-clause-after
 returns-clause-after c = ap (λ (x : ChangeValue). x.after) c.going_on.ensures ∙ ap (λ (n : NextValue). GoesOn n) c.in_ok-next.ensures.next
+
+pub returns-clause-reply : goal.returns-clause-reply
+returns-clause-reply c = ap (λ (x : ChangeValue). x.reply) c.going_on.ensures ∙ ap (λ b. Heard b) c.in_ok-next.ensures.fresh

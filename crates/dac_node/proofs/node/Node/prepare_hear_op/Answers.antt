@@ -1,7 +1,6 @@
 use Rattle.std.proofs.Common.{Some, sym, subst}
 use Rattle.dac_messages.specs.declared.event.Event.TheVariants.{HearOp}
 use Rattle.dac_model_node.specs.NodeValue.{NodeValue}
-use Rattle.dac_node.specs.After.{FitsIn}
 use Rattle.dac_node.specs.Changes.{Fits, Prepared}
 use Rattle.dac_node.proofs.Effects.{effect_prepared, hear_op_fits}
 use Rattle.dac_node.proofs.node.Node.prepare_hear_op.Goals as goal
@@ -19,4 +18,4 @@ returns-clause-fits c =
     let change = c.in_ok-hear_op.field-0 in
     let last = c.self.inside.last in
     subst (λ (v : NodeValue). Fits v change) c.self.view_is
-    (subst (λ run. Fits (record { last = last; run = run }) change) (sym c.in-Some.is) (subst (FitsIn (Some c.in-Some.run')) (sym c.in_ok-hear_op.ensures.after) (hear_op_fits c.in-Some.run' c.args.operation.now (sym c.in_default-refusal_to_hear_op.ensures) c.tells_invariant.ensures.countable)))
+    (subst (λ run. Fits (record { last = last; run = run }) change) (sym c.in-Some.is) (hear_op_fits last c.in-Some.run' c.args.operation.now _ change (sym c.in_default-refusal_to_hear_op.ensures) c.tells_invariant.ensures.countable c.in_ok-hear_op.ensures.after c.in_ok-hear_op.ensures.reply))
