@@ -24,14 +24,15 @@ use std::sync::Arc;
 /// All that a controller keeps while it runs but the newest deltas. Its state knows the operation of its own boot, and it
 /// didn't tick before it was booted.
 ///
-/// Ticks alone change its waits, so it shares them with what it is made into by other events.
+/// Ticks alone change its waits, so it shares them with what it is made into by other events. So it is with its state,
+/// where nothing new comes. And what moves is small.
 pub(crate) struct Knowledge {
     pub(crate) alloc: Global,
     pub(crate) origin: Origin,
     pub(crate) moments: Moments,
     pub(crate) is_open: bool,
     pub(crate) waits: Arc<Waits, Global>,
-    pub(crate) state: State,
+    pub(crate) state: Arc<State, Global>,
     pub(crate) peers: Peers,
 }
 
@@ -59,9 +60,9 @@ impl Model for Knowledge {
 
     ghost coded = { coded_knowledge };
 
-    ghost view = { λ a. record { origin = a.origin; moments = a.moments; is_open = a.is_open; waits = arc_value a.waits; state = a.state; peers = a.peers } };
+    ghost view = { λ a. record { origin = a.origin; moments = a.moments; is_open = a.is_open; waits = arc_value a.waits; state = arc_value a.state; peers = a.peers } };
 
-    ghost invariant = { λ a. IsSound a.origin a.moments a.state };
+    ghost invariant = { λ a. IsSound a.origin a.moments (arc_value a.state) };
 }
 
 impl Knowledge {
@@ -88,7 +89,8 @@ impl Knowledge {
     {
         let operation = up_of(origin);
         let delta = State::delta_of(alloc, &operation)?;
-        let state = State::bottom(alloc).join(&delta)?;
+        let joined = State::bottom(alloc).join(&delta)?;
+        let state = Arc::new(alloc, joined)?;
         let waits = Arc::new(alloc, Waits::new(alloc, config)?)?;
         let knowledge = Knowledge {
             alloc,
@@ -110,7 +112,7 @@ impl Knowledge {
         ensures { IfOk result (λ copied. copied ≡ self.now) }
     {
         let waits = Arc::try_clone(&self.waits)?;
-        let state = self.state.copy()?;
+        let state = Arc::try_clone(&self.state)?;
         let peers = self.peers.copy()?;
         Ok(Knowledge {
             alloc: self.alloc,
@@ -128,7 +130,7 @@ impl Knowledge {
         ensures { IfOk result (λ knowledge. knowledge ≡ joining self.now [] peers) }
     {
         let waits = Arc::try_clone(&self.waits)?;
-        let state = self.state.copy()?;
+        let state = Arc::try_clone(&self.state)?;
         Ok(Knowledge {
             alloc: self.alloc,
             origin: self.origin,
@@ -145,7 +147,8 @@ impl Knowledge {
         ensures { IfOk result (λ knowledge. knowledge ≡ joining self.now (other.now ∷ []) peers) }
     {
         let waits = Arc::try_clone(&self.waits)?;
-        let state = self.state.join(other)?;
+        let joined = self.state.join(other)?;
+        let state = Arc::new(self.alloc, joined)?;
         Ok(Knowledge {
             alloc: self.alloc,
             origin: self.origin,

@@ -66,7 +66,8 @@ impl Running {
         ensures state { IsState self.now.state }
     {
         self.buffer.tells_invariant();
-        Lattice::tells_invariant(&self.knowledge.state);
+        let state: &State = &self.knowledge.state;
+        state.tells_invariant();
     }
 
     /// The present incarnation.

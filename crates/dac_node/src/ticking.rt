@@ -1,6 +1,7 @@
 //! What an accepted tick does.
 
 ghost use Rattle.std.specs.Prelude.{◌≡◌, ◌≤◌, ◌∷◌, [], List, IfOk, false, fold, unwrap_or};
+ghost use Rattle.std.specs.Arc.{arc_value};
 ghost use Rattle.dac_meaning.specs.StateValue.{join};
 ghost use Rattle.dac_messages.specs.declared.event.Event.TheVariants.{Tick};
 ghost use Rattle.dac_decide.specs.FailoverWait.{Note, waits_of};
@@ -54,8 +55,9 @@ fn look_after(config: &Config, last: u64, run: &Running, now: u64) -> Result<Cha
     let (waits, turn) = known.look_after(config, now)?;
     let Turn { ops, passed, left } = turn;
     let deltas = deltas_of(known.alloc, ops.as_slice())?;
+    let noted = Arc::new(known.alloc, waits)?;
     let state = known.left_by(left)?;
-    let next = known.after_tick(now, true, waits, state, deltas)?;
+    let next = known.after_tick(now, true, noted, state, deltas)?;
     Ok(Change::going_on(last, next, Reply::Ticked { ops, passed }))
 }
 
@@ -104,19 +106,22 @@ impl Knowledge {
         requires { self.now.moments.last ≤ now }
         ensures { IfOk result (λ next. next ≡ ticking self.now now false self.now.waits []) }
     {
-        let waits = self.waits.copy()?;
-        let state = self.state.copy()?;
+        let waits = Arc::try_clone(&self.waits)?;
+        let state = Arc::try_clone(&self.state)?;
         self.after_tick(now, false, waits, state, Vec::new(self.alloc))
     }
 
     /// The state after claims that left this one, where there were any.
-    fn left_by(&self, left: Option<State>) -> Result<State, NoMemory>
-        ensures { IfOk result (λ state. state ≡ unwrap_or left self.now.state) }
+    fn left_by(&self, left: Option<State>) -> Result<Arc<State, Global>, NoMemory>
+        ensures { IfOk result (λ state. arc_value state ≡ unwrap_or left self.now.state) }
     {
         match left {
-            Some(state) => Ok(state),
+            Some(state) => {
+                let state = Arc::new(self.alloc, state)?;
+                Ok(state)
+            }
             None => {
-                let state = self.state.copy()?;
+                let state = Arc::try_clone(&self.state)?;
                 Ok(state)
             }
         }
@@ -128,16 +133,15 @@ impl Knowledge {
         &self,
         now: u64,
         is_open: bool,
-        waits: Waits,
-        state: State,
+        waits: Arc<Waits, Global>,
+        state: Arc<State, Global>,
         deltas: Vec<State>,
     ) -> Result<Next, NoMemory>
         requires order { self.now.moments.last ≤ now }
-        requires grown { state ≡ fold join self.now.state deltas.items }
-        ensures { IfOk result (λ next. next ≡ ticking self.now now is_open waits deltas.items) }
+        requires grown { arc_value state ≡ fold join self.now.state deltas.items }
+        ensures { IfOk result (λ next. next ≡ ticking self.now now is_open (arc_value waits) deltas.items) }
     {
         let peers = self.peers.copy()?;
-        let waits = Arc::new(self.alloc, waits)?;
         let knowledge = Knowledge {
             alloc: self.alloc,
             origin: self.origin,

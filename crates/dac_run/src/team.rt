@@ -260,7 +260,7 @@ pub(crate) fn start<'s, E, L: SiteName + Send + Sync, G: Gate, R: Threads + Wait
 }
 
 // What the threads give back.
-fn join_all<T: Drop, R: Wait + Threads>(
+fn results_of<T: Drop, R: Wait + Threads>(
     rt: &R,
     alloc: Global,
     handles: Vec<JoinHandle<Result<T, RunFault>>>,
@@ -293,9 +293,9 @@ pub(crate) fn join_all<L: SiteName, R: Wait + Threads>(
         ships,
         hears,
     } = started;
-    let callers = join_all(rt, alloc, callers);
-    let ships = join_all(rt, alloc, ships);
-    let hears = join_all(rt, alloc, hears);
+    let callers = results_of(rt, alloc, callers);
+    let ships = results_of(rt, alloc, ships);
+    let hears = results_of(rt, alloc, hears);
     Ok(Team {
         callers: callers?,
         ships: ships?,

@@ -36,7 +36,7 @@ returns c =
     let waits = c.in_ok-waits.waits in
     let made = c.in_ok-waits.ensures.turn in
     let items = c.in_ok-deltas.ensures ∙ ap meanings (c.as_slice.ensures ∙ made.ops) in
-    let next = c.in_ok-next.ensures ∙ ap (ticking k now true waits) items in
+    let next = c.in_ok-next.ensures ∙ (λ i. ticking k now true (c.in_ok-noted.ensures.ok i) (items i)) in
     let opened = subst (λ (x : RunValue). opening_at t x now ≡ Opened) (sym c.run.view_is) c.requires.open in
     subst (λ (x : RunValue). Effect t c.args.last x (Tick now) c.going_on.result) c.run.view_is
     (claimed_effect t c.args.last r now opened waits c.in_ok-waits.ensures.noted c.going_on.result (c.going_on.ensures ∙ (λ i. record { last = c.args.last; after = GoesOn (next i); reply = Ticked (made.ops i) (made.passed i) })))

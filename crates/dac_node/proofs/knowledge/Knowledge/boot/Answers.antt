@@ -1,4 +1,5 @@
 use Rattle.std.proofs.Common.{◌≡◌, [], ◌∷◌, sym, ap, subst, ◌∙◌, arith}
+use Rattle.std.specs.Arc.{arc_value}
 use Rattle.dac_operations.specs.Operations.{Operation}
 use Rattle.dac_meaning.specs.StateValue.{join, bottom}
 use Rattle.dac_meaning.specs.Meaning.{meaning_of}
@@ -10,5 +11,5 @@ use Rattle.dac_node.proofs.knowledge.Knowledge.boot.Goals as goal
 pub invariant_of-knowledge : goal.invariant_of-knowledge
 invariant_of-knowledge c =
     let delta : c.in_ok-delta.delta ≡ meaning_of (up c.args.origin ∷ []) = c.in_ok-delta.ensures ∙ ap (λ (o : Operation). meaning_of (o ∷ [])) c.up_of-operation.ensures in
-    let state : c.in_ok-state.state ≡ join bottom (meaning_of (up c.args.origin ∷ [])) = c.in_ok-state.ensures ∙ (λ i. join (c.bottom.ensures i) (delta i)) in
+    let state : arc_value c.in_ok-state.state ≡ join bottom (meaning_of (up c.args.origin ∷ [])) = c.in_ok-state.ensures.ok ∙ c.in_ok-joined.ensures ∙ (λ i. join (c.bottom.ensures i) (delta i)) in
     record { knows = subst (KnowsItself c.args.origin) (sym state) (knows-boot c.args.origin); order = omega arith }
