@@ -1,4 +1,4 @@
-use Rattle.std.proofs.Common.{Some, sym, subst}
+use Rattle.std.proofs.Common.{sym, subst}
 use Rattle.dac_messages.specs.declared.event.Event.TheVariants.{HearOp}
 use Rattle.dac_model_node.specs.NodeValue.{NodeValue}
 use Rattle.dac_node.specs.Changes.{Fits, Prepared}
