@@ -22,7 +22,7 @@ fn last_of_another<'a>(messages: &'a [Message], reply: &Reply) -> Option<&'a Sta
         return None;
     };
     let last = messages.last()?;
-    if last.from.node.0 == message.from.node.0 {
+    if last.from.node == message.from.node {
         return None;
     }
     match &last.body {
