@@ -1,6 +1,6 @@
 //! The table of all calls.
 use crate::nodes::{Happens, journal, node_copy, step};
-use crate::runs::{OfRun, runs};
+use crate::runs::{OfScript, scripts, try_run};
 use crate::sites::{opening, site_call};
 use crate::worlds::{OfClosed, OfWorld, journals, worlds};
 use std::alloc::Global;
@@ -54,7 +54,8 @@ pub enum Call {
     Call(Happens),
     World(OfWorld),
     Closed(OfClosed),
-    Runs(OfRun),
+    Script(OfScript),
+    Run,
     NodeCopy,
     Open(bool),
 }
@@ -242,9 +243,9 @@ pub const CALLS: &[(&str, Call)] = &[
     ("World::step:hand", Call::World(OfWorld::Hand)),
     ("weave", Call::Closed(OfClosed::Weave)),
     ("replay", Call::Closed(OfClosed::Replay)),
-    ("read_script", Call::Runs(OfRun::Script)),
-    ("read_live_script", Call::Runs(OfRun::LiveScript)),
-    ("run_live", Call::Runs(OfRun::RunLive)),
+    ("read_script", Call::Script(OfScript::Script)),
+    ("read_live_script", Call::Script(OfScript::LiveScript)),
+    ("run_live", Call::Run),
 ];
 
 /// Tries a call of states and messages.
@@ -301,7 +302,8 @@ pub fn try_listed<T: Print + Threads + Wait + Sync>(rt: &T, alloc: Global, call:
         Call::Call(asked) => site_call(rt, alloc, asked),
         Call::World(asked) => try_call(rt, worlds(alloc, asked)),
         Call::Closed(asked) => try_call(rt, journals(alloc, asked)),
-        Call::Runs(asked) => try_call(rt, runs(rt, alloc, asked)),
+        Call::Script(asked) => try_call(rt, scripts(alloc, asked)),
+        Call::Run => try_run(rt, alloc),
         Call::NodeCopy => try_call(rt, node_copy(alloc)),
         Call::Open(opens) => try_call(rt, opening(rt, alloc, opens)),
         _ => try_lattice(rt, alloc, call).unwrap_or(Came::Wrong),

@@ -6,10 +6,11 @@ use dac_live_script::read_live_script;
 use dac_messages::Event;
 use dac_report::{Ask, Gate, Line, Phase, are_runnable, run_live};
 use std::alloc::Global;
+use std::io::Print;
 use std::sync::Wait;
 use std::thread::Threads;
 use tried_calls::sample::config;
-use tried_calls::trial::{Bench, Said};
+use tried_calls::trial::{Bench, Came, Said};
 
 /// A script of each verb.
 const VERBS: &[u8] =
@@ -18,12 +19,50 @@ const VERBS: &[u8] =
 /// A script of two callers in two phases.
 const CALLS: &[u8] = b"1 boot c1@h 0\n2 read c1@h\nphase\n1 drain c1@h c1@h true\n";
 
-/// What is read or run.
+/// What is read.
 #[derive(Clone, Copy, Debug, PartialEq, Eq)]
-pub enum OfRun {
+pub enum OfScript {
     Script,
     LiveScript,
-    RunLive,
+}
+
+/// A configuration, by which scripts are read.
+#[derive(Drop)]
+pub struct ScriptBench {
+    alloc: Global,
+    asked: OfScript,
+    config: Config,
+}
+
+/// The bench of a script that is read.
+pub fn scripts(alloc: Global, asked: OfScript) -> Option<ScriptBench> {
+    Some(ScriptBench {
+        alloc,
+        asked,
+        config: config(alloc)?,
+    })
+}
+
+/// What a script says that is read.
+fn of_script<S: Drop>(answer: Result<Vec<S>, Failure>) -> Said {
+    match answer {
+        Ok(lines) => Said::Well(lines.len() as u64),
+        Err(Failure::NoMemory) => Said::NoMemory,
+        Err(_) => Said::Other,
+    }
+}
+
+impl Bench for ScriptBench {
+    fn call(&mut self) -> Said {
+        match self.asked {
+            OfScript::Script => of_script(read_script(self.alloc, &self.config, VERBS)),
+            OfScript::LiveScript => of_script(read_live_script(self.alloc, &self.config, CALLS)),
+        }
+    }
+
+    fn is_as_before(&self) -> bool {
+        true
+    }
 }
 
 /// A gate that holds nobody.
@@ -34,16 +73,6 @@ impl Gate for Open {
     fn before(&self, _from: NodeId, _to: NodeId, _k: u64) {}
 
     fn after(&self, _from: NodeId, _to: NodeId, _k: u64) {}
-}
-
-/// A configuration, and phases of a run.
-#[derive(Drop)]
-pub struct RunBench<'a, T: Threads + Wait + Sync> {
-    rt: &'a T,
-    alloc: Global,
-    runs: OfRun,
-    config: Config,
-    phases: Vec<Phase>,
 }
 
 /// A phase in which the first node boots.
@@ -60,53 +89,37 @@ fn phases(alloc: Global) -> Option<Vec<Phase>> {
     Some(phases)
 }
 
-/// The bench of a run.
-pub fn runs<'a, T: Threads + Wait + Sync>(
-    rt: &'a T,
+/// Runs the phases. The parts of a run fail under names of their own.
+fn run_phases<T: Threads + Wait + Sync>(
+    rt: &T,
     alloc: Global,
-    runs: OfRun,
-) -> Option<RunBench<'a, T>> {
-    Some(RunBench {
-        rt,
-        alloc,
-        runs,
-        config: config(alloc)?,
-        phases: phases(alloc)?,
-    })
-}
-
-/// What a script says that is read.
-fn of_script<S: Drop>(answer: Result<Vec<S>, Failure>) -> Said {
-    match answer {
-        Ok(lines) => Said::Well(lines.len() as u64),
-        Err(Failure::NoMemory) => Said::NoMemory,
-        Err(_) => Said::Other,
+    config: &Config,
+    phases: &[Phase],
+) -> Said {
+    if !are_runnable(config, phases) {
+        return Said::Other;
+    }
+    match run_live(rt, alloc, config, phases, &Open) {
+        Ok(report) => Said::Well(report.closed.len() as u64),
+        Err(_) => Said::NoMemory,
     }
 }
 
-impl<T: Threads + Wait + Sync> RunBench<'_, T> {
-    /// Runs the phases. The parts of a run fail under names of their own.
-    fn run_phases(&self) -> Said {
-        if !are_runnable(&self.config, &self.phases) {
-            return Said::Other;
-        }
-        match run_live(self.rt, self.alloc, &self.config, &self.phases, &Open) {
-            Ok(report) => Said::Well(report.closed.len() as u64),
-            Err(_) => Said::NoMemory,
-        }
-    }
-}
-
-impl<T: Threads + Wait + Sync> Bench for RunBench<'_, T> {
-    fn call(&mut self) -> Said {
-        match self.runs {
-            OfRun::Script => of_script(read_script(self.alloc, &self.config, VERBS)),
-            OfRun::LiveScript => of_script(read_live_script(self.alloc, &self.config, CALLS)),
-            OfRun::RunLive => self.run_phases(),
-        }
-    }
-
-    fn is_as_before(&self) -> bool {
-        true
+/// Tries a run, which lends all that it is made of.
+pub fn try_run<T: Print + Threads + Wait + Sync>(rt: &T, alloc: Global) -> Came {
+    let Some(config) = config(alloc) else {
+        return Came::SetUp;
+    };
+    let Some(phases) = phases(alloc) else {
+        return Came::SetUp;
+    };
+    print!(rt; ": ").ok();
+    match run_phases(rt, alloc, &config, &phases) {
+        Said::Well(number) => Came::Well(number),
+        Said::Other => Came::Wrong,
+        Said::NoMemory => match run_phases(rt, alloc, &config, &phases) {
+            Said::Well(number) => Came::Refused(number),
+            _ => Came::Wrong,
+        },
     }
 }
