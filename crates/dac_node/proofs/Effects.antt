@@ -58,7 +58,7 @@ run_after_by r noted deed = by deed.goes_off
     by false = refl
 
 pub boots_prepared : (t : Table) (me : NodeId) (last : ℕ) (e : Event) (change : ChangeValue) → refusal_by t last None e ≡ None → BootsBy t me last (moment_of e) change → Prepared t me (record { last = last; run = None }) e change
-boots_prepared t me last e change none b = record { accepted = none; newest = tt; state = tt; noted = []; noting = tt; left = λ i. record { last = b.last i; run = run_after (b.after i) None }; reply = b.reply }
+boots_prepared t me last e change none b = record { accepted = none; newest = tt; state = tt; noted = []; noting = tt; left = λ i. record { last = b.last i; run = b.after i }; reply = b.reply }
 
 pub effect_prepared : (t : Table) (me : NodeId) (last : ℕ) (r : RunValue) (e : Event) (change : ChangeValue) → refusal_by t last (Some r) e ≡ None → AreNewest r.kept → IsState r.state → Effect t last r e change → Prepared t me (record { last = last; run = Some r }) e change
 effect_prepared t me last r e change none newest is f =

@@ -20,7 +20,7 @@ gone_on next r = run_of next.knowledge (trimmed (fold pushed r.kept next.deltas)
 -- what runs from then on, where this ran before
 abbrev pub run_after : After → Option RunValue → Option RunValue
 run_after Off old = None
-run_after (Boots r) old = Some r
+run_after (Boots b) old = Some b.value
 run_after (GoesOn next) old = option_map (gone_on next) old
 
 -- numbers are left for the deltas that come

@@ -1,5 +1,5 @@
 -- What an accepted event does to what a node holds.
-use Rattle.std.specs.Prelude.{◌≡◌, ℕ, ◌+◌, List, Option, refl}
+use Rattle.std.specs.Prelude.{◌≡◌, ℕ, ◌+◌, List, Option, Some, None, refl}
 use Rattle.std.specs.Coded.{Coded, code_by, coded×, coded_ℕ}
 use Rattle.dac_base.specs.declared.NodeId.{NodeId}
 use Rattle.dac_config.specs.Table.{Table}
@@ -12,7 +12,6 @@ use Rattle.dac_model_node.specs.Deeds.{deed_of}
 use Rattle.dac_model_node.specs.Step.{up}
 use Rattle.dac_model_node.specs.Accepted.{AcceptedAs, IsNoting, booted}
 use Rattle.dac_node.specs.declared.change.After.{After}
-use Rattle.dac_node.specs.declared.change.After.TheVariants.{Boots}
 use Rattle.dac_node.specs.After.{run_after, FitsIn, ShipsOwnIn, after_by}
 
 -- the number of the last incarnation from then on, what runs from then on, and the reply
@@ -40,7 +39,7 @@ pub record Fits (v : NodeValue) (change : ChangeValue) : Type 0 where
 -- what a boot does as this node at this moment, after so many incarnations
 pub record BootsBy (t : Table) (me : NodeId) (number : ℕ) (now : ℕ) (change : ChangeValue) : Type 0 where
   pub last : change.last ≡ number + 1
-  pub after : change.after ≡ Boots (booted t (record { node = me; inc = number + 1 }) now)
+  pub after : run_after change.after None ≡ Some (booted t (record { node = me; inc = number + 1 }) now)
   pub reply : change.reply ≡ Booted (up (record { node = me; inc = number + 1 }))
 
 -- what an accepted event does at a running node

@@ -25,8 +25,8 @@ use std::marker::Model;
 pub(crate) enum After {
     /// Nothing: the node is off.
     Off,
-    /// A node that came up.
-    Boots(Running),
+    /// A node that came up. It stands behind a pointer, so that what other events do is small where it moves.
+    Boots(Box<Running, Global>),
     /// What ran before, with these changes.
     GoesOn(Next),
 }
@@ -100,6 +100,7 @@ impl Change {
             inc: last + 1,
         };
         let (run, operation) = Running::boot(alloc, config, origin, now)?;
+        let run = Box::new(alloc, run)?;
         Ok(Change {
             last: last + 1,
             after: After::Boots(run),
@@ -146,7 +147,8 @@ impl Change {
     fn ship(last: u64, run: &Running, to: NodeId) -> Result<Self, NoMemory>
         ensures { IfOk result (λ change. (t : Table) → Effect t last run.now (Event.Ship to) change) }
     {
-        let (next, message) = run.ship(to)?;
+        let message = run.message_to(to)?;
+        let next = run.shipped_to(to)?;
         Ok(Change::going_on(last, next, Reply::Shipped(message)))
     }
 

@@ -1,6 +1,6 @@
 //! One controller.
 
-ghost use Rattle.std.specs.Prelude.{◌≡◌, IfOk, IfErr, MatchResult, OnOk, OnErr, None, unwrap_or};
+ghost use Rattle.std.specs.Prelude.{◌≡◌, IfOk, IfErr, MatchResult, OnOk, OnErr, Some, None, unwrap_or};
 ghost use Rattle.dac_config.specs.Table.{Table};
 ghost use Rattle.dac_model_node.specs.EventRefusals.{refusal_off as refused_off};
 ghost use Rattle.dac_model_node.specs.Deeds.{moment_of};
@@ -172,9 +172,21 @@ impl Node {
         ensures err { IfErr result (λ why. why ≡ unwrap_or (refusal_of config.now self.now event.now) Refusal.NoMemory) }
         ensures crash { IfErr result (λ why. event.now ≡ Event.Crash → why ≡ Refusal.Off) }
     {
-        if let Some(why) = self.refusal(config, event) {
-            return Err(why);
+        match self.refusal(config, event) {
+            Some(why) => Err(why),
+            None => self.accept(config, self_id, event),
         }
+    }
+
+    /// What an event that isn't refused does at node `self_id`. [`Refusal::NoMemory`] is the only error. A crash takes no
+    /// memory.
+    fn accept(&self, config: &Config, self_id: NodeId, event: &Event) -> Result<Change, Refusal>
+        requires { refusal_of config.now self.now event.now ≡ None }
+        ensures ok { IfOk result (λ change. Prepared config.now self_id self.now event.now change) }
+        ensures fits { IfOk result (λ change. Fits self.now change) }
+        ensures err { IfErr result (λ why. why ≡ Refusal.NoMemory) }
+        ensures crash { IfErr result (λ _. event.now ≡ Event.Crash → ⊥) }
+    {
         match &self.run {
             None => {
                 let now = moment_of(event);
@@ -233,8 +245,8 @@ impl Node {
     {
         let Change { last, after, reply } = change;
         match after {
-            After::Off => self.run = None,
-            After::Boots(run) => self.run = Some(run),
+            After::Off => self.go_off(),
+            After::Boots(run) => self.come_up(run),
             After::GoesOn(next) => {
                 if let Some(run) = &mut self.run {
                     run.go_on(next, &reply)?;
@@ -243,6 +255,20 @@ impl Node {
         }
         self.last = last;
         Ok(reply)
+    }
+
+    /// Nothing runs any more.
+    fn go_off(&mut self)
+        ensures { self.new ≡ record { last = self.old.last; run = None } }
+    {
+        self.run = None;
+    }
+
+    /// This runs from now on.
+    fn come_up(&mut self, run: Box<Running, Global>)
+        ensures { self.new ≡ record { last = self.old.last; run = Some run.value } }
+    {
+        self.run = Some(Box::into_inner(run));
     }
 }
 

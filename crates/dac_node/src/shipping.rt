@@ -47,18 +47,8 @@ impl Running {
         }
     }
 
-    /// The message that is shipped to a node, and what goes on after it: the node is owed no answer any more.
-    pub(crate) fn ship(&self, to: NodeId) -> Result<(Next, Message), NoMemory>
-        ensures next { IfOk result (λ both. both.0 ≡ adding (knowledge_of self.now) [] (shipped_to self.now.peers to)) }
-        ensures message { IfOk result (λ both. both.1 ≡ message_of self.now to) }
-    {
-        let message = self.message_to(to)?;
-        let next = self.shipped_to(to)?;
-        Ok((next, message))
-    }
-
     /// The message that is shipped to a node.
-    fn message_to(&self, to: NodeId) -> Result<Message, NoMemory>
+    pub(crate) fn message_to(&self, to: NodeId) -> Result<Message, NoMemory>
         ensures { IfOk result (λ message. message ≡ message_of self.now to) }
     {
         let known = &self.knowledge;
@@ -95,8 +85,8 @@ impl Running {
         }
     }
 
-    /// What goes on once a node was shipped to.
-    fn shipped_to(&self, to: NodeId) -> Result<Next, NoMemory>
+    /// What goes on once a node was shipped to: it is owed no answer any more.
+    pub(crate) fn shipped_to(&self, to: NodeId) -> Result<Next, NoMemory>
         ensures { IfOk result (λ next. next ≡ adding (knowledge_of self.now) [] (shipped_to self.now.peers to)) }
     {
         let known = &self.knowledge;
