@@ -1,3 +1,4 @@
+pub mod ByItself
 pub mod Ready
 pub use Rattle.dac_events.specs.Refusals
 pub use Rattle.dac_settle.specs.dac_model_world.Converges

@@ -1,9 +1,11 @@
 //! All controllers of a configuration, with what they issued and shipped.
 
-ghost use Rattle.std.specs.Prelude.{◌≡◌, ◌<◌, ◌≤◌, ◌+◌, ◌++◌, ◌↔◌, IsTrue, IfOk, IfErr, OnOk, OnErr, length, vec_len, vec_capacity};
-ghost use Rattle.dac_settle.specs.dac_model_world.ModelWorld.{issued_by, shipped_by};
+ghost use Rattle.std.specs.Prelude.{◌≡◌, ◌<◌, ◌≤◌, ◌+◌, ◌++◌, ◌↔◌, IsTrue, IfOk, IfErr, OnOk, OnErr, Ok, List, length, vec_len, vec_capacity};
+ghost use Rattle.dac_operations.specs.Operations.{Operation};
+ghost use Rattle.dac_settle.specs.dac_model_world.ModelWorld.{event_of, issued_by, shipped_by};
 ghost use Rattle.dac_settle.specs.dac_model_world.WorldChanges.{NodeChanges};
 ghost use Rattle.dac_node.specs.Changes.{changed};
+ghost use Rattle.dac_core.specs.ByItself.{IsByItself};
 ghost use Rattle.dac_core.specs.Ready.{IsReadyAt};
 
 use crate::sharing::share_last;
@@ -150,13 +152,9 @@ impl World {
         ensures count { length self.new.nodes ≡ length self.old.nodes }
     {
         match what {
-            What::Boot { now } => self.happen(config, node, &Event::Boot { now }),
-            What::Crash => self.happen(config, node, &Event::Crash),
-            What::Command(command) => self.happen(config, node, &Event::Command(command)),
-            What::Tick { now } => self.happen(config, node, &Event::Tick { now }),
-            What::Ship { to } => self.happen(config, node, &Event::Ship { to }),
             What::Deliver(number) => self.deliver(config, node, number),
             What::Hand(number) => self.hand(config, node, number),
+            _ => self.happen(config, node, &event_by_itself(what)),
         }
     }
 
@@ -183,6 +181,23 @@ impl World {
         if number == 0 || number > self.messages.len() as u64 {
             return Err(WorldFault::NoSuchMessage);
         }
+        self.hear_message(config, node, number)
+    }
+
+    /// The message of this number, which was shipped, comes to a node.
+    fn hear_message(
+        &mut self,
+        config: &Config,
+        node: NodeId,
+        number: u64,
+    ) -> Result<Reply, WorldFault>
+        requires inside { node.0 < length self.old.nodes }
+        requires counted { 0 < number }
+        requires shipped { number ≤ length self.old.messages }
+        ensures happens { HappensAt config.now self.old node (heard_by (counted self.old.messages number)) result self.new }
+        ensures unchanged { OnErr result (self.new ≡ self.old) }
+        ensures count { length self.new.nodes ≡ length self.old.nodes }
+    {
         let message = &self.messages[number as usize - 1];
         match self.nodes[node.0 as usize].prepare_hear(config, message) {
             Ok(change) => self.go_on(node, change),
@@ -200,6 +215,23 @@ impl World {
         if number == 0 || number > self.operations.len() as u64 {
             return Err(WorldFault::NoSuchOperation);
         }
+        self.hear_operation(config, node, number)
+    }
+
+    /// The operation of this number, which was issued, comes to a node by itself.
+    fn hear_operation(
+        &mut self,
+        config: &Config,
+        node: NodeId,
+        number: u64,
+    ) -> Result<Reply, WorldFault>
+        requires inside { node.0 < length self.old.nodes }
+        requires counted { 0 < number }
+        requires issued { number ≤ length self.old.operations }
+        ensures happens { HappensAt config.now self.old node (handed_by (counted self.old.operations number)) result self.new }
+        ensures unchanged { OnErr result (self.new ≡ self.old) }
+        ensures count { length self.new.nodes ≡ length self.old.nodes }
+    {
         let operation = &self.operations[number as usize - 1];
         match self.nodes[node.0 as usize].prepare_hear_op(operation) {
             Ok(change) => self.go_on(node, change),
@@ -238,6 +270,21 @@ impl World {
         let reply = change_node(&mut self.nodes, node, change)?;
         note(&mut self.operations, &mut self.messages, noted);
         Ok(reply)
+    }
+}
+
+/// The node's event, where that is neither a message nor an operation of the world's.
+fn event_by_itself(what: What) -> Event
+    requires { IsByItself what }
+    ensures { (operations : List Operation) (messages : List Message) → event_of operations messages what ≡ Ok result }
+{
+    match what {
+        What::Boot { now } => Event::Boot { now },
+        What::Crash => Event::Crash,
+        What::Command(command) => Event::Command(command),
+        What::Tick { now } => Event::Tick { now },
+        What::Ship { to } => Event::Ship { to },
+        What::Deliver(_) | What::Hand(_) => unreachable!(),
     }
 }
 
