@@ -1,6 +1,6 @@
 //! The writer of pages.
 
-ghost use Rattle.std.specs.Prelude.{◌≡◌, ◌≤◌, ◌^◌, ◌<◌, None, Some, IfOk, MatchResult};
+ghost use Rattle.std.specs.Prelude.{◌≡◌, ◌^◌, ◌<◌, None, Some, IfOk, MatchResult};
 ghost use Rattle.dac_pages.specs.Published.{PagesValue, Follows};
 
 use crate::page::Page;
@@ -8,7 +8,7 @@ use crate::reading::RawReader;
 use crate::rule::{Rises, Sees};
 use dac_base::NoMemory;
 use left_right::writer::Writer;
-use std::alloc::{AllocError, Global};
+use std::alloc::Global;
 use std::marker::Model;
 use std::sync::Wait;
 

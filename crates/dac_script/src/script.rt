@@ -6,7 +6,7 @@ ghost use Rattle.dac_script.specs.Line.{HasActors};
 ghost use Rattle.dac_script.specs.Script.{lines_of, is_said, line_in, ReadsAs, IsScriptFailure, IsLineFailure};
 
 use crate::failure::Failure;
-use crate::fault::{ScriptFault, ScriptFaultKind};
+use crate::fault::ScriptFault;
 use crate::line::{ScriptLine, line_of};
 use crate::words::words_of;
 use dac_config::Config;

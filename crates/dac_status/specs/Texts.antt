@@ -108,9 +108,17 @@ marked_text table mark node = codes " " ++ (node_text table node ++ (codes "=" +
 abbrev pub groups_of : Table → AppId → List (Option ℕ)
 groups_of table app = placed MAX_NODES None (list_map (group_of table app) (nodes_of table))
 
+-- a node with its mark, where the group that has it, if one does, is this one
+abbrev pub member_in : Table → Option ℕ → List Mark → ℕ → NodeId → List ℕ
+member_in table found marks group node = if option_map_or (λ other. other == group) found false then marked_text table (mark_in marks node) node else []
+
 -- a node with its mark, where it is of this group of the application's list
 abbrev pub member_text : Table → AppId → List Mark → ℕ → NodeId → List ℕ
-member_text table app marks group node = if option_map_or (λ other. other == group) (group_of table app node) false then marked_text table (mark_in marks node) node else []
+member_text table app marks group node = member_in table (group_of table app node) marks group node
+
+-- the nodes of a group, by their names, where these are the groups of nodes by their numbers
+abbrev pub group_in : Table → List (Option ℕ) → List Mark → ℕ → List ℕ
+group_in table groups marks group = flat_map (λ node. member_in table (slice_index_or groups node.0 None) marks group node) (nodes_of table)
 
 -- the nodes of one group of the application's list, by their names
 abbrev pub group_text : Table → AppId → List Mark → ℕ → List ℕ

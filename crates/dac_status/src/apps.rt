@@ -1,9 +1,9 @@
 //! Applications, as they are printed.
 
-ghost use Rattle.std.specs.Prelude.{◌≡◌, ◌<◌, false, None, ◌++◌, ◌==◌, slice_index_or, IfOk, OnOk};
+ghost use Rattle.std.specs.Prelude.{◌≡◌, ◌<◌, ◌≤◌, ◌++◌, ◌==◌, ℕ, false, Some, None, slice_index_or, IfOk, OnOk};
 ghost use Rattle.std.specs.Option.{option_map_or};
 ghost use Rattle.dac_config.specs.Table.{app_count, node_count};
-ghost use Rattle.dac_status.specs.Texts.{node_text, how_text, from_text, claim_text, holder_text, verdict_text, standing_text, mark_text, marked_text, groups_of, member_text, group_text, list_text, summary_text, app_lines};
+ghost use Rattle.dac_status.specs.Texts.{node_text, how_text, from_text, claim_text, holder_text, verdict_text, standing_text, mark_text, marked_text, groups_of, member_in, group_in, list_text, summary_text, app_lines};
 
 use crate::marks::Mark;
 use crate::nodes::node_text;
@@ -167,6 +167,35 @@ fn groups_of(config: &Config, app: AppId) -> [Option<u16>; MAX_NODES]
     groups
 }
 
+/// How many groups come up to this one, where so many were counted before.
+fn counted_group(count: u16, group: Option<u16>) -> u16
+    requires { count ≤ MAX_NODES }
+    ensures grows { count ≤ result }
+    ensures few { result ≤ MAX_NODES }
+    ensures has { (number : ℕ) → number < MAX_NODES → group ≡ Some number → number < result }
+{
+    let Some(group) = group else {
+        return count;
+    };
+    if count <= group && group < MAX_GROUPS {
+        group + 1
+    } else {
+        count
+    }
+}
+
+/// How many groups come up to the last one that has a node, where these are the groups of nodes by their numbers.
+fn group_count(config: &Config, groups: &[Option<u16>; MAX_NODES]) -> u16
+    ensures few { result ≤ MAX_NODES }
+    ensures has { (node group : ℕ) → node < node_count config.now → group < MAX_NODES → slice_index_or groups.now node None ≡ Some group → group < result }
+{
+    let mut count = 0;
+    for number in 0..config.nodes() {
+        count = counted_group(count, groups[number as usize]);
+    }
+    count
+}
+
 /// Whether a node is of this group, where these are the groups of nodes by their numbers.
 fn is_member(groups: &[Option<u16>; MAX_NODES], group: u16, node: NodeId) -> bool
     requires { node.0 < MAX_NODES }
@@ -178,21 +207,18 @@ fn is_member(groups: &[Option<u16>; MAX_NODES], group: u16, node: NodeId) -> boo
     }
 }
 
-/// Puts behind a text a node with its mark, where it is of this group of an application's list.
+/// Puts behind a text a node with its mark, where it is of this group, and these are the groups of nodes by their numbers.
 fn put_member(
     alloc: Global,
     text: &mut Vec<u8>,
     config: &Config,
-    app: AppId,
     groups: &[Option<u16>; MAX_NODES],
     marks: &[Mark; MAX_NODES],
     group: u16,
     node: NodeId,
 ) -> Result<(), NoMemory>
-    requires groups { groups.now ≡ groups_of config.now app }
-    requires node { node.0 < node_count config.now }
-    requires place { node.0 < MAX_NODES }
-    ensures { OnOk result (text.new.items ≡ text.old.items ++ member_text config.now app marks.now group node) }
+    requires { node.0 < MAX_NODES }
+    ensures { OnOk result (text.new.items ≡ text.old.items ++ member_in config.now (slice_index_or groups.now node.0 None) marks.now group node) }
 {
     if !is_member(groups, group, node) {
         return Ok(());
@@ -201,30 +227,20 @@ fn put_member(
     put_marked(alloc, text, config, mark, node)
 }
 
-/// Puts behind a text the nodes of a group of an application's list, with their marks.
+/// Puts behind a text the nodes of a group with their marks, where these are the groups of nodes by their numbers.
 fn put_group(
     alloc: Global,
     text: &mut Vec<u8>,
     config: &Config,
-    app: AppId,
     groups: &[Option<u16>; MAX_NODES],
     marks: &[Mark; MAX_NODES],
     group: u16,
 ) -> Result<(), NoMemory>
-    requires { groups.now ≡ groups_of config.now app }
-    ensures { OnOk result (text.new.items ≡ text.old.items ++ group_text config.now app marks.now group) }
+    ensures { OnOk result (text.new.items ≡ text.old.items ++ group_in config.now groups.now marks.now group) }
 {
     for number in 0..config.nodes() {
-        put_member(
-            alloc,
-            text,
-            config,
-            app,
-            groups,
-            marks,
-            group,
-            NodeId(number),
-        )?;
+        let node = NodeId(number);
+        put_member(alloc, text, config, groups, marks, group, node)?;
     }
     Ok(())
 }
@@ -241,8 +257,8 @@ fn list_line(
 {
     let mut line = Vec::from_slice(alloc, b"list")?;
     let groups = groups_of(config, app);
-    for group in 0..MAX_GROUPS {
-        put_group(alloc, &mut line, config, app, &groups, marks, group)?;
+    for group in 0..group_count(config, &groups) {
+        put_group(alloc, &mut line, config, &groups, marks, group)?;
     }
     line.push(b'\n')?;
     Ok(line)

@@ -1,8 +1,8 @@
 use Rattle.std.proofs.Common.{◌≡◌, ◌++◌}
 use Rattle.std.specs.Prelude.{codes}
-use Rattle.dac_status.specs.Texts.{group_text}
+use Rattle.dac_status.specs.Texts.{group_in}
 use Rattle.dac_status.proofs.Lines.{texts}
 use Rattle.dac_status.proofs.apps.list_line.Given as goal
 
 abbrev pub invariant-loop-group : goal.invariant-loop-group
-invariant-loop-group l = l.line.items ≡ codes "list" ++ texts (λ n. n) (group_text l.config l.app l.marks) l.group
+invariant-loop-group l = l.line.items ≡ codes "list" ++ texts (λ n. n) (group_in l.config l.groups l.marks) l.group
