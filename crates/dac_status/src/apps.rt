@@ -17,6 +17,18 @@ use std::alloc::Global;
 /// How many groups a list can have: each has a node of its own.
 const MAX_GROUPS: u16 = MAX_NODES as u16;
 
+/// For how many bytes a line has room when it begins. Most lines are shorter, so they don't grow.
+const LINE_ROOM: usize = 128;
+
+/// A line that begins with this word.
+fn begin_line(alloc: Global, word: &[u8]) -> Result<Vec<u8>, NoMemory>
+    ensures { IfOk result (λ line. line.items ≡ word.now) }
+{
+    let mut line = Vec::with_capacity(alloc, LINE_ROOM)?;
+    line.extend_from_slice(word)?;
+    Ok(line)
+}
+
 /// How an application came to the node that claims it, behind a space.
 pub fn how_text(how: How) -> &'static str
     ensures { result.now ≡ how_text how }
@@ -111,7 +123,7 @@ fn standing_line(
     requires { app.0 < app_count config.now }
     ensures { IfOk result (λ line. line.items ≡ standing_text config.now app claim verdict) }
 {
-    let mut line = Vec::from_slice(alloc, b"app ")?;
+    let mut line = begin_line(alloc, b"app ")?;
     let name = printed_name(alloc, config.app_name(app))?;
     line.extend_from_slice(&name)?;
     line.extend_from_slice(b" holder ")?;
@@ -255,7 +267,7 @@ fn list_line(
     requires { app.0 < app_count config.now }
     ensures { IfOk result (λ line. line.items ≡ list_text config.now app marks.now) }
 {
-    let mut line = Vec::from_slice(alloc, b"list")?;
+    let mut line = begin_line(alloc, b"list")?;
     let groups = groups_of(config, app);
     for group in 0..group_count(config, &groups) {
         put_group(alloc, &mut line, config, &groups, marks, group)?;
