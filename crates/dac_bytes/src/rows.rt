@@ -10,7 +10,7 @@ ghost use Rattle.dac_bytes.specs.Takes.{IsBytes, Takes};
 use crate::fault::{ReadFault, ReadFaultKind};
 use crate::reader::ByteReader;
 use crate::version::Version;
-use dac_base::{MAX_COUNTER, NoMemory};
+use dac_base::MAX_COUNTER;
 use dac_contexts::Context;
 use dac_dots::Origin;
 use std::alloc::Global;

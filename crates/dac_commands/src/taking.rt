@@ -3,7 +3,7 @@ ghost use Rattle.std.specs.Prelude.{◌≡◌};
 ghost use Rattle.dac_commands.specs.Causes.{first, causes_to_take, causes_to_claim};
 
 use crate::counters::{dots_used_up, terms_used_up};
-use dac_base::{AppId, NodeId};
+use dac_base::AppId;
 use dac_config::Config;
 use dac_dots::Origin;
 use dac_events::Refusal;

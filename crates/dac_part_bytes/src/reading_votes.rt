@@ -14,7 +14,6 @@ ghost use Rattle.dac_store.specs.Stores.{IsHeld};
 
 use crate::laws::parts_have_one_spelling;
 use crate::reading_fields::{read_key, read_known_dot, read_some};
-use dac_base::NoMemory;
 use dac_bytes::{ByteReader, ReadFault, Version};
 use dac_config::Config;
 use dac_dots::{Dot, Origin};

@@ -1,7 +1,5 @@
 //! The writing side: each part after what a writer has.
 ghost use Rattle.std.specs.Prelude.{◌≡◌, ◌++◌, IfOk};
-ghost use Rattle.std.specs.List.{flat_map};
-ghost use Rattle.dac_bytes.specs.Spelling.{dot_bytes};
 ghost use Rattle.dac_part_bytes.specs.Spelling.{claim_bytes, claims_bytes, down_code, drains_bytes, from_code, how_code, key_bytes, keyed_dots_bytes, keyed_votes_bytes, life_bytes, lives_bytes, manner_bytes, permits_bytes, said_code, starts_bytes, vote_bytes, votes_bytes, votes_of_key_bytes};
 ghost use Rattle.dac_bytes.specs.declared.version.Version.TheVariants.{Two};
 ghost use Rattle.dac_bytes.specs.Spelling.{origin_bytes};
