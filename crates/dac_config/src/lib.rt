@@ -16,5 +16,5 @@ pub use config::Config;
 pub use dac_base::{AppId, NoMemory, NodeId};
 pub use dac_shapes::SyncWait;
 pub use dac_tokens::{ConfigFault, FaultKind};
-pub use naming::{is_bare, printed_name};
+pub use naming::{is_bare, printed_name, put_printed_name};
 pub use read::read_config;

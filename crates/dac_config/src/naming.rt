@@ -1,13 +1,13 @@
 //! Names of nodes and applications, as Erlang writes atoms.
 
-ghost use Rattle.std.specs.Prelude.{◌≡◌, ◌↔◌, IfOk, IsTrue};
+ghost use Rattle.std.specs.Prelude.{◌≡◌, ◌↔◌, ◌++◌, IfOk, OnOk, IsTrue};
 ghost use Rattle.std.specs.List.{list_all};
 ghost use Rattle.dac_tokens.specs.Scan.{is_name_byte};
 ghost use Rattle.dac_tokens.specs.TokenGrammar.{IsBareAtom};
 ghost use Rattle.dac_config.specs.Sinks.{Gains};
 ghost use Rattle.dac_config.specs.Canonical.{begins_small, is_bare, name_text};
 
-use crate::sink::{Sink, Text};
+use crate::sink::Sink;
 use dac_base::NoMemory;
 use std::alloc::Global;
 
@@ -43,24 +43,44 @@ pub fn is_bare(name: &[u8]) -> bool
     begins_small(name) && name != b"fun".as_slice() && all_name_bytes(name)
 }
 
-/// A name as the program prints it: bare where that is an atom, else between quotes. [`NoMemory`] is the
-/// only error.
+/// What stands before and behind a name that is printed: nothing where the name is an atom, else a quote.
+fn quote_of(name: &[u8]) -> &'static [u8]
+    ensures { name_text name.now ≡ result.now ++ (name.now ++ result.now) }
+{
+    if is_bare(name) {
+        b"".as_slice()
+    } else {
+        b"'".as_slice()
+    }
+}
+
+/// Puts a name behind a text as the program prints it: bare where that is an atom, else between quotes.
+/// [`NoMemory`] is the only error.
+pub fn put_printed_name(text: &mut Vec<u8>, name: &[u8]) -> Result<(), NoMemory>
+    ensures { OnOk result (text.new.items ≡ text.old.items ++ name_text name.now) }
+{
+    let quote = quote_of(name);
+    text.extend_from_slice(quote)?;
+    text.extend_from_slice(name)?;
+    text.extend_from_slice(quote)?;
+    Ok(())
+}
+
+/// A name as the program prints it. [`NoMemory`] is the only error.
 pub fn printed_name(alloc: Global, name: &[u8]) -> Result<Vec<u8>, NoMemory>
     ensures { IfOk result (λ text. text.items ≡ name_text name.now) }
 {
-    let mut text = Text::new(alloc);
-    put_name(&mut text, name);
-    text.finish()
+    let mut text = Vec::new(alloc);
+    put_printed_name(&mut text, name)?;
+    Ok(text)
 }
 
+/// Puts a name as the program prints it behind what a place took before.
 pub(crate) fn put_name<S: Sink>(sink: &mut S, name: &[u8])
     ensures { Gains S.holds sink.old sink.new (name_text name.now) }
 {
-    if is_bare(name) {
-        sink.put(name);
-    } else {
-        sink.put(b"'");
-        sink.put(name);
-        sink.put(b"'");
-    }
+    let quote = quote_of(name);
+    sink.put(quote);
+    sink.put(name);
+    sink.put(quote);
 }

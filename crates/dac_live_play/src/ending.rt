@@ -1,15 +1,15 @@
 //! How `distac live` ends, and the lines of its faults.
 
 ghost use Rattle.std.specs.Prelude.{◌≡◌, IfOk};
-ghost use Rattle.dac_status.specs.Texts.{node_text};
 ghost use Rattle.dac_live_play.specs.Endings.{status_of, run_fault_text, weave_fault_text, fault_text, IsRefusal, IsGivenUp};
 
 use crate::fault::PlayFault;
 use dac_base::{NoMemory, NodeId};
-use dac_config::{Config, printed_name};
+use dac_config::Config;
 use dac_play::{Ending, OUT_OF_MEMORY, print, refuse};
 use dac_report::RunFault;
 use dac_script::Failure;
+use dac_status::put_node;
 use std::alloc::Global;
 use std::io::Write;
 
@@ -39,18 +39,6 @@ impl LiveEnding {
     }
 }
 
-/// A node by its name, or by its number where the configuration hasn't it.
-fn node_text(alloc: Global, config: &Config, node: NodeId) -> Result<Vec<u8>, NoMemory>
-    ensures { IfOk result (λ text. text.items ≡ node_text config.now node) }
-{
-    if node.0 < config.nodes() {
-        return printed_name(alloc, config.node_name(node));
-    }
-    let number = node.0;
-    let text = format!(in alloc; "{number}")?;
-    Ok(text.into_bytes())
-}
-
 /// The line of a run that wasn't ended.
 fn run_fault_line(alloc: Global, why: RunFault) -> Result<Vec<u8>, NoMemory>
     ensures { IfOk result (λ line. line.items ≡ run_fault_text why) }
@@ -71,8 +59,7 @@ fn weave_fault_line(
     ensures { IfOk result (λ line. line.items ≡ weave_fault_text config.now node place) }
 {
     let mut line = Vec::from_slice(alloc, b"weave fault 1 Unwoven ")?;
-    let name = node_text(alloc, config, node)?;
-    line.extend_from_slice(&name)?;
+    put_node(alloc, &mut line, config, node)?;
     let rest = format!(in alloc; " {place}\n")?;
     line.extend_from_slice(rest.as_bytes())?;
     Ok(line)

@@ -4,7 +4,7 @@ ghost use Rattle.std.specs.Prelude.{◌≡◌, IfOk};
 ghost use Rattle.dac_play.specs.Texts.{booted_text, crashed_text, held_text, gave_up_text, issued_text, shipped_text, shared_text, heard_text, no_message_text, no_operation_text, refused_text, same_text, hex_text, input_fault_text, script_fault_text, config_fault_text, failure_text};
 
 use dac_base::NoMemory;
-use dac_config::printed_name;
+use dac_config::put_printed_name;
 use dac_core::Body;
 use dac_script::{Failure, InputFault, ScriptFault};
 use dac_tokens::ConfigFault;
@@ -32,8 +32,7 @@ pub fn issued_line(
     ensures { IfOk result (λ line. line.items ≡ issued_text operation node.now incarnation counter) }
 {
     let mut line = format!(in alloc; "issued {operation} ")?.into_bytes();
-    let name = printed_name(alloc, node)?;
-    line.extend_from_slice(&name)?;
+    put_printed_name(&mut line, node)?;
     let rest = format!(in alloc; " {incarnation} {counter}\n")?;
     line.extend_from_slice(rest.as_bytes())?;
     Ok(line)

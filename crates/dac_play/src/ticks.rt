@@ -5,21 +5,22 @@ ghost use Rattle.std.specs.List.{flat_map};
 ghost use Rattle.dac_play.specs.Ticks.{app_text, claim_text, claims_text, passed_text, ticked_text};
 
 use dac_base::{AppId, NoMemory};
-use dac_config::{Config, printed_name};
+use dac_config::{Config, put_printed_name};
 use dac_state::{Act, Op};
 use dac_status::{how_text, put_from};
 use std::alloc::Global;
 
-/// An application by its name, or by its number where the configuration hasn't it.
-fn app_text(alloc: Global, config: &Config, app: AppId) -> Result<Vec<u8>, NoMemory>
-    ensures { IfOk result (λ text. text.items ≡ app_text config.now app) }
+/// Puts behind a text an application by its name, or by its number where the configuration hasn't it.
+fn put_app(alloc: Global, text: &mut Vec<u8>, config: &Config, app: AppId) -> Result<(), NoMemory>
+    ensures { OnOk result (text.new.items ≡ text.old.items ++ app_text config.now app) }
 {
     if app.0 < config.apps() {
-        return printed_name(alloc, config.app_name(app));
+        return put_printed_name(text, config.app_name(app));
     }
     let number = app.0;
-    let text = format!(in alloc; "{number}")?;
-    Ok(text.into_bytes())
+    let digits = format!(in alloc; "{number}")?;
+    text.extend_from_slice(digits.as_bytes())?;
+    Ok(())
 }
 
 /// The line for a claim, the operation of this number. A tick issues nothing else.
@@ -41,8 +42,7 @@ fn claim_line(
         return Ok(Vec::new(alloc));
     };
     let mut line = format!(in alloc; "claim {operation} ")?.into_bytes();
-    let name = app_text(alloc, config, *app)?;
-    line.extend_from_slice(&name)?;
+    put_app(alloc, &mut line, config, *app)?;
     let term = *term;
     let rest = format!(in alloc; " term {term}")?;
     line.extend_from_slice(rest.as_bytes())?;
@@ -77,8 +77,7 @@ fn passed_line(alloc: Global, config: &Config, app: AppId) -> Result<Vec<u8>, No
     ensures { IfOk result (λ line. line.items ≡ passed_text config.now app) }
 {
     let mut line = Vec::from_slice(alloc, b"passed ")?;
-    let name = app_text(alloc, config, app)?;
-    line.extend_from_slice(&name)?;
+    put_app(alloc, &mut line, config, app)?;
     line.push(b'\n')?;
     Ok(line)
 }

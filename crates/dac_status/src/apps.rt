@@ -1,33 +1,21 @@
 //! Applications, as they are printed.
 
-ghost use Rattle.std.specs.Prelude.{◌≡◌, ◌<◌, ◌≤◌, ◌++◌, ◌==◌, ℕ, false, Some, None, slice_index_or, IfOk, OnOk};
+ghost use Rattle.std.specs.Prelude.{◌≡◌, ◌<◌, ◌≤◌, ◌++◌, ◌==◌, ℕ, false, Some, None, slice_index_or, OnOk};
 ghost use Rattle.std.specs.Option.{option_map_or};
 ghost use Rattle.dac_config.specs.Table.{app_count, node_count};
 ghost use Rattle.dac_status.specs.Texts.{node_text, how_text, from_text, claim_text, holder_text, verdict_text, standing_text, mark_text, marked_text, groups_of, member_in, group_in, list_text, summary_text, app_lines};
 
 use crate::marks::Mark;
-use crate::nodes::node_text;
+use crate::nodes::put_node;
 use crate::summary::AppSummary;
 use dac_base::{AppId, MAX_APPS, MAX_NODES, NoMemory, NodeId};
 use dac_chains::{Claim, How};
-use dac_config::{Config, printed_name};
+use dac_config::{Config, put_printed_name};
 use dac_placement::Verdict;
 use std::alloc::Global;
 
 /// How many groups a list can have: each has a node of its own.
 const MAX_GROUPS: u16 = MAX_NODES as u16;
-
-/// For how many bytes a line has room when it begins. Most lines are shorter, so they don't grow.
-const LINE_ROOM: usize = 128;
-
-/// A line that begins with this word.
-fn begin_line(alloc: Global, word: &[u8]) -> Result<Vec<u8>, NoMemory>
-    ensures { IfOk result (λ line. line.items ≡ word.now) }
-{
-    let mut line = Vec::with_capacity(alloc, LINE_ROOM)?;
-    line.extend_from_slice(word)?;
-    Ok(line)
-}
 
 /// How an application came to the node that claims it, behind a space.
 pub fn how_text(how: How) -> &'static str
@@ -52,88 +40,103 @@ pub fn put_from(
     let Some(node) = from else {
         return Ok(());
     };
-    let name = node_text(alloc, config, node)?;
     text.extend_from_slice(b" from ")?;
-    text.extend_from_slice(&name)?;
-    Ok(())
+    put_node(alloc, text, config, node)
 }
 
-/// Who made a claim, its term, and how the application came there.
-fn claim_text(alloc: Global, config: &Config, claim: Claim) -> Result<Vec<u8>, NoMemory>
-    ensures { IfOk result (λ text. text.items ≡ claim_text config.now claim) }
+/// Puts behind a text who made a claim, its term, and how the application came there.
+fn put_claim(
+    alloc: Global,
+    text: &mut Vec<u8>,
+    config: &Config,
+    claim: Claim,
+) -> Result<(), NoMemory>
+    ensures { OnOk result (text.new.items ≡ text.old.items ++ claim_text config.now claim) }
 {
-    let mut text = node_text(alloc, config, claim.origin.node)?;
+    put_node(alloc, text, config, claim.origin.node)?;
     let incarnation = claim.origin.inc;
     let term = claim.term;
     let numbers = format!(in alloc; " {incarnation} term {term}")?;
     text.extend_from_slice(numbers.as_bytes())?;
     text.extend_from_slice(how_text(claim.how).as_bytes())?;
-    put_from(alloc, &mut text, config, claim.from)?;
-    Ok(text)
+    put_from(alloc, text, config, claim.from)
 }
 
-/// Who holds an application, if anyone does.
-fn holder_text(alloc: Global, config: &Config, claim: Option<Claim>) -> Result<Vec<u8>, NoMemory>
-    ensures { IfOk result (λ text. text.items ≡ holder_text config.now claim) }
+/// Puts behind a text who holds an application, if anyone does.
+fn put_holder(
+    alloc: Global,
+    text: &mut Vec<u8>,
+    config: &Config,
+    claim: Option<Claim>,
+) -> Result<(), NoMemory>
+    ensures { OnOk result (text.new.items ≡ text.old.items ++ holder_text config.now claim) }
 {
     match claim {
-        Some(claim) => claim_text(alloc, config, claim),
+        Some(claim) => put_claim(alloc, text, config, claim),
         None => {
-            let text = Vec::from_slice(alloc, b"none")?;
-            Ok(text)
+            text.extend_from_slice(b"none")?;
+            Ok(())
         }
     }
 }
 
-/// A word, and a node.
-fn at_node(alloc: Global, config: &Config, word: &[u8], node: NodeId) -> Result<Vec<u8>, NoMemory>
-    ensures { IfOk result (λ text. text.items ≡ word.now ++ node_text config.now node) }
+/// Puts behind a text a word and a node.
+fn put_at_node(
+    alloc: Global,
+    text: &mut Vec<u8>,
+    config: &Config,
+    word: &[u8],
+    node: NodeId,
+) -> Result<(), NoMemory>
+    ensures { OnOk result (text.new.items ≡ text.old.items ++ (word.now ++ node_text config.now node)) }
 {
-    let name = node_text(alloc, config, node)?;
-    let mut text = Vec::from_slice(alloc, word)?;
-    text.extend_from_slice(&name)?;
-    Ok(text)
+    text.extend_from_slice(word)?;
+    put_node(alloc, text, config, node)
 }
 
-fn verdict_text(alloc: Global, config: &Config, verdict: Verdict) -> Result<Vec<u8>, NoMemory>
-    ensures { IfOk result (λ text. text.items ≡ verdict_text config.now verdict) }
+/// Puts behind a text a verdict, with the node that it speaks of.
+fn put_verdict(
+    alloc: Global,
+    text: &mut Vec<u8>,
+    config: &Config,
+    verdict: Verdict,
+) -> Result<(), NoMemory>
+    ensures { OnOk result (text.new.items ≡ text.old.items ++ verdict_text config.now verdict) }
 {
     match verdict {
-        Verdict::Start(node) => at_node(alloc, config, b"start ", node),
-        Verdict::Failover(node) => at_node(alloc, config, b"failover ", node),
-        Verdict::Halted(node) => at_node(alloc, config, b"halted ", node),
-        Verdict::Move(node) => at_node(alloc, config, b"move ", node),
-        Verdict::Takeover(node) => at_node(alloc, config, b"takeover ", node),
-        Verdict::Kept(node) => at_node(alloc, config, b"kept ", node),
+        Verdict::Start(node) => put_at_node(alloc, text, config, b"start ", node),
+        Verdict::Failover(node) => put_at_node(alloc, text, config, b"failover ", node),
+        Verdict::Halted(node) => put_at_node(alloc, text, config, b"halted ", node),
+        Verdict::Move(node) => put_at_node(alloc, text, config, b"move ", node),
+        Verdict::Takeover(node) => put_at_node(alloc, text, config, b"takeover ", node),
+        Verdict::Kept(node) => put_at_node(alloc, text, config, b"kept ", node),
         Verdict::Nobody => {
-            let text = Vec::from_slice(alloc, b"nobody")?;
-            Ok(text)
+            text.extend_from_slice(b"nobody")?;
+            Ok(())
         }
     }
 }
 
-/// The line of an application: who holds it, and the verdict.
-fn standing_line(
+/// Puts behind a text the line of an application: who holds it, and the verdict.
+fn put_standing(
     alloc: Global,
+    text: &mut Vec<u8>,
     config: &Config,
     app: AppId,
     claim: Option<Claim>,
     verdict: Verdict,
-) -> Result<Vec<u8>, NoMemory>
+) -> Result<(), NoMemory>
     requires { app.0 < app_count config.now }
-    ensures { IfOk result (λ line. line.items ≡ standing_text config.now app claim verdict) }
+    ensures { OnOk result (text.new.items ≡ text.old.items ++ standing_text config.now app claim verdict) }
 {
-    let mut line = begin_line(alloc, b"app ")?;
-    let name = printed_name(alloc, config.app_name(app))?;
-    line.extend_from_slice(&name)?;
-    line.extend_from_slice(b" holder ")?;
-    let holder = holder_text(alloc, config, claim)?;
-    line.extend_from_slice(&holder)?;
-    line.extend_from_slice(b" verdict ")?;
-    let verdict = verdict_text(alloc, config, verdict)?;
-    line.extend_from_slice(&verdict)?;
-    line.push(b'\n')?;
-    Ok(line)
+    text.extend_from_slice(b"app ")?;
+    put_printed_name(text, config.app_name(app))?;
+    text.extend_from_slice(b" holder ")?;
+    put_holder(alloc, text, config, claim)?;
+    text.extend_from_slice(b" verdict ")?;
+    put_verdict(alloc, text, config, verdict)?;
+    text.push(b'\n')?;
+    Ok(())
 }
 
 /// The word of a mark.
@@ -159,9 +162,8 @@ fn put_marked(
 ) -> Result<(), NoMemory>
     ensures { OnOk result (text.new.items ≡ text.old.items ++ marked_text config.now mark node) }
 {
-    let name = node_text(alloc, config, node)?;
     text.push(b' ')?;
-    text.extend_from_slice(&name)?;
+    put_node(alloc, text, config, node)?;
     text.push(b'=')?;
     text.extend_from_slice(mark_text(mark).as_bytes())?;
     Ok(())
@@ -257,52 +259,53 @@ fn put_group(
     Ok(())
 }
 
-/// The line of an application's list: the nodes group by group, each with its mark.
-fn list_line(
+/// Puts behind a text the line of an application's list: the nodes group by group, each with its mark.
+fn put_list(
     alloc: Global,
+    text: &mut Vec<u8>,
     config: &Config,
     app: AppId,
     marks: &[Mark; MAX_NODES],
-) -> Result<Vec<u8>, NoMemory>
+) -> Result<(), NoMemory>
     requires { app.0 < app_count config.now }
-    ensures { IfOk result (λ line. line.items ≡ list_text config.now app marks.now) }
+    ensures { OnOk result (text.new.items ≡ text.old.items ++ list_text config.now app marks.now) }
 {
-    let mut line = begin_line(alloc, b"list")?;
+    text.extend_from_slice(b"list")?;
     let groups = groups_of(config, app);
     for group in 0..group_count(config, &groups) {
-        put_group(alloc, &mut line, config, &groups, marks, group)?;
+        put_group(alloc, text, config, &groups, marks, group)?;
     }
-    line.push(b'\n')?;
-    Ok(line)
+    text.push(b'\n')?;
+    Ok(())
 }
 
-/// The two lines of an application.
-fn summary_lines(
+/// Puts behind a text the two lines of an application.
+fn put_summary(
     alloc: Global,
+    text: &mut Vec<u8>,
     config: &Config,
     app: AppId,
     summary: &AppSummary,
-) -> Result<Vec<u8>, NoMemory>
+) -> Result<(), NoMemory>
     requires { app.0 < app_count config.now }
-    ensures { IfOk result (λ lines. lines.items ≡ summary_text config.now app summary.now) }
+    ensures { OnOk result (text.new.items ≡ text.old.items ++ summary_text config.now app summary.now) }
 {
-    let mut lines = standing_line(alloc, config, app, summary.claim, summary.verdict)?;
-    let list = list_line(alloc, config, app, &summary.marks)?;
-    lines.extend_from_slice(&list)?;
-    Ok(lines)
+    put_standing(alloc, text, config, app, summary.claim, summary.verdict)?;
+    put_list(alloc, text, config, app, &summary.marks)
 }
 
-/// The lines of an application, which stands as these say by their numbers.
+/// Puts behind a text the lines of an application, which stands as these say by their numbers.
 #[tactic(auto, unfolding(crate::specs::Texts::app_lines))]
-pub fn app_lines(
+pub fn put_app(
     alloc: Global,
+    text: &mut Vec<u8>,
     config: &Config,
     apps: &[AppSummary; MAX_APPS],
     app: AppId,
-) -> Result<Vec<u8>, NoMemory>
+) -> Result<(), NoMemory>
     requires app { app.0 < app_count config.now }
     requires place { app.0 < MAX_APPS }
-    ensures { IfOk result (λ lines. lines.items ≡ app_lines config.now apps.now app) }
+    ensures { OnOk result (text.new.items ≡ text.old.items ++ app_lines config.now apps.now app) }
 {
-    summary_lines(alloc, config, app, &apps[app.0 as usize])
+    put_summary(alloc, text, config, app, &apps[app.0 as usize])
 }

@@ -14,5 +14,6 @@ mod summary;
 pub use apps::{how_text, put_from};
 pub use dac_base::{MAX_APPS, MAX_NODES};
 pub use marks::{Mark, mark_of};
+pub use nodes::put_node;
 pub use pages::{header, page};
 pub use summary::{AppSummary, Summary};

@@ -1,25 +1,32 @@
 //! Nodes, as they are printed.
 
-ghost use Rattle.std.specs.Prelude.{◌≡◌, ◌<◌, IfOk};
+ghost use Rattle.std.specs.Prelude.{◌≡◌, ◌<◌, ◌++◌, OnOk};
 ghost use Rattle.dac_config.specs.Table.{node_count};
 ghost use Rattle.dac_status.specs.Texts.{node_text, flag_text, drained_text, life_text, node_line};
 
 use dac_base::{MAX_NODES, NoMemory, NodeId};
 use dac_chains::Life;
-use dac_config::{Config, printed_name};
+use dac_config::{Config, put_printed_name};
 use dac_lattice::Flag;
 use std::alloc::Global;
 
-/// A node by its name, or by its number where the configuration hasn't it: forged states speak of such nodes.
-pub fn node_text(alloc: Global, config: &Config, node: NodeId) -> Result<Vec<u8>, NoMemory>
-    ensures { IfOk result (λ text. text.items ≡ node_text config.now node) }
+/// Puts behind a text a node by its name, or by its number where the configuration hasn't it: forged states speak of
+/// such nodes.
+pub fn put_node(
+    alloc: Global,
+    text: &mut Vec<u8>,
+    config: &Config,
+    node: NodeId,
+) -> Result<(), NoMemory>
+    ensures { OnOk result (text.new.items ≡ text.old.items ++ node_text config.now node) }
 {
     if node.0 < config.nodes() {
-        return printed_name(alloc, config.node_name(node));
+        return put_printed_name(text, config.node_name(node));
     }
     let number = node.0;
-    let text = format!(in alloc; "{number}")?;
-    Ok(text.into_bytes())
+    let digits = format!(in alloc; "{number}")?;
+    text.extend_from_slice(digits.as_bytes())?;
+    Ok(())
 }
 
 fn flag_text(flag: Flag) -> &'static str
@@ -41,45 +48,47 @@ fn drained_text(flag: Flag, drained: bool) -> &'static str
     }
 }
 
-/// The line of a node of this name and this life, drained or not.
-fn life_line(
+/// Puts behind a text the line of a node of this name and this life, drained or not.
+fn put_life(
     alloc: Global,
+    text: &mut Vec<u8>,
     node: &[u8],
     life: Option<Life>,
     drained: bool,
-) -> Result<Vec<u8>, NoMemory>
-    ensures { IfOk result (λ line. line.items ≡ life_text node.now life drained) }
+) -> Result<(), NoMemory>
+    ensures { OnOk result (text.new.items ≡ text.old.items ++ life_text node.now life drained) }
 {
-    let mut line = Vec::from_slice(alloc, b"node ")?;
-    let name = printed_name(alloc, node)?;
-    line.extend_from_slice(&name)?;
+    text.extend_from_slice(b"node ")?;
+    put_printed_name(text, node)?;
     match life {
-        None => line.extend_from_slice(b" unknown\n")?,
+        None => text.extend_from_slice(b" unknown\n")?,
         Some(life) => {
-            line.extend_from_slice(flag_text(life.flag).as_bytes())?;
+            text.extend_from_slice(flag_text(life.flag).as_bytes())?;
             let incarnation = life.inc;
             let number = format!(in alloc; "{incarnation}")?;
-            line.extend_from_slice(number.as_bytes())?;
-            line.extend_from_slice(drained_text(life.flag, drained).as_bytes())?;
-            line.push(b'\n')?;
+            text.extend_from_slice(number.as_bytes())?;
+            text.extend_from_slice(drained_text(life.flag, drained).as_bytes())?;
+            text.push(b'\n')?;
         }
     }
-    Ok(line)
+    Ok(())
 }
 
-/// The line of a node, whose life is among these by their numbers, and whether it is drained among those.
-pub fn node_line(
+/// Puts behind a text the line of a node, whose life is among these by their numbers, and whether it is drained among
+/// those.
+pub fn put_node_line(
     alloc: Global,
+    text: &mut Vec<u8>,
     config: &Config,
     lives: &[Option<Life>; MAX_NODES],
     drained: &[bool; MAX_NODES],
     node: NodeId,
-) -> Result<Vec<u8>, NoMemory>
+) -> Result<(), NoMemory>
     requires node { node.0 < node_count config.now }
     requires place { node.0 < MAX_NODES }
-    ensures { IfOk result (λ line. line.items ≡ node_line config.now lives.now drained.now node) }
+    ensures { OnOk result (text.new.items ≡ text.old.items ++ node_line config.now lives.now drained.now node) }
 {
     let life = lives[node.0 as usize];
     let is_drained = drained[node.0 as usize];
-    life_line(alloc, config.node_name(node), life, is_drained)
+    put_life(alloc, text, config.node_name(node), life, is_drained)
 }

@@ -6,11 +6,11 @@ ghost use Rattle.dac_config.specs.Table.{node_count, node_name};
 ghost use Rattle.dac_placement.specs.Placement.{nodes_of, apps_of};
 ghost use Rattle.dac_status.specs.Texts.{header_text, node_line, app_lines, page_text};
 
-use crate::apps::app_lines;
-use crate::nodes::node_line;
+use crate::apps::put_app;
+use crate::nodes::put_node_line;
 use crate::summary::Summary;
 use dac_base::{AppId, NoMemory, NodeId};
-use dac_config::{Config, printed_name};
+use dac_config::{Config, put_printed_name};
 use dac_dots::Origin;
 use std::alloc::Global;
 
@@ -26,8 +26,7 @@ pub fn header(
     ensures { IfOk result (λ line. line.items ≡ header_text (node_name config.now node) origin) }
 {
     let mut line = Vec::from_slice(alloc, b"node ")?;
-    let name = printed_name(alloc, config.node_name(node))?;
-    line.extend_from_slice(&name)?;
+    put_printed_name(&mut line, config.node_name(node))?;
     match origin {
         None => line.extend_from_slice(b" off\n")?,
         Some(origin) => {
@@ -54,7 +53,7 @@ pub fn page(alloc: Global, config: &Config, summary: &Summary) -> Result<Vec<u8>
     Ok(text)
 }
 
-/// The lines of the nodes.
+/// Puts behind a text the lines of the nodes.
 fn put_nodes(
     alloc: Global,
     text: &mut Vec<u8>,
@@ -64,19 +63,13 @@ fn put_nodes(
     ensures { OnOk result (text.new.items ≡ text.old.items ++ flat_map (node_line config.now summary.now.lives summary.now.drained) (nodes_of config.now)) }
 {
     for number in 0..config.nodes() {
-        let line = node_line(
-            alloc,
-            config,
-            &summary.lives,
-            &summary.drained,
-            NodeId(number),
-        )?;
-        text.extend_from_slice(&line)?;
+        let node = NodeId(number);
+        put_node_line(alloc, text, config, &summary.lives, &summary.drained, node)?;
     }
     Ok(())
 }
 
-/// The lines of the applications.
+/// Puts behind a text the lines of the applications.
 fn put_apps(
     alloc: Global,
     text: &mut Vec<u8>,
@@ -86,8 +79,7 @@ fn put_apps(
     ensures { OnOk result (text.new.items ≡ text.old.items ++ flat_map (app_lines config.now summary.now.apps) (apps_of config.now)) }
 {
     for number in 0..config.apps() {
-        let lines = app_lines(alloc, config, &summary.apps, AppId(number))?;
-        text.extend_from_slice(&lines)?;
+        put_app(alloc, text, config, &summary.apps, AppId(number))?;
     }
     Ok(())
 }

@@ -39,19 +39,19 @@ fn is_no_memory(why: Refusal) -> bool
 }
 
 /// Does what a record did, and tells whether the answer is the record's.
-fn repeat(config: &Config, me: NodeId, node: &mut Node, record: &Record) -> Result<bool, NoMemory>
-    ensures { IfOk result (λ same. Repeats config.now me node.old record.now node.new same) }
+fn repeat(config: &Config, me: NodeId, node: &mut Node, entry: &Record) -> Result<bool, NoMemory>
+    ensures { IfOk result (λ same. Repeats config.now me node.old entry.now node.new same) }
 {
-    match node.prepare(config, me, &record.event) {
+    match node.prepare(config, me, &entry.event) {
         Ok(change) => {
             let reply = node.apply(change)?;
-            Ok(is_reply(&reply, &record.answer))
+            Ok(is_reply(&reply, &entry.answer))
         }
         Err(why) => {
             if is_no_memory(why) {
                 return Err(NoMemory);
             }
-            Ok(is_refusal(why, &record.answer))
+            Ok(is_refusal(why, &entry.answer))
         }
     }
 }

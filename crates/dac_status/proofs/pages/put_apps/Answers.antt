@@ -1,4 +1,4 @@
-use Rattle.std.proofs.Common.{◌++◌, ap, ◌∙◌}
+use Rattle.std.proofs.Common.{◌∙◌}
 use Rattle.dac_status.specs.Texts.{app_lines}
 use Rattle.dac_status.proofs.Places.{app_numbered}
 use Rattle.dac_status.proofs.Lines.{put_more}
@@ -6,6 +6,5 @@ use Rattle.dac_status.proofs.pages.put_apps.Goals as goal
 
 pub loop-number-preserved : goal.loop-number-preserved
 loop-number-preserved c =
-    c.in_ok-extend_from_slice.ensures.items
-    ∙ ap (λ lines. c.loop-number.text.items ++ lines) (c.deref.ensures.value ∙ c.in_ok-lines.ensures)
+    c.in_ok-put_app.ensures
     ∙ put_more app_numbered (app_lines c.args.config.now c.args.summary.now.apps) c.loop-number.number c.args.text.now.items c.loop-number.text.items c.loop-number.invariant

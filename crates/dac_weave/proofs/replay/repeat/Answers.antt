@@ -11,7 +11,7 @@ pub returns-in_ok-reply-in-Ok : goal.returns-in_ok-reply-in-Ok
 returns-in_ok-reply-in-Ok c =
     let t = c.args.config.now in
     let old = c.args.node.now in
-    let r = c.args.record.now in
+    let r = c.args.entry.now in
     let change = c.in-Ok.change in
     let stepped : Steps t c.args.me old r.event c.apply.new.self (Ok c.in_ok-reply-in-Ok.reply) =
     subst (λ (x : NodeValue × Reply). Steps t c.args.me old r.event x.0 (Ok x.1)) (λ i. (sym c.in_ok-reply-in-Ok.ensures.new i, sym c.in_ok-reply-in-Ok.ensures.reply i))
@@ -22,5 +22,5 @@ pub returns-else-is_no_memory : goal.returns-else-is_no_memory
 returns-else-is_no_memory c =
     let t = c.args.config.now in
     let old = c.args.node.now in
-    let r = c.args.record.now in
+    let r = c.args.entry.now in
     repeated t c.args.me old old r c.is_refusal.result (Err c.in-Err.why) (answered_steps t c.args.me old r.event c.in-Err.why c.in-Err.ensures.err (c.is_no_memory.ensures.no c.if-is_no_memory.false)) c.is_refusal.ensures

@@ -2,7 +2,7 @@ use Rattle.std.proofs.Common.{◌≡◌, ◌++◌}
 use Rattle.std.specs.Prelude.{codes}
 use Rattle.dac_status.specs.Texts.{group_in}
 use Rattle.dac_status.proofs.Lines.{texts}
-use Rattle.dac_status.proofs.apps.list_line.Given as goal
+use Rattle.dac_status.proofs.apps.put_list.Given as goal
 
 abbrev pub invariant-loop-group : goal.invariant-loop-group
-invariant-loop-group l = l.line.items ≡ codes "list" ++ texts (λ n. n) (group_in l.config l.groups l.marks) l.group
+invariant-loop-group l = l.text.items ≡ (l.fn.text.items ++ codes "list") ++ texts (λ n. n) (group_in l.config l.groups l.marks) l.group
