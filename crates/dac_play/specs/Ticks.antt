@@ -1,8 +1,10 @@
 -- The lines for a tick: what it claims, and what it passes.
-use Rattle.std.specs.Prelude.{ℕ, ◌+◌, ◌-◌, List, [], ◌∷◌, ◌++◌, length, nat_lt, codes, if◌then◌else◌}
+use Rattle.std.specs.Prelude.{ℕ, ◌+◌, ◌-◌, List, [], ◌∷◌, ◌++◌, Option, length, nat_lt, codes, if◌then◌else◌}
 use Rattle.std.specs.List.{flat_map}
 use Rattle.std.specs.Fmt.{decimal}
 use Rattle.dac_base.specs.declared.AppId.{AppId}
+use Rattle.dac_base.specs.declared.NodeId.{NodeId}
+use Rattle.dac_chains.specs.declared.claims.How.{How}
 use Rattle.dac_operations.specs.declared.act.Act.{Act}
 use Rattle.dac_operations.specs.declared.act.Act.TheVariants.{Claim}
 use Rattle.dac_operations.specs.Operations.{Operation}
@@ -14,10 +16,14 @@ use Rattle.dac_status.specs.Texts.{how_text, from_text}
 abbrev pub app_text : Table → AppId → List ℕ
 app_text table app = if nat_lt app.0 (app_count table) then name_text (app_name table app) else decimal app.0
 
+-- the term of a claim, how the application comes to the node, and from where, if it was taken from a node
+abbrev pub term_text : Table → ℕ → How → Option NodeId → List ℕ
+term_text table term how from = codes " term " ++ (decimal term ++ (how_text how ++ from_text table from))
+
 -- a claim, the operation of this number: its application and term, and how the application comes to the node; a tick issues nothing else
 abbrev pub claim_text : Table → ℕ → Act → List ℕ
 claim_text table operation (Claim app term how from) =
-    codes "claim " ++ (decimal operation ++ (codes " " ++ (app_text table app ++ (codes " term " ++ (decimal term ++ (how_text how ++ (from_text table from ++ codes "\n")))))))
+    codes "claim " ++ (decimal operation ++ (codes " " ++ (app_text table app ++ (term_text table term how from ++ codes "\n"))))
 claim_text table operation _ = []
 
 -- claims, behind so many operations of the world

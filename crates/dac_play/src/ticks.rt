@@ -2,9 +2,10 @@
 
 ghost use Rattle.std.specs.Prelude.{◌≡◌, ◌++◌, ◌+◌, ◌≤◌, length, IfOk, OnOk};
 ghost use Rattle.std.specs.List.{flat_map};
-ghost use Rattle.dac_play.specs.Ticks.{app_text, claim_text, claims_text, passed_text, ticked_text};
+ghost use Rattle.dac_play.specs.Ticks.{app_text, claim_text, claims_text, passed_text, term_text, ticked_text};
 
-use dac_base::{AppId, NoMemory};
+use dac_base::{AppId, NoMemory, NodeId};
+use dac_chains::How;
 use dac_config::{Config, put_printed_name};
 use dac_state::{Act, Op};
 use dac_status::{how_text, put_from};
@@ -21,6 +22,24 @@ fn put_app(alloc: Global, text: &mut Vec<u8>, config: &Config, app: AppId) -> Re
     let digits = format!(in alloc; "{number}")?;
     text.extend_from_slice(digits.as_bytes())?;
     Ok(())
+}
+
+/// Puts behind a text the term of a claim, how the application came to its node, and from where, if it was taken from
+/// a node.
+fn put_term(
+    alloc: Global,
+    text: &mut Vec<u8>,
+    config: &Config,
+    term: u64,
+    how: How,
+    from: Option<NodeId>,
+) -> Result<(), NoMemory>
+    ensures { OnOk result (text.new.items ≡ text.old.items ++ term_text config.now term how from) }
+{
+    let number = format!(in alloc; " term {term}")?;
+    text.extend_from_slice(number.as_bytes())?;
+    text.extend_from_slice(how_text(how).as_bytes())?;
+    put_from(alloc, text, config, from)
 }
 
 /// The line for a claim, the operation of this number. A tick issues nothing else.
@@ -43,11 +62,7 @@ fn claim_line(
     };
     let mut line = format!(in alloc; "claim {operation} ")?.into_bytes();
     put_app(alloc, &mut line, config, *app)?;
-    let term = *term;
-    let rest = format!(in alloc; " term {term}")?;
-    line.extend_from_slice(rest.as_bytes())?;
-    line.extend_from_slice(how_text(*how).as_bytes())?;
-    put_from(alloc, &mut line, config, *from)?;
+    put_term(alloc, &mut line, config, *term, *how, *from)?;
     line.push(b'\n')?;
     Ok(line)
 }
