@@ -1,10 +1,13 @@
 -- Placement computes what it says in words, for every configuration and every state, also one that no operation made.
-use Rattle.std.specs.Prelude.{◌≡◌, ◌↔◌, true, None, Some, MatchOption}
+use Rattle.std.specs.Prelude.{◌≡◌, ◌↔◌, ℕ, true, None, Some, MatchOption}
+use Rattle.dac_dots.specs.declared.dot.Origin.{Origin}
+use Rattle.dac_chains.specs.Lives.{IsLive}
+use Rattle.dac_placement.specs.declared.verdicts.Verdict.TheVariants.{Halted}
 use Rattle.dac_base.specs.declared.NodeId.{NodeId}
 use Rattle.dac_base.specs.declared.AppId.{AppId}
 use Rattle.dac_config.specs.Table.{Table}
 use Rattle.dac_state.specs.StateValue.{StateValue}
-use Rattle.dac_placement.specs.Placement.{IsEligible, is_eligible, EachEligible, RunsAt, runs_at, runner_of, IsFirst, first_choice, IsStanding, standing_of, IsVerdict, verdict_of, candidate_of}
+use Rattle.dac_placement.specs.Placement.{holder_of, key_of, IsUp, IsStartedAt, IsDrainedAt, IsEligible, is_eligible, EachEligible, RunsAt, runs_at, runner_of, IsFirst, first_choice, IsStanding, standing_of, IsVerdict, verdict_of, candidate_of}
 use Rattle.dac_placement.specs.laws.Rests.{Rests}
 
 -- which nodes may run an application
@@ -39,3 +42,12 @@ CandidateInWords = (table : Table) (s : StateValue) (app : AppId) (node : NodeId
 -- load does.
 abbrev pub RestsInWords : Type 0
 RestsInWords = (table : Table) (s : StateValue) (app : AppId) → (candidate_of (verdict_of table s app) ≡ None) ↔ Rests table s app (standing_of table s app)
+
+-- What was stopped at its holder stays there while that incarnation is live, whatever else is the matter. So neither a
+-- drain nor a permission that comes later starts it elsewhere.
+abbrev pub StoppedStays : Type 0
+StoppedStays = (table : Table) (s : StateValue) (app : AppId) (o : Origin) → holder_of s app ≡ Some o → IsUp s o → ¬ IsStartedAt s (key_of app o) → verdict_of table s app ≡ Halted o.node
+
+-- A live incarnation that is drained runs no application, whatever else is so of it.
+abbrev pub DrainedRunsNothing : Type 0
+DrainedRunsNothing = (table : Table) (s : StateValue) (app : AppId) (node : NodeId) (inc : ℕ) → IsLive s.lives node inc → IsDrainedAt s node inc → ¬ RunsAt table s app node

@@ -7,3 +7,4 @@ pub mod FirstNode
 pub mod Leads
 pub mod Judged
 pub mod Rests
+pub mod Stopped

@@ -8,12 +8,13 @@ use Rattle.dac_base.specs.declared.NodeId.{NodeId}
 use Rattle.dac_base.specs.declared.AppId.{AppId}
 use Rattle.dac_dots.specs.declared.dot.Origin.{Origin}
 use Rattle.dac_config.specs.Table.{Table}
+use Rattle.dac_chains.specs.Lives.{IsLive}
 use Rattle.dac_chains.specs.laws.Live.{live_is}
 use Rattle.dac_state.specs.StateValue.{StateValue}
 use Rattle.dac_placement.specs.declared.standing.Standing.{Standing}
 use Rattle.dac_placement.specs.declared.standing.Standing.TheVariants.{Unclaimed, Lost, Stopped, Barred, Upheld}
 use Rattle.dac_placement.specs.declared.verdicts.Verdict.TheVariants.{Takeover, Kept}
-use Rattle.dac_placement.specs.Placement.{IsAllowedAt, is_allowed_at, IsStartedAt, is_started_at, EachEligible, key_at, key_of, is_up, RunsAt, IsEarlier, is_earlier, IsFirst, first_choice, standing_at, standing_of, verdict_by, verdict_of, candidate_of}
+use Rattle.dac_placement.specs.Placement.{IsDrainedAt, IsAllowedAt, is_allowed_at, IsStartedAt, is_started_at, EachEligible, key_at, key_of, is_up, RunsAt, IsEarlier, is_earlier, IsFirst, first_choice, standing_at, standing_of, verdict_by, verdict_of, candidate_of}
 use Rattle.dac_placement.specs.laws.Tests.{up_is, allowed_is, started_is}
 use Rattle.dac_placement.specs.laws.FirstChoice.{first_is}
 use Rattle.dac_placement.specs.laws.Judged.{IsChoice, earlier_if, none_earlier}
@@ -102,3 +103,10 @@ module _ (table : Table) (s : StateValue) (app : AppId) where
       let permitted : IsAllowedAt table s (key_at app n r.inc) = subst (λ i. IsAllowedAt table s (key_at app n i)) same r.eligible.allowed in
       ap (λ h. option_map_or (standing_at table s app) h Unclaimed) r.holder
       ∙ upheld_by n (is_up s o) (is_started_at s (key_of app o)) (is_allowed_at table s (key_of app o)) ((up_is s o).1 r.up) ((started_is table s app n r.inc).1 started) ((allowed_is table s app n r.inc).1 permitted)
+
+  -- ---- what runs nothing
+
+  pub drained_runs_nothing : (n : NodeId) (inc : ℕ) → IsLive s.lives n inc → IsDrainedAt s n inc → ¬ RunsAt table s app n
+  drained_runs_nothing n inc live drained r =
+      let same = same_inc inc r.eligible.inc _ ((live_is s.lives n inc).1 live) ((live_is s.lives n r.eligible.inc).1 r.eligible.live) in
+      r.eligible.allowed.1 (subst (λ i. IsDrainedAt s n i) same drained)

@@ -2,7 +2,8 @@ use Rattle.dac_placement.specs.laws.Tests.{eligible_is, runs_is, runner_is}
 use Rattle.dac_placement.specs.laws.Standing.{standing_is}
 use Rattle.dac_placement.specs.laws.FirstChoice.{first_is}
 use Rattle.dac_placement.specs.laws.Judged.{verdict_in_words}
-use Rattle.dac_placement.specs.laws.Rests.{candidate_is, rests_is}
+use Rattle.dac_placement.specs.laws.Rests.{candidate_is, rests_is, drained_runs_nothing}
+use Rattle.dac_placement.specs.laws.Stopped.{stopped_stays}
 use Rattle.dac_placement.proofs.laws.placement_in_words.Goals as goal
 
 pub returns-clause-eligible : goal.returns-clause-eligible
@@ -28,3 +29,9 @@ returns-clause-candidate c = candidate_is
 
 pub returns-clause-rests : goal.returns-clause-rests
 returns-clause-rests c = rests_is
+
+pub returns-clause-stopped : goal.returns-clause-stopped
+returns-clause-stopped c = stopped_stays
+
+pub returns-clause-drained : goal.returns-clause-drained
+returns-clause-drained c = drained_runs_nothing
