@@ -3,3 +3,4 @@ pub mod Alone
 pub mod Nothing
 pub mod KeysOfMeaning
 mod PieceParts
+pub mod Outweighed

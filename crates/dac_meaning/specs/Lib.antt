@@ -6,4 +6,5 @@ pub mod MeaningLaws
 pub mod DeltaLaws
 pub mod PieceParts
 pub mod Below
+pub mod Outweighed
 pub mod laws

@@ -4,6 +4,7 @@
 ghost use Rattle.dac_lattice.specs.Lattices.{IsLattice};
 ghost use Rattle.dac_meaning.specs.StateValue.{StateValue, IsState, IsBelow, bottom, join};
 ghost use Rattle.dac_meaning.specs.MeaningLaws.{HeardAreDots, KnownAreNamed, PermitsAreUnreplaced, StartsAreUnreplaced, LivesAreGreatest, DownStaysDown, ClaimsAreGreatest, DrainsAreUnreplaced, WishedHaveStarts, PermittedAreSaid, DrainedAreSaid, MeaningsAreStates, NothingMeansBottom, OrderAndRepeatsAreNothing, JoinsAreTogether};
+ghost use Rattle.dac_meaning.specs.Outweighed.{DrainedStays, ForbiddenStays};
 ghost use Rattle.dac_meaning.specs.PieceParts.{PermitsAreJoined, WishesAreJoined, DrainsAreJoined, LivesAreJoined, ClaimsAreJoined};
 ghost use Rattle.dac_meaning.specs.DeltaLaws.{OneIsHeard, PermitDeltaIsMeaning, DrainDeltaIsMeaning, WishDeltaIsMeaning, LifeDeltaIsMeaning, ClaimDeltaIsMeaning};
 
@@ -67,8 +68,11 @@ pub fn pieces_are_parts()
 {}
 
 /// The order of states is a partial order, and the join is the least upper bound of two states. This
-/// holds for every value of the type, whether or not a set of operations means it.
+/// holds for every value of the type, whether or not a set of operations means it. The greater state is the one that
+/// drains or forbids: what is drained or forbidden stays so above, as long as none of the votes is replaced.
 pub fn order_of_states()
     ensures lattice { IsLattice IsState IsBelow join }
     ensures least { (s : StateValue) → IsState s → IsBelow bottom s }
+    ensures drained { DrainedStays }
+    ensures forbidden { ForbiddenStays }
 {}
