@@ -1,7 +1,7 @@
 -- The worked run: the world is ready once two nodes noted the loss, and their round is the one that fails over.
 use Rattle.std.proofs.Common.{◌≡◌, append-nil, ℕ, ◌+◌, ◌≤◌, Bool, true, false, not, cond, ◌||◌, ◌&&◌, List, [], ◌∷◌, ◌++◌, length, Option, Some, None, option_map, Ok, refl, sym, ap, subst, ◌∙◌, arith, inl, inr}
-use Rattle.std.specs.Prelude.{nat_eq, nat_lt, Result, ◌==◌}
-use Rattle.std.specs.Option.{option_map_or, option_and_then}
+use Rattle.std.specs.Prelude.{nat_eq, nat_lt, IsSome, Result, ◌==◌}
+use Rattle.std.specs.Option.{is_some, option_map_or, option_and_then}
 use Rattle.std.proofs.lemmas.Bool.{true≢false, false_from_ne_true, leb-true, le-ltb}
 use Rattle.std.proofs.lemmas.List.{length-append}
 use Rattle.dac_base.specs.declared.NodeId.{NodeId}
@@ -37,7 +37,7 @@ use Rattle.dac_model_world.specs.Deeds.{meanings, brings}
 use Rattle.dac_model_world.specs.Step.{step_by}
 use Rattle.dac_model_world.specs.Histories.{off_after}
 use Rattle.dac_meaning.specs.Below.{is_below}
-use Rattle.dac_model_world.specs.ModelWorld.{ModelWorld, WorldStepped, Run, start, happens, answered_by}
+use Rattle.dac_model_world.specs.ModelWorld.{ModelWorld, WorldStepped, Run, start, happens, answered_by, world_after}
 use Rattle.dac_model_world.specs.SetWorld.{NodeSet, SetWorld, no_sets, set_run}
 use Rattle.dac_model_world.specs.laws.Runs.{Run-push}
 use Rattle.dac_model_world.specs.laws.Sound.{Sound, held_at, sound_run, sound_start}
@@ -46,6 +46,7 @@ use Rattle.dac_settle.specs.WorldRounds.{members_of, AreRounds}
 use Rattle.dac_settle.specs.Worked.{first_node, second_node, IsEither, the_app, first_of, up_of}
 use Rattle.dac_settle.specs.WorkedLoss.{lost_node, loss_table, lost_claim, losing, waited, RunsCanFailOver}
 use Rattle.dac_settle.specs.laws.AnyPlacement.{one}
+use Rattle.dac_settle.specs.laws.WorldsSettle.{worlds_settle}
 use Rattle.dac_settle.proofs.LostClaim.{start_at, claiming, started_op, booted, starts_on, begun_log, begun_node, lost_ticks, lost_turn}
 use Rattle.dac_settle.proofs.Losing.{loss_set, loss_state, loss_note, claimed, is_lost, few, up_there, verdict_is, the_claim, fails_over}
 use Rattle.dac_settle.proofs.LossRound.{happens_so, is_ready, later_answers, the_rounds}
@@ -566,11 +567,27 @@ holds_at n either = elim either [
   | inr b ↦ subst (λ (k : NodeId). s16.node k ≡ Some (holding_set k)) (sym b) refl
 ]
 
+-- the answers to the round
+abbrev all_answers : List Answer
+all_answers = Ok (Ticked (the_claim ∷ []) []) ∷ later_answers log4 base4 holding w16.operations w14.node s14.node s16.issued short4 known4 means alike no_run no_set
+
+ready_there : IsReady (members_of (world_after loss_table w0 losing the_replies) s16)
+ready_there = subst (λ (w : ModelWorld). IsReady (members_of w s16)) run16.1 world_is_ready
+
+rounds_there : AreRounds loss_table (app_count loss_table) (world_after loss_table w0 losing the_replies) s16 waited all_answers
+rounds_there = subst (λ (w : ModelWorld). AreRounds loss_table (app_count loss_table) w s16 waited all_answers) run16.1 round_comes
+
+both_run : (n : NodeId) → IsEither n → IsSome ((set_run no_sets (losing ++ waited) (the_replies ++ all_answers)).node n)
+both_run n either = elim either [
+  | inl a ↦ ap (λ k. is_some ((set_run no_sets (losing ++ waited) (the_replies ++ all_answers)).node k)) a
+  | inr b ↦ ap (λ k. is_some ((set_run no_sets (losing ++ waited) (the_replies ++ all_answers)).node k)) b
+]
+
 pub runs_can_fail_over : RunsCanFailOver
 runs_can_fail_over = record {
   replies = the_replies;
   answered = run16.0;
-  ready = subst (λ (w : ModelWorld). IsReady (members_of w s16)) run16.1 world_is_ready;
+  ready = ready_there;
   held = holding_set;
   holds = holds_at;
   lost = λ n either. subst (λ (s : StateValue). IsLost s the_app lost_claim) (sym (means n either)) is_lost;
@@ -578,5 +595,7 @@ runs_can_fail_over = record {
   fails_over = fails_over;
   later = later_answers log4 base4 holding w16.operations w14.node s14.node s16.issued short4 known4 means alike no_run no_set;
   kinds = tt;
-  rounds = subst (λ (w : ModelWorld). AreRounds loss_table (app_count loss_table) w s16 waited (Ok (Ticked (the_claim ∷ []) []) ∷ later_answers log4 base4 holding w16.operations w14.node s14.node s16.issued short4 known4 means alike no_run no_set)) run16.1 round_comes;
+  rounds = rounds_there;
+  run = both_run;
+  settled = λ v ran n state runs. (worlds_settle loss_table (losing ++ waited) (the_replies ++ all_answers) v ran).each losing waited the_replies all_answers refl refl run16.0 ready_there rounds_there n state runs the_app (omega arith);
 }

@@ -49,7 +49,7 @@ use Rattle.dac_settle.specs.laws.AnyPlacement.{same_node, one}
 use Rattle.dac_settle.specs.laws.OnlyClaims.{AddsClaims, is_claim, alike, claim_greatest}
 use Rattle.dac_settle.specs.laws.Due.{candidate_due}
 use Rattle.dac_settle.specs.laws.Started.{AreStarts, are_live, live_only, no_claim_said}
-use Rattle.dac_settle.specs.laws.WorkedRound.{no_row}
+use Rattle.dac_settle.specs.laws.BothTick.{no_row}
 use Rattle.dac_settle.specs.WorkedLoss.{lost_node, loss_table, lost_claim}
 use Rattle.dac_settle.proofs.LostClaim.{none_some, claiming}
 

@@ -3,6 +3,7 @@ pub mod Rounds
 pub mod Settling
 pub mod Staying
 pub mod Worked
+pub mod WorkedMove
 pub mod WorldRounds
 pub mod WorkedLoss
 pub mod laws

@@ -57,12 +57,16 @@ begun starts = up_of first_node ∷ up_of second_node ∷ starts
 abbrev pub worked_set : List Operation
 worked_set = begun (start_of the_app first_node 2 ∷ start_of the_app second_node 2 ∷ [])
 
-abbrev pub worked_member : Member
-worked_member = record { inc = 1; held = worked_set; notes = [] }
+-- a node that holds a set in its first incarnation, and noted nothing
+abbrev pub member_with : List Operation → Member
+member_with held = record { inc = 1; held = held; notes = [] }
 
--- both run, and no other
+-- both run with this set, and no other node does
+abbrev pub both_hold : List Operation → NodeId → Option Member
+both_hold held n = cond (nat_eq n.0 0) (Some (member_with held)) (cond (nat_eq n.0 1) (Some (member_with held)) None)
+
 abbrev pub worked_nodes : NodeId → Option Member
-worked_nodes n = cond (nat_eq n.0 0) (Some worked_member) (cond (nat_eq n.0 1) (Some worked_member) None)
+worked_nodes = both_hold worked_set
 
 -- ---- what is so of it
 

@@ -1,13 +1,15 @@
 -- A worked run of the model world: a claim is lost and noted by two nodes. Once its time is over, a round of both fails over.
-use Rattle.std.specs.Prelude.{◌≡◌, true, false, List, [], ◌∷◌, Some, None, Result, Ok}
+use Rattle.std.specs.Prelude.{◌≡◌, ℕ, true, false, List, [], ◌∷◌, ◌++◌, Some, None, IsSome, Result, Ok}
 use Rattle.dac_base.specs.declared.NodeId.{NodeId}
 use Rattle.dac_chains.specs.declared.claims.Claim.{Claim}
 use Rattle.dac_chains.specs.declared.claims.How.TheVariants.{Normal, Failover as FailedOver}
 use Rattle.dac_operations.specs.declared.act.Act.TheVariants.{Claim as Claims}
 use Rattle.dac_operations.specs.Operations.{Operation}
+use Rattle.dac_meaning.specs.StateValue.{StateValue}
 use Rattle.dac_meaning.specs.Meaning.{meaning_of}
 use Rattle.dac_shapes.specs.declared.draft.SyncWait.TheVariants.{NoSync}
 use Rattle.dac_config.specs.Table.{Table, app_count}
+use Rattle.dac_placement.specs.Placement.{verdict_of}
 use Rattle.dac_decide.specs.FailoverWait.{IsLost}
 use Rattle.dac_events.specs.declared.Command.TheVariants.{Start}
 use Rattle.dac_events.specs.declared.WorldEvent.{WorldEvent}
@@ -15,7 +17,10 @@ use Rattle.dac_events.specs.declared.What.TheVariants.{Boot, Crash, Command, Tic
 use Rattle.dac_messages.specs.declared.reply.Reply.{Reply}
 use Rattle.dac_messages.specs.declared.reply.Reply.TheVariants.{Ticked, Shipped, Heard}
 use Rattle.dac_events.specs.declared.world_fault.WorldFault.{WorldFault}
-use Rattle.dac_model_world.specs.ModelWorld.{AnsweredAs, start, world_after}
+use Rattle.dac_model_world.specs.WorldValue.{WorldValue}
+use Rattle.dac_model_world.specs.ModelWorld.{AnsweredAs, RanAs, start, world_after}
+use Rattle.dac_model_world.specs.Convergence.{RunsWith}
+use Rattle.dac_settle.specs.Settling.{IsSettled}
 use Rattle.dac_model_world.specs.SetWorld.{NodeSet, no_sets, set_run}
 use Rattle.dac_settle.specs.WorldRounds.{IsReadyWorld, AreRounds}
 use Rattle.dac_settle.specs.Worked.{first_node, second_node, IsEither, the_app, first_of}
@@ -63,7 +68,8 @@ AreLater _ = ⊥
 
 -- The model world answers the events so, from the start. It is ready after them, two nodes run, and the claim is lost in
 -- what each of them holds. The events after them, answered so, are as many rounds as there are applications. By its tick
--- the first node takes the application from the lost one, in a failover.
+-- the first node takes the application from the lost one, in a failover. After all events both nodes still run, and the
+-- application is settled at each node that runs.
 pub record RunsCanFailOver : Type 0 where
   pub replies : List (Result Reply WorldFault)
   pub answered : AnsweredAs loss_table (start loss_table) losing replies
@@ -76,3 +82,6 @@ pub record RunsCanFailOver : Type 0 where
   pub later : List (Result Reply WorldFault)
   pub kinds : AreLater later
   pub rounds : AreRounds loss_table (app_count loss_table) (world_after loss_table (start loss_table) losing replies) (set_run no_sets losing replies) waited (Ok (Ticked (claim ∷ []) []) ∷ later)
+  pub run : (n : NodeId) → IsEither n → IsSome ((set_run no_sets (losing ++ waited) (replies ++ Ok (Ticked (claim ∷ []) []) ∷ later)).node n)
+  pub settled : (v : WorldValue) → RanAs loss_table (losing ++ waited) (replies ++ Ok (Ticked (claim ∷ []) []) ∷ later) v
+      → (n : ℕ) (state : StateValue) → RunsWith v n state → IsSettled (verdict_of loss_table state the_app)

@@ -9,5 +9,7 @@ pub mod Settled
 pub mod OneEvent
 pub mod WorldsSettle
 pub mod Started
+pub mod BothTick
 pub mod WorkedRound
+pub mod MovedRound
 pub mod Unsettling

@@ -4,6 +4,7 @@ ghost use Rattle.dac_settle.specs.Worked.{RoundsCanBe};
 ghost use Rattle.dac_settle.specs.Rules.{judged, restless_of};
 ghost use Rattle.dac_settle.specs.Staying.{Stays};
 ghost use Rattle.dac_settle.specs.WorldRounds.{Settles};
+ghost use Rattle.dac_settle.specs.WorkedMove.{RoundsCanMove};
 ghost use Rattle.dac_settle.specs.WorkedLoss.{RunsCanFailOver};
 ghost use Rattle.dac_model_world.specs.ModelWorld.{InEachRun};
 
@@ -19,6 +20,8 @@ pub fn rounds_settle()
 pub fn rounds_can_be()
     // Two nodes are ready, and a round settles their application.
     ensures members { RoundsCanBe }
+    // The node that has an application is drained, and a round of both moves it.
+    ensures moves { RoundsCanMove }
     // A run from the start leads to a ready world in which a claim is lost, and two nodes noted it. Once its time is over
     // both tick, ship and hear: a round, which fails over.
     ensures runs { RunsCanFailOver }

@@ -42,14 +42,17 @@ pair_of {X = X} {Y = Y} {a = a} {c = c} {b = b} {d = d} e = let pair : ◌≡◌
 abbrev pub up_life : Life
 up_life = record { inc = 1; flag = IsUp }
 
-module _ (starts : List Operation) (are : AreStarts starts) where
+-- the operations say nothing of lives
+abbrev pub SayNoLives : List Operation → Type 0
+SayNoLives os = (o : Operation) → In o os → life_said o.dot o.act ≡ None
+
+pub starts_say_none : (starts : List Operation) → AreStarts starts → SayNoLives starts
+starts_say_none starts are o i = ap (life_said o.dot) (are o i).2
+
+-- ---- lives
+module _ (rest : List Operation) (silent : SayNoLives rest) where
   abbrev s : List Operation
-  s = begun starts
-
-  -- ---- lives
-
-  start_is_no_life : (o : Operation) → IsStart o → (n : NodeId) (l : Life) → life_said o.dot o.act ≡ Some (n, l) → ⊥
-  start_is_no_life o is n l says = none_some (sym (ap (life_said o.dot) is.2) ∙ says)
+  s = begun rest
 
   up_says : (m : NodeId) (o : Operation) → o ≡ up_of m → (n : NodeId) (l : Life) → life_said o.dot o.act ≡ Some (n, l) → (m ≡ n) × (up_life ≡ l)
   up_says m o is n l says = pair_of (sym (ap (λ (q : Operation). life_said q.dot q.act) is) ∙ says)
@@ -60,7 +63,7 @@ module _ (starts : List Operation) (are : AreStarts starts) where
     | inl one ↦ let is = up_says first_node says.0 one n l says.1.1 in (inl (sym is.0), is.1)
     | inr more ↦ elim more [
       | inl two ↦ let is = up_says second_node says.0 two n l says.1.1 in (inr (sym is.0), is.1)
-      | inr start ↦ absurd (start_is_no_life says.0 (are says.0 start) n l says.1.1)
+      | inr more ↦ none_some (sym (silent says.0 more) ∙ says.1.1)
     ]
   ]
 
@@ -71,24 +74,30 @@ module _ (starts : List Operation) (are : AreStarts starts) where
   ]
 
   -- both are live
-  pub are_live : (n : NodeId) → IsEither n → IsLive (meaning_of s).lives n 1
-  are_live n either = ap (λ lives. map.get lives n) (lives-meaning s) ∙ by_life (map.get (lives_of s) n) (lives_are s n)
+  pub up_live : (n : NodeId) → IsEither n → IsLive (meaning_of s).lives n 1
+  up_live n either = ap (λ lives. map.get lives n) (lives-meaning s) ∙ by_life (map.get (lives_of s) n) (lives_are s n)
     where
       by_life : (o : Option Life) → IsGreatest life_cmp (IsSaid life_said (pairs s) n) o → o ≡ Some up_life
       by_life None none = absurd (none up_life (is_said life_said s n up_life (up_said n either)))
       by_life (Some l) is = ap (λ k. Some k) (sym (said_life n l (of_said life_said s n l is.0)).1)
 
   -- and nothing else is
-  pub live_only : (n : NodeId) (inc : ℕ) → IsLive (meaning_of s).lives n inc → IsEither n × (1 ≡ inc)
-  live_only n inc alive =
+  pub only_up_live : (n : NodeId) (inc : ℕ) → IsLive (meaning_of s).lives n inc → IsEither n × (1 ≡ inc)
+  only_up_live n inc alive =
       let there : map.get (lives_of s) n ≡ Some (record { inc = inc; flag = IsUp }) = sym (ap (λ lives. map.get lives n) (lives-meaning s)) ∙ alive in
       let is : IsGreatest life_cmp (IsSaid life_said (pairs s) n) (Some (record { inc = inc; flag = IsUp })) = subst (IsGreatest life_cmp (IsSaid life_said (pairs s) n)) there (lives_are s n) in
       let said = said_life n (record { inc = inc; flag = IsUp }) (of_said life_said s n (record { inc = inc; flag = IsUp }) is.0) in
       (said.0, ap (λ (l : Life). l.inc) said.1)
 
-  -- ---- claims
+-- ---- starts
+module _ (starts : List Operation) (are : AreStarts starts) where
+  pub are_live : (n : NodeId) → IsEither n → IsLive (meaning_of (begun starts)).lives n 1
+  are_live = up_live starts (starts_say_none starts are)
 
-  pub no_claim_said : (app : AppId) (c : Claim) → SaysFor claim_said s app c → ⊥
+  pub live_only : (n : NodeId) (inc : ℕ) → IsLive (meaning_of (begun starts)).lives n inc → IsEither n × (1 ≡ inc)
+  live_only = only_up_live starts (starts_say_none starts are)
+
+  pub no_claim_said : (app : AppId) (c : Claim) → SaysFor claim_said (begun starts) app c → ⊥
   no_claim_said app c says = elim says.1.0 [
     | inl one ↦ none_some (sym (ap (λ (q : Operation). claim_said q.dot q.act) one) ∙ says.1.1)
     | inr more ↦ elim more [
@@ -97,9 +106,9 @@ module _ (starts : List Operation) (are : AreStarts starts) where
     ]
   ]
 
-  pub none_claimed : (app : AppId) → map.get (meaning_of s).claims app ≡ None
-  none_claimed app = ap (λ claims. map.get claims app) (claims-meaning s) ∙ by_claim (map.get (claims_of s) app) (claims_are s app)
+  pub none_claimed : (app : AppId) → map.get (meaning_of (begun starts)).claims app ≡ None
+  none_claimed app = ap (λ claims. map.get claims app) (claims-meaning (begun starts)) ∙ by_claim (map.get (claims_of (begun starts)) app) (claims_are (begun starts) app)
     where
-      by_claim : (o : Option Claim) → IsGreatest claim_cmp (IsSaid claim_said (pairs s) app) o → o ≡ None
+      by_claim : (o : Option Claim) → IsGreatest claim_cmp (IsSaid claim_said (pairs (begun starts)) app) o → o ≡ None
       by_claim None none = refl
-      by_claim (Some c) is = absurd (no_claim_said app c (of_said claim_said s app c is.0))
+      by_claim (Some c) is = absurd (no_claim_said app c (of_said claim_said (begun starts) app c is.0))
