@@ -3,5 +3,6 @@ mod Playing
 mod ScriptRuns
 mod Shares
 mod Simulating
+mod Telling
 mod Unchecked
 mod WireTexts

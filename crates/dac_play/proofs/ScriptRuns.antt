@@ -8,14 +8,16 @@ use Rattle.dac_events.specs.declared.WorldEvent.{WorldEvent}
 use Rattle.dac_core.specs.WorldValue.{WorldValue}
 use Rattle.dac_core.specs.ModelWorld.{ModelWorld, WorldStepped, Shows, Run, RanAs, start, happens}
 use Rattle.dac_core.specs.EveryList.{run_from}
+use Rattle.dac_model_world.specs.SetWorld.{set_run, no_sets}
 use Rattle.dac_core.specs.laws.Headline.{converged}
 use Rattle.dac_core.specs.laws.EveryList.{own_run, is_enough}
 use Rattle.dac_script.specs.declared.line.ScriptLine.{ScriptLine}
 use Rattle.dac_script.specs.declared.line.ScriptLine.TheVariants as says
 use Rattle.dac_play.specs.Sharing.{state_in, shipping, delivered, told}
 use Rattle.dac_play.specs.Play.{after_line}
-use Rattle.dac_play.specs.Runs.{deliveries, telling, pairs_in, line_events, events_from, world_from, events_in, answers_in, IsRunOf, PlaysRuns}
+use Rattle.dac_play.specs.Runs.{deliveries, telling, pairs_in, line_events, events_from, world_from, events_in, answers_in, IsRunOf, ShareUnites, PlaysRuns}
 use Rattle.dac_play.proofs.EachOther.{tell_each_other}
+use Rattle.dac_play.proofs.Telling.{telling_unites}
 
 run_from-append : (t : Table) (w : ModelWorld) (es fs : List WorldEvent) → run_from t w (es ++ fs) ≡ run_from t (run_from t w es) fs
 run_from-append t w [] fs = refl
@@ -63,8 +65,17 @@ is_run t lines v shows =
     let ran = script_ran t lines v shows in
     record { ran = ran; converges = converged t (events_in t lines) (answers_in t lines) v ran; enough = is_enough t (start t) (events_in t lines) }
 
+-- a share after these lines
+share_unites : (t : Table) (lines : List ScriptLine) → ShareUnites t (world_from t (start t) lines) (set_run no_sets (events_in t lines) (answers_in t lines))
+share_unites t lines =
+    subst (λ (w : ModelWorld). ShareUnites t w (set_run no_sets (events_in t lines) (answers_in t lines))) (lines_lead t (start t) lines)
+    (λ know numbers.
+    let w = run_from t (start t) (events_in t lines) in
+    telling_unites t (events_in t lines) (pairs_in w) (tell_each_other (λ node. is_some (state_in w node)) w.count) numbers know)
+
 pub plays_runs : (t : Table) (script : List ScriptLine) → PlaysRuns t script
 plays_runs t script = record {
   runs = λ n. is_run t (take n script);
   shares = λ n. let w = world_from t (start t) (take n script) in tell_each_other (λ node. is_some (state_in w node)) w.count;
+  unites = λ n. share_unites t (take n script);
 }

@@ -1,15 +1,20 @@
 -- A script in the words of runs: the events that its lines are.
-use Rattle.std.specs.Prelude.{ℕ, take, List, [], ◌∷◌, ◌++◌, Result, length, if◌then◌else◌}
+use Rattle.std.specs.Prelude.{◌≡◌, ℕ, take, List, [], ◌∷◌, ◌++◌, Result, Err, length, if◌then◌else◌}
+use Rattle.std.specs.List.{AllByRecursion}
 use Rattle.std.specs.Result.{is_ok}
 use Rattle.dac_base.specs.declared.NodeId.{NodeId}
 use Rattle.dac_config.specs.Table.{Table}
 use Rattle.dac_events.specs.declared.WorldEvent.{WorldEvent}
+use Rattle.dac_events.specs.declared.refusal.Refusal.TheVariants.{DotsUsedUp}
+use Rattle.dac_events.specs.declared.world_fault.WorldFault.TheVariants.{Refused}
 use Rattle.dac_messages.specs.declared.reply.Reply.{Reply}
 use Rattle.dac_core.specs.WorldFault.{WorldFault}
 use Rattle.dac_core.specs.WorldValue.{WorldValue}
 use Rattle.dac_core.specs.ModelWorld.{ModelWorld, WorldStepped, Shows, RanAs, start, happens}
 use Rattle.dac_core.specs.Converges.{Converges}
 use Rattle.dac_core.specs.EveryList.{answers_of, IsEnough}
+use Rattle.dac_model_world.specs.SetWorld.{SetWorld, set_run, no_sets}
+use Rattle.dac_model_world.specs.Shares.{KnowPresent, HaveUnion}
 use Rattle.dac_script.specs.declared.line.ScriptLine.{ScriptLine}
 use Rattle.dac_script.specs.declared.line.ScriptLine.TheVariants as says
 use Rattle.dac_play.specs.Pairs.{pairs, TellsEachOther}
@@ -64,8 +69,21 @@ pub record IsRunOf (t : Table) (lines : List ScriptLine) (v : WorldValue) : Type
   pub converges : Converges t (events_in t lines) (answers_in t lines) v
   pub enough : IsEnough (answers_in t lines)
 
+-- no event is refused since numbers are used up
+abbrev pub HaveNumbers : List (Result Reply WorldFault) → Type 0
+HaveNumbers answers = AllByRecursion (λ (answer : Result Reply WorldFault). ¬ (answer ≡ Err (Refused DotsUsedUp))) answers
+
+-- A share from this world on, beside the world of sets, leaves all running nodes the union of what they had. It does so
+-- where each of them knows the present incarnation of each other one, or nothing of its life, and no numbers are used up.
+abbrev pub ShareUnites : Table → ModelWorld → SetWorld → Type 0
+ShareUnites t w sets =
+    let share = telling t w (pairs_in w) in
+    let replies = answers_of t w share in
+    KnowPresent sets → HaveNumbers replies → HaveUnion sets (set_run sets share replies)
+
 -- After each number of lines of a script its world is that of a run from the start. The run is by the events that
--- these lines are. A share is told from each node that runs to each other one.
+-- these lines are. A share is told from each node that runs to each other one, and leaves all of them the union.
 pub record PlaysRuns (t : Table) (script : List ScriptLine) : Type 0 where
   pub runs : (n : ℕ) (v : WorldValue) → Shows t (world_from t (start t) (take n script)) v → IsRunOf t (take n script) v
   pub shares : (n : ℕ) → let w = world_from t (start t) (take n script) in TellsEachOther (HasState (state_in w) w.count) (pairs_in w)
+  pub unites : (n : ℕ) → let lines = take n script in ShareUnites t (world_from t (start t) lines) (set_run no_sets (events_in t lines) (answers_in t lines))

@@ -74,7 +74,7 @@ module _ (t : Table) (w : ModelWorld) (s : SetWorld) (h : Inside w.count s) wher
   inside_by n what (Err fault) here = h
   inside_by n what (Ok e) here = inside_answered n what (model_step t n (w.node n) e).node (model_step t n (w.node n) e).answer here
 
-  inside_happens : (e : WorldEvent) → Inside (happens t w e).world.count (set_step s e.node e.what (happens t w e).answer)
+  pub inside_happens : (e : WorldEvent) → Inside (happens t w e).world.count (set_step s e.node e.what (happens t w e).answer)
   inside_happens e =
       elim (nat_lt e.node.0 w.count) as (λ b. nat_lt e.node.0 w.count ≡ b → let by = cond b (happens_by t w e.node (event_of w.operations w.messages e.what)) (record { world = w; answer = Err NoSuchNode }) in Inside by.world.count (set_step s e.node e.what by.answer)) [
         | true ↦ λ here. inside_by e.node e.what (event_of w.operations w.messages e.what) here
@@ -112,7 +112,7 @@ right true b h = h
 right false b h = absurd (true≢false (sym h))
 
 -- what is heard, or comes to a node whose numbers of deltas are used up
-abbrev Outcome : ℕ → Answer → Type 0
+abbrev pub Outcome : ℕ → Answer → Type 0
 Outcome count a = IsHeard a ⊎ IsFull count a
 
 module _ (t : Table) (w : ModelWorld) (s : SetWorld) (h : Sound w s) (deltas : NodeId → ℕ) (few : IsFew deltas w) (n : NodeId) where
@@ -167,7 +167,7 @@ module _ (t : Table) (w : ModelWorld) (s : SetWorld) (h : Sound w s) (deltas : N
   heard_by_node _ runs fits = absurd fits
 
 -- ---- one event of the world, and every run
-heard_happens : (t : Table) (w : ModelWorld) (s : SetWorld) (deltas : NodeId → ℕ) (e : WorldEvent) → Sound w s → IsFew deltas w → Inside w.count s → RunsIn s e.node → Fits s e.node e.what → Outcome (deltas e.node) (happens t w e).answer
+pub heard_happens : (t : Table) (w : ModelWorld) (s : SetWorld) (deltas : NodeId → ℕ) (e : WorldEvent) → Sound w s → IsFew deltas w → Inside w.count s → RunsIn s e.node → Fits s e.node e.what → Outcome (deltas e.node) (happens t w e).answer
 heard_happens t w s deltas e h few inside runs fits =
     subst (λ b. Outcome (deltas e.node) (cond b (happens_by t w e.node (event_of w.operations w.messages e.what)) (record { world = w; answer = Err NoSuchNode })).answer) (sym (inside e.node runs))
     (heard_by_node t w s h deltas few e.node e.what runs fits)

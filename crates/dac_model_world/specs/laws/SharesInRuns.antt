@@ -81,7 +81,7 @@ module _ (w : ModelWorld) (s : SetWorld) (h : Sound w s) (k : Numbered w) where
       between : (a b c : ℕ) → a ≤ b → b ≤ a → c ≡ b → a ≡ c
       between a b c p q e = omega arith
 
-  all_present : KnowPresent s → (n m : NodeId) (mine theirs : NodeSet) → s.node n ≡ Some mine → s.node m ≡ Some theirs → (life : Life) → map.get (meaning_of mine.operations).lives m ≡ Some life → life.inc ≡ theirs.inc
+  pub all_present : KnowPresent s → (n m : NodeId) (mine theirs : NodeSet) → s.node n ≡ Some mine → s.node m ≡ Some theirs → (life : Life) → map.get (meaning_of mine.operations).lives m ≡ Some life → life.inc ≡ theirs.inc
   all_present know n m mine theirs on at life e = elim (nat_eq n.0 m.0) as (λ b. nat_eq n.0 m.0 ≡ b → life.inc ≡ theirs.inc) [
     | true ↦ λ t.
         let same : n ≡ m = ap (λ i. record { 0 = i }) (exact_unsigned_eq n.0 m.0 t) in

@@ -61,7 +61,7 @@ slice_short (z ∷ xs) (suc k) x e = both k (length xs) (slice_short xs k x e)
     both : (k l : ℕ) → k < l → suc k < suc l
     both k l h = omega arith
 
-counted_last : {X : Type 0} (xs : List X) (y : X) → counted (xs ++ y ∷ []) (length xs + 1) ≡ Some y
+pub counted_last : {X : Type 0} (xs : List X) (y : X) → counted (xs ++ y ∷ []) (length xs + 1) ≡ Some y
 counted_last xs y =
     let one : nat_eq (length xs + 1) 0 ≡ false = false_from_ne_true (nat_eq (length xs + 1) 0) (λ t. no_zero (length xs) (exact_unsigned_eq (length xs + 1) 0 t)) in
     (λ i. cond (one i) None (slice_get (xs ++ y ∷ []) (less (length xs) i))) ∙ slice_last xs y
@@ -110,11 +110,11 @@ life_stays os ps m life inside e said = ap (λ lives. map.get lives m) (lives-me
 
 -- ---- what goes on along a share
 -- the node runs on as the same incarnation with as much or more
-record Grows (held : NodeSet) (after : Option NodeSet) : Type 0 where
-  now : NodeSet
-  on : after ≡ Some now
-  same : now.inc ≡ held.inc
-  within : Within held.operations now.operations
+pub record Grows (held : NodeSet) (after : Option NodeSet) : Type 0 where
+  pub now : NodeSet
+  pub on : after ≡ Some now
+  pub same : now.inc ≡ held.inc
+  pub within : Within held.operations now.operations
 
 grows_same : (held : NodeSet) (after : Option NodeSet) → after ≡ Some held → Grows held after
 grows_same held after on = record { now = held; on = on; same = refl; within = λ o i. i }
@@ -123,9 +123,9 @@ grows_more : (held : NodeSet) (ps : List Operation) (after : Option NodeSet) →
 grows_more held ps after on = record { now = and_more held ps; on = on; same = refl; within = λ o i. In-append_left o held.operations ps i }
 
 -- from s the world of sets goes on to next: running nodes run on, and copies stay
-record Onward (s next : SetWorld) : Type 0 where
-  sets : (n : NodeId) (held : NodeSet) → s.node n ≡ Some held → Grows held (next.node n)
-  copies : (k : ℕ) (c : Copy) → counted s.copies k ≡ Some c → counted next.copies k ≡ Some c
+pub record Onward (s next : SetWorld) : Type 0 where
+  pub sets : (n : NodeId) (held : NodeSet) → s.node n ≡ Some held → Grows held (next.node n)
+  pub copies : (k : ℕ) (c : Copy) → counted s.copies k ≡ Some c → counted next.copies k ≡ Some c
 
 onward_same : (s : SetWorld) → Onward s s
 onward_same s = record { sets = λ n held on. grows_same held (s.node n) on; copies = λ k c e. e }
@@ -148,14 +148,14 @@ other_node m n f e = true≢false (sym (eq-eqb m.0 n.0 (ap (λ (k : NodeId). k.0
 -- ---- a share that begins in this world of sets, in which each running node knows the present incarnation of each, or nothing of its life
 module _ (first : SetWorld) (present : (n m : NodeId) (mine theirs : NodeSet) → first.node n ≡ Some mine → first.node m ≡ Some theirs → (life : Life) → map.get (meaning_of mine.operations).lives m ≡ Some life → life.inc ≡ theirs.inc) where
   -- the operation came with all that a node had that ran
-  record From (os : List Operation) (o : Operation) : Type 0 where
-    node : NodeId
-    held : NodeSet
-    on : first.node node ≡ Some held
-    there : In o held.operations
-    all : Within held.operations os
+  pub record From (os : List Operation) (o : Operation) : Type 0 where
+    pub node : NodeId
+    pub held : NodeSet
+    pub on : first.node node ≡ Some held
+    pub there : In o held.operations
+    pub all : Within held.operations os
 
-  abbrev AreFrom : List Operation → Type 0
+  abbrev pub AreFrom : List Operation → Type 0
   AreFrom os = (o : Operation) → In o os → From os o
 
   from_more : (os ps : List Operation) (o : Operation) → Within os ps → From os o → From ps o
@@ -168,7 +168,7 @@ module _ (first : SetWorld) (present : (n m : NodeId) (mine theirs : NodeSet) �
   ]
 
   -- what such a set knows of a node that ran is its present incarnation
-  knows_present : (os : List Operation) → AreFrom os → (m : NodeId) (theirs : NodeSet) → first.node m ≡ Some theirs → (life : Life) → map.get (meaning_of os).lives m ≡ Some life → life.inc ≡ theirs.inc
+  pub knows_present : (os : List Operation) → AreFrom os → (m : NodeId) (theirs : NodeSet) → first.node m ≡ Some theirs → (life : Life) → map.get (meaning_of os).lives m ≡ Some life → life.inc ≡ theirs.inc
   knows_present os from m theirs on life e =
       let said = life_says os m life e in
       let f = from said.0 said.1.0 in
@@ -176,16 +176,16 @@ module _ (first : SetWorld) (present : (n m : NodeId) (mine theirs : NodeSet) �
 
   -- ---- what holds at each moment of the share
   -- the node runs on, with whole sets alone
-  record Kept (held : NodeSet) (after : Option NodeSet) : Type 0 where
-    grows : Grows held after
-    from : AreFrom grows.now.operations
+  pub record Kept (held : NodeSet) (after : Option NodeSet) : Type 0 where
+    pub grows : Grows held after
+    pub from : AreFrom grows.now.operations
 
-  record Shared (s : SetWorld) : Type 0 where
-    runs : (n : NodeId) (held : NodeSet) → first.node n ≡ Some held → Kept held (s.node n)
-    off : (n : NodeId) → first.node n ≡ None → s.node n ≡ None
-    copies : (k : ℕ) (c : Copy) → length first.copies < k → counted s.copies k ≡ Some c → AreFrom c.operations
+  pub record Shared (s : SetWorld) : Type 0 where
+    pub runs : (n : NodeId) (held : NodeSet) → first.node n ≡ Some held → Kept held (s.node n)
+    pub off : (n : NodeId) → first.node n ≡ None → s.node n ≡ None
+    pub copies : (k : ℕ) (c : Copy) → length first.copies < k → counted s.copies k ≡ Some c → AreFrom c.operations
 
-  shared_first : Shared first
+  pub shared_first : Shared first
   shared_first = record {
     runs = λ n held on. record { grows = record { now = held; on = on; same = refl; within = λ o i. i }; from = λ o i. record { node = n; held = held; on = on; there = i; all = λ q j. j } };
     off = λ n e. e;
@@ -193,7 +193,7 @@ module _ (first : SetWorld) (present : (n m : NodeId) (mine theirs : NodeSet) �
   }
 
   -- who runs has whole sets alone
-  from_now : (s : SetWorld) → Shared s → (n : NodeId) (held : NodeSet) → s.node n ≡ Some held → AreFrom held.operations
+  pub from_now : (s : SetWorld) → Shared s → (n : NodeId) (held : NodeSet) → s.node n ≡ Some held → AreFrom held.operations
   from_now s h n held on = by_first (first.node n) refl
     where
       by_first : (x : Option NodeSet) → first.node n ≡ x → AreFrom held.operations
@@ -201,9 +201,9 @@ module _ (first : SetWorld) (present : (n m : NodeId) (mine theirs : NodeSet) �
       by_first (Some then) e = let k = h.runs n then e in subst (λ (x : NodeSet). AreFrom x.operations) (some_same k.grows.now held (sym k.grows.on ∙ on)) k.from
 
   -- ---- one event of the share
-  record Next (s next : SetWorld) : Type 0 where
-    shared : Shared next
-    onward : Onward s next
+  pub record Next (s next : SetWorld) : Type 0 where
+    pub shared : Shared next
+    pub onward : Onward s next
 
   next_same : (s : SetWorld) → Shared s → Next s s
   next_same s h = record { shared = h; onward = onward_same s }
@@ -269,7 +269,7 @@ module _ (first : SetWorld) (present : (n m : NodeId) (mine theirs : NodeSet) �
     next_heard (Deliver k) fresh lt u = next_hear k fresh lt u
     next_heard _ fresh lt u = absurd lt
 
-    next_event : (what : What) (a : Answer) → InShare (length first.copies) what a → Unites s n what a → Next s (set_step s n what a)
+    pub next_event : (what : What) (a : Answer) → InShare (length first.copies) what a → Unites s n what a → Next s (set_step s n what a)
     next_event what (Err fault) fits u = next_same s h
     next_event what (Ok (Shipped m)) fits u = next_ship what m u
     next_event what (Ok (Heard fresh)) fits u = next_heard what fresh fits u
