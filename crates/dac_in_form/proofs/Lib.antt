@@ -1,0 +1,2 @@
+mod MeaningForm
+mod HeldForm

@@ -1,0 +1,49 @@
+-- What is in form of what runs hold. Operations in form mean a state in form, where the counts fit their fields.
+use Rattle.std.specs.Prelude.{◌<◌, ◌^◌, List, length}
+use Rattle.std.specs.declared.cmp.Ordering.{Ordering}
+use Rattle.std.specs.FinMap as map
+use Rattle.dac_dots.specs.Dots.{origin_cmp}
+use Rattle.dac_dots.specs.InOrder.{in_order}
+use Rattle.dac_wishes.specs.declared.key.Key.{Key}
+use Rattle.dac_wishes.specs.Keys.{key_cmp}
+use Rattle.dac_wishes.specs.Writes.{Writes, dots_at}
+use Rattle.dac_wishes.specs.StartsByKey.{starts_by_key}
+use Rattle.dac_wishes.specs.Votes.{Votes, votes_at}
+use Rattle.dac_wishes.specs.VotesByKey.{votes_by_key}
+use Rattle.dac_operations.specs.Operations.{Operation}
+use Rattle.dac_meaning.specs.StateValue.{StateValue}
+use Rattle.dac_meaning.specs.Meaning.{In, Agree, meaning_of}
+use Rattle.dac_config.specs.Table.{Table}
+use Rattle.dac_bytes.specs.Ranges.{CountsFit}
+use Rattle.dac_bytes.specs.declared.version.Version.TheVariants.{Two}
+use Rattle.dac_state.specs.StateForm.{IsInForm}
+use Rattle.dac_wire.specs.Form.{IsOperation}
+
+-- how many keys have votes, and how many votes each key has, fits its field
+pub record VotesFit {K : Type 0} (R : K → K → Ordering) (votes : Votes R) : Type 0 where
+  pub keys : length (votes_by_key R votes) < 2 ^ 32
+  pub dots : (key : K) → length (votes_at R key votes) < 2 ^ 32
+
+-- the same of start wishes
+pub record StartsFit (starts : Writes) : Type 0 where
+  pub keys : length (starts_by_key starts) < 2 ^ 32
+  pub dots : (key : Key) → length (in_order (dots_at key starts)) < 2 ^ 32
+
+-- The counts of a state fit the fields that they are written in. This says nothing of any name or number.
+pub record StateFits (s : StateValue) : Type 0 where
+  pub heard : CountsFit s.heard
+  pub known : CountsFit s.known
+  pub permits : VotesFit key_cmp s.permits
+  pub starts : StartsFit s.starts
+  pub lives : length (map.entries s.lives) < 2 ^ 8
+  pub claims : length (map.entries s.claims) < 2 ^ 16
+  pub drains : VotesFit origin_cmp s.drains
+
+-- each of the operations has bytes that are read again
+abbrev pub AreInForm : Table → List Operation → Type 0
+AreInForm t os = (o : Operation) → In o os → IsOperation Two t o
+
+-- What they mean has such bytes too, where the counts fit their fields. This asks that no two different operations have
+-- one dot.
+abbrev pub MeaningsAreInForm : Type 0
+MeaningsAreInForm = (t : Table) (os : List Operation) → Agree os → AreInForm t os → StateFits (meaning_of os) → IsInForm Two t (meaning_of os)

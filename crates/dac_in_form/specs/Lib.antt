@@ -1,0 +1,3 @@
+pub mod InForm
+pub mod HeldForm
+pub mod Issued

@@ -1,0 +1,8 @@
+//! What runs hold and ship has bytes that are read again.
+//!
+//! A peer reads exactly what is in form: names, list places, numbers, orders and counts that bytes can say. Here is
+//! said that what a set of operations in form means is in form too, where the counts fit their fields. It ties the
+//! form of bytes to what controllers keep, so no form is too strict for them.
+#![tactic(auto)]
+
+pub mod laws;
