@@ -1,7 +1,7 @@
 //! The verdict.
-ghost use Rattle.std.specs.Prelude.{◌≡◌, ◌<◌, ◌↔◌, ◌&&◌, false, IsTrue, IfSome};
-ghost use Rattle.dac_config.specs.Table.{app_count};
-ghost use Rattle.dac_placement.specs.Placement.{EachEligible, IsEarlier, IsVerdict, first_choice, is_eligible, verdict_of, verdict_by, is_earlier};
+ghost use Rattle.std.specs.Prelude.{◌≡◌, ◌<◌, ◌↔◌, ◌&&◌, false, Some, IsTrue, IfSome};
+ghost use Rattle.dac_config.specs.Table.{app_count, group_of};
+ghost use Rattle.dac_placement.specs.Placement.{EachEligible, IsEarlier, IsVerdict, first_choice, is_eligible, verdict_of, verdict_by, is_earlier, is_less};
 
 use crate::eligibility::eligible;
 use crate::ranking::first_choice;
@@ -47,20 +47,37 @@ fn has_earlier(config: &Config, state: &State, app: AppId, holder: NodeId) -> bo
     requires { app.0 < app_count config.now }
     ensures { result ≡ false → EachEligible config.now state.now app (λ m. ¬ IsEarlier config.now app m holder) }
 {
+    match config.group_of(app, holder) {
+        Some(late) => has_before(config, state, app, late),
+        None => false,
+    }
+}
+
+/// Whether an eligible node's group is earlier than this one. No group is earlier than the first one.
+fn has_before(config: &Config, state: &State, app: AppId, late: u16) -> bool
+    requires { app.0 < app_count config.now }
+    ensures { result ≡ false → EachEligible config.now state.now app (λ m. is_less (group_of config.now app m) (Some late) ≡ false) }
+{
+    if late == 0 {
+        return false;
+    }
     for number in 0..config.nodes() {
-        if comes_before(config, state, app, NodeId(number), holder) {
+        if comes_before(config, state, app, NodeId(number), late) {
             return true;
         }
     }
     false
 }
 
-/// Whether a node is eligible and its group is earlier than that of the holder.
-fn comes_before(config: &Config, state: &State, app: AppId, node: NodeId, holder: NodeId) -> bool
+/// Whether a node is eligible and its group is earlier than this one.
+fn comes_before(config: &Config, state: &State, app: AppId, node: NodeId, late: u16) -> bool
     requires { app.0 < app_count config.now }
-    ensures { result ≡ (is_earlier config.now app node holder && is_eligible config.now state.now app node) }
+    ensures { result ≡ (is_less (group_of config.now app node) (Some late) && is_eligible config.now state.now app node) }
 {
-    is_earlier(config, app, node, holder) && eligible(config, state, app, node)
+    match config.group_of(app, node) {
+        Some(early) => early < late && eligible(config, state, app, node),
+        None => false,
+    }
 }
 
 /// The verdict, where the application stands so and this is the first choice for it.
