@@ -4,3 +4,4 @@ pub mod Numbers
 pub mod Gaining
 pub mod Writes
 pub mod Again
+mod Places

@@ -227,6 +227,11 @@ numbers_below n limit (node ∷ nodes) group h =
     let next = numbers_from (n + 1) nodes group in let more = numbers_below (n + 1) limit nodes group (omega (arith, h)) in
     cond_both (is_among node.name group) (n ∷ next) next (All (λ m. m < limit)) (λ has. All-cons (λ m. m < limit) n next (omega (arith, h)) more) (λ lacks. more)
 
+pub members_numbered : (nodes : List Node) (groups : List (List (List ℕ))) → All (All (λ number. number < length nodes)) (map (numbers_from 0 (map node_row nodes)) groups)
+members_numbered nodes groups =
+    let below : ℕ → Type 0 = λ number. number < length nodes in
+    All-map (All below) (numbers_from 0 (map node_row nodes)) groups (λ i d _. numbers_below 0 (length nodes) (map node_row nodes) (get_or groups i d) (omega (arith, length-map nodes node_row)))
+
 -- a configuration that is numbered is within the limits
 pub small_numbered : (w : Written) → IsWithinLimits w → (text : List ℕ) × IsTextOf text w → IsTable (numbered w)
 small_numbered w limits spelled = record {

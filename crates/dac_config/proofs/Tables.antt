@@ -1,25 +1,23 @@
 -- A configuration as it is kept: what its tables say at a number and of a name, how they are made, and their copies.
-use Rattle.std.proofs.Common.{◌≡◌, ℕ, ◌+◌, ◌<◌, ◌≤◌, drop, get_or, Bool, false, cond, eqb, not, List, [], ◌∷◌, ◌++◌, length, map, All, Bor, bytes_eq, position, Option, Some, None, option_map, slice_get, refl, sym, ap, subst, ◌∙◌, arith, append_assoc, append-nil}
+use Rattle.std.proofs.Common.{◌≡◌, ℕ, ◌+◌, ◌<◌, drop, get_or, Bool, false, cond, not, List, [], ◌∷◌, ◌++◌, length, map, All, Bor, bytes_eq, position, Option, Some, None, option_map, slice_get, refl, sym, ap, subst, ◌∙◌, append_assoc, append-nil}
 use Rattle.std.specs.Global.{Vec}
-use Rattle.std.specs.List.{prefix_len, position_from, list_any, AllZip, each_same}
+use Rattle.std.specs.List.{prefix_len, position_from, AllZip, each_same}
 use Rattle.std.specs.Map.{keys_of, lookup}
 use Rattle.std.specs.Map.Iter.{deref_pair}
 use Rattle.std.specs.Vec.{vec_len}
 use Rattle.std.proofs.lemmas.Bool.{or_parts}
 use Rattle.std.proofs.lemmas.Cmp.{nat_list_eq_equiv}
 use Rattle.std.proofs.lemmas.List.{drop_more, length-map, map_push}
+use Rattle.std.proofs.lemmas.List.Elements.{All-push, All-map}
 use Rattle.std.proofs.lemmas.Option.{slice_get-map, slice_get-get_or, slice_get_within, get_or_from_slice_get}
-use Rattle.dac_base.specs.declared.limits.TheConstants.{MAX_NODES}
 use Rattle.indexmap.specs.IndexMap.{IndexMap, insert_entry}
 use Rattle.indexmap.proofs.CallerLemmas.{insert_entry-new}
-use Rattle.dac_base.specs.declared.NodeId.{NodeId}
-use Rattle.dac_base.specs.declared.AppId.{AppId}
 use Rattle.dac_shapes.specs.Limits.{is_among}
 use Rattle.dac_config.specs.declared.config.App.{App}
 use Rattle.dac_config.specs.declared.config.Node.{Node}
 use Rattle.dac_config.specs.declared.config.Config.TheInside.{Inside}
-use Rattle.dac_config.specs.Table.{NodeRow, AppRow, Table, node_name, app_named, group_of}
-use Rattle.dac_config.specs.ConfigView.{node_row, named_row, app_row, table_of, HasMembersBelow}
+use Rattle.dac_config.specs.Table.{NodeRow, AppRow, Table, node_name, app_named}
+use Rattle.dac_config.specs.ConfigView.{node_row, named_row, app_row, table_of, HasMembersBelow, groups_in, ArePlaces, IsPlaced}
 use Rattle.dac_config.proofs.Names.{Differ, all_mapped, maps_from_zip}
 
 prefix_len-map : {A B : Type 0} (f : A → B) (p : B → Bool) (xs : List A) → prefix_len p (map f xs) ≡ prefix_len (λ x. p (f x)) xs
@@ -27,7 +25,7 @@ prefix_len-map f p [] = refl
 prefix_len-map f p (x ∷ xs) = ap (λ n. cond (p (f x)) (1 + n) 0) (prefix_len-map f p xs)
 
 -- the place in a mapped list
-position-map : {A B : Type 0} (f : A → B) (p : B → Bool) (xs : List A) → position p (map f xs) ≡ position (λ x. p (f x)) xs
+pub position-map : {A B : Type 0} (f : A → B) (p : B → Bool) (xs : List A) → position p (map f xs) ≡ position (λ x. p (f x)) xs
 position-map f p xs = rw (prefix_len-map f (λ x. not (p x)) xs, length-map xs f) refl
 
 -- what is true of all is true of the one at a place
@@ -63,20 +61,11 @@ node_from name table i here within is =
     let row : NodeRow = record { name = []; mandatory = false; optional = false } in
     rw (is, drop_more table.nodes i row within, slice_get-get_or table.nodes i row within) refl
 
--- the application and the group at a place that was found
+-- the application at a place that was found
 pub app_found : (c : Inside) (table : Table) → table_of c ≡ table → (name : List ℕ) (at : Option ℕ) → at ≡ position (λ key. bytes_eq name key.items) (keys_of c.apps.entries) → app_named table name ≡ option_map (λ place. record { 0 = place }) at
 app_found c table is name at place =
     ap (λ (t : Table). app_named t name) (sym is)
     ∙ ap (option_map (λ place. record { 0 = place })) (position-map app_row (λ row. bytes_eq name row.name) c.apps.entries ∙ sym (place ∙ position-map (λ entry. entry.0) (λ key. bytes_eq name key.items) c.apps.entries))
-
-pub group_found : (table : Table) (id : AppId) (node : NodeId) (name : List ℕ) (app : App) → slice_get table.apps id.0 ≡ Some (named_row name app) → (groups : List (Vec ℕ)) (at : Option ℕ)
-    → at ≡ position (λ group. list_any (λ other. eqb other node.0) group.items) groups → groups ≡ app.groups.items → at ≡ group_of table id node
-group_found table id node name app e groups at place kept =
-    rw e (place ∙ ap (position (λ (group : Vec ℕ). list_any (λ other. eqb other node.0) group.items)) kept ∙ sym (position-map (λ group. group.items) (λ group. list_any (λ other. eqb other node.0) group) app.groups.items))
-
--- no application has many groups
-pub few_groups : (apps : List AppRow) (i : ℕ) (name : List ℕ) (app : App) → All (λ row. length row.groups ≤ MAX_NODES) apps → slice_get apps i ≡ Some (named_row name app) → length app.groups.items ≤ MAX_NODES
-few_groups apps i name app small e = omega (arith, length-map app.groups.items (λ group. group.items), all_at (λ (row : AppRow). length row.groups ≤ MAX_NODES) apps i (named_row name app) small e)
 
 -- the groups of an application are of nodes that there are
 pub kept_members : (count : ℕ) (apps : List AppRow) (i : ℕ) (name : List ℕ) (app : App) → All (λ row. All (λ group. All (λ node. node < count) group) row.groups) apps → slice_get apps i ≡ Some (named_row name app) → HasMembersBelow count app
@@ -94,7 +83,7 @@ abbrev IsNodeCopy : Node → Node → Type 0
 IsNodeCopy x y = IsBytesCopy x.name y.name × ((y.mandatory ≡ x.mandatory) × (y.optional ≡ x.optional))
 
 abbrev IsAppCopy : App → App → Type 0
-IsAppCopy x y = (y.timeout ≡ x.timeout) × ((AllZip IsBytesCopy x.groups.items y.groups.items × (vec_len y.groups ≡ vec_len x.groups)) × (y.permission ≡ x.permission))
+IsAppCopy x y = (y.timeout ≡ x.timeout) × ((AllZip IsBytesCopy x.groups.items y.groups.items × (vec_len y.groups ≡ vec_len x.groups)) × (IsBytesCopy x.places y.places × (y.permission ≡ x.permission)))
 
 abbrev IsEntryCopy : Vec ℕ × App → Vec ℕ × App → Type 0
 IsEntryCopy x y = IsBytesCopy x.0 y.0 × IsAppCopy x.1 y.1
@@ -106,7 +95,19 @@ groups_copied : (x y : App) → IsAppCopy x y → map (λ group. group.items) y.
 groups_copied x y h = maps_from_zip IsBytesCopy (λ group. group.items) (λ group. group.items) (λ a b r. each_same a.items b.items r.0) x.groups.items y.groups.items h.1.0.0
 
 entry_copied : (x y : Vec ℕ × App) → IsEntryCopy x y → app_row y ≡ app_row x
-entry_copied x y h = λ i. record { name = each_same x.0.items y.0.items h.0.0 i; timeout = h.1.0 i; groups = groups_copied x.1 y.1 h.1 i; permission = h.1.1.1 i }
+entry_copied x y h = λ i. record { name = each_same x.0.items y.0.items h.0.0 i; timeout = h.1.0 i; groups = groups_copied x.1 y.1 h.1 i; permission = h.1.1.1.1 i }
+
+-- the places of copies are those of the originals
+abbrev placed_row : Vec ℕ × App → List ℕ × List (List ℕ)
+placed_row entry = (entry.1.places.items, groups_in entry.1)
+
+placed_copied : (x y : Vec ℕ × App) → IsEntryCopy x y → placed_row y ≡ placed_row x
+placed_copied x y h = λ i. (each_same x.1.places.items y.1.places.items h.1.1.1.0.0 i, groups_copied x.1 y.1 h.1 i)
+
+pub places_copied : (xs ys : List (Vec ℕ × App)) → AllZip IsEntryCopy xs ys → All IsPlaced xs → All IsPlaced ys
+places_copied xs ys zip all =
+    let Placed : List ℕ × List (List ℕ) → Type 0 = λ row. ArePlaces row.0 row.1 in
+    all_mapped Placed placed_row ys (subst (All Placed) (sym (maps_from_zip IsEntryCopy placed_row placed_row placed_copied xs ys zip)) (All-map Placed placed_row xs all))
 
 -- the tables of copies are equal
 pub table_copied : (c d : Inside) → AllZip IsNodeCopy c.nodes.items d.nodes.items → AllZip IsEntryCopy c.apps.entries d.apps.entries → d.sync_wait ≡ c.sync_wait → table_of d ≡ table_of c
@@ -142,6 +143,12 @@ pub app_added : {S : Type 0} (m : IndexMap (Vec ℕ) App S) (name : Vec ℕ) (ap
 app_added m name app new row none same is =
     ap (map app_row) (is ∙ insert_entry-new same_name m name app (absent name m.entries (ap (λ (r : AppRow). is_among r.name (map (λ row. row.name) (map app_row m.entries))) same ∙ none)))
     ∙ map_push app_row m.entries (name, app) ∙ ap (λ r. map app_row m.entries ++ r ∷ []) same
+
+pub place_added : {S : Type 0} (m : IndexMap (Vec ℕ) App S) (name : Vec ℕ) (app : App) (new : List (Vec ℕ × App)) (row : AppRow) → is_among row.name (map (λ row. row.name) (map app_row m.entries)) ≡ false → app_row (name, app) ≡ row
+    → new ≡ insert_entry same_name m.entries name app → ArePlaces app.places.items (groups_in app) → All IsPlaced m.entries → All IsPlaced new
+place_added m name app new row none same is placed all =
+    subst (All IsPlaced) (sym (is ∙ insert_entry-new same_name m name app (absent name m.entries (ap (λ (r : AppRow). is_among r.name (map (λ row. row.name) (map app_row m.entries))) same ∙ none))))
+    (All-push IsPlaced m.entries (name, app) all placed)
 
 -- and the names of those to come are still new
 pub still_new : (rows new : List AppRow) (row : AppRow) (names : List (List ℕ)) → new ≡ rows ++ row ∷ [] → Differ (map (λ row. row.name) rows ++ row.name ∷ names) → Differ (map (λ row. row.name) new ++ names)

@@ -1,21 +1,27 @@
 -- How a configuration is kept.
-use Rattle.std.specs.Prelude.{ℕ, ◌<◌, Bool, List, map, All}
+use Rattle.std.specs.Prelude.{◌≡◌, ℕ, ◌<◌, Bool, List, map, All, Option, None, Some, slice_get, nat_lt, if◌then◌else◌}
+use Rattle.std.specs.Option.{option_and_then}
 use Rattle.std.specs.Global.{Vec}
+use Rattle.dac_base.specs.declared.limits.TheConstants.{MAX_NODES}
 use Rattle.dac_config.specs.declared.config.App.{App}
 use Rattle.dac_config.specs.declared.config.Node.{Node}
 use Rattle.dac_config.specs.declared.config.Config.TheInside.{Inside}
 use Rattle.dac_config.specs.declared.config.text.SyncList.{SyncList}
 use Rattle.dac_config.specs.declared.config.text.SyncList.TheVariants.{Mandatory, Optional}
-use Rattle.dac_config.specs.Table.{NodeRow, AppRow, Table}
+use Rattle.dac_config.specs.Table.{NodeRow, AppRow, Table, group_among}
 use Rattle.dac_config.specs.Says.{IsTable}
 
 -- a node, as contracts see it
 abbrev pub node_row : Node → NodeRow
 node_row node = record { name = node.name.items; mandatory = node.mandatory; optional = node.optional }
 
+-- the groups of an application
+abbrev pub groups_in : App → List (List ℕ)
+groups_in app = map (λ group. group.items) app.groups.items
+
 -- an application with its name
 abbrev pub named_row : List ℕ → App → AppRow
-named_row name app = record { name = name; timeout = app.timeout; groups = map (λ group. group.items) app.groups.items; permission = app.permission }
+named_row name app = record { name = name; timeout = app.timeout; groups = groups_in app; permission = app.permission }
 
 -- an application of the map, which has its name as the key
 abbrev pub app_row : Vec ℕ × App → AppRow
@@ -34,6 +40,23 @@ is_in Optional node = node.optional
 abbrev pub table_of : Inside → Table
 table_of c = record { nodes = map node_row c.nodes.items; apps = map app_row c.apps.entries; sync_wait = c.sync_wait }
 
+-- what is kept of a node is a place below MAX_NODES, or stands for none
+abbrev pub place_by : ℕ → Option ℕ
+place_by kept = if nat_lt kept MAX_NODES then Some kept else None
+
+-- the place that is kept for a node
+abbrev pub place_at : List ℕ → ℕ → Option ℕ
+place_at places node = option_and_then place_by (slice_get places node)
+
+-- for each node the place of the first of these groups that has it is kept
+abbrev pub ArePlaces : List ℕ → List (List ℕ) → Type 0
+ArePlaces places groups = (node : ℕ) → place_at places node ≡ group_among groups node
+
+-- the same of an application of the map
+abbrev pub IsPlaced : Vec ℕ × App → Type 0
+IsPlaced entry = ArePlaces entry.1.places.items (groups_in entry.1)
+
 -- what holds of each configuration, as it is kept
-abbrev pub IsKeptTable : Inside → Type 0
-IsKeptTable c = IsTable (table_of c)
+pub record IsKept (c : Inside) : Type 0 where
+  pub table : IsTable (table_of c)
+  pub places : All IsPlaced c.apps.entries

@@ -1,6 +1,5 @@
 //! The tables of a configuration and its readers.
-ghost use Rattle.std.specs.Prelude.{◌≡◌, ◌<◌, ◌≤◌, ◌==◌, Some, slice_get, length, position, All, IfOk, IfSome};
-ghost use Rattle.std.specs.List.{list_any};
+ghost use Rattle.std.specs.Prelude.{◌≡◌, ◌<◌, ◌≤◌, Some, slice_get, length, All, IfOk};
 ghost use Rattle.dac_config.specs.Table.{node_count, app_count};
 
 mod number;
@@ -25,6 +24,8 @@ struct Node {
 struct App {
     timeout: u32,
     groups: Vec<Vec<u8>>,
+    /// By the number of a node, the place of its group, or MAX_NODES where no group has it.
+    places: Vec<u8>,
     permission: bool,
 }
 
@@ -54,24 +55,16 @@ impl Model for Config {
 
     ghost Value = { Table };
 
-    ghost use Rattle.dac_config.specs.ConfigView.{table_of, IsKeptTable};
+    ghost use Rattle.dac_config.specs.ConfigView.{table_of, IsKept};
 
     ghost view = { table_of };
 
-    ghost invariant = { IsKeptTable };
-}
-
-/// The place of the first group that has the node.
-fn place_of_group(groups: &[Vec<u8>], node: u8) -> Option<usize>
-    ensures place { result ≡ position (λ group. list_any (λ other. other == node) group.items) groups.now }
-    ensures within { IfSome result (λ at. at < length groups.now) }
-{
-    groups.iter().position(|group| group.contains(&node))
+    ghost invariant = { IsKept };
 }
 
 impl Config {
     ghost use Rattle.dac_config.specs.Table.{node_name, app_name, node_named, app_named, group_of, timeout_of, default_permission, is_mandatory, is_optional};
-    ghost use Rattle.dac_config.specs.ConfigView.{node_row, named_row};
+    ghost use Rattle.dac_config.specs.ConfigView.{node_row, named_row, groups_in, ArePlaces};
     ghost use Rattle.dac_config.specs.Canonical.{canonical_text};
     ghost use Rattle.dac_config.specs.Says.{IsConfigOf};
     ghost use Rattle.dac_config.specs.Mark.{fnv1a};
@@ -115,7 +108,7 @@ impl Config {
     fn entry(&self, app: AppId) -> (&[u8], &App)
         requires { app.0 < app_count self.now }
         ensures row { slice_get self.now.apps app.0 ≡ Some (named_row result.0.now result.1.now) }
-        ensures few { length result.1.now.groups.items ≤ MAX_NODES }
+        ensures places { ArePlaces result.1.now.places.items (groups_in result.1.now) }
     {
         let (name, row) = self.apps.get_index(app.0 as usize).unwrap();
         (name, row)
@@ -158,8 +151,12 @@ impl Config {
         ensures { result ≡ group_of self.now app node }
     {
         let (_, row) = self.entry(app);
-        let at = place_of_group(&row.groups, node.0)?;
-        Some(at as u16)
+        let place = *row.places.get(node.0 as usize)?;
+        if (place as usize) < MAX_NODES {
+            Some(u16::from(place))
+        } else {
+            None
+        }
     }
 
     /// How long a failover of the application waits, in milliseconds: 0 where the file gives no time.

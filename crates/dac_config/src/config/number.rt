@@ -1,11 +1,13 @@
 //! Numbers in place of names.
-ghost use Rattle.std.specs.Prelude.{◌≡◌, ◌≤◌, ℕ, false, List, [], ◌∷◌, ◌++◌, map, length, IfOk, OnOk};
+ghost use Rattle.std.specs.Prelude.{◌≡◌, ◌<◌, ◌≤◌, ◌==◌, ℕ, false, List, [], ◌∷◌, ◌++◌, map, length, position, All, IfOk, IfSome, OnOk};
+ghost use Rattle.std.specs.List.{list_any};
 ghost use Rattle.dac_shapes.specs.Views.{names_of, groups_of, app_of, permissions_of, draft_of};
 ghost use Rattle.dac_shapes.specs.Limits.{is_among};
 ghost use Rattle.dac_shapes.specs.Grammar.{IsTextOf};
 ghost use Rattle.dac_shapes.specs.Within.{IsWithinLimits};
 ghost use Rattle.dac_config.specs.Numbering.{in_byte_order, numbers_from, numbered_node, permitted, numbered_app, numbered};
-ghost use Rattle.dac_config.specs.ConfigView.{node_row, app_row};
+ghost use Rattle.dac_config.specs.ConfigView.{node_row, app_row, place_by, ArePlaces, IsPlaced};
+ghost use Rattle.dac_config.specs.Table.{group_among};
 
 use super::{App, Config, Node};
 use dac_base::{MAX_NODES, NoMemory};
@@ -72,6 +74,39 @@ fn groups_of(alloc: Global, nodes: &[Node], groups: &[Vec<&[u8]>]) -> Result<Vec
     Ok(numbered)
 }
 
+/// The place of the first group that has the node.
+fn place_of_group(groups: &[Vec<u8>], node: u8) -> Option<usize>
+    ensures place { result ≡ position (λ group. list_any (λ other. other == node) group.items) groups.now }
+    ensures within { IfSome result (λ at. at < length groups.now) }
+{
+    groups.iter().position(|group| group.contains(&node))
+}
+
+/// The same, or MAX_NODES where no group has the node.
+fn place_of(groups: &[Vec<u8>], node: u8) -> u8
+    requires { length groups.now ≤ MAX_NODES }
+    ensures { place_by result ≡ group_among (map (λ group. group.items) groups.now) node }
+{
+    match place_of_group(groups, node) {
+        Some(place) => place as u8,
+        None => MAX_NODES as u8,
+    }
+}
+
+/// For each of so many nodes, the place of the first group that has it.
+fn places_of(alloc: Global, nodes: usize, groups: &[Vec<u8>]) -> Result<Vec<u8>, NoMemory>
+    requires nodes { nodes ≤ MAX_NODES }
+    requires groups { length groups.now ≤ MAX_NODES }
+    requires members { All (λ group. All (λ number. number < nodes) group) (map (λ group. group.items) groups.now) }
+    ensures { IfOk result (λ places. ArePlaces places.items (map (λ group. group.items) groups.now)) }
+{
+    let mut places = Vec::new(alloc);
+    for node in 0..nodes {
+        places.push(place_of(groups, node as u8))?;
+    }
+    Ok(places)
+}
+
 /// Whether an application of this name is permitted: as the first permission of its name says, or where there is
 /// none.
 fn is_permitted(permissions: &[Permission<'_>], name: &[u8]) -> bool
@@ -94,10 +129,13 @@ fn add_app(
     numbered: &mut IndexMap<Vec<u8>, App>,
 ) -> Result<(), NoMemory>
     requires few { length nodes.now ≤ MAX_NODES }
+    requires groups { length (app_of app.now).groups ≤ MAX_NODES }
     requires new { is_among app.now.name.now (map (λ row. row.name) (map app_row numbered.old.entries)) ≡ false }
-    ensures { OnOk result (map app_row numbered.new.entries ≡ map app_row numbered.old.entries ++ numbered_app (draft_of draft.now).permissions (map node_row nodes.now) (app_of app.now) ∷ []) }
+    ensures rows { OnOk result (map app_row numbered.new.entries ≡ map app_row numbered.old.entries ++ numbered_app (draft_of draft.now).permissions (map node_row nodes.now) (app_of app.now) ∷ []) }
+    ensures places { OnOk result (All IsPlaced numbered.old.entries → All IsPlaced numbered.new.entries) }
 {
     let groups = groups_of(alloc, nodes, &app.groups)?;
+    let places = places_of(alloc, nodes.len(), &groups)?;
     let name = app.name.to_vec(alloc)?;
     let permission = is_permitted(&draft.permissions, app.name);
     numbered.insert(
@@ -105,6 +143,7 @@ fn add_app(
         App {
             timeout: app.timeout,
             groups,
+            places,
             permission,
         },
     )?;

@@ -1,9 +1,9 @@
-use Rattle.std.proofs.Common.{◌≤◌, All, length, ap, subst, arith}
+use Rattle.std.proofs.Common.{length, ap, arith}
 use Rattle.std.proofs.lemmas.List.{length-map}
-use Rattle.dac_base.specs.declared.limits.TheConstants.{MAX_NODES}
 use Rattle.dac_config.specs.Table.{Table}
 use Rattle.dac_config.specs.ConfigView.{app_row}
-use Rattle.dac_config.proofs.Tables.{entry_kept, few_groups}
+use Rattle.dac_config.proofs.Tables.{entry_kept}
+use Rattle.dac_config.proofs.Places.{place_kept}
 use Rattle.dac_config.proofs.config.Config.entry.Goals as goal
 
 pub unwrap-requires : goal.unwrap-requires
@@ -12,5 +12,5 @@ unwrap-requires c = c.get_index.ensures.found.1 (omega (arith, c.requires, ap (�
 pub returns-clause-row : goal.returns-clause-row
 returns-clause-row c = rw c.deref.ensures.value (entry_kept c.self.inside c.args.self.now c.self.view_is c.args.app.0 c.get_index.result c.unwrap.result c.get_index.ensures.entry c.unwrap.ensures)
 
-pub returns-clause-few : goal.returns-clause-few
-returns-clause-few c = few_groups c.args.self.now.apps c.args.app.0 _ c.unwrap.result.1.now (subst (λ (t : Table). All (λ row. length row.groups ≤ MAX_NODES) t.apps) c.self.view_is c.self.invariant.groups) (returns-clause-row c)
+pub returns-clause-places : goal.returns-clause-places
+returns-clause-places c = place_kept c.self.inside c.args.app.0 c.get_index.result c.unwrap.result c.self.invariant.places c.get_index.ensures.entry c.unwrap.ensures

@@ -1,7 +1,7 @@
-use Rattle.std.proofs.Common.{◌≡◌, ◌++◌, map, drop}
+use Rattle.std.proofs.Common.{◌≡◌, ◌++◌, map, drop, All}
 use Rattle.dac_shapes.specs.Views.{apps_of, permissions_of}
 use Rattle.dac_config.specs.Numbering.{numbered_app}
-use Rattle.dac_config.specs.ConfigView.{node_row, app_row}
+use Rattle.dac_config.specs.ConfigView.{node_row, app_row, IsPlaced}
 use Rattle.dac_config.proofs.Names.{Differ}
 use Rattle.dac_config.proofs.config.Config.of_draft.Given as goal
 
@@ -11,4 +11,5 @@ invariant-loop-app l =
     record {
       rows : map app_row l.apps.entries ++ map row (apps_of (drop l.app-index l.app-items)) ≡ map row (apps_of l.app-items);
       once : Differ (map (λ row. row.name) (map app_row l.apps.entries) ++ map (λ app. app.name) (apps_of (drop l.app-index l.app-items)));
+      placed : All IsPlaced l.apps.entries;
     }
