@@ -4,3 +4,4 @@ mod Untouched
 mod Shown
 mod Marking
 mod Kept
+mod FirstByGroup

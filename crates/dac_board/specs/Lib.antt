@@ -2,3 +2,4 @@ pub mod Boards
 pub mod Rows
 pub mod Touched
 pub mod Grown
+pub mod Leads

@@ -1,14 +1,16 @@
 //! Decisions that are kept up.
-ghost use Rattle.std.specs.Prelude.{◌≡◌, ◌<◌, ◌≤◌, ◌+◌, ◌^◌, IfOk, IsTrue, ◌↔◌, length};
+ghost use Rattle.std.specs.Prelude.{◌≡◌, ◌<◌, ◌≤◌, ◌+◌, ◌^◌, IfOk, IsTrue, ◌↔◌, Some, length};
 ghost use Rattle.dac_base.specs.declared.AppId.{AppId as App};
 ghost use Rattle.dac_base.specs.declared.NodeId.{NodeId as Named};
 ghost use Rattle.dac_config.specs.Table.{Table, app_count};
 ghost use Rattle.dac_meaning.specs.StateValue.{StateValue, join};
-ghost use Rattle.dac_placement.specs.Placement.{verdict_of, load_of};
+ghost use Rattle.dac_placement.specs.Placement.{verdict_of, load_of, is_less};
 ghost use Rattle.dac_board.specs.Boards.{Shows};
 ghost use Rattle.dac_board.specs.Rows.{load_on, rank_on, first_on, verdict_on, row_verdict};
+ghost use Rattle.dac_board.specs.Leads.{is_settled};
 ghost use Rattle.dac_board.specs.Touched.{touched, is_touched, IsTouched};
 
+use crate::leading::{Lead, leader};
 use crate::moving::{Grown, moved_by};
 use crate::row::Row;
 use crate::spot::Spot;
@@ -162,17 +164,56 @@ fn first_on(rows: &[Row], app: AppId, spots: &[Option<Spot>]) -> Option<Rank>
     first
 }
 
-/// The verdict of an application, by its row and those of the others.
+/// The verdict of an application, by its row and those of the others. Loads are asked for only where two nodes that may
+/// run it share the first group, and it isn't left where it is.
 fn verdict_on(rows: &[Row], app: AppId) -> Verdict
     requires { length rows.now < 2 ^ 16 }
     ensures { result ≡ row_verdict rows.now app }
 {
     match rows.get(app.0 as usize) {
-        Some(row) => {
-            let first = first_on(rows, app, row.spots());
-            verdict_by(row.standing(), row.group(), first)
-        }
+        Some(row) => judged(rows, app, row),
         None => Verdict::Nobody,
+    }
+}
+
+/// The verdict of an application that has this row.
+fn judged(rows: &[Row], app: AppId, row: &Row) -> Verdict
+    requires { length rows.now < 2 ^ 16 }
+    ensures { result ≡ verdict_on row.now.standing row.now.group (first_on rows.now app row.now.spots) }
+{
+    let standing = row.standing();
+    let group = row.group();
+    match leader(row.spots()) {
+        Some(lead) if is_settled(standing, group, lead) => {
+            let rank = Rank {
+                group: lead.spot.group,
+                load: 0,
+                node: lead.spot.node,
+            };
+            verdict_by(standing, group, Some(rank))
+        }
+        _ => verdict_by(standing, group, first_on(rows, app, row.spots())),
+    }
+}
+
+/// Whether the verdict is the same whoever of the leading group comes first.
+fn is_settled(standing: Standing, group: Option<u16>, lead: Lead) -> bool
+    ensures { result ≡ is_settled standing group lead }
+{
+    match standing {
+        Standing::Stopped(_) => true,
+        Standing::Upheld(_) => lead.alone || !is_before(lead.spot.group, group),
+        Standing::Unclaimed | Standing::Lost | Standing::Barred => lead.alone,
+    }
+}
+
+/// Whether a group is earlier than the other that is there.
+fn is_before(early: u16, late: Option<u16>) -> bool
+    ensures { result ≡ is_less (Some early) late }
+{
+    match late {
+        Some(late) => early < late,
+        None => false,
     }
 }
 

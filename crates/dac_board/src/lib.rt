@@ -10,6 +10,7 @@
 #![tactic(auto)]
 
 mod board;
+mod leading;
 mod moving;
 mod row;
 mod spot;

@@ -1,0 +1,55 @@
+//! Who comes first by groups alone, before any load is asked for.
+ghost use Rattle.std.specs.Prelude.{◌≡◌, List};
+ghost use Rattle.dac_base.specs.declared.AppId.{AppId as App};
+ghost use Rattle.dac_board.specs.Boards.{RowValue};
+ghost use Rattle.dac_board.specs.Rows.{first_on};
+ghost use Rattle.dac_board.specs.Leads.{Leads, beside, lead_with};
+
+use crate::spot::Spot;
+
+/// A node that may run an application, and none that may is of an earlier group.
+#[derive(Clone, Copy, Debug, PartialEq, Eq)]
+pub(crate) struct Lead {
+    /// The node, the first of its group by name.
+    pub spot: Spot,
+    /// Whether no other node that may run the application is of its group.
+    pub alone: bool,
+}
+
+/// Who leads these nodes, whatever runs where, if there are any.
+pub(crate) fn leader(spots: &[Option<Spot>]) -> Option<Lead>
+    ensures { (rows : List RowValue) (app : App) → Leads result (first_on rows app spots.now) }
+{
+    let mut lead = None;
+    for spot in spots {
+        lead = lead_with(lead, *spot);
+    }
+    lead
+}
+
+/// Who leads where a later node comes, if it may run the application.
+fn lead_with(lead: Option<Lead>, spot: Option<Spot>) -> Option<Lead>
+    ensures { result ≡ lead_with lead spot }
+{
+    match (lead, spot) {
+        (lead, None) => lead,
+        (None, Some(spot)) => Some(Lead { spot, alone: true }),
+        (Some(lead), Some(spot)) => Some(beside(lead, spot)),
+    }
+}
+
+/// Who leads where a later node that may run the application comes.
+fn beside(lead: Lead, spot: Spot) -> Lead
+    ensures { result ≡ beside lead spot }
+{
+    if spot.group < lead.spot.group {
+        Lead { spot, alone: true }
+    } else if spot.group == lead.spot.group {
+        Lead {
+            spot: lead.spot,
+            alone: false,
+        }
+    } else {
+        lead
+    }
+}
