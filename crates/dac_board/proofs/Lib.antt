@@ -2,6 +2,6 @@ mod Counting
 mod Filling
 mod Untouched
 mod Shown
-mod Marking
 mod Kept
 mod FirstByGroup
+mod Walks

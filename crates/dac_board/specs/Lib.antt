@@ -3,3 +3,4 @@ pub mod Rows
 pub mod Touched
 pub mod Grown
 pub mod Leads
+pub mod Alike

@@ -79,8 +79,9 @@ impl Board {
         self.looked
     }
 
-    /// Takes up that the state `old`, which is shown, was joined with `delta`, which gave `new`. It looks again only at
-    /// pairs of an application and a node that this touches, at each once. It takes no memory.
+    /// Takes up that the state `old`, which is shown, was joined with `delta`, which gave `new`. Where `old` is below
+    /// `new`, `new` itself can be given for `delta`. It walks once through what stands in both states, and looks again only
+    /// at pairs of an application and a node that this touches, at each once. It takes no memory.
     pub fn absorb(&mut self, config: &Config, old: &State, new: &State, delta: &State)
         ensures shows { Shows config.now self.old old.now → new.now ≡ join old.now delta.now
             → Shows config.now self.new new.now }
@@ -90,7 +91,7 @@ impl Board {
         ensures pairs { (app : App) (node : Named)
             → IsTrue (is_touched config.now old.now new.now app node) ↔ IsTouched config.now old.now new.now app node }
     {
-        let moved = moved_by(old, delta);
+        let moved = moved_by(old, new);
         let mut looked = self.looked;
         let places = self.rows.len().min(config.apps() as usize);
         for place in 0..places {

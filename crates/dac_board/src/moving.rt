@@ -1,22 +1,18 @@
 //! Which applications a change may move.
-ghost use Rattle.std.specs.Prelude.{◌≡◌, ◌<◌, ℕ, [], get_or, true, false, IsSome};
-ghost use Rattle.std.specs.List.{list_any};
-ghost use Rattle.std.specs.FinSet as set;
-ghost use Rattle.std.specs.FinMap as map;
+ghost use Rattle.std.specs.Prelude.{◌≡◌, ◌<◌, ◌≤◌, ◌+◌, ℕ, get_or, drop, true, false, length};
 ghost use Rattle.dac_base.specs.declared.AppId.{AppId as App};
 ghost use Rattle.dac_base.specs.declared.limits.TheConstants.{MAX_APPS as MOST_APPS};
-ghost use Rattle.dac_dots.specs.declared.dot.Dot.{Dot as DotValue};
-ghost use Rattle.dac_lattice.specs.declared.flags.Flag.{Flag as FlagValue};
-ghost use Rattle.dac_wishes.specs.Writes.{Write};
-ghost use Rattle.dac_wishes.specs.DrainsValue.{DrainWrite};
-ghost use Rattle.dac_meaning.specs.StateValue.{join};
+ghost use Rattle.dac_lattice.specs.Search.{AtEachKey};
+ghost use Rattle.dac_wishes.specs.Keys.{key_cmp};
 ghost use Rattle.dac_board.specs.Grown.{KeepsApp};
+ghost use Rattle.dac_board.specs.Alike.{IsSameOf, IsAbsent};
 
 use dac_base::{AppId, MAX_APPS};
-use dac_dots::Dot;
+use dac_dots::Origin;
 use dac_lattice::{Flag, Lattice};
-use dac_state::{Drains, Permissions, State, Wishes};
-use dac_store::Context;
+use dac_state::{Key, State};
+use dac_store::{DotFun, DotSet};
+use std::cmp::Ordering;
 
 /// That a state was joined with another.
 #[derive(Clone, Copy)]
@@ -31,52 +27,67 @@ pub(crate) struct Grown<'a> {
     pub(crate) keeps: bool,
 }
 
-/// Which applications may be moved by what a state takes in. Of the others all that stands stays as it is, and
-/// no life and no drain changes. It takes no memory.
-pub(crate) fn moved_by(old: &State, delta: &State) -> [bool; MAX_APPS]
+/// Which applications may be moved where a state came to be another one. Of the others all that stands is the same in both, and
+/// no life and no drain differs. It walks once through what stands in both, and takes no memory.
+pub(crate) fn moved_by(old: &State, new: &State) -> [bool; MAX_APPS]
     ensures { (app : App) → app.0 < MOST_APPS → get_or result app.0 false ≡ false
-        → KeepsApp old.now (join old.now delta.now) app }
+        → KeepsApp old.now new.now app }
 {
-    Lattice::tells_invariant(old);
-    Lattice::tells_invariant(delta);
-    if moves_all(old, delta) {
+    if moves_all(old, new) {
         return [true; MAX_APPS];
     }
     let mut moved = [false; MAX_APPS];
-    let known = delta.known();
-    mark_permits(&mut moved, known, old.permissions());
-    mark_permits(&mut moved, known, delta.permissions());
-    mark_starts(&mut moved, known, old.wishes());
-    mark_starts(&mut moved, known, delta.wishes());
+    mark_permits(
+        &mut moved,
+        old.permissions().entries(),
+        new.permissions().entries(),
+    );
+    mark_starts(&mut moved, old.wishes().entries(), new.wishes().entries());
     moved
 }
 
-/// Whether what a state takes in may move each application: it has a life, or it knows the dot of a drain that stands.
-fn moves_all(old: &State, delta: &State) -> bool
-    ensures lives { result ≡ false → map.entries delta.now.lives ≡ [] }
-    ensures before { result ≡ false → (w : DrainWrite) → IsSome (map.get old.now.drains w)
-        → set.contains delta.now.known w.dot ≡ false }
-    ensures own { result ≡ false → (w : DrainWrite) → IsSome (map.get delta.now.drains w)
-        → set.contains delta.now.known w.dot ≡ false }
+/// Whether a change from one state to another may move each application: a life differs, or what stands of drains.
+fn moves_all(old: &State, new: &State) -> bool
+    ensures lives { result ≡ false → old.now.lives ≡ new.now.lives }
+    ensures drains { result ≡ false → old.now.drains ≡ new.now.drains }
 {
-    if !delta.lives().entries().is_empty() {
-        return true;
-    }
-    let known = delta.known();
-    knows_drain(known, old.drains()) || knows_drain(known, delta.drains())
+    let lives = old.lives().equal(new.lives());
+    let drains = same_drains(old.drains().entries(), new.drains().entries());
+    !lives || !drains
 }
 
-/// Whether the dot of a drain that stands is known.
-fn knows_drain(known: &Context, drains: &Drains) -> bool
-    ensures { result ≡ false → (w : DrainWrite) → IsSome (map.get drains.now.standing w)
-        → set.contains known.now w.dot ≡ false }
+/// Whether the same drains stand in both lists.
+fn same_drains(old: &[(Origin, DotFun<Flag>)], new: &[(Origin, DotFun<Flag>)]) -> bool
+    ensures { result ≡ true → old.now ≡ new.now }
 {
-    for entry in drains.entries() {
-        if knows_vote(known, entry.1.entries()) {
-            return true;
+    if old.len() != new.len() {
+        return false;
+    }
+    for place in 0..old.len() {
+        let one = &old[place];
+        let other = &new[place];
+        if !one.0.cmp(&other.0).is_eq() {
+            return false;
+        }
+        if !same_votes(&one.1, &other.1) {
+            return false;
         }
     }
-    false
+    true
+}
+
+/// Whether these are the same permits or drains.
+fn same_votes(one: &DotFun<Flag>, other: &DotFun<Flag>) -> bool
+    ensures { result ≡ true → one.now ≡ other.now }
+{
+    one.entries() == other.entries()
+}
+
+/// Whether these are the same starts.
+fn same_starts(one: &DotSet, other: &DotSet) -> bool
+    ensures { result ≡ true → one.now ≡ other.now }
+{
+    one.dots() == other.dots()
 }
 
 /// Marks an application.
@@ -90,42 +101,157 @@ fn mark(moved: &mut [bool; MAX_APPS], app: AppId)
     }
 }
 
-/// Marks each application of which a permit stands whose dot is known.
-fn mark_permits(moved: &mut [bool; MAX_APPS], known: &Context, permissions: &Permissions)
+/// Marks an application, unless it is said to be the same.
+fn mark_unless(moved: &mut [bool; MAX_APPS], app: AppId, same: bool)
     ensures before { (k : ℕ) → get_or moved.new k true ≡ false → get_or moved.old k true ≡ false }
-    ensures unknown { (k : ℕ) → get_or moved.new k true ≡ false → (w : Write) → w.key.app.0 ≡ k
-        → IsSome (map.get permissions.now.standing w) → set.contains known.now w.dot ≡ false }
+    ensures own { (k : ℕ) → get_or moved.new k true ≡ false → app.0 ≡ k → same ≡ true }
 {
-    for (key, permits) in permissions.entries() {
-        if knows_vote(known, permits.entries()) {
-            mark(moved, key.app);
+    if !same {
+        mark(moved, app);
+    }
+}
+
+/// How far a walk through two lists has come.
+#[derive(Clone, Copy)]
+struct Walk {
+    old: usize,
+    new: usize,
+}
+
+/// Marks each application at a key of which the permits of two states differ.
+fn mark_permits(
+    moved: &mut [bool; MAX_APPS],
+    old: &[(Key, DotFun<Flag>)],
+    new: &[(Key, DotFun<Flag>)],
+)
+    ensures before { (k : ℕ) → get_or moved.new k true ≡ false → get_or moved.old k true ≡ false }
+    ensures same { (k : ℕ) → get_or moved.new k true ≡ false → IsSameOf k old.now new.now }
+{
+    let mut walk = Walk { old: 0, new: 0 };
+    while walk.old < old.len() && walk.new < new.len() {
+        walk = pass_permits(moved, old, new, walk);
+    }
+    rest_of_permits(moved, &old[walk.old..]);
+    rest_of_permits(moved, &new[walk.new..]);
+}
+
+/// Passes the entry of the lesser key, or one of each list where both are of one key.
+fn pass_permits(
+    moved: &mut [bool; MAX_APPS],
+    old: &[(Key, DotFun<Flag>)],
+    new: &[(Key, DotFun<Flag>)],
+    walk: Walk,
+) -> Walk
+    requires old { walk.old < length old.now }
+    requires new { walk.new < length new.now }
+    ensures before { (k : ℕ) → get_or moved.new k true ≡ false → get_or moved.old k true ≡ false }
+    ensures old { result.old ≤ length old.now }
+    ensures new { result.new ≤ length new.now }
+    ensures rises { walk.old + walk.new < result.old + result.new }
+    ensures same { (k : ℕ) → get_or moved.new k true ≡ false
+        → IsSameOf k (drop result.old old.now) (drop result.new new.now)
+        → IsSameOf k (drop walk.old old.now) (drop walk.new new.now) }
+{
+    let one = &old[walk.old];
+    let other = &new[walk.new];
+    match one.0.cmp(&other.0) {
+        Ordering::Less => {
+            mark(moved, one.0.app);
+            Walk {
+                old: walk.old + 1,
+                new: walk.new,
+            }
+        }
+        Ordering::Greater => {
+            mark(moved, other.0.app);
+            Walk {
+                old: walk.old,
+                new: walk.new + 1,
+            }
+        }
+        Ordering::Equal => {
+            mark_unless(moved, one.0.app, same_votes(&one.1, &other.1));
+            Walk {
+                old: walk.old + 1,
+                new: walk.new + 1,
+            }
         }
     }
 }
 
-/// Marks each application of which a start stands whose dot is known.
-fn mark_starts(moved: &mut [bool; MAX_APPS], known: &Context, wishes: &Wishes)
+/// Marks each application of which permits stand.
+fn rest_of_permits(moved: &mut [bool; MAX_APPS], entries: &[(Key, DotFun<Flag>)])
     ensures before { (k : ℕ) → get_or moved.new k true ≡ false → get_or moved.old k true ≡ false }
-    ensures unknown { (k : ℕ) → get_or moved.new k true ≡ false → (w : Write) → w.key.app.0 ≡ k
-        → set.contains wishes.now.standing w ≡ true → set.contains known.now w.dot ≡ false }
+    ensures gone { (k : ℕ) → get_or moved.new k true ≡ false → AtEachKey key_cmp (IsAbsent k) entries.now }
 {
-    for (key, starts) in wishes.entries() {
-        if knows_start(known, starts.dots()) {
-            mark(moved, key.app);
+    for (key, _votes) in entries {
+        mark(moved, key.app);
+    }
+}
+
+/// Marks each application at a key of which the starts of two states differ.
+fn mark_starts(moved: &mut [bool; MAX_APPS], old: &[(Key, DotSet)], new: &[(Key, DotSet)])
+    ensures before { (k : ℕ) → get_or moved.new k true ≡ false → get_or moved.old k true ≡ false }
+    ensures same { (k : ℕ) → get_or moved.new k true ≡ false → IsSameOf k old.now new.now }
+{
+    let mut walk = Walk { old: 0, new: 0 };
+    while walk.old < old.len() && walk.new < new.len() {
+        walk = pass_starts(moved, old, new, walk);
+    }
+    rest_of_starts(moved, &old[walk.old..]);
+    rest_of_starts(moved, &new[walk.new..]);
+}
+
+/// Passes the entry of the lesser key, or one of each list where both are of one key.
+fn pass_starts(
+    moved: &mut [bool; MAX_APPS],
+    old: &[(Key, DotSet)],
+    new: &[(Key, DotSet)],
+    walk: Walk,
+) -> Walk
+    requires old { walk.old < length old.now }
+    requires new { walk.new < length new.now }
+    ensures before { (k : ℕ) → get_or moved.new k true ≡ false → get_or moved.old k true ≡ false }
+    ensures old { result.old ≤ length old.now }
+    ensures new { result.new ≤ length new.now }
+    ensures rises { walk.old + walk.new < result.old + result.new }
+    ensures same { (k : ℕ) → get_or moved.new k true ≡ false
+        → IsSameOf k (drop result.old old.now) (drop result.new new.now)
+        → IsSameOf k (drop walk.old old.now) (drop walk.new new.now) }
+{
+    let one = &old[walk.old];
+    let other = &new[walk.new];
+    match one.0.cmp(&other.0) {
+        Ordering::Less => {
+            mark(moved, one.0.app);
+            Walk {
+                old: walk.old + 1,
+                new: walk.new,
+            }
+        }
+        Ordering::Greater => {
+            mark(moved, other.0.app);
+            Walk {
+                old: walk.old,
+                new: walk.new + 1,
+            }
+        }
+        Ordering::Equal => {
+            mark_unless(moved, one.0.app, same_starts(&one.1, &other.1));
+            Walk {
+                old: walk.old + 1,
+                new: walk.new + 1,
+            }
         }
     }
 }
 
-/// Whether the dot of one of these permits or drains is known.
-fn knows_vote(known: &Context, votes: &[(Dot, Flag)]) -> bool
-    ensures { result ≡ list_any (λ (p : DotValue × FlagValue). set.contains known.now p.0) votes.now }
+/// Marks each application of which starts stand.
+fn rest_of_starts(moved: &mut [bool; MAX_APPS], entries: &[(Key, DotSet)])
+    ensures before { (k : ℕ) → get_or moved.new k true ≡ false → get_or moved.old k true ≡ false }
+    ensures gone { (k : ℕ) → get_or moved.new k true ≡ false → AtEachKey key_cmp (IsAbsent k) entries.now }
 {
-    votes.iter().any(|vote| known.contains(vote.0))
-}
-
-/// Whether one of these dots is known.
-fn knows_start(known: &Context, starts: &[Dot]) -> bool
-    ensures { result ≡ list_any (λ (d : DotValue). set.contains known.now d) starts.now }
-{
-    starts.iter().any(|start| known.contains(*start))
+    for (key, _starts) in entries {
+        mark(moved, key.app);
+    }
 }

@@ -1,10 +1,14 @@
-use Rattle.std.proofs.Common.{◌≡◌, ℕ, get_or, true, false, take}
-use Rattle.dac_lattice.specs.Search.{AtEachEntry}
-use Rattle.dac_board.proofs.Marking.{AvoidsVotes, IsOfApp}
+use Rattle.std.proofs.Common.{◌≡◌, ℕ, ◌+◌, ◌-◌, ◌≤◌, get_or, true, false, drop, length}
+use Rattle.dac_board.specs.Alike.{IsSameOf}
 use Rattle.dac_board.proofs.moving.mark_permits.Given as goal
 
-abbrev pub invariant-loop-key : goal.invariant-loop-key
-invariant-loop-key l = record {
+abbrev pub invariant-loop-walk : goal.invariant-loop-walk
+invariant-loop-walk l = record {
+  old : l.walk.old ≤ length l.old;
+  new : l.walk.new ≤ length l.new;
   before : (k : ℕ) → get_or l.moved k true ≡ false → get_or l.initial.moved k true ≡ false;
-  clear : (k : ℕ) → get_or l.moved k true ≡ false → AtEachEntry (AvoidsVotes l.known (IsOfApp k)) (take l.key-index l.key-items);
+  same : (k : ℕ) → get_or l.moved k true ≡ false → IsSameOf k (drop l.walk.old l.old) (drop l.walk.new l.new) → IsSameOf k l.old l.new;
 }
+
+abbrev pub decreases-loop-walk : goal.decreases-loop-walk
+decreases-loop-walk l = (length l.old + length l.new) - (l.walk.old + l.walk.new)

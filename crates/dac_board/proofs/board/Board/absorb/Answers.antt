@@ -1,10 +1,9 @@
-use Rattle.std.proofs.Common.{◌≡◌, ◌<◌, length, get_or, refl, sym, ap, subst, ◌∙◌, arith, length-set}
+use Rattle.std.proofs.Common.{◌≡◌, ◌<◌, length, get_or, refl, ap, ◌∙◌, arith, length-set}
 use Rattle.std.proofs.lemmas.List.FromFn.{sum_by-map-range_with_len_more}
 use Rattle.dac_config.specs.Table.{app_count}
 use Rattle.dac_board.specs.Boards.{BoardValue, row_of, rows_of}
 use Rattle.dac_board.specs.Rows.{no_row}
 use Rattle.dac_board.specs.Touched.{touched_of}
-use Rattle.dac_board.specs.Grown.{KeepsApp}
 use Rattle.dac_board.proofs.Counting.{numbered_app, untrue}
 use Rattle.dac_board.proofs.Filling.{filled_by, filled_at, length_filled, one_more, rest_kept, get_any, more_summed}
 use Rattle.dac_board.proofs.Untouched.{touched_words}
@@ -44,7 +43,7 @@ loop-place-preserved c =
     record {
       long = length-set items place c.absorb.new.self ∙ long;
       done = λ joined shows k lt. one_more numbered_app (row_of table new) items place c.absorb.new.self no_row inside
-          (c.absorb.ensures.shows (record { joined = joined; keeps = λ keeps. subst (λ s. KeepsApp old s (numbered_app place)) (sym joined) (c.moved_by-moved.ensures (numbered_app place) (omega (arith, under, least, limit)) (untrue _ keeps)) }) (row ∙ before.left shows place (omega arith) within)) (before.done joined shows) k lt;
+          (c.absorb.ensures.shows (record { joined = joined; keeps = λ keeps. c.moved_by-moved.ensures (numbered_app place) (omega (arith, under, least, limit)) (untrue _ keeps) }) (row ∙ before.left shows place (omega arith) within)) (before.done joined shows) k lt;
       left = λ shows k le lt. rest_kept numbered_app (row_of table new) items place k c.absorb.new.self no_row le ∙ before.left shows k (omega (arith, le)) lt;
       few = omega (arith, few, once, summed);
       rises = omega (arith, rises, more);

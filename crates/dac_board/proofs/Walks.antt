@@ -1,0 +1,72 @@
+-- Two lists of entries that are walked through together: what is left of both decides what was passed.
+use Rattle.std.proofs.Common.{◌≡◌, ℕ, ◌+◌, ◌<◌, true, false, cond, List, [], ◌∷◌, length, drop, get_or, Some, refl, sym, ap, ◌∙◌}
+use Rattle.std.specs.Ordering.{eq_by_cmp}
+use Rattle.std.specs.FinMap.{find}
+use Rattle.std.specs.Cmp.{Equal-is}
+use Rattle.std.proofs.lemmas.Bool.{false_from_ne_true}
+use Rattle.std.proofs.lemmas.List.{drop_more}
+use Rattle.dac_wishes.specs.declared.key.Key.{Key}
+use Rattle.dac_wishes.specs.Keys.{key_cmp}
+use Rattle.dac_wishes.specs.laws.Keys.{exact_keys}
+use Rattle.std.specs.declared.cmp.Ordering.{Ordering}
+use Rattle.std.specs.Cmp.{IsTotalOrder}
+use Rattle.std.specs.FinSet as set
+use Rattle.std.proofs.lemmas.Map.Lookups.{CmpEqualImpliesEq}
+use Rattle.dac_store.specs.DotMaps.{store_at}
+use Rattle.dac_wishes.specs.Votes.{Votes, votes_at}
+use Rattle.dac_wishes.specs.StoredVotes.{votes_of}
+use Rattle.dac_wishes.specs.VotesByKey.{votes_by_key}
+use Rattle.dac_wishes.specs.laws.VotesByKey.{are_votes, votes_stored, votes_by_key_again}
+use Rattle.dac_wishes.specs.Writes.{Writes, dots_at}
+use Rattle.dac_wishes.specs.StartsByKey.{starts_by_key}
+use Rattle.dac_wishes.specs.laws.StartsByKey.{are_starts, dots_stored, writes_again}
+use Rattle.dac_board.specs.Alike.{IsSameOf}
+
+pub left_from : {X : Type 0} (xs : List X) (i : ℕ) (x : X) → x ≡ get_or xs i x → i < length xs → drop i xs ≡ x ∷ drop (i + 1) xs
+left_from xs i x here within = drop_more xs i x within ∙ ap (λ y. y ∷ drop (i + 1) xs) (sym here)
+
+same_key_is : (a b : Key) → eq_by_cmp key_cmp a b ≡ true → a ≡ b
+same_key_is a b e = exact_keys a b ((Equal-is (key_cmp a b)).0 e)
+
+module _ {X : Type 0} (k : ℕ) where
+  passes : (q : Key) (e : Key × X) (es : List (Key × X)) → q.app.0 ≡ k → (e.0.app.0 ≡ k → ⊥) → find key_cmp q (e ∷ es) ≡ find key_cmp q es
+  passes q e es at other = ap (λ b. cond b (Some e.1) (find key_cmp q es)) (false_from_ne_true (eq_by_cmp key_cmp q e.0) (λ t. other (ap (λ (x : Key). x.app.0) (sym (same_key_is q e.0 t)) ∙ at)))
+
+  pub old_passed : (old new : List (Key × X)) (i : ℕ) (e : Key × X) → e ≡ get_or old i e → i < length old → (e.0.app.0 ≡ k → ⊥) → IsSameOf k (drop (i + 1) old) new → IsSameOf k (drop i old) new
+  old_passed old new i e is within other same = λ q at. ap (find key_cmp q) (left_from old i e is within) ∙ passes q e (drop (i + 1) old) at other ∙ same q at
+
+  pub new_passed : (old new : List (Key × X)) (i : ℕ) (e : Key × X) → e ≡ get_or new i e → i < length new → (e.0.app.0 ≡ k → ⊥) → IsSameOf k old (drop (i + 1) new) → IsSameOf k old (drop i new)
+  new_passed old new i e is within other same = λ q at. same q at ∙ sym (ap (find key_cmp q) (left_from new i e is within) ∙ passes q e (drop (i + 1) new) at other)
+
+  by_key : (q : Key) (e f : Key × X) (es fs : List (Key × X)) → q.app.0 ≡ k → e.0 ≡ f.0 → (e.0.app.0 ≡ k → e.1 ≡ f.1) → find key_cmp q es ≡ find key_cmp q fs → find key_cmp q (e ∷ es) ≡ find key_cmp q (f ∷ fs)
+  by_key q e f es fs at keys values rest =
+      let there : eq_by_cmp key_cmp q f.0 ≡ eq_by_cmp key_cmp q e.0 = ap (eq_by_cmp key_cmp q) (sym keys) in
+      elim (eq_by_cmp key_cmp q e.0) as (λ b. eq_by_cmp key_cmp q e.0 ≡ b → cond b (Some e.1) (find key_cmp q es) ≡ find key_cmp q (f ∷ fs)) [
+        | true ↦ λ t.
+            ap (λ v. Some v) (values (ap (λ (x : Key). x.app.0) (sym (same_key_is q e.0 t)) ∙ at))
+            ∙ sym (ap (λ b. cond b (Some f.1) (find key_cmp q fs)) (there ∙ t))
+        | false ↦ λ t. rest ∙ sym (ap (λ b. cond b (Some f.1) (find key_cmp q fs)) (there ∙ t))
+      ] refl
+
+  pub both_passed : (old new : List (Key × X)) (i j : ℕ) (e f : Key × X) → e ≡ get_or old i e → i < length old → f ≡ get_or new j f → j < length new → e.0 ≡ f.0 → (e.0.app.0 ≡ k → e.1 ≡ f.1)
+      → IsSameOf k (drop (i + 1) old) (drop (j + 1) new) → IsSameOf k (drop i old) (drop j new)
+  both_passed old new i j e f is within also beside keys values same = λ q at.
+      ap (find key_cmp q) (left_from old i e is within) ∙ by_key q e f (drop (i + 1) old) (drop (j + 1) new) at keys values (same q at) ∙ sym (ap (find key_cmp q) (left_from new j f also beside))
+
+-- ---- what stands at a key, by the entries
+
+module _ {K : Type 0} {R : K → K → Ordering} (total : IsTotalOrder R) (exact : CmpEqualImpliesEq R) where
+  votes_found : (votes : Votes R) (key : K) → store_at [] (find R key (votes_by_key R votes)) ≡ votes_at R key votes
+  votes_found votes key = votes_stored total exact (votes_by_key R votes) (are_votes total exact votes) key ∙ ap (votes_at R key) (votes_by_key_again total exact votes)
+
+  pub same_votes_at : (a b : Votes R) (key : K) → find R key (votes_by_key R a) ≡ find R key (votes_by_key R b) → votes_at R key a ≡ votes_at R key b
+  same_votes_at a b key e = sym (votes_found a key) ∙ ap (store_at []) e ∙ votes_found b key
+
+  pub same_standing : (a b : Votes R) → votes_by_key R a ≡ votes_by_key R b → a ≡ b
+  same_standing a b e = sym (votes_by_key_again total exact a) ∙ ap (votes_of R) e ∙ votes_by_key_again total exact b
+
+starts_found : (starts : Writes) (key : Key) → store_at set.empty (find key_cmp key (starts_by_key starts)) ≡ dots_at key starts
+starts_found starts key = dots_stored (starts_by_key starts) (are_starts starts).in_order key ∙ ap (dots_at key) (writes_again starts)
+
+pub same_starts_at : (a b : Writes) (key : Key) → find key_cmp key (starts_by_key a) ≡ find key_cmp key (starts_by_key b) → dots_at key a ≡ dots_at key b
+same_starts_at a b key e = sym (starts_found a key) ∙ ap (store_at set.empty) e ∙ starts_found b key
