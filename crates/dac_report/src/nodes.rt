@@ -1,6 +1,6 @@
 //! The journals and the last pages of all nodes.
 
-ghost use Rattle.std.specs.Prelude.{◌≡◌, ◌≤◌, IfOk, length};
+ghost use Rattle.std.specs.Prelude.{◌≡◌, ◌≤◌, true, IfOk, MatchOption, length};
 ghost use Rattle.dac_base.specs.declared.limits.TheConstants.{MAX_NODES};
 ghost use Rattle.dac_config.specs.Table.{node_count};
 ghost use Rattle.dac_report.specs.Nodes.{AreNodes, IsFirstOf, PagesHold, last_page_of};
@@ -20,6 +20,7 @@ fn page_of(
     read: Option<&Page>,
 ) -> Result<Page, RunFault>
     ensures page { IfOk result (λ page. page ≡ last_page_of config.now closed.now) }
+    ensures read { IfOk result (λ page. MatchOption read.entry ⊥ (λ one. ⟦<Page as PartialEq>⟧.eq page one.now ≡ true)) }
     ensures named { IfOk result (λ _. IsFirstOf me.0 closed.now) }
 {
     let Some(read) = read else {

@@ -1,6 +1,6 @@
 //! The last page of a closed journal.
 
-ghost use Rattle.std.specs.Prelude.{◌≡◌, IfOk, IfSome};
+ghost use Rattle.std.specs.Prelude.{◌≡◌, true, IfOk, IfSome};
 ghost use Rattle.dac_run.specs.Journals.{opening_of};
 ghost use Rattle.dac_run.specs.Paged.{page_after};
 
@@ -19,6 +19,7 @@ pub fn last_page(
     read: &Page,
 ) -> Result<Option<Page>, NoMemory>
     ensures page { IfOk result (λ o. IfSome o (λ page. page ≡ page_after (opening_of config.now me 0) closed.now.records)) }
+    ensures read { IfOk result (λ o. IfSome o (λ page. ⟦<Page as PartialEq>⟧.eq page read.now ≡ true)) }
     ensures named { IfOk result (λ o. IfSome o (λ _. (closed.now.opening.node ≡ me) × (closed.now.opening.last ≡ 0))) }
 {
     if closed.node() != me || closed.last() != 0 {
