@@ -1,5 +1,5 @@
 -- What `distac live` prints.
-use Rattle.std.specs.Prelude.{ℕ, ◌+◌, Bool, ◌&&◌, ◌==◌, List, [], ◌++◌, map, Option, Ok, Err, codes, slice_get, if◌then◌else◌}
+use Rattle.std.specs.Prelude.{ℕ, ◌+◌, Bool, ◌&&◌, ◌==◌, List, [], ◌∷◌, ◌++◌, map, Option, Ok, Err, codes, slice_get, if◌then◌else◌}
 use Rattle.std.specs.List.{flat_map}
 use Rattle.std.specs.Option.{option_map_or}
 use Rattle.std.specs.Fmt.{decimal}
@@ -19,7 +19,6 @@ use Rattle.dac_report.specs.declared.report.LiveReport.{LiveReport}
 use Rattle.dac_report.specs.Line.{Line}
 use Rattle.dac_status.specs.Texts.{header_text, page_text}
 use Rattle.dac_wire.specs.Decoding.{packet_at}
-use Rattle.dac_live_play.specs.declared.texts.TheConstants.{CALLERS}
 use Rattle.dac_live_play.specs.Phases.{parts_of, lines_in}
 use Rattle.dac_live_play.specs.Placed.{placed_text}
 
@@ -50,9 +49,9 @@ own_text table node caller line answer = if is_of node caller line then line_tex
 abbrev pub caller_text : Table → List Line → List LineAnswer → NodeId → ℕ → List ℕ
 caller_text table lines answers node caller = placed_text (λ place line answer. own_text table node caller line answer) 0 lines answers
 
--- those of a node's callers, by their numbers
+-- those of a node's four callers, by their numbers
 abbrev pub callers_text : Table → List Line → List LineAnswer → NodeId → List ℕ
-callers_text table lines answers node = flat_map (caller_text table lines answers node) CALLERS
+callers_text table lines answers node = flat_map (caller_text table lines answers node) (1 ∷ 2 ∷ 3 ∷ 4 ∷ [])
 
 -- those of all nodes, by their names
 abbrev pub asked_text : Table → List Line → List LineAnswer → List ℕ
