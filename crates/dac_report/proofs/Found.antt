@@ -1,7 +1,7 @@
 -- What is found in records, as they come.
-use Rattle.std.proofs.Common.{◌≡◌, ℕ, zero, suc, ◌+◌, ◌<◌, Bool, true, false, true≢false, List, [], ◌∷◌, ◌++◌, length, take, get_or, map, Option, Some, None, refl, sym, ap, ◌∙◌, arith}
+use Rattle.std.proofs.Common.{◌≡◌, ℕ, zero, suc, ◌+◌, ◌<◌, List, [], ◌∷◌, ◌++◌, length, take, get_or, map, Option, Some, None, refl, sym, ap, ◌∙◌, arith}
 use Rattle.std.proofs.lemmas.List.{take_more}
-use Rattle.dac_run.specs.Compared.{before, found, IsPut}
+use Rattle.dac_run.specs.Compared.{before, found}
 
 -- one, or none
 abbrev pub listed : {B : Type 0} → Option B → List B
@@ -31,11 +31,3 @@ taken_suc g (z ∷ zs) (suc n) y lt at = let less : n < length zs = omega (arith
 
 pub taken_more : {A B : Type 0} (g : A → B) (ys : List A) (n : ℕ) (y : A) → n < length ys → y ≡ get_or ys n y → take (n + 1) (map g ys) ≡ take n (map g ys) ++ g y ∷ []
 taken_more g ys n y lt at = let on : n + 1 ≡ suc n = omega arith in ap (λ k. take k (map g ys)) on ∙ taken_suc g ys n y lt at
-
-pub put_some : {B : Type 0} (b : Bool) (o : Option B) → IsPut b o → b ≡ true → (y : B) × (o ≡ Some y)
-put_some b None put is = absurd (true≢false (sym is ∙ put))
-put_some b (Some y) put is = (y, refl)
-
-pub put_none : {B : Type 0} (b : Bool) (o : Option B) → IsPut b o → b ≡ false → o ≡ None
-put_none b None put is = refl
-put_none b (Some y) put is = absurd (true≢false (sym put ∙ is))

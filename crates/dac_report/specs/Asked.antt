@@ -1,13 +1,9 @@
--- What a caller's seat asked, and what it was answered.
+-- What a caller's seat was answered.
 use Rattle.std.specs.Prelude.{ℕ, ◌==◌, Option, Some, None, Result, if◌then◌else◌}
-use Rattle.dac_messages.specs.declared.event.Event.{Event}
 use Rattle.dac_messages.specs.declared.reply.Reply.{Reply}
 use Rattle.dac_events.specs.declared.refusal.Refusal.{Refusal}
 use Rattle.dac_run.specs.Record.{Record}
 
 -- of a record of this seat
-abbrev pub event_one : ℕ → Record → Option Event
-event_one seat r = if r.seat == seat then Some r.event else None
-
 abbrev pub answer_one : ℕ → Record → Option (Result Reply Refusal)
 answer_one seat r = if r.seat == seat then Some r.answer else None

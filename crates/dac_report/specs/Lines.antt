@@ -7,14 +7,14 @@ use Rattle.dac_messages.specs.declared.reply.Reply.{Reply}
 use Rattle.dac_events.specs.declared.refusal.Refusal.{Refusal}
 use Rattle.dac_run.specs.Record.{Record}
 use Rattle.dac_run.specs.Journals.{JournalValue}
-use Rattle.dac_run.specs.Compared.{found}
+use Rattle.dac_run.specs.Compared.{found, event_one}
 use Rattle.dac_run.specs.declared.phases.Ask.{Ask}
 use Rattle.dac_run.specs.declared.phases.Ask.TheVariants.{Do, Read}
 use Rattle.dac_run.specs.declared.phases.Line.{Line}
 use Rattle.dac_run.specs.declared.phases.Phase.{Phase}
 use Rattle.dac_report.specs.declared.report.LineAnswer.{LineAnswer}
 use Rattle.dac_report.specs.declared.report.LineAnswer.TheVariants.{Done, Fresh, Stale}
-use Rattle.dac_report.specs.Asked.{event_one, answer_one}
+use Rattle.dac_report.specs.Asked.{answer_one}
 use Rattle.dac_report.specs.Pairs.{records_at}
 
 -- ---- what a caller owes

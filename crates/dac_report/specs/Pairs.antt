@@ -1,5 +1,5 @@
 -- The links between closed journals.
-use Rattle.std.specs.Prelude.{◌≢◌, ◌<◌, ◌+◌, ◌*◌, ℕ, List, [], length, nat_lt, slice_index_or, if◌then◌else◌}
+use Rattle.std.specs.Prelude.{◌≢◌, ◌<◌, ◌≤◌, ◌+◌, ◌*◌, ℕ, All, List, [], length, nat_lt, slice_index_or, if◌then◌else◌}
 use Rattle.dac_run.specs.Record.{Record}
 use Rattle.dac_run.specs.Journals.{JournalValue, nowhere}
 use Rattle.dac_run.specs.Compared.{Linked}
@@ -22,3 +22,15 @@ RowHolds phases f sender all = (t : ℕ) → t < length all → t ≢ f → Link
 -- all links were
 abbrev pub LinksHold : ℕ → List JournalValue → Type 0
 LinksHold phases all = (f : ℕ) → f < length all → RowHolds phases f (records_at all f) all
+
+-- Of so many nodes, each has the callers' four seats and two for each other node: this is one of them.
+abbrev pub IsSeat : ℕ → ℕ → Type 0
+IsSeat nodes seat = (1 ≤ seat) × (seat ≤ 2 * nodes + 2)
+
+-- all records are of such seats
+abbrev pub AreOfSeats : ℕ → List Record → Type 0
+AreOfSeats nodes records = All (λ (r : Record). IsSeat nodes r.seat) records
+
+-- those of all journals are
+abbrev pub SeatsHold : List JournalValue → Type 0
+SeatsHold all = All (λ (j : JournalValue). AreOfSeats (length all) j.records) all

@@ -3,27 +3,16 @@
 ghost use Rattle.std.specs.Prelude.{◌≡◌, ◌≤◌, ◌++◌, ◌∷◌, ◌↔◌, [], true, map, length, IfOk, OnOk, IsTrue};
 ghost use Rattle.std.specs.Option.{option_copied};
 ghost use Rattle.dac_base.specs.declared.limits.TheConstants.{MAX_NODES};
-ghost use Rattle.dac_run.specs.Compared.{found};
-ghost use Rattle.dac_report.specs.Asked.{event_one, answer_one};
+ghost use Rattle.dac_run.specs.Compared.{found, event_one};
+ghost use Rattle.dac_report.specs.Asked.{answer_one};
 ghost use Rattle.dac_report.specs.Lines.{AreAnswered, CallerHolds, NodeHolds, CallersHold};
 
 use crate::lines::{asked_by, told_to};
 use crate::report::LineAnswer;
 use dac_base::{NoMemory, NodeId};
 use dac_messages::Event;
-use dac_run::{Answer, CALLERS, Closed, Phase, Record};
+use dac_run::{Answer, CALLERS, Closed, Phase, Record, event_of};
 use std::alloc::Global;
-
-// What this seat's record asks, if it is one.
-fn event_of(one: &Record, seat: u16) -> Option<&Event>
-    ensures { option_copied result ≡ event_one seat one.now }
-{
-    if one.seat == seat {
-        Some(&one.event)
-    } else {
-        None
-    }
-}
 
 /// Whether the records of this seat ask these events, in order and no others.
 pub fn are_asked(asked: &[&Event], records: &[Record], seat: u16) -> bool

@@ -23,3 +23,4 @@ mod owed;
 mod pages;
 mod pairs;
 mod report;
+mod seats;

@@ -5,7 +5,7 @@ ghost use Rattle.dac_base.specs.declared.limits.TheConstants.{MAX_NODES};
 ghost use Rattle.dac_config.specs.Table.{node_count};
 ghost use Rattle.dac_report.specs.Lines.{HasLines, AreAnswered, CallersHold};
 ghost use Rattle.dac_report.specs.Nodes.{AreNodes, PagesHold};
-ghost use Rattle.dac_report.specs.Pairs.{LinksHold};
+ghost use Rattle.dac_report.specs.Pairs.{LinksHold, SeatsHold};
 
 use crate::callers::strange_node;
 use crate::handing::{all_answers, mismatch};
@@ -13,6 +13,7 @@ use crate::lines::are_answered;
 use crate::nodes::last_pages;
 use crate::pairs::lost_link;
 use crate::report::{LineAnswer, LiveReport};
+use crate::seats::check_seats;
 use dac_base::NodeId;
 use dac_config::Config;
 use dac_run::{Closed, Gate, MAX_SITES, Outcome, Phase, RunFault, run_sites};
@@ -61,6 +62,7 @@ fn report_of(
     outcome: Outcome,
 ) -> Result<LiveReport, RunFault>
     ensures nodes { IfOk result (λ r. AreNodes (node_count config.now) r.closed.items) }
+    ensures seats { IfOk result (λ r. SeatsHold r.closed.items) }
     ensures links { IfOk result (λ r. LinksHold (length phases.now) r.closed.items) }
     ensures pages { IfOk result (λ r. PagesHold config.now r.closed.items r.pages.items) }
     ensures callers { IfOk result (λ r. CallersHold phases.now r.answers.items r.closed.items) }
@@ -72,6 +74,7 @@ fn report_of(
         seen,
     } = outcome;
     let pages = last_pages(alloc, config, closed.as_slice(), pages.as_slice())?;
+    check_seats(closed.as_slice())?;
     check_links(alloc, phases.len(), closed.as_slice())?;
     let answers = all_answers(alloc, phases, closed.as_slice(), seen)?;
     check_callers(alloc, phases, answers.as_slice(), closed.as_slice())?;
@@ -100,7 +103,10 @@ pub fn run_live<G: Gate, R: Threads + Wait + Sync>(
     requires { All (HasLines (node_count config.now)) phases.now }
     // A journal of each node, by name.
     ensures nodes { IfOk result (λ r. AreNodes (node_count config.now) r.closed.items) }
-    // A link's worker heard what its shipper shipped, in order and each once. The shipper shipped five times a phase.
+    // Each record is of a seat of its node: of a caller's, or of one of the two for another node.
+    ensures seats { IfOk result (λ r. SeatsHold r.closed.items) }
+    // All that a link's worker asked is to hear what its shipper shipped, in order and each once. All that the shipper asked is to
+    // ship, five times a phase.
     ensures links { IfOk result (λ r. LinksHold (length phases.now) r.closed.items) }
     // The last page of each node is that after all records of its journal.
     ensures pages { IfOk result (λ r. PagesHold config.now r.closed.items r.pages.items) }

@@ -6,7 +6,7 @@ ghost use Rattle.dac_run.specs.Compared.{Linked};
 ghost use Rattle.dac_report.specs.Pairs.{shipper_seat, worker_seat, RowHolds, LinksHold};
 
 use dac_base::{NoMemory, NodeId};
-use dac_run::{Closed, Record, SHIPS_OF_PHASE, are_heard, sent_by, ships_by};
+use dac_run::{Closed, Record, SHIPS_OF_PHASE, are_heard, are_ships, sent_by};
 use std::alloc::Global;
 
 // The seat of the shipper to this node.
@@ -48,7 +48,7 @@ fn pair_holds(
         return Ok(false);
     }
     match phases.checked_mul(SHIPS_OF_PHASE) {
-        Some(wanted) => Ok(ships_by(sender, shipper, to) == wanted),
+        Some(wanted) => Ok(are_ships(wanted, sender, shipper, to)),
         None => Ok(false),
     }
 }

@@ -4,7 +4,7 @@
 //! its own, until all have ended; then each link ships and hears once more, while no thread runs.
 #![tactic(auto)]
 
-pub use dac_workers::compare::{SHIPS_OF_PHASE, are_heard, sent_by, ships_by};
+pub use dac_workers::compare::{SHIPS_OF_PHASE, are_heard, are_ships, event_of, sent_by};
 pub use dac_workers::{Answer, CloseFault, Closed, Gate, Page, Record, RunFault, replay};
 pub use hiring::{CALLERS, ROOM};
 pub use phases::{Ask, Line, Outcome, Phase, Seen};

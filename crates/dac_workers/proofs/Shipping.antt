@@ -25,7 +25,7 @@ letters_append : (t : Table) (ms ns : List Message) → letters_of t (ms ++ ns) 
 letters_append t [] ns = refl
 letters_append t (m ∷ ms) ns = ap (λ l. letters_of t (m ∷ []) ++ l) (letters_append t ms ns)
 
-ships_push : (to : NodeId) (n : ℕ) → ships_to to n ++ Ship to ∷ [] ≡ ships_to to (suc n)
+pub ships_push : (to : NodeId) (n : ℕ) → ships_to to n ++ Ship to ∷ [] ≡ ships_to to (suc n)
 ships_push to zero = refl
 ships_push to (suc n) = ap (λ l. Ship to ∷ l) (ships_push to n)
 

@@ -1,13 +1,14 @@
 -- What the records of journals say of a link.
-use Rattle.std.specs.Prelude.{◌≡◌, ℕ, ◌==◌, ◌*◌, Bool, true, false, List, [], ◌∷◌, length, Option, Some, None, Result, Ok, Err, if◌then◌else◌}
+use Rattle.std.specs.Prelude.{◌≡◌, ℕ, ◌==◌, ◌*◌, List, [], ◌∷◌, map, Option, Some, None, Result, Ok, Err, if◌then◌else◌}
 use Rattle.dac_base.specs.declared.NodeId.{NodeId}
 use Rattle.dac_messages.specs.declared.event.Event.{Event}
-use Rattle.dac_messages.specs.declared.event.Event.TheVariants as event
+use Rattle.dac_messages.specs.declared.event.Event.TheVariants.{Hear}
 use Rattle.dac_messages.specs.declared.message.Message.{Message}
 use Rattle.dac_messages.specs.declared.reply.Reply.{Reply}
 use Rattle.dac_messages.specs.declared.reply.Reply.TheVariants as reply
 use Rattle.dac_events.specs.declared.refusal.Refusal.{Refusal}
 use Rattle.dac_live.specs.Record.{Record}
+use Rattle.dac_workers.specs.Links.{ships_to}
 
 -- in front of these, if there is one
 abbrev pub before : {B : Type 0} → Option B → List B → List B
@@ -32,43 +33,15 @@ shipped_in (Ok (reply.Shipped message)) = Some message
 shipped_in (Ok (reply.Heard new)) = None
 shipped_in (Err why) = None
 
--- the message of an event that hears
-abbrev pub heard_in : Event → Option Message
-heard_in (event.Boot now) = None
-heard_in event.Crash = None
-heard_in (event.Command command) = None
-heard_in (event.Tick now) = None
-heard_in (event.Ship to) = None
-heard_in (event.Hear message) = Some message
-heard_in (event.HearOp op) = None
-
--- an event that ships to this node counts once
-abbrev pub ship_in : NodeId → Event → Option ℕ
-ship_in to (event.Boot now) = None
-ship_in to event.Crash = None
-ship_in to (event.Command command) = None
-ship_in to (event.Tick now) = None
-ship_in to (event.Ship other) = if other.0 == to.0 then Some 1 else None
-ship_in to (event.Hear message) = None
-ship_in to (event.HearOp op) = None
-
 -- of a record of this seat
 abbrev pub sent_one : ℕ → Record → Option Message
 sent_one seat r = if r.seat == seat then shipped_in r.answer else None
 
-abbrev pub heard_one : ℕ → Record → Option Message
-heard_one seat r = if r.seat == seat then heard_in r.event else None
+abbrev pub event_one : ℕ → Record → Option Event
+event_one seat r = if r.seat == seat then Some r.event else None
 
-abbrev pub ship_one : ℕ → NodeId → Record → Option ℕ
-ship_one seat to r = if r.seat == seat then ship_in to r.event else None
-
--- true exactly where something is there
-abbrev pub IsPut : {B : Type 0} → Bool → Option B → Type 0
-IsPut b None = b ≡ false
-IsPut b (Some y) = b ≡ true
-
--- Over so many phases: what the worker's seat heard is what the shipper's seat shipped, in order and each once; and this one
--- shipped five times a phase.
+-- Over so many phases: all that the worker's seat asked is to hear what the shipper's seat shipped, in order and each once; and
+-- all that this one asked is to ship to the node, five times a phase.
 pub record Linked (phases : ℕ) (to : NodeId) (shipper worker : ℕ) (sender receiver : List Record) : Type 0 where
-  pub same : found (heard_one worker) receiver ≡ found (sent_one shipper) sender
-  pub ships : length (found (ship_one shipper to) sender) ≡ 5 * phases
+  pub same : found (event_one worker) receiver ≡ map Hear (found (sent_one shipper) sender)
+  pub ships : found (event_one shipper) sender ≡ ships_to to (5 * phases)

@@ -1,8 +1,9 @@
 //! What the records of two journals say of a link.
 
-ghost use Rattle.std.specs.Prelude.{◌≡◌, true, map, length, IfOk};
+ghost use Rattle.std.specs.Prelude.{◌≡◌, true, map, IfOk};
 ghost use Rattle.std.specs.Option.{option_copied};
-ghost use Rattle.dac_workers.specs.Compared.{found, sent_one, heard_one, ship_one, IsPut};
+ghost use Rattle.dac_workers.specs.Compared.{found, sent_one, event_one};
+ghost use Rattle.dac_workers.specs.Links.{ships_to};
 
 use dac_base::{NoMemory, NodeId};
 use dac_live::Record;
@@ -25,27 +26,32 @@ fn sent_one(one: &Record, seat: u16) -> Option<&Message>
     }
 }
 
-// The message that this seat's record hears, if it is one.
-fn heard_one(one: &Record, seat: u16) -> Option<&Message>
-    ensures { option_copied result ≡ heard_one seat one.now }
+/// What this seat's record asks, if it is one.
+pub fn event_of(one: &Record, seat: u16) -> Option<&Event>
+    ensures { option_copied result ≡ event_one seat one.now }
 {
-    if one.seat != seat {
-        return None;
-    }
-    match &one.event {
-        Event::Hear(message) => Some(message),
-        _ => None,
+    if one.seat == seat {
+        Some(&one.event)
+    } else {
+        None
     }
 }
 
-// Whether the record is one of this seat, and ships to this node.
-fn is_ship(one: &Record, seat: u16, to: NodeId) -> bool
-    ensures { IsPut result (ship_one seat to one.now) }
+// Whether the event hears this message.
+fn is_heard(message: &Message, event: &Event) -> bool
+    ensures { result ≡ true → event.now ≡ Event.Hear message.now }
 {
-    if one.seat != seat {
-        return false;
+    match event {
+        Event::Hear(heard) => message.equal(heard),
+        _ => false,
     }
-    match &one.event {
+}
+
+// Whether the event ships to this node.
+fn is_ship(event: &Event, to: NodeId) -> bool
+    ensures { result ≡ true → event.now ≡ Event.Ship to }
+{
+    match event {
         Event::Ship { to: other } => *other == to,
         _ => false,
     }
@@ -66,34 +72,39 @@ pub fn sent_by(alloc: Global, records: &[Record], seat: u16) -> Result<Vec<&Mess
     Ok(all)
 }
 
-/// How many records of this seat ship to this node.
-pub fn ships_by(records: &[Record], seat: u16, to: NodeId) -> usize
-    ensures { result ≡ length (found (ship_one seat to) records.now) }
+/// Whether all that the records of this seat ask is to ship to this node, so many times.
+pub fn are_ships(wanted: usize, records: &[Record], seat: u16, to: NodeId) -> bool
+    ensures { result ≡ true → found (event_one seat) records.now ≡ ships_to to wanted }
 {
     let mut count = 0;
     for i in 0..records.len() {
         let one = &records[i];
-        if is_ship(one, seat, to) {
-            count += 1;
+        match event_of(one, seat) {
+            Some(event) => {
+                if !is_ship(event, to) {
+                    return false;
+                }
+                count += 1;
+            }
+            None => {}
         }
     }
-    count
+    count == wanted
 }
 
-/// Whether the records of this seat hear these messages, in order and no others.
+/// Whether all that the records of this seat ask is to hear these messages, in order and no others.
 pub fn are_heard(sent: &[&Message], records: &[Record], seat: u16) -> bool
-    ensures { result ≡ true → found (heard_one seat) records.now ≡ map (λ m. m.now) sent.now }
+    ensures { result ≡ true → found (event_one seat) records.now ≡ map (λ m. Event.Hear m.now) sent.now }
 {
     let mut next = 0;
     for i in 0..records.len() {
         let one = &records[i];
-        match heard_one(one, seat) {
-            Some(message) => {
+        match event_of(one, seat) {
+            Some(event) => {
                 if next >= sent.len() {
                     return false;
                 }
-                let wanted = sent[next];
-                if !wanted.equal(message) {
+                if !is_heard(sent[next], event) {
                     return false;
                 }
                 next += 1;

@@ -1,6 +1,5 @@
 use Rattle.std.proofs.Common.{◌≡◌, ◌≤◌, take, map, length}
-use Rattle.dac_run.specs.Compared.{found}
-use Rattle.dac_report.specs.Asked.{event_one}
+use Rattle.dac_run.specs.Compared.{found, event_one}
 use Rattle.dac_report.proofs.callers.are_asked.Given as goal
 
 abbrev pub invariant-loop-i : goal.invariant-loop-i
