@@ -6,7 +6,7 @@ use Rattle.dac_events.specs.declared.WorldEvent.{WorldEvent}
 use Rattle.dac_live_script.specs.declared.line.LiveLine.{LiveLine}
 use Rattle.dac_report.specs.declared.report.LiveReport.{LiveReport}
 use Rattle.dac_report.specs.Lines.{CallersHold, AreAnswered}
-use Rattle.dac_report.specs.Nodes.{AreNodes, PagesHold}
+use Rattle.dac_report.specs.Nodes.{AreNodes, PagesHold, AreTrueOf}
 use Rattle.dac_report.specs.Pairs.{LinksHold, SeatsHold}
 use Rattle.dac_report.specs.Phase.{Phase}
 use Rattle.dac_weave.specs.Converging.{IsConverged}
@@ -18,11 +18,12 @@ use Rattle.dac_live_play.specs.declared.fault.PlayFault.{PlayFault}
 use Rattle.dac_live_play.specs.declared.fault.PlayFault.TheVariants as fault
 use Rattle.dac_live_play.specs.Phases.{parts_of, AsksAs}
 
--- What a run in these phases leaves: a journal and a page of each node. Each record is of a seat of its node. All that a link's
--- worker asked is to hear what its shipper shipped, and all that this one asked is to ship. The pages are those of the whole
--- journals. Each caller's seat has exactly its lines as records, and was answered so.
+-- What a run in these phases leaves: a journal and a page of each node. Each journal is a history of its node. Each record is of
+-- a seat of its node. All that a link's worker asked is to hear what its shipper shipped, and all that this one asked is to ship.
+-- The pages are those of the whole journals. Each caller's seat has exactly its lines as records, and was answered so.
 pub record IsReport (table : Table) (phases : List Phase) (report : LiveReport) : Type 0 where
   pub nodes : AreNodes (node_count table) report.closed.items
+  pub histories : AreTrueOf table report.closed.items
   pub seats : SeatsHold report.closed.items
   pub links : LinksHold (length phases) report.closed.items
   pub pages : PagesHold table report.closed.items report.pages.items

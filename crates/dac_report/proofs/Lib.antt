@@ -1,3 +1,4 @@
 mod Found
+mod Repeated
 mod Shipped
 mod Spoken

@@ -1,7 +1,7 @@
 -- The journals and the last pages of all nodes.
 use Rattle.std.specs.Prelude.{◌≡◌, ◌<◌, ℕ, List, [], length, map, slice_index_or}
 use Rattle.dac_config.specs.Table.{Table}
-use Rattle.dac_run.specs.Journals.{JournalValue, nowhere, opening_of}
+use Rattle.dac_run.specs.Journals.{JournalValue, nowhere, opening_of, AreHistory}
 use Rattle.dac_run.specs.Paged.{page_after}
 use Rattle.dac_pages.specs.declared.page.Page.{Page}
 
@@ -26,3 +26,11 @@ last_page_of t j = page_after (opening_of t j.opening.node 0) j.records
 -- the pages are those after all records of the journals
 abbrev pub PagesHold : Table → List JournalValue → List Page → Type 0
 PagesHold t all pages = pages ≡ map (last_page_of t) all
+
+-- each answer in the journal is that of the model's step, one after another from a node that was never booted
+abbrev pub IsTrueOf : Table → JournalValue → Type 0
+IsTrueOf t j = AreHistory (opening_of t j.opening.node 0) j.records
+
+-- so is each in all journals
+abbrev pub AreTrueOf : Table → List JournalValue → Type 0
+AreTrueOf t all = (i : ℕ) → i < length all → IsTrueOf t (journal_at all i)

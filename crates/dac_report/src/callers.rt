@@ -86,8 +86,8 @@ pub fn answers_of(alloc: Global, records: &[Record], seat: u16) -> Result<Vec<An
     Ok(all)
 }
 
-// Whether the two are one answer.
-fn same_answer(answer: &Answer, other: &Answer) -> bool
+/// Whether the two are one answer.
+pub(crate) fn same_answer(answer: &Answer, other: &Answer) -> bool
     ensures { IsTrue result ↔ (answer.now ≡ other.now) }
 {
     match (answer, other) {

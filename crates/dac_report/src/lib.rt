@@ -6,6 +6,7 @@
 
 pub use callers::{answers_of, are_asked, are_told, strange_node};
 pub use dac_run::{Ask, Closed, Gate, Line, Page, Phase, RunFault};
+pub use histories::are_history;
 pub use lines::{are_answered, asked_by, told_to};
 pub use live::run_live;
 pub use nodes::last_pages;
@@ -16,6 +17,7 @@ pub use report::{LineAnswer, LiveReport};
 
 mod callers;
 mod handing;
+mod histories;
 mod lines;
 mod live;
 mod nodes;

@@ -4,7 +4,7 @@ ghost use Rattle.std.specs.Prelude.{◌≡◌, ◌<◌, ◌≤◌, All, Err, IfO
 ghost use Rattle.dac_base.specs.declared.limits.TheConstants.{MAX_NODES};
 ghost use Rattle.dac_config.specs.Table.{node_count};
 ghost use Rattle.dac_report.specs.Lines.{HasLines, AreAnswered, CallersHold};
-ghost use Rattle.dac_report.specs.Nodes.{AreNodes, PagesHold};
+ghost use Rattle.dac_report.specs.Nodes.{AreNodes, PagesHold, AreTrueOf};
 ghost use Rattle.dac_report.specs.Pairs.{LinksHold, SeatsHold};
 
 use crate::callers::strange_node;
@@ -62,6 +62,7 @@ fn report_of(
     outcome: Outcome,
 ) -> Result<LiveReport, RunFault>
     ensures nodes { IfOk result (λ r. AreNodes (node_count config.now) r.closed.items) }
+    ensures histories { IfOk result (λ r. AreTrueOf config.now r.closed.items) }
     ensures seats { IfOk result (λ r. SeatsHold r.closed.items) }
     ensures links { IfOk result (λ r. LinksHold (length phases.now) r.closed.items) }
     ensures pages { IfOk result (λ r. PagesHold config.now r.closed.items r.pages.items) }
@@ -90,8 +91,9 @@ fn report_of(
 ///
 /// `TooManyNodes` comes of more than four nodes, before anything runs. `NoThread`, `Open` and `Site` come of the run itself, as do
 /// `Close`, `NoPage`, `LinkLost` and `NoMemory`. `LinkLost` comes too where the journals differ on what a link carried. `NoPage`
-/// comes too where a node's journal or last page is missing, or the page isn't that of the whole journal. `Close` with a
-/// `Mismatch` at place 0 comes where the records of a caller's seat aren't what its lines ask, or a line lacks its answer.
+/// comes too where a node's journal or last page is missing, the page isn't that of the whole journal, or this is no history of
+/// the node. `Close` with a `Mismatch` comes too where a record is of a seat that no node has, at its place. It comes at place 0
+/// where the records of a caller's seat aren't what its lines ask, or a line lacks its answer.
 pub fn run_live<G: Gate, R: Threads + Wait + Sync>(
     rt: &R,
     alloc: Global,
@@ -103,6 +105,8 @@ pub fn run_live<G: Gate, R: Threads + Wait + Sync>(
     requires { All (HasLines (node_count config.now)) phases.now }
     // A journal of each node, by name.
     ensures nodes { IfOk result (λ r. AreNodes (node_count config.now) r.closed.items) }
+    // Each journal is a history of its node under the configuration, from one that was never booted.
+    ensures histories { IfOk result (λ r. AreTrueOf config.now r.closed.items) }
     // Each record is of a seat of its node: of a caller's, or of one of the two for another node.
     ensures seats { IfOk result (λ r. SeatsHold r.closed.items) }
     // All that a link's worker asked is to hear what its shipper shipped, in order and each once. All that the shipper asked is to

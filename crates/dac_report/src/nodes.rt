@@ -3,7 +3,7 @@
 ghost use Rattle.std.specs.Prelude.{◌≡◌, ◌≤◌, true, IfOk, MatchOption, length};
 ghost use Rattle.dac_base.specs.declared.limits.TheConstants.{MAX_NODES};
 ghost use Rattle.dac_config.specs.Table.{node_count};
-ghost use Rattle.dac_report.specs.Nodes.{AreNodes, IsFirstOf, PagesHold, last_page_of};
+ghost use Rattle.dac_report.specs.Nodes.{AreNodes, IsFirstOf, PagesHold, IsTrueOf, AreTrueOf, last_page_of};
 
 use crate::pages::last_page;
 use dac_base::NodeId;
@@ -21,6 +21,7 @@ fn page_of(
 ) -> Result<Page, RunFault>
     ensures page { IfOk result (λ page. page ≡ last_page_of config.now closed.now) }
     ensures read { IfOk result (λ page. MatchOption read.entry ⊥ (λ one. ⟦<Page as PartialEq>⟧.eq page one.now ≡ true)) }
+    ensures history { IfOk result (λ _. IsTrueOf config.now closed.now) }
     ensures named { IfOk result (λ _. IsFirstOf me.0 closed.now) }
 {
     let Some(read) = read else {
@@ -45,6 +46,7 @@ pub fn last_pages(
     read: &[Page],
 ) -> Result<Vec<Page>, RunFault>
     ensures pages { IfOk result (λ all. PagesHold config.now closed.now all.items) }
+    ensures histories { IfOk result (λ _. AreTrueOf config.now closed.now) }
     ensures nodes { IfOk result (λ _. AreNodes (node_count config.now) closed.now) }
     ensures few { IfOk result (λ _. length closed.now ≤ MAX_NODES) }
 {

@@ -1,16 +1,17 @@
 //! The last page of a closed journal.
 
 ghost use Rattle.std.specs.Prelude.{◌≡◌, true, IfOk, IfSome};
-ghost use Rattle.dac_run.specs.Journals.{opening_of};
+ghost use Rattle.dac_run.specs.Journals.{opening_of, AreHistory};
 ghost use Rattle.dac_run.specs.Paged.{page_after};
 
+use crate::histories::are_history;
 use dac_base::{NoMemory, NodeId};
 use dac_config::Config;
 use dac_run::{Closed, Page, replay};
 use std::alloc::Global;
 
 /// The page after all records of the journal, of a node that had no incarnation before it. `None` where another page was read,
-/// or the journal is another node's or has earlier incarnations. [`NoMemory`] is the only error.
+/// or the journal is another node's, has earlier incarnations or is no history of the node. [`NoMemory`] is the only error.
 pub fn last_page(
     alloc: Global,
     config: &Config,
@@ -20,6 +21,7 @@ pub fn last_page(
 ) -> Result<Option<Page>, NoMemory>
     ensures page { IfOk result (λ o. IfSome o (λ page. page ≡ page_after (opening_of config.now me 0) closed.now.records)) }
     ensures read { IfOk result (λ o. IfSome o (λ page. ⟦<Page as PartialEq>⟧.eq page read.now ≡ true)) }
+    ensures history { IfOk result (λ o. IfSome o (λ _. AreHistory (opening_of config.now me 0) closed.now.records)) }
     ensures named { IfOk result (λ o. IfSome o (λ _. (closed.now.opening.node ≡ me) × (closed.now.opening.last ≡ 0))) }
 {
     if closed.node() != me || closed.last() != 0 {
@@ -27,6 +29,9 @@ pub fn last_page(
     }
     let there = replay(alloc, config, me, 0, closed.records())?;
     if there != *read {
+        return Ok(None);
+    }
+    if !are_history(alloc, config, me, closed.records())? {
         return Ok(None);
     }
     Ok(Some(there))
