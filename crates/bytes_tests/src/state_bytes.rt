@@ -157,7 +157,7 @@ fn are_drains(state: &State, node: u8, inc: u64, drains: &[(Dot, Flag)]) -> bool
 
 /// Whether the first node's incarnation 258 is drained, and no other.
 fn are_drained(state: &State) -> bool {
-    let drained = |node, inc| state.drains().is_drained(NodeId(node), inc);
+    let drained = |node, inc| state.drains().drained(NodeId(node), inc);
     drained(0, 258) && !drained(0, 1) && !drained(2, 1)
 }
 

@@ -103,7 +103,7 @@ fn refusal_to_stop(
         return Some(why);
     }
     let key = key_of(state, app, node);
-    if !state.wishes().is_wished(key) {
+    if !state.wishes().wished(key) {
         return Some(Refusal::NotStarted);
     }
     refusal_to_issue(own, state, state.wishes().dots(key).len())

@@ -52,7 +52,7 @@ pub fn is_drained(state: &State, node: NodeId, inc: u64) -> bool
     ensures value { result ≡ is_drained_at state.now node inc }
     ensures cases { IsTrue result ↔ IsDrainedAt state.now node inc }
 {
-    state.drains().is_drained(node, inc)
+    state.drains().drained(node, inc)
 }
 
 /// Whether the application is permitted at this incarnation: by the permits that stand there, and by the configuration
@@ -63,7 +63,7 @@ pub fn is_permitted(config: &Config, state: &State, key: Key) -> bool
     ensures cases { IsTrue result ↔ IsPermittedAt config.now state.now key }
 {
     let default = config.default_permission(key.app);
-    state.permissions().is_permitted(key, default)
+    state.permissions().permitted(key, default)
 }
 
 /// Whether a start of the application stands at this incarnation. It takes no memory.
@@ -71,5 +71,5 @@ pub fn is_started(state: &State, key: Key) -> bool
     ensures value { result ≡ is_started_at state.now key }
     ensures cases { IsTrue result ↔ IsStartedAt state.now key }
 {
-    state.wishes().is_wished(key)
+    state.wishes().wished(key)
 }

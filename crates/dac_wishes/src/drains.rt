@@ -76,7 +76,7 @@ impl Drains {
     }
 
     /// Whether an incarnation of a node is drained: some drain of it stands that says true. It takes no memory.
-    pub fn is_drained(&self, node: NodeId, inc: u64) -> bool
+    pub fn drained(&self, node: NodeId, inc: u64) -> bool
         ensures value { result ≡ is_drained (origin node inc) self.now }
         ensures cases { IsTrue result ↔ IsDrained (origin node inc) self.now }
     {

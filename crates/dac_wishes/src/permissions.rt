@@ -69,7 +69,7 @@ impl Permissions {
 
     /// Whether the key is permitted: no permit of it stands and the default is true, or some stand and all
     /// say true. It takes no memory.
-    pub fn is_permitted(&self, key: Key, default: bool) -> bool
+    pub fn permitted(&self, key: Key, default: bool) -> bool
         ensures value { result ≡ is_permitted key default self.now }
         ensures cases { IsTrue result ↔ IsPermitted key default self.now }
     {

@@ -65,7 +65,7 @@ impl Wishes {
     }
 
     /// Whether some start of the key stands. It takes no memory.
-    pub fn is_wished(&self, key: Key) -> bool
+    pub fn wished(&self, key: Key) -> bool
         ensures value { result ≡ is_wished key self.now }
         ensures some { IsTrue result ↔ SomeStands key self.now }
     {

@@ -41,7 +41,7 @@ fn permit_of(alloc: Global, dot: Dot, value: bool) -> Result<Permissions, NoMemo
 /// Whether the starts of these dots stand, and so many dots are known.
 fn has(wishes: &Wishes, dots: &[Dot], known: u128) -> bool {
     wishes.dots(KEY) == dots
-        && wishes.is_wished(KEY) != dots.is_empty()
+        && wishes.wished(KEY) != dots.is_empty()
         && wishes.context().len() == known
 }
 
@@ -65,7 +65,7 @@ fn false_wins(alloc: Global) -> Result<bool, NoMemory> {
     let granted = permit_of(alloc, dot(0, 2), true)?;
     let joined = granted.join(&permit_of(alloc, dot(1, 2), false)?)?;
     Ok(
-        !joined.is_permitted(KEY, true)
+        !joined.permitted(KEY, true)
             && has_two(&joined)
             && is_joined_above(alloc, &granted, &joined)?,
     )
@@ -86,9 +86,9 @@ fn is_overruled(alloc: Global) -> Result<bool, NoMemory> {
     let nothing = Permissions::bottom(alloc);
     let granted = permit_of(alloc, dot(0, 2), true)?;
     Ok(
-        granted.is_permitted(KEY, false)
-            && nothing.is_permitted(KEY, true)
-            && !nothing.is_permitted(KEY, false),
+        granted.permitted(KEY, false)
+            && nothing.permitted(KEY, true)
+            && !nothing.permitted(KEY, false),
     )
 }
 

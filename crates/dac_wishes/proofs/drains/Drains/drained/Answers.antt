@@ -4,7 +4,7 @@ use Rattle.dac_lattice.specs.declared.flags.Flag.{Flag}
 use Rattle.dac_dots.specs.declared.dot.Dot.{Dot}
 use Rattle.dac_wishes.specs.DrainsValue.{origin, is_drained, says_drained}
 use Rattle.dac_wishes.specs.laws.Drained.{is_drained-is}
-use Rattle.dac_wishes.proofs.drains.Drains.is_drained.Goals as goal
+use Rattle.dac_wishes.proofs.drains.Drains.drained.Goals as goal
 
 pub returns-clause-cases : goal.returns-clause-cases
 returns-clause-cases c =

@@ -3,7 +3,7 @@ use Rattle.std.specs.FinMap.{find}
 use Rattle.dac_wishes.specs.Keys.{key_cmp}
 use Rattle.dac_wishes.proofs.WishStoring.{is_wished_stored, some_if_stored, stored_if_some}
 use Rattle.dac_wishes.proofs.Found.{is_some-copied}
-use Rattle.dac_wishes.proofs.wishes.Wishes.is_wished.Goals as goal
+use Rattle.dac_wishes.proofs.wishes.Wishes.wished.Goals as goal
 
 pub returns-clause-value : goal.returns-clause-value
 returns-clause-value c =

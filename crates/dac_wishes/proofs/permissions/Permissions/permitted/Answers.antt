@@ -1,7 +1,7 @@
 use Rattle.std.proofs.Common.{◌≡◌, ◌∙◌, ap, sym}
 use Rattle.dac_wishes.specs.PermissionsValue.{is_permitted, is_permitted_by}
 use Rattle.dac_wishes.specs.laws.Permitted.{is_permitted-is}
-use Rattle.dac_wishes.proofs.permissions.Permissions.is_permitted.Goals as goal
+use Rattle.dac_wishes.proofs.permissions.Permissions.permitted.Goals as goal
 
 pub returns-clause-cases : goal.returns-clause-cases
 returns-clause-cases c =
