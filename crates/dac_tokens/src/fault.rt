@@ -4,40 +4,53 @@ ghost use Rattle.std.specs.Prelude.{◌≡◌};
 ghost use Rattle.dac_tokens.specs.declared.fault.FaultKind.TheVariants.{NoMemory};
 
 use std::alloc::{AllocError, AllocFailed};
-use std::error::Error;
-use std::fmt;
+use thiserror::Error;
 
 /// What is wrong at a place of the text. The number of each kind is its place in this list, from 1, and
 /// its name and number are part of the program's output.
-#[derive(Clone, Copy, Debug, PartialEq, Eq)]
+#[derive(Clone, Copy, Debug, PartialEq, Eq, Error)]
 pub enum FaultKind {
     /// The text has more than 65,536 bytes.
+    #[error("TooLong")]
     TooLong = 1,
     /// No token begins with this byte, or not with what follows it, as a quote that is never closed.
+    #[error("BadToken")]
     BadToken,
     /// A token of Erlang, or a byte in one, that configurations here can't have.
+    #[error("Unsupported")]
     Unsupported,
     /// Another token was wanted here.
+    #[error("BadShape")]
     BadShape,
     /// The text has no application in a parameter `distributed`.
+    #[error("NoDistributed")]
     NoDistributed,
     /// An application stands in `distributed` a second time.
+    #[error("TwiceApp")]
     TwiceApp,
     /// A node stands in one list a second time.
+    #[error("TwiceInList")]
     TwiceInList,
     /// A list of nodes is empty.
+    #[error("EmptyList")]
     EmptyList,
     /// A tuple of nodes is empty.
+    #[error("EmptyTuple")]
     EmptyTuple,
     /// There are more nodes than a cluster may have.
+    #[error("TooManyNodes")]
     TooManyNodes,
     /// There are more applications than a cluster may have.
+    #[error("TooManyApps")]
     TooManyApps,
     /// A number is above 4,294,967,295.
+    #[error("NumberTooLarge")]
     NumberTooLarge,
     /// A name of an application or node has more than 255 bytes.
+    #[error("NameTooLong")]
     NameTooLong,
     /// Memory was refused; nothing is said of the text.
+    #[error("NoMemory")]
     NoMemory,
 }
 
@@ -74,41 +87,15 @@ impl FaultKind {
     }
 }
 
-impl fmt::Display for FaultKind {
-    ghost use Rattle.std.specs.Prelude.{Some};
-    ghost use Rattle.dac_tokens.specs.Faults.{name_of};
-
-    ghost output = { λ kind. Some (name_of kind) };
-
-    fn fmt<W: fmt::Write>(&self, f: &mut fmt::Formatter<W>) -> fmt::Result {
-        f.write_str(self.name())
-    }
-}
-
-impl Error for FaultKind {}
-
 /// The first fault of a text, in text order. `Display` prints it as `NAME at P`.
-#[derive(Clone, Copy, Debug, PartialEq, Eq)]
+#[derive(Clone, Copy, Debug, PartialEq, Eq, Error)]
+#[error("{kind} at {at}")]
 pub struct ConfigFault {
     /// What is wrong.
     pub kind: FaultKind,
     /// Where: a number of bytes from the start of the text; 0 for `NoMemory`.
     pub at: usize,
 }
-
-impl fmt::Display for ConfigFault {
-    ghost use Rattle.std.specs.Prelude.{◌++◌, Some, codes};
-    ghost use Rattle.std.specs.Fmt.{decimal};
-    ghost use Rattle.dac_tokens.specs.Faults.{name_of};
-
-    ghost output = { λ fault. Some (name_of fault.kind ++ (codes " at " ++ decimal fault.at)) };
-
-    fn fmt<W: fmt::Write>(&self, f: &mut fmt::Formatter<W>) -> fmt::Result {
-        write!(f, "{} at {}", self.kind, self.at)
-    }
-}
-
-impl Error for ConfigFault {}
 
 fn no_memory() -> ConfigFault
     ensures { (result.kind ≡ NoMemory) × (result.at ≡ 0) }
