@@ -41,12 +41,12 @@ impl Model for DotSet {
 }
 
 impl DotSet {
-    /// The set of one dot. It takes no memory.
-    pub fn one(alloc: Global, dot: Dot) -> Self
-        ensures { result ≡ set.insert set.empty dot }
+    /// The set of one dot. It takes no memory today, and answers as the other stores do.
+    pub fn one(alloc: Global, dot: Dot) -> Result<Self, NoMemory>
+        ensures { IfOk result (λ one. one ≡ set.insert set.empty dot) }
     {
         let few = FewDots::One(dot);
-        DotSet { alloc, few }
+        Ok(DotSet { alloc, few })
     }
 
     /// The dots in rising order, each once. It takes no memory.

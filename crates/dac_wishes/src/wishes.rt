@@ -139,7 +139,7 @@ fn start_in(alloc: Global, dot: Dot, act: &WishAct) -> Result<DotMap<Key, DotSet
 {
     match act {
         WishAct::Start { key, over: _ } => {
-            let dots = DotSet::one(alloc, dot);
+            let dots = DotSet::one(alloc, dot)?;
             let store = DotMap::one(alloc, *key, dots)?;
             Ok(store)
         }

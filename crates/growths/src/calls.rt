@@ -138,6 +138,7 @@ pub const CALLS: &[(&str, Call)] = &[
     ("Lives::one", Call::Made(Made::OneLife)),
     ("Claims::one", Call::Made(Made::OneClaim)),
     ("MapOf::one", Call::Made(Made::OneOfMap)),
+    ("DotSet::one", Call::Made(Made::OneDot)),
     ("DotFun::one", Call::Made(Made::OneAtDot)),
     ("DotMap::one", Call::Pushed(Pushed::OneAtKey)),
     ("Lives::delta", Call::Made(Made::LifeDelta)),

@@ -99,7 +99,7 @@ fn a_permit_overrules_the_default(rt: HostRuntime) {
 
 /// The start of the dot (0, 2), kept by its key.
 fn kept_start(alloc: Global) -> Option<Wishes> {
-    let starts = DotSet::one(alloc, dot(0, 2));
+    let starts = DotSet::one(alloc, dot(0, 2)).ok()?;
     let store = DotMap::one(alloc, KEY, starts).ok()?;
     let causal = Causal::new(store, context_of(alloc, &[2]).ok()?).ok()?;
     Some(Wishes::new(causal))

@@ -256,7 +256,7 @@ impl<S: DotStore> Bench for StoreBench<S> {
 }
 
 fn set_of(alloc: Global, node: NodeId) -> Result<DotSet, NoMemory> {
-    let mut set = DotSet::one(alloc, dot(node, 1));
+    let mut set = DotSet::one(alloc, dot(node, 1))?;
     let _pushed = set.push(dot(node, 3))?;
     Ok(set)
 }
@@ -286,6 +286,7 @@ pub enum Made {
     OneLife,
     OneClaim,
     OneOfMap,
+    OneDot,
     OneAtDot,
     LifeDelta,
     ClaimDelta,
@@ -321,6 +322,7 @@ impl Bench for MakingBench {
             Made::OneLife => of_any(lives_of(alloc, ME)),
             Made::OneClaim => of_any(claims_of(alloc, 0)),
             Made::OneOfMap => of_any(map_of(alloc, 1)),
+            Made::OneDot => of_any(DotSet::one(alloc, dot(ME, 1))),
             Made::OneAtDot => of_any(DotFun::one(alloc, dot(ME, 1), Flag::Down)),
             Made::LifeDelta => of_any(Lives::delta(alloc, dot(ME, 1), &LifeAct::Up)),
             Made::ClaimDelta => of_any(claim_delta(alloc)),
@@ -417,7 +419,7 @@ pub fn pushes(alloc: Global, pushed: Pushed) -> Option<PushBench> {
     Some(PushBench {
         alloc,
         pushed,
-        set: DotSet::one(alloc, dot(ME, 1)),
+        set: DotSet::one(alloc, dot(ME, 1)).ok()?,
         fun: DotFun::one(alloc, dot(ME, 1), Flag::Up).ok()?,
         map: DotMap::empty(alloc),
         more,

@@ -9,5 +9,5 @@ pub returns-in_ok-store-in-Start : goal.returns-in_ok-store-in-Start
 returns-in_ok-store-in-Start c =
     rw c.in-Start.is
     (c.in_ok-store-in-Start.ensures
-    ∙ ap (λ s. cond (is_empty_set s) [] ((c.in-Start.key, s) ∷ [])) c.one-dots.ensures
+    ∙ ap (λ s. cond (is_empty_set s) [] ((c.in-Start.key, s) ∷ [])) c.in_ok-dots-in-Start.ensures
     ∙ ap (λ b. cond b [] ((c.in-Start.key, set.insert (set.empty {R = dot_cmp}) c.args.dot) ∷ [])) (one_not_empty c.args.dot))
