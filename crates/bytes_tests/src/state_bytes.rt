@@ -5,7 +5,7 @@ use dac_bytes::{ByteWriter, Version};
 use dac_config::Config;
 use dac_dots::Dot;
 use dac_lattice::{Flag, Lattice};
-use dac_state::{Claim, How, Key, Life, State, StateFault, StateFaultKind};
+use dac_state::{Claim, How, Key, State, StateFault, StateFaultKind};
 use std::alloc::Global;
 
 /// The second node booted, and has heard of nothing else.
@@ -111,21 +111,15 @@ fn has_starts(state: &State) -> bool {
 }
 
 /// Whether a node has this life.
-fn lives(state: &State, node: u8, life: Option<Life>) -> bool {
+fn lives(state: &State, node: u8, life: Option<(u64, Flag)>) -> bool {
     state.lives().life(NodeId(node)) == life
 }
 
 /// Whether the state has the lives of the bytes with every part.
 fn has_lives(state: &State) -> bool {
-    let down = Life {
-        inc: 1,
-        flag: Flag::Down,
-    };
-    let up = Life {
-        inc: 258,
-        flag: Flag::Up,
-    };
-    lives(state, 0, Some(down)) && lives(state, 1, None) && lives(state, 2, Some(up))
+    lives(state, 0, Some((1, Flag::Down)))
+        && lives(state, 1, None)
+        && lives(state, 2, Some((258, Flag::Up)))
 }
 
 /// Whether an application has this claim.

@@ -3,7 +3,7 @@ use crate::sample::dot;
 use dac_base::{AppId, NoMemory, NodeId};
 use dac_dots::Dot;
 use dac_lattice::{Bottom, Flag, Lattice};
-use dac_state::{Act, DotList, How, Key, Life, Op, State};
+use dac_state::{Act, DotList, How, Key, Op, State};
 use std::alloc::Global;
 
 /// Application 0 at node 1, incarnation 1.
@@ -128,11 +128,8 @@ fn has_writes(state: &State) -> bool {
 
 /// Whether node 1 is down, and the application claimed.
 fn has_chains(state: &State) -> bool {
-    let down = Life {
-        inc: 1,
-        flag: Flag::Down,
-    };
-    state.lives().life(NodeId(1)) == Some(down) && state.claims().greatest(AppId(0)).is_some()
+    state.lives().life(NodeId(1)) == Some((1, Flag::Down))
+        && state.claims().greatest(AppId(0)).is_some()
 }
 
 /// Whether the second value has all that the first has, and a copy of it their join, through the bound.

@@ -22,7 +22,7 @@ pub(crate) fn is_touched(
     if config.group_of(app, node).is_none() {
         return false;
     }
-    if old.lives().life(node) != new.lives().life(node) {
+    if old.lives().greatest_life(node) != new.lives().greatest_life(node) {
         return true;
     }
     match new.lives().live(node) {

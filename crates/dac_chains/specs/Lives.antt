@@ -20,6 +20,10 @@ use Rattle.dac_chains.specs.declared.lives.LifeAct.TheVariants.{Up as CameUp, Do
 abbrev pub life_cmp : Life → Life → Ordering
 life_cmp a b = ordering_then (nat_cmp a.inc b.inc) (flag_cmp a.flag b.flag)
 
+-- a life as a pair: which of the node's incarnations, and whether that one is up
+abbrev pub inc_and_flag : Life → ℕ × Flag
+inc_and_flag l = (l.inc, l.flag)
+
 -- for each node of which something was said, a life
 abbrev pub Lives : Type 0
 Lives = map.FinMap node_cmp Life

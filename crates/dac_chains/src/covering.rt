@@ -39,7 +39,7 @@ impl Lives {
     fn reaches(&self, node: NodeId, life: Life) -> bool
         ensures { IsTrue result ↔ AreNotAbove life_cmp (alone (Some (node, life))) self.now }
     {
-        match self.life(node) {
+        match self.greatest_life(node) {
             Some(kept) => is_life_within(life, kept),
             None => false,
         }

@@ -1,8 +1,8 @@
 //! The life of each node.
-ghost use Rattle.std.specs.Prelude.{◌≡◌, ◌↔◌, ℕ, IfOk, IsTrue, Some};
+ghost use Rattle.std.specs.Prelude.{◌≡◌, ◌↔◌, ℕ, IfOk, IsTrue, Some, option_map};
 ghost use Rattle.std.specs.FinMap as map;
 ghost use Rattle.dac_chains.specs.Kept.{unwrapped};
-ghost use Rattle.dac_chains.specs.Lives.{IsLive, live_at};
+ghost use Rattle.dac_chains.specs.Lives.{IsLive, live_at, inc_and_flag};
 
 use dac_base::{NoMemory, NodeId};
 use dac_lattice::{Bottom, Dot, Flag, Lattice, MapKey, MapOf, Max, Piece};
@@ -82,8 +82,18 @@ impl Lives {
         Ok(Lives { lives })
     }
 
-    /// The life of a node, if anything was said of it.
-    pub fn life(&self, node: NodeId) -> Option<Life>
+    /// The life of a node, if anything was said of it: which of its incarnations, and whether that one is up.
+    pub fn life(&self, node: NodeId) -> Option<(u64, Flag)>
+        ensures { result ≡ option_map inc_and_flag (map.get self.now node) }
+    {
+        match self.greatest_life(node) {
+            Some(life) => Some((life.inc, life.flag)),
+            None => None,
+        }
+    }
+
+    /// The same as a [`Life`], which is the greatest that was said of the node.
+    pub fn greatest_life(&self, node: NodeId) -> Option<Life>
         ensures { result ≡ map.get self.now node }
     {
         match self.lives.get(node) {
@@ -97,7 +107,7 @@ impl Lives {
         ensures value { result ≡ live_at self.now node }
         ensures exact { (i : ℕ) → (result ≡ Some i) ↔ IsLive self.now node i }
     {
-        let life = self.life(node)?;
+        let life = self.greatest_life(node)?;
         match life.flag {
             Flag::Up => Some(life.inc),
             Flag::Down => None,

@@ -83,7 +83,7 @@ impl Peers {
     fn acked_at(&self, state: &State, node: NodeId) -> Option<Place>
         ensures { result ≡ acked_at self.now state.now node }
     {
-        let inc = state.lives().life(node)?.inc;
+        let inc = state.lives().greatest_life(node)?.inc;
         let number = self.acks.get(Origin { node, inc })?;
         Some(Place { inc, number })
     }

@@ -61,7 +61,7 @@ fn lives_of(config: &Config, state: &State) -> [Option<Life>; MAX_NODES]
 {
     let mut lives = [None; MAX_NODES];
     for number in 0..config.nodes() {
-        lives[number as usize] = state.lives().life(NodeId(number));
+        lives[number as usize] = state.lives().greatest_life(NodeId(number));
     }
     lives
 }

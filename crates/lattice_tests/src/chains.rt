@@ -97,11 +97,7 @@ fn lives_after(alloc: Global, acts: &[LifeAct]) -> Result<Lives, NoMemory> {
 
 /// Whether the lives of the first two nodes are that the first is down and the second up.
 fn are_down_and_up(lives: &Lives) -> bool {
-    let down = Life {
-        inc: 1,
-        flag: Flag::Down,
-    };
-    lives.life(A) == Some(down) && lives.live(NodeId(1)) == Some(1)
+    lives.life(A) == Some((1, Flag::Down)) && lives.live(NodeId(1)) == Some(1)
 }
 
 /// Whether a down is above the life that it ends.

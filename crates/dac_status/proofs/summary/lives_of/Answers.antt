@@ -9,5 +9,5 @@ loop-number-init c = placed_none MAX_NODES None node_numbered (finmap.get c.args
 
 pub loop-number-preserved : goal.loop-number-preserved
 loop-number-preserved c =
-    ap (λ life. set c.loop-number.lives c.loop-number.number life) (rw c.lives.ensures at c.life.ensures)
+    ap (λ life. set c.loop-number.lives c.loop-number.number life) (rw c.lives.ensures at c.greatest_life.ensures)
     ∙ placed_more MAX_NODES None node_numbered (finmap.get c.args.state.now.lives) c.loop-number.number c.loop-number.lives (omega arith) c.loop-number.invariant

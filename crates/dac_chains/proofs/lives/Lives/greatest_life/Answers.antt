@@ -3,7 +3,7 @@ use Rattle.std.specs.Option.{option_copied}
 use Rattle.std.specs.FinMap as map
 use Rattle.dac_base.specs.laws.Ids.{nodes_total, exact_nodes}
 use Rattle.dac_chains.proofs.KeptLemmas.{value_of, get-kept}
-use Rattle.dac_chains.proofs.lives.Lives.life.Goals as goal
+use Rattle.dac_chains.proofs.lives.Lives.greatest_life.Goals as goal
 
 pub returns-in-Some : goal.returns-in-Some
 returns-in-Some c =
