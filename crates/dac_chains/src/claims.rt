@@ -38,7 +38,7 @@ pub struct Claim {
 
 impl MapKey for Claim {
     ghost use Rattle.dac_chains.specs.laws.Claims.{exact_claims};
-    ghost use Rattle.dac_chains.specs.Hows.{exact_derived};
+    ghost use Rattle.dac_chains.specs.laws.Hows.{exact_derived};
 
     ghost exact = { exact_claims ⟦<How as Ord>⟧.cmp exact_derived };
 }
@@ -120,7 +120,8 @@ impl Claims {
 impl Lattice for Claims {
     ghost use Rattle.dac_base.specs.laws.Ids.{apps_total, exact_apps};
     ghost use Rattle.dac_lattice.specs.Chains.{IsAny};
-    ghost use Rattle.dac_chains.specs.Greatest.{AreNotAbove, greater, greatest_laws};
+    ghost use Rattle.dac_chains.specs.Greatest.{AreNotAbove, greater};
+    ghost use Rattle.dac_chains.specs.laws.Greatest.{greatest_laws};
     ghost use Rattle.dac_chains.specs.Claims.{how_cmp, claim_cmp};
     ghost use Rattle.dac_chains.specs.laws.Claims.{claims_total, exact_hows, exact_claims};
 
@@ -160,7 +161,7 @@ impl Lattice for Claims {
 impl Bottom for Claims {
     ghost use Rattle.std.specs.FinMap as map;
     ghost use Rattle.dac_base.specs.laws.Ids.{apps_total, exact_apps};
-    ghost use Rattle.dac_chains.specs.Greatest.{empty_is_least};
+    ghost use Rattle.dac_chains.specs.laws.Greatest.{empty_is_least};
     ghost use Rattle.dac_chains.specs.Claims.{how_cmp};
     ghost use Rattle.dac_chains.specs.laws.Claims.{claims_total, exact_hows, exact_claims};
 
@@ -179,7 +180,8 @@ impl Bottom for Claims {
 
 impl Piece for Claims {
     ghost use Rattle.dac_base.specs.laws.Ids.{apps_total, exact_apps};
-    ghost use Rattle.dac_chains.specs.Greatest.{alone, greatest_piece};
+    ghost use Rattle.dac_chains.specs.Greatest.{alone};
+    ghost use Rattle.dac_chains.specs.laws.Greatest.{greatest_piece};
     ghost use Rattle.dac_chains.specs.Claims.{AreGreatestClaims, how_cmp, said_claim};
     ghost use Rattle.dac_chains.specs.laws.Claims.{claims_total, exact_hows, exact_claims};
 

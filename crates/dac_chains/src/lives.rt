@@ -118,7 +118,8 @@ impl Lattice for Lives {
     ghost use Rattle.dac_lattice.specs.Chains.{IsAny};
     ghost use Rattle.dac_lattice.specs.Flags.{flag_cmp};
     ghost use Rattle.dac_lattice.specs.laws.Flags.{flags_exact};
-    ghost use Rattle.dac_chains.specs.Greatest.{AreNotAbove, greater, greatest_laws};
+    ghost use Rattle.dac_chains.specs.Greatest.{AreNotAbove, greater};
+    ghost use Rattle.dac_chains.specs.laws.Greatest.{greatest_laws};
     ghost use Rattle.dac_chains.specs.Lives.{life_cmp};
     ghost use Rattle.dac_chains.specs.laws.Lives.{lives_total, exact_lives};
 
@@ -160,7 +161,7 @@ impl Bottom for Lives {
     ghost use Rattle.dac_base.specs.laws.Ids.{nodes_total, exact_nodes};
     ghost use Rattle.dac_lattice.specs.Flags.{flag_cmp};
     ghost use Rattle.dac_lattice.specs.laws.Flags.{flags_exact};
-    ghost use Rattle.dac_chains.specs.Greatest.{empty_is_least};
+    ghost use Rattle.dac_chains.specs.laws.Greatest.{empty_is_least};
     ghost use Rattle.dac_chains.specs.laws.Lives.{lives_total, exact_lives};
 
     ghost bottom = { map.empty };
@@ -180,7 +181,8 @@ impl Piece for Lives {
     ghost use Rattle.dac_base.specs.laws.Ids.{nodes_total, exact_nodes};
     ghost use Rattle.dac_lattice.specs.Flags.{flag_cmp};
     ghost use Rattle.dac_lattice.specs.laws.Flags.{flags_exact};
-    ghost use Rattle.dac_chains.specs.Greatest.{alone, greatest_piece};
+    ghost use Rattle.dac_chains.specs.Greatest.{alone};
+    ghost use Rattle.dac_chains.specs.laws.Greatest.{greatest_piece};
     ghost use Rattle.dac_chains.specs.Lives.{AreLives, said_life};
     ghost use Rattle.dac_chains.specs.laws.Lives.{lives_total, exact_lives};
 

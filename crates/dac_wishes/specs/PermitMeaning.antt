@@ -10,7 +10,6 @@ use Rattle.dac_wishes.specs.Writes.{Write}
 use Rattle.dac_wishes.specs.PermissionsValue.{PermissionsValue, flag_of}
 use Rattle.dac_wishes.specs.VoteMeaning as votes
 pub use Rattle.dac_wishes.specs.VoteMeaning.{or_else}
-pub use Rattle.dac_wishes.specs.laws.VoteMeaning.{else_none}
 
 -- the dots that an act replaces
 abbrev pub over_of : PermitAct → List Dot
