@@ -5,7 +5,7 @@ use Rattle.dac_base.specs.declared.AppId.{AppId}
 use Rattle.dac_operations.specs.Operations.{Operation}
 use Rattle.dac_meaning.specs.StateValue.{IsState}
 use Rattle.dac_config.specs.Table.{Table}
-use Rattle.dac_ticks.specs.laws.Again.{IsAmong}
+use Rattle.dac_ticks.specs.Again.{IsAmong}
 use Rattle.dac_messages.specs.declared.event.Event.TheVariants.{Tick}
 use Rattle.dac_messages.specs.declared.reply.Reply.{Reply}
 use Rattle.dac_messages.specs.declared.reply.Reply.TheVariants.{Ticked}

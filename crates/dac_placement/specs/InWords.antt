@@ -3,12 +3,13 @@ use Rattle.std.specs.Prelude.{◌≡◌, ◌↔◌, ℕ, true, None, Some, Match
 use Rattle.dac_dots.specs.declared.dot.Origin.{Origin}
 use Rattle.dac_chains.specs.Lives.{IsLive}
 use Rattle.dac_placement.specs.declared.verdicts.Verdict.TheVariants.{Halted}
+use Rattle.dac_placement.specs.declared.standing.Standing.{Standing}
+use Rattle.dac_placement.specs.declared.standing.Standing.TheVariants.{Unclaimed, Lost, Stopped, Barred, Upheld}
 use Rattle.dac_base.specs.declared.NodeId.{NodeId}
 use Rattle.dac_base.specs.declared.AppId.{AppId}
 use Rattle.dac_config.specs.Table.{Table}
 use Rattle.dac_state.specs.StateValue.{StateValue}
-use Rattle.dac_placement.specs.Placement.{holder_of, key_of, IsUp, IsStartedAt, IsDrainedAt, IsEligible, is_eligible, EachEligible, RunsAt, runs_at, runner_of, IsFirst, first_choice, IsStanding, standing_of, IsVerdict, verdict_of, candidate_of}
-use Rattle.dac_placement.specs.laws.Rests.{Rests}
+use Rattle.dac_placement.specs.Placement.{holder_of, key_of, IsUp, IsStartedAt, IsDrainedAt, IsEligible, is_eligible, EachEligible, IsEarlier, RunsAt, runs_at, runner_of, IsFirst, first_choice, IsStanding, standing_of, IsVerdict, verdict_of, candidate_of}
 
 -- which nodes may run an application
 abbrev pub EligibleInWords : Type 0
@@ -37,6 +38,14 @@ VerdictInWords = (table : Table) (s : StateValue) (app : AppId) → IsVerdict ta
 -- who is to claim an application is its first choice
 abbrev pub CandidateInWords : Type 0
 CandidateInWords = (table : Table) (s : StateValue) (app : AppId) (node : NodeId) → candidate_of (verdict_of table s app) ≡ Some node → IsFirst table s app node
+
+-- if it stands so, it is left alone
+abbrev pub Rests : Table → StateValue → AppId → Standing → Type 0
+Rests table s app Unclaimed = EachEligible table s app (λ _. ⊥)
+Rests table s app Lost = EachEligible table s app (λ _. ⊥)
+Rests table s app (Stopped n) = Unit {0}
+Rests table s app Barred = EachEligible table s app (λ _. ⊥)
+Rests table s app (Upheld n) = EachEligible table s app (λ m. ¬ IsEarlier table app m n)
 
 -- Nobody is to claim an application exactly where it is left alone. How it stands and who is eligible say that, and no
 -- load does.

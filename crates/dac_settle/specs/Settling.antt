@@ -16,7 +16,7 @@ use Rattle.dac_placement.specs.declared.verdicts.Verdict.{Verdict}
 use Rattle.dac_placement.specs.declared.verdicts.Verdict.TheVariants.{Start, Failover, Halted, Move, Takeover, Kept, Nobody}
 use Rattle.dac_decide.specs.FailoverWait.{Note, IsLost, IsLostByNewest, IsNotedSince}
 use Rattle.dac_ticks.specs.Ticks.{Turn}
-use Rattle.dac_ticks.specs.laws.Again.{noting, tick_of}
+use Rattle.dac_ticks.specs.Again.{noting, tick_of}
 use Rattle.dac_settle.specs.Rounds.{InCopies}
 use Rattle.dac_settle.specs.Rules.{judged}
 

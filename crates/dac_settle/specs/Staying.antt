@@ -8,7 +8,7 @@ use Rattle.dac_config.specs.Table.{Table}
 use Rattle.dac_placement.specs.declared.verdicts.Verdict.{Verdict}
 use Rattle.dac_placement.specs.Placement.{candidate_of}
 use Rattle.dac_settle.specs.Rounds.{IsGrown}
-use Rattle.dac_settle.specs.laws.Placed.{placed}
+use Rattle.dac_settle.specs.Placed.{placed}
 
 -- Whom nobody is to claim by a set, nobody is to claim by the set with claims that are well made beside it.
 abbrev pub Stays : (Table → StateValue → AppId → Verdict) → Type 0

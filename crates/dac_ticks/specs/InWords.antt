@@ -1,6 +1,6 @@
 -- What a tick claims, in words. It is exactly the applications whose due candidate is its own node, each on the state
 -- that the earlier claims left.
-use Rattle.std.specs.Prelude.{◌≡◌, ◌⊎◌, ℕ, List, [], ◌∷◌, Option, None, Some}
+use Rattle.std.specs.Prelude.{◌≡◌, ◌⊎◌, ℕ, List, [], ◌∷◌, Option, None, Some, ◌+◌, ◌≤◌}
 use Rattle.dac_base.specs.declared.NodeId.{NodeId}
 use Rattle.dac_base.specs.declared.AppId.{AppId}
 use Rattle.dac_dots.specs.declared.dot.Origin.{Origin}
@@ -10,12 +10,15 @@ use Rattle.dac_chains.specs.declared.claims.How.TheVariants.{Normal, Failover as
 use Rattle.dac_operations.specs.Operations.{Operation}
 use Rattle.dac_meaning.specs.StateValue.{StateValue, join}
 use Rattle.dac_meaning.specs.Meaning.{meaning_of}
-use Rattle.dac_config.specs.Table.{Table}
+use Rattle.dac_config.specs.Table.{Table, app_count}
 use Rattle.dac_placement.specs.declared.verdicts.Verdict.{Verdict}
 use Rattle.dac_placement.specs.declared.verdicts.Verdict.TheVariants.{Start, Failover, Move, Takeover}
-use Rattle.dac_placement.specs.Placement.{IsVerdict, candidate_of}
-use Rattle.dac_decide.specs.FailoverWait.{Note, IsDueBy, IsHeldAt}
+use Rattle.dac_placement.specs.Placement.{IsVerdict, candidate_of, apps_of}
+use Rattle.dac_decide.specs.FailoverWait.{Note, IsDueBy, IsHeldAt, waits_of}
 use Rattle.dac_commands.specs.Written.{HasLastTerm, IsNextClaim}
+use Rattle.dac_base.specs.declared.limits.TheConstants.{MAX_COUNTER}
+use Rattle.dac_commands.specs.Commands.{greatest_counter}
+use Rattle.dac_ticks.specs.Ticks.{turn_of}
 
 -- the application's verdict names the node, and is to be carried out now
 pub record IsMine (t : Table) (own : Origin) (notes : List Note) (now : ℕ) (s : StateValue) (app : AppId) (verdict : Verdict) : Type 0 where
@@ -57,3 +60,12 @@ IsTurn t own notes now s (app ∷ apps) ops passed =
     (IsClaimOf own s app verdict o × IsTurn t own notes now (join s (meaning_of (o ∷ []))) apps rest passed))))
     ⊎ ((verdict : Verdict) × (rest : List AppId) ×
     ((passed ≡ app ∷ rest) × (IsMine t own notes now s app verdict × (HasLastTerm s app × IsTurn t own notes now s apps ops rest)))))
+
+-- the incarnation has a counter for each application
+abbrev pub HasRoom : Table → Origin → StateValue → Type 0
+HasRoom t own s = greatest_counter own s.known + app_count t ≤ MAX_COUNTER
+
+-- What a turn issues and passes is so in words, where there is a counter for each application.
+abbrev pub TurnsInWords : Type 0
+TurnsInWords = (t : Table) (own : Origin) (notes : List Note) (now : ℕ) (s : StateValue) → HasRoom t own s
+    → let turn = turn_of t own (waits_of t notes) now s in IsTurn t own notes now s (apps_of t) turn.ops turn.passed
