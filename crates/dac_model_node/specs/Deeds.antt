@@ -42,11 +42,20 @@ pub record Deed : Type 0 where
 
 -- a reply and some states, and nothing else
 abbrev pub keeps : RunValue → Reply → List StateValue → Deed
-keeps r reply adds = record { reply = reply; adds = adds; goes_off = false; last = r.moments.last; is_open = r.is_open; notes = false; peers = r.peers; trim = 0 }
+keeps r reply adds = record {
+  reply = reply;
+  adds = adds;
+  goes_off = false;
+  last = r.moments.last;
+  is_open = r.is_open;
+  notes = false;
+  peers = r.peers;
+  trim = 0;
+}
 
 -- the node goes down
 abbrev pub goes_down : RunValue → Reply → Deed
-goes_down r reply = record { reply = reply; adds = []; goes_off = true; last = r.moments.last; is_open = r.is_open; notes = false; peers = r.peers; trim = 0 }
+goes_down r reply = record (keeps r reply []) { goes_off = true }
 
 -- an operation is issued
 abbrev pub issues : RunValue → Operation → Deed
@@ -66,7 +75,7 @@ message_of r to =
 
 -- the message is shipped, and the node is owed no answer any more
 abbrev pub ships : RunValue → NodeId → Deed
-ships r to = record { reply = Shipped (message_of r to); adds = []; goes_off = false; last = r.moments.last; is_open = r.is_open; notes = false; peers = shipped_to r.peers to; trim = 0 }
+ships r to = record (keeps r (Shipped (message_of r to)) []) { peers = shipped_to r.peers to }
 
 -- a state comes to another: it is added unless it is below
 abbrev pub brings : StateValue → StateValue → List StateValue
@@ -82,13 +91,7 @@ hears_message t r m =
     let body = content_of m.body in
     let adds = brings r.state body in
     let peers = heard_from r.origin r.kept.count r.peers m in
-    record {
-      reply = Heard (not (is_below body r.state));
-      adds = adds;
-      goes_off = false;
-      last = r.moments.last;
-      is_open = r.is_open;
-      notes = false;
+    record (keeps r (Heard (not (is_below body r.state))) adds) {
       peers = peers;
       trim = acked_by_all peers (fold join r.state adds) (node_count t) r.origin.node;
     }
@@ -99,11 +102,11 @@ meanings os = map (λ (o : Operation). meaning_of (o ∷ [])) os
 
 -- the applications are looked after
 abbrev pub looks_after : RunValue → ℕ → Turn → Deed
-looks_after r now turn = record { reply = Ticked turn.ops turn.passed; adds = meanings turn.ops; goes_off = false; last = now; is_open = true; notes = true; peers = r.peers; trim = 0 }
+looks_after r now turn = record (keeps r (Ticked turn.ops turn.passed) (meanings turn.ops)) { last = now; is_open = true; notes = true }
 
 -- the node still waits for others
 abbrev pub holds_back : RunValue → ℕ → Deed
-holds_back r now = record { reply = Held; adds = []; goes_off = false; last = now; is_open = false; notes = false; peers = r.peers; trim = 0 }
+holds_back r now = record (keeps r Held []) { last = now; is_open = false }
 
 -- a tick, where the gate answers so
 abbrev pub ticks_by : Opening → Table → RunValue → List (Option Noted) → ℕ → Deed

@@ -85,11 +85,20 @@ AreRounds t (suc k) w s events answers =
     × (events ≡ first ++ later) × (answers ≡ replies ++ more)
     × IsWorldRound t w s first replies × AreRounds t k (world_after t w first replies) (set_run s first replies) later more
 
--- The events end in as many rounds as there are applications, and the world was ready before them. Then nothing is to
--- be done at any running node.
+-- The events with their answers end in as many rounds as there are applications, and the world was ready before these.
+pub record EndsInRounds (t : Table) (events : List WorldEvent) (answers : List (Result Reply WorldFault)) : Type 0 where
+  pub before : List WorldEvent
+  pub rounds : List WorldEvent
+  pub replies : List (Result Reply WorldFault)
+  pub more : List (Result Reply WorldFault)
+  pub events_are : events ≡ before ++ rounds
+  pub answers_are : answers ≡ replies ++ more
+  pub answered : AnsweredAs t (start t) before replies
+  pub ready : IsReadyWorld (world_after t (start t) before replies) (set_run no_sets before replies)
+  pub last : AreRounds t (app_count t) (world_after t (start t) before replies) (set_run no_sets before replies) rounds more
+
+-- If the events end in such rounds, then nothing is to be done for any application at any running node.
 pub record Settles (t : Table) (events : List WorldEvent) (answers : List (Result Reply WorldFault)) (v : WorldValue) : Type 0 where
-  pub each : (before rounds : List WorldEvent) (replies more : List (Result Reply WorldFault)) → events ≡ before ++ rounds → answers ≡ replies ++ more → AnsweredAs t (start t) before replies
-      → let w = world_after t (start t) before replies in
-      let s = set_run no_sets before replies in
-      IsReadyWorld w s → AreRounds t (app_count t) w s rounds more
-      → (n : ℕ) (state : StateValue) → RunsWith v n state → (app : AppId) → app.0 < app_count t → IsSettled (verdict_of t state app)
+  pub each : EndsInRounds t events answers
+      → (n : ℕ) (state : StateValue) → RunsWith v n state
+      → (app : AppId) → app.0 < app_count t → IsSettled (verdict_of t state app)

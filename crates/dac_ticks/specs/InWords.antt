@@ -48,18 +48,36 @@ pub record IsClaimOf (own : Origin) (s : StateValue) (app : AppId) (verdict : Ve
   pub comes : ComesBy s app verdict how from
   pub claims : IsNextClaim s app how from o.act
 
--- Of these applications in turn, exactly those are claimed that are the node's to claim and whose terms aren't used
--- up. Exactly those are passed that are the node's to claim and whose terms are used up. Each claim is heard before
--- the next application is looked at.
+-- what is issued and passed of the applications that come later in the turn, from the state that it has then
+abbrev pub Onward : Type 1
+Onward = StateValue → List Operation → List AppId → Type 0
+
+module _ (t : Table) (own : Origin) (notes : List Note) (now : ℕ) (s : StateValue) (app : AppId) (onward : Onward) where
+  -- The application isn't the node's to claim, and nothing is done with it.
+  abbrev pub IsLeft : List Operation → List AppId → Type 0
+  IsLeft ops passed = IsNotMine t own notes now s app × onward s ops passed
+
+  -- It is the node's to claim, and the next operation claims it. That is heard before the turn goes on.
+  abbrev pub IsClaimed : List Operation → List AppId → Type 0
+  IsClaimed ops passed =
+      (verdict : Verdict) × (o : Operation) × (rest : List Operation)
+      × ((ops ≡ o ∷ rest) × (IsMine t own notes now s app verdict
+      × (IsClaimOf own s app verdict o × onward (join s (meaning_of (o ∷ []))) rest passed)))
+
+  -- It is the node's to claim, but its terms are used up, and the turn passes it.
+  abbrev pub IsPassed : List Operation → List AppId → Type 0
+  IsPassed ops passed =
+      (verdict : Verdict) × (rest : List AppId)
+      × ((passed ≡ app ∷ rest) × (IsMine t own notes now s app verdict
+      × (HasLastTerm s app × onward s ops rest)))
+
+-- Each of these applications in turn is left, claimed or passed.
 abbrev pub IsTurn : Table → Origin → List Note → ℕ → StateValue → List AppId → List Operation → List AppId → Type 0
 IsTurn t own notes now s [] ops passed = (ops ≡ []) × (passed ≡ [])
 IsTurn t own notes now s (app ∷ apps) ops passed =
-    (IsNotMine t own notes now s app × IsTurn t own notes now s apps ops passed)
-    ⊎ (((verdict : Verdict) × (o : Operation) × (rest : List Operation) ×
-    ((ops ≡ o ∷ rest) × (IsMine t own notes now s app verdict ×
-    (IsClaimOf own s app verdict o × IsTurn t own notes now (join s (meaning_of (o ∷ []))) apps rest passed))))
-    ⊎ ((verdict : Verdict) × (rest : List AppId) ×
-    ((passed ≡ app ∷ rest) × (IsMine t own notes now s app verdict × (HasLastTerm s app × IsTurn t own notes now s apps ops rest)))))
+    let onward : Onward = λ later issued passed. IsTurn t own notes now later apps issued passed in
+    IsLeft t own notes now s app onward ops passed
+    ⊎ (IsClaimed t own notes now s app onward ops passed ⊎ IsPassed t own notes now s app onward ops passed)
 
 -- the incarnation has a counter for each application
 abbrev pub HasRoom : Table → Origin → StateValue → Type 0
