@@ -131,7 +131,8 @@ impl Lattice for Claims {
 
     ghost join = { greater claim_cmp };
 
-    ghost laws = { greatest_laws apps_total exact_apps claims_total (exact_claims how_cmp exact_hows) };
+    ghost laws = { greatest_laws apps_total exact_apps claims_total
+        (exact_claims how_cmp exact_hows) };
 
     fn tells_invariant(&self) {}
 
@@ -167,7 +168,8 @@ impl Bottom for Claims {
 
     ghost bottom = { map.empty };
 
-    ghost least = { λ claims _. empty_is_least apps_total exact_apps claims_total (exact_claims how_cmp exact_hows) claims };
+    ghost least = { λ claims _. empty_is_least apps_total exact_apps claims_total
+        (exact_claims how_cmp exact_hows) claims };
 
     ghost bottom_value = { tt };
 
@@ -193,7 +195,8 @@ impl Piece for Claims {
 
     ghost means = { AreGreatestClaims };
 
-    ghost piece_laws = { greatest_piece apps_total exact_apps claims_total (exact_claims how_cmp exact_hows) said_claim };
+    ghost piece_laws = { greatest_piece apps_total exact_apps claims_total
+        (exact_claims how_cmp exact_hows) said_claim };
 
     fn delta(alloc: Global, dot: Dot, act: &ClaimAct) -> Result<Self, NoMemory> {
         match act {

@@ -129,7 +129,8 @@ impl Lattice for Lives {
 
     ghost join = { greater life_cmp };
 
-    ghost laws = { greatest_laws nodes_total exact_nodes lives_total (exact_lives flag_cmp flags_exact) };
+    ghost laws = { greatest_laws nodes_total exact_nodes lives_total
+        (exact_lives flag_cmp flags_exact) };
 
     fn tells_invariant(&self) {}
 
@@ -166,7 +167,8 @@ impl Bottom for Lives {
 
     ghost bottom = { map.empty };
 
-    ghost least = { λ lives _. empty_is_least nodes_total exact_nodes lives_total (exact_lives flag_cmp flags_exact) lives };
+    ghost least = { λ lives _. empty_is_least nodes_total exact_nodes lives_total
+        (exact_lives flag_cmp flags_exact) lives };
 
     ghost bottom_value = { tt };
 
@@ -194,7 +196,8 @@ impl Piece for Lives {
 
     ghost means = { AreLives };
 
-    ghost piece_laws = { greatest_piece nodes_total exact_nodes lives_total (exact_lives flag_cmp flags_exact) said_life };
+    ghost piece_laws = { greatest_piece nodes_total exact_nodes lives_total
+        (exact_lives flag_cmp flags_exact) said_life };
 
     fn delta(alloc: Global, dot: Dot, act: &LifeAct) -> Result<Self, NoMemory> {
         match act {
