@@ -79,7 +79,8 @@ starts_in d _ = []
 
 -- The start wishes that stand: a wish does exactly if an operation is it and none replaces it.
 abbrev pub starts_of : List Operation → Writes
-starts_of os = set.retain (set.from_list (flat_map (λ (o : Operation). starts_in o.dot o.act) os)) (λ (w : Write). not (is_replaced w.dot os))
+starts_of os = set.retain (set.from_list (flat_map (λ (o : Operation). starts_in o.dot o.act) os))
+    (λ (w : Write). not (is_replaced w.dot os))
 
 -- ---- votes: what says yes or no of a key
 
@@ -167,7 +168,8 @@ drain_vote _ = None
 abbrev pub drain_at : List Operation → DrainWrite → Option Flag
 drain_at = vote_at origin_cmp drain_vote true
 
--- The drains that stand: one does, with a value, exactly if an operation says so of its incarnation and none replaces it.
+-- The drains that stand: one does, with a value, exactly if an operation says so of its incarnation and none replaces
+-- it.
 abbrev pub standing_drains : List Operation → Drains
 standing_drains = votes_of origin_cmp drain_vote true
 
@@ -178,7 +180,8 @@ abbrev pub pairs : List Operation → List (Dot × Act)
 pairs os = list_map (λ (o : Operation). (o.dot, o.act)) os
 
 -- at each key the greatest of what the operations say of it
-abbrev pub greatest_of : {K T : Type 0} {R : K → K → Ordering} → (T → T → Ordering) → (Dot → Act → Option (K × T)) → List Operation → map.FinMap R T
+abbrev pub greatest_of : {K T : Type 0} {R : K → K → Ordering} → (T → T → Ordering) → (Dot → Act → Option (K × T))
+    → List Operation → map.FinMap R T
 greatest_of cmp tells os = joined (greater cmp) map.empty (λ d a. alone (tells d a)) (pairs os)
 
 -- what an act says of which node's life
@@ -199,7 +202,8 @@ claims_of os = greatest_of claim_cmp claim_said os
 
 -- ---- all parts
 
--- A set of operations as a state. Its parts are said in words at each function above, and `MeaningLaws` has them as laws.
+-- A set of operations as a state. Its parts are said in words at each function above, and `MeaningLaws` has them as
+-- laws.
 unfoldable pub meaning_of : List Operation → StateValue
 meaning_of os = record {
   heard = heard_of os;

@@ -65,7 +65,8 @@ issues r o = keeps r (Issued o) (meaning_of (o ∷ []) ∷ [])
 -- state where there is no place to begin
 abbrev pub body_from : RunValue → Option Place → Body
 body_from r None = Whole r.state
-body_from r (Some p) = cond (has_all r.kept.count (Some p)) Nothing (Interval (fold join bottom (numbered_from r.kept p.number)))
+body_from r (Some p) =
+    cond (has_all r.kept.count (Some p)) Nothing (Interval (fold join bottom (numbered_from r.kept p.number)))
 
 -- the message that is shipped to a node
 abbrev pub message_of : RunValue → NodeId → Message
@@ -102,7 +103,8 @@ meanings os = map (λ (o : Operation). meaning_of (o ∷ [])) os
 
 -- the applications are looked after
 abbrev pub looks_after : RunValue → ℕ → Turn → Deed
-looks_after r now turn = record (keeps r (Ticked turn.ops turn.passed) (meanings turn.ops)) { last = now; is_open = true; notes = true }
+looks_after r now turn =
+    record (keeps r (Ticked turn.ops turn.passed) (meanings turn.ops)) { last = now; is_open = true; notes = true }
 
 -- the node still waits for others
 abbrev pub holds_back : RunValue → ℕ → Deed
@@ -118,7 +120,8 @@ ticks_by Opened t r noted now = looks_after r now (turn_of t r.origin noted now 
 abbrev pub opening_at : Table → RunValue → ℕ → Opening
 opening_at t r now = cond r.is_open Opened (opening_of t r.state (now - r.moments.booted))
 
--- What an accepted event does at a running node, where so much is noted by then if the event notes anything. (A running node never accepts a boot.)
+-- What an accepted event does at a running node, where so much is noted by then if the event notes anything. (A running
+-- node never accepts a boot.)
 abbrev pub deed_of : Table → RunValue → List (Option Noted) → Event → Deed
 deed_of t r noted (Boot now) = keeps r (Heard false) []
 deed_of t r noted Crash = goes_down r Crashed

@@ -31,7 +31,8 @@ member_by (Some r) (Some set) = Some (record { inc = r.origin.inc; held = set.op
 abbrev pub members_of : ModelWorld → SetWorld → NodeId → Option Member
 members_of w s n = member_by (w.node n).run (s.node n)
 
--- All running nodes hold the same set. Who is live in it runs, at that incarnation, and who runs is live in it. Each running node has noted each lost claim.
+-- All running nodes hold the same set. Who is live in it runs, at that incarnation, and who runs is live in it. Each
+-- running node has noted each lost claim.
 abbrev pub IsReadyWorld : ModelWorld → SetWorld → Type 0
 IsReadyWorld w s = IsReady (members_of w s)
 
@@ -57,7 +58,8 @@ InRound t before w n what (Ok _) = ⊥
 abbrev pub AreInRound : Table → ℕ → ModelWorld → List WorldEvent → List (Result Reply WorldFault) → Type 0
 AreInRound t before w [] answers = Unit {0}
 AreInRound t before w (e ∷ es) [] = Unit {0}
-AreInRound t before w (e ∷ es) (a ∷ answers) = InRound t before w e.node e.what a × AreInRound t before (went t w e a) es answers
+AreInRound t before w (e ∷ es) (a ∷ answers) =
+    InRound t before w e.node e.what a × AreInRound t before (went t w e a) es answers
 
 abbrev pub IsTicked : Result Reply WorldFault → Type 0
 IsTicked (Ok (Ticked ops passed)) = Unit {0}
@@ -71,7 +73,8 @@ AnswersTick n (e ∷ es) (a ∷ answers) = ((e.node ≡ n) × IsTicked a) ⊎ An
 
 -- These events with these answers are a round. Each node that runs ticks in it, and in the end all running nodes hold
 -- the same set.
-pub record IsWorldRound (t : Table) (w : ModelWorld) (s : SetWorld) (events : List WorldEvent) (answers : List (Result Reply WorldFault)) : Type 0 where
+pub record IsWorldRound (t : Table) (w : ModelWorld) (s : SetWorld) (events : List WorldEvent)
+    (answers : List (Result Reply WorldFault)) : Type 0 where
   pub answered : AnsweredAs t w events answers
   pub fits : AreInRound t (length s.copies) w events answers
   pub ticks : (n : NodeId) → IsSome (w.node n).run → AnswersTick n events answers
@@ -95,10 +98,12 @@ pub record EndsInRounds (t : Table) (events : List WorldEvent) (answers : List (
   pub answers_are : answers ≡ replies ++ more
   pub answered : AnsweredAs t (start t) before replies
   pub ready : IsReadyWorld (world_after t (start t) before replies) (set_run no_sets before replies)
-  pub last : AreRounds t (app_count t) (world_after t (start t) before replies) (set_run no_sets before replies) rounds more
+  pub last : AreRounds t (app_count t) (world_after t (start t) before replies) (set_run no_sets before replies) rounds
+      more
 
 -- If the events end in such rounds, then nothing is to be done for any application at any running node.
-pub record Settles (t : Table) (events : List WorldEvent) (answers : List (Result Reply WorldFault)) (v : WorldValue) : Type 0 where
+pub record Settles (t : Table) (events : List WorldEvent) (answers : List (Result Reply WorldFault))
+    (v : WorldValue) : Type 0 where
   pub each : EndsInRounds t events answers
       → (n : ℕ) (state : StateValue) → RunsWith v n state
       → (app : AppId) → app.0 < app_count t → IsSettled (verdict_of t state app)

@@ -25,7 +25,8 @@ tick_of t own notes now s = turn_of t own (waits_of t (noting s now notes)) now 
 -- the state as it is. It notes once more. It passes none but those that the first passed. It may pass fewer: a claim
 -- of the first may have made another node the better choice.
 abbrev pub SecondTickClaimsNothing : Type 0
-SecondTickClaimsNothing = (t : Table) (own : Origin) (notes : List Note) (now : ℕ) (s : StateValue) → IsState s → IsLive s.lives own.node own.inc
+SecondTickClaimsNothing = (t : Table) (own : Origin) (notes : List Note) (now : ℕ) (s : StateValue) → IsState s
+    → IsLive s.lives own.node own.inc
     → let first = tick_of t own notes now s in
     let second = tick_of t own (noting s now notes) now first.state in
     (second.ops ≡ []) × ((second.state ≡ first.state) × ((app : AppId) → IsAmong app second.passed → IsAmong app first.passed))

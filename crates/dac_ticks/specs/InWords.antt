@@ -21,21 +21,25 @@ use Rattle.dac_commands.specs.Commands.{greatest_counter}
 use Rattle.dac_ticks.specs.Ticks.{turn_of}
 
 -- the application's verdict names the node, and is to be carried out now
-pub record IsMine (t : Table) (own : Origin) (notes : List Note) (now : ℕ) (s : StateValue) (app : AppId) (verdict : Verdict) : Type 0 where
+pub record IsMine (t : Table) (own : Origin) (notes : List Note) (now : ℕ) (s : StateValue) (app : AppId)
+    (verdict : Verdict) : Type 0 where
   pub verdict_is : IsVerdict t s app verdict
   pub candidate : candidate_of verdict ≡ Some own.node
   pub due : IsDueBy t notes s app now verdict
 
 -- it names another node or none, or isn't to be carried out now
-pub record IsNotMine (t : Table) (own : Origin) (notes : List Note) (now : ℕ) (s : StateValue) (app : AppId) : Type 0 where
+pub record IsNotMine (t : Table) (own : Origin) (notes : List Note) (now : ℕ) (s : StateValue)
+    (app : AppId) : Type 0 where
   pub verdict : Verdict
   pub verdict_is : IsVerdict t s app verdict
   pub left : candidate_of verdict ≡ Some own.node → ¬ IsDueBy t notes s app now verdict
 
 -- A failover and a takeover are claimed so, from the node that held the application, and a start and a move as normal.
 abbrev pub ComesBy : StateValue → AppId → Verdict → How → Option NodeId → Type 0
-ComesBy s app (Failover n) how from = (how ≡ FailedOver) × (holder : NodeId) × (IsHeldAt s app holder × (from ≡ Some holder))
-ComesBy s app (Takeover n) how from = (how ≡ TakenOver) × (holder : NodeId) × (IsHeldAt s app holder × (from ≡ Some holder))
+ComesBy s app (Failover n) how from =
+    (how ≡ FailedOver) × (holder : NodeId) × (IsHeldAt s app holder × (from ≡ Some holder))
+ComesBy s app (Takeover n) how from =
+    (how ≡ TakenOver) × (holder : NodeId) × (IsHeldAt s app holder × (from ≡ Some holder))
 ComesBy s app (Start n) how from = (how ≡ Normal) × (from ≡ None)
 ComesBy s app (Move n) how from = (how ≡ Normal) × (from ≡ None)
 ComesBy s app _ how from = ⊥

@@ -1,4 +1,5 @@
--- Operations that replace dots: which dots they name, and which of their writes stand. A set of operations is given as a list; order and repeats don't matter.
+-- Operations that replace dots: which dots they name, and which of their writes stand. A set of operations is given as
+-- a list; order and repeats don't matter.
 use Rattle.std.specs.Prelude.{◌≡◌, Bool, false, ◌||◌, List, ◌∷◌}
 use Rattle.std.specs.List.{list_any}
 use Rattle.std.specs.FinSet as set
