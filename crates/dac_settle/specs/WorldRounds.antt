@@ -98,8 +98,8 @@ pub record EndsInRounds (t : Table) (events : List WorldEvent) (answers : List (
   pub answers_are : answers ≡ replies ++ more
   pub answered : AnsweredAs t (start t) before replies
   pub ready : IsReadyWorld (world_after t (start t) before replies) (set_run no_sets before replies)
-  pub last : AreRounds t (app_count t) (world_after t (start t) before replies) (set_run no_sets before replies) rounds
-      more
+  pub last : AreRounds t (app_count t) (world_after t (start t) before replies)
+      (set_run no_sets before replies) rounds more
 
 -- If the events end in such rounds, then nothing is to be done for any application at any running node.
 pub record Settles (t : Table) (events : List WorldEvent) (answers : List (Result Reply WorldFault))
