@@ -178,8 +178,8 @@ abbrev pub EndBefore : List Row → Origin → Type 0
 EndBefore rows origin =
     (o : Origin) → has_key origin_cmp (map (λ (row : Row). row.origin) rows) o ≡ true → origin_cmp o origin ≡ Less
 
--- The row comes after these: its origin is above theirs, its further counters rise from above upto + 1, and it has some
--- counter.
+-- The row comes after these: its origin is above theirs, its further counters rise from above upto + 1, and
+-- it has some counter.
 pub record CanFollow (rows : List Row) (row : Row) : Type 0 where
   pub above : EndBefore rows row.origin
   pub rising : IsRising nat_cmp ((row.upto + 1) ∷ row.further)

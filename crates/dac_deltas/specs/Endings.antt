@@ -1,5 +1,5 @@
--- What is kept of each delta: the delta itself, and the joins of the blocks that end with it. A pair of the two is
--- called an ending.
+-- What is kept of each delta: the delta itself, and the joins of the blocks that end with it. A pair of the two
+-- is called an ending.
 use Rattle.std.specs.Prelude.{◌≡◌, ℕ, ◌+◌, ◌-◌, ◌%◌, ◌≤◌, ◌<◌, ◌^◌, List, ◌∷◌, length, map, fold, take, drop, slice_index_or, Option, Some, None}
 use Rattle.dac_deltas.specs.declared.blocks.TheConstants.{MOST_LEVEL}
 use Rattle.dac_deltas.specs.Kept.{Kept, IsBuffer, newest, numbered_from}

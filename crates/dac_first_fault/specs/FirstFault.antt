@@ -104,9 +104,9 @@ IsOfName TooManyApps = Unit {0}
 IsOfName TooManyNodes = Unit {0}
 IsOfName _ = ⊥
 
--- A name at the end of these words breaks the limit of this fault first. No file that keeps the limit begins with them,
--- whatever others it breaks. A file that keeps those that count before it does; where the fault is BadShape, maybe
--- none.
+-- A name at the end of these words breaks the limit of this fault first. No file that keeps the limit begins
+-- with them, whatever others it breaks. A file that keeps those that count before it does; where the fault
+-- is BadShape, maybe none.
 pub record Breaks (ws : List Word) (kind : FaultKind) : Type 0 where
   pub broken : ¬ CanBegin (Keeps (Only kind)) ws
   pub first : IsOfName kind → CanBegin (Keeps (Before kind)) ws

@@ -1,5 +1,5 @@
--- Pieces of a state: lattices to which each operation adds its delta. A set of operations is given as a list; order and
--- repeats don't matter.
+-- Pieces of a state: lattices to which each operation adds its delta. A set of operations is given as a list; order
+-- and repeats don't matter.
 use Rattle.std.specs.Prelude.{◌≡◌, ◌⊎◌, List, [], ◌∷◌, ◌++◌}
 use Rattle.dac_dots.specs.declared.dot.Dot.{Dot}
 

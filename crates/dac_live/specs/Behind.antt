@@ -40,8 +40,8 @@ SeatDiffers p rs [] = ⊥
 SeatDiffers p rs (s ∷ ss) =
     DifferAt p (calls_of s.number rs) s.calls ⊎ ((calls_of s.number rs ≡ s.calls) × SeatDiffers p rs ss)
 
--- the first record that is of none of these seats: it stands at this place, where the first of all stands at the given
--- one
+-- the first record that is of none of these seats: it stands at this place, where the first of all stands
+-- at the given one
 abbrev pub StrangerFrom : ℕ → ℕ → List SeatValue → List Record → Type 0
 StrangerFrom p at seats [] = ⊥
 StrangerFrom p at seats (r ∷ rs) =

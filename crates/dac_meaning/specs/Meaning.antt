@@ -168,8 +168,8 @@ drain_vote _ = None
 abbrev pub drain_at : List Operation → DrainWrite → Option Flag
 drain_at = vote_at origin_cmp drain_vote true
 
--- The drains that stand: one does, with a value, exactly if an operation says so of its incarnation and none replaces
--- it.
+-- The drains that stand: one does, with a value, exactly if an operation says so of its incarnation
+-- and none replaces it.
 abbrev pub standing_drains : List Operation → Drains
 standing_drains = votes_of origin_cmp drain_vote true
 
@@ -202,8 +202,8 @@ claims_of os = greatest_of claim_cmp claim_said os
 
 -- ---- all parts
 
--- A set of operations as a state. Its parts are said in words at each function above, and `MeaningLaws` has them as
--- laws.
+-- A set of operations as a state. Its parts are said in words at each function above, and `MeaningLaws`
+-- has them as laws.
 unfoldable pub meaning_of : List Operation → StateValue
 meaning_of os = record {
   heard = heard_of os;

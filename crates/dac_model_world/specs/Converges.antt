@@ -24,8 +24,8 @@ pub record Converges (t : Table) (events : List WorldEvent) (answers : List (Res
     (v : WorldValue) : Type 0 where
   -- each running controller's state is the meaning of the issued operations whose dots it has heard
   pub headline : EachIsMeaning v
-  -- so controllers that heard the same set hold equal states and bytes, and name the same holder and the same next
-  -- candidate
+  -- so controllers that heard the same set hold equal states and bytes, and name the same holder and
+  -- the same next candidate
   pub agree : Agrees v
   -- merging two states gives their least upper bound, whatever states they are
   pub merging : IsLattice IsState IsBelow join
@@ -56,8 +56,8 @@ pub record Converges (t : Table) (events : List WorldEvent) (answers : List (Res
   -- So each share leaves all running nodes the union of what they had, if each knew the present incarnation of each
   -- other one, or nothing of its life. In a share each running node tells each other one all that it has.
   pub shares : SharesUnite events answers
-  -- where no single operation is handed, each controller has heard what is causally before what it heard, and the
-  -- maximal writes stand
+  -- where no single operation is handed, each controller has heard what is causally before what it heard, and
+  -- the maximal writes stand
   pub causal : HandsNothing events answers → IsCausal v (set_run no_sets events answers)
   -- what happened at each controller is a history of it, from never booted to where the run leaves it
   pub histories : HaveHistories t events answers v

@@ -165,8 +165,8 @@ pub record RanAs (t : Table) (events : List WorldEvent) (answers : List (Result 
   pub run : Run t (start t) events answers final
   pub shows : Shows t final v
 
--- of each run from the start this holds: of the configuration, its events, its answers and where the program's world is
--- after it
+-- of each run from the start this holds: of the configuration, its events, its answers and where the program's
+-- world is after it
 abbrev pub InEachRun : (Table → List WorldEvent → List (Result Reply WorldFault) → WorldValue → Type 0) → Type 0
 InEachRun P = (t : Table) (events : List WorldEvent) (answers : List (Result Reply WorldFault)) (v : WorldValue)
     → RanAs t events answers v → P t events answers v

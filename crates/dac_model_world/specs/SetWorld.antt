@@ -31,8 +31,8 @@ pub record Copy : Type 0 where
   pub only : Option ℕ
   pub operations : List Operation
 
--- each node's set, where it runs, and, the oldest first, each operation that was ever issued and each copy that was
--- ever shipped
+-- each node's set, where it runs, and, the oldest first, each operation that was ever issued and each copy
+-- that was ever shipped
 pub record SetWorld : Type 0 where
   pub node : NodeId → Option NodeSet
   pub issued : List Issue

@@ -1,5 +1,5 @@
--- That what is shipped is the sender's whole set, and what is delivered is united with it, whatever part of it a
--- message carries.
+-- That what is shipped is the sender's whole set, and what is delivered is united with it, whatever part of
+-- it a message carries.
 use Rattle.std.specs.Prelude.{◌≡◌, ℕ, true, List, [], ◌∷◌, ◌++◌, Some, Result, Ok}
 use Rattle.dac_base.specs.declared.NodeId.{NodeId}
 use Rattle.dac_operations.specs.Operations.{Operation}

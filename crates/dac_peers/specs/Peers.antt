@@ -55,8 +55,8 @@ abbrev pub kept_from : ℕ → Option Place → Option Place
 kept_from base None = None
 kept_from base (Some p) = cond (nat_le base p.number) (Some p) None
 
--- from where an interval for a node begins, and the incarnation that it is for; none where the whole state has to be
--- shipped
+-- from where an interval for a node begins, and the incarnation that it is for; none where the whole state
+-- has to be shipped
 abbrev pub begins : PeersValue → StateValue → ℕ → NodeId → Option Place
 begins p s base to = kept_from base (acked_at p s to)
 

@@ -136,8 +136,8 @@ abbrev pub AreDistinct : List AppId → Type 0
 AreDistinct [] = Unit {0}
 AreDistinct (a ∷ apps) = ¬ IsOneOf a apps × AreDistinct apps
 
--- n is the load in words: there are so many applications of the configuration, other than this one, that run at the
--- node
+-- n is the load in words: there are so many applications of the configuration, other than this one, that
+-- run at the node
 pub record IsLoad (table : Table) (s : StateValue) (app : AppId) (node : NodeId) (n : ℕ) : Type 0 where
   pub apps : List AppId
   pub distinct : AreDistinct apps

@@ -75,9 +75,9 @@ abbrev pub HaveNumbers : List (Result Reply WorldFault) → Type 0
 HaveNumbers answers =
     AllByRecursion (λ (answer : Result Reply WorldFault). ¬ (answer ≡ Err (Refused DotsUsedUp))) answers
 
--- A share from this world on, beside the world of sets, leaves all running nodes the union of what they had. It does so
--- where each of them knows the present incarnation of each other one, or nothing of its life, and no numbers are used
--- up.
+-- A share from this world on, beside the world of sets, leaves all running nodes the union of what they had. It
+-- does so where each of them knows the present incarnation of each other one, or nothing of its life, and no
+-- numbers are used up.
 abbrev pub ShareUnites : Table → ModelWorld → SetWorld → Type 0
 ShareUnites t w sets =
     let share = telling t w (pairs_in w) in

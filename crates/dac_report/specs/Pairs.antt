@@ -4,9 +4,9 @@ use Rattle.dac_run.specs.Record.{Record}
 use Rattle.dac_run.specs.Journals.{JournalValue, nowhere}
 use Rattle.dac_run.specs.Compared.{Linked}
 
--- The seats 1 to 4 are the callers'. Then each other node, by name, has two: its shipper's and its link worker's. Nodes
--- before this one have the seats from 5 on. It has none at itself, so those after it have two less than their number
--- says.
+-- The seats 1 to 4 are the callers'. Then each other node, by name, has two: its shipper's and its link
+-- worker's. Nodes before this one have the seats from 5 on. It has none at itself, so those after it have two
+-- less than their number says.
 abbrev pub shipper_seat : ℕ → ℕ → ℕ
 shipper_seat me other = if nat_lt other me then 2 * other + 5 else 2 * other + 3
 

@@ -107,8 +107,8 @@ pub record IsReady (node : NodeId → Option Member) : Type 0 where
   pub noted : (m : NodeId) (d : Member) → node m ≡ Some d → (app : AppId) (claim : Claim)
       → IsLost (meaning_of d.held) app claim → IsLostByNewest d.notes app claim
 
--- Each running node ticks, what is delivered was shipped in the round, and in the end all running nodes hold the same
--- set.
+-- Each running node ticks, what is delivered was shipped in the round, and in the end all running nodes
+-- hold the same set.
 pub record IsRound (t : Table) (node later : NodeId → Option Member) : Type 0 where
   pub events : List MemberEvent
   pub copies : List (List Operation)

@@ -1,5 +1,5 @@
--- What is settled stays so, for a rule of verdicts. It is what settling uses of loads: a claim changes them, and
--- unsettles nothing.
+-- What is settled stays so, for a rule of verdicts. It is what settling uses of loads: a claim changes
+-- them, and unsettles nothing.
 use Rattle.std.specs.Prelude.{◌≡◌, List, None}
 use Rattle.dac_base.specs.declared.AppId.{AppId}
 use Rattle.dac_operations.specs.Operations.{Operation}

@@ -1,5 +1,5 @@
--- A worked run of the model world: a claim is lost and noted by two nodes. Once its time is over, a round of both fails
--- over.
+-- A worked run of the model world: a claim is lost and noted by two nodes. Once its time is over, a round
+-- of both fails over.
 use Rattle.std.specs.Prelude.{◌≡◌, ℕ, true, false, List, [], ◌∷◌, ◌++◌, Some, None, IsSome, Result, Ok}
 use Rattle.dac_base.specs.declared.NodeId.{NodeId}
 use Rattle.dac_chains.specs.declared.claims.Claim.{Claim}

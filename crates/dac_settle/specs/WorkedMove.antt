@@ -29,9 +29,9 @@ draining = operation (dot (first_of second_node) 3) (Drain first_node 1 true [])
 abbrev pub drained_set : List Operation
 drained_set = begun (start_of the_app first_node 2 ∷ start_of the_app second_node 2 ∷ claiming ∷ draining ∷ [])
 
--- Rounds move what is drained. Both nodes are ready, the first one holds the application and is drained, and the
--- verdict is to move it. There are as many rounds as applications. After them both nodes still run, and it is settled
--- at each.
+-- Rounds move what is drained. Both nodes are ready, the first one holds the application and is drained, and
+-- the verdict is to move it. There are as many rounds as applications. After them both nodes still run, and it
+-- is settled at each.
 pub record RoundsCanMove : Type 0 where
   pub ready : IsReady (both_hold drained_set)
   pub drained : IsDrainedAt (meaning_of drained_set) first_node 1

@@ -81,8 +81,8 @@ pub record Places (js : List JournalValue) (old : Loom) (i : ℕ) (what : What) 
 abbrev pub IsLeft : List Strand → ℕ → JournalValue → Type 0
 IsLeft ss i j = (s : Strand) × (At ss i s × (s.placed < length j.records))
 
--- of the journals that aren't placed whole the first by name is this node's, and this is the place of its first record
--- that isn't placed
+-- of the journals that aren't placed whole the first by name is this node's, and this is the place of its first
+-- record that isn't placed
 pub record IsLeftAt (js : List JournalValue) (ss : List Strand) (node : NodeId) (place : ℕ) : Type 0 where
   pub index : ℕ
   pub journal : JournalValue

@@ -51,8 +51,8 @@ pub record IsLongest (t : Table) (j : JournalValue) (k : ℕ) : Type 0 where
       → x.answer
       ≡ (node_step t j.opening.node (replayed t j.opening.node (off_after 0) (take k (told j))) x.event).answer → ⊥
 
--- From old, the program's node goes on to new as by the record's event, and same tells whether it answers as the record
--- says.
+-- From old, the program's node goes on to new as by the record's event, and same tells whether it answers
+-- as the record says.
 pub record Repeats (t : Table) (me : NodeId) (old : NodeValue) (r : Record) (new : NodeValue)
     (same : Bool) : Type 0 where
   pub by : (d : ModelNode) → shown t d ≡ old

@@ -29,8 +29,8 @@ says key a = votes.says_of key_cmp key (vote_of a)
 abbrev pub permit_in : Write → Dot × PermitAct → Option Flag
 permit_in = votes.vote_in key_cmp vote_of
 
--- The value is what the operations mean: a permit stands, with its value, if an operation is it and none replaces its
--- dot.
+-- The value is what the operations mean: a permit stands, with its value, if an operation is it and
+-- none replaces its dot.
 abbrev pub IsMeaning : List (Dot × PermitAct) → PermissionsValue → Type 0
 IsMeaning = votes.IsVoteMeaning key_cmp over_of vote_of
 

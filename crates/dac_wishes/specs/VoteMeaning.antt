@@ -35,8 +35,8 @@ module _ {K : Type 0} (R : K → K → Ordering) {A : Type 0} (vote : A → Opti
   said w [] = None
   said w (o ∷ os) = or_else (vote_in w o) (said w os)
 
--- The value is what the operations mean: a vote stands, with its value, if an operation is it and none replaces its
--- dot.
+-- The value is what the operations mean: a vote stands, with its value, if an operation is it and
+-- none replaces its dot.
 pub record IsVoteMeaning {K : Type 0} (R : K → K → Ordering) {A : Type 0} (over : A → List Dot)
     (vote : A → Option (K × Flag)) (os : List (Dot × A)) (v : VotesValue R) : Type 0 where
   pub known : AreNamedIn over os v.known

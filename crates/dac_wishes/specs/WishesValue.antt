@@ -23,8 +23,8 @@ coded_wishes = code_by (Dots × Writes) (coded× (set.code coded_dot) (set.code 
 abbrev pub AreWishes : WishesValue → Type 0
 AreWishes v = (w : Write) → set.contains v.standing w ≡ true → set.contains v.known w.dot ≡ true
 
--- x is below y: y knows all that x does, and what x knows and lets stand no more doesn't stand in y. Written without
--- join.
+-- x is below y: y knows all that x does, and what x knows and lets stand no more doesn't stand in
+-- y. Written without join.
 pub record AreWishesBelow (x y : WishesValue) : Type 0 where
   pub known : IsSubset x.known y.known
   -- a wish that stands in y and that x knows stands in x
