@@ -11,7 +11,7 @@ use Rattle.dac_base.specs.laws.Ids.{apps_total, exact_apps}
 use Rattle.dac_dots.specs.declared.dot.Origin.{Origin}
 use Rattle.dac_lattice.specs.Lattices.{join_options}
 use Rattle.dac_chains.specs.declared.claims.Claim.{Claim}
-use Rattle.dac_chains.specs.Greatest.{get-greater}
+use Rattle.dac_chains.specs.laws.Greatest.{get-greater}
 use Rattle.dac_chains.specs.Lives.{live_at}
 use Rattle.dac_chains.specs.Claims.{claim_cmp}
 use Rattle.dac_wishes.specs.declared.key.Key.{Key}

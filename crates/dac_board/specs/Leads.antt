@@ -32,8 +32,8 @@ abbrev pub Leads : Option Lead → Option Rank → Type 0
 Leads None first = first ≡ None
 Leads (Some lead) first = IsLead lead first
 
--- whether the verdict is the same whoever of the leading group is first: the application is stopped, its holder is of no
--- later group, or one leads alone
+-- whether the verdict is the same whoever of the leading group is first: the application is stopped, its holder is of
+-- no later group, or one leads alone
 abbrev pub is_settled : Standing → Option ℕ → Lead → Bool
 is_settled (Stopped holder) group lead = true
 is_settled (Upheld holder) group lead = lead.alone || not (is_less (Some lead.spot.group) group)

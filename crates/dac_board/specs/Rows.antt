@@ -40,11 +40,13 @@ apps_on rows = list_map (λ n. record { 0 = n }) (range_with_len 0 (length rows)
 
 -- how many other rows run at the node
 abbrev pub load_on : List RowValue → AppId → NodeId → ℕ
-load_on rows app node = length (filter (λ other. not (other.0 == app.0) && row_runs node (row_at rows other)) (apps_on rows))
+load_on rows app node =
+    length (filter (λ other. not (other.0 == app.0) && row_runs node (row_at rows other)) (apps_on rows))
 
 -- where a node that may run the application stands among them
 abbrev pub rank_on : List RowValue → AppId → Option Spot → Option Rank
-rank_on rows app spot = option_map (λ (p : Spot). record { group = p.group; load = load_on rows app p.node; node = p.node }) spot
+rank_on rows app spot =
+    option_map (λ (p : Spot). record { group = p.group; load = load_on rows app p.node; node = p.node }) spot
 
 abbrev pub first_on : List RowValue → AppId → List (Option Spot) → Option Rank
 first_on rows app spots = reduce (ord_min rank_cmp) (filter_map (rank_on rows app) spots)
@@ -62,4 +64,5 @@ verdict_on Barred group None = Nobody
 
 -- the verdict of an application, by its row and those of the others
 abbrev pub row_verdict : List RowValue → AppId → Verdict
-row_verdict rows app = option_map_or (λ (row : RowValue). verdict_on row.standing row.group (first_on rows app row.spots)) (slice_get rows app.0) Nobody
+row_verdict rows app = option_map_or
+    (λ (row : RowValue). verdict_on row.standing row.group (first_on rows app row.spots)) (slice_get rows app.0) Nobody

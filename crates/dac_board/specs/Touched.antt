@@ -26,7 +26,8 @@ use Rattle.dac_placement.specs.Placement.{key_at, apps_of, nodes_of}
 abbrev pub origin_of : Key → Origin
 origin_of key = origin key.node key.inc
 
--- at the key the same permits and starts stand in both states, and at its incarnation the same drains, with their values
+-- at the key the same permits and starts stand in both states, and at its incarnation the same
+-- drains, with their values
 pub record StandAlike (old new : StateValue) (key : Key) : Type 0 where
   pub permits : permits_at key old.permits ≡ permits_at key new.permits
   pub starts : dots_at key old.starts ≡ dots_at key new.starts

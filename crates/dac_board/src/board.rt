@@ -58,15 +58,16 @@ impl Board {
 
     /// What is to become of an application, by the state that is shown. It takes no memory.
     pub fn verdict(&self, app: AppId) -> Verdict
-        ensures value { (table : Table) (s : StateValue) → Shows table self.now s → app.0 < app_count table
-            → result ≡ verdict_of table s app }
+        ensures value { (table : Table) (s : StateValue) → Shows table self.now s
+            → app.0 < app_count table → result ≡ verdict_of table s app }
     {
         verdict_on(&self.rows, app)
     }
 
     /// How many other applications run at a node, by the state that is shown. It takes no memory.
     pub fn load(&self, app: AppId, node: NodeId) -> u32
-        ensures { (table : Table) (s : StateValue) → Shows table self.now s → result ≡ load_of table s app node }
+        ensures { (table : Table) (s : StateValue) → Shows table self.now s
+            → result ≡ load_of table s app node }
     {
         load_on(&self.rows, app, node)
     }
@@ -89,7 +90,8 @@ impl Board {
         ensures rises { self.old.looked ≤ self.new.looked }
         // what is counted
         ensures pairs { (app : App) (node : Named)
-            → IsTrue (is_touched config.now old.now new.now app node) ↔ IsTouched config.now old.now new.now app node }
+            → IsTrue (is_touched config.now old.now new.now app node)
+            ↔ IsTouched config.now old.now new.now app node }
     {
         let moved = moved_by(old, new);
         let mut looked = self.looked;
@@ -180,7 +182,8 @@ fn verdict_on(rows: &[Row], app: AppId) -> Verdict
 /// The verdict of an application that has this row.
 fn judged(rows: &[Row], app: AppId, row: &Row) -> Verdict
     requires { length rows.now < 2 ^ 16 }
-    ensures { result ≡ verdict_on row.now.standing row.now.group (first_on rows.now app row.now.spots) }
+    ensures { result
+        ≡ verdict_on row.now.standing row.now.group (first_on rows.now app row.now.spots) }
 {
     let standing = row.standing();
     let group = row.group();

@@ -182,7 +182,8 @@ fn pass_permits(
 /// Marks each application of which permits stand.
 fn rest_of_permits(moved: &mut [bool; MAX_APPS], entries: &[(Key, DotFun<Flag>)])
     ensures before { (k : ℕ) → get_or moved.new k true ≡ false → get_or moved.old k true ≡ false }
-    ensures gone { (k : ℕ) → get_or moved.new k true ≡ false → AtEachKey key_cmp (IsAbsent k) entries.now }
+    ensures gone { (k : ℕ) → get_or moved.new k true ≡ false
+        → AtEachKey key_cmp (IsAbsent k) entries.now }
 {
     for (key, _votes) in entries {
         mark(moved, key.app);
@@ -249,7 +250,8 @@ fn pass_starts(
 /// Marks each application of which starts stand.
 fn rest_of_starts(moved: &mut [bool; MAX_APPS], entries: &[(Key, DotSet)])
     ensures before { (k : ℕ) → get_or moved.new k true ≡ false → get_or moved.old k true ≡ false }
-    ensures gone { (k : ℕ) → get_or moved.new k true ≡ false → AtEachKey key_cmp (IsAbsent k) entries.now }
+    ensures gone { (k : ℕ) → get_or moved.new k true ≡ false
+        → AtEachKey key_cmp (IsAbsent k) entries.now }
 {
     for (key, _starts) in entries {
         mark(moved, key.app);

@@ -70,7 +70,8 @@ impl Row {
         looked: &mut u64,
     )
         requires { app.0 < app_count config.now }
-        ensures shows { IsGrown change.entry.now app → self.old ≡ row_of config.now change.entry.now.old.now app
+        ensures shows { IsGrown change.entry.now app
+            → self.old ≡ row_of config.now change.entry.now.old.now app
             → self.new ≡ row_of config.now change.entry.now.new.now app }
         ensures few { looked.new ≤ looked.old
             + touched_of config.now change.entry.now.old.now change.entry.now.new.now app }
@@ -115,7 +116,8 @@ impl Row {
         requires { app.0 < app_count config.now }
         ensures spots { self.new.spots ≡ self.old.spots }
         ensures standing { self.new.standing ≡ standing_of config.now state.now app }
-        ensures group { self.new.group ≡ group_held config.now app (standing_of config.now state.now app) }
+        ensures group { self.new.group
+            ≡ group_held config.now app (standing_of config.now state.now app) }
     {
         self.standing = standing_of(config, state, app);
         self.group = group_held(config, app, self.standing);

@@ -22,14 +22,19 @@ pub record FieldCodecs (version : Version) (nodes : ℕ) : Type 0 where
   pub u64_in : (low high : ℕ) → high < 2 ^ 64 → IsCodec (range_at w64 low high) u64_bytes (λ n. (low ≤ n) × (n ≤ high))
   pub counter : IsCodec counter_at u64_bytes (λ n. (1 ≤ n) × (n ≤ MAX_COUNTER))
   -- an incarnation, or 0
-  pub incarnation_or_zero : IsCodec (incarnation_or_zero_at version) (incarnation_bytes version) (λ n. n ≤ highest_incarnation version)
+  pub incarnation_or_zero : IsCodec (incarnation_or_zero_at version) (incarnation_bytes version)
+      (λ n. n ≤ highest_incarnation version)
   -- names
   pub node : IsCodec (node_at nodes) (λ (node : NodeId). u8_bytes node.0) (λ node. node.0 < nodes)
   pub origin : IsCodec (origin_at version nodes) (origin_bytes version) (IsOrigin version nodes)
   pub dot : IsCodec (dot_at version nodes) (dot_bytes version) (IsDot version nodes)
   -- an origin above the one before it
-  pub origin_above : (before : Option Origin) → IsCodec (origin_above_at version nodes before) (origin_bytes version) (Passes (IsOrigin version nodes) (is_above origin_cmp before))
+  pub origin_above : (before : Option Origin)
+      → IsCodec (origin_above_at version nodes before) (origin_bytes version)
+      (Passes (IsOrigin version nodes) (is_above origin_cmp before))
   -- a dot above the one before it
-  pub dot_above : (before : Option Dot) → IsCodec (dot_above_at version nodes before) (dot_bytes version) (Passes (IsDot version nodes) (is_above dot_cmp before))
+  pub dot_above : (before : Option Dot)
+      → IsCodec (dot_above_at version nodes before) (dot_bytes version)
+      (Passes (IsDot version nodes) (is_above dot_cmp before))
   -- a set of dots
   pub context : IsCodec (context_at version nodes) (context_bytes version) (IsContext version nodes)

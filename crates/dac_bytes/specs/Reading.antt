@@ -138,7 +138,8 @@ items_at item next (suc n) s r = do
   Ok (first.0 ∷ others.0, others.1)
 
 -- a count, and so many items, each above the one before it by its key
-unfoldable pub counted_at : {K X : Type 0} → (Rest → Field ℕ) → (Option K → Rest → Field X) → (X → K) → Rest → Field (List X)
+unfoldable pub counted_at : {K X : Type 0} → (Rest → Field ℕ) → (Option K → Rest → Field X) → (X → K) → Rest
+    → Field (List X)
 counted_at count item key r = do
   n ← count r
   xs ← items_at item (λ x. Some (key x)) n.0 None n.1

@@ -24,7 +24,8 @@ dot_bytes version d = origin_bytes version d.origin ++ u64_bytes d.n
 
 -- origin, how far its counters go without a gap, how many further ones there are, and these
 unfoldable pub row_bytes : Version → Row → List ℕ
-row_bytes version row = origin_bytes version row.origin ++ u64_bytes row.upto ++ u32_bytes (length row.further) ++ flat_map u64_bytes row.further
+row_bytes version row = origin_bytes version row.origin ++ u64_bytes row.upto ++ u32_bytes (length row.further)
+    ++ flat_map u64_bytes row.further
 
 -- how many origins have dots, and the row of each
 unfoldable pub context_bytes : Version → Dots → List ℕ

@@ -16,11 +16,13 @@ pub record Takes (r : Rest) (text : List ℕ) (end : Rest) : Type 0 where
 
 -- What read gives is spelled by text, and Is holds of it.
 abbrev pub TakesAs : {X : Type 0} → (Rest → Field X) → (X → List ℕ) → (X → Type 0) → Type 0
-TakesAs {X = X} read text Is = (r : Rest) (x : X × Rest) → IsBytes r.bytes → read r ≡ Ok x → Takes r (text x.0) x.1 × Is x.0
+TakesAs {X =
+    X} read text Is = (r : Rest) (x : X × Rest) → IsBytes r.bytes → read r ≡ Ok x → Takes r (text x.0) x.1 × Is x.0
 
 -- Wherever the text stands, read gives x from it and leaves what comes after it.
 abbrev pub Again : {X : Type 0} → (Rest → Field X) → List ℕ → X → Type 0
-Again read text x = (at : ℕ) (rest : List ℕ) → read (record { at = at; bytes = text ++ rest }) ≡ Ok (x, record { at = at + length text; bytes = rest })
+Again read text x = (at : ℕ) (rest : List ℕ)
+    → read (record { at = at; bytes = text ++ rest }) ≡ Ok (x, record { at = at + length text; bytes = rest })
 
 -- What is read is spelled so and in form, and what is in form is read from its spelling, wherever it stands.
 pub record IsCodec {X : Type 0} (read : Rest → Field X) (text : X → List ℕ) (Is : X → Type 0) : Type 0 where
@@ -32,11 +34,14 @@ abbrev pub Passes : {X : Type 0} → (X → Type 0) → (X → Bool) → X → T
 Passes Is good x = Is x × (good x ≡ true)
 
 -- What a call read of r, as view shows it, is spelled by text, and Is holds of it.
-abbrev pub IsFoundAs : {X Y : Type 0} → (X → Y × Rest) → (Y → List ℕ) → (Y → Type 0) → Rest → Result X ReadFault → Type 0
-IsFoundAs view text Is r result = IsBytes r.bytes → IfOk result (λ x. Takes r (text (view x).0) (view x).1 × Is (view x).0)
+abbrev pub IsFoundAs : {X Y : Type 0} → (X → Y × Rest) → (Y → List ℕ) → (Y → Type 0) → Rest → Result X ReadFault
+    → Type 0
+IsFoundAs view text Is r result =
+    IsBytes r.bytes → IfOk result (λ x. Takes r (text (view x).0) (view x).1 × Is (view x).0)
 
 -- What r begins with is what a call read of it, as view shows it, unless memory ran out. So it is of any y of which
 -- Is holds, as text spells it.
-abbrev pub IsReadAgain : {X Y : Type 0} → (X → Y × Rest) → (Y → List ℕ) → (Y → Type 0) → Rest → Result X ReadFault → Type 0
+abbrev pub IsReadAgain : {X Y : Type 0} → (X → Y × Rest) → (Y → List ℕ) → (Y → Type 0) → Rest → Result X ReadFault
+    → Type 0
 IsReadAgain {Y = Y} view text Is r result =
     (y : Y) (rest : List ℕ) → Is y → r.bytes ≡ text y ++ rest → Gives view result (Ok (y, record { at = r.at + length (text y); bytes = rest }))

@@ -29,7 +29,10 @@ fn write_row(
     upto: u64,
     further: Further<'_>,
 ) -> Result<ByteWriter, NoMemory>
-    ensures { IfOk result (λ written. written ≡ writer ++ row_bytes version (record { origin = origin; upto = upto; further = further.entry })) }
+    ensures { IfOk result (λ written. written
+        ≡ writer
+        ++ row_bytes version
+        (record { origin = origin; upto = upto; further = further.entry })) }
 {
     let further = further.list(writer.allocator())?;
     let head = writer
@@ -48,7 +51,8 @@ fn write_rows(
     rows: usize,
 ) -> Result<ByteWriter, NoMemory>
     requires { rows ≡ length (rows_of context.now) }
-    ensures { IfOk result (λ written. written ≡ writer ++ flat_map (row_bytes version) (rows_of context.now)) }
+    ensures { IfOk result
+        (λ written. written ≡ writer ++ flat_map (row_bytes version) (rows_of context.now)) }
 {
     for i in 0..rows {
         if let Some((origin, upto, further)) = context.row(i) {

@@ -184,7 +184,8 @@ impl<'a> ByteReader<'a> {
         version: Version,
         least: u8,
     ) -> Result<(u64, ByteReader<'a>), ReadFault>
-        ensures exact { result ≡ range_at (incarnation_width version) least (highest_incarnation version) self.entry }
+        ensures exact { result
+            ≡ range_at (incarnation_width version) least (highest_incarnation version) self.entry }
         ensures real { IsOfBytes result }
     {
         match version {

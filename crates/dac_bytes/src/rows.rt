@@ -45,7 +45,8 @@ fn read_counters<'a>(
     count: u32,
     mut before: u64,
 ) -> Result<(Vec<u64>, ByteReader<'a>), ReadFault>
-    ensures { Gives (λ x. (x.0.items, x.1)) result (items_at further_at (λ n. n) count before reader.entry) }
+    ensures { Gives (λ x. (x.0.items, x.1)) result
+        (items_at further_at (λ n. n) count before reader.entry) }
 {
     let mut counters = Vec::new(alloc);
     let mut rest = reader;
@@ -67,7 +68,9 @@ fn read_row<'a>(
     nodes: u8,
     before: Option<Origin>,
 ) -> Result<(ReadRow, ByteReader<'a>), ReadFault>
-    ensures { Gives (λ x. (record { origin = x.0.origin; upto = x.0.upto; further = x.0.further.items }, x.1)) result (row_at version nodes before reader.entry) }
+    ensures { Gives
+        (λ x. (record { origin = x.0.origin; upto = x.0.upto; further = x.0.further.items }, x.1))
+        result (row_at version nodes before reader.entry) }
 {
     let (origin, rest) = reader.read_origin_above(version, nodes, before)?;
     let (upto, rest) = rest.read_u64_in(0, MAX_COUNTER)?;
@@ -90,7 +93,8 @@ fn read_counted_rows<'a>(
     nodes: u8,
     count: u16,
 ) -> Result<(Context, ByteReader<'a>), ReadFault>
-    ensures { Gives (λ x. (rows_of x.0, x.1)) result (items_at (row_at version nodes) (λ row. Some row.origin) count None reader.entry) }
+    ensures { Gives (λ x. (rows_of x.0, x.1)) result
+        (items_at (row_at version nodes) (λ row. Some row.origin) count None reader.entry) }
 {
     let mut context = Context::empty(alloc);
     let mut before = None;
@@ -147,10 +151,19 @@ impl<'a> ByteReader<'a> {
         // Which context or fault it is, unless memory runs out.
         ensures exact { Gives (λ x. x) result (context_at version nodes self.entry) }
         // What is read of bytes is spelled so, and its dots and counts are in range.
-        ensures found { IsBytes self.entry.bytes → IfOk result (λ x. Takes self.entry (context_bytes version x.0) x.1 × IsContext version nodes x.0) }
+        ensures found { IsBytes self.entry.bytes
+            → IfOk result (λ x. Takes self.entry (context_bytes version x.0) x.1
+            × IsContext version nodes x.0) }
         // What is spelled so is read, unless memory runs out.
-        ensures again { (dots : Dots) (rest : List ℕ) → IsContext version nodes dots → self.entry.bytes ≡ context_bytes version dots ++ rest
-            → Gives (λ x. x) result (Ok (dots, record { at = self.entry.at + length (context_bytes version dots); bytes = rest })) }
+        ensures again { (dots : Dots) (rest : List ℕ) → IsContext version nodes dots
+            → self.entry.bytes ≡ context_bytes version dots ++ rest
+            → Gives (λ x. x) result (Ok (
+              dots,
+              record {
+                at = self.entry.at + length (context_bytes version dots);
+                bytes = rest;
+              },
+            )) }
     {
         read_set(self, alloc, version, nodes)
     }

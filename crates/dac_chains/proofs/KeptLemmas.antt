@@ -11,9 +11,10 @@ use Rattle.std.proofs.lemmas.Map.Lookups.{CmpEqualImpliesEq}
 use Rattle.dac_lattice.specs.declared.chain.Max.{Max}
 use Rattle.dac_lattice.specs.Chains.{IsAtMost}
 use Rattle.dac_lattice.specs.Lattices.{IsWithin, join_options}
-use Rattle.dac_lattice.specs.Entries.{find_merge}
+use Rattle.dac_lattice.specs.laws.Entries.{find_merge}
 use Rattle.dac_lattice.specs.Maps.{IsMapBelow, join_maps}
-use Rattle.dac_chains.specs.Greatest.{AreNotAbove, greater, get-greater}
+use Rattle.dac_chains.specs.Greatest.{AreNotAbove, greater}
+use Rattle.dac_chains.specs.laws.Greatest.{get-greater}
 use Rattle.dac_chains.specs.Kept.{unwrapped, kept}
 
 module _ {V : Type 0} where

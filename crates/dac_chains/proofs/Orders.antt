@@ -10,7 +10,7 @@ use Rattle.dac_chains.specs.contracts.lives.LifeOrd.TheImpl.{cmp-value as lives}
 use Rattle.dac_chains.specs.contracts.claims.ClaimOrd.TheImpl.{cmp-value as claims}
 use Rattle.dac_chains.specs.Lives.{life_cmp}
 use Rattle.dac_chains.specs.Claims.{claim_cmp}
-use Rattle.dac_chains.specs.Hows.{same_hows}
+use Rattle.dac_chains.specs.laws.Hows.{same_hows}
 
 pub order_of_lives : lives.it ≡ life_cmp
 order_of_lives = λ i a b. ordering_then (nat_cmp a.inc b.inc) (same_flag_cmp flags.it refl refl refl refl a.flag b.flag i)

@@ -37,7 +37,8 @@ manner_cmp hows x y = ordering_then (hows x.0 y.0) (option_cmp node_cmp x.1 y.1)
 
 -- by term, node and incarnation of the claimer, how, and the node that it was taken from, none first
 abbrev pub claim_cmp : Claim → Claim → Ordering
-claim_cmp a b = ordering_then (nat_cmp a.term b.term) (ordering_then (origin_cmp a.origin b.origin) (manner_cmp how_cmp (a.how, a.from) (b.how, b.from)))
+claim_cmp a b = ordering_then (nat_cmp a.term b.term)
+    (ordering_then (origin_cmp a.origin b.origin) (manner_cmp how_cmp (a.how, a.from) (b.how, b.from)))
 
 -- for each application that was claimed, a claim
 abbrev pub Claims : Type 0

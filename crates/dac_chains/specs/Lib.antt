@@ -3,5 +3,4 @@ pub mod Kept
 pub mod Lives
 pub mod Claims
 pub mod Orders
-pub mod Hows
 pub mod laws

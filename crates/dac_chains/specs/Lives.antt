@@ -58,4 +58,5 @@ live_at lives n = option_and_then (λ (l : Life). if_up l.inc l.flag) (map.get l
 
 -- a life as a number and a flag
 abbrev pub coded_life : Coded Life
-coded_life = code_by (ℕ × Flag) (coded× coded_ℕ coded_flag) (λ l. (l.inc, l.flag)) (λ p. record { inc = p.0; flag = p.1 }) (λ _. refl)
+coded_life = code_by (ℕ × Flag) (coded× coded_ℕ coded_flag) (λ l. (l.inc, l.flag))
+    (λ p. record { inc = p.0; flag = p.1 }) (λ _. refl)

@@ -2,3 +2,5 @@ pub mod Live
 pub mod InWords
 pub mod Claims
 pub mod Lives
+pub mod Greatest
+pub mod Hows

@@ -38,7 +38,7 @@ pub struct Claim {
 
 impl MapKey for Claim {
     ghost use Rattle.dac_chains.specs.laws.Claims.{exact_claims};
-    ghost use Rattle.dac_chains.specs.Hows.{exact_derived};
+    ghost use Rattle.dac_chains.specs.laws.Hows.{exact_derived};
 
     ghost exact = { exact_claims ⟦<How as Ord>⟧.cmp exact_derived };
 }
@@ -120,7 +120,8 @@ impl Claims {
 impl Lattice for Claims {
     ghost use Rattle.dac_base.specs.laws.Ids.{apps_total, exact_apps};
     ghost use Rattle.dac_lattice.specs.Chains.{IsAny};
-    ghost use Rattle.dac_chains.specs.Greatest.{AreNotAbove, greater, greatest_laws};
+    ghost use Rattle.dac_chains.specs.Greatest.{AreNotAbove, greater};
+    ghost use Rattle.dac_chains.specs.laws.Greatest.{greatest_laws};
     ghost use Rattle.dac_chains.specs.Claims.{how_cmp, claim_cmp};
     ghost use Rattle.dac_chains.specs.laws.Claims.{claims_total, exact_hows, exact_claims};
 
@@ -130,7 +131,8 @@ impl Lattice for Claims {
 
     ghost join = { greater claim_cmp };
 
-    ghost laws = { greatest_laws apps_total exact_apps claims_total (exact_claims how_cmp exact_hows) };
+    ghost laws = { greatest_laws apps_total exact_apps claims_total
+        (exact_claims how_cmp exact_hows) };
 
     fn tells_invariant(&self) {}
 
@@ -160,13 +162,14 @@ impl Lattice for Claims {
 impl Bottom for Claims {
     ghost use Rattle.std.specs.FinMap as map;
     ghost use Rattle.dac_base.specs.laws.Ids.{apps_total, exact_apps};
-    ghost use Rattle.dac_chains.specs.Greatest.{empty_is_least};
+    ghost use Rattle.dac_chains.specs.laws.Greatest.{empty_is_least};
     ghost use Rattle.dac_chains.specs.Claims.{how_cmp};
     ghost use Rattle.dac_chains.specs.laws.Claims.{claims_total, exact_hows, exact_claims};
 
     ghost bottom = { map.empty };
 
-    ghost least = { λ claims _. empty_is_least apps_total exact_apps claims_total (exact_claims how_cmp exact_hows) claims };
+    ghost least = { λ claims _. empty_is_least apps_total exact_apps claims_total
+        (exact_claims how_cmp exact_hows) claims };
 
     ghost bottom_value = { tt };
 
@@ -179,7 +182,8 @@ impl Bottom for Claims {
 
 impl Piece for Claims {
     ghost use Rattle.dac_base.specs.laws.Ids.{apps_total, exact_apps};
-    ghost use Rattle.dac_chains.specs.Greatest.{alone, greatest_piece};
+    ghost use Rattle.dac_chains.specs.Greatest.{alone};
+    ghost use Rattle.dac_chains.specs.laws.Greatest.{greatest_piece};
     ghost use Rattle.dac_chains.specs.Claims.{AreGreatestClaims, how_cmp, said_claim};
     ghost use Rattle.dac_chains.specs.laws.Claims.{claims_total, exact_hows, exact_claims};
 
@@ -191,7 +195,8 @@ impl Piece for Claims {
 
     ghost means = { AreGreatestClaims };
 
-    ghost piece_laws = { greatest_piece apps_total exact_apps claims_total (exact_claims how_cmp exact_hows) said_claim };
+    ghost piece_laws = { greatest_piece apps_total exact_apps claims_total
+        (exact_claims how_cmp exact_hows) said_claim };
 
     fn delta(alloc: Global, dot: Dot, act: &ClaimAct) -> Result<Self, NoMemory> {
         match act {

@@ -128,7 +128,8 @@ impl Lattice for Lives {
     ghost use Rattle.dac_lattice.specs.Chains.{IsAny};
     ghost use Rattle.dac_lattice.specs.Flags.{flag_cmp};
     ghost use Rattle.dac_lattice.specs.laws.Flags.{flags_exact};
-    ghost use Rattle.dac_chains.specs.Greatest.{AreNotAbove, greater, greatest_laws};
+    ghost use Rattle.dac_chains.specs.Greatest.{AreNotAbove, greater};
+    ghost use Rattle.dac_chains.specs.laws.Greatest.{greatest_laws};
     ghost use Rattle.dac_chains.specs.Lives.{life_cmp};
     ghost use Rattle.dac_chains.specs.laws.Lives.{lives_total, exact_lives};
 
@@ -138,7 +139,8 @@ impl Lattice for Lives {
 
     ghost join = { greater life_cmp };
 
-    ghost laws = { greatest_laws nodes_total exact_nodes lives_total (exact_lives flag_cmp flags_exact) };
+    ghost laws = { greatest_laws nodes_total exact_nodes lives_total
+        (exact_lives flag_cmp flags_exact) };
 
     fn tells_invariant(&self) {}
 
@@ -170,12 +172,13 @@ impl Bottom for Lives {
     ghost use Rattle.dac_base.specs.laws.Ids.{nodes_total, exact_nodes};
     ghost use Rattle.dac_lattice.specs.Flags.{flag_cmp};
     ghost use Rattle.dac_lattice.specs.laws.Flags.{flags_exact};
-    ghost use Rattle.dac_chains.specs.Greatest.{empty_is_least};
+    ghost use Rattle.dac_chains.specs.laws.Greatest.{empty_is_least};
     ghost use Rattle.dac_chains.specs.laws.Lives.{lives_total, exact_lives};
 
     ghost bottom = { map.empty };
 
-    ghost least = { λ lives _. empty_is_least nodes_total exact_nodes lives_total (exact_lives flag_cmp flags_exact) lives };
+    ghost least = { λ lives _. empty_is_least nodes_total exact_nodes lives_total
+        (exact_lives flag_cmp flags_exact) lives };
 
     ghost bottom_value = { tt };
 
@@ -190,7 +193,8 @@ impl Piece for Lives {
     ghost use Rattle.dac_base.specs.laws.Ids.{nodes_total, exact_nodes};
     ghost use Rattle.dac_lattice.specs.Flags.{flag_cmp};
     ghost use Rattle.dac_lattice.specs.laws.Flags.{flags_exact};
-    ghost use Rattle.dac_chains.specs.Greatest.{alone, greatest_piece};
+    ghost use Rattle.dac_chains.specs.Greatest.{alone};
+    ghost use Rattle.dac_chains.specs.laws.Greatest.{greatest_piece};
     ghost use Rattle.dac_chains.specs.Lives.{AreLives, said_life};
     ghost use Rattle.dac_chains.specs.laws.Lives.{lives_total, exact_lives};
 
@@ -202,7 +206,8 @@ impl Piece for Lives {
 
     ghost means = { AreLives };
 
-    ghost piece_laws = { greatest_piece nodes_total exact_nodes lives_total (exact_lives flag_cmp flags_exact) said_life };
+    ghost piece_laws = { greatest_piece nodes_total exact_nodes lives_total
+        (exact_lives flag_cmp flags_exact) said_life };
 
     fn delta(alloc: Global, dot: Dot, act: &LifeAct) -> Result<Self, NoMemory> {
         match act {

@@ -59,7 +59,8 @@ declared_down own s = not (is_up s own)
 
 -- why a command about an application and a node isn't taken up
 abbrev pub causes_to_name : Table → StateValue → AppId → NodeId → List (Bool × Refusal)
-causes_to_name t s app node = (no_app t app, UnknownApp) ∷ (no_node t node, UnknownNode) ∷ (unlisted t app node, NotInList) ∷ (not_live s node, NotLive) ∷ []
+causes_to_name t s app node = (no_app t app, UnknownApp) ∷ (no_node t node, UnknownNode) ∷
+    (unlisted t app node, NotInList) ∷ (not_live s node, NotLive) ∷ []
 
 -- why no operation is issued that replaces so many dots
 abbrev pub causes_to_issue : Origin → StateValue → ℕ → List (Bool × Refusal)
@@ -67,11 +68,13 @@ causes_to_issue own s count = (too_many count, TooManyDots) ∷ (used_up s own, 
 
 -- why nothing is said of whether an application may run at a node
 abbrev pub causes_to_permit : Table → Origin → StateValue → AppId → NodeId → List (Bool × Refusal)
-causes_to_permit t own s app node = causes_to_name t s app node ++ causes_to_issue own s (length (standing_permits s (live_key s app node)))
+causes_to_permit t own s app node =
+    causes_to_name t s app node ++ causes_to_issue own s (length (standing_permits s (live_key s app node)))
 
 -- why nothing is said of whether a node is drained
 abbrev pub causes_to_drain : Table → Origin → StateValue → NodeId → List (Bool × Refusal)
-causes_to_drain t own s node = (no_node t node, UnknownNode) ∷ (not_live s node, NotLive) ∷ causes_to_issue own s (length (standing_drains s (live_origin s node)))
+causes_to_drain t own s node = (no_node t node, UnknownNode) ∷ (not_live s node, NotLive) ∷ causes_to_issue own s
+    (length (standing_drains s (live_origin s node)))
 
 -- why no claim is issued
 abbrev pub causes_to_claim : Origin → StateValue → AppId → List (Bool × Refusal)
@@ -85,9 +88,11 @@ causes_to_take t own s app =
 
 -- why an incarnation that wasn't declared down doesn't take up a command
 abbrev pub causes_of : Table → Origin → StateValue → Command → List (Bool × Refusal)
-causes_of t own s (Down node) = (no_node t node, UnknownNode) ∷ (nat_eq node.0 own.node.0, OnSelf) ∷ (not_live s node, NotLive) ∷ (used_up s own, DotsUsedUp) ∷ []
+causes_of t own s (Down node) = (no_node t node, UnknownNode) ∷ (nat_eq node.0 own.node.0, OnSelf) ∷
+    (not_live s node, NotLive) ∷ (used_up s own, DotsUsedUp) ∷ []
 causes_of t own s (Permit app node value) = causes_to_permit t own s app node
-causes_of t own s (Start app node) = causes_to_name t s app node ++ causes_to_issue own s (length (standing_starts s (live_key s app node)))
+causes_of t own s (Start app node) =
+    causes_to_name t s app node ++ causes_to_issue own s (length (standing_starts s (live_key s app node)))
 causes_of t own s (Stop app node) =
     let key = live_key s app node in
     causes_to_name t s app node ++ (not_wished s key, NotStarted) ∷ causes_to_issue own s (length (standing_starts s key))

@@ -51,7 +51,8 @@ abbrev pub AreThose : (Dot → Type 0) → List Dot → Type 0
 AreThose Stands over = (d : Dot) → (has_key dot_cmp over d ≡ true) ↔ Stands d
 
 -- a command's key, and the dots that it replaces
-pub record WritesAt (s : StateValue) (app : AppId) (node : NodeId) (Stands : Key → Dot → Type 0) (made : Key → List Dot → Act) (act : Act) : Type 0 where
+pub record WritesAt (s : StateValue) (app : AppId) (node : NodeId) (Stands : Key → Dot → Type 0)
+    (made : Key → List Dot → Act) (act : Act) : Type 0 where
   pub key : Key
   pub over : List Dot
   pub is : act ≡ made key over
@@ -92,7 +93,8 @@ pub record TakesOver (t : Table) (s : StateValue) (app : AppId) (act : Act) : Ty
 -- what stands there of their kind.
 abbrev pub SaysCommand : Table → StateValue → Command → Act → Type 0
 SaysCommand t s (Down node) act = (inc : ℕ) × ((act ≡ Downs node inc) × IsLive s.lives node inc)
-SaysCommand t s (Permit app node value) act = WritesAt s app node (PermitStands s) (λ key over. Permits key value over) act
+SaysCommand t s (Permit app node value) act =
+    WritesAt s app node (PermitStands s) (λ key over. Permits key value over) act
 SaysCommand t s (Start app node) act = WritesAt s app node (StartStands s) Starts act
 SaysCommand t s (Stop app node) act = WritesAt s app node (StartStands s) Stops act
 SaysCommand t s (Drain node value) act = DrainsLive s node value act
@@ -105,4 +107,5 @@ pub record IsWritten (t : Table) (own : Origin) (s : StateValue) (c : Command) (
 
 -- what an accepted command issues is so
 abbrev pub WritesWhatIsSaid : Type 0
-WritesWhatIsSaid = (t : Table) (own : Origin) (s : StateValue) (c : Command) → refusal_of_command t own s c ≡ None → IsWritten t own s c (next_operation s own (act_of t s c))
+WritesWhatIsSaid = (t : Table) (own : Origin) (s : StateValue) (c : Command) → refusal_of_command t own s c ≡ None
+    → IsWritten t own s c (next_operation s own (act_of t s c))

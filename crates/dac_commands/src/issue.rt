@@ -34,7 +34,8 @@ pub fn operation_of(
 ) -> Result<Op, NoMemory>
     requires knows { KnowsItself own state.now }
     requires accepted { refusal_of_command config.now own state.now command ≡ None }
-    ensures next { IfOk result (λ operation. operation ≡ next_operation state.now own (said_by config.now state.now command)) }
+    ensures next { IfOk result (λ operation. operation
+        ≡ next_operation state.now own (said_by config.now state.now command)) }
     // It has the next dot, and says the command. Its key is at the live incarnation, and it replaces what stands
     // there. Or it claims the application from where it runs.
     ensures written { IfOk result (IsWritten config.now own state.now command) }

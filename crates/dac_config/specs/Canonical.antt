@@ -60,7 +60,8 @@ group_text nodes numbers = tuple_text (map (node_name_text nodes) numbers)
 
 -- an application with its timeout and its groups
 abbrev pub app_text : List NodeRow → AppRow → List ℕ
-app_text nodes app = pair_text (name_text app.name) (decimal app.timeout ++ (codes "," ++ list_text (map (group_text nodes) app.groups)))
+app_text nodes app =
+    pair_text (name_text app.name) (decimal app.timeout ++ (codes "," ++ list_text (map (group_text nodes) app.groups)))
 
 -- an application that may not run unless it is permitted
 abbrev pub ban_text : List ℕ → List ℕ

@@ -26,7 +26,8 @@ numbers_from number (node ∷ nodes) group =
 
 -- a node by its name
 abbrev pub numbered_node : Written → List ℕ → NodeRow
-numbered_node w name = record { name = name; mandatory = is_among name w.mandatory; optional = is_among name w.optional }
+numbered_node w name =
+    record { name = name; mandatory = is_among name w.mandatory; optional = is_among name w.optional }
 
 -- whether an application of this name is permitted: as the first of these permissions of its name says, or else so
 abbrev pub permitted : List Permission → List ℕ → Bool
@@ -35,7 +36,12 @@ permitted (permission ∷ permissions) name = if bytes_eq permission.name name t
 
 -- an application, with these permissions, and with numbers for the names of these nodes
 abbrev pub numbered_app : List Permission → List NodeRow → App → AppRow
-numbered_app permissions nodes app = record { name = app.name; timeout = app.timeout; groups = map (numbers_from 0 nodes) app.groups; permission = permitted permissions app.name }
+numbered_app permissions nodes app = record {
+  name = app.name;
+  timeout = app.timeout;
+  groups = map (numbers_from 0 nodes) app.groups;
+  permission = permitted permissions app.name;
+}
 
 -- the nodes of a text, in the byte order of their names
 abbrev pub numbered_nodes : Written → List NodeRow
@@ -43,4 +49,8 @@ numbered_nodes w = map (numbered_node w) (in_byte_order w.nodes)
 
 -- the configuration that a text says
 abbrev pub numbered : Written → Table
-numbered w = record { nodes = numbered_nodes w; apps = map (numbered_app w.permissions (numbered_nodes w)) w.apps; sync_wait = w.sync_wait }
+numbered w = record {
+  nodes = numbered_nodes w;
+  apps = map (numbered_app w.permissions (numbered_nodes w)) w.apps;
+  sync_wait = w.sync_wait;
+}

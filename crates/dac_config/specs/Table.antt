@@ -46,7 +46,8 @@ app_name table app = unwrap_or (option_map (λ row. row.name) (slice_get table.a
 
 -- the node with this name
 abbrev pub node_named : Table → List ℕ → Option NodeId
-node_named table name = option_map (λ place. record { 0 = place }) (position (λ row. bytes_eq name row.name) table.nodes)
+node_named table name =
+    option_map (λ place. record { 0 = place }) (position (λ row. bytes_eq name row.name) table.nodes)
 
 -- the application with this name
 abbrev pub app_named : Table → List ℕ → Option AppId

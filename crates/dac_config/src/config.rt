@@ -83,7 +83,9 @@ impl Config {
         ensures few { result ≤ MAX_APPS }
         // Each has few groups, and they are of nodes that there are.
         ensures groups { All (λ app. length app.groups ≤ MAX_NODES) self.now.apps }
-        ensures members { All (λ app. All (λ group. All (λ node. node < node_count self.now) group) app.groups) self.now.apps }
+        ensures members { All
+            (λ app. All (λ group. All (λ node. node < node_count self.now) group) app.groups)
+            self.now.apps }
     {
         self.apps.len() as u16
     }
@@ -207,7 +209,8 @@ impl Config {
     pub fn canonical_text(&self) -> Result<Vec<u8>, NoMemory>
         ensures bytes { IfOk result (λ text. text.items ≡ canonical_text self.now) }
         // What is written is read again as an equal configuration, where it isn't too long to be read.
-        ensures read_again { IfOk result (λ text. length text.items ≤ MAX_TEXT → IsConfigOf text.items self.now) }
+        ensures read_again { IfOk result
+            (λ text. length text.items ≤ MAX_TEXT → IsConfigOf text.items self.now) }
     {
         let mut text = Text::new(*self.nodes.allocator());
         self.put(&mut text);

@@ -25,7 +25,8 @@ pub fn read_config(alloc: Global, text: &[u8]) -> Result<Config, ConfigFault>
     // What is read is spelled so.
     ensures found { IfOk result (λ config. IsConfigOf text.now config) }
     // What is spelled so is read, unless memory ran out.
-    ensures only { (table : Table) → IsConfigOf text.now table → MatchResult result (λ config. config ≡ table) (λ fault. fault.kind ≡ NoMemory) }
+    ensures only { (table : Table) → IsConfigOf text.now table
+        → MatchResult result (λ config. config ≡ table) (λ fault. fault.kind ≡ NoMemory) }
     // Which fault it is, unless memory ran out.
     ensures exact { Gives (λ config. config) result (config_at text.now) }
     // The law of the first fault admits it, and no other fault of this text.

@@ -19,7 +19,10 @@ pub record Row : Type 0 where
 
 -- a row as four parts
 abbrev pub coded_row : Coded Row
-coded_row = code_by (ℕ × (ℕ × (ℕ × List ℕ))) (coded× coded_ℕ (coded× coded_ℕ (coded× coded_ℕ (coded_list coded_ℕ)))) (λ row. (row.origin.node.0, (row.origin.inc, (row.upto, row.further)))) (λ p. record { origin = record { node = record { 0 = p.0 }; inc = p.1.0 }; upto = p.1.1.0; further = p.1.1.1 }) (λ _. refl)
+coded_row = code_by (ℕ × (ℕ × (ℕ × List ℕ))) (coded× coded_ℕ (coded× coded_ℕ (coded× coded_ℕ (coded_list coded_ℕ))))
+    (λ row. (row.origin.node.0, (row.origin.inc, (row.upto, row.further))))
+    (λ p. record { origin = record { node = record { 0 = p.0 }; inc = p.1.0 }; upto = p.1.1.0; further = p.1.1.1 })
+    (λ _. refl)
 
 -- the origins of the dots, in rising order
 abbrev pub origins_of : List Dot → List Origin
@@ -46,16 +49,19 @@ abbrev pub further_of : ℕ → List ℕ → List ℕ
 further_of upto counters = filter (λ n. nat_lt upto n || n == 0) counters
 
 abbrev pub row_of : Origin → List ℕ → Row
-row_of origin counters = record { origin = origin; upto = reach_of counters; further = further_of (reach_of counters) counters }
+row_of origin counters =
+    record { origin = origin; upto = reach_of counters; further = further_of (reach_of counters) counters }
 
 -- the rows of a set of dots, their origins in rising order
 unfoldable pub rows_of : Dots → List Row
-rows_of dots = map (λ (origin : Origin). row_of origin (counters_of origin (in_order dots))) (origins_of (in_order dots))
+rows_of dots =
+    map (λ (origin : Origin). row_of origin (counters_of origin (in_order dots))) (origins_of (in_order dots))
 
 -- The row says of its origin which dots the set has, and it has some.
 pub record IsRowOf (dots : Dots) (row : Row) : Type 0 where
   -- 1 to upto, and the further ones
-  pub exact : (n : ℕ) → set.contains dots (dot row.origin n) ≡ ((nat_le 1 n && nat_le n row.upto) || has_key nat_cmp row.further n)
+  pub exact : (n : ℕ)
+      → set.contains dots (dot row.origin n) ≡ ((nat_le 1 n && nat_le n row.upto) || has_key nat_cmp row.further n)
   -- upto is as great as it can be
   pub ends : set.contains dots (dot row.origin (row.upto + 1)) ≡ false
   -- a further counter isn't 1 to upto
@@ -66,7 +72,8 @@ pub record IsRowOf (dots : Dots) (row : Row) : Type 0 where
 -- the rows tell the set: one for each origin that has a dot in it, in rising order
 pub record AreRowsOf (dots : Dots) (rows : List Row) : Type 0 where
   pub each : AllByRecursion (IsRowOf dots) rows
-  pub every : (d : Dot) → set.contains dots d ≡ true → has_key origin_cmp (map (λ (row : Row). row.origin) rows) d.origin ≡ true
+  pub every : (d : Dot) → set.contains dots d ≡ true
+      → has_key origin_cmp (map (λ (row : Row). row.origin) rows) d.origin ≡ true
   pub rising : IsRising origin_cmp (map (λ (row : Row). row.origin) rows)
 
 -- ---- the dots of rows
@@ -168,9 +175,11 @@ pub record HasMore (old new : Row) : Type 0 where
 
 -- each origin of the rows is before this one
 abbrev pub EndBefore : List Row → Origin → Type 0
-EndBefore rows origin = (o : Origin) → has_key origin_cmp (map (λ (row : Row). row.origin) rows) o ≡ true → origin_cmp o origin ≡ Less
+EndBefore rows origin =
+    (o : Origin) → has_key origin_cmp (map (λ (row : Row). row.origin) rows) o ≡ true → origin_cmp o origin ≡ Less
 
--- The row comes after these: its origin is above theirs, its further counters rise from above upto + 1, and it has some counter.
+-- The row comes after these: its origin is above theirs, its further counters rise from above upto + 1, and
+-- it has some counter.
 pub record CanFollow (rows : List Row) (row : Row) : Type 0 where
   pub above : EndBefore rows row.origin
   pub rising : IsRising nat_cmp ((row.upto + 1) ∷ row.further)

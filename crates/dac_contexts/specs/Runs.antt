@@ -45,7 +45,8 @@ pub record IsPlaceFor (runs : List Run) (place first : ℕ) : Type 0 where
 
 -- the runs before the place end before the counter, and those from there on don't
 abbrev pub HaveEnded : List Run → ℕ → ℕ → Type 0
-HaveEnded runs place n = AllWithin (λ (run : Run). nat_lt run.last n ≡ true) runs 0 place × AllWithin (λ (run : Run). nat_lt run.last n ≡ false) runs place (length runs)
+HaveEnded runs place n = AllWithin (λ (run : Run). nat_lt run.last n ≡ true) runs 0 place
+    × AllWithin (λ (run : Run). nat_lt run.last n ≡ false) runs place (length runs)
 
 -- from where the first of both begins to where the last of both ends
 abbrev pub hull : Run → Run → Run

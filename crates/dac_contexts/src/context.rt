@@ -105,7 +105,8 @@ impl Context {
     fn unite_row(&mut self, row: &OriginRow) -> Result<(), NoMemory>
         requires kept { IsKept row.now }
         requires some { HasSome row.now }
-        ensures { OnOk result ((q : Dot) → set.contains self.new q ≡ (row_has q row.now || set.contains self.old q)) }
+        ensures { OnOk result
+            ((q : Dot) → set.contains self.new q ≡ (row_has q row.now || set.contains self.old q)) }
     {
         let alloc = *self.rows.allocator();
         match place_of(&self.rows, row.origin) {
@@ -247,7 +248,9 @@ impl Context {
     /// The row of the `i`-th origin that has dots, by the order of origins. It is the origin, how far its counters go
     /// 1, 2, 3, .. without a gap, and the further ones. It takes no memory.
     pub fn row(&self, i: usize) -> Option<(Origin, u64, Further<'_>)>
-        ensures value { MatchOption result (length (rows_of self.now) ≤ i) (λ row. slice_get (rows_of self.now) i ≡ Some (record { origin = row.0; upto = row.1; further = row.2 })) }
+        ensures value { MatchOption result (length (rows_of self.now) ≤ i)
+            (λ row. slice_get (rows_of self.now) i
+            ≡ Some (record { origin = row.0; upto = row.1; further = row.2 })) }
         // There are fewer than there are numbers of places.
         ensures few { length (rows_of self.now) < 2 ^ 63 }
         // What these rows are.
@@ -269,7 +272,9 @@ impl Context {
 
     /// Whether these dots of an origin can be appended.
     fn can_follow(&self, origin: Origin, upto: u64, further: &[u64]) -> bool
-        ensures { IsTrue result ↔ CanFollow (rows_of self.now) (record { origin = origin; upto = upto; further = further.now }) }
+        ensures { IsTrue result
+            ↔ CanFollow (rows_of self.now)
+            (record { origin = origin; upto = upto; further = further.now }) }
     {
         if has_no_dots(upto, further) {
             return false;
@@ -284,11 +289,18 @@ impl Context {
     /// which rise from above `upto + 1`. There has to be one at least. Where it isn't so the answer is false,
     /// and nothing changes; nor does it after [`NoMemory`], the only error.
     pub fn push_row(&mut self, origin: Origin, upto: u64, further: &[u64]) -> Result<bool, NoMemory>
-        ensures answer { IfOk result (λ pushed. IsTrue pushed ↔ CanFollow (rows_of self.old) (record { origin = origin; upto = upto; further = further.now })) }
-        ensures ok { IfOk result (λ pushed. rows_of self.new ≡ (if pushed then rows_of self.old ++ record { origin = origin; upto = upto; further = further.now } ∷ [] else rows_of self.old)) }
+        ensures answer { IfOk result (λ pushed. IsTrue pushed
+            ↔ CanFollow (rows_of self.old)
+            (record { origin = origin; upto = upto; further = further.now })) }
+        ensures ok { IfOk result (λ pushed. rows_of self.new
+            ≡ (if pushed
+            then rows_of self.old
+            ++ record { origin = origin; upto = upto; further = further.now } ∷ []
+            else rows_of self.old)) }
         ensures same { IfOk result (λ pushed. pushed ≡ false → self.new ≡ self.old) }
         ensures err { OnErr result (self.new ≡ self.old) }
-        ensures last { OnErr result (CanFollow (rows_of self.old) (record { origin = origin; upto = upto; further = further.now })) }
+        ensures last { OnErr result (CanFollow (rows_of self.old)
+            (record { origin = origin; upto = upto; further = further.now })) }
     {
         if !self.can_follow(origin, upto, further) {
             return Ok(false);

@@ -64,7 +64,8 @@ impl Run {
 fn take_touched(runs: &mut Vec<Run>, place: usize, run: Run) -> Run
     ensures front { take place runs.new.items ≡ take place runs.old.items }
     ensures value { absorbed run (drop place runs.old.items) ≡ result ∷ drop place runs.new.items }
-    ensures room { ((runs.new.items ≡ runs.old.items) × (result ≡ run)) ⊎ (length runs.new.items < vec_capacity runs.new) }
+    ensures room { ((runs.new.items ≡ runs.old.items) × (result ≡ run))
+        ⊎ (length runs.new.items < vec_capacity runs.new) }
 {
     let mut joined = run;
     while place < runs.len() && joined.reaches(runs[place]) {
@@ -78,7 +79,9 @@ fn list_run(counters: &mut Vec<u64>, run: Run) -> Result<(), NoMemory>
     requires valid { run.first ≤ run.last }
     requires rising { IsRising nat_cmp counters.old.items }
     ensures rising { IsRising nat_cmp counters.new.items }
-    ensures ok { OnOk result ((n : _) → has_key nat_cmp counters.new.items n ≡ (run_has n run || has_key nat_cmp counters.old.items n)) }
+    ensures ok { OnOk result ((n : _)
+        → has_key nat_cmp counters.new.items n
+        ≡ (run_has n run || has_key nat_cmp counters.old.items n)) }
 {
     for n in run.first..run.last {
         insert_key(counters, n)?;
@@ -92,7 +95,9 @@ fn list_past(counters: &mut Vec<u64>, upto: u64, runs: &[Run]) -> Result<(), NoM
     requires valid { AreRuns runs.now }
     requires rising { IsRising nat_cmp counters.old.items }
     ensures rising { IsRising nat_cmp counters.new.items }
-    ensures ok { OnOk result ((n : _) → has_key nat_cmp counters.new.items n ≡ (any_past upto runs.now n || has_key nat_cmp counters.old.items n)) }
+    ensures ok { OnOk result ((n : _)
+        → has_key nat_cmp counters.new.items n
+        ≡ (any_past upto runs.now n || has_key nat_cmp counters.old.items n)) }
 {
     for run in runs {
         if upto < run.first {
@@ -201,7 +206,8 @@ impl Counters {
     /// Whether the set has each counter of a run.
     fn has_run(&self, run: Run) -> bool
         requires { run.first ≤ run.last }
-        ensures { IsTrue result ↔ ((n : _) → run_has n run ≡ true → has_key nat_cmp self.now n ≡ true) }
+        ensures { IsTrue result
+            ↔ ((n : _) → run_has n run ≡ true → has_key nat_cmp self.now n ≡ true) }
     {
         let place = ended_before(&self.runs, run.first);
         match self.runs.get(place) {
@@ -221,9 +227,11 @@ impl Counters {
     fn put(&mut self, run: Run) -> Result<(), NoMemory>
         requires { run.first ≤ run.last }
         ensures rising { IsRising nat_cmp self.new }
-        ensures ok { OnOk result ((n : _) → has_key nat_cmp self.new n ≡ (run_has n run || has_key nat_cmp self.old n)) }
+        ensures ok { OnOk result
+            ((n : _) → has_key nat_cmp self.new n ≡ (run_has n run || has_key nat_cmp self.old n)) }
         ensures err { OnErr result (self.new ≡ self.old) }
-        ensures first { OnErr result ((n : _) → run_has n run ≡ true → has_key nat_cmp self.old n ≡ false) }
+        ensures first { OnErr result
+            ((n : _) → run_has n run ≡ true → has_key nat_cmp self.old n ≡ false) }
     {
         let place = place_for(&self.runs, run);
         let joined = take_touched(&mut self.runs, place, run);
@@ -234,7 +242,8 @@ impl Counters {
     /// Puts a counter into the set. One that is there takes no memory.
     pub(crate) fn insert(&mut self, n: u64) -> Result<(), NoMemory>
         ensures rising { IsRising nat_cmp self.new }
-        ensures ok { OnOk result ((m : _) → has_key nat_cmp self.new m ≡ (eq_by_cmp nat_cmp m n || has_key nat_cmp self.old m)) }
+        ensures ok { OnOk result ((m : _)
+            → has_key nat_cmp self.new m ≡ (eq_by_cmp nat_cmp m n || has_key nat_cmp self.old m)) }
         ensures err { OnErr result (self.new ≡ self.old) }
         ensures first { OnErr result (has_key nat_cmp self.old n ≡ false) }
     {
@@ -244,7 +253,9 @@ impl Counters {
     /// Puts the counters 1 to `upto` into the set.
     pub(crate) fn insert_upto(&mut self, upto: u64) -> Result<(), NoMemory>
         ensures rising { IsRising nat_cmp self.old → IsRising nat_cmp self.new }
-        ensures ok { OnOk result ((n : _) → has_key nat_cmp self.new n ≡ ((nat_le 1 n && nat_le n upto) || has_key nat_cmp self.old n)) }
+        ensures ok { OnOk result ((n : _)
+            → has_key nat_cmp self.new n
+            ≡ ((nat_le 1 n && nat_le n upto) || has_key nat_cmp self.old n)) }
     {
         if 0 < upto {
             self.put(Run {
@@ -260,8 +271,10 @@ impl Counters {
     fn put_all(&mut self, runs: &[Run]) -> Result<(), NoMemory>
         requires { AreRuns runs.now }
         ensures rising { IsRising nat_cmp self.old → IsRising nat_cmp self.new }
-        ensures ok { OnOk result ((n : _) → has_key nat_cmp self.new n ≡ (any_run runs.now n || has_key nat_cmp self.old n)) }
-        ensures err { OnErr result ((n : _) → has_key nat_cmp self.old n ≡ true → has_key nat_cmp self.new n ≡ true) }
+        ensures ok { OnOk result ((n : _)
+            → has_key nat_cmp self.new n ≡ (any_run runs.now n || has_key nat_cmp self.old n)) }
+        ensures err { OnErr result
+            ((n : _) → has_key nat_cmp self.old n ≡ true → has_key nat_cmp self.new n ≡ true) }
     {
         for run in runs {
             self.put(*run)?;
@@ -278,22 +291,29 @@ impl Counters {
     /// of them there.
     pub(crate) fn absorb(&mut self, other: &Self) -> Result<(), NoMemory>
         ensures rising { IsRising nat_cmp self.old → IsRising nat_cmp self.new }
-        ensures ok { OnOk result ((n : _) → has_key nat_cmp self.new n ≡ (has_key nat_cmp other.now n || has_key nat_cmp self.old n)) }
-        ensures err { OnErr result ((n : _) → has_key nat_cmp self.old n ≡ true → has_key nat_cmp self.new n ≡ true) }
+        ensures ok { OnOk result ((n : _)
+            → has_key nat_cmp self.new n
+            ≡ (has_key nat_cmp other.now n || has_key nat_cmp self.old n)) }
+        ensures err { OnErr result
+            ((n : _) → has_key nat_cmp self.old n ≡ true → has_key nat_cmp self.new n ≡ true) }
     {
         self.put_all(&other.runs)
     }
 
     /// The counters of both sets.
     pub(crate) fn union(&self, alloc: Global, other: &Self) -> Result<Self, NoMemory>
-        ensures { IfOk result (λ both. IsRising nat_cmp both × ((n : _) → has_key nat_cmp both n ≡ (has_key nat_cmp other.now n || has_key nat_cmp self.now n))) }
+        ensures { IfOk result (λ both. IsRising nat_cmp both
+            × ((n : _)
+            → has_key nat_cmp both n
+            ≡ (has_key nat_cmp other.now n || has_key nat_cmp self.now n))) }
     {
         merge_runs(alloc, &self.runs, &other.runs)
     }
 
     /// Whether the other set has each counter of this one.
     pub(crate) fn is_subset(&self, other: &Self) -> bool
-        ensures { IsTrue result ↔ ((n : _) → has_key nat_cmp self.now n ≡ true → has_key nat_cmp other.now n ≡ true) }
+        ensures { IsTrue result
+            ↔ ((n : _) → has_key nat_cmp self.now n ≡ true → has_key nat_cmp other.now n ≡ true) }
     {
         for run in &self.runs {
             if !other.has_run(*run) {
@@ -349,8 +369,10 @@ impl Counters {
 
     /// Sets the mark of each dot of an origin whose counter is in the set.
     pub(crate) fn mark(&self, origin: Origin, marks: &mut Marks)
-        ensures own { (n : _) → has_key nat_cmp self.now n ≡ true → is_marked marks.new.set (dot origin n) ≡ true }
-        ensures more { (q : Dot) → is_marked marks.old.set q ≡ true → is_marked marks.new.set q ≡ true }
+        ensures own { (n : _) → has_key nat_cmp self.now n ≡ true
+            → is_marked marks.new.set (dot origin n) ≡ true }
+        ensures more { (q : Dot) → is_marked marks.old.set q ≡ true
+            → is_marked marks.new.set q ≡ true }
     {
         for run in &self.runs {
             mark_run(origin, *run, marks);
@@ -374,7 +396,8 @@ impl Counters {
 fn merge_runs(alloc: Global, xs: &[Run], ys: &[Run]) -> Result<Counters, NoMemory>
     requires first { AreRuns xs.now }
     requires second { AreRuns ys.now }
-    ensures { IfOk result (λ both. IsRising nat_cmp both × ((n : _) → has_key nat_cmp both n ≡ (any_run ys.now n || any_run xs.now n))) }
+    ensures { IfOk result (λ both. IsRising nat_cmp both
+        × ((n : _) → has_key nat_cmp both n ≡ (any_run ys.now n || any_run xs.now n))) }
 {
     let mut both = Counters::empty(alloc);
     let mut i = 0;

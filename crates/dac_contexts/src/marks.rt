@@ -41,7 +41,8 @@ impl Marks {
     /// Sets the mark of a dot.
     pub(crate) fn put(&mut self, dot: Dot)
         ensures own { is_marked self.new.set dot ≡ true }
-        ensures more { (q : Dot) → is_marked self.old.set q ≡ true → is_marked self.new.set q ≡ true }
+        ensures more { (q : Dot) → is_marked self.old.set q ≡ true
+            → is_marked self.new.set q ≡ true }
     {
         self.set[mark_of(dot)] = true;
     }

@@ -100,7 +100,8 @@ impl OriginRow {
         further: &[u64],
     ) -> Result<Self, NoMemory>
         requires { IsRising nat_cmp ((upto + 1) ∷ further.now) }
-        ensures { IfOk result (λ row. row ≡ record { origin = origin; upto = upto; further = further.now }) }
+        ensures { IfOk result
+            (λ row. row ≡ record { origin = origin; upto = upto; further = further.now }) }
     {
         let mut counters = Counters::empty(alloc);
         counters.insert_upto(upto)?;
@@ -198,7 +199,9 @@ impl OriginRow {
     pub(crate) fn put_dots(&self, alloc: Global, dots: &mut Vec<Dot>) -> Result<(), NoMemory>
         requires { IsRising dot_cmp dots.old.items }
         ensures rising { IsRising dot_cmp dots.new.items }
-        ensures ok { OnOk result ((q : Dot) → has_key dot_cmp dots.new.items q ≡ (row_has q self.now || has_key dot_cmp dots.old.items q)) }
+        ensures ok { OnOk result ((q : Dot)
+            → has_key dot_cmp dots.new.items q
+            ≡ (row_has q self.now || has_key dot_cmp dots.old.items q)) }
     {
         let origin = self.origin;
         let counters = self.counters.list(alloc)?;
@@ -211,7 +214,8 @@ impl OriginRow {
     /// Sets the mark of each dot of the row.
     pub(crate) fn mark(&self, marks: &mut Marks)
         ensures own { (q : Dot) → row_has q self.now ≡ true → is_marked marks.new.set q ≡ true }
-        ensures more { (q : Dot) → is_marked marks.old.set q ≡ true → is_marked marks.new.set q ≡ true }
+        ensures more { (q : Dot) → is_marked marks.old.set q ≡ true
+            → is_marked marks.new.set q ≡ true }
     {
         self.counters.mark(self.origin, marks);
     }

@@ -50,7 +50,11 @@ impl Model for World {
 
     ghost coded = { coded_world operation.the_row.coded message.the_row.coded };
 
-    ghost view = { λ a. record { nodes = a.nodes.items; operations = a.operations.items; messages = a.messages.items } };
+    ghost view = { λ a. record {
+      nodes = a.nodes.items;
+      operations = a.operations.items;
+      messages = a.messages.items;
+    } };
 }
 
 impl World {
@@ -91,7 +95,8 @@ impl World {
         // Convergence. Each running controller's state is the meaning of the issued operations whose dots it has heard. So
         // controllers that heard the same set hold equal states and bytes, and name the same holder and the same next
         // candidate. The record says more: of what was issued and shipped, of answers, of causes and of histories.
-        ensures converges { IfOk result (λ both. Converges config.now events.now both.1.items both.0) }
+        ensures converges { IfOk result
+            (λ both. Converges config.now events.now both.1.items both.0) }
         // Settling. Let the events end in as many rounds as there are applications, begun in a ready world. Then nothing is
         // to be done about any application at any running controller.
         ensures settles { IfOk result (λ both. Settles config.now events.now both.1.items both.0) }
@@ -110,7 +115,8 @@ impl World {
 
     /// One event of the world. After a fault all is as before.
     pub fn step(&mut self, config: &Config, event: &WorldEvent) -> Result<Reply, WorldFault>
-        ensures follows { Follows config.now self.old (λ w. happens config.now w event.now) result self.new }
+        ensures follows { Follows config.now self.old (λ w. happens config.now w event.now) result
+            self.new }
         // What the node has heard grows by the dots that its event brings, and by no more; no other node changes.
         ensures heard { IfOk result (λ reply. HearsIn self.old event.now reply self.new) }
         ensures unchanged { OnErr result (self.new ≡ self.old) }
@@ -147,7 +153,8 @@ impl World {
     /// What happens at a node.
     fn happen_at(&mut self, config: &Config, node: NodeId, what: What) -> Result<Reply, WorldFault>
         requires { node.0 < length self.old.nodes }
-        ensures happens { HappensAt config.now self.old node (event_of self.old.operations self.old.messages what) result self.new }
+        ensures happens { HappensAt config.now self.old node
+            (event_of self.old.operations self.old.messages what) result self.new }
         ensures unchanged { OnErr result (self.new ≡ self.old) }
         ensures count { length self.new.nodes ≡ length self.old.nodes }
     {
@@ -174,7 +181,8 @@ impl World {
     /// The message of this number comes to a node.
     fn deliver(&mut self, config: &Config, node: NodeId, number: u64) -> Result<Reply, WorldFault>
         requires { node.0 < length self.old.nodes }
-        ensures happens { HappensAt config.now self.old node (heard_by (counted self.old.messages number)) result self.new }
+        ensures happens { HappensAt config.now self.old node
+            (heard_by (counted self.old.messages number)) result self.new }
         ensures unchanged { OnErr result (self.new ≡ self.old) }
         ensures count { length self.new.nodes ≡ length self.old.nodes }
     {
@@ -194,7 +202,8 @@ impl World {
         requires inside { node.0 < length self.old.nodes }
         requires counted { 0 < number }
         requires shipped { number ≤ length self.old.messages }
-        ensures happens { HappensAt config.now self.old node (heard_by (counted self.old.messages number)) result self.new }
+        ensures happens { HappensAt config.now self.old node
+            (heard_by (counted self.old.messages number)) result self.new }
         ensures unchanged { OnErr result (self.new ≡ self.old) }
         ensures count { length self.new.nodes ≡ length self.old.nodes }
     {
@@ -208,7 +217,8 @@ impl World {
     /// The operation of this number comes to a node by itself.
     fn hand(&mut self, config: &Config, node: NodeId, number: u64) -> Result<Reply, WorldFault>
         requires { node.0 < length self.old.nodes }
-        ensures happens { HappensAt config.now self.old node (handed_by (counted self.old.operations number)) result self.new }
+        ensures happens { HappensAt config.now self.old node
+            (handed_by (counted self.old.operations number)) result self.new }
         ensures unchanged { OnErr result (self.new ≡ self.old) }
         ensures count { length self.new.nodes ≡ length self.old.nodes }
     {
@@ -228,7 +238,8 @@ impl World {
         requires inside { node.0 < length self.old.nodes }
         requires counted { 0 < number }
         requires issued { number ≤ length self.old.operations }
-        ensures happens { HappensAt config.now self.old node (handed_by (counted self.old.operations number)) result self.new }
+        ensures happens { HappensAt config.now self.old node
+            (handed_by (counted self.old.operations number)) result self.new }
         ensures unchanged { OnErr result (self.new ≡ self.old) }
         ensures count { length self.new.nodes ≡ length self.old.nodes }
     {
@@ -243,7 +254,8 @@ impl World {
     fn go_on(&mut self, node: NodeId, change: Change) -> Result<Reply, WorldFault>
         requires inside { node.0 < length self.old.nodes }
         requires ready { IsReadyAt self.old.nodes node change }
-        ensures ok { IfOk result (λ reply. Goes self.old node (λ v. changed v change) change.reply reply self.new) }
+        ensures ok { IfOk result
+            (λ reply. Goes self.old node (λ v. changed v change) change.reply reply self.new) }
         ensures err { IfErr result (λ fault. Err fault ≡ out_of_memory) }
         ensures crash { IfErr result (λ _. change.reply ≡ Reply.Crashed → ⊥) }
         ensures unchanged { OnErr result (self.new ≡ self.old) }
@@ -258,7 +270,8 @@ impl World {
     fn change(&mut self, node: NodeId, mut change: Change) -> Result<Reply, NoMemory>
         requires inside { node.0 < length self.old.nodes }
         requires ready { IsReadyAt self.old.nodes node change }
-        ensures ok { IfOk result (λ reply. Goes self.old node (λ v. changed v change) change.reply reply self.new) }
+        ensures ok { IfOk result
+            (λ reply. Goes self.old node (λ v. changed v change) change.reply reply self.new) }
         ensures crash { IfErr result (λ _. change.reply ≡ Reply.Crashed → ⊥) }
         ensures unchanged { OnErr result (self.new ≡ self.old) }
     {
@@ -276,7 +289,8 @@ impl World {
 /// The node's event, where that is neither a message nor an operation of the world's.
 fn event_by_itself(what: What) -> Event
     requires { IsByItself what }
-    ensures { (operations : List Operation) (messages : List Message) → event_of operations messages what ≡ Ok result }
+    ensures { (operations : List Operation) (messages : List Message)
+        → event_of operations messages what ≡ Ok result }
 {
     match what {
         What::Boot { now } => Event::Boot { now },
@@ -300,7 +314,8 @@ fn change_node(nodes: &mut Vec<Node>, node: NodeId, change: Change) -> Result<Re
     requires inside { node.0 < length nodes.old.items }
     requires ready { IsReadyAt nodes.old.items node change }
     ensures reply { IfOk result (λ reply. reply ≡ change.reply) }
-    ensures nodes { OnOk result (NodeChanges nodes.old.items node (λ v. changed v change) nodes.new.items) }
+    ensures nodes { OnOk result
+        (NodeChanges nodes.old.items node (λ v. changed v change) nodes.new.items) }
     ensures crash { IfErr result (λ _. change.reply ≡ Reply.Crashed → ⊥) }
     ensures unchanged { OnErr result (nodes.new.items ≡ nodes.old.items) }
 {
@@ -326,7 +341,8 @@ fn make_room(
 ) -> Result<Reply, NoMemory>
     ensures operations { operations.new.items ≡ operations.old.items }
     ensures messages { messages.new.items ≡ messages.old.items }
-    ensures operations_room { OnOk result (vec_len operations.new + length (issued_by reply.now) ≤ vec_capacity operations.new) }
+    ensures operations_room { OnOk result
+        (vec_len operations.new + length (issued_by reply.now) ≤ vec_capacity operations.new) }
     ensures messages_room { OnOk result (vec_len messages.new < vec_capacity messages.new) }
     ensures copied { IfOk result (λ copied. copied ≡ reply.now) }
 {
@@ -338,7 +354,8 @@ fn make_room(
 
 /// Notes what a reply issues and ships, where there is room.
 fn note(operations: &mut Vec<Op>, messages: &mut Vec<Message>, reply: Reply)
-    requires operations_room { vec_len operations.old + length (issued_by reply) ≤ vec_capacity operations.old }
+    requires operations_room { vec_len operations.old + length (issued_by reply)
+        ≤ vec_capacity operations.old }
     requires messages_room { vec_len messages.old < vec_capacity messages.old }
     ensures operations { operations.new.items ≡ operations.old.items ++ issued_by reply }
     ensures messages { messages.new.items ≡ messages.old.items ++ shipped_by reply }

@@ -68,8 +68,8 @@ IsDueBy table notes s app now (Takeover n) = ⊤
 IsDueBy table notes s app now (Kept n) = ⊥
 IsDueBy table notes s app now Nobody = ⊥
 
--- What is to become of an application is to be carried out now: a start, a move and a takeover at once. A failover is, at
--- once where its lost holder's node is to have it again, and else when its wait is over.
+-- What is to become of an application is to be carried out now: a start, a move and a takeover at once. A failover is,
+-- at once where its lost holder's node is to have it again, and else when its wait is over.
 abbrev pub IsDue : Table → List Note → StateValue → AppId → ℕ → Type 0
 IsDue table notes s app now = IsDueBy table notes s app now (verdict_of table s app)
 
@@ -143,4 +143,5 @@ is_due table notes s app now = is_due_with table (noted_of app notes) s app now
 
 -- ---- what is noted is data
 abbrev pub coded_noted : Coded Noted
-coded_noted = code_by (Claim × ℕ) (coded× coded_claim coded_ℕ) (λ n. (n.claim, n.since)) (λ p. record { claim = p.0; since = p.1 }) (λ _. refl)
+coded_noted = code_by (Claim × ℕ) (coded× coded_claim coded_ℕ) (λ n. (n.claim, n.since))
+    (λ p. record { claim = p.0; since = p.1 }) (λ _. refl)

@@ -15,18 +15,21 @@ use Rattle.dac_decide.specs.StartGate.{IsOpening, opening_of}
 abbrev pub LostInWords : Type 0
 LostInWords = (s : StateValue) (app : AppId) (claim : Claim) → (lost_in s app ≡ Some claim) ↔ IsLost s app claim
 
--- The verdict is a failover exactly where the application's greatest claim is lost and there is a first choice. So no start
--- takes the place of a failover, and of its wait.
+-- The verdict is a failover exactly where the application's greatest claim is lost and there is a first choice. So no
+-- start takes the place of a failover, and of its wait.
 abbrev pub LostFailsOver : Type 0
-LostFailsOver = (table : Table) (s : StateValue) (app : AppId) (n : NodeId) → IsVerdict table s app (Failover n) ↔ (((claim : Claim) × IsLost s app claim) × IsFirst table s app n)
+LostFailsOver = (table : Table) (s : StateValue) (app : AppId) (n : NodeId)
+    → IsVerdict table s app (Failover n) ↔ (((claim : Claim) × IsLost s app claim) × IsFirst table s app n)
 
 -- which lost claim is noted, and since when
 abbrev pub RowsInWords : Type 0
-RowsInWords = (app : AppId) (notes : List Note) (claim : Claim) (since : ℕ) → (noted_of app notes ≡ Some (record { claim = claim; since = since })) ↔ IsNotedSince notes app claim since
+RowsInWords = (app : AppId) (notes : List Note) (claim : Claim) (since : ℕ)
+    → (noted_of app notes ≡ Some (record { claim = claim; since = since })) ↔ IsNotedSince notes app claim since
 
 -- whether an application's verdict is to be carried out now
 abbrev pub DueInWords : Type 0
-DueInWords = (table : Table) (notes : List Note) (s : StateValue) (app : AppId) (now : ℕ) → (is_due table notes s app now ≡ true) ↔ IsDue table notes s app now
+DueInWords = (table : Table) (notes : List Note) (s : StateValue) (app : AppId) (now : ℕ)
+    → (is_due table notes s app now ≡ true) ↔ IsDue table notes s app now
 
 -- what becomes of a starting node
 abbrev pub OpeningInWords : Type 0
@@ -34,4 +37,6 @@ OpeningInWords = (table : Table) (s : StateValue) (elapsed : ℕ) → IsOpening 
 
 -- waits keep what the notes say of each application, and of as many as there are
 abbrev pub NotesAreKept : Type 0
-NotesAreKept = (table : Table) (notes : List Note) → (length (waits_of table notes) ≡ app_count table) × ((app : AppId) → app.0 < app_count table → noted_at (waits_of table notes) app ≡ noted_of app notes)
+NotesAreKept = (table : Table) (notes : List Note)
+    → (length (waits_of table notes) ≡ app_count table)
+    × ((app : AppId) → app.0 < app_count table → noted_at (waits_of table notes) app ≡ noted_of app notes)

@@ -37,9 +37,11 @@ IsTimeLeft (Ms wait) elapsed = elapsed < wait
 
 -- what becomes of the node, so many milliseconds after its boot
 abbrev pub IsOpening : Table → StateValue → ℕ → Opening → Type 0
-IsOpening table s elapsed Opened = (table.sync_wait ≡ NoSync) ⊎ (AllUp table s (is_awaited table) ⊎ (¬ IsTimeLeft table.sync_wait elapsed × AllUp table s (is_mandatory table)))
+IsOpening table s elapsed Opened = (table.sync_wait ≡ NoSync)
+    ⊎ (AllUp table s (is_awaited table) ⊎ (¬ IsTimeLeft table.sync_wait elapsed × AllUp table s (is_mandatory table)))
 IsOpening table s elapsed Shut = IsTimeLeft table.sync_wait elapsed × ¬ AllUp table s (is_awaited table)
-IsOpening table s elapsed GiveUp = ¬ (table.sync_wait ≡ NoSync) × ¬ IsTimeLeft table.sync_wait elapsed × ¬ AllUp table s (is_mandatory table)
+IsOpening table s elapsed GiveUp =
+    ¬ (table.sync_wait ≡ NoSync) × ¬ IsTimeLeft table.sync_wait elapsed × ¬ AllUp table s (is_mandatory table)
 
 -- ---- as functions
 
@@ -60,7 +62,8 @@ both first more = record { mandatory = first.mandatory && more.mandatory; option
 
 -- and of all nodes of the configuration
 abbrev pub present_of : Table → StateValue → Present
-present_of table s = record { mandatory = all_up table s (is_mandatory table); optional = all_up table s (is_optional table) }
+present_of table s =
+    record { mandatory = all_up table s (is_mandatory table); optional = all_up table s (is_optional table) }
 
 -- what becomes of the node, where these are live
 abbrev pub opening_by : SyncWait → Present → ℕ → Opening

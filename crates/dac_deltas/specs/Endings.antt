@@ -1,4 +1,5 @@
--- What is kept of each delta: the delta itself, and the joins of the blocks that end with it. A pair of the two is called an ending.
+-- What is kept of each delta: the delta itself, and the joins of the blocks that end with it. A pair of the two
+-- is called an ending.
 use Rattle.std.specs.Prelude.{◌≡◌, ℕ, ◌+◌, ◌-◌, ◌%◌, ◌≤◌, ◌<◌, ◌^◌, List, ◌∷◌, length, map, fold, take, drop, slice_index_or, Option, Some, None}
 use Rattle.dac_deltas.specs.declared.blocks.TheConstants.{MOST_LEVEL}
 use Rattle.dac_deltas.specs.Kept.{Kept, IsBuffer, newest, numbered_from}
@@ -20,11 +21,13 @@ module _ {L : Type 0} (is_value : L → Type 0) (join : L → L → L) where
   -- an ending has the joins of all blocks that end at a place and are wholly kept. Here these are the deltas kept
   -- before the place
   abbrev pub HasJoins : ℕ → List L → L × List L → Type 0
-  HasJoins place ds e = (k : ℕ) → k ≤ MOST_LEVEL → place % 2 ^ k ≡ 0 → 2 ^ k ≤ length ds → (k ≤ length e.1) × StandsFor (join_at e k) (drop (length ds - 2 ^ k) ds)
+  HasJoins place ds e = (k : ℕ) → k ≤ MOST_LEVEL → place % 2 ^ k ≡ 0 → 2 ^ k ≤ length ds
+      → (k ≤ length e.1) × StandsFor (join_at e k) (drop (length ds - 2 ^ k) ds)
 
   -- each ending has them, where the first delta's number is the base
   abbrev pub AreJoined : ℕ → List (L × List L) → Type 0
-  AreJoined base es = (i : ℕ) (d : L × List L) → i < length es → HasJoins (base + (i + 1)) (take (i + 1) (deltas_of es)) (slice_index_or es i d)
+  AreJoined base es = (i : ℕ) (d : L × List L) → i < length es
+      → HasJoins (base + (i + 1)) (take (i + 1) (deltas_of es)) (slice_index_or es i d)
 
   -- what a buffer keeps: the newest of so many deltas, and the joins of the blocks of them that are wholly kept
   pub record IsKept (count : ℕ) (es : List (L × List L)) : Type 0 where
@@ -38,6 +41,7 @@ module _ {L : Type 0} (join : L → L → L) (bottom : L) where
   IsReady k (Some made) = k.base ≤ made.0 → made.1 ≡ fold join bottom (numbered_from k made.0)
 
 -- what a buffer keeps, and the interval that was made already, if there is one
-pub record IsHeld {L : Type 0} (is_value : L → Type 0) (join : L → L → L) (bottom : L) (count : ℕ) (es : List (L × List L)) (made : Option (ℕ × L)) : Type 0 where
+pub record IsHeld {L : Type 0} (is_value : L → Type 0) (join : L → L → L) (bottom : L) (count : ℕ)
+    (es : List (L × List L)) (made : Option (ℕ × L)) : Type 0 where
   pub kept : IsKept is_value join count es
   pub ready : IsReady join bottom (newest count (deltas_of es)) made

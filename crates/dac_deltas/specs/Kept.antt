@@ -38,7 +38,8 @@ cut k n = record { count = k.count; base = k.base + n; deltas = drop n k.deltas 
 
 -- with one more delta, and at most 256 kept
 abbrev pub pushed : {L : Type 0} → Kept L → L → Kept L
-pushed k x = cut (record { count = k.count + 1; base = k.base; deltas = k.deltas ++ x ∷ [] }) (length k.deltas + 1 - MAX_DELTAS)
+pushed k x =
+    cut (record { count = k.count + 1; base = k.base; deltas = k.deltas ++ x ∷ [] }) (length k.deltas + 1 - MAX_DELTAS)
 
 -- without the deltas below a number
 abbrev pub trimmed : {L : Type 0} → Kept L → ℕ → Kept L
@@ -54,7 +55,8 @@ interval_of bottom join k a = cond (nat_lt a k.base) None (Some (fold join botto
 
 -- ---- what a join is
 -- a value is the least of those that are above each of the deltas
-pub record IsJoinOf {L : Type 0} (is_value : L → Type 0) (below : L → L → Type 0) (ds : List L) (joined : L) : Type 0 where
+pub record IsJoinOf {L : Type 0} (is_value : L → Type 0) (below : L → L → Type 0) (ds : List L)
+    (joined : L) : Type 0 where
   pub value : is_value joined
   pub above : All (λ d. below d joined) ds
   pub least : (x : L) → is_value x → All (λ d. below d x) ds → below joined x

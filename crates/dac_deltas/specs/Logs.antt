@@ -1,4 +1,5 @@
--- What is left of a log of deltas that is never cut, when those below a base are dropped. The calls of a buffer are those of such a log.
+-- What is left of a log of deltas that is never cut, when those below a base are dropped. The calls of a buffer are
+-- those of such a log.
 use Rattle.std.specs.Prelude.{◌≡◌, ◌<◌, ◌≤◌, ℕ, ◌+◌, ◌-◌, List, [], ◌∷◌, ◌++◌, length, drop, fold, min, max, Some, None}
 use Rattle.std.specs.List.{All}
 use Rattle.dac_deltas.specs.Kept.{Kept, IsJoinOf, empty, pushed, trimmed, interval_of}
@@ -18,20 +19,24 @@ EmptyIsOfNothing L = ◌≡◌ {A = Kept L} empty (kept_of 0 [])
 
 -- a push appends to the log, and drops all but the newest 256
 abbrev pub PushesAppend : Type 0 → Type 0
-PushesAppend L = (base : ℕ) (log : List L) (delta : L) → base ≤ length log → pushed (kept_of base log) delta ≡ newest_of base (log ++ delta ∷ [])
+PushesAppend L = (base : ℕ) (log : List L) (delta : L) → base ≤ length log
+    → pushed (kept_of base log) delta ≡ newest_of base (log ++ delta ∷ [])
 
 -- several pushes append to the log in order, and drop all but the newest 256
 abbrev pub PushesAppendAll : Type 0 → Type 0
-PushesAppendAll L = (base : ℕ) (log deltas : List L) → base ≤ length log → length log ≤ base + MAX_DELTAS → fold pushed (kept_of base log) deltas ≡ newest_of base (log ++ deltas)
+PushesAppendAll L = (base : ℕ) (log deltas : List L) → base ≤ length log → length log ≤ base + MAX_DELTAS
+    → fold pushed (kept_of base log) deltas ≡ newest_of base (log ++ deltas)
 
 -- a trim leaves the log, and moves the base on to the number or to the end
 abbrev pub TrimsMoveTheBase : Type 0 → Type 0
-TrimsMoveTheBase L = (base : ℕ) (log : List L) (n : ℕ) → trimmed (kept_of base log) n ≡ kept_of (max base (min n (length log))) log
+TrimsMoveTheBase L =
+    (base : ℕ) (log : List L) (n : ℕ) → trimmed (kept_of base log) n ≡ kept_of (max base (min n (length log))) log
 
 module _ {L : Type 0} (bottom : L) (join : L → L → L) where
   -- from the base on, an interval is the join of the log's deltas from its number on
   abbrev pub IntervalsAreOfTheLog : Type 0
-  IntervalsAreOfTheLog = (base : ℕ) (log : List L) (a : ℕ) → base ≤ a → interval_of bottom join (kept_of base log) a ≡ Some (fold join bottom (drop a log))
+  IntervalsAreOfTheLog = (base : ℕ) (log : List L) (a : ℕ) → base ≤ a
+      → interval_of bottom join (kept_of base log) a ≡ Some (fold join bottom (drop a log))
 
   -- below the base there is none
   abbrev pub DroppedHaveNone : Type 0
@@ -39,4 +44,5 @@ module _ {L : Type 0} (bottom : L) (join : L → L → L) where
 
 -- the deltas of a log, joined one after another, are the least value above each of them
 abbrev pub JoinsAreLeast : {L : Type 0} → (L → Type 0) → (L → L → Type 0) → (L → L → L) → L → Type 0
-JoinsAreLeast {L} is_value below join bottom = (log : List L) → All is_value log → IsJoinOf is_value below log (fold join bottom log)
+JoinsAreLeast {L} is_value below join bottom =
+    (log : List L) → All is_value log → IsJoinOf is_value below log (fold join bottom log)

@@ -38,4 +38,5 @@ NothingIsGreatest = AreGreatestNumbers [] map.empty
 
 -- to raise a number is to acknowledge one more
 abbrev pub RaisesAcknowledge : Type 0
-RaisesAcknowledge = (rs : List (Origin × ℕ)) (m : Numbers) (origin : Origin) (n : ℕ) → AreGreatestNumbers rs m → AreGreatestNumbers ((origin, n) ∷ rs) (raised m origin n)
+RaisesAcknowledge = (rs : List (Origin × ℕ)) (m : Numbers) (origin : Origin) (n : ℕ) → AreGreatestNumbers rs m
+    → AreGreatestNumbers ((origin, n) ∷ rs) (raised m origin n)

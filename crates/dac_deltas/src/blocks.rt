@@ -62,7 +62,8 @@ fn joins_after<L: Lattice>(
 ) -> Result<Vec<L>, NoMemory>
     requires joined { AreJoined L.is_value L.join base kept.now.items }
     requires room { base + length kept.now.items < MAX_COUNTER }
-    ensures { IfOk result (λ joins. HasJoins L.is_value L.join (base + (length kept.now.items + 1)) (deltas_of kept.now.items ++ delta.now ∷ []) (delta.now, joins.items)) }
+    ensures { IfOk result (λ joins. HasJoins L.is_value L.join (base + (length kept.now.items + 1))
+        (deltas_of kept.now.items ++ delta.now ∷ []) (delta.now, joins.items)) }
 {
     delta.tells_invariant();
     let most = kept.len() as u64 + 1;
@@ -109,7 +110,8 @@ impl<L: Lattice> Ending<L> {
         requires joined { AreJoined L.is_value L.join base kept.now.items }
         requires room { base + length kept.now.items < MAX_COUNTER }
         ensures delta { IfOk result (λ e. e.0 ≡ delta) }
-        ensures joins { IfOk result (HasJoins L.is_value L.join (base + (length kept.now.items + 1)) (deltas_of kept.now.items ++ delta ∷ [])) }
+        ensures joins { IfOk result (HasJoins L.is_value L.join (base + (length kept.now.items + 1))
+            (deltas_of kept.now.items ++ delta ∷ [])) }
     {
         let joins = joins_after(alloc, kept, base, &delta)?;
         Ok(Ending { delta, joins })
@@ -136,7 +138,8 @@ pub(crate) fn add_all<L: Lattice>(
     requires joined { AreJoined L.is_value L.join base kept.old.items }
     requires room { base + length kept.old.items + length deltas.items ≤ MAX_COUNTER }
     ensures joined { AreJoined L.is_value L.join base kept.new.items }
-    ensures added { OnOk result (deltas_of kept.new.items ≡ deltas_of kept.old.items ++ deltas.items) }
+    ensures added { OnOk result
+        (deltas_of kept.new.items ≡ deltas_of kept.old.items ++ deltas.items) }
     ensures before { take (length kept.old.items) kept.new.items ≡ kept.old.items }
 {
     for delta in deltas {

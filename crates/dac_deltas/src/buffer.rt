@@ -176,7 +176,8 @@ impl<L: Bottom> Buffer<L> {
         requires { a ≤ self.now.count }
         ensures dropped { a < self.now.base → result ≡ Ok None }
         ensures value { IfOk result (λ found. found ≡ interval_of L.bottom L.join self.now a) }
-        ensures least { IfOk result (λ found. IfSome found (IsJoinOf L.is_value L.below (numbered_from self.now a))) }
+        ensures least { IfOk result
+            (λ found. IfSome found (IsJoinOf L.is_value L.below (numbered_from self.now a))) }
     {
         self.tells_invariant();
         let base = self.base();
@@ -236,7 +237,8 @@ impl<L: Bottom> Buffer<L> {
         requires { a ≤ self.now.count }
         ensures dropped { a < self.now.base → result ≡ Ok None }
         ensures kept { self.now.base ≤ a → IfOk result (λ found. IsSome found) }
-        ensures blocks { IfOk result (λ found. IfSome found (λ bs. AreBlocks a self.now.count bs.items)) }
+        ensures blocks { IfOk result
+            (λ found. IfSome found (λ bs. AreBlocks a self.now.count bs.items)) }
         ensures few { IfOk result (λ found. IfSome found (λ bs. length bs.items ≤ 2 * MOST_LEVEL)) }
     {
         if a < self.base() {

@@ -19,11 +19,14 @@ dot_cmp a b = ordering_then (origin_cmp a.origin b.origin) (nat_cmp a.n b.n)
 
 -- an origin as two numbers
 abbrev pub coded_origin : Coded Origin
-coded_origin = code_by (ℕ × ℕ) (coded× coded_ℕ coded_ℕ) (λ o. (o.node.0, o.inc)) (λ p. record { node = record { 0 = p.0 }; inc = p.1 }) (λ _. refl)
+coded_origin = code_by (ℕ × ℕ) (coded× coded_ℕ coded_ℕ) (λ o. (o.node.0, o.inc))
+    (λ p. record { node = record { 0 = p.0 }; inc = p.1 }) (λ _. refl)
 
 -- a dot as three numbers
 abbrev pub coded_dot : Coded Dot
-coded_dot = code_by (ℕ × (ℕ × ℕ)) (coded× coded_ℕ (coded× coded_ℕ coded_ℕ)) (λ d. (d.origin.node.0, (d.origin.inc, d.n))) (λ p. record { origin = record { node = record { 0 = p.0 }; inc = p.1.0 }; n = p.1.1 }) (λ _. refl)
+coded_dot =
+    code_by (ℕ × (ℕ × ℕ)) (coded× coded_ℕ (coded× coded_ℕ coded_ℕ)) (λ d. (d.origin.node.0, (d.origin.inc, d.n)))
+    (λ p. record { origin = record { node = record { 0 = p.0 }; inc = p.1.0 }; n = p.1.1 }) (λ _. refl)
 
 -- a set of dots
 abbrev pub Dots : Type 0
@@ -52,4 +55,5 @@ pub record IsUsedUp (dots : Dots) (origin : Origin) : Type 0 where
 
 -- the dots of each origin are 1 to some number
 abbrev pub IsVector : Dots → Type 0
-IsVector dots = (origin : Origin) (n : ℕ) → set.contains dots (dot origin n) ≡ true → (1 ≤ n) × ((m : ℕ) → 1 ≤ m → m ≤ n → set.contains dots (dot origin m) ≡ true)
+IsVector dots = (origin : Origin) (n : ℕ) → set.contains dots (dot origin n) ≡ true
+    → (1 ≤ n) × ((m : ℕ) → 1 ≤ m → m ≤ n → set.contains dots (dot origin m) ≡ true)

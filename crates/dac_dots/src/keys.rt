@@ -62,7 +62,9 @@ pub fn holds_key<K: MapKey>(keys: &[K], key: K) -> bool
 pub fn insert_key<K: MapKey>(keys: &mut Vec<K>, key: K) -> Result<(), NoMemory>
     requires { IsRising K.cmp keys.old.items }
     ensures rising { IsRising K.cmp keys.new.items }
-    ensures ok { OnOk result ((q : _) → has_key K.cmp keys.new.items q ≡ (eq_by_cmp K.cmp q key || has_key K.cmp keys.old.items q)) }
+    ensures ok { OnOk result ((q : _)
+        → has_key K.cmp keys.new.items q
+        ≡ (eq_by_cmp K.cmp q key || has_key K.cmp keys.old.items q)) }
     ensures err { OnErr result (keys.new.items ≡ keys.old.items) }
     ensures first { OnErr result (has_key K.cmp keys.old.items key ≡ false) }
 {
@@ -76,7 +78,9 @@ pub fn insert_key<K: MapKey>(keys: &mut Vec<K>, key: K) -> Result<(), NoMemory>
 pub fn remove_key<K: MapKey>(keys: &mut Vec<K>, key: K)
     requires { IsRising K.cmp keys.old.items }
     ensures rising { IsRising K.cmp keys.new.items }
-    ensures value { (q : _) → has_key K.cmp keys.new.items q ≡ (not (eq_by_cmp K.cmp q key) && has_key K.cmp keys.old.items q) }
+    ensures value { (q : _)
+        → has_key K.cmp keys.new.items q
+        ≡ (not (eq_by_cmp K.cmp q key) && has_key K.cmp keys.old.items q) }
 {
     if let Ok(place) = keys.binary_search(&key) {
         keys.remove(place);

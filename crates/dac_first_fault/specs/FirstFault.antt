@@ -35,8 +35,10 @@ CanBring _ word = ⊥
 -- closes.
 pub data StandsAt (before : List Located) (t : Located) (e : ConfigFault) : Type 0 where
   Itself : e.at ≡ t.at → CanBring e.kind t.word → StandsAt before t e
-  InList : (front : List Located) (o : Located) → before ≡ front ++ o ∷ [] → o.word ≡ Mark OpenList → t.word ≡ Mark CloseList → e ≡ record { kind = EmptyList; at = o.at } → StandsAt before t e
-  InTuple : (front : List Located) (o : Located) → before ≡ front ++ o ∷ [] → o.word ≡ Mark OpenTuple → t.word ≡ Mark CloseTuple → e ≡ record { kind = EmptyTuple; at = o.at } → StandsAt before t e
+  InList : (front : List Located) (o : Located) → before ≡ front ++ o ∷ [] → o.word ≡ Mark OpenList
+      → t.word ≡ Mark CloseList → e ≡ record { kind = EmptyList; at = o.at } → StandsAt before t e
+  InTuple : (front : List Located) (o : Located) → before ≡ front ++ o ∷ [] → o.word ≡ Mark OpenTuple
+      → t.word ≡ Mark CloseTuple → e ≡ record { kind = EmptyTuple; at = o.at } → StandsAt before t e
 
 abbrev pub words : List Located → List Word
 words ts = map (λ t. t.word) ts
@@ -102,8 +104,9 @@ IsOfName TooManyApps = Unit {0}
 IsOfName TooManyNodes = Unit {0}
 IsOfName _ = ⊥
 
--- A name at the end of these words breaks the limit of this fault first. No file that keeps the limit begins with them,
--- whatever others it breaks. A file that keeps those that count before it does; where the fault is BadShape, maybe none.
+-- A name at the end of these words breaks the limit of this fault first. No file that keeps the limit begins
+-- with them, whatever others it breaks. A file that keeps those that count before it does; where the fault
+-- is BadShape, maybe none.
 pub record Breaks (ws : List Word) (kind : FaultKind) : Type 0 where
   pub broken : ¬ CanBegin (Keeps (Only kind)) ws
   pub first : IsOfName kind → CanBegin (Keeps (Before kind)) ws
@@ -143,11 +146,18 @@ pub data IsFaultOf (text : List ℕ) (e : ConfigFault) : Type 0 where
   -- the text is too long
   Long : MAX_TEXT < length text → e ≡ record { kind = TooLong; at = MAX_TEXT } → IsFaultOf text e
   -- these tokens are in order, and behind them no token begins
-  NoToken : (before : List Located) → length text ≤ MAX_TEXT → IsWell (words before) → StopAt 0 0 text before e → IsFaultOf text e
+  NoToken : (before : List Located) → length text ≤ MAX_TEXT → IsWell (words before) → StopAt 0 0 text before e
+      → IsFaultOf text e
   -- What is before the token t is in order, and with t it isn't. If t is a name, no file that keeps the limits goes on
   -- with it, and if not, no file at all.
-  Token : (before : List Located) (t : Located) → length text ≤ MAX_TEXT → BeginsWith text (before ++ t ∷ []) → IsWell (words before) → ¬ IsWell (words before ++ t.word ∷ []) → Brings t.word (words before ++ t.word ∷ []) e.kind → StandsAt before t e → IsFaultOf text e
+  Token : (before : List Located) (t : Located) → length text ≤ MAX_TEXT → BeginsWith text (before ++ t ∷ [])
+      → IsWell (words before) → ¬ IsWell (words before ++ t.word ∷ [])
+      → Brings t.word (words before ++ t.word ∷ []) e.kind → StandsAt before t e → IsFaultOf text e
   -- all is in order, and the end came where no file is at its end
-  Ends : (ts : List Located) → length text ≤ MAX_TEXT → AreTokensOf text ts → IsWell (words ts) → ((sections : List Section) → ¬ IsFile (words ts) sections) → e ≡ record { kind = BadShape; at = length text } → IsFaultOf text e
+  Ends : (ts : List Located) → length text ≤ MAX_TEXT → AreTokensOf text ts → IsWell (words ts)
+      → ((sections : List Section) → ¬ IsFile (words ts) sections) → e ≡ record { kind = BadShape; at = length text }
+      → IsFaultOf text e
   -- all is a file that keeps the limits, and no application is listed
-  Nobody : (ts : List Located) → length text ≤ MAX_TEXT → AreTokensOf text ts → IsWithin (words ts) → ((is : IsWithin (words ts)) → apps_in is.sections ≡ 0) → e ≡ record { kind = NoDistributed; at = length text } → IsFaultOf text e
+  Nobody : (ts : List Located) → length text ≤ MAX_TEXT → AreTokensOf text ts → IsWithin (words ts)
+      → ((is : IsWithin (words ts)) → apps_in is.sections ≡ 0) → e ≡ record { kind = NoDistributed; at = length text }
+      → IsFaultOf text e

@@ -20,7 +20,8 @@ module _ (Kept : FaultKind → Type 0) where
 
   -- a tuple of nodes may be empty
   abbrev pub IsLooseItem : List Word → List (List ℕ) → Type 0
-  IsLooseItem words group = IsItem words group ⊎ (Passes EmptyTuple × (words ≡ Mark OpenTuple ∷ Mark CloseTuple ∷ []) × (group ≡ []))
+  IsLooseItem words group =
+      IsItem words group ⊎ (Passes EmptyTuple × (words ≡ Mark OpenTuple ∷ Mark CloseTuple ∷ []) × (group ≡ []))
 
   -- so may a node list
   abbrev pub IsLooseNodeList : List Word → List (List (List ℕ)) → Type 0
@@ -40,7 +41,8 @@ module _ (Kept : FaultKind → Type 0) where
       ⊎ ((word : Word) × (words ≡ word ∷ Mark Comma ∷ []) × IsLooseMs word n)
 
   abbrev pub IsLooseAppValue : List Word → App → Type 0
-  IsLooseAppValue words app = (timeout list : List Word) × (words ≡ timeout ++ list) × IsLooseTimeout timeout app.timeout × IsLooseNodeList list app.groups
+  IsLooseAppValue words app = (timeout list : List Word) × (words ≡ timeout ++ list)
+      × IsLooseTimeout timeout app.timeout × IsLooseNodeList list app.groups
 
   abbrev pub IsLooseApp : List Word → App → Type 0
   IsLooseApp words app = IsPair app.name (λ value. IsLooseAppValue value app) words
@@ -51,12 +53,15 @@ module _ (Kept : FaultKind → Type 0) where
   IsLooseWait words (Ms n) = (word : Word) × (words ≡ word ∷ []) × IsLooseMs word n
 
   abbrev pub IsLooseParam : List Word → Param → Type 0
-  IsLooseParam words (Distributed apps) = IsPair (spelled named.Distributed) (λ value. IsListOf IsLooseApp value apps) words
-  IsLooseParam words (Permissions permissions) = IsPair (spelled named.Permissions) (λ value. IsListOf IsPermission value permissions) words
+  IsLooseParam words (Distributed apps) =
+      IsPair (spelled named.Distributed) (λ value. IsListOf IsLooseApp value apps) words
+  IsLooseParam words (Permissions permissions) =
+      IsPair (spelled named.Permissions) (λ value. IsListOf IsPermission value permissions) words
   IsLooseParam words (Mandatory names) = IsPair (spelled named.Mandatory) (λ value. IsListOf IsNode value names) words
   IsLooseParam words (Optional names) = IsPair (spelled named.Optional) (λ value. IsListOf IsNode value names) words
   IsLooseParam words (Timeout wait) = IsPair (spelled named.Timeout) (λ value. IsLooseWait value wait) words
-  IsLooseParam words Param.Other = (name : List ℕ) × ((known : ParamName) → name ≢ spelled known) × IsPair name IsTerm words
+  IsLooseParam words Param.Other =
+      (name : List ℕ) × ((known : ParamName) → name ≢ spelled known) × IsPair name IsTerm words
 
   -- in place of a section a string may stand
   abbrev pub IsLooseSection : List Word → Section → Type 0
@@ -66,4 +71,5 @@ module _ (Kept : FaultKind → Type 0) where
       ⊎ (Passes Unsupported × (words ≡ Text ∷ []))
 
   abbrev pub IsLooseFile : List Word → List Section → Type 0
-  IsLooseFile words sections = (list : List Word) × (words ≡ list ++ Mark FullStop ∷ []) × IsListOf IsLooseSection list sections
+  IsLooseFile words sections =
+      (list : List Word) × (words ≡ list ++ Mark FullStop ∷ []) × IsListOf IsLooseSection list sections

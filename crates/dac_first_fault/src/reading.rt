@@ -23,7 +23,8 @@ pub fn read_draft(alloc: Global, text: &[u8]) -> Result<Draft<'_>, ConfigFault>
     // What is read is in the grammar.
     ensures found { IfOk result (λ draft. IsTextOf text.now (draft_of draft)) }
     // What is in the grammar is read.
-    ensures only { (draft : Written) → IsTextOf text.now draft → MatchResult result (λ d. draft_of d ≡ draft) (λ e. e.kind ≡ NoMemory) }
+    ensures only { (draft : Written) → IsTextOf text.now draft
+        → MatchResult result (λ d. draft_of d ≡ draft) (λ e. e.kind ≡ NoMemory) }
     // What is read keeps the limits.
     ensures limits { IfOk result (λ draft. IsWithinLimits (draft_of draft)) }
     // Which fault it is, unless memory ran out.

@@ -20,7 +20,7 @@ use Rattle.dac_dots.specs.Dots.{dot_cmp}
 use Rattle.dac_dots.specs.Keys.{has_key}
 use Rattle.dac_dots.specs.laws.Dots.{exact_dots}
 use Rattle.dac_lattice.specs.declared.flags.Flag.{Flag}
-use Rattle.dac_lattice.specs.Entries.{find_below}
+use Rattle.dac_lattice.specs.laws.Entries.{find_below}
 use Rattle.dac_lattice.specs.laws.EntryLaws.{first, second}
 use Rattle.dac_chains.specs.declared.lives.Life.{Life}
 use Rattle.dac_chains.specs.declared.claims.Claim.{Claim as ClaimValue}

@@ -24,6 +24,8 @@ BodyFits Nothing = Unit {0}
 
 -- Where the operations that were issued are in form, so is what is made of them. It is each running controller's state,
 -- and the state that each shipped message brings, whose counts fit their fields.
-pub record HeldAreInForm (t : Table) (events : List WorldEvent) (answers : List (Result Reply WorldFault)) (v : WorldValue) : Type 0 where
+pub record HeldAreInForm (t : Table) (events : List WorldEvent) (answers : List (Result Reply WorldFault))
+    (v : WorldValue) : Type 0 where
   pub states : AreInForm t v.operations → (n : ℕ) (s : StateValue) → RunsWith v n s → StateFits s → IsInForm Two t s
-  pub bodies : AreInForm t v.operations → (k : ℕ) (m : Message) → slice_get v.messages k ≡ Some m → BodyFits m.body → IsBodyInForm Two t m.body
+  pub bodies : AreInForm t v.operations → (k : ℕ) (m : Message) → slice_get v.messages k ≡ Some m → BodyFits m.body
+      → IsBodyInForm Two t m.body

@@ -46,4 +46,5 @@ AreInForm t os = (o : Operation) → In o os → IsOperation Two t o
 -- What they mean has such bytes too, where the counts fit their fields. This asks that no two different operations have
 -- one dot.
 abbrev pub MeaningsAreInForm : Type 0
-MeaningsAreInForm = (t : Table) (os : List Operation) → Agree os → AreInForm t os → StateFits (meaning_of os) → IsInForm Two t (meaning_of os)
+MeaningsAreInForm = (t : Table) (os : List Operation) → Agree os → AreInForm t os → StateFits (meaning_of os)
+    → IsInForm Two t (meaning_of os)

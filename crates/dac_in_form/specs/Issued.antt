@@ -14,4 +14,5 @@ IssuedAreInForm = InEachRun (λ t events answers v. AreInForm t v.operations)
 
 -- So has each message that was shipped, where the counts of what it brings fit their fields.
 abbrev pub ShippedAreInForm : Type 0
-ShippedAreInForm = InEachRun (λ t events answers v. (k : ℕ) (m : Message) → slice_get v.messages k ≡ Some m → BodyFits m.body → IsMessage Two t m)
+ShippedAreInForm = InEachRun (λ t events answers v. (k : ℕ) (m : Message) → slice_get v.messages k ≡ Some m
+    → BodyFits m.body → IsMessage Two t m)

@@ -36,7 +36,10 @@ impl Model for Closed {
 
     ghost coded = { coded_journal config_row.the_row.coded record_row.the_row.coded };
 
-    ghost view = { λ c. record { opening = opening_of c.config c.node c.last; records = c.records.items } };
+    ghost view = { λ c. record {
+      opening = opening_of c.config c.node c.last;
+      records = c.records.items;
+    } };
 
     ghost invariant = { λ c. AreHistory (opening_of c.config c.node c.last) c.records.items };
 }

@@ -52,9 +52,13 @@ impl Model for Journal {
 
     ghost coded = { coded_journal config_row.the_row.coded record_row.the_row.coded };
 
-    ghost view = { λ j. record { opening = opening_of j.config j.me j.last; records = j.records.items } };
+    ghost view = { λ j. record {
+      opening = opening_of j.config j.me j.last;
+      records = j.records.items;
+    } };
 
-    ghost invariant = { λ j. EndsAt (opening_of j.config j.me j.last) j.records.items j.node × (length j.records.items ≤ MOST) };
+    ghost invariant = { λ j. EndsAt (opening_of j.config j.me j.last) j.records.items j.node
+        × (length j.records.items ≤ MOST) };
 }
 
 impl Journal {
@@ -131,7 +135,8 @@ impl Journal {
     pub fn ask(&mut self, seat: u16, event: Event) -> Result<(Call, Answer), NoMemory>
         requires { length self.old.records < MOST }
         ensures opening { self.new.opening ≡ self.old.opening }
-        ensures ok { IfOk result (λ r. self.new.records ≡ self.old.records ++ record_of seat event r.1 ∷ []) }
+        ensures ok { IfOk result
+            (λ r. self.new.records ≡ self.old.records ++ record_of seat event r.1 ∷ []) }
         ensures call { IfOk result (λ r. r.0 ≡ call_of (length self.old.records + 1) event r.1) }
         ensures answered { IfOk result (λ r. IfErr r.1 (λ why. why ≢ Refusal.NoMemory)) }
         ensures history { IfOk result (λ _. AreHistory self.new.opening self.new.records) }
@@ -145,7 +150,8 @@ impl Journal {
     pub fn prepare(&self, seat: u16, event: Event) -> Result<Next, NoMemory>
         requires { length self.now.records < MOST }
         ensures goes { IfOk result (GoesTo self.now seat event) }
-        ensures answered { IfOk result (λ next. IfErr next.entry.answer (λ why. why ≢ Refusal.NoMemory)) }
+        ensures answered { IfOk result
+            (λ next. IfErr next.entry.answer (λ why. why ≢ Refusal.NoMemory)) }
     {
         let place = self.records.len() as u64 + 1;
         let kept = event.copy()?;

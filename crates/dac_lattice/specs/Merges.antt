@@ -5,7 +5,8 @@ use Rattle.std.specs.FinMap.Entries.{by_order}
 use Rattle.dac_lattice.specs.Entries.{Combine, keep}
 
 -- of the next entries of both maps those at the lowest key
-abbrev pub lowest_of : {K X : Type 0} → (K → K → Ordering) → Option (K × X) → Option (K × X) → Option (K × X) × Option (K × X)
+abbrev pub lowest_of : {K X : Type 0} → (K → K → Ordering) → Option (K × X) → Option (K × X)
+    → Option (K × X) × Option (K × X)
 lowest_of R None y = (None, y)
 lowest_of R (Some x) None = (Some x, None)
 lowest_of R (Some x) (Some y) = by_order (R x.0 y.0) (Some x, None) (Some x, Some y) (None, Some y)

@@ -1,4 +1,5 @@
--- Pieces of a state: lattices to which each operation adds its delta. A set of operations is given as a list; order and repeats don't matter.
+-- Pieces of a state: lattices to which each operation adds its delta. A set of operations is given as a list; order
+-- and repeats don't matter.
 use Rattle.std.specs.Prelude.{◌≡◌, ◌⊎◌, List, [], ◌∷◌, ◌++◌}
 use Rattle.dac_dots.specs.declared.dot.Dot.{Dot}
 
@@ -22,10 +23,12 @@ pub record AreOperations {A : Type 0} (fits : Dot → A → Type 0) (os : List (
 
 -- What operations mean is a statement about them all, which holds of one value at most. To add an operation is to
 -- join its delta. (Deltas are after delta-state replicated data types.)
-pub record IsPiece {V A : Type 0} (is_value : V → Type 0) (join : V → V → V) (bottom : V) (fits : Dot → A → Type 0) (delta : Dot → A → V) (means : List (Dot × A) → V → Type 0) : Type 0 where
+pub record IsPiece {V A : Type 0} (is_value : V → Type 0) (join : V → V → V) (bottom : V) (fits : Dot → A → Type 0)
+    (delta : Dot → A → V) (means : List (Dot × A) → V → Type 0) : Type 0 where
   pub delta_value : (d : Dot) (a : A) → is_value (delta d a)
   pub start : means [] bottom
-  pub step : (os : List (Dot × A)) (o : Dot × A) (v : V) → is_value v → AreOperations fits (o ∷ os) → means os v → means (o ∷ os) (join v (delta o.0 o.1))
+  pub step : (os : List (Dot × A)) (o : Dot × A) (v : V) → is_value v → AreOperations fits (o ∷ os) → means os v
+      → means (o ∷ os) (join v (delta o.0 o.1))
   pub one : (os : List (Dot × A)) (v w : V) → is_value v → is_value w → means os v → means os w → v ≡ w
 
 -- the joined deltas of operations
@@ -36,12 +39,16 @@ joined join bottom delta (o ∷ os) = join (joined join bottom delta os) (delta 
 module _ {V A : Type 0} (is_value : V → Type 0) (join : V → V → V) (fits : Dot → A → Type 0) (means : List (Dot × A) → V → Type 0) where
   -- two meanings joined are the meaning of both together
   abbrev pub JoinsAreTogether : Type 0
-  JoinsAreTogether = (os ps : List (Dot × A)) (v w : V) → is_value v → is_value w → AreOperations fits (os ++ ps) → means os v → means ps w → means (os ++ ps) (join v w)
+  JoinsAreTogether = (os ps : List (Dot × A)) (v w : V) → is_value v → is_value w → AreOperations fits (os ++ ps)
+      → means os v → means ps w → means (os ++ ps) (join v w)
 
   -- lists of the same operations mean the same, whatever their order and repeats
   abbrev pub OrderAndRepeatsAreNothing : Type 0
-  OrderAndRepeatsAreNothing = (os ps : List (Dot × A)) (v : V) → is_value v → AreOperations fits os → Within os ps → Within ps os → means os v → means ps v
+  OrderAndRepeatsAreNothing = (os ps : List (Dot × A)) (v : V) → is_value v → AreOperations fits os → Within os ps
+      → Within ps os → means os v → means ps v
 
 -- the joined deltas of operations are what they mean
-abbrev pub DeltasAreMeanings : {V A : Type 0} → (V → V → V) → V → (Dot → A → Type 0) → (Dot → A → V) → (List (Dot × A) → V → Type 0) → Type 0
-DeltasAreMeanings {A = A} join bottom fits delta means = (os : List (Dot × A)) → AreOperations fits os → means os (joined join bottom delta os)
+abbrev pub DeltasAreMeanings : {V A : Type 0} → (V → V → V) → V → (Dot → A → Type 0) → (Dot → A → V)
+    → (List (Dot × A) → V → Type 0) → Type 0
+DeltasAreMeanings {A = A} join bottom fits delta means = (os : List
+    (Dot × A)) → AreOperations fits os → means os (joined join bottom delta os)

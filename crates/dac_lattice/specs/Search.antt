@@ -10,7 +10,8 @@ IsInOrder R xs = T (is_sorted R xs)
 
 -- what a search for a key answers: the place of its entry, or that there is none
 abbrev pub IsPlaceOf : {K X : Type 0} → (K → K → Ordering) → List (K × X) → K → Result ℕ ℕ → Type 0
-IsPlaceOf R xs k r = MatchResult r (λ i. (i < length xs) × HoldsAt (λ e. find R k xs ≡ Some e.1) xs i) (λ _. find R k xs ≡ None)
+IsPlaceOf R xs k r =
+    MatchResult r (λ i. (i < length xs) × HoldsAt (λ e. find R k xs ≡ Some e.1) xs i) (λ _. find R k xs ≡ None)
 
 -- each key has what P says of what is there
 abbrev pub AtEachKey : {K X : Type 0} → (K → K → Ordering) → (K → Option X → Type 0) → List (K × X) → Type 0

@@ -4,4 +4,6 @@ pub mod PieceLaws
 pub mod Chains
 pub mod Flags
 pub mod Lattices
+pub mod Entries
+pub mod Maps
 pub use Rattle.dac_dots.specs.laws.Dots

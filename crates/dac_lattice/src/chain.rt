@@ -34,7 +34,8 @@ impl<T: MapKey> Lattice for Max<T> {
 
     ghost join = { λ x y. record { value = ord_max T.cmp x.value y.value } };
 
-    ghost laws = { wrapped_laws (λ m. m.value) (λ v. record { value = v }) (λ _. refl) (λ _. refl) (chain_laws T.total T.exact) };
+    ghost laws = { wrapped_laws (λ m. m.value) (λ v. record { value = v }) (λ _. refl) (λ _. refl)
+        (chain_laws T.total T.exact) };
 
     fn tells_invariant(&self) {}
 

@@ -87,7 +87,8 @@ impl<K: MapKey, L: Lattice> Combine<K, L> for JoinValues {
 }
 
 impl<K: MapKey, L: Lattice> Lattice for MapOf<K, L> {
-    ghost use Rattle.dac_lattice.specs.Maps.{IsMap, IsMapBelow, join_maps, map_laws};
+    ghost use Rattle.dac_lattice.specs.Maps.{IsMap, IsMapBelow, join_maps};
+    ghost use Rattle.dac_lattice.specs.laws.Maps.{map_laws};
 
     ghost is_value = { IsMap K.cmp L.is_value };
 

@@ -27,7 +27,8 @@ pub trait Combine<K, X> {
 
     /// At a key of both.
     fn both(&self, key: K, mine: &X, theirs: &X) -> Result<Option<X>, NoMemory>
-        ensures { IfOk result (λ made. made ≡ combined self.now key (Some mine.now) (Some theirs.now)) };
+        ensures { IfOk result
+            (λ made. made ≡ combined self.now key (Some mine.now) (Some theirs.now)) };
 }
 
 /// Puts an entry at the end, if there is a value.
@@ -36,7 +37,8 @@ fn push_kept<K: MapKey, X: Drop>(
     key: K,
     value: Result<Option<X>, NoMemory>,
 ) -> Result<(), NoMemory>
-    ensures { OnOk result (IsOkAnd value (λ value. merged.new.items ≡ merged.old.items ++ keep key value [])) }
+    ensures { OnOk result
+        (IsOkAnd value (λ value. merged.new.items ≡ merged.old.items ++ keep key value [])) }
 {
     if let Some(value) = value? {
         merged.push((key, value))?;
@@ -49,7 +51,8 @@ fn lowest<'a, K: MapKey, X>(
     mine: Option<&'a (K, X)>,
     theirs: Option<&'a (K, X)>,
 ) -> (Option<&'a (K, X)>, Option<&'a (K, X)>)
-    ensures { (option_copied result.0, option_copied result.1) ≡ lowest_of K.cmp (option_copied mine.entry) (option_copied theirs.entry) }
+    ensures { (option_copied result.0, option_copied result.1)
+        ≡ lowest_of K.cmp (option_copied mine.entry) (option_copied theirs.entry) }
 {
     let (Some(x), Some(y)) = (mine, theirs) else {
         return (mine, theirs);
@@ -68,7 +71,10 @@ fn push_lowest<K: MapKey, X: Drop, C: Combine<K, X>>(
     mine: Option<&(K, X)>,
     theirs: Option<&(K, X)>,
 ) -> Result<(), NoMemory>
-    ensures { OnOk result (merged.new.items ≡ merged.old.items ++ keep_lowest (C.combined how.now) (option_copied mine.entry) (option_copied theirs.entry) []) }
+    ensures { OnOk result (merged.new.items
+        ≡ merged.old.items
+        ++ keep_lowest (C.combined how.now) (option_copied mine.entry)
+        (option_copied theirs.entry) []) }
 {
     match (mine, theirs) {
         (Some((key, mine)), Some((_, theirs))) => {
@@ -88,7 +94,8 @@ pub fn merge<K: MapKey, X: Drop, C: Combine<K, X>>(
     mine: &[(K, X)],
     theirs: &[(K, X)],
 ) -> Result<Vec<(K, X)>, NoMemory>
-    ensures { IfOk result (λ merged. merged.items ≡ merge_entries K.cmp (C.combined how.now) mine.now theirs.now) }
+    ensures { IfOk result
+        (λ merged. merged.items ≡ merge_entries K.cmp (C.combined how.now) mine.now theirs.now) }
 {
     let mut merged = Vec::with_capacity(alloc, mine.len().max(theirs.len()))?;
     let mut i = 0;

@@ -32,9 +32,14 @@ impl<A: Lattice, B: Lattice> Lattice for Pair<A, B> {
 
     ghost below = { λ p q. A.below p.first q.first × B.below p.second q.second };
 
-    ghost join = { λ p q. record { first = A.join p.first q.first; second = B.join p.second q.second } };
+    ghost join = { λ p q. record {
+      first = A.join p.first q.first;
+      second = B.join p.second q.second;
+    } };
 
-    ghost laws = { wrapped_laws (λ p. (p.first, p.second)) (λ p. record { first = p.0; second = p.1 }) (λ _. refl) (λ _. refl) (paired_laws A.laws B.laws) };
+    ghost laws = { wrapped_laws (λ p. (p.first, p.second))
+        (λ p. record { first = p.0; second = p.1 }) (λ _. refl) (λ _. refl)
+        (paired_laws A.laws B.laws) };
 
     fn tells_invariant(&self) {
         self.first.tells_invariant();

@@ -1,5 +1,5 @@
--- What was put is what was taken and then what the link holds. One pass at most may put, and it has the list of what was
--- put. The same for taking.
+-- What was put is what was taken and then what the link holds. One pass at most may put, and it has the list of what
+-- was put. The same for taking.
 use Rattle.std.specs.Prelude.{◌≡◌, ℕ, Bool, true, List, Option, ◌++◌}
 use mathlib.Core.Option.{some}
 use lib.ListN.{get_elem?}
@@ -13,7 +13,8 @@ abbrev pub log : Bool → Bool → List Paper → List Paper → Log
 log a b put taken = record { puts = a; takes = b; put = put; taken = taken }
 
 abbrev pub RelayFits : ℕ → ℕ → List Paper → List Paper → ℕ → Log → Type 0
-RelayFits writer reader put taken port v = (v.puts ≡ true → (port ≡ writer) × (v.put ≡ put)) × (v.takes ≡ true → (port ≡ reader) × (v.taken ≡ taken))
+RelayFits writer reader put taken port v =
+    (v.puts ≡ true → (port ≡ writer) × (v.put ≡ put)) × (v.takes ≡ true → (port ≡ reader) × (v.taken ≡ taken))
 
 abbrev pub Relayed : List Paper → List Log → Type 0
 Relayed items views =

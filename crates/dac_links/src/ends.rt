@@ -53,7 +53,9 @@ impl LinkSender {
     /// Puts a letter behind all that were put. At `Err` nothing was put.
     pub fn put<R: Wait>(&mut self, rt: &R, letter: Letter) -> Result<(), Gone>
         ensures link { sends_on self.new.end ≡ sends_on self.old.end }
-        ensures put { MatchResult result (λ _. (view self.new.pass).put ≡ (view self.old.pass).put ++ letter ∷ []) (λ _. (view self.new.pass).put ≡ (view self.old.pass).put) }
+        ensures put { MatchResult result
+            (λ _. (view self.new.pass).put ≡ (view self.old.pass).put ++ letter ∷ [])
+            (λ _. (view self.new.pass).put ≡ (view self.old.pass).put) }
     {
         let LinkSender { end, pass } = self;
         match end.send_as::<Put, R>(rt, pass, letter) {
@@ -65,8 +67,10 @@ impl LinkSender {
     /// Shows that what was taken is a beginning of what was put. Both ends are as before.
     pub fn compare(&mut self, receiver: LinkReceiver) -> LinkReceiver
         requires { receives_on receiver.end ≡ sends_on self.old.end }
-        ensures link { (sends_on self.new.end ≡ sends_on self.old.end) × (receives_on result.end ≡ receives_on receiver.end) }
-        ensures same { ((view self.new.pass).put ≡ (view self.old.pass).put) × ((view result.pass).taken ≡ (view receiver.pass).taken) }
+        ensures link { (sends_on self.new.end ≡ sends_on self.old.end)
+            × (receives_on result.end ≡ receives_on receiver.end) }
+        ensures same { ((view self.new.pass).put ≡ (view self.old.pass).put)
+            × ((view result.pass).taken ≡ (view receiver.pass).taken) }
         ensures beginning { StartsWith (view self.old.pass).put (view receiver.pass).taken }
     {
         let LinkSender { end, pass } = self;
@@ -88,7 +92,9 @@ impl LinkReceiver {
     /// Takes the letter that was put next, and waits for it. At `Err` nothing was taken.
     pub fn take<R: Wait>(&mut self, rt: &R) -> Result<Letter, Gone>
         ensures link { receives_on self.new.end ≡ receives_on self.old.end }
-        ensures taken { MatchResult result (λ x. (view self.new.pass).taken ≡ (view self.old.pass).taken ++ x ∷ []) (λ _. (view self.new.pass).taken ≡ (view self.old.pass).taken) }
+        ensures taken { MatchResult result
+            (λ x. (view self.new.pass).taken ≡ (view self.old.pass).taken ++ x ∷ [])
+            (λ _. (view self.new.pass).taken ≡ (view self.old.pass).taken) }
     {
         let LinkReceiver { end, pass } = self;
         match end.recv_as::<Took, R>(rt, pass) {

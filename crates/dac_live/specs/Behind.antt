@@ -1,5 +1,5 @@
--- What lies behind a site's lock, as far as its callers can tell. The lock hides which journal that is. It is some history
--- of the node from where the site's name says.
+-- What lies behind a site's lock, as far as its callers can tell. The lock hides which journal that is. It is some
+-- history of the node from where the site's name says.
 use Rattle.std.specs.Prelude.{◌≡◌, ◌≢◌, ◌⊎◌, ◌+◌, ◌<◌, ⊤, ℕ, suc, List, [], ◌∷◌, ◌++◌, length, All, Result, Err}
 use Rattle.dac_messages.specs.declared.event.Event.{Event}
 use Rattle.dac_messages.specs.declared.reply.Reply.{Reply}
@@ -37,9 +37,11 @@ NotTaken NoMemory o seat event = Stayed o (λ n. n < MAX_RECORDS)
 -- the first of these seats whose calls aren't its records: they first differ at this place
 abbrev pub SeatDiffers : ℕ → List Record → List SeatValue → Type 0
 SeatDiffers p rs [] = ⊥
-SeatDiffers p rs (s ∷ ss) = DifferAt p (calls_of s.number rs) s.calls ⊎ ((calls_of s.number rs ≡ s.calls) × SeatDiffers p rs ss)
+SeatDiffers p rs (s ∷ ss) =
+    DifferAt p (calls_of s.number rs) s.calls ⊎ ((calls_of s.number rs ≡ s.calls) × SeatDiffers p rs ss)
 
--- the first record that is of none of these seats: it stands at this place, where the first of all stands at the given one
+-- the first record that is of none of these seats: it stands at this place, where the first of all stands
+-- at the given one
 abbrev pub StrangerFrom : ℕ → ℕ → List SeatValue → List Record → Type 0
 StrangerFrom p at seats [] = ⊥
 StrangerFrom p at seats (r ∷ rs) =
@@ -49,7 +51,8 @@ StrangerFrom p at seats (r ∷ rs) =
 pub record DontMatch (o : Opening) (seats : List SeatValue) (p : ℕ) : Type 0 where
   pub records : List Record
   pub history : AreHistory o records
-  pub apart : SeatDiffers p records seats ⊎ (All (λ s. calls_of s.number records ≡ s.calls) seats × StrangerFrom p 1 seats records)
+  pub apart : SeatDiffers p records seats
+      ⊎ (All (λ s. calls_of s.number records ≡ s.calls) seats × StrangerFrom p 1 seats records)
 
 -- what the end of a site found that gives no journal
 abbrev pub NotClosed : CloseFault → Opening → List SeatValue → Type 0

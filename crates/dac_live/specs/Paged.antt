@@ -41,4 +41,5 @@ pub record DeskValue : Type 0 where
   pub page : Page
 
 abbrev pub coded_desk : Coded JournalValue → Coded Page → Coded DeskValue
-coded_desk journal page = code_by (JournalValue × Page) (coded× journal page) (λ d. (d.journal, d.page)) (λ p. record { journal = p.0; page = p.1 }) (λ _. refl)
+coded_desk journal page = code_by (JournalValue × Page) (coded× journal page) (λ d. (d.journal, d.page))
+    (λ p. record { journal = p.0; page = p.1 }) (λ _. refl)

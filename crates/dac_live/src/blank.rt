@@ -101,7 +101,8 @@ pub fn blank_site<R: Wait>(
     readers: u16,
 ) -> Result<SiteBlank, OpenFault>
     requires { 0 < seats }
-    ensures ok { IfOk result (λ b. (b.seats ≡ seats) × (b.desk.journal ≡ record { opening = opening_of config.now me last; records = [] })) }
+    ensures ok { IfOk result (λ b. (b.seats ≡ seats)
+        × (b.desk.journal ≡ record { opening = opening_of config.now me last; records = [] })) }
     ensures readers { IfOk result (λ b. vec_len b.readers ≡ readers) }
 {
     let Ok(config) = config.copy() else {

@@ -84,7 +84,8 @@ impl Desk {
     /// state.
     pub fn journal(&self) -> &Journal
         ensures value { result.now ≡ self.now.journal }
-        ensures page { self.now.page ≡ page_after self.now.journal.opening self.now.journal.records }
+        ensures page { self.now.page
+            ≡ page_after self.now.journal.opening self.now.journal.records }
     {
         &self.journal
     }
@@ -104,12 +105,16 @@ impl Desk {
     ) -> Result<(Call, Answer), NoMemory>
         requires { length self.old.journal.records < MAX_RECORDS }
         ensures opening { self.new.journal.opening ≡ self.old.journal.opening }
-        ensures ok { IfOk result (λ r. self.new.journal.records ≡ self.old.journal.records ++ record_of seat event r.1 ∷ []) }
-        ensures call { IfOk result (λ r. r.0 ≡ call_of (length self.old.journal.records + 1) event r.1) }
+        ensures ok { IfOk result (λ r. self.new.journal.records
+            ≡ self.old.journal.records ++ record_of seat event r.1 ∷ []) }
+        ensures call { IfOk result
+            (λ r. r.0 ≡ call_of (length self.old.journal.records + 1) event r.1) }
         ensures answered { IfOk result (λ r. IfErr r.1 (λ why. why ≢ Refusal.NoMemory)) }
-        ensures history { IfOk result (λ _. AreHistory self.new.journal.opening self.new.journal.records) }
+        ensures history { IfOk result
+            (λ _. AreHistory self.new.journal.opening self.new.journal.records) }
         // What readers take: the number of records, the incarnation, and the summary of the state that it leaves.
-        ensures page { self.new.page ≡ page_after self.new.journal.opening self.new.journal.records }
+        ensures page { self.new.page
+            ≡ page_after self.new.journal.opening self.new.journal.records }
         ensures unchanged { OnErr result (self.new ≡ self.old) }
     {
         let Desk {

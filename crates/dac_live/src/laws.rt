@@ -30,14 +30,19 @@ pub fn add_record<R: Wait>(
     event: Event,
 ) -> Result<(Call, Answer), LiveFault>
     ensures opening { desk.new.journal.opening ≡ desk.old.journal.opening }
-    ensures ok { IfOk result (λ r. desk.new.journal.records ≡ desk.old.journal.records ++ record_of seat event r.1 ∷ []) }
-    ensures call { IfOk result (λ r. r.0 ≡ call_of (length desk.old.journal.records + 1) event r.1) }
+    ensures ok { IfOk result (λ r. desk.new.journal.records
+        ≡ desk.old.journal.records ++ record_of seat event r.1 ∷ []) }
+    ensures call { IfOk result
+        (λ r. r.0 ≡ call_of (length desk.old.journal.records + 1) event r.1) }
     ensures answered { IfOk result (λ r. IfErr r.1 (λ why. why ≢ Refusal.NoMemory)) }
-    ensures history { IfOk result (λ _. AreHistory desk.new.journal.opening desk.new.journal.records) }
-    ensures full { (length desk.old.journal.records ≡ MAX_RECORDS) ↔ (result ≡ Err LiveFault.JournalFull) }
+    ensures history { IfOk result
+        (λ _. AreHistory desk.new.journal.opening desk.new.journal.records) }
+    ensures full { (length desk.old.journal.records ≡ MAX_RECORDS)
+        ↔ (result ≡ Err LiveFault.JournalFull) }
     ensures page { desk.new.page ≡ page_after desk.new.journal.opening desk.new.journal.records }
     ensures unchanged { OnErr result (desk.new ≡ desk.old) }
-    ensures recorded { IfErr result (λ fault. (fault ≡ LiveFault.JournalFull) ⊎ (fault ≡ LiveFault.NoMemory)) }
+    ensures recorded { IfErr result
+        (λ fault. (fault ≡ LiveFault.JournalFull) ⊎ (fault ≡ LiveFault.NoMemory)) }
 {
     if desk.journal().is_full() {
         return Err(LiveFault::JournalFull);
@@ -52,7 +57,8 @@ pub fn add_record<R: Wait>(
 /// are. Else the place at which the two first differ. It is the lesser of the two places there, or the one place
 /// where the other list has ended. Places count from 1. It takes no memory.
 pub fn same_calls(records: &[Record], seat: u16, calls: &[Call]) -> Option<u64>
-    ensures { MatchOption result (calls_of seat records.now ≡ calls.now) (λ p. DifferAt p (calls_of seat records.now) calls.now) }
+    ensures { MatchOption result (calls_of seat records.now ≡ calls.now)
+        (λ p. DifferAt p (calls_of seat records.now) calls.now) }
 {
     let mut next = 0;
     for i in 0..records.len() {

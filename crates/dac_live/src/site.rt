@@ -56,14 +56,19 @@ impl<L: SiteName> Locked<L> {
         event: Event,
     ) -> Result<Receipt<L>, LiveFault>
         ensures number { seat.new.number ≡ seat.old.number }
-        ensures ok { IfOk result (λ r. Told seat.old.calls seat.new.calls r.place event (Ok r.reply) × (r.is_new ≡ true)) }
+        ensures ok { IfOk result (λ r. Told seat.old.calls seat.new.calls r.place event (Ok r.reply)
+            × (r.is_new ≡ true)) }
         ensures err { IfErr result (λ e. ToldRefused e seat.old.calls seat.new.calls event) }
         // The journal gets the same: what the seat keeps of the call is the record.
-        ensures added { IfOk result (λ r. Added self.old.desk.journal.records self.new.desk.journal.records seat.old.number event r.place (Ok r.reply)) }
-        ensures refused { IfErr result (λ e. AddedRefused e self.old.desk.journal.records self.new.desk.journal.records seat.old.number event) }
-        ensures full { (length self.old.desk.journal.records ≡ MAX_RECORDS) ↔ (result ≡ Err LiveFault.JournalFull) }
+        ensures added { IfOk result (λ r. Added self.old.desk.journal.records
+            self.new.desk.journal.records seat.old.number event r.place (Ok r.reply)) }
+        ensures refused { IfErr result (λ e. AddedRefused e self.old.desk.journal.records
+            self.new.desk.journal.records seat.old.number event) }
+        ensures full { (length self.old.desk.journal.records ≡ MAX_RECORDS)
+            ↔ (result ≡ Err LiveFault.JournalFull) }
         ensures page { self.new.desk.page ≡ page_after L.opening self.new.desk.journal.records }
-        ensures taken { IfOk result (λ r. WentOn L.opening seat.old.number event r.place (Ok r.reply)) }
+        ensures taken { IfOk result
+            (λ r. WentOn L.opening seat.old.number event r.place (Ok r.reply)) }
         ensures not_taken { IfErr result (λ e. NotTaken e L.opening seat.old.number event) }
     {
         if self.desk.journal().is_full() {
@@ -171,7 +176,8 @@ pub fn open_site<L: SiteName, R: Wait>(
 
 // The place at which the calls of the first seat that doesn't match its records differ from them.
 fn mismatch<L: SiteName>(records: &[Record], seats: &[Seat<L>]) -> Option<u64>
-    ensures { MatchOption result (All (λ s. calls_of s.number records.now ≡ s.calls) seats.now) (λ p. SeatDiffers p records.now seats.now) }
+    ensures { MatchOption result (All (λ s. calls_of s.number records.now ≡ s.calls) seats.now)
+        (λ p. SeatDiffers p records.now seats.now) }
 {
     for seat in seats {
         if let Some(place) = same_calls(records, seat.number(), seat.calls()) {
@@ -183,7 +189,8 @@ fn mismatch<L: SiteName>(records: &[Record], seats: &[Seat<L>]) -> Option<u64>
 
 // Where among the seats the one of this number is.
 fn seat_at<L: SiteName>(seats: &[Seat<L>], number: u16) -> Option<usize>
-    ensures { MatchOption result (All (λ s. s.number ≢ number) seats.now) (λ _. IsOneOf number (λ s. s.number) seats.now) }
+    ensures { MatchOption result (All (λ s. s.number ≢ number) seats.now)
+        (λ _. IsOneOf number (λ s. s.number) seats.now) }
 {
     for i in 0..seats.len() {
         let one = &seats[i];
@@ -196,7 +203,8 @@ fn seat_at<L: SiteName>(seats: &[Seat<L>], number: u16) -> Option<usize>
 
 // The place of the first record that is none of these seats'.
 fn stranger<L: SiteName>(records: &[Record], seats: &[Seat<L>]) -> Option<u64>
-    ensures { MatchOption result (All (λ r. IsOneOf r.seat (λ s. s.number) seats.now) records.now) (λ p. StrangerFrom p 1 seats.now records.now) }
+    ensures { MatchOption result (All (λ r. IsOneOf r.seat (λ s. s.number) seats.now) records.now)
+        (λ p. StrangerFrom p 1 seats.now records.now) }
 {
     for i in 0..records.len() {
         let one = &records[i];
@@ -210,7 +218,8 @@ fn stranger<L: SiteName>(records: &[Record], seats: &[Seat<L>]) -> Option<u64>
 
 // All shares in one.
 fn merge_shares<L: SiteName>(mut seats: Vec<Seat<L>>, mut all: Share<L>) -> Share<L>
-    ensures { (result.parts ≡ all.parts + vec_len seats) × (result.amount ≡ all.amount + sum_by (λ s. length s.calls) seats.items) }
+    ensures { (result.parts ≡ all.parts + vec_len seats)
+        × (result.amount ≡ all.amount + sum_by (λ s. length s.calls) seats.items) }
 {
     while let Some(seat) = seats.pop() {
         let Seat {
@@ -240,10 +249,12 @@ impl<L: SiteName> Site<L> {
         event: Event,
     ) -> Result<Receipt<L>, LiveFault>
         ensures number { seat.new.number ≡ seat.old.number }
-        ensures ok { IfOk result (λ r. Told seat.old.calls seat.new.calls r.place event (Ok r.reply) × (r.is_new ≡ true)) }
+        ensures ok { IfOk result (λ r. Told seat.old.calls seat.new.calls r.place event (Ok r.reply)
+            × (r.is_new ≡ true)) }
         ensures err { IfErr result (λ e. ToldRefused e seat.old.calls seat.new.calls event) }
         // The answer is the model node's after some history of the site's node, and its record is the next one.
-        ensures taken { IfOk result (λ r. WentOn L.opening seat.old.number event r.place (Ok r.reply)) }
+        ensures taken { IfOk result
+            (λ r. WentOn L.opening seat.old.number event r.place (Ok r.reply)) }
         ensures not_taken { IfErr result (λ e. NotTaken e L.opening seat.old.number event) }
     {
         let mut guard = self.locked.lock(rt);
@@ -261,10 +272,13 @@ impl<L: SiteName> Site<L> {
         requires { L.seats ≡ L.parts }
         ensures opening { IfOk result (λ c. c.opening ≡ L.opening) }
         // Each seat's calls are the seat's records, with their places and in the journal's order.
-        ensures calls { IfOk result (λ c. All (λ s. calls_of s.number c.records ≡ s.calls) seats.items) }
+        ensures calls { IfOk result
+            (λ c. All (λ s. calls_of s.number c.records ≡ s.calls) seats.items) }
         // There are no other records.
-        ensures others { IfOk result (λ c. All (λ r. IsOneOf r.seat (λ s. s.number) seats.items) c.records) }
-        ensures count { IfOk result (λ c. length c.records ≡ sum_by (λ s. length s.calls) seats.items) }
+        ensures others { IfOk result
+            (λ c. All (λ r. IsOneOf r.seat (λ s. s.number) seats.items) c.records) }
+        ensures count { IfOk result
+            (λ c. length c.records ≡ sum_by (λ s. length s.calls) seats.items) }
         ensures missing { (vec_len seats ≢ L.seats) ↔ (result ≡ Err CloseFault.SeatMissing) }
         ensures mismatch { IfErr result (λ why. NotClosed why L.opening seats.items) }
     {

@@ -22,7 +22,8 @@ run_fault_text why = codes "live fault " ++ (decimal (number_of why) ++ (codes "
 
 -- journals that no run of the world has: the node and the place at which each run ends
 abbrev pub weave_fault_text : Table → NodeId → ℕ → List ℕ
-weave_fault_text table node place = codes "weave fault 1 Unwoven " ++ (node_text table node ++ (codes " " ++ (decimal place ++ codes "\n")))
+weave_fault_text table node place =
+    codes "weave fault 1 Unwoven " ++ (node_text table node ++ (codes " " ++ (decimal place ++ codes "\n")))
 
 -- the line of a fault
 abbrev pub fault_text : Table → PlayFault → List ℕ

@@ -18,9 +18,10 @@ use Rattle.dac_live_play.specs.declared.fault.PlayFault.{PlayFault}
 use Rattle.dac_live_play.specs.declared.fault.PlayFault.TheVariants as fault
 use Rattle.dac_live_play.specs.Phases.{parts_of, AsksAs}
 
--- What a run in these phases leaves: a journal and a page of each node. Each journal is a history of its node. Each record is of
--- a seat of its node. All that a link's worker asked is to hear what its shipper shipped, and all that this one asked is to ship.
--- The pages are those of the whole journals. Each caller's seat has exactly its lines as records, and was answered so.
+-- What a run in these phases leaves: a journal and a page of each node. Each journal is a history of its node. Each
+-- record is of a seat of its node. All that a link's worker asked is to hear what its shipper shipped, and all that
+-- this one asked is to ship. The pages are those of the whole journals. Each caller's seat has exactly its lines as
+-- records, and was answered so.
 pub record IsReport (table : Table) (phases : List Phase) (report : LiveReport) : Type 0 where
   pub nodes : AreNodes (node_count table) report.closed.items
   pub histories : AreTrueOf table report.closed.items

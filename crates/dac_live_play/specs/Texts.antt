@@ -33,7 +33,8 @@ outcome_text Stale = codes "stale\n"
 
 -- a line of a caller: the node, the caller's number, and what it was answered
 abbrev pub line_text : Table → Line → LineAnswer → List ℕ
-line_text table line answer = name_text (node_name table line.node) ++ (codes " " ++ (decimal line.caller ++ (codes " " ++ outcome_text answer)))
+line_text table line answer =
+    name_text (node_name table line.node) ++ (codes " " ++ (decimal line.caller ++ (codes " " ++ outcome_text answer)))
 
 -- the line is this caller's of this node
 abbrev pub is_of : NodeId → ℕ → Line → Bool
@@ -47,7 +48,8 @@ own_text table node caller line answer = if is_of node caller line then line_tex
 
 -- the lines of a caller of a node, in the order of the script
 abbrev pub caller_text : Table → List Line → List LineAnswer → NodeId → ℕ → List ℕ
-caller_text table lines answers node caller = placed_text (λ place line answer. own_text table node caller line answer) 0 lines answers
+caller_text table lines answers node caller =
+    placed_text (λ place line answer. own_text table node caller line answer) 0 lines answers
 
 -- those of a node's four callers, by their numbers
 abbrev pub callers_text : Table → List Line → List LineAnswer → NodeId → List ℕ
@@ -71,13 +73,15 @@ phase_text table number part answers =
 
 -- all phases, counted from 1
 abbrev pub phases_text : Table → List (List LiveLine) → List (List LineAnswer) → List ℕ
-phases_text table parts answers = placed_text (λ place part told. phase_text table (place + 1) part told) 0 parts answers
+phases_text table parts answers =
+    placed_text (λ place part told. phase_text table (place + 1) part told) 0 parts answers
 
 -- ---- the pages
 
 -- as what a node runs, and its page; a node that is off has none
 abbrev pub shown_text : Table → NodeId → Page → List ℕ
-shown_text table node page = header_text (node_name table node) page.origin ++ option_map_or (λ origin. page_text table page.summary) page.origin []
+shown_text table node page = header_text (node_name table node) page.origin
+    ++ option_map_or (λ origin. page_text table page.summary) page.origin []
 
 -- the page of a node, of these by their numbers
 abbrev pub last_text : Table → List Page → NodeId → List ℕ

@@ -25,7 +25,8 @@ fn put_caller(
     caller: u8,
 ) -> Result<(), NoMemory>
     requires { node.0 < node_count config.now }
-    ensures { OnOk result (text.new.items ≡ text.old.items ++ caller_text config.now lines.now answers.now node caller) }
+    ensures { OnOk result (text.new.items
+        ≡ text.old.items ++ caller_text config.now lines.now answers.now node caller) }
 {
     for place in 0..lines.len().min(answers.len()) {
         put_own(
@@ -51,7 +52,8 @@ fn put_node(
     node: NodeId,
 ) -> Result<(), NoMemory>
     requires { node.0 < node_count config.now }
-    ensures { OnOk result (text.new.items ≡ text.old.items ++ callers_text config.now lines.now answers.now node) }
+    ensures { OnOk result
+        (text.new.items ≡ text.old.items ++ callers_text config.now lines.now answers.now node) }
 {
     for caller in &CALLERS {
         put_caller(alloc, text, config, lines, answers, node, *caller)?;
@@ -67,7 +69,8 @@ fn put_asked(
     lines: &[Line],
     answers: &[LineAnswer],
 ) -> Result<(), NoMemory>
-    ensures { OnOk result (text.new.items ≡ text.old.items ++ asked_text config.now lines.now answers.now) }
+    ensures { OnOk result
+        (text.new.items ≡ text.old.items ++ asked_text config.now lines.now answers.now) }
 {
     for number in 0..config.nodes() {
         put_node(alloc, text, config, lines, answers, NodeId(number))?;
@@ -82,7 +85,8 @@ fn put_feeds(
     config: &Config,
     part: &[LiveLine],
 ) -> Result<(), NoMemory>
-    ensures { OnOk result (text.new.items ≡ text.old.items ++ flat_map (feed_text config.now) part.now) }
+    ensures { OnOk result
+        (text.new.items ≡ text.old.items ++ flat_map (feed_text config.now) part.now) }
 {
     for line in part {
         put_feed(alloc, text, config, line)?;
@@ -101,7 +105,8 @@ fn phase_lines(
 ) -> Result<Vec<u8>, NoMemory>
     requires place { place < usize.MAX }
     requires lines { lines.now ≡ lines_in part.now }
-    ensures { IfOk result (λ text. text.items ≡ phase_text config.now (place + 1) part.now answers.now) }
+    ensures { IfOk result
+        (λ text. text.items ≡ phase_text config.now (place + 1) part.now answers.now) }
 {
     let number = place + 1;
     let mut text = format!(in alloc; "phase {number}\n")?.into_bytes();
@@ -120,7 +125,10 @@ fn put_phases(
     answers: &[Vec<LineAnswer>],
 ) -> Result<(), NoMemory>
     requires { AsksAs phases.now (map (λ part. part.now) parts.now) }
-    ensures { OnOk result (text.new.items ≡ text.old.items ++ phases_text config.now (map (λ part. part.now) parts.now) (map (λ told. told.items) answers.now)) }
+    ensures { OnOk result (text.new.items
+        ≡ text.old.items
+        ++ phases_text config.now (map (λ part. part.now) parts.now)
+        (map (λ told. told.items) answers.now)) }
 {
     for place in 0..phases.len().min(answers.len()) {
         let lines = &phases[place].lines;
@@ -191,7 +199,8 @@ pub fn live_lines(
     report: &LiveReport,
 ) -> Result<Vec<u8>, NoMemory>
     requires { AsksAs phases.now (map (λ part. part.now) parts.now) }
-    ensures { IfOk result (λ text. text.items ≡ run_text config.now (map (λ part. part.now) parts.now) report.now) }
+    ensures { IfOk result
+        (λ text. text.items ≡ run_text config.now (map (λ part. part.now) parts.now) report.now) }
 {
     let mut text = Vec::new(alloc);
     put_phases(alloc, &mut text, config, parts, phases, &report.answers)?;

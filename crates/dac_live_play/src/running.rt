@@ -25,7 +25,8 @@ pub fn live_source<R: Read, W: Write, T: Threads + Wait + Sync>(
     source: &mut Source<'_, R>,
     output: &mut W,
 ) -> LiveEnding
-    ensures ends { IfSome source.old.left (λ bytes. EndsLive bytes result (W.contents output.old) (W.contents output.new)) }
+    ensures ends { IfSome source.old.left
+        (λ bytes. EndsLive bytes result (W.contents output.old) (W.contents output.new)) }
     ensures reads { IsLeftAt result source.new }
     // However it ends, no more was read than the bound and one byte.
     ensures bound { IsReadWithinBound source.old.left source.new.left }
@@ -52,7 +53,8 @@ pub fn live<R: Read, W: Write, T: Threads + Wait + Sync>(
     input: &mut R,
     output: &mut W,
 ) -> LiveEnding
-    ensures ends { IfSome (R.remaining input.old) (λ bytes. EndsLive bytes result (W.contents output.old) (W.contents output.new)) }
+    ensures ends { IfSome (R.remaining input.old)
+        (λ bytes. EndsLive bytes result (W.contents output.old) (W.contents output.new)) }
     ensures bound { IsReadWithinBound (R.remaining input.old) (R.remaining input.new) }
 {
     let mut source = Source::new(input);

@@ -65,7 +65,8 @@ pub(crate) fn put_own(
     answer: &LineAnswer,
 ) -> Result<(), NoMemory>
     requires { node.0 < node_count config.now }
-    ensures { OnOk result (text.new.items ≡ text.old.items ++ own_text config.now node caller line.now answer.now) }
+    ensures { OnOk result
+        (text.new.items ≡ text.old.items ++ own_text config.now node caller line.now answer.now) }
 {
     if !is_of(node, caller, line) {
         return Ok(());

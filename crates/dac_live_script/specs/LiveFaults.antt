@@ -44,7 +44,8 @@ IsNoCaller word = (word ≢ codes "1") × (word ≢ codes "2") × (word ≢ code
 -- for, or the words behind that have it.
 abbrev pub IsAskedWrong : Table → List (List ℕ) → ScriptFaultKind → Type 0
 IsAskedWrong table [] kind = kind ≡ BadCount
-IsAskedWrong table (word ∷ words) kind = MatchOption (asked_roles word) (kind ≡ BadWord) (λ roles. AreWrong table roles words kind)
+IsAskedWrong table (word ∷ words) kind =
+    MatchOption (asked_roles word) (kind ≡ BadWord) (λ roles. AreWrong table roles words kind)
 
 -- a line of a caller has a fault of this kind: its number has, or what is asked
 abbrev pub IsCallerWrong : Table → List ℕ → List (List ℕ) → ScriptFaultKind → Type 0
@@ -52,12 +53,14 @@ IsCallerWrong table caller words kind = ((kind ≡ BadNumber) × IsNoCaller call
 
 -- a line that begins with neither `phase` nor `feed` has a fault of this kind
 abbrev pub IsOtherWrong : Table → List ℕ → List (List ℕ) → ScriptFaultKind → Type 0
-IsOtherWrong table first words kind = ((kind ≡ BadWord) × ¬ IsForCaller first) ⊎ (IsForCaller first × IsCallerWrong table first words kind)
+IsOtherWrong table first words kind =
+    ((kind ≡ BadWord) × ¬ IsForCaller first) ⊎ (IsForCaller first × IsCallerWrong table first words kind)
 
 -- a line of these words has a fault of this kind
 abbrev pub HasFault : Table → List (List ℕ) → ScriptFaultKind → Type 0
 HasFault table [] kind = kind ≡ BadWord
-HasFault table (first ∷ words) kind = MatchOption (plain_roles first) (IsOtherWrong table first words kind) (λ roles. AreWrong table roles words kind)
+HasFault table (first ∷ words) kind =
+    MatchOption (plain_roles first) (IsOtherWrong table first words kind) (λ roles. AreWrong table roles words kind)
 
 -- a line without a fault
 abbrev pub IsFaultless : Table → List (List ℕ) → Type 0

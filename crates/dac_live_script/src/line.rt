@@ -134,7 +134,8 @@ fn deed_line(
     config: &Config,
     words: &[&[u8]],
 ) -> Result<Result<(NodeId, Option<Deed>), ScriptFaultKind>, NoMemory>
-    ensures line { IfOk result (λ said. said ≡ deed_line config.now (map (λ word. word.now) words.now)) }
+    ensures line { IfOk result
+        (λ said. said ≡ deed_line config.now (map (λ word. word.now) words.now)) }
     ensures actor { IfOk result (λ said. IfOk said (λ both. both.0.0 < node_count config.now)) }
 {
     match line_of(alloc, config, words)? {
@@ -149,7 +150,8 @@ fn tail_of(
     config: &Config,
     words: &[&[u8]],
 ) -> Result<Result<(NodeId, Option<Deed>), ScriptFaultKind>, NoMemory>
-    ensures line { IfOk result (λ said. said ≡ tail_of config.now (map (λ word. word.now) words.now)) }
+    ensures line { IfOk result
+        (λ said. said ≡ tail_of config.now (map (λ word. word.now) words.now)) }
     ensures actor { IfOk result (λ said. IfOk said (λ both. both.0.0 < node_count config.now)) }
 {
     let Some((first, rest)) = words.split_first() else {
@@ -213,9 +215,12 @@ pub fn live_line_of(
     config: &Config,
     words: &[&[u8]],
 ) -> Result<Result<LiveLine, ScriptFaultKind>, NoMemory>
-    ensures line { IfOk result (λ said. said ≡ live_line_of config.now (map (λ word. word.now) words.now)) }
-    ensures faultless { IfOk result (λ said. IfOk said (λ _. IsFaultless config.now (map (λ word. word.now) words.now))) }
-    ensures least { IfOk result (λ said. IfErr said (IsLeast (HasFault config.now (map (λ word. word.now) words.now)))) }
+    ensures line { IfOk result
+        (λ said. said ≡ live_line_of config.now (map (λ word. word.now) words.now)) }
+    ensures faultless { IfOk result
+        (λ said. IfOk said (λ _. IsFaultless config.now (map (λ word. word.now) words.now))) }
+    ensures least { IfOk result
+        (λ said. IfErr said (IsLeast (HasFault config.now (map (λ word. word.now) words.now)))) }
     ensures actors { IfOk result (λ said. IfOk said (HasActors (node_count config.now))) }
 {
     let Some((first, rest)) = words.split_first() else {

@@ -34,7 +34,8 @@ pub fn prepare_live<R: Read>(
     alloc: Global,
     source: &mut Source<'_, R>,
 ) -> Result<(Config, Vec<LiveLine>), Failure>
-    ensures says { IfOk result (λ both. IfSome source.old.left (λ bytes. SaysLiveScript bytes both.0 both.1.items)) }
+    ensures says { IfOk result
+        (λ both. IfSome source.old.left (λ bytes. SaysLiveScript bytes both.0 both.1.items)) }
     ensures actors { IfOk result (λ both. All (HasActors (node_count both.0)) both.1.items) }
     ensures fails { IfErr result (λ why. IfSome source.old.left (λ bytes. IsFailureOf bytes why)) }
     ensures reads { IsReadBy result source.new }

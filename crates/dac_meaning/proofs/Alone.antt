@@ -27,8 +27,9 @@ use Rattle.dac_wishes.specs.Votes.{VotesValue}
 use Rattle.dac_wishes.specs.laws.Votes.{same_votes}
 use Rattle.dac_wishes.specs.VoteMeaning.{says_of, vote_in, vote_delta}
 use Rattle.dac_wishes.specs.laws.VoteMeaning.{get-vote_delta}
-use Rattle.dac_wishes.specs.Writes.{Write, same_dot, same_dot_is}
-use Rattle.dac_wishes.specs.Replacing.{contains-named_by}
+use Rattle.dac_wishes.specs.Writes.{Write, same_dot}
+use Rattle.dac_wishes.specs.laws.KeyedWrites.{same_dot_is}
+use Rattle.dac_wishes.specs.laws.Replacing.{contains-named_by}
 use Rattle.dac_wishes.specs.laws.WishesValue.{same_wishes}
 use Rattle.dac_wishes.specs.PermissionsValue.{flag_of}
 use Rattle.dac_wishes.specs.WishMeaning as wish

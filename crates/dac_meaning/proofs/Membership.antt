@@ -19,7 +19,8 @@ use Rattle.dac_chains.specs.declared.claims.Claim.{Claim as ClaimValue}
 use Rattle.dac_lattice.specs.Flags.{flag_cmp}
 use Rattle.dac_lattice.specs.laws.Flags.{flags_exact}
 use Rattle.dac_lattice.specs.Chains.{IsAtMost}
-use Rattle.dac_chains.specs.Greatest.{IsGreatest, greatest_same, IsSaid}
+use Rattle.dac_chains.specs.Greatest.{IsGreatest, IsSaid}
+use Rattle.dac_chains.specs.laws.Greatest.{greatest_same}
 use Rattle.dac_chains.specs.Lives.{life_cmp}
 use Rattle.dac_chains.specs.laws.Lives.{lives_total, exact_lives}
 use Rattle.dac_chains.specs.Claims.{claim_cmp, how_cmp}
@@ -27,8 +28,8 @@ use Rattle.dac_chains.specs.laws.Claims.{claims_total, exact_claims, exact_hows}
 use Rattle.dac_wishes.specs.declared.key.Key.{Key}
 use Rattle.dac_wishes.specs.laws.Keys.{same_key_is, same_key_itself, keys_total, exact_keys}
 use Rattle.dac_wishes.specs.KeyedWrites.{KeyedWrite}
-use Rattle.dac_wishes.specs.laws.KeyedWrites.{tied_is}
-use Rattle.dac_wishes.specs.Writes.{Write, same_dot, same_dot_is, same_dot_itself}
+use Rattle.dac_wishes.specs.laws.KeyedWrites.{tied_is, same_dot_is, same_dot_itself}
+use Rattle.dac_wishes.specs.Writes.{Write, same_dot}
 use Rattle.dac_wishes.specs.PermissionsValue.{says_true}
 use Rattle.dac_wishes.specs.DrainsValue.{origin, says_drained}
 use Rattle.dac_dots.specs.laws.Dots.{origins_total, exact_origins}

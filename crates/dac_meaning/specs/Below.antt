@@ -23,7 +23,8 @@ is_within cmp (Some v) None = false
 is_within cmp (Some v) (Some w) = is_le (cmp v w)
 
 -- no key has a greater value in the first than in the second
-abbrev pub are_not_above : {K T : Type 0} {R : K → K → Ordering} → (T → T → Ordering) → map.FinMap R T → map.FinMap R T → Bool
+abbrev pub are_not_above : {K T : Type 0} {R : K → K → Ordering} → (T → T → Ordering) → map.FinMap R T → map.FinMap R T
+    → Bool
 are_not_above {K = K} cmp x y = list_all (λ (k : K). is_within cmp (map.get x k) (map.get y k)) (map.keys x)
 
 -- Up is below both, and Down below itself alone
@@ -40,7 +41,8 @@ stands_below (Some x) (Some y) = is_flag_below x y
 
 -- what stands in y and is among the dots known stands in x, with a value that isn't above
 abbrev pub votes_below : {K : Type 0} (R : K → K → Ordering) → Dots → Votes R → Votes R → Bool
-votes_below {K = K} R known x y = list_all (λ (w : KeyedWrite K). not (set.contains known w.dot) || stands_below (map.get x w) (map.get y w)) (map.keys y)
+votes_below {K = K} R known x y = list_all (λ (w : KeyedWrite K). not (set.contains known w.dot)
+    || stands_below (map.get x w) (map.get y w)) (map.keys y)
 
 -- what stands in y and x knows stands in x, with a value that isn't above
 abbrev pub permits_below : StateValue → StateValue → Bool

@@ -17,7 +17,8 @@ abbrev pub OneIsHeard : Type 0
 OneIsHeard = (o : Operation) → set.insert set.empty o.dot ≡ (meaning_of (o ∷ [])).heard
 
 abbrev pub PermitDeltaIsMeaning : Type 0
-PermitDeltaIsMeaning = (o : Operation) → permit_delta o.dot (seen_permit o.dot o.act) ≡ permissions_of (meaning_of (o ∷ []))
+PermitDeltaIsMeaning =
+    (o : Operation) → permit_delta o.dot (seen_permit o.dot o.act) ≡ permissions_of (meaning_of (o ∷ []))
 
 abbrev pub WishDeltaIsMeaning : Type 0
 WishDeltaIsMeaning = (o : Operation) → wish_delta o.dot (seen_wish o.dot o.act) ≡ wishes_of (meaning_of (o ∷ []))

@@ -62,11 +62,11 @@ is_replaced d os = list_any (replaces d) os
 abbrev pub Stands : Dot → List Operation → Type 0
 Stands d os = (o : Operation) → In o os → replaces d o ≡ false
 
--- the dots of the operations
+-- The dots of the operations: a dot is heard exactly if an operation has it.
 abbrev pub heard_of : List Operation → Dots
 heard_of os = set.from_list (list_map (λ (o : Operation). o.dot) os)
 
--- these, and each dot that an operation replaces
+-- These, and each dot that an operation replaces: a dot is known exactly if an operation has it or replaces it.
 abbrev pub known_of : List Operation → Dots
 known_of os = set.from_list (flat_map (λ (o : Operation). o.dot ∷ over_list o.act) os)
 
@@ -77,9 +77,10 @@ abbrev pub starts_in : Dot → Act → List Write
 starts_in d (Start key over) = write key d ∷ []
 starts_in d _ = []
 
--- the start wishes that stand
+-- The start wishes that stand: a wish does exactly if an operation is it and none replaces it.
 abbrev pub starts_of : List Operation → Writes
-starts_of os = set.retain (set.from_list (flat_map (λ (o : Operation). starts_in o.dot o.act) os)) (λ (w : Write). not (is_replaced w.dot os))
+starts_of os = set.retain (set.from_list (flat_map (λ (o : Operation). starts_in o.dot o.act) os))
+    (λ (w : Write). not (is_replaced w.dot os))
 
 -- ---- votes: what says yes or no of a key
 
@@ -88,14 +89,14 @@ abbrev pub is_same : Bool → Bool → Bool
 is_same true v = v
 is_same false v = not v
 
--- what is said, from whether what is Down and whether what is Up; operations that have their dots alone don't say both of
--- one vote
+-- What is said of a vote: Down if the value that is Down is said, else Up if the other is. Operations of which no two
+-- have one dot don't say both.
 abbrev pub flag_said : Bool → Bool → Option Flag
 flag_said true b = Some Down
 flag_said false true = Some Up
 flag_said false false = None
 
--- a vote says this of the key
+-- what an act says, if it is a vote, is this value of this key
 abbrev pub told : {K : Type 0} → (K → K → Ordering) → K → Bool → Option (K × Bool) → Bool
 told R key v None = false
 told R key v (Some u) = eq_by_cmp R key u.0 && is_same u.1 v
@@ -125,7 +126,7 @@ module _ {K : Type 0} (R : K → K → Ordering) (vote : Act → Option (K × Bo
     abbrev pub vote_at : List Operation → KeyedWrite K → Option Flag
     vote_at os w = if is_replaced w.dot os then None else vote_said w os
 
-    -- the votes that stand
+    -- The votes that stand. One stands with a value exactly if an operation is it with this value and none replaces it.
     abbrev pub votes_of : List Operation → Votes R
     votes_of os = table (keyed_write_cmp R) (flat_map (λ (o : Operation). told_in o.dot (vote o.act)) os) (vote_at os)
 
@@ -152,7 +153,7 @@ said = vote_said key_cmp permit_vote false
 abbrev pub permit_at : List Operation → Write → Option Flag
 permit_at = vote_at key_cmp permit_vote false
 
--- the permits that stand
+-- The permits that stand: one does, with a value, exactly if an operation says so of its key and none replaces it.
 abbrev pub permits_of : List Operation → Permits
 permits_of = votes_of key_cmp permit_vote false
 
@@ -167,7 +168,8 @@ drain_vote _ = None
 abbrev pub drain_at : List Operation → DrainWrite → Option Flag
 drain_at = vote_at origin_cmp drain_vote true
 
--- the drains that stand
+-- The drains that stand: one does, with a value, exactly if an operation says so of its incarnation
+-- and none replaces it.
 abbrev pub standing_drains : List Operation → Drains
 standing_drains = votes_of origin_cmp drain_vote true
 
@@ -178,7 +180,8 @@ abbrev pub pairs : List Operation → List (Dot × Act)
 pairs os = list_map (λ (o : Operation). (o.dot, o.act)) os
 
 -- at each key the greatest of what the operations say of it
-abbrev pub greatest_of : {K T : Type 0} {R : K → K → Ordering} → (T → T → Ordering) → (Dot → Act → Option (K × T)) → List Operation → map.FinMap R T
+abbrev pub greatest_of : {K T : Type 0} {R : K → K → Ordering} → (T → T → Ordering) → (Dot → Act → Option (K × T))
+    → List Operation → map.FinMap R T
 greatest_of cmp tells os = joined (greater cmp) map.empty (λ d a. alone (tells d a)) (pairs os)
 
 -- what an act says of which node's life
@@ -189,19 +192,28 @@ life_said d a = said_life d (seen_life a)
 abbrev pub claim_said : Dot → Act → Option (AppId × ClaimValue)
 claim_said d a = said_claim d (seen_claim a)
 
--- the life of each node
+-- The life of each node: the greatest that an operation says of it, an Up that it is up and a Down that it is down.
 abbrev pub lives_of : List Operation → Lives
 lives_of os = greatest_of life_cmp life_said os
 
--- the greatest claim of each application
+-- The claim of each application: the greatest of those that operations make of it.
 abbrev pub claims_of : List Operation → Claims
 claims_of os = greatest_of claim_cmp claim_said os
 
 -- ---- all parts
 
--- a set of operations as a state
+-- A set of operations as a state. Its parts are said in words at each function above, and `MeaningLaws`
+-- has them as laws.
 unfoldable pub meaning_of : List Operation → StateValue
-meaning_of os = record { heard = heard_of os; known = known_of os; permits = permits_of os; starts = starts_of os; lives = lives_of os; claims = claims_of os; drains = standing_drains os }
+meaning_of os = record {
+  heard = heard_of os;
+  known = known_of os;
+  permits = permits_of os;
+  starts = starts_of os;
+  lives = lives_of os;
+  claims = claims_of os;
+  drains = standing_drains os;
+}
 
 -- the operation has this dot, or replaces it
 abbrev pub names : Dot → Operation → Bool

@@ -1,5 +1,5 @@
--- Which side outweighs in the order of states: of the votes of one dot that two states give different values, the greater
--- state has the one that drains, or the one that forbids. It is said in the words of drained and permitted.
+-- Which side outweighs in the order of states: of the votes of one dot that two states give different values, the
+-- greater state has the one that drains, or the one that forbids. It is said in the words of drained and permitted.
 use Rattle.std.specs.Prelude.{◌≡◌, Bool, true, false, is_some}
 use Rattle.std.specs.FinMap as map
 use Rattle.dac_dots.specs.declared.dot.Dot.{Dot}
@@ -12,11 +12,13 @@ use Rattle.dac_meaning.specs.StateValue.{StateValue, IsState, IsBelow, permissio
 
 -- each drain of the incarnation that stands in x stands in y too
 abbrev pub KeepsDrains : Origin → StateValue → StateValue → Type 0
-KeepsDrains at x y = (d : Dot) → is_some (map.get x.drains (keyed_write at d)) ≡ true → is_some (map.get y.drains (keyed_write at d)) ≡ true
+KeepsDrains at x y = (d : Dot) → is_some (map.get x.drains (keyed_write at d)) ≡ true
+    → is_some (map.get y.drains (keyed_write at d)) ≡ true
 
 -- each permit of the key that stands in x stands in y too
 abbrev pub KeepsPermits : Key → StateValue → StateValue → Type 0
-KeepsPermits key x y = (d : Dot) → is_some (map.get x.permits (keyed_write key d)) ≡ true → is_some (map.get y.permits (keyed_write key d)) ≡ true
+KeepsPermits key x y = (d : Dot) → is_some (map.get x.permits (keyed_write key d)) ≡ true
+    → is_some (map.get y.permits (keyed_write key d)) ≡ true
 
 -- What is drained stays drained in a greater state, as long as none of its drains is replaced.
 abbrev pub DrainedStays : Type 0

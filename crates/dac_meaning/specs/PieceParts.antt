@@ -24,16 +24,23 @@ abbrev pub as_seen : {A : Type 0} → (Dot → Act → A) → List Operation →
 as_seen sees os = list_map (λ (o : Operation). (o.dot, sees o.dot o.act)) os
 
 abbrev pub PermitsAreJoined : Type 0
-PermitsAreJoined = (os : List Operation) → Agree os → joined join_permissions no_permissions permit_delta (as_seen seen_permit os) ≡ permissions_of (meaning_of os)
+PermitsAreJoined = (os : List Operation) → Agree os
+    → joined join_permissions no_permissions permit_delta (as_seen seen_permit os) ≡ permissions_of (meaning_of os)
 
 abbrev pub WishesAreJoined : Type 0
-WishesAreJoined = (os : List Operation) → Agree os → joined join_wishes no_wishes wish_delta (as_seen seen_wish os) ≡ wishes_of (meaning_of os)
+WishesAreJoined = (os : List Operation) → Agree os
+    → joined join_wishes no_wishes wish_delta (as_seen seen_wish os) ≡ wishes_of (meaning_of os)
 
 abbrev pub DrainsAreJoined : Type 0
-DrainsAreJoined = (os : List Operation) → Agree os → joined join_drains no_drains drain_delta (as_seen seen_drain os) ≡ drains_of (meaning_of os)
+DrainsAreJoined = (os : List Operation) → Agree os
+    → joined join_drains no_drains drain_delta (as_seen seen_drain os) ≡ drains_of (meaning_of os)
 
 abbrev pub LivesAreJoined : Type 0
-LivesAreJoined = (os : List Operation) → Agree os → joined (greater life_cmp) map.empty (λ d a. alone (said_life d a)) (as_seen (λ _ a. seen_life a) os) ≡ (meaning_of os).lives
+LivesAreJoined = (os : List Operation) → Agree os
+    → joined (greater life_cmp) map.empty (λ d a. alone (said_life d a)) (as_seen (λ _ a. seen_life a) os)
+    ≡ (meaning_of os).lives
 
 abbrev pub ClaimsAreJoined : Type 0
-ClaimsAreJoined = (os : List Operation) → Agree os → joined (greater claim_cmp) map.empty (λ d a. alone (said_claim d a)) (as_seen (λ _ a. seen_claim a) os) ≡ (meaning_of os).claims
+ClaimsAreJoined = (os : List Operation) → Agree os
+    → joined (greater claim_cmp) map.empty (λ d a. alone (said_claim d a)) (as_seen (λ _ a. seen_claim a) os)
+    ≡ (meaning_of os).claims

@@ -77,7 +77,15 @@ pub record IsBelow (x y : StateValue) : Type 0 where
 
 -- nothing heard
 abbrev pub bottom : StateValue
-bottom = record { heard = set.empty; known = set.empty; permits = map.empty; starts = set.empty; lives = map.empty; claims = map.empty; drains = map.empty }
+bottom = record {
+  heard = set.empty;
+  known = set.empty;
+  permits = map.empty;
+  starts = set.empty;
+  lives = map.empty;
+  claims = map.empty;
+  drains = map.empty;
+}
 
 -- two states together, part by part
 unfoldable pub join : StateValue → StateValue → StateValue

@@ -49,12 +49,14 @@ reply_by t me last (Some r) noted e = (deed_of t r noted e).reply
 
 -- what an accepted event leaves
 abbrev pub left_by : Table → NodeId → ℕ → Option RunValue → List (Option Noted) → Event → NodeValue
-left_by t me last None noted e = record { last = last + 1; run = Some (booted t (record { node = me; inc = last + 1 }) (moment_of e)) }
+left_by t me last None noted e =
+    record { last = last + 1; run = Some (booted t (record { node = me; inc = last + 1 }) (moment_of e)) }
 left_by t me last (Some r) noted e = record { last = last; run = run_by r noted (deed_of t r noted e) }
 
 -- where the event notes which claims are lost, this is noted by then: the notes before and one more
 abbrev pub IsNoting : Table → RunValue → List (Option Noted) → Event → Type 0
-IsNoting t r noted e = (deed_of t r noted e).notes ≡ true → (notes : List Note) → r.waits ≡ waits_of t notes → noted ≡ waits_of t (note_of r.state e ∷ notes)
+IsNoting t r noted e = (deed_of t r noted e).notes ≡ true → (notes : List Note) → r.waits ≡ waits_of t notes
+    → noted ≡ waits_of t (note_of r.state e ∷ notes)
 
 -- the same of a node that may be off; one that is off notes nothing
 abbrev pub IsNotingBy : Table → Option RunValue → List (Option Noted) → Event → Type 0
@@ -67,7 +69,8 @@ pub record AreNewest (k : Kept StateValue) : Type 0 where
   pub few : length k.deltas ≤ MAX_DELTAS
 
 -- the event isn't refused, and the node goes on to this value with this reply
-pub record AcceptedAs (t : Table) (me : NodeId) (old : NodeValue) (e : Event) (new : NodeValue) (answer : Reply) : Type 0 where
+pub record AcceptedAs (t : Table) (me : NodeId) (old : NodeValue) (e : Event) (new : NodeValue)
+    (answer : Reply) : Type 0 where
   pub accepted : refusal_of t old e ≡ None
   pub newest : IfSome old.run (λ (r : RunValue). AreNewest r.kept)
   pub state : IfSome old.run (λ (r : RunValue). IsState r.state)

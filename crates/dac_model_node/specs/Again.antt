@@ -5,7 +5,7 @@ use Rattle.dac_base.specs.declared.AppId.{AppId}
 use Rattle.dac_operations.specs.Operations.{Operation}
 use Rattle.dac_meaning.specs.StateValue.{IsState}
 use Rattle.dac_config.specs.Table.{Table}
-use Rattle.dac_ticks.specs.laws.Again.{IsAmong}
+use Rattle.dac_ticks.specs.Again.{IsAmong}
 use Rattle.dac_messages.specs.declared.event.Event.TheVariants.{Tick}
 use Rattle.dac_messages.specs.declared.reply.Reply.{Reply}
 use Rattle.dac_messages.specs.declared.reply.Reply.TheVariants.{Ticked}
@@ -21,10 +21,13 @@ HoldsState d = IfSome d.run (λ (r : ModelRun). IsState (joined r.log))
 -- Nothing is claimed, and no application is passed but some of these. Or the counters that a tick is taken to need
 -- are left no more.
 abbrev pub ClaimsNothing : List AppId → Result Reply Refusal → Type 0
-ClaimsNothing passed answer = (answer ≡ Err DotsUsedUp) ⊎ ((later : List AppId) × ((answer ≡ Ok (Ticked [] later)) × ((app : AppId) → IsAmong app later → IsAmong app passed)))
+ClaimsNothing passed answer = (answer ≡ Err DotsUsedUp)
+    ⊎ ((later : List AppId)
+    × ((answer ≡ Ok (Ticked [] later)) × ((app : AppId) → IsAmong app later → IsAmong app passed)))
 
 -- After a tick by which a node looked after its applications, a second one at the same moment claims nothing.
 abbrev pub SecondTickClaimsNothing : Type 0
-SecondTickClaimsNothing = (t : Table) (me : NodeId) (d : ModelNode) (now : ℕ) (ops : List Operation) (passed : List AppId)
+SecondTickClaimsNothing =
+    (t : Table) (me : NodeId) (d : ModelNode) (now : ℕ) (ops : List Operation) (passed : List AppId)
     → HoldsState d → (model_step t me d (Tick now)).answer ≡ Ok (Ticked ops passed)
     → ClaimsNothing passed (model_step t me (model_step t me d (Tick now)).node (Tick now)).answer

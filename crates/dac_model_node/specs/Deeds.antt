@@ -42,11 +42,20 @@ pub record Deed : Type 0 where
 
 -- a reply and some states, and nothing else
 abbrev pub keeps : RunValue → Reply → List StateValue → Deed
-keeps r reply adds = record { reply = reply; adds = adds; goes_off = false; last = r.moments.last; is_open = r.is_open; notes = false; peers = r.peers; trim = 0 }
+keeps r reply adds = record {
+  reply = reply;
+  adds = adds;
+  goes_off = false;
+  last = r.moments.last;
+  is_open = r.is_open;
+  notes = false;
+  peers = r.peers;
+  trim = 0;
+}
 
 -- the node goes down
 abbrev pub goes_down : RunValue → Reply → Deed
-goes_down r reply = record { reply = reply; adds = []; goes_off = true; last = r.moments.last; is_open = r.is_open; notes = false; peers = r.peers; trim = 0 }
+goes_down r reply = record (keeps r reply []) { goes_off = true }
 
 -- an operation is issued
 abbrev pub issues : RunValue → Operation → Deed
@@ -56,7 +65,8 @@ issues r o = keeps r (Issued o) (meaning_of (o ∷ []) ∷ [])
 -- state where there is no place to begin
 abbrev pub body_from : RunValue → Option Place → Body
 body_from r None = Whole r.state
-body_from r (Some p) = cond (has_all r.kept.count (Some p)) Nothing (Interval (fold join bottom (numbered_from r.kept p.number)))
+body_from r (Some p) =
+    cond (has_all r.kept.count (Some p)) Nothing (Interval (fold join bottom (numbered_from r.kept p.number)))
 
 -- the message that is shipped to a node
 abbrev pub message_of : RunValue → NodeId → Message
@@ -66,7 +76,7 @@ message_of r to =
 
 -- the message is shipped, and the node is owed no answer any more
 abbrev pub ships : RunValue → NodeId → Deed
-ships r to = record { reply = Shipped (message_of r to); adds = []; goes_off = false; last = r.moments.last; is_open = r.is_open; notes = false; peers = shipped_to r.peers to; trim = 0 }
+ships r to = record (keeps r (Shipped (message_of r to)) []) { peers = shipped_to r.peers to }
 
 -- a state comes to another: it is added unless it is below
 abbrev pub brings : StateValue → StateValue → List StateValue
@@ -82,13 +92,7 @@ hears_message t r m =
     let body = content_of m.body in
     let adds = brings r.state body in
     let peers = heard_from r.origin r.kept.count r.peers m in
-    record {
-      reply = Heard (not (is_below body r.state));
-      adds = adds;
-      goes_off = false;
-      last = r.moments.last;
-      is_open = r.is_open;
-      notes = false;
+    record (keeps r (Heard (not (is_below body r.state))) adds) {
       peers = peers;
       trim = acked_by_all peers (fold join r.state adds) (node_count t) r.origin.node;
     }
@@ -99,11 +103,12 @@ meanings os = map (λ (o : Operation). meaning_of (o ∷ [])) os
 
 -- the applications are looked after
 abbrev pub looks_after : RunValue → ℕ → Turn → Deed
-looks_after r now turn = record { reply = Ticked turn.ops turn.passed; adds = meanings turn.ops; goes_off = false; last = now; is_open = true; notes = true; peers = r.peers; trim = 0 }
+looks_after r now turn =
+    record (keeps r (Ticked turn.ops turn.passed) (meanings turn.ops)) { last = now; is_open = true; notes = true }
 
 -- the node still waits for others
 abbrev pub holds_back : RunValue → ℕ → Deed
-holds_back r now = record { reply = Held; adds = []; goes_off = false; last = now; is_open = false; notes = false; peers = r.peers; trim = 0 }
+holds_back r now = record (keeps r Held []) { last = now; is_open = false }
 
 -- a tick, where the gate answers so
 abbrev pub ticks_by : Opening → Table → RunValue → List (Option Noted) → ℕ → Deed
@@ -115,7 +120,8 @@ ticks_by Opened t r noted now = looks_after r now (turn_of t r.origin noted now 
 abbrev pub opening_at : Table → RunValue → ℕ → Opening
 opening_at t r now = cond r.is_open Opened (opening_of t r.state (now - r.moments.booted))
 
--- What an accepted event does at a running node, where so much is noted by then if the event notes anything. (A running node never accepts a boot.)
+-- What an accepted event does at a running node, where so much is noted by then if the event notes anything. (A running
+-- node never accepts a boot.)
 abbrev pub deed_of : Table → RunValue → List (Option Noted) → Event → Deed
 deed_of t r noted (Boot now) = keeps r (Heard false) []
 deed_of t r noted Crash = goes_down r Crashed

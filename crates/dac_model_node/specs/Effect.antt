@@ -34,4 +34,5 @@ pub record HasEffect (t : Table) (old : NodeValue) (e : Event) (reply : Reply) (
 
 -- so each accepted event does
 abbrev pub EventsTakeEffect : Type 0
-EventsTakeEffect = (t : Table) (me : NodeId) (old : NodeValue) (e : Event) (new : NodeValue) (reply : Reply) → AcceptedAs t me old e new reply → HasEffect t old e reply new
+EventsTakeEffect = (t : Table) (me : NodeId) (old : NodeValue) (e : Event) (new : NodeValue) (reply : Reply)
+    → AcceptedAs t me old e new reply → HasEffect t old e reply new

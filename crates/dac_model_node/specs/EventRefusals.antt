@@ -35,7 +35,8 @@ too_many_deltas r more = nat_lt MAX_COUNTER (r.kept.count + more)
 
 -- why a running node doesn't tick, if it doesn't
 abbrev pub causes_to_tick : Table → RunValue → ℕ → List (Bool × Refusal)
-causes_to_tick t r now = (declared_down r.origin r.state, DeclaredDown) ∷ (nat_lt now r.moments.last, MomentBack) ∷ (too_few_left t r.state r.origin || too_many_deltas r (needed t), DotsUsedUp) ∷ []
+causes_to_tick t r now = (declared_down r.origin r.state, DeclaredDown) ∷ (nat_lt now r.moments.last, MomentBack) ∷
+    (too_few_left t r.state r.origin || too_many_deltas r (needed t), DotsUsedUp) ∷ []
 
 -- the first of these causes that there is
 abbrev pub refusal_to_tick : Table → RunValue → ℕ → Option Refusal
@@ -43,7 +44,8 @@ refusal_to_tick t r now = first (causes_to_tick t r now)
 
 -- why a running node doesn't ship, if it doesn't
 abbrev pub refusal_to_ship : Table → RunValue → NodeId → Option Refusal
-refusal_to_ship t r to = first ((no_node t to, UnknownNode) ∷ (nat_eq to.0 r.origin.node.0, OnSelf) ∷ (is_up_to_date r.peers r.state r.kept.base r.kept.count to, UpToDate) ∷ [])
+refusal_to_ship t r to = first ((no_node t to, UnknownNode) ∷ (nat_eq to.0 r.origin.node.0, OnSelf) ∷
+    (is_up_to_date r.peers r.state r.kept.base r.kept.count to, UpToDate) ∷ [])
 
 -- the message is for this incarnation: for its node, and for no other incarnation alone
 abbrev pub is_for : Origin → Message → Bool
@@ -55,7 +57,8 @@ overflows r body = not (is_below body r.state) && too_many_deltas r 1
 
 -- why a running node doesn't hear a message, if it doesn't
 abbrev pub causes_to_hear : RunValue → Message → List (Bool × Refusal)
-causes_to_hear r m = (nat_eq m.from.node.0 r.origin.node.0, OnSelf) ∷ (not (is_for r.origin m), NotForMe) ∷ (overflows r (content_of m.body), DotsUsedUp) ∷ []
+causes_to_hear r m = (nat_eq m.from.node.0 r.origin.node.0, OnSelf) ∷ (not (is_for r.origin m), NotForMe) ∷
+    (overflows r (content_of m.body), DotsUsedUp) ∷ []
 
 -- the first of these causes that there is
 abbrev pub refusal_to_hear : RunValue → Message → Option Refusal
@@ -72,7 +75,8 @@ otherwise (Some why) other = Some why
 
 -- why a running node doesn't do what a command says, if it doesn't
 abbrev pub refusal_to_obey : Table → RunValue → Command → Option Refusal
-refusal_to_obey t r c = otherwise (refusal_of_command t r.origin r.state c) (first ((too_many_deltas r 1, DotsUsedUp) ∷ []))
+refusal_to_obey t r c =
+    otherwise (refusal_of_command t r.origin r.state c) (first ((too_many_deltas r 1, DotsUsedUp) ∷ []))
 
 -- why a running node refuses an event, if it does
 abbrev pub refusal_on : Table → RunValue → Event → Option Refusal

@@ -26,4 +26,5 @@ dots_brought _ reply = dots_issued reply
 
 -- where the node runs before and after, it has heard exactly what it had and what the event brought
 pub record HearsExactly (old : NodeValue) (e : Event) (reply : Reply) (new : NodeValue) : Type 0 where
-  pub each : (s t : StateValue) → state_of old ≡ Some s → state_of new ≡ Some t → t.heard ≡ set.union s.heard (dots_brought e reply)
+  pub each : (s t : StateValue) → state_of old ≡ Some s → state_of new ≡ Some t
+      → t.heard ≡ set.union s.heard (dots_brought e reply)

@@ -26,9 +26,11 @@ abbrev pub is_open_after : Bool → Reply → Bool
 is_open_after was (Ticked ops passed) = true
 is_open_after was _ = was
 
--- Which claims are noted as lost. A tick that looks after the applications adds a note of what it found to all notes before. Nothing else notes anything, a tick that is held or a takeover neither.
+-- Which claims are noted as lost. A tick that looks after the applications adds a note of what it found to all notes
+-- before. Nothing else notes anything, a tick that is held or a takeover neither.
 abbrev pub AreWaitsAfter : Table → RunValue → Event → Reply → List (Option Noted) → Type 0
-AreWaitsAfter t r (Tick now) (Ticked ops passed) waits = (notes : List Note) → r.waits ≡ waits_of t notes → waits ≡ waits_of t (record { state = r.state; moment = now } ∷ notes)
+AreWaitsAfter t r (Tick now) (Ticked ops passed) waits = (notes : List Note) → r.waits ≡ waits_of t notes
+    → waits ≡ waits_of t (record { state = r.state; moment = now } ∷ notes)
 AreWaitsAfter t r e reply waits = waits ≡ r.waits
 
 -- what comes from elsewhere
@@ -45,7 +47,8 @@ deltas_in e (Ticked ops passed) = list_map (λ (o : Operation). meaning_of (o �
 deltas_in e (Heard fresh) = cond fresh (comes_in e) []
 deltas_in e _ = []
 
--- What is kept of peers: a ship and a message that comes change it, as `dac_peers` says in words, and nothing else does.
+-- What is kept of peers: a ship and a message that comes change it, as `dac_peers` says in words,
+-- and nothing else does.
 abbrev pub peers_after : RunValue → Event → PeersValue
 peers_after r (Ship to) = shipped_to r.peers to
 peers_after r (Hear m) = heard_from r.origin r.kept.count r.peers m
@@ -94,9 +97,11 @@ LeavesRunning t r e Crashed run = run ≡ None
 LeavesRunning t r e GaveUp run = run ≡ None
 LeavesRunning t r e reply run = Some! run (RunsOn t r e reply)
 
--- A node that is off comes up by a boot alone, as the incarnation after the last. One that runs keeps the number of its incarnation.
+-- A node that is off comes up by a boot alone, as the incarnation after the last. One that runs keeps the
+-- number of its incarnation.
 abbrev pub KeepsBy : Table → NodeId → ℕ → Option RunValue → Event → Reply → NodeValue → Type 0
-KeepsBy t me last None (Boot now) (Booted o) new = (new.last ≡ last + 1) × Some! new.run (ComesUp t (record { node = me; inc = last + 1 }) now o)
+KeepsBy t me last None (Boot now) (Booted o) new =
+    (new.last ≡ last + 1) × Some! new.run (ComesUp t (record { node = me; inc = last + 1 }) now o)
 KeepsBy t me last None e reply new = ⊥
 KeepsBy t me last (Some r) e reply new = (new.last ≡ last) × LeavesRunning t r e reply new.run
 

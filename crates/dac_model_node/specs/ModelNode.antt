@@ -40,7 +40,15 @@ joined states = fold join bottom states
 
 -- the program's node that it shows as, under a configuration
 abbrev pub run_shown : Table → ModelRun → RunValue
-run_shown t r = record { origin = r.origin; moments = r.moments; is_open = r.is_open; waits = waits_of t r.notes; state = joined r.log; kept = kept_of r.base r.log; peers = r.peers }
+run_shown t r = record {
+  origin = r.origin;
+  moments = r.moments;
+  is_open = r.is_open;
+  waits = waits_of t r.notes;
+  state = joined r.log;
+  kept = kept_of r.base r.log;
+  peers = r.peers;
+}
 
 -- and so the whole node is shown: the number of its last incarnation is the same
 abbrev pub shown : Table → ModelNode → NodeValue

@@ -38,7 +38,8 @@ pub record NodeValue : Type 0 where
 
 -- two moments
 abbrev pub coded_moments : Coded Moments
-coded_moments = code_by (ℕ × ℕ) (coded× coded_ℕ coded_ℕ) (λ m. (m.booted, m.last)) (λ p. record { booted = p.0; last = p.1 }) (λ _. refl)
+coded_moments = code_by (ℕ × ℕ) (coded× coded_ℕ coded_ℕ) (λ m. (m.booted, m.last))
+    (λ p. record { booted = p.0; last = p.1 }) (λ _. refl)
 
 -- the deltas that are kept
 abbrev pub coded_kept : Coded (Kept StateValue)
@@ -62,7 +63,8 @@ coded_run =
 
 -- the whole node
 abbrev pub coded_node_value : Coded NodeValue
-coded_node_value = code_by (ℕ × Option RunValue) (coded× coded_ℕ (coded_option coded_run)) (λ v. (v.last, v.run)) (λ p. record { last = p.0; run = p.1 }) (λ _. refl)
+coded_node_value = code_by (ℕ × Option RunValue) (coded× coded_ℕ (coded_option coded_run)) (λ v. (v.last, v.run))
+    (λ p. record { last = p.0; run = p.1 }) (λ _. refl)
 
 -- ---- a node as it is
 

@@ -33,11 +33,15 @@ use Rattle.dac_model_node.specs.Shipping.{IsPlace}
 
 abbrev pub causes_of_command : Command → List Refusal
 causes_of_command (Down node) = Off ∷ DeclaredDown ∷ UnknownNode ∷ OnSelf ∷ NotLive ∷ DotsUsedUp ∷ []
-causes_of_command (Permit app node value) = Off ∷ DeclaredDown ∷ UnknownApp ∷ UnknownNode ∷ NotInList ∷ NotLive ∷ TooManyDots ∷ DotsUsedUp ∷ []
-causes_of_command (Start app node) = Off ∷ DeclaredDown ∷ UnknownApp ∷ UnknownNode ∷ NotInList ∷ NotLive ∷ TooManyDots ∷ DotsUsedUp ∷ []
-causes_of_command (Stop app node) = Off ∷ DeclaredDown ∷ UnknownApp ∷ UnknownNode ∷ NotInList ∷ NotLive ∷ NotStarted ∷ TooManyDots ∷ DotsUsedUp ∷ []
+causes_of_command (Permit app node value) =
+    Off ∷ DeclaredDown ∷ UnknownApp ∷ UnknownNode ∷ NotInList ∷ NotLive ∷ TooManyDots ∷ DotsUsedUp ∷ []
+causes_of_command (Start app node) =
+    Off ∷ DeclaredDown ∷ UnknownApp ∷ UnknownNode ∷ NotInList ∷ NotLive ∷ TooManyDots ∷ DotsUsedUp ∷ []
+causes_of_command (Stop app node) =
+    Off ∷ DeclaredDown ∷ UnknownApp ∷ UnknownNode ∷ NotInList ∷ NotLive ∷ NotStarted ∷ TooManyDots ∷ DotsUsedUp ∷ []
 causes_of_command (Drain node value) = Off ∷ DeclaredDown ∷ UnknownNode ∷ NotLive ∷ TooManyDots ∷ DotsUsedUp ∷ []
-causes_of_command (Takeover app) = Off ∷ DeclaredDown ∷ UnknownApp ∷ NotInList ∷ NotEligible ∷ NotRunning ∷ AlreadyHolder ∷ LowerPriority ∷ TermsUsedUp ∷ DotsUsedUp ∷ []
+causes_of_command (Takeover app) = Off ∷ DeclaredDown ∷ UnknownApp ∷ NotInList ∷ NotEligible ∷ NotRunning ∷
+    AlreadyHolder ∷ LowerPriority ∷ TermsUsedUp ∷ DotsUsedUp ∷ []
 
 abbrev pub causes_of_event : Event → List Refusal
 causes_of_event (Boot now) = AlreadyOn ∷ IncarnationsUsedUp ∷ []
@@ -82,8 +86,8 @@ LacksNumbers r more = MAX_COUNTER < r.kept.count + more
 abbrev pub LacksFor : RunValue → ℕ → Type 0
 LacksFor r count = LeavesFewer r.state.known r.origin count ⊎ LacksNumbers r count
 
--- The counters or the numbers of deltas that are left are too few. A tick is taken to need one for each application
--- and one at least, whatever it does. A command needs one. What a message brings, and an operation that comes by itself,
+-- The counters or the numbers of deltas that are left are too few. A tick is taken to need one for each application and
+-- one at least, whatever it does. A command needs one. What a message brings, and an operation that comes by itself,
 -- needs a number where it is new.
 abbrev pub Lacks : Table → RunValue → Event → Type 0
 Lacks t r (Told c) = IsUsedUp r.state.known r.origin ⊎ LacksNumbers r 1
@@ -133,7 +137,8 @@ HoldsOfCommand t own s (Takeover app) NotInList = group_of t app own.node ≡ No
 HoldsOfCommand t own s (Takeover app) NotEligible = ¬ IsEligible t s app own.node
 HoldsOfCommand t own s (Takeover app) NotRunning = (node : NodeId) → ¬ RunsAt t s app node
 HoldsOfCommand t own s (Takeover app) AlreadyHolder = RunsAt t s app own.node
-HoldsOfCommand t own s (Takeover app) LowerPriority = (runner : NodeId) × (RunsAt t s app runner × IsEarlier t app runner own.node)
+HoldsOfCommand t own s (Takeover app) LowerPriority =
+    (runner : NodeId) × (RunsAt t s app runner × IsEarlier t app runner own.node)
 HoldsOfCommand t own s (Takeover app) TermsUsedUp = HasLastTerm s app
 HoldsOfCommand t own s c why = ⊥
 
@@ -191,7 +196,8 @@ IsAnsweredBy t v e why = IsRefused t v e why ⊎ ((why ≡ NoMemory) × IsFree t
 
 -- what refuses an event is the least of the causes that hold
 abbrev pub AnswersTheLeast : Type 0
-AnswersTheLeast = (t : Table) (v : NodeValue) (e : Event) (why : Refusal) → refusal_of t v e ≡ Some why → IsRefused t v e why
+AnswersTheLeast =
+    (t : Table) (v : NodeValue) (e : Event) (why : Refusal) → refusal_of t v e ≡ Some why → IsRefused t v e why
 
 -- where nothing refuses an event, no cause of it holds
 abbrev pub RefusesNoOther : Type 0

@@ -30,13 +30,17 @@ pub record IsPlace (r : RunValue) (to : NodeId) (p : Place) : Type 0 where
 -- the place alone. It is what the log got from the place on, or nothing where the log ends there.
 abbrev pub IsBody : Table → ModelRun → NodeId → Option ℕ → Body → Type 0
 IsBody t r to only (Whole s) = (only ≡ None) × ((s ≡ joined r.log) × ((p : Place) → ¬ IsPlace (run_shown t r) to p))
-IsBody t r to only (Interval s) = (p : Place) × (IsPlace (run_shown t r) to p × ((only ≡ Some p.inc) × ((p.number < length r.log) × (s ≡ joined (drop p.number r.log)))))
-IsBody t r to only Nothing = (p : Place) × (IsPlace (run_shown t r) to p × ((only ≡ Some p.inc) × (length r.log ≤ p.number)))
+IsBody t r to only (Interval s) = (p : Place)
+    × (IsPlace (run_shown t r) to p
+    × ((only ≡ Some p.inc) × ((p.number < length r.log) × (s ≡ joined (drop p.number r.log)))))
+IsBody t r to only Nothing =
+    (p : Place) × (IsPlace (run_shown t r) to p × ((only ≡ Some p.inc) × (length r.log ≤ p.number)))
 
 -- the place in its deltas up to which something was got from a node last, if anything was
 abbrev pub IsReceipt : ModelRun → NodeId → Option (Origin × ℕ) → Type 0
 IsReceipt r node None = map.get r.peers.got node ≡ None
-IsReceipt r node (Some ack) = (ack.0.node ≡ node) × (map.get r.peers.got node ≡ Some (record { inc = ack.0.inc; number = ack.1 }))
+IsReceipt r node (Some ack) =
+    (ack.0.node ≡ node) × (map.get r.peers.got node ≡ Some (record { inc = ack.0.inc; number = ack.1 }))
 
 -- what a running node ships to another
 pub record IsShipped (t : Table) (r : ModelRun) (node : NodeId) (m : Message) : Type 0 where
@@ -59,4 +63,5 @@ ShipsSo t old e reply = (d : ModelNode) → shown t d ≡ old → ShipsBy t d.ru
 
 -- whatever the model node answers to a ship that it accepts is such a message
 abbrev pub ShipsInWords : Type 0
-ShipsInWords = (t : Table) (me : NodeId) (d : ModelNode) (e : Event) (reply : Reply) → (model_step t me d e).answer ≡ Ok reply → ShipsBy t d.run e reply
+ShipsInWords = (t : Table) (me : NodeId) (d : ModelNode) (e : Event) (reply : Reply)
+    → (model_step t me d e).answer ≡ Ok reply → ShipsBy t d.run e reply

@@ -24,7 +24,15 @@ up own = operation (dot own 1) Up
 
 -- a node that comes up as this incarnation at this moment
 abbrev pub comes_up : Origin → ℕ → ModelRun
-comes_up own now = record { origin = own; moments = record { booted = now; last = now }; is_open = false; notes = []; log = meaning_of (up own ∷ []) ∷ []; base = 0; peers = no_peers }
+comes_up own now = record {
+  origin = own;
+  moments = record { booted = now; last = now };
+  is_open = false;
+  notes = [];
+  log = meaning_of (up own ∷ []) ∷ [];
+  base = 0;
+  peers = no_peers;
+}
 
 -- what runs after a deed, with this note if it notes
 abbrev pub goes_on : ModelRun → Note → Deed → Option ModelRun
@@ -52,7 +60,10 @@ abbrev pub accepted : Table → NodeId → ℕ → Option ModelRun → Event →
 accepted t me last None e =
     let own : Origin = record { node = me; inc = last + 1 } in
     record { node = record { last = last + 1; run = Some (comes_up own (moment_of e)) }; answer = Ok (Booted (up own)) }
-accepted t me last (Some r) e = record { node = record { last = last; run = goes_on r (note_of (joined r.log) e) (deed_on t r e) }; answer = Ok (deed_on t r e).reply }
+accepted t me last (Some r) e = record {
+  node = record { last = last; run = goes_on r (note_of (joined r.log) e) (deed_on t r e) };
+  answer = Ok (deed_on t r e).reply;
+}
 
 -- a step, where this refuses the event, if anything does
 abbrev pub step_by : Option Refusal → Table → NodeId → ModelNode → Event → Stepped
@@ -64,8 +75,10 @@ abbrev pub model_step : Table → NodeId → ModelNode → Event → Stepped
 model_step t me d e = step_by (refusal_of t (shown t d) e) t me d e
 
 -- From old, the program's node answers and goes on to new as each model node that shows as old.
-pub record Steps (t : Table) (me : NodeId) (old : NodeValue) (e : Event) (new : NodeValue) (answer : Result Reply Refusal) : Type 0 where
-  pub by : (d : ModelNode) → shown t d ≡ old → (shown t (model_step t me d e).node ≡ new) × ((model_step t me d e).answer ≡ answer)
+pub record Steps (t : Table) (me : NodeId) (old : NodeValue) (e : Event) (new : NodeValue)
+    (answer : Result Reply Refusal) : Type 0 where
+  pub by : (d : ModelNode) → shown t d ≡ old
+      → (shown t (model_step t me d e).node ≡ new) × ((model_step t me d e).answer ≡ answer)
 
 -- some model node shows as the value
 abbrev pub IsShown : Table → NodeValue → Type 0

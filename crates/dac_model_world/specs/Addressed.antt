@@ -7,7 +7,8 @@ use Rattle.dac_messages.specs.declared.reply.Reply.{Reply}
 use Rattle.dac_messages.specs.declared.reply.Reply.TheVariants.{Shipped}
 use Rattle.dac_events.specs.declared.world_fault.WorldFault.{WorldFault}
 
--- A message is the answer to a ship at the node that it is from to the node that it is for. A ship that isn't refused has no other answer.
+-- A message is the answer to a ship at the node that it is from to the node that it is for. A ship that isn't refused
+-- has no other answer.
 abbrev pub IsAddressed : WorldEvent → Result Reply WorldFault → Type 0
 IsAddressed e (Err fault) = Unit {0}
 IsAddressed e (Ok (Shipped m)) = (e.what ≡ Ships m.to) × (m.from.node ≡ e.node)

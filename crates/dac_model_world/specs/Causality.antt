@@ -111,6 +111,9 @@ pub record IsCausal (v : WorldValue) (sets : SetWorld) : Type 0 where
   pub closed : (n : NodeId) (held : NodeSet) → sets.node n ≡ Some held → IsClosed sets held.operations
   pub vector : (n : ℕ) (s : StateValue) → RunsWith v n s → IsVector s.heard
   pub known : (n : ℕ) (s : StateValue) → RunsWith v n s → s.heard ≡ s.known
-  pub permits : (n : ℕ) (s : StateValue) (held : NodeSet) → RunsHolding v sets n s held → (key : Key) (d : Dot) → PermitStands s key d ↔ IsDotOfOne (IsMaximalPermit sets held.operations key) d
-  pub starts : (n : ℕ) (s : StateValue) (held : NodeSet) → RunsHolding v sets n s held → (key : Key) (d : Dot) → StartStands s key d ↔ IsDotOfOne (IsMaximalStart sets held.operations key) d
-  pub drains : (n : ℕ) (s : StateValue) (held : NodeSet) → RunsHolding v sets n s held → (at : Origin) (d : Dot) → DrainStands s at d ↔ IsDotOfOne (IsMaximalDrain sets held.operations at) d
+  pub permits : (n : ℕ) (s : StateValue) (held : NodeSet) → RunsHolding v sets n s held → (key : Key) (d : Dot)
+      → PermitStands s key d ↔ IsDotOfOne (IsMaximalPermit sets held.operations key) d
+  pub starts : (n : ℕ) (s : StateValue) (held : NodeSet) → RunsHolding v sets n s held → (key : Key) (d : Dot)
+      → StartStands s key d ↔ IsDotOfOne (IsMaximalStart sets held.operations key) d
+  pub drains : (n : ℕ) (s : StateValue) (held : NodeSet) → RunsHolding v sets n s held → (at : Origin) (d : Dot)
+      → DrainStands s at d ↔ IsDotOfOne (IsMaximalDrain sets held.operations at) d

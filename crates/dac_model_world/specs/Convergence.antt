@@ -62,8 +62,10 @@ origin_by n held = record { node = n; inc = held.inc }
 -- Each node runs exactly where it has a set in the world of sets. Its state is that set's meaning, and its
 -- incarnation is that set's
 pub record HoldsSets (v : WorldValue) (sets : SetWorld) : Type 0 where
-  pub each : (n : ℕ) (x : NodeValue) → slice_get v.nodes n ≡ Some x → state_of x ≡ option_map state_by (sets.node (numbered n))
-  pub incarnation : (n : ℕ) (x : NodeValue) → slice_get v.nodes n ≡ Some x → origin_of x ≡ option_map (origin_by (numbered n)) (sets.node (numbered n))
+  pub each : (n : ℕ) (x : NodeValue) → slice_get v.nodes n ≡ Some x
+      → state_of x ≡ option_map state_by (sets.node (numbered n))
+  pub incarnation : (n : ℕ) (x : NodeValue) → slice_get v.nodes n ≡ Some x
+      → origin_of x ≡ option_map (origin_by (numbered n)) (sets.node (numbered n))
 
 -- The operations of the world are those of the issues of the world of sets, in order. There is a copy for each
 -- message
@@ -73,4 +75,5 @@ pub record ListsAll (v : WorldValue) (sets : SetWorld) : Type 0 where
 
 -- each message carries the meaning of a set of issued operations
 pub record CarryMeanings (v : WorldValue) : Type 0 where
-  pub each : (k : ℕ) (m : Message) → slice_get v.messages k ≡ Some m → (os : List Operation) × (Within os v.operations × (content_of m.body ≡ meaning_of os))
+  pub each : (k : ℕ) (m : Message) → slice_get v.messages k ≡ Some m
+      → (os : List Operation) × (Within os v.operations × (content_of m.body ≡ meaning_of os))

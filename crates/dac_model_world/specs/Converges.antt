@@ -20,10 +20,12 @@ use Rattle.dac_model_world.specs.Causality.{HandsNothing, IsCausal}
 use Rattle.dac_model_world.specs.Records.{HaveHistories}
 
 -- what these events, answered so, leave in the program's world
-pub record Converges (t : Table) (events : List WorldEvent) (answers : List (Result Reply WorldFault)) (v : WorldValue) : Type 0 where
+pub record Converges (t : Table) (events : List WorldEvent) (answers : List (Result Reply WorldFault))
+    (v : WorldValue) : Type 0 where
   -- each running controller's state is the meaning of the issued operations whose dots it has heard
   pub headline : EachIsMeaning v
-  -- so controllers that heard the same set hold equal states and bytes, and name the same holder and the same next candidate
+  -- so controllers that heard the same set hold equal states and bytes, and name the same holder and
+  -- the same next candidate
   pub agree : Agrees v
   -- merging two states gives their least upper bound, whatever states they are
   pub merging : IsLattice IsState IsBelow join
@@ -33,8 +35,8 @@ pub record Converges (t : Table) (events : List WorldEvent) (answers : List (Res
   pub sets : HoldsSets v (set_run no_sets events answers)
   -- what was issued is what the world of sets lists, and it has a copy for each message
   pub listed : ListsAll v (set_run no_sets events answers)
-  -- What a node issues is of its present incarnation, whose operations have the counters 1, 2, 3 and so on. A boot issues
-  -- one Up, the first operation of an incarnation of its node that is later than all before.
+  -- What a node issues is of its present incarnation, whose operations have the counters 1, 2, 3 and so on. A boot
+  -- issues one Up, the first operation of an incarnation of its node that is later than all before.
   pub issued : TellIssued no_sets events answers
   -- each shipped message carries the meaning of a set of issued operations
   pub bodies : CarryMeanings v
@@ -48,13 +50,14 @@ pub record Converges (t : Table) (events : List WorldEvent) (answers : List (Res
   pub heard : HearsAllThatFits no_sets no_deltas events answers
   -- each ship that isn't refused is answered by a message to the node that it names
   pub addressed : AreAddressed events answers
-  -- A ship that is refused as up to date is to a node that has all of the sender's set, while it runs as the incarnation
-  -- of its life there.
+  -- A ship that is refused as up to date is to a node that has all of the sender's set, while it runs as the
+  -- incarnation of its life there.
   pub up_to_date : TellUpToDate no_sets events answers
-  -- So each share leaves all running nodes the union of what they had, if each knew the present incarnation of each other
-  -- one, or nothing of its life. In a share each running node tells each other one all that it has.
+  -- So each share leaves all running nodes the union of what they had, if each knew the present incarnation of each
+  -- other one, or nothing of its life. In a share each running node tells each other one all that it has.
   pub shares : SharesUnite events answers
-  -- where no single operation is handed, each controller has heard what is causally before what it heard, and the maximal writes stand
+  -- where no single operation is handed, each controller has heard what is causally before what it heard, and
+  -- the maximal writes stand
   pub causal : HandsNothing events answers → IsCausal v (set_run no_sets events answers)
   -- what happened at each controller is a history of it, from never booted to where the run leaves it
   pub histories : HaveHistories t events answers v

@@ -35,14 +35,16 @@ shown_world t w = record {
 abbrev pub IsEnough : List (Result Reply WorldFault) → Type 0
 IsEnough answers = AllByRecursion (λ (answer : Result Reply WorldFault). ¬ (answer ≡ out_of_memory)) answers
 
--- of each list this holds: of the configuration, the events, their answers from the start, and what the world after them
--- shows as
+-- of each list this holds: of the configuration, the events, their answers from the start, and what the world
+-- after them shows as
 abbrev pub OfEachList : (Table → List WorldEvent → List (Result Reply WorldFault) → WorldValue → Type 0) → Type 0
-OfEachList P = (t : Table) (events : List WorldEvent) → P t events (answers_of t (start t) events) (shown_world t (model_run t events))
+OfEachList P = (t : Table) (events : List WorldEvent)
+    → P t events (answers_of t (start t) events) (shown_world t (model_run t events))
 
 -- the model's run of each list is a run
 abbrev pub RunsEachList : Type 0
-RunsEachList = (t : Table) (events : List WorldEvent) → Run t (start t) events (answers_of t (start t) events) (model_run t events)
+RunsEachList =
+    (t : Table) (events : List WorldEvent) → Run t (start t) events (answers_of t (start t) events) (model_run t events)
 
 -- each model world shows as some world of the program
 abbrev pub IsShownWorld : Type 0

@@ -57,10 +57,12 @@ IsFull deltas a = (a ≡ Err (Refused DotsUsedUp)) × (MAX_COUNTER ≤ deltas)
 
 -- what fits a running node is heard, unless memory is refused or its numbers of deltas are used up
 abbrev pub HearsWhatFits : SetWorld → (NodeId → ℕ) → WorldEvent → Result Reply WorldFault → Type 0
-HearsWhatFits w deltas e a = RunsIn w e.node → Fits w e.node e.what → IsHeard a ⊎ ((a ≡ out_of_memory) ⊎ IsFull (deltas e.node) a)
+HearsWhatFits w deltas e a =
+    RunsIn w e.node → Fits w e.node e.what → IsHeard a ⊎ ((a ≡ out_of_memory) ⊎ IsFull (deltas e.node) a)
 
 -- so are these events, one after another, where the nodes have so many deltas
 abbrev pub HearsAllThatFits : SetWorld → (NodeId → ℕ) → List WorldEvent → List (Result Reply WorldFault) → Type 0
 HearsAllThatFits w deltas [] answers = Unit {0}
 HearsAllThatFits w deltas (e ∷ es) [] = Unit {0}
-HearsAllThatFits w deltas (e ∷ es) (a ∷ answers) = HearsWhatFits w deltas e a × HearsAllThatFits (set_step w e.node e.what a) (deltas_with deltas e.node a) es answers
+HearsAllThatFits w deltas (e ∷ es) (a ∷ answers) =
+    HearsWhatFits w deltas e a × HearsAllThatFits (set_step w e.node e.what a) (deltas_with deltas e.node a) es answers

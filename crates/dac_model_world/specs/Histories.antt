@@ -20,4 +20,5 @@ pub record Entry : Type 0 where
 -- Each answer is the step's, one after another from d, and the node comes to final. It boots as node me.
 abbrev pub IsHistory : Table → NodeId → ModelNode → List Entry → ModelNode → Type 0
 IsHistory t me d [] final = final ≡ d
-IsHistory t me d (x ∷ xs) final = ((model_step t me d x.event).answer ≡ x.answer) × IsHistory t me (model_step t me d x.event).node xs final
+IsHistory t me d (x ∷ xs) final =
+    ((model_step t me d x.event).answer ≡ x.answer) × IsHistory t me (model_step t me d x.event).node xs final

@@ -14,8 +14,8 @@ use Rattle.dac_events.specs.declared.world_fault.WorldFault.{WorldFault}
 use Rattle.dac_model_world.specs.SetWorld.{SetWorld, NodeSet, operations_of, set_step}
 use Rattle.dac_model_world.specs.Convergence.{origin_by}
 
--- After these operations were issued, node n comes up by this one. It is an Up, and the first operation of an incarnation that is
--- later than each of the node that issued any.
+-- After these operations were issued, node n comes up by this one. It is an Up, and the first operation of an
+-- incarnation that is later than each of the node that issued any.
 pub record IsBoot (n : NodeId) (before : List Operation) (o : Operation) : Type 0 where
   pub act : o.act ≡ Up
   pub inc : ℕ

@@ -96,7 +96,8 @@ happens_by t w n (Ok e) = answered_by w n (model_step t n (w.node n) e).node (mo
 
 -- one event of the world
 abbrev pub happens : Table → ModelWorld → WorldEvent → WorldStepped
-happens t w e = cond (nat_lt e.node.0 w.count) (happens_by t w e.node (event_of w.operations w.messages e.what)) (record { world = w; answer = Err NoSuchNode })
+happens t w e = cond (nat_lt e.node.0 w.count) (happens_by t w e.node (event_of w.operations w.messages e.what))
+    (record { world = w; answer = Err NoSuchNode })
 
 -- ---- runs
 -- the answer where memory is refused
@@ -109,7 +110,8 @@ pub record Done (by : WorldStepped) (answer : Result Reply WorldFault) (next : M
   pub went_on : next ≡ by.world
 
 -- Memory was refused for an event that would have been accepted: it is no event. A crash takes none.
-pub record Lacked (w : ModelWorld) (by : WorldStepped) (answer : Result Reply WorldFault) (next : ModelWorld) : Type 0 where
+pub record Lacked (w : ModelWorld) (by : WorldStepped) (answer : Result Reply WorldFault)
+    (next : ModelWorld) : Type 0 where
   pub answered : answer ≡ out_of_memory
   pub accepted : IsOk by.answer
   pub wants : by.answer ≡ Ok Crashed → ⊥
@@ -151,16 +153,20 @@ abbrev pub Run : Table → ModelWorld → List WorldEvent → List (Result Reply
 Run t w es answers final = AnsweredAs t w es answers × (final ≡ world_after t w es answers)
 
 -- From old, the program's world answers and goes on to new as each model world that shows as old may.
-pub record Follows (t : Table) (old : WorldValue) (by : ModelWorld → WorldStepped) (answer : Result Reply WorldFault) (new : WorldValue) : Type 0 where
+pub record Follows (t : Table) (old : WorldValue) (by : ModelWorld → WorldStepped) (answer : Result Reply WorldFault)
+    (new : WorldValue) : Type 0 where
   pub each : (w : ModelWorld) → Shows t w old → (next : ModelWorld) × (Step w (by w) answer next × Shows t next new)
 
 -- The program's world answered these events so, one after another from the start, and is where the model world comes
 -- to by them.
-pub record RanAs (t : Table) (events : List WorldEvent) (answers : List (Result Reply WorldFault)) (v : WorldValue) : Type 0 where
+pub record RanAs (t : Table) (events : List WorldEvent) (answers : List (Result Reply WorldFault))
+    (v : WorldValue) : Type 0 where
   pub final : ModelWorld
   pub run : Run t (start t) events answers final
   pub shows : Shows t final v
 
--- of each run from the start this holds: of the configuration, its events, its answers and where the program's world is after it
+-- of each run from the start this holds: of the configuration, its events, its answers and where the program's
+-- world is after it
 abbrev pub InEachRun : (Table → List WorldEvent → List (Result Reply WorldFault) → WorldValue → Type 0) → Type 0
-InEachRun P = (t : Table) (events : List WorldEvent) (answers : List (Result Reply WorldFault)) (v : WorldValue) → RanAs t events answers v → P t events answers v
+InEachRun P = (t : Table) (events : List WorldEvent) (answers : List (Result Reply WorldFault)) (v : WorldValue)
+    → RanAs t events answers v → P t events answers v

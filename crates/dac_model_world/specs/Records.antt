@@ -32,7 +32,8 @@ recorded (Some answer) (Ok e) = (record { event = e; answer = answer }) ∷ []
 
 -- what node n records of one event of the world w
 abbrev pub records_of : NodeId → ModelWorld → WorldEvent → Result Reply WorldFault → List Entry
-records_of n w e answer = cond (nat_eq n.0 e.node.0) (recorded (own_answer answer) (event_of w.operations w.messages e.what)) []
+records_of n w e answer =
+    cond (nat_eq n.0 e.node.0) (recorded (own_answer answer) (event_of w.operations w.messages e.what)) []
 
 -- what node n records of these events with these answers, one after another from w
 abbrev pub records_at : Table → NodeId → ModelWorld → List WorldEvent → List (Result Reply WorldFault) → List Entry
@@ -42,10 +43,12 @@ records_at t n w (e ∷ es) (a ∷ answers) = records_of n w e a ++ records_at t
 
 -- What a node records of a run from the start is a history of it, from never booted to where the run leaves it.
 abbrev pub RecordsAreHistories : Type 0
-RecordsAreHistories = (t : Table) (events : List WorldEvent) (answers : List (Result Reply WorldFault)) (final : ModelWorld) → Run t (start t) events answers final
+RecordsAreHistories = (t : Table) (events : List WorldEvent) (answers : List (Result Reply WorldFault))
+    (final : ModelWorld) → Run t (start t) events answers final
     → (n : NodeId) → IsHistory t n (off_after 0) (records_at t n (start t) events answers) (final.node n)
 
 -- of each node of the program's world: where the history that it records comes to shows as it
-pub record HaveHistories (t : Table) (events : List WorldEvent) (answers : List (Result Reply WorldFault)) (v : WorldValue) : Type 0 where
+pub record HaveHistories (t : Table) (events : List WorldEvent) (answers : List (Result Reply WorldFault))
+    (v : WorldValue) : Type 0 where
   pub each : (n : ℕ) (x : NodeValue) → slice_get v.nodes n ≡ Some x
       → (d : ModelNode) × (IsHistory t (numbered n) (off_after 0) (records_at t (numbered n) (start t) events answers) d × (shown t d ≡ x))

@@ -31,7 +31,8 @@ pub record Copy : Type 0 where
   pub only : Option ℕ
   pub operations : List Operation
 
--- each node's set, where it runs, and, the oldest first, each operation that was ever issued and each copy that was ever shipped
+-- each node's set, where it runs, and, the oldest first, each operation that was ever issued and each copy
+-- that was ever shipped
 pub record SetWorld : Type 0 where
   pub node : NodeId → Option NodeSet
   pub issued : List Issue
@@ -72,11 +73,19 @@ operations_of issues = list_map (λ (i : Issue). i.operation) issues
 
 -- the operation is issued by the boot of node n, whose set is that operation
 abbrev pub booting : SetWorld → NodeId → Operation → SetWorld
-booting w n o = record { node = with_set w.node n (Some (record { inc = o.dot.origin.inc; operations = o ∷ [] })); issued = w.issued ++ issues_of [] (o ∷ []); copies = w.copies }
+booting w n o = record {
+  node = with_set w.node n (Some (record { inc = o.dot.origin.inc; operations = o ∷ [] }));
+  issued = w.issued ++ issues_of [] (o ∷ []);
+  copies = w.copies;
+}
 
 -- the operations are issued at node n, which adds them to its set
 abbrev pub issuing : SetWorld → NodeId → List Operation → SetWorld
-issuing w n os = record { node = with_set w.node n (united (w.node n) os); issued = w.issued ++ issues_of (held_by (w.node n)) os; copies = w.copies }
+issuing w n os = record {
+  node = with_set w.node n (united (w.node n) os);
+  issued = w.issued ++ issues_of (held_by (w.node n)) os;
+  copies = w.copies;
+}
 
 -- node n is off from then on
 abbrev pub going_off : SetWorld → NodeId → SetWorld
@@ -123,8 +132,10 @@ set_step w n what (Ok GaveUp) = going_off w n
 set_step w n what (Ok Held) = w
 set_step w n what (Ok (Issued o)) = issuing w n (o ∷ [])
 set_step w n what (Ok (Ticked ops passed)) = issuing w n ops
-set_step w n what (Ok (Shipped m)) = record { node = w.node; issued = w.issued; copies = w.copies ++ copied_by (w.node n) n m }
-set_step w n what (Ok (Heard fresh)) = record { node = with_set w.node n (united (w.node n) (brought_to w n what)); issued = w.issued; copies = w.copies }
+set_step w n what (Ok (Shipped m)) =
+    record { node = w.node; issued = w.issued; copies = w.copies ++ copied_by (w.node n) n m }
+set_step w n what (Ok (Heard fresh)) =
+    record { node = with_set w.node n (united (w.node n) (brought_to w n what)); issued = w.issued; copies = w.copies }
 
 -- these events with their answers, one after another
 abbrev pub set_run : SetWorld → List WorldEvent → List (Result Reply WorldFault) → SetWorld

@@ -21,7 +21,8 @@ use Rattle.dac_model_world.specs.Fits.{RunsIn, IsHeard}
 abbrev pub IsHeardAt : NodeId → ℕ → List WorldEvent → List (Result Reply WorldFault) → Type 0
 IsHeardAt n k [] answers = ⊥
 IsHeardAt n k (e ∷ es) [] = ⊥
-IsHeardAt n k (e ∷ es) (a ∷ answers) = ((e ≡ record { node = n; what = Deliver k }) × IsHeard a) ⊎ IsHeardAt n k es answers
+IsHeardAt n k (e ∷ es) (a ∷ answers) =
+    ((e ≡ record { node = n; what = Deliver k }) × IsHeard a) ⊎ IsHeardAt n k es answers
 
 -- A ship to node n was answered so. It is refused as up to date, or its message, which is of this number, is heard in
 -- the events after it.
@@ -86,8 +87,8 @@ pub record HaveUnion (w next : SetWorld) : Type 0 where
   pub runs : (n : NodeId) (held : NodeSet) → w.node n ≡ Some held → HasUnion w held.inc (next.node n)
   pub off : (n : NodeId) → w.node n ≡ None → next.node n ≡ None
 
--- Wherever a share is among these events, it leaves all running nodes the union of what they had, if each knew the present
--- incarnation of each other one, or nothing of its life. The share is the k events after the first b.
+-- Wherever a share is among these events, it leaves all running nodes the union of what they had, if each knew the
+-- present incarnation of each other one, or nothing of its life. The share is the k events after the first b.
 abbrev pub SharesUnite : List WorldEvent → List (Result Reply WorldFault) → Type 0
 SharesUnite events answers = (b k : ℕ) →
     let w = set_run no_sets (take b events) (take b answers) in

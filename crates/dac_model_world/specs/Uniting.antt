@@ -1,4 +1,5 @@
--- That what is shipped is the sender's whole set, and what is delivered is united with it, whatever part of it a message carries.
+-- That what is shipped is the sender's whole set, and what is delivered is united with it, whatever part of
+-- it a message carries.
 use Rattle.std.specs.Prelude.{◌≡◌, ℕ, true, List, [], ◌∷◌, ◌++◌, Some, Result, Ok}
 use Rattle.dac_base.specs.declared.NodeId.{NodeId}
 use Rattle.dac_operations.specs.Operations.{Operation}
@@ -17,7 +18,8 @@ use Rattle.dac_model_world.specs.SetWorld.{SetWorld, NodeSet, Copy, and_more, is
 pub record IsPut (w : SetWorld) (n : NodeId) (m : Message) (next : SetWorld) : Type 0 where
   pub held : NodeSet
   pub on : w.node n ≡ Some held
-  pub after : next.copies ≡ w.copies ++ (record { from = n; to = m.to; only = m.only; operations = held.operations }) ∷ []
+  pub after : next.copies
+      ≡ w.copies ++ (record { from = n; to = m.to; only = m.only; operations = held.operations }) ∷ []
 
 -- node n runs, the copy of this number is for it, and its set is the one before together with all of the copy's
 pub record IsUnited (w : SetWorld) (n : NodeId) (number : ℕ) (next : SetWorld) : Type 0 where

@@ -19,7 +19,8 @@ pub record HasAll (w : SetWorld) (from to : NodeId) : Type 0 where
   pub on : w.node from ≡ Some mine
   pub life : Life
   pub known : map.get (meaning_of mine.operations).lives to ≡ Some life
-  pub has : (theirs : NodeSet) → w.node to ≡ Some theirs → theirs.inc ≡ life.inc → Within mine.operations theirs.operations
+  pub has : (theirs : NodeSet) → w.node to ≡ Some theirs → theirs.inc ≡ life.inc
+      → Within mine.operations theirs.operations
 
 -- a ship that is refused as up to date is to a node that has all
 abbrev pub TellsUpToDate : SetWorld → WorldEvent → Result Reply WorldFault → Type 0

@@ -9,12 +9,15 @@ use Rattle.dac_model_world.specs.WorldValue.{WorldValue}
 use Rattle.dac_model_world.specs.ModelWorld.{issued_by, shipped_by}
 
 -- of these nodes one changes, to what it becomes
-pub record NodeChanges (before : List NodeValue) (node : NodeId) (become : NodeValue → NodeValue) (after : List NodeValue) : Type 0 where
+pub record NodeChanges (before : List NodeValue) (node : NodeId) (become : NodeValue → NodeValue)
+    (after : List NodeValue) : Type 0 where
   pub count : length after ≡ length before
-  pub each : (n : ℕ) → slice_get after n ≡ cond (nat_eq n node.0) (option_map become (slice_get before n)) (slice_get before n)
+  pub each : (n : ℕ)
+      → slice_get after n ≡ cond (nat_eq n node.0) (option_map become (slice_get before n)) (slice_get before n)
 
 -- from v the world goes on to u: one node changes, and what its reply issues and ships is noted
-pub record Goes (v : WorldValue) (node : NodeId) (become : NodeValue → NodeValue) (own given : Reply) (u : WorldValue) : Type 0 where
+pub record Goes (v : WorldValue) (node : NodeId) (become : NodeValue → NodeValue) (own given : Reply)
+    (u : WorldValue) : Type 0 where
   pub reply : given ≡ own
   pub nodes : NodeChanges v.nodes node become u.nodes
   pub operations : u.operations ≡ v.operations ++ issued_by own

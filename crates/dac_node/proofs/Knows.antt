@@ -5,7 +5,7 @@ use Rattle.std.specs.FinSet as set
 use Rattle.dac_dots.specs.declared.dot.Origin.{Origin}
 use Rattle.dac_dots.specs.Dots.{dot}
 use Rattle.dac_dots.specs.laws.Dots.{dots_total}
-use Rattle.dac_wishes.specs.Writes.{same_dot_itself}
+use Rattle.dac_wishes.specs.laws.KeyedWrites.{same_dot_itself}
 use Rattle.dac_meaning.specs.StateValue.{StateValue, bottom, join}
 use Rattle.dac_meaning.specs.laws.StateLaws.{known-join}
 use Rattle.dac_meaning.specs.Meaning.{meaning_of}

@@ -36,11 +36,26 @@ coded_knowledge =
 
 -- what runs with this knowledge and these deltas
 abbrev pub run_of : KnowledgeValue → Kept StateValue → RunValue
-run_of k kept = record { origin = k.origin; moments = k.moments; is_open = k.is_open; waits = k.waits; state = k.state; kept = kept; peers = k.peers }
+run_of k kept = record {
+  origin = k.origin;
+  moments = k.moments;
+  is_open = k.is_open;
+  waits = k.waits;
+  state = k.state;
+  kept = kept;
+  peers = k.peers;
+}
 
 -- what such a node knows
 abbrev pub knowledge_of : RunValue → KnowledgeValue
-knowledge_of r = record { origin = r.origin; moments = r.moments; is_open = r.is_open; waits = r.waits; state = r.state; peers = r.peers }
+knowledge_of r = record {
+  origin = r.origin;
+  moments = r.moments;
+  is_open = r.is_open;
+  waits = r.waits;
+  state = r.state;
+  peers = r.peers;
+}
 
 -- what goes on after an event: what the node knows by then, and the deltas that come. With them comes the number
 -- below which no delta is kept any more
@@ -57,11 +72,25 @@ coded_next =
 
 -- the knowledge of a node that comes up as this incarnation at this moment
 abbrev pub knows_at_boot : Table → Origin → ℕ → KnowledgeValue
-knows_at_boot t own now = record { origin = own; moments = record { booted = now; last = now }; is_open = false; waits = waits_of t []; state = join bottom (meaning_of (up own ∷ [])); peers = no_peers }
+knows_at_boot t own now = record {
+  origin = own;
+  moments = record { booted = now; last = now };
+  is_open = false;
+  waits = waits_of t [];
+  state = join bottom (meaning_of (up own ∷ []));
+  peers = no_peers;
+}
 
 -- the knowledge once states are joined and this is kept of peers
 abbrev pub joining : KnowledgeValue → List StateValue → PeersValue → KnowledgeValue
-joining k states peers = record { origin = k.origin; moments = k.moments; is_open = k.is_open; waits = k.waits; state = fold join k.state states; peers = peers }
+joining k states peers = record {
+  origin = k.origin;
+  moments = k.moments;
+  is_open = k.is_open;
+  waits = k.waits;
+  state = fold join k.state states;
+  peers = peers;
+}
 
 -- so it goes on once states come
 abbrev pub adding : KnowledgeValue → List StateValue → PeersValue → NextValue

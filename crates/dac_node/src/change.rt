@@ -145,7 +145,8 @@ impl Change {
 
     /// What a ship that isn't refused does at a running controller.
     fn ship(last: u64, run: &Running, to: NodeId) -> Result<Self, NoMemory>
-        ensures { IfOk result (λ change. (t : Table) → Effect t last run.now (Event.Ship to) change) }
+        ensures { IfOk result
+            (λ change. (t : Table) → Effect t last run.now (Event.Ship to) change) }
     {
         let message = run.message_to(to)?;
         let next = run.shipped_to(to)?;
@@ -168,9 +169,13 @@ impl Change {
 
     /// What an operation that comes by itself does at a running controller.
     pub(crate) fn hear_op(last: u64, run: &Running, operation: &Op) -> Result<Self, NoMemory>
-        ensures effect { IfOk result (λ change. (t : Table) → Effect t last run.now (Event.HearOp operation.now) change) }
-        ensures after { IfOk result (λ change. change.after ≡ After.GoesOn (hearing (knowledge_of run.now) (meaning_of (operation.now ∷ [])) run.now.peers)) }
-        ensures reply { IfOk result (λ change. change.reply ≡ Reply.Heard (not (is_below (meaning_of (operation.now ∷ [])) run.now.state))) }
+        ensures effect { IfOk result
+            (λ change. (t : Table) → Effect t last run.now (Event.HearOp operation.now) change) }
+        ensures after { IfOk result (λ change. change.after
+            ≡ After.GoesOn
+            (hearing (knowledge_of run.now) (meaning_of (operation.now ∷ [])) run.now.peers)) }
+        ensures reply { IfOk result (λ change. change.reply
+            ≡ Reply.Heard (not (is_below (meaning_of (operation.now ∷ [])) run.now.state))) }
     {
         let (next, fresh) = run.hear_op(operation)?;
         Ok(Change::going_on(last, next, Reply::Heard(fresh)))

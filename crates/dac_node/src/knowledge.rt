@@ -60,7 +60,14 @@ impl Model for Knowledge {
 
     ghost coded = { coded_knowledge };
 
-    ghost view = { λ a. record { origin = a.origin; moments = a.moments; is_open = a.is_open; waits = arc_value a.waits; state = arc_value a.state; peers = a.peers } };
+    ghost view = { λ a. record {
+      origin = a.origin;
+      moments = a.moments;
+      is_open = a.is_open;
+      waits = arc_value a.waits;
+      state = arc_value a.state;
+      peers = a.peers;
+    } };
 
     ghost invariant = { λ a. IsSound a.origin a.moments (arc_value a.state) };
 }
@@ -203,7 +210,9 @@ impl Knowledge {
 
     /// How many of the own deltas all other nodes have acknowledged.
     pub(crate) fn acked_by_all(&self, config: &Config) -> u64
-        ensures { result ≡ acked_by_all self.now.peers self.now.state (node_count config.now) self.now.origin.node }
+        ensures { result
+            ≡ acked_by_all self.now.peers self.now.state (node_count config.now)
+            self.now.origin.node }
     {
         self.peers
             .acked_by_all(&self.state, config.nodes(), self.origin.node)

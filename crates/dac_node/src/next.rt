@@ -35,7 +35,11 @@ impl Model for Next {
 
     ghost coded = { coded_next };
 
-    ghost view = { λ a. record { knowledge = a.knowledge; deltas = a.deltas.items; trim = a.trim } };
+    ghost view = { λ a. record {
+      knowledge = a.knowledge;
+      deltas = a.deltas.items;
+      trim = a.trim;
+    } };
 }
 
 impl Next {
@@ -62,7 +66,8 @@ impl Next {
 
     /// The same, where no delta below this number is kept any more.
     pub(crate) fn with_trim(mut self, trim: u64) -> Self
-        ensures { result ≡ record { knowledge = self.knowledge; deltas = self.deltas; trim = trim } }
+        ensures { result
+            ≡ record { knowledge = self.knowledge; deltas = self.deltas; trim = trim } }
     {
         self.trim = trim;
         self

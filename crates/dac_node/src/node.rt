@@ -117,14 +117,18 @@ impl Node {
     /// other; the controller is then as before. A crash takes no memory: a running controller always goes
     /// down. A controller that boots is node `self_id` until it is off again.
     pub fn step(&mut self, config: &Config, self_id: NodeId, event: Event) -> Result<Reply, Refusal>
-        ensures err { IfErr result (λ why. why ≡ unwrap_or (refusal_of config.now self.old event) Refusal.NoMemory) }
+        ensures err { IfErr result
+            (λ why. why ≡ unwrap_or (refusal_of config.now self.old event) Refusal.NoMemory) }
         // Of the causes that the event can have and that hold, the least is answered; none holds of an accepted one.
-        ensures cases { MatchResult result (λ _. IsFree config.now self.old event) (IsAnsweredBy config.now self.old event) }
+        ensures cases { MatchResult result (λ _. IsFree config.now self.old event)
+            (IsAnsweredBy config.now self.old event) }
         ensures crash { IfErr result (λ why. event ≡ Event.Crash → why ≡ Refusal.Off) }
         ensures unchanged { OnErr result (self.new ≡ self.old) }
-        ensures ok { IfOk result (λ reply. Steps config.now self_id self.old event self.new (Ok reply)) }
+        ensures ok { IfOk result
+            (λ reply. Steps config.now self_id self.old event self.new (Ok reply)) }
         // A refusal other than `NoMemory` is a step too, which changes nothing.
-        ensures refused { IfErr result (λ why. (why ≡ Refusal.NoMemory → ⊥) → Steps config.now self_id self.old event self.new (Err why)) }
+        ensures refused { IfErr result (λ why. (why ≡ Refusal.NoMemory → ⊥)
+            → Steps config.now self_id self.old event self.new (Err why)) }
         // A command is answered by the operation that says it: under the next dot and at the key of the live
         // incarnation. The operation replaces exactly what stands there. A tick is answered by the claims of exactly
         // the applications that are due to this node. But for a boot, no other event issues anything. What comes is
@@ -136,7 +140,8 @@ impl Node {
         // What comes up is the next incarnation. What ran runs on as the same one, or is off by a crash or a gate that gave
         // up. Its gate stays open once it is, and each tick that looks after the applications adds its note. Its state, its
         // deltas and what it keeps of its peers grow by what the event brings, and by no more.
-        ensures keeps { IfOk result (λ reply. Keeps config.now self_id self.old event reply self.new) }
+        ensures keeps { IfOk result
+            (λ reply. Keeps config.now self_id self.old event reply self.new) }
         // A command takes effect in the state that is left. What a tick claims is kept at the own node to the end of the tick,
         // and runs there. A claim's term is above that of each claim of its application that the node had heard.
         ensures effect { IfOk result (λ reply. HasEffect config.now self.old event reply self.new) }
@@ -169,7 +174,8 @@ impl Node {
     ) -> Result<Change, Refusal>
         ensures ok { IfOk result (λ change. Prepared config.now self_id self.now event.now change) }
         ensures fits { IfOk result (λ change. Fits self.now change) }
-        ensures err { IfErr result (λ why. why ≡ unwrap_or (refusal_of config.now self.now event.now) Refusal.NoMemory) }
+        ensures err { IfErr result
+            (λ why. why ≡ unwrap_or (refusal_of config.now self.now event.now) Refusal.NoMemory) }
         ensures crash { IfErr result (λ why. event.now ≡ Event.Crash → why ≡ Refusal.Off) }
     {
         match self.refusal(config, event) {
@@ -202,9 +208,11 @@ impl Node {
     /// What a message that comes would do, as [`Node::prepare`] of that event, without a copy of the message. The error is
     /// the refusal of the event, or `NoMemory` where it has none.
     pub fn prepare_hear(&self, config: &Config, message: &Message) -> Result<Change, Refusal>
-        ensures ok { IfOk result (λ change. (me : NodeId) → Prepared config.now me self.now (Event.Hear message.now) change) }
+        ensures ok { IfOk result (λ change. (me : NodeId)
+            → Prepared config.now me self.now (Event.Hear message.now) change) }
         ensures fits { IfOk result (λ change. Fits self.now change) }
-        ensures err { IfErr result (λ why. (t : Table) → why ≡ unwrap_or (refusal_of t self.now (Event.Hear message.now)) Refusal.NoMemory) }
+        ensures err { IfErr result (λ why. (t : Table)
+            → why ≡ unwrap_or (refusal_of t self.now (Event.Hear message.now)) Refusal.NoMemory) }
     {
         let Some(run) = &self.run else {
             return Err(Refusal::Off);
@@ -219,9 +227,12 @@ impl Node {
     /// What an operation that comes by itself would do, as [`Node::prepare`] of that event, without a copy of the
     /// operation. The error is the refusal of the event, or `NoMemory` where it has none.
     pub fn prepare_hear_op(&self, operation: &Op) -> Result<Change, Refusal>
-        ensures ok { IfOk result (λ change. (t : Table) (me : NodeId) → Prepared t me self.now (Event.HearOp operation.now) change) }
+        ensures ok { IfOk result (λ change. (t : Table) (me : NodeId)
+            → Prepared t me self.now (Event.HearOp operation.now) change) }
         ensures fits { IfOk result (λ change. Fits self.now change) }
-        ensures err { IfErr result (λ why. (t : Table) → why ≡ unwrap_or (refusal_of t self.now (Event.HearOp operation.now)) Refusal.NoMemory) }
+        ensures err { IfErr result (λ why. (t : Table)
+            → why
+            ≡ unwrap_or (refusal_of t self.now (Event.HearOp operation.now)) Refusal.NoMemory) }
     {
         let Some(run) = &self.run else {
             return Err(Refusal::Off);

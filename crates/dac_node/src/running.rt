@@ -263,8 +263,11 @@ impl Running {
     /// What goes on after a command that isn't refused, and the operation that it issues.
     pub(crate) fn command(&self, config: &Config, command: Command) -> Result<(Next, Op), NoMemory>
         requires { refused_command config.now self.now.origin self.now.state command ≡ None }
-        ensures next { IfOk result (λ both. both.0 ≡ adding (knowledge_of self.now) (meaning_of (both.1 ∷ []) ∷ []) self.now.peers) }
-        ensures operation { IfOk result (λ both. both.1 ≡ next_operation self.now.state self.now.origin (said_by config.now self.now.state command)) }
+        ensures next { IfOk result (λ both. both.0
+            ≡ adding (knowledge_of self.now) (meaning_of (both.1 ∷ []) ∷ []) self.now.peers) }
+        ensures operation { IfOk result (λ both. both.1
+            ≡ next_operation self.now.state self.now.origin
+            (said_by config.now self.now.state command)) }
     {
         let known = &self.knowledge;
         known.tells_invariant();
@@ -275,7 +278,9 @@ impl Running {
 
     /// What goes on after an operation of its own.
     fn issue(&self, operation: &Op) -> Result<Next, NoMemory>
-        ensures { IfOk result (λ next. next ≡ adding (knowledge_of self.now) (meaning_of (operation.now ∷ []) ∷ []) self.now.peers) }
+        ensures { IfOk result (λ next. next
+            ≡ adding (knowledge_of self.now) (meaning_of (operation.now ∷ []) ∷ [])
+            self.now.peers) }
     {
         let known = &self.knowledge;
         let delta = State::delta_of(known.alloc, operation)?;

@@ -20,7 +20,8 @@ use dac_state::{Op, State};
 impl Running {
     /// Whether nothing is to be shipped to a node.
     pub(crate) fn is_up_to_date(&self, to: NodeId) -> bool
-        ensures { let r = self.now in result ≡ needs_nothing r.peers r.state r.kept.base r.kept.count to }
+        ensures { let r = self.now in
+            result ≡ needs_nothing r.peers r.state r.kept.base r.kept.count to }
     {
         let known = &self.knowledge;
         known
@@ -87,7 +88,8 @@ impl Running {
 
     /// What goes on once a node was shipped to: it is owed no answer any more.
     pub(crate) fn shipped_to(&self, to: NodeId) -> Result<Next, NoMemory>
-        ensures { IfOk result (λ next. next ≡ adding (knowledge_of self.now) [] (shipped_to self.now.peers to)) }
+        ensures { IfOk result
+            (λ next. next ≡ adding (knowledge_of self.now) [] (shipped_to self.now.peers to)) }
     {
         let known = &self.knowledge;
         let peers = known.peers.shipped_to(to)?;
@@ -101,7 +103,8 @@ impl Running {
 
     /// What goes on after a message is heard. What all other nodes have acknowledged by then is kept no longer.
     pub(crate) fn hear(&self, config: &Config, message: &Message) -> Result<Next, NoMemory>
-        ensures { IfOk result (λ next. next ≡ next_by self.now [] (hears_message config.now self.now message.now)) }
+        ensures { IfOk result
+            (λ next. next ≡ next_by self.now [] (hears_message config.now self.now message.now)) }
     {
         let known = &self.knowledge;
         let count = self.buffer.count();
@@ -113,8 +116,10 @@ impl Running {
 
     /// What goes on after one operation is heard that comes by itself, and whether it is new.
     pub(crate) fn hear_op(&self, operation: &Op) -> Result<(Next, bool), NoMemory>
-        ensures next { IfOk result (λ both. both.0 ≡ hearing (knowledge_of self.now) (meaning_of (operation.now ∷ [])) self.now.peers) }
-        ensures fresh { IfOk result (λ both. both.1 ≡ not (is_below (meaning_of (operation.now ∷ [])) self.now.state)) }
+        ensures next { IfOk result (λ both. both.0
+            ≡ hearing (knowledge_of self.now) (meaning_of (operation.now ∷ [])) self.now.peers) }
+        ensures fresh { IfOk result
+            (λ both. both.1 ≡ not (is_below (meaning_of (operation.now ∷ [])) self.now.state)) }
     {
         let known = &self.knowledge;
         let delta = State::delta_of(known.alloc, operation)?;

@@ -91,9 +91,12 @@ impl Knowledge {
     /// What is noted by a tick at this moment, and what the applications come to by it.
     fn look_after(&self, config: &Config, now: u64) -> Result<(Waits, Turn), NoMemory>
         requires { too_few_left config.now self.now.state self.now.origin ≡ false }
-        ensures noted { IfOk result (λ both. (notes : List Note) → self.now.waits ≡ waits_of config.now notes
-            → both.0 ≡ waits_of config.now (record { state = self.now.state; moment = now } ∷ notes)) }
-        ensures turn { IfOk result (λ both. IsMade self.now.state (turn_of config.now self.now.origin both.0 now self.now.state) both.1) }
+        ensures noted { IfOk result (λ both. (notes : List Note)
+            → self.now.waits ≡ waits_of config.now notes
+            → both.0
+            ≡ waits_of config.now (record { state = self.now.state; moment = now } ∷ notes)) }
+        ensures turn { IfOk result (λ both. IsMade self.now.state
+            (turn_of config.now self.now.origin both.0 now self.now.state) both.1) }
     {
         let mut waits = self.waits.copy()?;
         waits.note(config, &self.state, now);
@@ -139,7 +142,8 @@ impl Knowledge {
     ) -> Result<Next, NoMemory>
         requires order { self.now.moments.last ≤ now }
         requires grown { arc_value state ≡ fold join self.now.state deltas.items }
-        ensures { IfOk result (λ next. next ≡ ticking self.now now is_open (arc_value waits) deltas.items) }
+        ensures { IfOk result
+            (λ next. next ≡ ticking self.now now is_open (arc_value waits) deltas.items) }
     {
         let peers = self.peers.copy()?;
         let knowledge = Knowledge {

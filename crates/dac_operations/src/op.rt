@@ -64,7 +64,8 @@ impl Op {
     /// The refusals are looked for in the order of [`OpFault`], and the first that holds is answered.
     /// What was handed in is given up then. It takes no memory.
     pub fn new(dot: Dot, act: Act) -> Result<Self, OpFault>
-        ensures value { MatchOption (fault_of dot act) (result ≡ Ok (operation dot act)) (λ why. result ≡ Err why) }
+        ensures value { MatchOption (fault_of dot act) (result ≡ Ok (operation dot act))
+            (λ why. result ≡ Err why) }
         ensures sound { IsOk result ↔ IsSound (operation dot act) }
     {
         match fault_in(dot, &act) {

@@ -57,7 +57,9 @@ impl Pages {
     /// Lays a page ready, so that it can be published without memory. Readers take what they took. [`NoMemory`] is the only
     /// error, and leaves all as it was.
     pub fn prepare(&mut self, page: Page) -> Result<(), NoMemory>
-        ensures { MatchResult result (λ _. self.new ≡ record { shown = self.old.shown; ready = Some page }) (λ _. self.new ≡ self.old) }
+        ensures { MatchResult result
+            (λ _. self.new ≡ record { shown = self.old.shown; ready = Some page })
+            (λ _. self.new ≡ self.old) }
     {
         let Some(writer) = &mut self.writer else {
             return Err(NoMemory);

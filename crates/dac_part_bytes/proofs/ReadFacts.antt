@@ -27,7 +27,8 @@ use Rattle.dac_store.specs.DotMaps.{has_in}
 use Rattle.dac_wishes.specs.declared.key.Key.{Key}
 use Rattle.dac_wishes.specs.Keys.{key_cmp}
 use Rattle.dac_wishes.specs.laws.Keys.{keys_total}
-use Rattle.dac_wishes.specs.Writes.{same_dot, same_dot_is}
+use Rattle.dac_wishes.specs.Writes.{same_dot}
+use Rattle.dac_wishes.specs.laws.KeyedWrites.{same_dot_is}
 use Rattle.dac_wishes.specs.StoredVotes.{DotFlags}
 use Rattle.dac_config.specs.Table.{Table, node_count}
 use Rattle.dac_bytes.specs.declared.fault.ReadFaultKind.TheVariants.{BadNumber, BadOrder, NotKnown}

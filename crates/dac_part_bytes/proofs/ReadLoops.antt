@@ -19,7 +19,8 @@ use Rattle.dac_dots.specs.laws.InOrder.{in_order-one, in_order-rising, in_order-
 use Rattle.dac_lattice.specs.Lattices.{join_options}
 use Rattle.dac_store.specs.Appending.{is_above_dots, is_above_entries}
 use Rattle.dac_store.specs.laws.Appending.{rising_appended, sorted_appended}
-use Rattle.dac_chains.specs.Greatest.{greater, get-greater}
+use Rattle.dac_chains.specs.Greatest.{greater}
+use Rattle.dac_chains.specs.laws.Greatest.{get-greater}
 use Rattle.dac_bytes.specs.Reading.{Rest, Field, items_at}
 use Rattle.dac_bytes.specs.Items.{with_front}
 use Rattle.dac_bytes.specs.laws.Ascending.{Reaches}

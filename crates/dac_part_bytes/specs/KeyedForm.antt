@@ -40,12 +40,14 @@ pub record IsKnownDot (version : Version) (t : Table) (known : Dots) (d : Dot) :
   pub among : set.contains known d ≡ true
 
 -- the write of a key that there can be, by such a dot
-pub record IsKnownWrite {K : Type 0} (IsKeyOf : K → Type 0) (version : Version) (t : Table) (known : Dots) (w : KeyedWrite K) : Type 0 where
+pub record IsKnownWrite {K : Type 0} (IsKeyOf : K → Type 0) (version : Version) (t : Table) (known : Dots)
+    (w : KeyedWrite K) : Type 0 where
   pub key : IsKeyOf w.key
   pub dot : IsKnownDot version t known w.dot
 
 -- votes that can be read
-pub record AreVotesInForm {K : Type 0} (R : K → K → Ordering) (IsKeyOf : K → Type 0) (version : Version) (t : Table) (known : Dots) (votes : Votes R) : Type 0 where
+pub record AreVotesInForm {K : Type 0} (R : K → K → Ordering) (IsKeyOf : K → Type 0) (version : Version) (t : Table)
+    (known : Dots) (votes : Votes R) : Type 0 where
   -- each is of a key that there can be, by a dot that is known
   pub each : (w : KeyedWrite K) → is_some (map.get votes w) ≡ true → IsKnownWrite IsKeyOf version t known w
   -- how many keys have votes fits its field

@@ -96,21 +96,26 @@ some_at r = range_at w32 1 (2 ^ 32 - 1) r
 
 -- the votes of a key, at least one
 unfoldable pub votes_of_key_at : Version → ℕ → Dots → Flag → Rest → Field DotFlags
-votes_of_key_at version nodes known truth r = counted_at some_at (vote_at version nodes known truth) (λ (p : Dot × Flag). p.0) r
+votes_of_key_at version nodes known truth r =
+    counted_at some_at (vote_at version nodes known truth) (λ (p : Dot × Flag). p.0) r
 
 -- a key above the one before it, with its votes
-unfoldable pub keyed_votes_at : {K : Type 0} → (Option K → Rest → Field K) → (Rest → Field DotFlags) → Option K → Rest → Field (K × DotFlags)
+unfoldable pub keyed_votes_at : {K : Type 0} → (Option K → Rest → Field K) → (Rest → Field DotFlags) → Option K → Rest
+    → Field (K × DotFlags)
 keyed_votes_at key_above votes before r = do
   key ← key_above before r
   ps ← votes key.1
   Ok ((key.0, ps.0), ps.1)
 
 -- the votes, by key
-unfoldable pub votes_by_key_at : {K : Type 0} → (Option K → Rest → Field K) → (Rest → Field DotFlags) → Rest → Field (List (K × DotFlags))
-votes_by_key_at {K = K} key_above votes r = counted_at (number_at w32) (keyed_votes_at key_above votes) (λ (e : K × DotFlags). e.0) r
+unfoldable pub votes_by_key_at : {K : Type 0} → (Option K → Rest → Field K) → (Rest → Field DotFlags) → Rest
+    → Field (List (K × DotFlags))
+votes_by_key_at {K =
+    K} key_above votes r = counted_at (number_at w32) (keyed_votes_at key_above votes) (λ (e : K × DotFlags). e.0) r
 
 -- the votes
-unfoldable pub all_votes_at : {K : Type 0} (R : K → K → Ordering) → (Option K → Rest → Field K) → (Rest → Field DotFlags) → Rest → Field (Votes R)
+unfoldable pub all_votes_at : {K : Type 0} (R : K → K → Ordering) → (Option K → Rest → Field K)
+    → (Rest → Field DotFlags) → Rest → Field (Votes R)
 all_votes_at R key_above votes r = do
   keyed ← votes_by_key_at key_above votes r
   Ok (votes_of R keyed.0, keyed.1)
@@ -147,7 +152,8 @@ keyed_dots_at version t known before r = do
 
 -- the start wishes, by key
 unfoldable pub starts_by_key_at : Version → Table → Dots → Rest → Field (List (Key × Dots))
-starts_by_key_at version t known r = counted_at (number_at w32) (keyed_dots_at version t known) (λ (e : Key × Dots). e.0) r
+starts_by_key_at version t known r =
+    counted_at (number_at w32) (keyed_dots_at version t known) (λ (e : Key × Dots). e.0) r
 
 -- the start wishes
 unfoldable pub all_starts_at : Version → Table → Dots → Rest → Field Writes

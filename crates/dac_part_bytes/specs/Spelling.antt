@@ -1,5 +1,5 @@
--- The parts of a state as bytes: permits, start wishes, lives, claims and drains. Numbers are written as in `dac_bytes`, the
--- highest byte first, and one that doesn't fit by its lowest bits.
+-- The parts of a state as bytes: permits, start wishes, lives, claims and drains. Numbers are written as in
+-- `dac_bytes`, the highest byte first, and one that doesn't fit by its lowest bits.
 use Rattle.std.specs.Prelude.{ℕ, ◌+◌, List, [], ◌++◌, length, Option, None, Some}
 use Rattle.std.specs.declared.cmp.Ordering.{Ordering}
 use Rattle.std.specs.List.{flat_map}
@@ -67,7 +67,8 @@ keyed_votes_bytes key_text version truth e = key_text e.0 ++ votes_of_key_bytes 
 
 -- how many keys have votes, and the votes of each, in ascending order
 unfoldable pub votes_bytes : {K : Type 0} (R : K → K → Ordering) → (K → List ℕ) → Version → Flag → Votes R → List ℕ
-votes_bytes R key_text version truth votes = u32_bytes (length (votes_by_key R votes)) ++ flat_map (keyed_votes_bytes key_text version truth) (votes_by_key R votes)
+votes_bytes R key_text version truth votes = u32_bytes (length (votes_by_key R votes))
+    ++ flat_map (keyed_votes_bytes key_text version truth) (votes_by_key R votes)
 
 -- permits, of which Up says true
 abbrev pub permits_bytes : Version → Permits → List ℕ
@@ -86,7 +87,8 @@ keyed_dots_bytes version e = key_bytes version e.0 ++ u32_bytes (length e.1) ++ 
 
 -- how many keys have start wishes, and the dots of each, in ascending order
 unfoldable pub starts_bytes : Version → Writes → List ℕ
-starts_bytes version writes = u32_bytes (length (starts_by_key writes)) ++ flat_map (λ (e : Key × Dots). keyed_dots_bytes version (e.0, in_order e.1)) (starts_by_key writes)
+starts_bytes version writes = u32_bytes (length (starts_by_key writes))
+    ++ flat_map (λ (e : Key × Dots). keyed_dots_bytes version (e.0, in_order e.1)) (starts_by_key writes)
 
 -- ---- lives
 
@@ -122,8 +124,10 @@ manner_bytes how from = u8_bytes (how_code how) ++ u8_bytes (from_code from)
 
 -- an application, the term of its claim, who claims it, and how it came there
 unfoldable pub claim_bytes : Version → AppId × Claim → List ℕ
-claim_bytes version e = app_bytes e.0 ++ u64_bytes e.1.term ++ origin_bytes version e.1.origin ++ manner_bytes e.1.how e.1.from
+claim_bytes version e =
+    app_bytes e.0 ++ u64_bytes e.1.term ++ origin_bytes version e.1.origin ++ manner_bytes e.1.how e.1.from
 
 -- how many applications are claimed, and each claim, in ascending order
 unfoldable pub claims_bytes : Version → Claims → List ℕ
-claims_bytes version claims = u16_bytes (length (map.entries claims)) ++ flat_map (claim_bytes version) (map.entries claims)
+claims_bytes version claims =
+    u16_bytes (length (map.entries claims)) ++ flat_map (claim_bytes version) (map.entries claims)

@@ -41,7 +41,8 @@ fn read_counted_lives<'a>(
     nodes: u8,
     count: u8,
 ) -> Result<(Lives, ByteReader<'a>), ReadFault>
-    ensures { Gives (λ x. (map.entries x.0, x.1)) result (items_at (life_at version nodes) (λ e. Some e.0) count None reader.entry) }
+    ensures { Gives (λ x. (map.entries x.0, x.1)) result
+        (items_at (life_at version nodes) (λ e. Some e.0) count None reader.entry) }
 {
     let mut lives = Lives::bottom(alloc);
     let mut before = None;
@@ -83,11 +84,14 @@ pub fn read_lives<'a>(
     version: Version,
     config: &Config,
 ) -> Result<(Lives, ByteReader<'a>), ReadFault>
-    ensures exact { Gives (λ x. x) result (all_lives_at version (node_count config.now) reader.entry) }
+    ensures exact { Gives (λ x. x) result
+        (all_lives_at version (node_count config.now) reader.entry) }
     // What is read is spelled so, and in form.
-    ensures found { IsFoundAs (λ x. x) (lives_bytes version) (AreLivesInForm version (node_count config.now)) reader.entry result }
+    ensures found { IsFoundAs (λ x. x) (lives_bytes version)
+        (AreLivesInForm version (node_count config.now)) reader.entry result }
     // What is spelled so and in form is read, unless memory runs out.
-    ensures again { IsReadAgain (λ x. x) (lives_bytes version) (AreLivesInForm version (node_count config.now)) reader.entry result }
+    ensures again { IsReadAgain (λ x. x) (lives_bytes version)
+        (AreLivesInForm version (node_count config.now)) reader.entry result }
 {
     // For the prover: nodes are numbered in one byte.
     let _nodes = config.nodes();
@@ -198,7 +202,8 @@ fn read_counted_claims<'a>(
     config: &Config,
     count: u16,
 ) -> Result<(Claims, ByteReader<'a>), ReadFault>
-    ensures { Gives (λ x. (map.entries x.0, x.1)) result (items_at (claim_at version config.now) (λ e. Some e.0) count None reader.entry) }
+    ensures { Gives (λ x. (map.entries x.0, x.1)) result
+        (items_at (claim_at version config.now) (λ e. Some e.0) count None reader.entry) }
 {
     let mut claims = Claims::bottom(alloc);
     let mut before = None;
@@ -244,9 +249,11 @@ pub fn read_claims<'a>(
 ) -> Result<(Claims, ByteReader<'a>), ReadFault>
     ensures exact { Gives (λ x. x) result (all_claims_at version config.now reader.entry) }
     // What is read is spelled so, and in form.
-    ensures found { IsFoundAs (λ x. x) (claims_bytes version) (AreClaimsInForm version config.now) reader.entry result }
+    ensures found { IsFoundAs (λ x. x) (claims_bytes version) (AreClaimsInForm version config.now)
+        reader.entry result }
     // What is spelled so and in form is read, unless memory runs out.
-    ensures again { IsReadAgain (λ x. x) (claims_bytes version) (AreClaimsInForm version config.now) reader.entry result }
+    ensures again { IsReadAgain (λ x. x) (claims_bytes version) (AreClaimsInForm version config.now)
+        reader.entry result }
 {
     // For the prover: nodes are numbered in one byte, and applications in two.
     let _nodes = config.nodes();

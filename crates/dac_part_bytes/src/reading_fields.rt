@@ -136,9 +136,11 @@ pub fn read_key<'a>(
     ensures exact { result ≡ key_above_at version config.now before reader.entry }
     ensures real { IsOfBytes result }
     // What is read is spelled so, and in form.
-    ensures found { IsFoundAs (λ x. x) (key_bytes version) (IsKeyAbove version config.now before) reader.entry result }
+    ensures found { IsFoundAs (λ x. x) (key_bytes version) (IsKeyAbove version config.now before)
+        reader.entry result }
     // What is spelled so and in form is read.
-    ensures again { IsReadAgain (λ x. x) (key_bytes version) (IsKeyAbove version config.now before) reader.entry result }
+    ensures again { IsReadAgain (λ x. x) (key_bytes version) (IsKeyAbove version config.now before)
+        reader.entry result }
 {
     // For the prover: nodes are numbered in one byte, and applications in two.
     let _nodes = config.nodes();
@@ -339,9 +341,11 @@ pub fn read_manner<'a>(
     ensures exact { result ≡ manner_at nodes reader.entry }
     ensures real { IsOfBytes result }
     // What is read is spelled so, and where it came from fits how it came.
-    ensures found { IsFoundAs (λ x. x) (λ m. manner_bytes m.0 m.1) (λ m. IsFromFor nodes m.0 m.1) reader.entry result }
+    ensures found { IsFoundAs (λ x. x) (λ m. manner_bytes m.0 m.1) (λ m. IsFromFor nodes m.0 m.1)
+        reader.entry result }
     // What fits is read from its spelling.
-    ensures again { IsReadAgain (λ x. x) (λ m. manner_bytes m.0 m.1) (λ m. IsFromFor nodes m.0 m.1) reader.entry result }
+    ensures again { IsReadAgain (λ x. x) (λ m. manner_bytes m.0 m.1) (λ m. IsFromFor nodes m.0 m.1)
+        reader.entry result }
 {
     read_how_and_from(reader, nodes)
 }

@@ -27,7 +27,8 @@ fn read_dots<'a>(
     known: &Context,
     count: u32,
 ) -> Result<(DotSet, ByteReader<'a>), ReadFault>
-    ensures { Gives (λ x. (in_order x.0, x.1)) result (items_at (known_dot_at version nodes known.now) Some count None reader.entry) }
+    ensures { Gives (λ x. (in_order x.0, x.1)) result
+        (items_at (known_dot_at version nodes known.now) Some count None reader.entry) }
 {
     let mut dots = DotSet::empty(alloc);
     let mut before = None;
@@ -50,7 +51,8 @@ fn read_dots_of_key<'a>(
     nodes: u8,
     known: &Context,
 ) -> Result<(DotSet, ByteReader<'a>), ReadFault>
-    ensures { Gives (λ x. (in_order x.0, x.1)) result (dots_of_key_at version nodes known.now reader.entry) }
+    ensures { Gives (λ x. (in_order x.0, x.1)) result
+        (dots_of_key_at version nodes known.now reader.entry) }
 {
     let (count, rest) = read_some(reader)?;
     let read = read_dots(rest, alloc, version, nodes, known, count)?;
@@ -67,7 +69,8 @@ fn read_keyed_dots<'a>(
     known: &Context,
     before: Option<Key>,
 ) -> Result<((Key, DotSet), ByteReader<'a>), ReadFault>
-    ensures { Gives (λ x. x) result (keyed_dots_at version config.now known.now before reader.entry) }
+    ensures { Gives (λ x. x) result
+        (keyed_dots_at version config.now known.now before reader.entry) }
 {
     let (key, rest) = read_key(reader, version, config, before)?;
     let (dots, rest) = read_dots_of_key(rest, alloc, version, config.nodes(), known)?;
@@ -83,7 +86,8 @@ fn read_keys_of_dots<'a>(
     known: &Context,
     count: u32,
 ) -> Result<(DotMap<Key, DotSet>, ByteReader<'a>), ReadFault>
-    ensures { Gives (λ x. x) result (items_at (keyed_dots_at version config.now known.now) (λ e. Some e.0) count None reader.entry) }
+    ensures { Gives (λ x. x) result (items_at (keyed_dots_at version config.now known.now)
+        (λ e. Some e.0) count None reader.entry) }
 {
     let mut store = DotMap::empty(alloc);
     let mut before = None;
@@ -107,7 +111,8 @@ fn read_starts_by_key<'a>(
     config: &Config,
     known: &Context,
 ) -> Result<(DotMap<Key, DotSet>, ByteReader<'a>), ReadFault>
-    ensures exact { Gives (λ x. x) result (starts_by_key_at version config.now known.now reader.entry) }
+    ensures exact { Gives (λ x. x) result
+        (starts_by_key_at version config.now known.now reader.entry) }
     ensures held { IfOk result (λ x. IsHeld (has_in set.contains x.0) known.now) }
 {
     let (count, rest) = reader.read_u32()?;
@@ -124,7 +129,8 @@ fn read_all_starts<'a>(
     config: &Config,
     known: &Context,
 ) -> Result<(Wishes, ByteReader<'a>), ReadFault>
-    ensures exact { Gives (λ x. (x.0.standing, x.1)) result (all_starts_at version config.now known.now reader.entry) }
+    ensures exact { Gives (λ x. (x.0.standing, x.1)) result
+        (all_starts_at version config.now known.now reader.entry) }
     ensures known { IfOk result (λ x. x.0.known ≡ known.now) }
 {
     let (store, rest) = read_starts_by_key(reader, alloc, version, config, known)?;
@@ -143,12 +149,15 @@ pub fn read_wishes<'a>(
     config: &Config,
     known: &Context,
 ) -> Result<(Wishes, ByteReader<'a>), ReadFault>
-    ensures exact { Gives (λ x. (x.0.standing, x.1)) result (all_starts_at version config.now known.now reader.entry) }
+    ensures exact { Gives (λ x. (x.0.standing, x.1)) result
+        (all_starts_at version config.now known.now reader.entry) }
     ensures known { IfOk result (λ x. x.0.known ≡ known.now) }
     // What is read is spelled so, and in form.
-    ensures found { IsFoundAs (λ x. (x.0.standing, x.1)) (starts_bytes version) (AreStartsInForm version config.now known.now) reader.entry result }
+    ensures found { IsFoundAs (λ x. (x.0.standing, x.1)) (starts_bytes version)
+        (AreStartsInForm version config.now known.now) reader.entry result }
     // What is spelled so and in form is read, unless memory runs out.
-    ensures again { IsReadAgain (λ x. (x.0.standing, x.1)) (starts_bytes version) (AreStartsInForm version config.now known.now) reader.entry result }
+    ensures again { IsReadAgain (λ x. (x.0.standing, x.1)) (starts_bytes version)
+        (AreStartsInForm version config.now known.now) reader.entry result }
 {
     // For the prover: nodes are numbered in one byte, and applications in two.
     let _nodes = config.nodes();

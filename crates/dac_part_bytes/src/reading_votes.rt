@@ -66,7 +66,8 @@ fn read_votes<'a>(
     truth: Flag,
     count: u32,
 ) -> Result<(DotFun<Flag>, ByteReader<'a>), ReadFault>
-    ensures { Gives (λ x. x) result (items_at (vote_at version nodes known.now truth) (λ p. Some p.0) count None reader.entry) }
+    ensures { Gives (λ x. x) result
+        (items_at (vote_at version nodes known.now truth) (λ p. Some p.0) count None reader.entry) }
 {
     let mut votes = DotFun::empty(alloc);
     let mut before = None;
@@ -116,7 +117,8 @@ fn read_keyed_permits<'a>(
     known: &Context,
     before: Option<Key>,
 ) -> Result<((Key, DotFun<Flag>), ByteReader<'a>), ReadFault>
-    ensures { Gives (λ x. x) result (keyed_votes_at (key_above_at version config.now) (permits_of_key_at version config.now known.now) before reader.entry) }
+    ensures { Gives (λ x. x) result (keyed_votes_at (key_above_at version config.now)
+        (permits_of_key_at version config.now known.now) before reader.entry) }
 {
     let (key, rest) = read_key(reader, version, config, before)?;
     let (permits, rest) = read_votes_of_key(rest, alloc, version, config.nodes(), known, Flag::Up)?;
@@ -132,7 +134,10 @@ fn read_keys_of_permits<'a>(
     known: &Context,
     count: u32,
 ) -> Result<(DotMap<Key, DotFun<Flag>>, ByteReader<'a>), ReadFault>
-    ensures { Gives (λ x. x) result (items_at (keyed_votes_at (key_above_at version config.now) (permits_of_key_at version config.now known.now)) (λ e. Some e.0) count None reader.entry) }
+    ensures { Gives (λ x. x) result (items_at
+        (keyed_votes_at (key_above_at version config.now)
+        (permits_of_key_at version config.now known.now)) (λ e. Some e.0) count None
+        reader.entry) }
 {
     let mut store = DotMap::empty(alloc);
     let mut before = None;
@@ -156,7 +161,8 @@ fn read_permits_by_key<'a>(
     config: &Config,
     known: &Context,
 ) -> Result<(DotMap<Key, DotFun<Flag>>, ByteReader<'a>), ReadFault>
-    ensures exact { Gives (λ x. x) result (votes_by_key_at (key_above_at version config.now) (permits_of_key_at version config.now known.now) reader.entry) }
+    ensures exact { Gives (λ x. x) result (votes_by_key_at (key_above_at version config.now)
+        (permits_of_key_at version config.now known.now) reader.entry) }
     ensures held { IfOk result (λ x. IsHeld (has_in has_dot x.0) known.now) }
 {
     let (count, rest) = reader.read_u32()?;
@@ -173,7 +179,8 @@ fn read_all_permits<'a>(
     config: &Config,
     known: &Context,
 ) -> Result<(Permissions, ByteReader<'a>), ReadFault>
-    ensures exact { Gives (λ x. (x.0.standing, x.1)) result (all_permits_at version config.now known.now reader.entry) }
+    ensures exact { Gives (λ x. (x.0.standing, x.1)) result
+        (all_permits_at version config.now known.now reader.entry) }
     ensures known { IfOk result (λ x. x.0.known ≡ known.now) }
 {
     let (store, rest) = read_permits_by_key(reader, alloc, version, config, known)?;
@@ -197,12 +204,15 @@ pub fn read_permissions<'a>(
     config: &Config,
     known: &Context,
 ) -> Result<(Permissions, ByteReader<'a>), ReadFault>
-    ensures exact { Gives (λ x. (x.0.standing, x.1)) result (all_permits_at version config.now known.now reader.entry) }
+    ensures exact { Gives (λ x. (x.0.standing, x.1)) result
+        (all_permits_at version config.now known.now reader.entry) }
     ensures known { IfOk result (λ x. x.0.known ≡ known.now) }
     // What is read is spelled so, and in form.
-    ensures found { IsFoundAs (λ x. (x.0.standing, x.1)) (permits_bytes version) (ArePermitsInForm version config.now known.now) reader.entry result }
+    ensures found { IsFoundAs (λ x. (x.0.standing, x.1)) (permits_bytes version)
+        (ArePermitsInForm version config.now known.now) reader.entry result }
     // What is spelled so and in form is read, unless memory runs out.
-    ensures again { IsReadAgain (λ x. (x.0.standing, x.1)) (permits_bytes version) (ArePermitsInForm version config.now known.now) reader.entry result }
+    ensures again { IsReadAgain (λ x. (x.0.standing, x.1)) (permits_bytes version)
+        (ArePermitsInForm version config.now known.now) reader.entry result }
 {
     parts_have_one_spelling(config);
     read_all_permits(reader, alloc, version, config, known)
@@ -217,7 +227,8 @@ fn read_keyed_drains<'a>(
     known: &Context,
     before: Option<Origin>,
 ) -> Result<((Origin, DotFun<Flag>), ByteReader<'a>), ReadFault>
-    ensures { Gives (λ x. x) result (keyed_votes_at (origin_above_at Two (node_count config.now)) (drains_of_key_at config.now known.now) before reader.entry) }
+    ensures { Gives (λ x. x) result (keyed_votes_at (origin_above_at Two (node_count config.now))
+        (drains_of_key_at config.now known.now) before reader.entry) }
 {
     let (at, rest) = reader.read_origin_above(Version::Two, config.nodes(), before)?;
     let (drains, rest) = read_votes_of_key(
@@ -239,7 +250,9 @@ fn read_keys_of_drains<'a>(
     known: &Context,
     count: u32,
 ) -> Result<(DotMap<Origin, DotFun<Flag>>, ByteReader<'a>), ReadFault>
-    ensures { Gives (λ x. x) result (items_at (keyed_votes_at (origin_above_at Two (node_count config.now)) (drains_of_key_at config.now known.now)) (λ e. Some e.0) count None reader.entry) }
+    ensures { Gives (λ x. x) result (items_at
+        (keyed_votes_at (origin_above_at Two (node_count config.now))
+        (drains_of_key_at config.now known.now)) (λ e. Some e.0) count None reader.entry) }
 {
     let mut store = DotMap::empty(alloc);
     let mut before = None;
@@ -262,7 +275,9 @@ fn read_drains_by_key<'a>(
     config: &Config,
     known: &Context,
 ) -> Result<(DotMap<Origin, DotFun<Flag>>, ByteReader<'a>), ReadFault>
-    ensures exact { Gives (λ x. x) result (votes_by_key_at (origin_above_at Two (node_count config.now)) (drains_of_key_at config.now known.now) reader.entry) }
+    ensures exact { Gives (λ x. x) result
+        (votes_by_key_at (origin_above_at Two (node_count config.now))
+        (drains_of_key_at config.now known.now) reader.entry) }
     ensures held { IfOk result (λ x. IsHeld (has_in has_dot x.0) known.now) }
 {
     let (count, rest) = reader.read_u32()?;
@@ -278,7 +293,9 @@ fn read_all_drains<'a>(
     config: &Config,
     known: &Context,
 ) -> Result<(Drains, ByteReader<'a>), ReadFault>
-    ensures exact { Gives (λ x. (x.0.standing, x.1)) result (all_votes_at origin_cmp (origin_above_at Two (node_count config.now)) (drains_of_key_at config.now known.now) reader.entry) }
+    ensures exact { Gives (λ x. (x.0.standing, x.1)) result
+        (all_votes_at origin_cmp (origin_above_at Two (node_count config.now))
+        (drains_of_key_at config.now known.now) reader.entry) }
     ensures known { IfOk result (λ x. x.0.known ≡ known.now) }
 {
     let (store, rest) = read_drains_by_key(reader, alloc, config, known)?;
@@ -294,7 +311,8 @@ fn read_drains_in<'a>(
     config: &Config,
     known: &Context,
 ) -> Result<(Drains, ByteReader<'a>), ReadFault>
-    ensures exact { Gives (λ x. (x.0.standing, x.1)) result (all_drains_at version config.now known.now reader.entry) }
+    ensures exact { Gives (λ x. (x.0.standing, x.1)) result
+        (all_drains_at version config.now known.now reader.entry) }
     ensures known { IfOk result (λ x. x.0.known ≡ known.now) }
 {
     match version {
@@ -321,12 +339,15 @@ pub fn read_drains<'a>(
     config: &Config,
     known: &Context,
 ) -> Result<(Drains, ByteReader<'a>), ReadFault>
-    ensures exact { Gives (λ x. (x.0.standing, x.1)) result (all_drains_at version config.now known.now reader.entry) }
+    ensures exact { Gives (λ x. (x.0.standing, x.1)) result
+        (all_drains_at version config.now known.now reader.entry) }
     ensures known { IfOk result (λ x. x.0.known ≡ known.now) }
     // What is read is spelled so, and in form.
-    ensures found { IsFoundAs (λ x. (x.0.standing, x.1)) (drains_bytes version) (AreDrainsInForm version config.now known.now) reader.entry result }
+    ensures found { IsFoundAs (λ x. (x.0.standing, x.1)) (drains_bytes version)
+        (AreDrainsInForm version config.now known.now) reader.entry result }
     // What is spelled so and in form is read, unless memory runs out.
-    ensures again { IsReadAgain (λ x. (x.0.standing, x.1)) (drains_bytes version) (AreDrainsInForm version config.now known.now) reader.entry result }
+    ensures again { IsReadAgain (λ x. (x.0.standing, x.1)) (drains_bytes version)
+        (AreDrainsInForm version config.now known.now) reader.entry result }
 {
     parts_have_one_spelling(config);
     read_drains_in(reader, alloc, version, config, known)

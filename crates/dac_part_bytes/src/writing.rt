@@ -69,7 +69,8 @@ fn write_votes(
     truth: Flag,
     votes: &[(Dot, Flag)],
 ) -> Result<ByteWriter, NoMemory>
-    ensures { IfOk result (λ written. written ≡ writer ++ votes_of_key_bytes version truth votes.now) }
+    ensures { IfOk result
+        (λ written. written ≡ writer ++ votes_of_key_bytes version truth votes.now) }
 {
     let mut written = writer.write_count_u32(votes.len())?;
     for (dot, flag) in votes {
@@ -86,7 +87,8 @@ fn write_permits(
     key: Key,
     permits: &[(Dot, Flag)],
 ) -> Result<ByteWriter, NoMemory>
-    ensures { IfOk result (λ written. written ≡ writer ++ keyed_votes_bytes (key_bytes version) version Up (key, permits.now)) }
+    ensures { IfOk result (λ written. written
+        ≡ writer ++ keyed_votes_bytes (key_bytes version) version Up (key, permits.now)) }
 {
     let head = write_key(writer, version, key)?;
     let written = write_votes(head, version, Flag::Up, permits)?;
@@ -102,7 +104,8 @@ pub fn write_permissions(
     version: Version,
     permissions: &Permissions,
 ) -> Result<ByteWriter, NoMemory>
-    ensures { IfOk result (λ written. written ≡ writer ++ permits_bytes version permissions.now.standing) }
+    ensures { IfOk result
+        (λ written. written ≡ writer ++ permits_bytes version permissions.now.standing) }
 {
     let entries = permissions.entries();
     let mut written = writer.write_count_u32(entries.len())?;
@@ -119,7 +122,8 @@ fn write_drains_of(
     at: Origin,
     drains: &[(Dot, Flag)],
 ) -> Result<ByteWriter, NoMemory>
-    ensures { IfOk result (λ written. written ≡ writer ++ keyed_votes_bytes (origin_bytes Two) Two Down (at, drains.now)) }
+    ensures { IfOk result (λ written. written
+        ≡ writer ++ keyed_votes_bytes (origin_bytes Two) Two Down (at, drains.now)) }
 {
     let head = writer.write_origin(Version::Two, at)?;
     let written = write_votes(head, Version::Two, Flag::Down, drains)?;
@@ -129,7 +133,8 @@ fn write_drains_of(
 /// The drains that stand, as version two has them.
 #[tactic(auto, unfolding(crate::specs::Spelling::votes_bytes))]
 fn write_all_drains(writer: ByteWriter, drains: &Drains) -> Result<ByteWriter, NoMemory>
-    ensures { IfOk result (λ written. written ≡ writer ++ votes_bytes origin_cmp (origin_bytes Two) Two Down drains.now.standing) }
+    ensures { IfOk result (λ written. written
+        ≡ writer ++ votes_bytes origin_cmp (origin_bytes Two) Two Down drains.now.standing) }
 {
     let entries = drains.entries();
     let mut written = writer.write_count_u32(entries.len())?;
@@ -147,7 +152,8 @@ pub fn write_drains(
     version: Version,
     drains: &Drains,
 ) -> Result<ByteWriter, NoMemory>
-    ensures { IfOk result (λ written. written ≡ writer ++ drains_bytes version drains.now.standing) }
+    ensures { IfOk result
+        (λ written. written ≡ writer ++ drains_bytes version drains.now.standing) }
 {
     match version {
         Version::One => Ok(writer),
@@ -166,7 +172,8 @@ fn write_dots(
     key: Key,
     dots: &[Dot],
 ) -> Result<ByteWriter, NoMemory>
-    ensures { IfOk result (λ written. written ≡ writer ++ keyed_dots_bytes version (key, dots.now)) }
+    ensures { IfOk result
+        (λ written. written ≡ writer ++ keyed_dots_bytes version (key, dots.now)) }
 {
     let head = write_key(writer, version, key)?;
     let mut written = head.write_count_u32(dots.len())?;
@@ -184,7 +191,8 @@ pub fn write_wishes(
     version: Version,
     wishes: &Wishes,
 ) -> Result<ByteWriter, NoMemory>
-    ensures { IfOk result (λ written. written ≡ writer ++ starts_bytes version wishes.now.standing) }
+    ensures { IfOk result
+        (λ written. written ≡ writer ++ starts_bytes version wishes.now.standing) }
 {
     let entries = wishes.entries();
     let mut written = writer.write_count_u32(entries.len())?;

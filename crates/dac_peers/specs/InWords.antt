@@ -40,7 +40,8 @@ pub record IsBegin (p : PeersValue) (s : StateValue) (base : ℕ) (to : NodeId) 
 
 -- an interval begins there and nowhere else
 abbrev pub BeginsWhereAcked : Type 0
-BeginsWhereAcked = (p : PeersValue) (s : StateValue) (base : ℕ) (to : NodeId) (place : Place) → (begins p s base to ≡ Some place) ↔ IsBegin p s base to place
+BeginsWhereAcked = (p : PeersValue) (s : StateValue) (base : ℕ) (to : NodeId) (place : Place)
+    → (begins p s base to ≡ Some place) ↔ IsBegin p s base to place
 
 -- what is acknowledged is what was got last
 abbrev pub ReceiptsAreGot : Type 0
@@ -65,12 +66,14 @@ IsOther nodes own node = (node.0 < nodes) × (node ≢ own)
 -- the least of the other nodes' numbers, 0 where there are no others
 pub record IsLeastOfAll (p : PeersValue) (s : StateValue) (nodes : ℕ) (own : NodeId) (least : ℕ) : Type 0 where
   pub at_most : (node : NodeId) (n : ℕ) → IsOther nodes own node → IsNumberOf p s node n → least ≤ n
-  pub one_of : (node : NodeId) → IsOther nodes own node → (one : NodeId) × IsOther nodes own one × IsNumberOf p s one least
+  pub one_of : (node : NodeId) → IsOther nodes own node
+      → (one : NodeId) × IsOther nodes own one × IsNumberOf p s one least
   pub alone : ((node : NodeId) → ¬ (IsOther nodes own node)) → least ≡ 0
 
 -- what all have acknowledged is the least of what each other node did
 abbrev pub AllHaveTheLeast : Type 0
-AllHaveTheLeast = (p : PeersValue) (s : StateValue) (nodes : ℕ) (own : NodeId) → IsLeastOfAll p s nodes own (acked_by_all p s nodes own)
+AllHaveTheLeast = (p : PeersValue) (s : StateValue) (nodes : ℕ) (own : NodeId)
+    → IsLeastOfAll p s nodes own (acked_by_all p s nodes own)
 
 -- ---- what was got
 -- the first place isn't after the second: its incarnation is less, or it is the same and the number isn't greater
@@ -84,11 +87,14 @@ place_of m = record { inc = m.from.inc; number = m.up_to }
 -- what was got after a message
 pub record IsOnward (p : PeersValue) (m : Message) (after : PeersValue) : Type 0 where
   -- of no node it goes back
-  pub onward : (node : NodeId) (old : Place) → map.get p.got node ≡ Some old → (place : Place) × (map.get after.got node ≡ Some place) × IsUpTo old place
+  pub onward : (node : NodeId) (old : Place) → map.get p.got node ≡ Some old
+      → (place : Place) × (map.get after.got node ≡ Some place) × IsUpTo old place
   -- of the sender it is at least what the message brings
-  pub reached : m.body ≢ Nothing → (place : Place) × (map.get after.got m.from.node ≡ Some place) × IsUpTo (place_of m) place
+  pub reached : m.body ≢ Nothing
+      → (place : Place) × (map.get after.got m.from.node ≡ Some place) × IsUpTo (place_of m) place
   -- each place is an old one, or the one that the message brings
-  pub only : (node : NodeId) (place : Place) → map.get after.got node ≡ Some place → (map.get p.got node ≡ Some place) ⊎ ((node ≡ m.from.node) × (m.body ≢ Nothing) × (place ≡ place_of m))
+  pub only : (node : NodeId) (place : Place) → map.get after.got node ≡ Some place
+      → (map.get p.got node ≡ Some place) ⊎ ((node ≡ m.from.node) × (m.body ≢ Nothing) × (place ≡ place_of m))
   -- no other node's changes
   pub others : (node : NodeId) → node ≢ m.from.node → map.get after.got node ≡ map.get p.got node
 
@@ -106,18 +112,22 @@ pub record Acknowledges (own : Origin) (count : ℕ) (m : Message) (origin : Ori
 -- what is acknowledged after a message
 pub record IsAcked (own : Origin) (count : ℕ) (p : PeersValue) (m : Message) (after : PeersValue) : Type 0 where
   -- of each origin it is the greatest of what it was and what the message acknowledges
-  pub greatest : (origin : Origin) → IsGreatest (λ n. (map.get p.acked origin ≡ Some n) ⊎ Acknowledges own count m origin n) (map.get after.acked origin)
+  pub greatest : (origin : Origin)
+      → IsGreatest (λ n. (map.get p.acked origin ≡ Some n) ⊎ Acknowledges own count m origin n)
+      (map.get after.acked origin)
   -- no other origin's changes
   pub others : (origin : Origin) → origin ≢ m.from → map.get after.acked origin ≡ map.get p.acked origin
 
 -- of each origin the greatest number is kept that it acknowledged
 abbrev pub AckedIsGreatest : Type 0
-AckedIsGreatest = (own : Origin) (count : ℕ) (p : PeersValue) (m : Message) → IsAcked own count p m (heard_from own count p m)
+AckedIsGreatest =
+    (own : Origin) (count : ℕ) (p : PeersValue) (m : Message) → IsAcked own count p m (heard_from own count p m)
 
 -- ---- who is owed an answer
 -- after a message those that were owed one, and its sender where it brings something
 abbrev pub HeardAreOwed : Type 0
-HeardAreOwed = (own : Origin) (count : ℕ) (p : PeersValue) (m : Message) (node : NodeId) → IsOwed (heard_from own count p m) node ↔ (IsOwed p node ⊎ ((node ≡ m.from.node) × (m.body ≢ Nothing)))
+HeardAreOwed = (own : Origin) (count : ℕ) (p : PeersValue) (m : Message) (node : NodeId)
+    → IsOwed (heard_from own count p m) node ↔ (IsOwed p node ⊎ ((node ≡ m.from.node) × (m.body ≢ Nothing)))
 
 -- after something is shipped to a node those that were owed one, but that node; nothing else changes
 pub record IsShipped (p : PeersValue) (to : NodeId) (after : PeersValue) : Type 0 where
@@ -136,6 +146,8 @@ IsWithin count p = (origin : Origin) (n : ℕ) → map.get p.acked origin ≡ So
 -- so an interval never begins after the last delta
 pub record AcksAreWithin : Type 0 where
   pub none : IsWithin 0 no_peers
-  pub heard : (own : Origin) (count : ℕ) (p : PeersValue) (m : Message) → IsWithin count p → IsWithin count (heard_from own count p m)
+  pub heard : (own : Origin) (count : ℕ) (p : PeersValue) (m : Message) → IsWithin count p
+      → IsWithin count (heard_from own count p m)
   pub shipped : (count : ℕ) (p : PeersValue) (to : NodeId) → IsWithin count p → IsWithin count (shipped_to p to)
-  pub begun : (count : ℕ) (p : PeersValue) (s : StateValue) (base : ℕ) (to : NodeId) (place : Place) → IsWithin count p → begins p s base to ≡ Some place → place.number ≤ count
+  pub begun : (count : ℕ) (p : PeersValue) (s : StateValue) (base : ℕ) (to : NodeId) (place : Place) → IsWithin count p
+      → begins p s base to ≡ Some place → place.number ≤ count

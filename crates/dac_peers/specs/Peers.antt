@@ -25,7 +25,8 @@ pub record PeersValue : Type 0 where
   pub owed : set.FinSet node_cmp
 
 abbrev pub coded_place : Coded Place
-coded_place = code_by (ℕ × ℕ) (coded× coded_ℕ coded_ℕ) (λ p. (p.inc, p.number)) (λ p. record { inc = p.0; number = p.1 }) (λ _. refl)
+coded_place = code_by (ℕ × ℕ) (coded× coded_ℕ coded_ℕ) (λ p. (p.inc, p.number))
+    (λ p. record { inc = p.0; number = p.1 }) (λ _. refl)
 
 abbrev pub coded_peers : Coded PeersValue
 coded_peers =
@@ -41,7 +42,8 @@ no_peers = record { acked = map.empty; got = map.empty; owed = set.empty }
 -- ---- what was acknowledged
 -- how many deltas an incarnation of a node acknowledged, if it acknowledged any
 abbrev pub acked_by : PeersValue → NodeId → Life → Option Place
-acked_by p node life = option_map (λ (n : ℕ). record { inc = life.inc; number = n }) (map.get p.acked (record { node = node; inc = life.inc }))
+acked_by p node life = option_map (λ (n : ℕ). record { inc = life.inc; number = n })
+    (map.get p.acked (record { node = node; inc = life.inc }))
 
 -- how many deltas a node acknowledged, as the incarnation that has its greatest life
 abbrev pub acked_at : PeersValue → StateValue → NodeId → Option Place
@@ -53,7 +55,8 @@ abbrev pub kept_from : ℕ → Option Place → Option Place
 kept_from base None = None
 kept_from base (Some p) = cond (nat_le base p.number) (Some p) None
 
--- from where an interval for a node begins, and the incarnation that it is for; none where the whole state has to be shipped
+-- from where an interval for a node begins, and the incarnation that it is for; none where the whole state
+-- has to be shipped
 abbrev pub begins : PeersValue → StateValue → ℕ → NodeId → Option Place
 begins p s base to = kept_from base (acked_at p s to)
 
@@ -77,7 +80,8 @@ shipped_to p to = record { acked = p.acked; got = p.got; owed = set.remove p.owe
 -- ---- what is heard
 -- the later of two places: that of the greater incarnation, and of one incarnation the greater number
 abbrev pub later : Place → Place → Place
-later old new = cond (nat_lt old.inc new.inc) new (cond (nat_eq old.inc new.inc) (record { inc = old.inc; number = max old.number new.number }) old)
+later old new = cond (nat_lt old.inc new.inc) new
+    (cond (nat_eq old.inc new.inc) (record { inc = old.inc; number = max old.number new.number }) old)
 
 abbrev pub got_after : Option Place → Place → Place
 got_after None new = new

@@ -150,7 +150,8 @@ impl Peers {
 
     /// What is acknowledged once a message is heard.
     fn acks_after(&self, own: Origin, count: u64, message: &Message) -> Result<Acks, NoMemory>
-        ensures { IfOk result (λ acks. acks ≡ acked_after own count self.now.acked message.now.from message.now.ack) }
+        ensures { IfOk result
+            (λ acks. acks ≡ acked_after own count self.now.acked message.now.from message.now.ack) }
     {
         let mut acks = self.acks.copy()?;
         if let Some((origin, number)) = message.ack {
@@ -163,7 +164,8 @@ impl Peers {
 
     /// What was got once a message is heard.
     fn got_after(&self, message: &Message) -> Result<Places, NoMemory>
-        ensures { IfOk result (λ got. got ≡ (got_by self.now message.now.from message.now.up_to message.now.body).got) }
+        ensures { IfOk result (λ got. got
+            ≡ (got_by self.now message.now.from message.now.up_to message.now.body).got) }
     {
         let mut got = self.got.copy()?;
         match message.body {
@@ -181,7 +183,8 @@ impl Peers {
 
     /// Who is owed an answer once a message is heard.
     fn owed_after(&self, message: &Message) -> Result<NodeSet, NoMemory>
-        ensures { IfOk result (λ owed. owed ≡ (got_by self.now message.now.from message.now.up_to message.now.body).owed) }
+        ensures { IfOk result (λ owed. owed
+            ≡ (got_by self.now message.now.from message.now.up_to message.now.body).owed) }
     {
         let mut owed = self.owed.copy()?;
         match message.body {

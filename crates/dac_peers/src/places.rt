@@ -74,7 +74,8 @@ impl Places {
     /// A node has got to a place, unless it was further already. [`NoMemory`] is the only error, and leaves all
     /// as it was.
     pub(crate) fn raise(&mut self, node: NodeId, place: Place) -> Result<(), NoMemory>
-        ensures ok { OnOk result (self.new ≡ map.insert self.old node (got_after (map.get self.old node) place)) }
+        ensures ok { OnOk result
+            (self.new ≡ map.insert self.old node (got_after (map.get self.old node) place)) }
         ensures err { OnErr result (self.new ≡ self.old) }
     {
         let latest = match self.get(node) {

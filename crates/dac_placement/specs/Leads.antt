@@ -7,18 +7,21 @@ use Rattle.dac_state.specs.StateValue.{StateValue}
 use Rattle.dac_placement.specs.Placement.{IsEligible, is_eligible}
 use Rattle.dac_placement.specs.declared.leading.Lead.{Lead}
 
--- The node is an eligible one of the first n, and no eligible one of these is of an earlier group. Where it is said to be
--- alone, no other eligible one of these is of its group
+-- The node is an eligible one of the first n, and no eligible one of these is of an earlier group. Where it is said to
+-- be alone, no other eligible one of these is of its group
 pub record IsLead (table : Table) (s : StateValue) (app : AppId) (n : ℕ) (lead : Lead) : Type 0 where
   pub node : lead.node.0 < n
   pub eligible : IsEligible table s app lead.node
   pub group : group_of table app lead.node ≡ Some lead.group
-  pub earliest : (m : NodeId) → m.0 < n → IsEligible table s app m → (g : ℕ) → group_of table app m ≡ Some g → lead.group ≤ g
-  pub alone : lead.alone ≡ true → (m : NodeId) → m.0 < n → IsEligible table s app m → group_of table app m ≡ Some lead.group → m ≡ lead.node
+  pub earliest : (m : NodeId) → m.0 < n → IsEligible table s app m → (g : ℕ) → group_of table app m ≡ Some g
+      → lead.group ≤ g
+  pub alone : lead.alone ≡ true → (m : NodeId) → m.0 < n → IsEligible table s app m
+      → group_of table app m ≡ Some lead.group → m ≡ lead.node
 
 -- who leads the first n nodes, or that none of them is eligible
 abbrev pub Leads : Table → StateValue → AppId → ℕ → Option Lead → Type 0
-Leads table s app n lead = MatchOption lead ((m : NodeId) → m.0 < n → ¬ IsEligible table s app m) (λ l. IsLead table s app n l)
+Leads table s app n lead =
+    MatchOption lead ((m : NodeId) → m.0 < n → ¬ IsEligible table s app m) (λ l. IsLead table s app n l)
 
 -- the group of a node that is eligible
 abbrev pub group_if : Table → StateValue → AppId → NodeId → Option ℕ

@@ -111,7 +111,8 @@ pub record RunsAt (table : Table) (s : StateValue) (app : AppId) (node : NodeId)
 
 -- the same, as a test
 abbrev pub runs_at : Table → StateValue → AppId → NodeId → Bool
-runs_at table s app node = option_map_or (λ (o : Origin). (o.node.0 == node.0) && is_up s o) (holder_of s app) false && is_eligible table s app node
+runs_at table s app node = option_map_or (λ (o : Origin). (o.node.0 == node.0) && is_up s o) (holder_of s app) false
+    && is_eligible table s app node
 
 -- the node at which the application runs, if it runs at any: its holder's, where it runs there
 abbrev pub runner_of : Table → StateValue → AppId → Option NodeId
@@ -135,11 +136,13 @@ abbrev pub AreDistinct : List AppId → Type 0
 AreDistinct [] = Unit {0}
 AreDistinct (a ∷ apps) = ¬ IsOneOf a apps × AreDistinct apps
 
--- n is the load in words: there are so many applications of the configuration, other than this one, that run at the node
+-- n is the load in words: there are so many applications of the configuration, other than this one, that
+-- run at the node
 pub record IsLoad (table : Table) (s : StateValue) (app : AppId) (node : NodeId) (n : ℕ) : Type 0 where
   pub apps : List AppId
   pub distinct : AreDistinct apps
-  pub each : (other : AppId) → IsOneOf other apps ↔ ((other.0 < app_count table) × ¬ (other ≡ app) × RunsAt table s other node)
+  pub each : (other : AppId)
+      → IsOneOf other apps ↔ ((other.0 < app_count table) × ¬ (other ≡ app) × RunsAt table s other node)
   pub count : n ≡ length apps
 
 -- ---- who is first
@@ -177,7 +180,8 @@ pub record IsFirst (table : Table) (s : StateValue) (app : AppId) (n : NodeId) :
   pub node : n.0 < node_count table
   pub eligible : IsEligible table s app n
   pub earliest : EachEligible table s app (λ m. ¬ IsEarlier table app m n)
-  pub preferred : EachEligible table s app (λ m. group_of table app m ≡ group_of table app n → IsPreferred table s app n m)
+  pub preferred : EachEligible table s app
+      (λ m. group_of table app m ≡ group_of table app n → IsPreferred table s app n m)
 
 -- where an eligible node stands: by group, by load, and by name
 abbrev pub rank_of : Table → StateValue → AppId → NodeId → Option Rank
@@ -191,7 +195,8 @@ nodes_of table = list_map (λ n. record { 0 = n }) (range_with_len 0 (node_count
 
 -- the eligible node of the least rank
 abbrev pub first_choice : Table → StateValue → AppId → Option NodeId
-first_choice table s app = option_map (λ (rank : Rank). rank.node) (reduce (ord_min rank_cmp) (filter_map (rank_of table s app) (nodes_of table)))
+first_choice table s app = option_map (λ (rank : Rank). rank.node)
+    (reduce (ord_min rank_cmp) (filter_map (rank_of table s app) (nodes_of table)))
 
 -- ---- the verdict
 
@@ -210,7 +215,8 @@ IsStanding table s app Unclaimed = holder_of s app ≡ None
 IsStanding table s app Lost = HeldBy s app (λ o. ¬ IsUp s o)
 IsStanding table s app (Stopped n) = HeldBy s app (λ o. (o.node ≡ n) × IsUp s o × ¬ IsStartedAt s (key_of app o))
 IsStanding table s app Barred = HeldBy s app (λ o. IsUp s o × IsStartedAt s (key_of app o) × ¬ IsAllowedAt table s (key_of app o))
-IsStanding table s app (Upheld n) = HeldBy s app (λ o. (o.node ≡ n) × IsUp s o × IsStartedAt s (key_of app o) × IsAllowedAt table s (key_of app o))
+IsStanding table s app (Upheld n) =
+    HeldBy s app (λ o. (o.node ≡ n) × IsUp s o × IsStartedAt s (key_of app o) × IsAllowedAt table s (key_of app o))
 
 -- What is to become of the application. It is to be started, to fail over or to be moved at the first choice, where
 -- there is one. A stopped one is left alone. Where all is well, it is taken over exactly where an eligible node's
@@ -220,9 +226,12 @@ IsVerdict table s app (Start n) = IsStanding table s app Unclaimed × IsFirst ta
 IsVerdict table s app (Failover n) = IsStanding table s app Lost × IsFirst table s app n
 IsVerdict table s app (Halted n) = IsStanding table s app (Stopped n)
 IsVerdict table s app (Move n) = IsStanding table s app Barred × IsFirst table s app n
-IsVerdict table s app (Takeover n) = (holder : NodeId) × IsStanding table s app (Upheld holder) × IsFirst table s app n × IsEarlier table app n holder
-IsVerdict table s app (Kept n) = IsStanding table s app (Upheld n) × EachEligible table s app (λ m. ¬ IsEarlier table app m n)
-IsVerdict table s app Nobody = EachEligible table s app (λ _. ⊥) × (IsStanding table s app Unclaimed ⊎ (IsStanding table s app Lost ⊎ IsStanding table s app Barred))
+IsVerdict table s app (Takeover n) =
+    (holder : NodeId) × IsStanding table s app (Upheld holder) × IsFirst table s app n × IsEarlier table app n holder
+IsVerdict table s app (Kept n) =
+    IsStanding table s app (Upheld n) × EachEligible table s app (λ m. ¬ IsEarlier table app m n)
+IsVerdict table s app Nobody = EachEligible table s app (λ _. ⊥)
+    × (IsStanding table s app Unclaimed ⊎ (IsStanding table s app Lost ⊎ IsStanding table s app Barred))
 
 -- how the application stands at this holder
 abbrev pub standing_at : Table → StateValue → AppId → Origin → Standing

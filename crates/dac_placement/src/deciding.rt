@@ -31,7 +31,8 @@ pub fn verdict(config: &Config, state: &State, app: AppId) -> Verdict
 /// The verdict, where the application stands so and no load is asked for it.
 fn early_verdict(config: &Config, state: &State, app: AppId, standing: Standing) -> Option<Verdict>
     requires { app.0 < app_count config.now }
-    ensures { IfSome result (λ verdict. verdict ≡ verdict_by config.now app standing (first_choice config.now state.now app)) }
+    ensures { IfSome result (λ verdict. verdict
+        ≡ verdict_by config.now app standing (first_choice config.now state.now app)) }
 {
     match standing {
         Standing::Stopped(holder) => Some(Verdict::Halted(holder)),
@@ -45,7 +46,8 @@ fn early_verdict(config: &Config, state: &State, app: AppId, standing: Standing)
 /// Whether an eligible node's group is earlier than that of the holder.
 fn has_earlier(config: &Config, state: &State, app: AppId, holder: NodeId) -> bool
     requires { app.0 < app_count config.now }
-    ensures { result ≡ false → EachEligible config.now state.now app (λ m. ¬ IsEarlier config.now app m holder) }
+    ensures { result ≡ false
+        → EachEligible config.now state.now app (λ m. ¬ IsEarlier config.now app m holder) }
 {
     match config.group_of(app, holder) {
         Some(late) => has_before(config, state, app, late),
@@ -56,7 +58,9 @@ fn has_earlier(config: &Config, state: &State, app: AppId, holder: NodeId) -> bo
 /// Whether an eligible node's group is earlier than this one. No group is earlier than the first one.
 fn has_before(config: &Config, state: &State, app: AppId, late: u16) -> bool
     requires { app.0 < app_count config.now }
-    ensures { result ≡ false → EachEligible config.now state.now app (λ m. is_less (group_of config.now app m) (Some late) ≡ false) }
+    ensures { result ≡ false
+        → EachEligible config.now state.now app
+        (λ m. is_less (group_of config.now app m) (Some late) ≡ false) }
 {
     if late == 0 {
         return false;
@@ -72,7 +76,9 @@ fn has_before(config: &Config, state: &State, app: AppId, late: u16) -> bool
 /// Whether a node is eligible and its group is earlier than this one.
 fn comes_before(config: &Config, state: &State, app: AppId, node: NodeId, late: u16) -> bool
     requires { app.0 < app_count config.now }
-    ensures { result ≡ (is_less (group_of config.now app node) (Some late) && is_eligible config.now state.now app node) }
+    ensures { result
+        ≡ (is_less (group_of config.now app node) (Some late)
+        && is_eligible config.now state.now app node) }
 {
     match config.group_of(app, node) {
         Some(early) => early < late && eligible(config, state, app, node),

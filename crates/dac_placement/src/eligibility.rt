@@ -27,8 +27,10 @@ pub fn eligible(config: &Config, state: &State, app: AppId, node: NodeId) -> boo
 /// Whether the application is allowed and started at this incarnation.
 fn is_wanted(config: &Config, state: &State, key: Key) -> bool
     requires { key.app.0 < app_count config.now }
-    ensures value { result ≡ (is_allowed_at config.now state.now key && is_started_at state.now key) }
-    ensures cases { IsTrue result ↔ (IsAllowedAt config.now state.now key × IsStartedAt state.now key) }
+    ensures value { result
+        ≡ (is_allowed_at config.now state.now key && is_started_at state.now key) }
+    ensures cases { IsTrue result
+        ↔ (IsAllowedAt config.now state.now key × IsStartedAt state.now key) }
 {
     let allowed = is_allowed(config, state, key);
     let started = is_started(state, key);

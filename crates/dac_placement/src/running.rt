@@ -64,7 +64,8 @@ pub fn runner(config: &Config, state: &State, app: AppId) -> Option<NodeId>
 /// no node of the configuration. It takes no memory.
 pub fn holder(state: &State, app: AppId) -> Option<Origin>
     ensures value { result ≡ holder_of state.now app }
-    ensures cases { (origin : Incarnation) → (result ≡ Some origin) ↔ IsHolder state.now app origin }
+    ensures cases { (origin : Incarnation)
+        → (result ≡ Some origin) ↔ IsHolder state.now app origin }
 {
     let claim = state.claims().greatest(app)?;
     Some(claim.origin)

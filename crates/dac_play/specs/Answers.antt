@@ -17,7 +17,8 @@ use Rattle.dac_play.specs.Ticks.{ticked_text}
 abbrev pub reply_text : Table → List ℕ → Reply → Counts → List ℕ
 reply_text table node (Booted operation) counts = booted_text operation.dot.origin.inc counts.operations
 reply_text table node Crashed counts = crashed_text
-reply_text table node (Issued operation) counts = issued_text counts.operations node operation.dot.origin.inc operation.dot.n
+reply_text table node (Issued operation) counts =
+    issued_text counts.operations node operation.dot.origin.inc operation.dot.n
 reply_text table node (Ticked ops passed) counts = ticked_text table counts.operations ops passed
 reply_text table node Held counts = held_text
 reply_text table node GaveUp counts = gave_up_text

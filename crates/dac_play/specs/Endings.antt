@@ -22,7 +22,8 @@ IsRefusal failure ending.Stopped old new = Unit {0}
 
 -- A command ended well, as `Well` says, or was refused for a failure of its input, as `Fails` says, whose line was
 -- printed. Where it stopped because memory was refused or the output took no more, nothing is said.
-abbrev pub Ends : (Option (List ℕ) → Option (List ℕ) → Type 0) → (Failure → Type 0) → Ending → Option (List ℕ) → Option (List ℕ) → Type 0
+abbrev pub Ends : (Option (List ℕ) → Option (List ℕ) → Type 0) → (Failure → Type 0) → Ending → Option (List ℕ)
+    → Option (List ℕ) → Type 0
 Ends Well Fails ending.Done old new = Well old new
 Ends Well Fails (ending.Refused why) old new = Fails why × Appends old new (failure_text why)
 Ends Well Fails ending.Stopped old new = Unit {0}

@@ -43,7 +43,8 @@ pub record IsShared (table : Table) (old new : WorldValue) : Type 0 where
 
 -- as what a node runs, and the page of its state; a node that is off has none
 abbrev pub shown_text : Table → NodeId → Option Origin → Option StateValue → List ℕ
-shown_text table node origin state = header_text (node_name table node) origin ++ option_map_or (λ s. page_text table (summary_of table s)) state []
+shown_text table node origin state =
+    header_text (node_name table node) origin ++ option_map_or (λ s. page_text table (summary_of table s)) state []
 
 -- the bytes of the state of a node of this name, or that it is off
 abbrev pub bytes_text : List ℕ → Option StateValue → List ℕ
@@ -72,11 +73,13 @@ after_line table w (says.Feed bytes) = w
 
 -- what is printed for a line
 abbrev pub line_text : Table → ModelWorld → ScriptLine → List ℕ
-line_text table w (says.Event event) = answer_text table event (happens table w event).answer (counts_in (happens table w event).world)
+line_text table w (says.Event event) =
+    answer_text table event (happens table w event).answer (counts_in (happens table w event).world)
 line_text table w says.Share = shared_text (length (shared table w).messages - length w.messages)
 line_text table w (says.Page node) = shown_text table node (origin_in w node) (state_in w node)
 line_text table w (says.State node) = bytes_text (node_name table node) (state_in w node)
-line_text table w (says.Same first second) = compare_text (node_name table first) (node_name table second) (state_in w first) (state_in w second)
+line_text table w (says.Same first second) =
+    compare_text (node_name table first) (node_name table second) (state_in w first) (state_in w second)
 line_text table w (says.Bytes message) = message_text table message (counted w.messages message)
 line_text table w (says.Feed bytes) = fed_text (packet_at table bytes)
 
@@ -86,5 +89,7 @@ script_text table w [] = []
 script_text table w (line ∷ lines) = line_text table w line ++ script_text table (after_line table w line) lines
 
 -- From old, a line prints this text and leads to new, as in each model world that shows as old.
-pub record PlaysLine (table : Table) (old : WorldValue) (line : ScriptLine) (text : List ℕ) (new : WorldValue) : Type 0 where
-  pub each : (w : ModelWorld) → Shows table w old → (text ≡ line_text table w line) × Shows table (after_line table w line) new
+pub record PlaysLine (table : Table) (old : WorldValue) (line : ScriptLine) (text : List ℕ)
+    (new : WorldValue) : Type 0 where
+  pub each : (w : ModelWorld) → Shows table w old
+      → (text ≡ line_text table w line) × Shows table (after_line table w line) new

@@ -28,7 +28,8 @@ deliveries to shipped = if is_ok shipped.answer then delivery (length shipped.wo
 -- the events by which these nodes tell these: for each pair a ship, and where anything was shipped its delivery
 abbrev pub telling : Table → ModelWorld → List (NodeId × NodeId) → List WorldEvent
 telling t w [] = []
-telling t w (pair ∷ all) = shipping pair ∷ (deliveries pair.1 (happens t w (shipping pair)) ++ telling t (told t w pair) all)
+telling t w (pair ∷ all) =
+    shipping pair ∷ (deliveries pair.1 (happens t w (shipping pair)) ++ telling t (told t w pair) all)
 
 -- the nodes that tell each other by a share
 abbrev pub pairs_in : ModelWorld → List (NodeId × NodeId)
@@ -71,10 +72,12 @@ pub record IsRunOf (t : Table) (lines : List ScriptLine) (v : WorldValue) : Type
 
 -- no event is refused since numbers are used up
 abbrev pub HaveNumbers : List (Result Reply WorldFault) → Type 0
-HaveNumbers answers = AllByRecursion (λ (answer : Result Reply WorldFault). ¬ (answer ≡ Err (Refused DotsUsedUp))) answers
+HaveNumbers answers =
+    AllByRecursion (λ (answer : Result Reply WorldFault). ¬ (answer ≡ Err (Refused DotsUsedUp))) answers
 
--- A share from this world on, beside the world of sets, leaves all running nodes the union of what they had. It does so
--- where each of them knows the present incarnation of each other one, or nothing of its life, and no numbers are used up.
+-- A share from this world on, beside the world of sets, leaves all running nodes the union of what they had. It
+-- does so where each of them knows the present incarnation of each other one, or nothing of its life, and no
+-- numbers are used up.
 abbrev pub ShareUnites : Table → ModelWorld → SetWorld → Type 0
 ShareUnites t w sets =
     let share = telling t w (pairs_in w) in

@@ -55,5 +55,7 @@ pub record Leads (table : Table) (old : WorldValue) (by : ModelWorld → ModelWo
 
 -- From old, the program's world accepts this event or refuses it, and goes on to new. So does each model world that
 -- shows as old.
-pub record IsAnswered (table : Table) (old : WorldValue) (event : WorldEvent) (accepted : Bool) (new : WorldValue) : Type 0 where
-  pub each : (w : ModelWorld) → Shows table w old → (accepted ≡ is_ok (happens table w event).answer) × Shows table (happens table w event).world new
+pub record IsAnswered (table : Table) (old : WorldValue) (event : WorldEvent) (accepted : Bool)
+    (new : WorldValue) : Type 0 where
+  pub each : (w : ModelWorld) → Shows table w old
+      → (accepted ≡ is_ok (happens table w event).answer) × Shows table (happens table w event).world new

@@ -16,7 +16,8 @@ use Rattle.dac_config.specs.Canonical.{name_text}
 
 -- a boot: the incarnation, and the number of the operation that it issued
 abbrev pub booted_text : ℕ → ℕ → List ℕ
-booted_text incarnation operation = codes "booted " ++ (decimal incarnation ++ (codes " op " ++ (decimal operation ++ codes "\n")))
+booted_text incarnation operation =
+    codes "booted " ++ (decimal incarnation ++ (codes " op " ++ (decimal operation ++ codes "\n")))
 
 -- an operation of a command: its number, its node, its incarnation and its counter
 abbrev pub issued_text : ℕ → List ℕ → ℕ → ℕ → List ℕ
@@ -25,8 +26,10 @@ issued_text operation node incarnation counter =
 
 -- a message on its way: its number, what it brings, and how many dots the state that it brings has heard
 abbrev pub shipped_text : ℕ → Body → List ℕ
-shipped_text message (Whole s) = codes "shipped " ++ (decimal message ++ (codes " whole " ++ (decimal (set.len s.heard) ++ codes "\n")))
-shipped_text message (Interval s) = codes "shipped " ++ (decimal message ++ (codes " interval " ++ (decimal (set.len s.heard) ++ codes "\n")))
+shipped_text message (Whole s) =
+    codes "shipped " ++ (decimal message ++ (codes " whole " ++ (decimal (set.len s.heard) ++ codes "\n")))
+shipped_text message (Interval s) =
+    codes "shipped " ++ (decimal message ++ (codes " interval " ++ (decimal (set.len s.heard) ++ codes "\n")))
 shipped_text message Nothing = codes "shipped " ++ (decimal message ++ codes " nothing\n")
 
 -- messages were shipped and delivered from each node that runs to each other one
@@ -73,7 +76,8 @@ hex_text bytes = encode_lower bytes ++ codes "\n"
 
 -- a fault of the input as a whole: its number and its name
 abbrev pub input_fault_text : InputFault → List ℕ
-input_fault_text fault = codes "input fault " ++ (decimal (input_number fault) ++ (codes " " ++ (input_name fault ++ codes "\n")))
+input_fault_text fault =
+    codes "input fault " ++ (decimal (input_number fault) ++ (codes " " ++ (input_name fault ++ codes "\n")))
 
 -- a fault of the configuration: its number, its name and its byte
 abbrev pub config_fault_text : ConfigFault → List ℕ

@@ -20,7 +20,8 @@ app_text table app = if nat_lt app.0 (app_count table) then name_text (app_name 
 abbrev pub term_text : Table → ℕ → How → Option NodeId → List ℕ
 term_text table term how from = codes " term " ++ (decimal term ++ (how_text how ++ from_text table from))
 
--- a claim, the operation of this number: its application and term, and how the application comes to the node; a tick issues nothing else
+-- a claim, the operation of this number: its application and term, and how the application comes to the node; a
+-- tick issues nothing else
 abbrev pub claim_text : Table → ℕ → Act → List ℕ
 claim_text table operation (Claim app term how from) =
     codes "claim " ++ (decimal operation ++ (codes " " ++ (app_text table app ++ (term_text table term how from ++ codes "\n"))))
@@ -35,7 +36,8 @@ claims_text table before (o ∷ os) = claim_text table (before + 1) o.act ++ cla
 abbrev pub passed_text : Table → AppId → List ℕ
 passed_text table app = codes "passed " ++ (app_text table app ++ codes "\n")
 
--- a tick that issued these operations and passed these applications; so many operations were issued in the world by then
+-- a tick that issued these operations and passed these applications; so many operations were issued in
+-- the world by then
 abbrev pub ticked_text : Table → ℕ → List Operation → List AppId → List ℕ
 ticked_text table operations ops passed =
     codes "ticked\n" ++ (claims_text table (operations - length ops) ops ++ flat_map (passed_text table) passed)

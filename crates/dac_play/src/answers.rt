@@ -33,7 +33,8 @@ fn reply_line(
     counts: Counts,
 ) -> Result<Vec<u8>, NoMemory>
     requires { node.0 < node_count config.now }
-    ensures { IfOk result (λ line. line.items ≡ reply_text config.now (node_name config.now node) reply.now counts) }
+    ensures { IfOk result
+        (λ line. line.items ≡ reply_text config.now (node_name config.now node) reply.now counts) }
 {
     match reply {
         Reply::Booted(operation) => {
@@ -111,7 +112,8 @@ pub fn answer_line(
     counts: Counts,
 ) -> Result<Vec<u8>, NoMemory>
     requires { event.now.node.0 < node_count config.now }
-    ensures text { IfOk result (λ line. line.items ≡ answer_text config.now event.now answer.now counts) }
+    ensures text { IfOk result
+        (λ line. line.items ≡ answer_text config.now event.now answer.now counts) }
     ensures enough { OnOk result (answer.now ≢ out_of_memory) }
 {
     match answer {

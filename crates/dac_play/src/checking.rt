@@ -15,7 +15,8 @@ use std::io::{Read, Write};
 /// The canonical text of the configuration that an input is, or why it is none. The input as such is looked at first,
 /// and then what it says. `NoMemory` is answered only where memory is refused before a fault is met.
 pub fn canonical<R: Read>(alloc: Global, source: &mut Source<'_, R>) -> Result<Vec<u8>, Failure>
-    ensures says { IfOk result (λ text. IfSome source.old.left (λ bytes. IsCanonicalOf bytes text.items)) }
+    ensures says { IfOk result
+        (λ text. IfSome source.old.left (λ bytes. IsCanonicalOf bytes text.items)) }
     ensures fails { IfErr result (λ why. IfSome source.old.left (λ bytes. IsUnchecked bytes why)) }
     ensures reads { IsReadBy result source.new }
     ensures bound { IsReadWithinBound source.old.left source.new.left }
@@ -33,7 +34,8 @@ pub fn check_source<R: Read, W: Write>(
     source: &mut Source<'_, R>,
     output: &mut W,
 ) -> Ending
-    ensures ends { IfSome source.old.left (λ bytes. EndsCheck bytes result (W.contents output.old) (W.contents output.new)) }
+    ensures ends { IfSome source.old.left
+        (λ bytes. EndsCheck bytes result (W.contents output.old) (W.contents output.new)) }
     ensures reads { IsLeftAt result source.new }
     // However it ends, no more was read than the bound and one byte.
     ensures bound { IsReadWithinBound source.old.left source.new.left }
@@ -51,7 +53,8 @@ pub fn check_source<R: Read, W: Write>(
 
 /// As [`check_source`], of a reader of which nothing was read.
 pub fn check<R: Read, W: Write>(alloc: Global, input: &mut R, output: &mut W) -> Ending
-    ensures ends { IfSome (R.remaining input.old) (λ bytes. EndsCheck bytes result (W.contents output.old) (W.contents output.new)) }
+    ensures ends { IfSome (R.remaining input.old)
+        (λ bytes. EndsCheck bytes result (W.contents output.old) (W.contents output.new)) }
     ensures bound { IsReadWithinBound (R.remaining input.old) (R.remaining input.new) }
 {
     let mut source = Source::new(input);

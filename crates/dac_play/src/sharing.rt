@@ -26,7 +26,8 @@ fn runs(world: &World, node: NodeId) -> bool
 /// The nodes that run, in the order of their names.
 fn running(alloc: Global, config: &Config, world: &World) -> Result<Vec<NodeId>, NoMemory>
     requires { length world.now.nodes ≡ node_count config.now }
-    ensures { IfOk result (λ nodes. nodes.items ≡ having_state (state_at world.now) (node_count config.now)) }
+    ensures { IfOk result
+        (λ nodes. nodes.items ≡ having_state (state_at world.now) (node_count config.now)) }
 {
     let mut nodes = Vec::new(alloc);
     for number in 0..config.nodes() {
@@ -53,7 +54,8 @@ fn was_accepted(answer: &Result<Reply, WorldFault>) -> Result<bool, NoMemory>
 /// One event of the world: whether it was accepted. After one that is refused all is as before.
 fn accepts(config: &Config, world: &mut World, event: &WorldEvent) -> Result<bool, NoMemory>
     ensures count { length world.new.nodes ≡ length world.old.nodes }
-    ensures answers { IfOk result (λ accepted. IsAnswered config.now world.old event.now accepted world.new) }
+    ensures answers { IfOk result
+        (λ accepted. IsAnswered config.now world.old event.now accepted world.new) }
 {
     let answer = world.step(config, event);
     was_accepted(&answer)
@@ -62,7 +64,8 @@ fn accepts(config: &Config, world: &mut World, event: &WorldEvent) -> Result<boo
 /// A node ships to another one, and the message is delivered at once.
 fn tell(config: &Config, world: &mut World, pair: (NodeId, NodeId)) -> Result<(), NoMemory>
     ensures count { length world.new.nodes ≡ length world.old.nodes }
-    ensures leads { OnOk result (Leads config.now world.old (λ w. told config.now w pair) world.new) }
+    ensures leads { OnOk result
+        (Leads config.now world.old (λ w. told config.now w pair) world.new) }
 {
     let (from, to) = pair;
     let ship = WorldEvent {

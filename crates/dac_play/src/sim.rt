@@ -54,7 +54,8 @@ fn event_step(
     requires actor { event.now.node.0 < node_count config.now }
     requires all { length world.old.nodes ≡ node_count config.now }
     ensures all { length world.new.nodes ≡ node_count config.now }
-    ensures plays { IfOk result (λ text. PlaysLine config.now world.old (says.Event event.now) text.items world.new) }
+    ensures plays { IfOk result
+        (λ text. PlaysLine config.now world.old (says.Event event.now) text.items world.new) }
 {
     let answer = world.step(config, event);
     let counts = Counts {
@@ -68,7 +69,8 @@ fn event_step(
 fn share_step(alloc: Global, config: &Config, world: &mut World) -> Result<Vec<u8>, NoMemory>
     requires { length world.old.nodes ≡ node_count config.now }
     ensures all { length world.new.nodes ≡ node_count config.now }
-    ensures plays { IfOk result (λ text. PlaysLine config.now world.old says.Share text.items world.new) }
+    ensures plays { IfOk result
+        (λ text. PlaysLine config.now world.old says.Share text.items world.new) }
 {
     let before = world.messages().len();
     share(alloc, config, world)?;
@@ -87,7 +89,8 @@ fn step(
     requires actors { HasActors (node_count config.now) line.now }
     requires all { length world.old.nodes ≡ node_count config.now }
     ensures all { length world.new.nodes ≡ node_count config.now }
-    ensures plays { IfOk result (λ text. PlaysLine config.now world.old line.now text.items world.new) }
+    ensures plays { IfOk result
+        (λ text. PlaysLine config.now world.old line.now text.items world.new) }
 {
     match line {
         ScriptLine::Event(event) => event_step(alloc, config, world, event),
@@ -110,7 +113,8 @@ pub fn play<W: Write>(
     output: &mut W,
 ) -> Result<(), Stop>
     requires { All (HasActors (node_count config.now)) script.now }
-    ensures prints { OnOk result (Appends (W.contents output.old) (W.contents output.new) (script_text config.now (start config.now) script.now)) }
+    ensures prints { OnOk result (Appends (W.contents output.old) (W.contents output.new)
+        (script_text config.now (start config.now) script.now)) }
     // The worlds that its lines show are those of runs, so what every run leaves holds of them.
     ensures runs { OnOk result (PlaysRuns config.now script.now) }
 {
@@ -134,7 +138,8 @@ pub fn simulate_source<R: Read, W: Write>(
     source: &mut Source<'_, R>,
     output: &mut W,
 ) -> Ending
-    ensures ends { IfSome source.old.left (λ bytes. EndsSim bytes result (W.contents output.old) (W.contents output.new)) }
+    ensures ends { IfSome source.old.left
+        (λ bytes. EndsSim bytes result (W.contents output.old) (W.contents output.new)) }
     ensures reads { IsLeftAt result source.new }
     // However it ends, no more was read than the bound and one byte.
     ensures bound { IsReadWithinBound source.old.left source.new.left }
@@ -156,7 +161,8 @@ pub fn simulate_source<R: Read, W: Write>(
 
 /// As [`simulate_source`], of a reader of which nothing was read.
 pub fn simulate<R: Read, W: Write>(alloc: Global, input: &mut R, output: &mut W) -> Ending
-    ensures ends { IfSome (R.remaining input.old) (λ bytes. EndsSim bytes result (W.contents output.old) (W.contents output.new)) }
+    ensures ends { IfSome (R.remaining input.old)
+        (λ bytes. EndsSim bytes result (W.contents output.old) (W.contents output.new)) }
     ensures bound { IsReadWithinBound (R.remaining input.old) (R.remaining input.new) }
 {
     let mut source = Source::new(input);

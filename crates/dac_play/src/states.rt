@@ -30,7 +30,8 @@ pub fn shown_lines(
 ) -> Result<Vec<u8>, NoMemory>
     requires node { node.0 < node_count config.now }
     requires all { length world.now.nodes ≡ node_count config.now }
-    ensures { IfOk result (λ lines. lines.items ≡ shown_text config.now node (origin_at world.now node) (state_at world.now node)) }
+    ensures { IfOk result (λ lines. lines.items
+        ≡ shown_text config.now node (origin_at world.now node) (state_at world.now node)) }
 {
     let mut lines = header(alloc, config, node, world.node(node).origin())?;
     if let Some(state) = state_at(world, node) {
@@ -50,7 +51,8 @@ pub fn bytes_line(
 ) -> Result<Vec<u8>, NoMemory>
     requires node { node.0 < node_count config.now }
     requires all { length world.now.nodes ≡ node_count config.now }
-    ensures { IfOk result (λ line. line.items ≡ bytes_text (node_name config.now node) (state_at world.now node)) }
+    ensures { IfOk result
+        (λ line. line.items ≡ bytes_text (node_name config.now node) (state_at world.now node)) }
 {
     let Some(state) = state_at(world, node) else {
         return header(alloc, config, node, None);
@@ -71,7 +73,9 @@ pub fn compare_line(
     requires first { first.0 < node_count config.now }
     requires second { second.0 < node_count config.now }
     requires all { length world.now.nodes ≡ node_count config.now }
-    ensures { IfOk result (λ line. line.items ≡ compare_text (node_name config.now first) (node_name config.now second) (state_at world.now first) (state_at world.now second)) }
+    ensures { IfOk result (λ line. line.items
+        ≡ compare_text (node_name config.now first) (node_name config.now second)
+        (state_at world.now first) (state_at world.now second)) }
 {
     let Some(one) = state_at(world, first) else {
         return header(alloc, config, first, None);

@@ -29,7 +29,8 @@ pub fn issued_line(
     incarnation: u64,
     counter: u64,
 ) -> Result<Vec<u8>, NoMemory>
-    ensures { IfOk result (λ line. line.items ≡ issued_text operation node.now incarnation counter) }
+    ensures { IfOk result
+        (λ line. line.items ≡ issued_text operation node.now incarnation counter) }
 {
     let mut line = format!(in alloc; "issued {operation} ")?.into_bytes();
     put_printed_name(&mut line, node)?;

@@ -76,7 +76,8 @@ fn put_claims(
     ops: &[Op],
 ) -> Result<(), NoMemory>
     requires { before + length ops.now ≤ usize.MAX }
-    ensures { OnOk result (lines.new.items ≡ lines.old.items ++ claims_text config.now before ops.now) }
+    ensures { OnOk result
+        (lines.new.items ≡ lines.old.items ++ claims_text config.now before ops.now) }
 {
     let mut number = before;
     for operation in ops {
@@ -104,7 +105,8 @@ fn put_passed(
     config: &Config,
     passed: &[AppId],
 ) -> Result<(), NoMemory>
-    ensures { OnOk result (lines.new.items ≡ lines.old.items ++ flat_map (passed_text config.now) passed.now) }
+    ensures { OnOk result
+        (lines.new.items ≡ lines.old.items ++ flat_map (passed_text config.now) passed.now) }
 {
     for app in passed {
         let line = passed_line(alloc, config, *app)?;
@@ -122,7 +124,8 @@ pub fn ticked_lines(
     ops: &[Op],
     passed: &[AppId],
 ) -> Result<Vec<u8>, NoMemory>
-    ensures { IfOk result (λ lines. lines.items ≡ ticked_text config.now operations ops.now passed.now) }
+    ensures { IfOk result
+        (λ lines. lines.items ≡ ticked_text config.now operations ops.now passed.now) }
 {
     let mut lines = Vec::from_slice(alloc, b"ticked\n")?;
     let before = operations.saturating_sub(ops.len());

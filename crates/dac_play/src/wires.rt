@@ -71,7 +71,8 @@ pub fn message_line(
     messages: &[Message],
     number: u64,
 ) -> Result<Vec<u8>, NoMemory>
-    ensures { IfOk result (λ line. line.items ≡ message_text config.now number (counted messages.now number)) }
+    ensures { IfOk result
+        (λ line. line.items ≡ message_text config.now number (counted messages.now number)) }
 {
     match message_of(messages, number) {
         Some(message) => {

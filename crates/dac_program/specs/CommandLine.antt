@@ -11,7 +11,8 @@ required app = record { top = record app.top { subcommand_required = true }; sub
 
 -- the program, with the subcommands that start no threads
 abbrev pub threadless : App
-threadless = with_subcommand (with_subcommand (required (new_app (codes "distac"))) (new_app (codes "check")).top) (new_app (codes "sim")).top
+threadless = with_subcommand (with_subcommand (required (new_app (codes "distac"))) (new_app (codes "check")).top)
+    (new_app (codes "sim")).top
 
 -- the program, with all its subcommands
 abbrev pub distac : App

@@ -184,10 +184,17 @@ fn request_of(name: Option<&str>) -> Option<Request>
 
 /// What the words ask for, the program's name first. An error holds what to print, help among it.
 pub fn read_request<'a>(alloc: Global, words: &'a [&'a str]) -> Result<Option<Request>, Error>
-    ensures request { IfOk result (λ request. request ≡ request_in (subcommand_in (map (λ word. word.now) words.entry.now))) }
-    ensures check { (name : Text) → map (λ word. word.now) words.entry.now ≡ check_words name → MatchResult result (λ request. request ≡ Some Request.Check) (λ error. kind_of error ≡ ErrorKind.OutOfMemory) }
-    ensures sim { (name : Text) → map (λ word. word.now) words.entry.now ≡ sim_words name → MatchResult result (λ request. request ≡ Some Request.Sim) (λ error. kind_of error ≡ ErrorKind.OutOfMemory) }
-    ensures live { (name : Text) → map (λ word. word.now) words.entry.now ≡ live_words name → MatchResult result (λ request. request ≡ Some Request.Live) (λ error. kind_of error ≡ ErrorKind.OutOfMemory) }
+    ensures request { IfOk result
+        (λ request. request ≡ request_in (subcommand_in (map (λ word. word.now) words.entry.now))) }
+    ensures check { (name : Text) → map (λ word. word.now) words.entry.now ≡ check_words name
+        → MatchResult result (λ request. request ≡ Some Request.Check)
+        (λ error. kind_of error ≡ ErrorKind.OutOfMemory) }
+    ensures sim { (name : Text) → map (λ word. word.now) words.entry.now ≡ sim_words name
+        → MatchResult result (λ request. request ≡ Some Request.Sim)
+        (λ error. kind_of error ≡ ErrorKind.OutOfMemory) }
+    ensures live { (name : Text) → map (λ word. word.now) words.entry.now ≡ live_words name
+        → MatchResult result (λ request. request ≡ Some Request.Live)
+        (λ error. kind_of error ≡ ErrorKind.OutOfMemory) }
 {
     let command = command(alloc)?;
     let matches = command.try_get_matches_from(words)?;

@@ -53,11 +53,20 @@ pub fn run<'a, T: Print + Eprint, H: Threads + Wait + Sync, R: Read, W: Write>(
 ) -> u8
     ensures status { result ≤ 2 }
     // What `distac check` prints is the canonical text of its input, or the line of the input's failure.
-    ensures check { (name : Text) → map (λ word. word.now) words.entry.now ≡ check_words name → EndsWith (λ bytes ending. EndsCheck bytes ending (W.contents output.old) (W.contents output.new)) (R.remaining input.old) result }
+    ensures check { (name : Text) → map (λ word. word.now) words.entry.now ≡ check_words name
+        → EndsWith
+        (λ bytes ending. EndsCheck bytes ending (W.contents output.old) (W.contents output.new))
+        (R.remaining input.old) result }
     // What `distac sim` prints is what the script of its input does, or the line of the input's failure.
-    ensures sim { (name : Text) → map (λ word. word.now) words.entry.now ≡ sim_words name → EndsWith (λ bytes ending. EndsSim bytes ending (W.contents output.old) (W.contents output.new)) (R.remaining input.old) result }
+    ensures sim { (name : Text) → map (λ word. word.now) words.entry.now ≡ sim_words name
+        → EndsWith
+        (λ bytes ending. EndsSim bytes ending (W.contents output.old) (W.contents output.new))
+        (R.remaining input.old) result }
     // What `distac live` prints is what a run of the script of its input was, or the line of the failure or the fault.
-    ensures live { (name : Text) → map (λ word. word.now) words.entry.now ≡ live_words name → EndsLiveWith (λ bytes ending. EndsLive bytes ending (W.contents output.old) (W.contents output.new)) (R.remaining input.old) result }
+    ensures live { (name : Text) → map (λ word. word.now) words.entry.now ≡ live_words name
+        → EndsLiveWith
+        (λ bytes ending. EndsLive bytes ending (W.contents output.old) (W.contents output.new))
+        (R.remaining input.old) result }
     // However it ends, no more was read than the bound and one byte.
     ensures bound { IsReadWithinBound (R.remaining input.old) (R.remaining input.new) }
 {

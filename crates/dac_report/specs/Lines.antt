@@ -59,7 +59,8 @@ told_in node caller lines answers = found (told_one node caller) (zip lines answ
 
 -- those that it is given over all phases, in order
 abbrev pub told_of : ℕ → ℕ → List Phase → List (Vec LineAnswer) → List (Result Reply Refusal)
-told_of node caller phases answers = flat_map (λ (p : Phase × Vec LineAnswer). told_in node caller p.0.lines.items p.1.items) (zip phases answers)
+told_of node caller phases answers =
+    flat_map (λ (p : Phase × Vec LineAnswer). told_in node caller p.0.lines.items p.1.items) (zip phases answers)
 
 -- ---- what answers what
 -- a line that asks has an answer, and one that reads has a fresh or a stale page
@@ -77,18 +78,22 @@ LinesAnswered lines answers = AllZip (λ (line : Line) (answer : LineAnswer). An
 
 -- each line of each phase is
 abbrev pub AreAnswered : List Phase → List (Vec LineAnswer) → Type 0
-AreAnswered phases answers = AllZip (λ (p : Phase) (all : Vec LineAnswer). LinesAnswered p.lines.items all.items) phases answers
+AreAnswered phases answers =
+    AllZip (λ (p : Phase) (all : Vec LineAnswer). LinesAnswered p.lines.items all.items) phases answers
 
 -- ---- callers' seats
 -- the records of this caller's seat are what its lines ask, in order, and were answered as the lines are
-pub record CallerHolds (node caller : ℕ) (phases : List Phase) (answers : List (Vec LineAnswer)) (records : List Record) : Type 0 where
+pub record CallerHolds (node caller : ℕ) (phases : List Phase) (answers : List (Vec LineAnswer))
+    (records : List Record) : Type 0 where
   pub asked : found (event_one caller) records ≡ asks_of node caller phases
   pub told : found (answer_one caller) records ≡ told_of node caller phases answers
 
 -- those of all callers of a node are
 abbrev pub NodeHolds : ℕ → List Phase → List (Vec LineAnswer) → List Record → Type 0
-NodeHolds node phases answers records = (caller : ℕ) → 1 ≤ caller → caller ≤ 4 → CallerHolds node caller phases answers records
+NodeHolds node phases answers records =
+    (caller : ℕ) → 1 ≤ caller → caller ≤ 4 → CallerHolds node caller phases answers records
 
 -- those of all callers of all nodes are
 abbrev pub CallersHold : List Phase → List (Vec LineAnswer) → List JournalValue → Type 0
-CallersHold phases answers closed = (node : ℕ) → node < length closed → NodeHolds node phases answers (records_at closed node)
+CallersHold phases answers closed =
+    (node : ℕ) → node < length closed → NodeHolds node phases answers (records_at closed node)

@@ -4,7 +4,9 @@ use Rattle.dac_run.specs.Record.{Record}
 use Rattle.dac_run.specs.Journals.{JournalValue, nowhere}
 use Rattle.dac_run.specs.Compared.{Linked}
 
--- The seats 1 to 4 are the callers'. Then each other node, by name, has two: its shipper's and its link worker's.
+-- The seats 1 to 4 are the callers'. Then each other node, by name, has two: its shipper's and its link
+-- worker's. Nodes before this one have the seats from 5 on. It has none at itself, so those after it have two
+-- less than their number says.
 abbrev pub shipper_seat : ℕ → ℕ → ℕ
 shipper_seat me other = if nat_lt other me then 2 * other + 5 else 2 * other + 3
 
@@ -17,7 +19,8 @@ records_at all i = (slice_index_or all i (record { opening = nowhere; records = 
 
 -- all links from this node were used as they are to be
 abbrev pub RowHolds : ℕ → ℕ → List Record → List JournalValue → Type 0
-RowHolds phases f sender all = (t : ℕ) → t < length all → t ≢ f → Linked phases (record { 0 = t }) (shipper_seat f t) (worker_seat t f) sender (records_at all t)
+RowHolds phases f sender all = (t : ℕ) → t < length all → t ≢ f
+    → Linked phases (record { 0 = t }) (shipper_seat f t) (worker_seat t f) sender (records_at all t)
 
 -- all links were
 abbrev pub LinksHold : ℕ → List JournalValue → Type 0

@@ -131,7 +131,8 @@ fn caller_holds(
     records: &[Record],
 ) -> Result<bool, NoMemory>
     requires { AreAnswered phases.now answers.now }
-    ensures { IfOk result (λ b. b ≡ true → CallerHolds node.0 caller phases.now answers.now records.now) }
+    ensures { IfOk result
+        (λ b. b ≡ true → CallerHolds node.0 caller phases.now answers.now records.now) }
 {
     let seat = u16::from(caller);
     let asked = asked_by(alloc, phases, node, caller)?;
@@ -172,7 +173,8 @@ pub fn strange_node(
 ) -> Result<Option<NodeId>, NoMemory>
     requires few { length closed.now ≤ MAX_NODES }
     requires answered { AreAnswered phases.now answers.now }
-    ensures { IfOk result (λ strange. strange ≡ None → CallersHold phases.now answers.now closed.now) }
+    ensures { IfOk result
+        (λ strange. strange ≡ None → CallersHold phases.now answers.now closed.now) }
 {
     for i in 0..closed.len() {
         let one = &closed[i];

@@ -30,7 +30,8 @@ fn is_answered(answer: &Answer) -> Result<(), NoMemory>
 
 // The node goes on by what a record asks. It tells whether the node answers as the record says.
 fn repeats(config: &Config, me: NodeId, node: &mut Node, one: &Record) -> Result<bool, NoMemory>
-    ensures { IfOk result (λ same. same ≡ true → Steps config.now me node.old one.now.event node.new one.now.answer) }
+    ensures { IfOk result
+        (λ same. same ≡ true → Steps config.now me node.old one.now.event node.new one.now.answer) }
 {
     let event = one.event.copy()?;
     let answer = node.step(config, me, event);

@@ -38,7 +38,8 @@ fn with_events<'a>(
     node: NodeId,
     caller: u8,
 ) -> Result<Vec<&'a Event>, NoMemory>
-    ensures { IfOk result (λ more. map (λ e. e.now) more.items ≡ map (λ e. e.now) all.entry.items ++ found (ask_one node.0 caller) lines.now) }
+    ensures { IfOk result (λ more. map (λ e. e.now) more.items
+        ≡ map (λ e. e.now) all.entry.items ++ found (ask_one node.0 caller) lines.now) }
 {
     for i in 0..lines.len() {
         let line = &lines[i];
@@ -94,7 +95,8 @@ fn with_answers<'a>(
     caller: u8,
 ) -> Result<Vec<&'a Answer>, NoMemory>
     requires { length answers.now ≡ length lines.now }
-    ensures { IfOk result (λ more. map (λ a. a.now) more.items ≡ map (λ a. a.now) all.entry.items ++ told_in node.0 caller lines.now answers.now) }
+    ensures { IfOk result (λ more. map (λ a. a.now) more.items
+        ≡ map (λ a. a.now) all.entry.items ++ told_in node.0 caller lines.now answers.now) }
 {
     for i in 0..lines.len() {
         let line = &lines[i];
@@ -116,7 +118,8 @@ pub fn told_to<'a>(
     caller: u8,
 ) -> Result<Vec<&'a Answer>, NoMemory>
     requires { AreAnswered phases.now answers.now }
-    ensures { IfOk result (λ all. map (λ a. a.now) all.items ≡ told_of node.0 caller phases.now answers.now) }
+    ensures { IfOk result
+        (λ all. map (λ a. a.now) all.items ≡ told_of node.0 caller phases.now answers.now) }
 {
     let mut all = Vec::new(alloc);
     for i in 0..phases.len() {

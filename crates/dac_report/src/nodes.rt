@@ -20,7 +20,8 @@ fn page_of(
     read: Option<&Page>,
 ) -> Result<Page, RunFault>
     ensures page { IfOk result (λ page. page ≡ last_page_of config.now closed.now) }
-    ensures read { IfOk result (λ page. MatchOption read.entry ⊥ (λ one. ⟦<Page as PartialEq>⟧.eq page one.now ≡ true)) }
+    ensures read { IfOk result
+        (λ page. MatchOption read.entry ⊥ (λ one. ⟦<Page as PartialEq>⟧.eq page one.now ≡ true)) }
     ensures history { IfOk result (λ _. IsTrueOf config.now closed.now) }
     ensures named { IfOk result (λ _. IsFirstOf me.0 closed.now) }
 {

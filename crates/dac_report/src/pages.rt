@@ -19,10 +19,14 @@ pub fn last_page(
     closed: &Closed,
     read: &Page,
 ) -> Result<Option<Page>, NoMemory>
-    ensures page { IfOk result (λ o. IfSome o (λ page. page ≡ page_after (opening_of config.now me 0) closed.now.records)) }
-    ensures read { IfOk result (λ o. IfSome o (λ page. ⟦<Page as PartialEq>⟧.eq page read.now ≡ true)) }
-    ensures history { IfOk result (λ o. IfSome o (λ _. AreHistory (opening_of config.now me 0) closed.now.records)) }
-    ensures named { IfOk result (λ o. IfSome o (λ _. (closed.now.opening.node ≡ me) × (closed.now.opening.last ≡ 0))) }
+    ensures page { IfOk result (λ o. IfSome o
+        (λ page. page ≡ page_after (opening_of config.now me 0) closed.now.records)) }
+    ensures read { IfOk result
+        (λ o. IfSome o (λ page. ⟦<Page as PartialEq>⟧.eq page read.now ≡ true)) }
+    ensures history { IfOk result
+        (λ o. IfSome o (λ _. AreHistory (opening_of config.now me 0) closed.now.records)) }
+    ensures named { IfOk result
+        (λ o. IfSome o (λ _. (closed.now.opening.node ≡ me) × (closed.now.opening.last ≡ 0))) }
 {
     if closed.node() != me || closed.last() != 0 {
         return Ok(None);

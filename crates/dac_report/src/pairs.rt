@@ -39,7 +39,9 @@ fn pair_holds(
     receiver: &[Record],
 ) -> Result<bool, NoMemory>
     requires { from.0 ≢ to.0 }
-    ensures { IfOk result (λ b. b ≡ true → Linked phases to (shipper_seat from.0 to.0) (worker_seat to.0 from.0) sender.now receiver.now) }
+    ensures { IfOk result (λ b. b ≡ true
+        → Linked phases to (shipper_seat from.0 to.0) (worker_seat to.0 from.0) sender.now
+        receiver.now) }
 {
     let shipper = shipper_seat(from, to);
     let worker = worker_seat(to, from);

@@ -36,7 +36,8 @@ pub record IsParted (text config script : List ℕ) : Type 0 where
   pub script_is : script ≡ join_with_byte 10 behind
 
 -- a reader gave at most so many bytes, which stand behind the text unless an error was answered
-pub record Takes {T E : Type 0} (had left : Option (List ℕ)) (room : ℕ) (old new : List ℕ) (result : Result T E) : Type 0 where
+pub record Takes {T E : Type 0} (had left : Option (List ℕ)) (room : ℕ) (old new : List ℕ)
+    (result : Result T E) : Type 0 where
   pub bytes : List ℕ
   pub taken : Consumes had left bytes
   pub few : length bytes ≤ room

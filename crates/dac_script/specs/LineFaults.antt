@@ -53,7 +53,8 @@ IsNoHex word = (length word % 2 ≡ 1) ⊎ (¬ AllPass is_small_digit word)
 
 -- A word in its role has a fault of this kind. Names of other nodes and of applications may be unknown.
 abbrev pub IsWrong : Table → Role → List ℕ → ScriptFaultKind → Type 0
-IsWrong table Actor word kind = ((kind ≡ BadName) × (name_in word ≡ None)) ⊎ ((kind ≡ UnknownActor) × IsSomeAnd (name_in word) (λ name. node_named table name ≡ None))
+IsWrong table Actor word kind = ((kind ≡ BadName) × (name_in word ≡ None))
+    ⊎ ((kind ≡ UnknownActor) × IsSomeAnd (name_in word) (λ name. node_named table name ≡ None))
 IsWrong table Application word kind = (kind ≡ BadName) × (name_in word ≡ None)
 IsWrong table About word kind = (kind ≡ BadName) × (name_in word ≡ None)
 IsWrong table Number word kind = (kind ≡ BadNumber) × (number_in word ≡ None)
@@ -62,12 +63,14 @@ IsWrong table Hex word kind = (kind ≡ BadHex) × IsNoHex word
 
 -- Words in these roles have a fault of this kind: they are too few or too many, or one of them has it.
 abbrev pub AreWrong : Table → List Role → List (List ℕ) → ScriptFaultKind → Type 0
-AreWrong table roles words kind = ((kind ≡ BadCount) × (length words ≢ length roles)) ⊎ Any (λ (both : Role × List ℕ). IsWrong table both.0 both.1 kind) (zip roles words)
+AreWrong table roles words kind = ((kind ≡ BadCount) × (length words ≢ length roles))
+    ⊎ Any (λ (both : Role × List ℕ). IsWrong table both.0 both.1 kind) (zip roles words)
 
 -- a line of these words has a fault of this kind
 abbrev pub HasFault : Table → List (List ℕ) → ScriptFaultKind → Type 0
 HasFault table [] kind = kind ≡ BadWord
-HasFault table (first ∷ words) kind = MatchOption (verb_of first) (kind ≡ BadWord) (λ verb. AreWrong table (roles_of verb) words kind)
+HasFault table (first ∷ words) kind =
+    MatchOption (verb_of first) (kind ≡ BadWord) (λ verb. AreWrong table (roles_of verb) words kind)
 
 -- a line without a fault
 abbrev pub IsFaultless : Table → List (List ℕ) → Type 0

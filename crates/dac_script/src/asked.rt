@@ -32,7 +32,8 @@ pub fn one<'a>(words: &[&'a [u8]]) -> Result<&'a [u8], ScriptFaultKind>
 
 /// Exactly two words.
 pub fn two<'a>(words: &[&'a [u8]]) -> Result<(&'a [u8], &'a [u8]), ScriptFaultKind>
-    ensures { seen (λ pair. (pair.0.now, pair.1.now)) result ≡ two (map (λ word. word.now) words.now) }
+    ensures { seen (λ pair. (pair.0.now, pair.1.now)) result
+        ≡ two (map (λ word. word.now) words.now) }
 {
     match words {
         [first, second] => Ok((*first, *second)),
@@ -42,7 +43,8 @@ pub fn two<'a>(words: &[&'a [u8]]) -> Result<(&'a [u8], &'a [u8]), ScriptFaultKi
 
 /// Exactly three words.
 pub fn three<'a>(words: &[&'a [u8]]) -> Result<(&'a [u8], &'a [u8], &'a [u8]), ScriptFaultKind>
-    ensures { seen (λ all. (all.0.now, all.1.now, all.2.now)) result ≡ three (map (λ word. word.now) words.now) }
+    ensures { seen (λ all. (all.0.now, all.1.now, all.2.now)) result
+        ≡ three (map (λ word. word.now) words.now) }
 {
     match words {
         [first, second, third] => Ok((*first, *second, *third)),
@@ -54,7 +56,8 @@ pub fn three<'a>(words: &[&'a [u8]]) -> Result<(&'a [u8], &'a [u8], &'a [u8]), S
 pub fn four<'a>(
     words: &[&'a [u8]],
 ) -> Result<(&'a [u8], &'a [u8], &'a [u8], &'a [u8]), ScriptFaultKind>
-    ensures { seen (λ all. (all.0.now, all.1.now, all.2.now, all.3.now)) result ≡ four (map (λ word. word.now) words.now) }
+    ensures { seen (λ all. (all.0.now, all.1.now, all.2.now, all.3.now)) result
+        ≡ four (map (λ word. word.now) words.now) }
 {
     match words {
         [first, second, third, fourth] => Ok((*first, *second, *third, *fourth)),

@@ -30,7 +30,8 @@ fn line_len(text: &[u8]) -> usize
 fn first_line(text: &[u8]) -> (&[u8], Option<&[u8]>)
     ensures last { IfNone result.1 (lines_of text.now ≡ result.0.now ∷ []) }
     ensures whole { IfSome result.1 (λ behind. text.now ≡ result.0.now ++ 10 ∷ behind.now) }
-    ensures more { IfSome result.1 (λ behind. lines_of text.now ≡ result.0.now ∷ lines_of behind.now) }
+    ensures more { IfSome result.1
+        (λ behind. lines_of text.now ≡ result.0.now ∷ lines_of behind.now) }
 {
     let (line, behind) = text.split_at(line_len(text));
     match behind {
@@ -43,7 +44,8 @@ fn first_line(text: &[u8]) -> (&[u8], Option<&[u8]>)
 /// line feed that ends the line before. The second is what stands behind its own line feed. `None` where no line is
 /// the mark.
 pub fn split_input(text: &[u8]) -> Option<(&[u8], &[u8])>
-    ensures { MatchOption result (All (λ line. line ≢ mark) (lines_of text.now)) (λ parts. IsParted text.now parts.0.now parts.1.now) }
+    ensures { MatchOption result (All (λ line. line ≢ mark) (lines_of text.now))
+        (λ parts. IsParted text.now parts.0.now parts.1.now) }
 {
     let mut rest = text;
     loop {
@@ -65,7 +67,8 @@ fn read_on<R: Read>(
     requires is_open { IsOpen source.old }
     requires room { 0 < room }
     ensures same_reader { source.new.reader ≡ source.old.reader }
-    ensures taken { Takes source.old.left source.new.left room text.old.items text.new.items result }
+    ensures taken { Takes source.old.left source.new.left room text.old.items text.new.items
+        result }
     ensures counted { source.new.reads ≡ source.old.reads + 1 }
     ensures more { length text.old.items < length text.new.items → source.new.progress ≡ Open }
     ensures lacked { OnErr result (source.new.progress ≡ Open) }

@@ -373,7 +373,8 @@ pub fn line_of(
     config: &Config,
     words: &[&[u8]],
 ) -> Result<Result<ScriptLine, ScriptFaultKind>, NoMemory>
-    ensures line { IfOk result (λ said. said ≡ line_of config.now (map (λ word. word.now) words.now)) }
+    ensures line { IfOk result
+        (λ said. said ≡ line_of config.now (map (λ word. word.now) words.now)) }
     ensures actors { IfOk result (λ said. IfOk said (HasActors (node_count config.now))) }
 {
     let Some((first, rest)) = words.split_first() else {

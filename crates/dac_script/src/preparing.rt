@@ -37,7 +37,8 @@ pub fn prepare<R: Read>(
     alloc: Global,
     source: &mut Source<'_, R>,
 ) -> Result<(Config, Vec<ScriptLine>), Failure>
-    ensures says { IfOk result (λ both. IfSome source.old.left (λ bytes. SaysScript bytes both.0 both.1.items)) }
+    ensures says { IfOk result
+        (λ both. IfSome source.old.left (λ bytes. SaysScript bytes both.0 both.1.items)) }
     ensures actors { IfOk result (λ both. All (HasActors (node_count both.0)) both.1.items) }
     ensures fails { IfErr result (λ why. IfSome source.old.left (λ bytes. IsFailureOf bytes why)) }
     ensures reads { IsReadBy result source.new }

@@ -41,9 +41,15 @@ impl<'a, R: Read> Model for Source<'a, R> {
 
     ghost Value = { Sourced };
 
-    ghost view = { λ s. record { reader = s.reader.ghost_name; left = R.remaining s.reader.now; reads = s.reads; progress = s.progress } };
+    ghost view = { λ s. record {
+      reader = s.reader.ghost_name;
+      left = R.remaining s.reader.now;
+      reads = s.reads;
+      progress = s.progress;
+    } };
 
-    ghost invariant = { λ s. (s.reads ≤ MAX_READS) × (s.progress ≡ Ended → IsAtEnd (R.remaining s.reader.now)) };
+    ghost invariant = { λ s. (s.reads ≤ MAX_READS)
+        × (s.progress ≡ Ended → IsAtEnd (R.remaining s.reader.now)) };
 }
 
 impl<'a, R: Read> Source<'a, R> {
@@ -97,8 +103,10 @@ impl<'a, R: Read> Source<'a, R> {
         ensures counted { self.new.reads ≡ self.old.reads + 1 }
         ensures ended { IfOk result (λ n. n ≡ 0 → self.new.progress ≡ Progress.Ended) }
         ensures more { IfOk result (λ n. 0 < n → self.new.progress ≡ Progress.Open) }
-        ensures interrupted { IfErr result (λ e. error_kind e ≡ ErrorKind.Interrupted → self.new.progress ≡ Progress.Open) }
-        ensures failed { IfErr result (λ e. error_kind e ≢ ErrorKind.Interrupted → self.new.progress ≡ Progress.Failed) }
+        ensures interrupted { IfErr result
+            (λ e. error_kind e ≡ ErrorKind.Interrupted → self.new.progress ≡ Progress.Open) }
+        ensures failed { IfErr result
+            (λ e. error_kind e ≢ ErrorKind.Interrupted → self.new.progress ≡ Progress.Failed) }
     {
         let result = self.reader.read(buffer);
         self.reads += 1;

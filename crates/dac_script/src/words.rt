@@ -79,7 +79,9 @@ fn is_digits(word: &[u8]) -> bool
 
 /// The number that the digits are, where it has 64 bits.
 fn value_of(digits: &[u8]) -> Option<u64>
-    ensures { result ≡ (if nat_lt (value_from 0 digits.now) (2 ^ 64) then Some (value_from 0 digits.now) else None) }
+    ensures { result
+        ≡ (if nat_lt (value_from 0 digits.now) (2 ^ 64) then Some (value_from 0 digits.now)
+        else None) }
 {
     let mut value: u64 = 0;
     for digit in digits {

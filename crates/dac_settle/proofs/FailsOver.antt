@@ -42,7 +42,7 @@ use Rattle.dac_model_world.specs.SetWorld.{NodeSet, SetWorld, no_sets, set_run}
 use Rattle.dac_model_world.specs.laws.Runs.{Run-push}
 use Rattle.dac_model_world.specs.laws.Sound.{Sound, held_at, sound_run, sound_start}
 use Rattle.dac_settle.specs.Settling.{IsReady}
-use Rattle.dac_settle.specs.WorldRounds.{members_of, AreRounds}
+use Rattle.dac_settle.specs.WorldRounds.{members_of, AreRounds, EndsInRounds}
 use Rattle.dac_settle.specs.Worked.{first_node, second_node, IsEither, the_app, first_of, up_of}
 use Rattle.dac_settle.specs.WorkedLoss.{lost_node, loss_table, lost_claim, losing, waited, RunsCanFailOver}
 use Rattle.dac_settle.specs.laws.AnyPlacement.{one}
@@ -577,6 +577,19 @@ ready_there = subst (λ (w : ModelWorld). IsReady (members_of w s16)) run16.1 wo
 rounds_there : AreRounds loss_table (app_count loss_table) (world_after loss_table w0 losing the_replies) s16 waited all_answers
 rounds_there = subst (λ (w : ModelWorld). AreRounds loss_table (app_count loss_table) w s16 waited all_answers) run16.1 round_comes
 
+in_rounds : EndsInRounds loss_table (losing ++ waited) (the_replies ++ all_answers)
+in_rounds = record {
+  before = losing;
+  rounds = waited;
+  replies = the_replies;
+  more = all_answers;
+  events_are = refl;
+  answers_are = refl;
+  answered = run16.0;
+  ready = ready_there;
+  last = rounds_there;
+}
+
 both_run : (n : NodeId) → IsEither n → IsSome ((set_run no_sets (losing ++ waited) (the_replies ++ all_answers)).node n)
 both_run n either = elim either [
   | inl a ↦ ap (λ k. is_some ((set_run no_sets (losing ++ waited) (the_replies ++ all_answers)).node k)) a
@@ -597,5 +610,5 @@ runs_can_fail_over = record {
   kinds = tt;
   rounds = rounds_there;
   run = both_run;
-  settled = λ v ran n state runs. (worlds_settle loss_table (losing ++ waited) (the_replies ++ all_answers) v ran).each losing waited the_replies all_answers refl refl run16.0 ready_there rounds_there n state runs the_app (omega arith);
+  settled = λ v ran n state runs. (worlds_settle loss_table (losing ++ waited) (the_replies ++ all_answers) v ran).each in_rounds n state runs the_app (omega arith);
 }

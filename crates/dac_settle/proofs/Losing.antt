@@ -19,7 +19,8 @@ use Rattle.dac_chains.specs.Claims.{claim_cmp}
 use Rattle.dac_chains.specs.Lives.{Lives, IsLive}
 use Rattle.dac_wishes.specs.KeyedWrites.{keyed_write}
 use Rattle.dac_wishes.specs.DrainsValue.{origin}
-use Rattle.dac_wishes.specs.Writes.{write, same_dot, same_dot_is, same_dot_itself}
+use Rattle.dac_wishes.specs.Writes.{write, same_dot}
+use Rattle.dac_wishes.specs.laws.KeyedWrites.{same_dot_is, same_dot_itself}
 use Rattle.dac_operations.specs.declared.act.Act.TheVariants.{Claim as Claims}
 use Rattle.dac_operations.specs.Operations.{Operation}
 use Rattle.dac_meaning.specs.StateValue.{StateValue, join}

@@ -24,7 +24,8 @@ use Rattle.dac_chains.specs.Lives.{IsLive, life_cmp}
 use Rattle.dac_chains.specs.laws.Live.{live_is}
 use Rattle.dac_wishes.specs.KeyedWrites.{keyed_write}
 use Rattle.dac_wishes.specs.DrainsValue.{origin}
-use Rattle.dac_wishes.specs.Writes.{write, dots_at, same_dot, same_dot_is, same_dot_itself}
+use Rattle.dac_wishes.specs.Writes.{write, dots_at, same_dot}
+use Rattle.dac_wishes.specs.laws.KeyedWrites.{same_dot_is, same_dot_itself}
 use Rattle.dac_wishes.specs.laws.Writes.{contains-dots_at}
 use Rattle.dac_wishes.specs.declared.key.Key.{Key}
 use Rattle.dac_operations.specs.declared.act.Act.TheVariants.{Claim as Claims, Start as Starts}

@@ -1,5 +1,6 @@
 pub mod Rules
 pub mod Rounds
+pub mod Placed
 pub mod Settling
 pub mod Staying
 pub mod Worked

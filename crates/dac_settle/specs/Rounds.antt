@@ -54,9 +54,11 @@ pub record IsPlacement (p : Placement) : Type 0 where
   -- only what isn't settled is claimed well
   pub unsettled : (s : List Operation) (app : AppId) (o : Operation) → p.IsWell s app o → IsSome (p.candidate s app)
   -- a claim that is well made settles its application
-  pub settles : (s x : List Operation) (app : AppId) (o : Operation) → IsGrown p s x → In o x → p.IsWell s app o → p.candidate x app ≡ None
+  pub settles : (s x : List Operation) (app : AppId) (o : Operation) → IsGrown p s x → In o x → p.IsWell s app o
+      → p.candidate x app ≡ None
   -- who is to make a claim makes it well
-  pub well : (s x : List Operation) (app : AppId) (n : NodeId) → IsGrown p s x → p.candidate x app ≡ Some n → p.IsWell s app (p.claim n x app)
+  pub well : (s x : List Operation) (app : AppId) (n : NodeId) → IsGrown p s x → p.candidate x app ≡ Some n
+      → p.IsWell s app (p.claim n x app)
 
 -- ---- rounds
 
@@ -89,9 +91,12 @@ with_held held n x m = cond (nat_eq m.0 n.0) (Some x) (held m)
 
 -- one event
 abbrev pub Happens : Placement → Sets → SetsEvent → Sets → Type 0
-Happens p w (Tick n made) next = (x : List Operation) × (w.held n ≡ Some x) × Claims p n p.apps x made × (next ≡ record { held = with_held w.held n (x ++ made); copies = w.copies })
-Happens p w (Ship n) next = (x : List Operation) × (w.held n ≡ Some x) × (next ≡ record { held = w.held; copies = w.copies ++ x ∷ [] })
-Happens p w (Deliver n) next = (x : List Operation) × (y : List Operation) × (w.held n ≡ Some x) × InCopies y w.copies × (next ≡ record { held = with_held w.held n (x ++ y); copies = w.copies })
+Happens p w (Tick n made) next = (x : List Operation) × (w.held n ≡ Some x) × Claims p n p.apps x made
+    × (next ≡ record { held = with_held w.held n (x ++ made); copies = w.copies })
+Happens p w (Ship n) next =
+    (x : List Operation) × (w.held n ≡ Some x) × (next ≡ record { held = w.held; copies = w.copies ++ x ∷ [] })
+Happens p w (Deliver n) next = (x : List Operation) × (y : List Operation) × (w.held n ≡ Some x) × InCopies y w.copies
+    × (next ≡ record { held = with_held w.held n (x ++ y); copies = w.copies })
 
 -- one event after another
 abbrev pub Run : Placement → Sets → List SetsEvent → Sets → Type 0

@@ -18,7 +18,8 @@ is_one_group a b = option_map_or (λ g. option_map_or (λ h. g == h) b false) a 
 
 -- fewer run at n than at m, and both are of one group
 abbrev pub is_lighter : Table → StateValue → AppId → NodeId → NodeId → Bool
-is_lighter t s app n m = nat_lt (load_of t s app n) (load_of t s app m) && is_one_group (group_of t app n) (group_of t app m)
+is_lighter t s app n m =
+    nat_lt (load_of t s app n) (load_of t s app m) && is_one_group (group_of t app n) (group_of t app m)
 
 -- where this is the verdict, and this the first choice
 abbrev pub restless_by : Table → StateValue → AppId → Verdict → Option NodeId → Verdict

@@ -16,7 +16,7 @@ use Rattle.dac_placement.specs.declared.verdicts.Verdict.{Verdict}
 use Rattle.dac_placement.specs.declared.verdicts.Verdict.TheVariants.{Start, Failover, Halted, Move, Takeover, Kept, Nobody}
 use Rattle.dac_decide.specs.FailoverWait.{Note, IsLost, IsLostByNewest, IsNotedSince}
 use Rattle.dac_ticks.specs.Ticks.{Turn}
-use Rattle.dac_ticks.specs.laws.Again.{noting, tick_of}
+use Rattle.dac_ticks.specs.Again.{noting, tick_of}
 use Rattle.dac_settle.specs.Rounds.{InCopies}
 use Rattle.dac_settle.specs.Rules.{judged}
 
@@ -54,7 +54,8 @@ ticked d now more = record { inc = d.inc; held = d.held ++ more; notes = noting 
 
 -- each claim that is noted as lost has waited its application's time by then
 abbrev pub IsLate : Table → List Note → ℕ → Type 0
-IsLate t notes now = (app : AppId) (claim : Claim) (since : ℕ) → IsNotedSince notes app claim since → since + timeout_of t app ≤ now
+IsLate t notes now =
+    (app : AppId) (claim : Claim) (since : ℕ) → IsNotedSince notes app claim since → since + timeout_of t app ≤ now
 
 -- What is accepted in a round: a node's tick at this moment, a ship, or a delivery. The copy that is delivered was
 -- shipped in the round
@@ -72,9 +73,12 @@ pub record IsTick (t : Table) (n : NodeId) (d : Member) (now : ℕ) : Type 0 whe
 
 -- one event
 abbrev pub Happens : Table → Members → MemberEvent → Members → Type 0
-Happens t w (Tick n now) next = (d : Member) × (w.node n ≡ Some d) × IsTick t n d now × (next ≡ record { node = with_member w.node n (ticked d now (turn_at t n d now).ops); copies = w.copies })
-Happens t w (Ship n) next = (d : Member) × (w.node n ≡ Some d) × (next ≡ record { node = w.node; copies = w.copies ++ d.held ∷ [] })
-Happens t w (Deliver n) next = (d : Member) × (y : List Operation) × (w.node n ≡ Some d) × InCopies y w.copies × (next ≡ record { node = with_member w.node n (holding d y); copies = w.copies })
+Happens t w (Tick n now) next = (d : Member) × (w.node n ≡ Some d) × IsTick t n d now
+    × (next ≡ record { node = with_member w.node n (ticked d now (turn_at t n d now).ops); copies = w.copies })
+Happens t w (Ship n) next =
+    (d : Member) × (w.node n ≡ Some d) × (next ≡ record { node = w.node; copies = w.copies ++ d.held ∷ [] })
+Happens t w (Deliver n) next = (d : Member) × (y : List Operation) × (w.node n ≡ Some d) × InCopies y w.copies
+    × (next ≡ record { node = with_member w.node n (holding d y); copies = w.copies })
 
 -- one event after another
 abbrev pub Run : Table → Members → List MemberEvent → Members → Type 0
@@ -92,14 +96,19 @@ Ticks n (e ∷ es) = ((now : ℕ) × (Tick n now ≡ e)) ⊎ Ticks n es
 abbrev pub AllSame : (NodeId → Option Member) → Type 0
 AllSame node = (m n : NodeId) (d e : Member) → node m ≡ Some d → node n ≡ Some e → Within d.held e.held
 
--- All running nodes hold the same set. Who is live in it runs, at that incarnation, and who runs is live in it. Each running node has noted each lost claim.
+-- All running nodes hold the same set. Who is live in it runs, at that incarnation, and who runs is live in it. Each
+-- running node has noted each lost claim.
 pub record IsReady (node : NodeId → Option Member) : Type 0 where
   pub same : AllSame node
-  pub runs : (m : NodeId) (d : Member) → node m ≡ Some d → (n : NodeId) (inc : ℕ) → IsLive (meaning_of d.held).lives n inc → (e : Member) × (node n ≡ Some e) × (e.inc ≡ inc)
-  pub live : (m n : NodeId) (d e : Member) → node m ≡ Some d → node n ≡ Some e → IsLive (meaning_of d.held).lives n e.inc
-  pub noted : (m : NodeId) (d : Member) → node m ≡ Some d → (app : AppId) (claim : Claim) → IsLost (meaning_of d.held) app claim → IsLostByNewest d.notes app claim
+  pub runs : (m : NodeId) (d : Member) → node m ≡ Some d → (n : NodeId) (inc : ℕ)
+      → IsLive (meaning_of d.held).lives n inc → (e : Member) × (node n ≡ Some e) × (e.inc ≡ inc)
+  pub live : (m n : NodeId) (d e : Member) → node m ≡ Some d → node n ≡ Some e
+      → IsLive (meaning_of d.held).lives n e.inc
+  pub noted : (m : NodeId) (d : Member) → node m ≡ Some d → (app : AppId) (claim : Claim)
+      → IsLost (meaning_of d.held) app claim → IsLostByNewest d.notes app claim
 
--- Each running node ticks, what is delivered was shipped in the round, and in the end all running nodes hold the same set.
+-- Each running node ticks, what is delivered was shipped in the round, and in the end all running nodes
+-- hold the same set.
 pub record IsRound (t : Table) (node later : NodeId → Option Member) : Type 0 where
   pub events : List MemberEvent
   pub copies : List (List Operation)
@@ -125,7 +134,8 @@ IsSettled Nobody = Unit {0}
 -- As many rounds as there are applications, begun in a ready world, settle each application at each running node. By
 -- the rule it is kept, halted, or no node may run it.
 abbrev pub RoundsSettleBy : (Table → StateValue → AppId → Verdict) → Type 0
-RoundsSettleBy rule = (t : Table) (node final : NodeId → Option Member) → IsReady node → Rounds t (app_count t) node final
+RoundsSettleBy rule =
+    (t : Table) (node final : NodeId → Option Member) → IsReady node → Rounds t (app_count t) node final
     → (m : NodeId) (d : Member) → final m ≡ Some d → (app : AppId) → app.0 < app_count t → IsSettled (rule t (meaning_of d.held) app)
 
 abbrev pub RoundsSettle : Type 0

@@ -32,7 +32,8 @@ the_app = record { 0 = 0 }
 -- a and b may run a, at either of them
 abbrev pub worked_table : Table
 worked_table = record {
-  nodes = (record { name = 97 ∷ []; mandatory = false; optional = false }) ∷ (record { name = 98 ∷ []; mandatory = false; optional = false }) ∷ [];
+  nodes = (record { name = 97 ∷ []; mandatory = false; optional = false })
+      ∷ (record { name = 98 ∷ []; mandatory = false; optional = false }) ∷ [];
   apps = (record { name = 97 ∷ []; timeout = 5000; groups = (0 ∷ 1 ∷ []) ∷ []; permission = true }) ∷ [];
   sync_wait = NoSync;
 }
@@ -78,4 +79,5 @@ pub record RoundsCanBe : Type 0 where
   pub later : NodeId → Option Member
   pub rounds : Rounds worked_table (app_count worked_table) worked_nodes later
   pub run : (n : NodeId) → IsEither n → IsSome (later n)
-  pub settled : (n : NodeId) (d : Member) → later n ≡ Some d → IsSettled (verdict_of worked_table (meaning_of d.held) the_app)
+  pub settled : (n : NodeId) (d : Member) → later n ≡ Some d
+      → IsSettled (verdict_of worked_table (meaning_of d.held) the_app)

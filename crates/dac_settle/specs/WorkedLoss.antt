@@ -1,4 +1,5 @@
--- A worked run of the model world: a claim is lost and noted by two nodes. Once its time is over, a round of both fails over.
+-- A worked run of the model world: a claim is lost and noted by two nodes. Once its time is over, a round
+-- of both fails over.
 use Rattle.std.specs.Prelude.{◌≡◌, ℕ, true, false, List, [], ◌∷◌, ◌++◌, Some, None, IsSome, Result, Ok}
 use Rattle.dac_base.specs.declared.NodeId.{NodeId}
 use Rattle.dac_chains.specs.declared.claims.Claim.{Claim}
@@ -34,7 +35,9 @@ lost_node = record { 0 = 2 }
 -- the application may run at each of three nodes, and waits five seconds for a lost one
 abbrev pub loss_table : Table
 loss_table = record {
-  nodes = (record { name = 97 ∷ []; mandatory = false; optional = false }) ∷ (record { name = 98 ∷ []; mandatory = false; optional = false }) ∷ (record { name = 99 ∷ []; mandatory = false; optional = false }) ∷ [];
+  nodes = (record { name = 97 ∷ []; mandatory = false; optional = false })
+      ∷ (record { name = 98 ∷ []; mandatory = false; optional = false })
+      ∷ (record { name = 99 ∷ []; mandatory = false; optional = false }) ∷ [];
   apps = (record { name = 97 ∷ []; timeout = 5000; groups = (0 ∷ 1 ∷ 2 ∷ []) ∷ []; permission = true }) ∷ [];
   sync_wait = NoSync;
 }
@@ -66,10 +69,10 @@ abbrev pub AreLater : List (Result Reply WorldFault) → Type 0
 AreLater (Ok (Ticked os ps) ∷ Ok (Shipped m) ∷ Ok (Shipped k) ∷ Ok (Heard f) ∷ Ok (Heard g) ∷ []) = Unit {0}
 AreLater _ = ⊥
 
--- The model world answers the events so, from the start. It is ready after them, two nodes run, and the claim is lost in
--- what each of them holds. The events after them, answered so, are as many rounds as there are applications. By its tick
--- the first node takes the application from the lost one, in a failover. After all events both nodes still run, and the
--- application is settled at each node that runs.
+-- The model world answers the events so, from the start. It is ready after them, two nodes run, and the claim is lost
+-- in what each of them holds. The events after them, answered so, are as many rounds as there are applications. By its
+-- tick the first node takes the application from the lost one, in a failover. After all events both nodes still run,
+-- and the application is settled at each node that runs.
 pub record RunsCanFailOver : Type 0 where
   pub replies : List (Result Reply WorldFault)
   pub answered : AnsweredAs loss_table (start loss_table) losing replies
@@ -81,7 +84,10 @@ pub record RunsCanFailOver : Type 0 where
   pub fails_over : claim.act ≡ Claims the_app 2 FailedOver (Some lost_node)
   pub later : List (Result Reply WorldFault)
   pub kinds : AreLater later
-  pub rounds : AreRounds loss_table (app_count loss_table) (world_after loss_table (start loss_table) losing replies) (set_run no_sets losing replies) waited (Ok (Ticked (claim ∷ []) []) ∷ later)
-  pub run : (n : NodeId) → IsEither n → IsSome ((set_run no_sets (losing ++ waited) (replies ++ Ok (Ticked (claim ∷ []) []) ∷ later)).node n)
-  pub settled : (v : WorldValue) → RanAs loss_table (losing ++ waited) (replies ++ Ok (Ticked (claim ∷ []) []) ∷ later) v
+  pub rounds : AreRounds loss_table (app_count loss_table) (world_after loss_table (start loss_table) losing replies)
+      (set_run no_sets losing replies) waited (Ok (Ticked (claim ∷ []) []) ∷ later)
+  pub run : (n : NodeId) → IsEither n
+      → IsSome ((set_run no_sets (losing ++ waited) (replies ++ Ok (Ticked (claim ∷ []) []) ∷ later)).node n)
+  pub settled : (v : WorldValue)
+      → RanAs loss_table (losing ++ waited) (replies ++ Ok (Ticked (claim ∷ []) []) ∷ later) v
       → (n : ℕ) (state : StateValue) → RunsWith v n state → IsSettled (verdict_of loss_table state the_app)

@@ -1,5 +1,5 @@
--- A worked case of settling with a drain: the application runs at a node that is drained. Both nodes hold the drain, and
--- a round moves the application to the other one.
+-- A worked case of settling with a drain: the application runs at a node that is drained. Both nodes hold the drain,
+-- and a round moves the application to the other one.
 use Rattle.std.specs.Prelude.{◌≡◌, true, List, [], ◌∷◌, Option, Some, None, IsSome}
 use Rattle.dac_base.specs.declared.NodeId.{NodeId}
 use Rattle.dac_dots.specs.Dots.{dot}
@@ -29,8 +29,9 @@ draining = operation (dot (first_of second_node) 3) (Drain first_node 1 true [])
 abbrev pub drained_set : List Operation
 drained_set = begun (start_of the_app first_node 2 ∷ start_of the_app second_node 2 ∷ claiming ∷ draining ∷ [])
 
--- Rounds move what is drained. Both nodes are ready, the first one holds the application and is drained, and the verdict
--- is to move it. There are as many rounds as applications. After them both nodes still run, and it is settled at each.
+-- Rounds move what is drained. Both nodes are ready, the first one holds the application and is drained, and
+-- the verdict is to move it. There are as many rounds as applications. After them both nodes still run, and it
+-- is settled at each.
 pub record RoundsCanMove : Type 0 where
   pub ready : IsReady (both_hold drained_set)
   pub drained : IsDrainedAt (meaning_of drained_set) first_node 1
@@ -38,4 +39,5 @@ pub record RoundsCanMove : Type 0 where
   pub later : NodeId → Option Member
   pub rounds : Rounds worked_table (app_count worked_table) (both_hold drained_set) later
   pub run : (n : NodeId) → IsEither n → IsSome (later n)
-  pub settled : (n : NodeId) (d : Member) → later n ≡ Some d → IsSettled (verdict_of worked_table (meaning_of d.held) the_app)
+  pub settled : (n : NodeId) (d : Member) → later n ≡ Some d
+      → IsSettled (verdict_of worked_table (meaning_of d.held) the_app)

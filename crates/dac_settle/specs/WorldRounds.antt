@@ -31,7 +31,8 @@ member_by (Some r) (Some set) = Some (record { inc = r.origin.inc; held = set.op
 abbrev pub members_of : ModelWorld → SetWorld → NodeId → Option Member
 members_of w s n = member_by (w.node n).run (s.node n)
 
--- All running nodes hold the same set. Who is live in it runs, at that incarnation, and who runs is live in it. Each running node has noted each lost claim.
+-- All running nodes hold the same set. Who is live in it runs, at that incarnation, and who runs is live in it. Each
+-- running node has noted each lost claim.
 abbrev pub IsReadyWorld : ModelWorld → SetWorld → Type 0
 IsReadyWorld w s = IsReady (members_of w s)
 
@@ -57,7 +58,8 @@ InRound t before w n what (Ok _) = ⊥
 abbrev pub AreInRound : Table → ℕ → ModelWorld → List WorldEvent → List (Result Reply WorldFault) → Type 0
 AreInRound t before w [] answers = Unit {0}
 AreInRound t before w (e ∷ es) [] = Unit {0}
-AreInRound t before w (e ∷ es) (a ∷ answers) = InRound t before w e.node e.what a × AreInRound t before (went t w e a) es answers
+AreInRound t before w (e ∷ es) (a ∷ answers) =
+    InRound t before w e.node e.what a × AreInRound t before (went t w e a) es answers
 
 abbrev pub IsTicked : Result Reply WorldFault → Type 0
 IsTicked (Ok (Ticked ops passed)) = Unit {0}
@@ -71,7 +73,8 @@ AnswersTick n (e ∷ es) (a ∷ answers) = ((e.node ≡ n) × IsTicked a) ⊎ An
 
 -- These events with these answers are a round. Each node that runs ticks in it, and in the end all running nodes hold
 -- the same set.
-pub record IsWorldRound (t : Table) (w : ModelWorld) (s : SetWorld) (events : List WorldEvent) (answers : List (Result Reply WorldFault)) : Type 0 where
+pub record IsWorldRound (t : Table) (w : ModelWorld) (s : SetWorld) (events : List WorldEvent)
+    (answers : List (Result Reply WorldFault)) : Type 0 where
   pub answered : AnsweredAs t w events answers
   pub fits : AreInRound t (length s.copies) w events answers
   pub ticks : (n : NodeId) → IsSome (w.node n).run → AnswersTick n events answers
@@ -85,11 +88,22 @@ AreRounds t (suc k) w s events answers =
     × (events ≡ first ++ later) × (answers ≡ replies ++ more)
     × IsWorldRound t w s first replies × AreRounds t k (world_after t w first replies) (set_run s first replies) later more
 
--- The events end in as many rounds as there are applications, and the world was ready before them. Then nothing is to
--- be done at any running node.
-pub record Settles (t : Table) (events : List WorldEvent) (answers : List (Result Reply WorldFault)) (v : WorldValue) : Type 0 where
-  pub each : (before rounds : List WorldEvent) (replies more : List (Result Reply WorldFault)) → events ≡ before ++ rounds → answers ≡ replies ++ more → AnsweredAs t (start t) before replies
-      → let w = world_after t (start t) before replies in
-      let s = set_run no_sets before replies in
-      IsReadyWorld w s → AreRounds t (app_count t) w s rounds more
-      → (n : ℕ) (state : StateValue) → RunsWith v n state → (app : AppId) → app.0 < app_count t → IsSettled (verdict_of t state app)
+-- The events with their answers end in as many rounds as there are applications, and the world was ready before these.
+pub record EndsInRounds (t : Table) (events : List WorldEvent) (answers : List (Result Reply WorldFault)) : Type 0 where
+  pub before : List WorldEvent
+  pub rounds : List WorldEvent
+  pub replies : List (Result Reply WorldFault)
+  pub more : List (Result Reply WorldFault)
+  pub events_are : events ≡ before ++ rounds
+  pub answers_are : answers ≡ replies ++ more
+  pub answered : AnsweredAs t (start t) before replies
+  pub ready : IsReadyWorld (world_after t (start t) before replies) (set_run no_sets before replies)
+  pub last : AreRounds t (app_count t) (world_after t (start t) before replies)
+      (set_run no_sets before replies) rounds more
+
+-- If the events end in such rounds, then nothing is to be done for any application at any running node.
+pub record Settles (t : Table) (events : List WorldEvent) (answers : List (Result Reply WorldFault))
+    (v : WorldValue) : Type 0 where
+  pub each : EndsInRounds t events answers
+      → (n : ℕ) (state : StateValue) → RunsWith v n state
+      → (app : AppId) → app.0 < app_count t → IsSettled (verdict_of t state app)

@@ -17,7 +17,8 @@ use Rattle.dac_shapes.specs.Within.{AreWithinLimits, nodes_in}
 abbrev pub Parted : {A : Type 0} → (List Word → A → Type 0) → List Word → List A → Type 0
 Parted Is words [] = ⊥
 Parted Is words (x ∷ []) = Is words x
-Parted Is words (x ∷ y ∷ ys) = (first rest : List Word) × (words ≡ first ++ Mark Comma ∷ rest) × Is first x × Parted Is rest (y ∷ ys)
+Parted Is words (x ∷ y ∷ ys) =
+    (first rest : List Word) × (words ≡ first ++ Mark Comma ∷ rest) × Is first x × Parted Is rest (y ∷ ys)
 
 -- words between two marks
 abbrev pub between : Symbol → List Word → Symbol → List Word
@@ -34,7 +35,8 @@ IsListOf Is words xs = (inner : List Word) × (words ≡ between OpenList inner 
 
 -- a pair of this name and a value
 abbrev pub IsPair : List ℕ → (List Word → Type 0) → List Word → Type 0
-IsPair name IsValue words = (value : List Word) × (words ≡ Mark OpenTuple ∷ Name name ∷ Mark Comma ∷ value ++ Mark CloseTuple ∷ []) × IsValue value
+IsPair name IsValue words = (value : List Word)
+    × (words ≡ Mark OpenTuple ∷ Name name ∷ Mark Comma ∷ value ++ Mark CloseTuple ∷ []) × IsValue value
 
 -- these two marks are brackets
 pub data AreBrackets : Symbol → Symbol → Type 0 where
@@ -49,7 +51,8 @@ mutual
     Integer : (negative : Bool) (digits : List ℕ) → IsTerm (Number negative digits ∷ [])
     Strings : (more : List Word) → All (λ word. word ≡ Text) more → IsTerm (Text ∷ more)
     Empty : (left right : Symbol) → AreBrackets left right → IsTerm (between left [] right)
-    Between : (left right : Symbol) (inner : List Word) → AreBrackets left right → AreTerms inner → IsTerm (between left inner right)
+    Between : (left right : Symbol) (inner : List Word) → AreBrackets left right → AreTerms inner
+        → IsTerm (between left inner right)
 
   -- one or more terms, parted by commas
   pub data AreTerms : List Word → Type 0 where
@@ -72,7 +75,8 @@ IsNodeList words groups = (inner : List Word) × (words ≡ between OpenList inn
 
 -- this token is a number of milliseconds below their bound, which is not negative
 abbrev pub IsMs : Word → ℕ → Type 0
-IsMs word n = (negative : Bool) × (digits : List ℕ) × (word ≡ Number negative digits) × (n ≡ value_from 0 digits) × (n < ms_bound) × (negative ≡ true → n ≡ 0)
+IsMs word n = (negative : Bool) × (digits : List ℕ) × (word ≡ Number negative digits) × (n ≡ value_from 0 digits)
+    × (n < ms_bound) × (negative ≡ true → n ≡ 0)
 
 -- nothing, which is 0, or a number and a comma
 abbrev pub IsTimeout : List Word → ℕ → Type 0
@@ -82,7 +86,8 @@ IsTimeout words n =
 
 -- the value of an application: its timeout, if it is written, and its node list
 abbrev pub IsAppValue : List Word → App → Type 0
-IsAppValue words app = (timeout list : List Word) × (words ≡ timeout ++ list) × IsTimeout timeout app.timeout × IsNodeList list app.groups
+IsAppValue words app =
+    (timeout list : List Word) × (words ≡ timeout ++ list) × IsTimeout timeout app.timeout × IsNodeList list app.groups
 
 -- an application, as a pair of its name and its value
 abbrev pub IsApp : List Word → App → Type 0
@@ -106,7 +111,8 @@ IsWait words (Ms n) = (word : Word) × (words ≡ word ∷ []) × IsMs word n
 -- A parameter, bare or quoted. Another than those that are read is a pair of any other name and any term.
 abbrev pub IsParam : List Word → Param → Type 0
 IsParam words (Distributed apps) = IsPair (spelled named.Distributed) (λ value. IsListOf IsApp value apps) words
-IsParam words (Permissions permissions) = IsPair (spelled named.Permissions) (λ value. IsListOf IsPermission value permissions) words
+IsParam words (Permissions permissions) =
+    IsPair (spelled named.Permissions) (λ value. IsListOf IsPermission value permissions) words
 IsParam words (Mandatory names) = IsPair (spelled named.Mandatory) (λ value. IsListOf IsNode value names) words
 IsParam words (Optional names) = IsPair (spelled named.Optional) (λ value. IsListOf IsNode value names) words
 IsParam words (Timeout wait) = IsPair (spelled named.Timeout) (λ value. IsWait value wait) words

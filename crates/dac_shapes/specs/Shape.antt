@@ -175,7 +175,8 @@ room s = suc (length s.left.tokens)
 
 -- One or more things, parted by commas, up to the closing symbol. They are those of `before` and, from the token t
 -- on, those that `read` gives. At most n of them.
-unfoldable pub comma_list : {A : Type 0} → (List A → Located → State → Result (A × State) ConfigFault) → Symbol → ℕ → List A → Located → State → Result (List A × State) ConfigFault
+unfoldable pub comma_list : {A : Type 0} → (List A → Located → State → Result (A × State) ConfigFault) → Symbol → ℕ
+    → List A → Located → State → Result (List A × State) ConfigFault
 comma_list read close zero before t s = fails BadShape t.at
 comma_list read close (suc n) before t s = do
   one ← read before t s
@@ -187,7 +188,8 @@ comma_list read close (suc n) before t s = do
       else Ok (before ++ one.0 ∷ [], more.1)
 
 -- a list in brackets, which may be empty
-unfoldable pub list_of : {A : Type 0} → (List A → Located → State → Result (A × State) ConfigFault) → State → Result (List A × State) ConfigFault
+unfoldable pub list_of : {A : Type 0} → (List A → Located → State → Result (A × State) ConfigFault) → State
+    → Result (List A × State) ConfigFault
 list_of read s = do
   begun ← symbol_at OpenList s
   first ← token begun
@@ -195,7 +197,8 @@ list_of read s = do
       else comma_list read CloseList (room first.1) [] first.0 first.1
 
 -- a pair of a name and what `rest` reads behind its comma, whose opening brace is the token t
-unfoldable pub pair_at : {K A : Type 0} → (Located → Result K ConfigFault) → (K → State → Result (A × State) ConfigFault) → Located → State → Result (A × State) ConfigFault
+unfoldable pub pair_at : {K A : Type 0} → (Located → Result K ConfigFault)
+    → (K → State → Result (A × State) ConfigFault) → Located → State → Result (A × State) ConfigFault
 pair_at name_of rest t s =
     if is_mark OpenTuple t.word
     then (do
@@ -216,7 +219,8 @@ closed value s = do
 
 -- Terms parted by commas, each passed over by `pass`, from the token t on up to the closing symbol: the token behind
 -- it. At most n terms.
-unfoldable pub terms_at : (Located → State → Result (Located × State) ConfigFault) → Symbol → ℕ → Located → State → Result (Located × State) ConfigFault
+unfoldable pub terms_at : (Located → State → Result (Located × State) ConfigFault) → Symbol → ℕ → Located → State
+    → Result (Located × State) ConfigFault
 terms_at pass close zero t s = fails BadShape t.at
 terms_at pass close (suc n) t s = do
   behind ← pass t s
@@ -228,7 +232,8 @@ terms_at pass close (suc n) t s = do
       else fails BadShape behind.0.at)
 
 -- what stands between brackets behind the opening one: the token behind the closing one
-unfoldable pub terms_in : (Located → State → Result (Located × State) ConfigFault) → Symbol → ℕ → State → Result (Located × State) ConfigFault
+unfoldable pub terms_in : (Located → State → Result (Located × State) ConfigFault) → Symbol → ℕ → State
+    → Result (Located × State) ConfigFault
 terms_in pass close n s = do
   first ← token s
   if is_mark close first.0.word then token first.1 else terms_at pass close n first.0 first.1
@@ -250,7 +255,8 @@ closing_of Comma = None
 closing_of FullStop = None
 
 -- the token behind a term that begins with the token t and whose parts are passed over by `pass`
-unfoldable pub term_by : (Located → State → Result (Located × State) ConfigFault) → ℕ → Located → State → Result (Located × State) ConfigFault
+unfoldable pub term_by : (Located → State → Result (Located × State) ConfigFault) → ℕ → Located → State
+    → Result (Located × State) ConfigFault
 term_by pass n t s = begun t.word
   where
     closed_by : Option Symbol → Result (Located × State) ConfigFault

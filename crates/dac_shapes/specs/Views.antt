@@ -54,13 +54,21 @@ abbrev pub sections_of : List ReadSection → List Section
 sections_of sections = map section_of sections
 
 abbrev pub draft_of : Draft → Written
-draft_of d = record { apps = apps_of d.apps.items; permissions = permissions_of d.permissions.items; mandatory = names_of d.mandatory.items; optional = names_of d.optional.items; sync_wait = d.sync_wait; nodes = names_of d.nodes.items }
+draft_of d = record {
+  apps = apps_of d.apps.items;
+  permissions = permissions_of d.permissions.items;
+  mandatory = names_of d.mandatory.items;
+  optional = names_of d.optional.items;
+  sync_wait = d.sync_wait;
+  nodes = names_of d.nodes.items;
+}
 
 -- ---- how far a parser is
 
 -- what is left to read, and the names seen so far
 abbrev pub parser_state : Parser → State
-parser_state p = record { left = p.tokens; seen = record { met = names_of p.met.items; listed = names_of p.listed.items } }
+parser_state p =
+    record { left = p.tokens; seen = record { met = names_of p.met.items; listed = names_of p.listed.items } }
 
 -- the token that was read last, and what is left behind it
 abbrev pub here : Parser → Located × State

@@ -21,7 +21,8 @@ impl Parser<'_> {
     /// token is read.
     #[tactic(auto, unfolding(crate::specs::Shape::timeout_at))]
     fn timeout(&mut self) -> Result<u32, ConfigFault>
-        ensures read { Gives (λ ms. (ms, located_of self.new.token, parser_state self.new)) result (from_here timeout_at self.old) }
+        ensures read { Gives (λ ms. (ms, located_of self.new.token, parser_state self.new)) result
+            (from_here timeout_at self.old) }
         ensures left { tokens_left self.new ≤ tokens_left self.old }
     {
         let Token::Number { negative, digits } = self.token.token else {

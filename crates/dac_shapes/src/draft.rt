@@ -82,7 +82,8 @@ impl<'a> Draft<'a> {
 
     /// What sections say of these nodes.
     pub fn of_sections(alloc: Global, sections: Vec<Section<'a>>, nodes: Vec<&'a [u8]>) -> Self
-        ensures { draft_of result ≡ written (sections_of sections.entry.items) (names_of nodes.entry.items) }
+        ensures { draft_of result
+            ≡ written (sections_of sections.entry.items) (names_of nodes.entry.items) }
     {
         let mut draft = Draft {
             apps: Vec::new(alloc),

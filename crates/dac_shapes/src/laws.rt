@@ -9,5 +9,6 @@ ghost use Rattle.dac_shapes.specs.Within.{AreWithinLimits, nodes_in};
 /// nodes that are met on the way are the different names in sections, in the order in which they first stand.
 pub fn limits_in_text_order()
     ensures order { (sections : List Section) → (MaySections sections ↔ AreWithinLimits sections) }
-    ensures nodes { (sections : List Section) → (steps with_section nothing sections).met ≡ nodes_in sections }
+    ensures nodes { (sections : List Section)
+        → (steps with_section nothing sections).met ≡ nodes_in sections }
 {}

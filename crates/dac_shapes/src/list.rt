@@ -23,7 +23,8 @@ pub trait Elements<'a> {
 
     /// The element that begins with the parser's token.
     fn read(parser: &mut Parser<'a>, before: &[Self::Element]) -> Result<Self::Element, ConfigFault>
-        ensures read { Gives (λ x. (said x, parser_state parser.new)) result (from_here (read_at (map said before.now)) parser.old) }
+        ensures read { Gives (λ x. (said x, parser_state parser.new)) result
+            (from_here (read_at (map said before.now)) parser.old) }
         ensures left { tokens_left parser.new ≤ tokens_left parser.old };
 }
 
@@ -33,7 +34,8 @@ impl<'a> Parser<'a> {
         &mut self,
         close: Symbol,
     ) -> Result<Vec<E::Element>, ConfigFault>
-        ensures read { Gives (λ all. (map E.said all.items, parser_state self.new)) result (from_here (comma_list E.read_at close (room (parser_state self.old)) []) self.old) }
+        ensures read { Gives (λ all. (map E.said all.items, parser_state self.new)) result
+            (from_here (comma_list E.read_at close (room (parser_state self.old)) []) self.old) }
         ensures left { tokens_left self.new ≤ tokens_left self.old }
     {
         let mut all = Vec::new(self.alloc);
@@ -50,7 +52,8 @@ impl<'a> Parser<'a> {
     /// A list in brackets, which may be empty.
     #[tactic(auto, unfolding(crate::specs::Shape::list_of))]
     pub fn list<E: Elements<'a>>(&mut self) -> Result<Vec<E::Element>, ConfigFault>
-        ensures read { Gives (λ all. (map E.said all.items, parser_state self.new)) result (list_of E.read_at (parser_state self.old)) }
+        ensures read { Gives (λ all. (map E.said all.items, parser_state self.new)) result
+            (list_of E.read_at (parser_state self.old)) }
         ensures left { tokens_left self.new ≤ tokens_left self.old }
     {
         self.behind(Symbol::OpenList)?;

@@ -75,7 +75,8 @@ impl<'a> Parser<'a> {
     /// The node that the token is, in the list that is being read.
     #[tactic(auto, unfolding(crate::specs::Shape::node_of))]
     fn node(&mut self, repeats: bool) -> Result<&'a [u8], ConfigFault>
-        ensures read { Gives (λ name. (name.now, parser_state self.new)) result (from_here (node_of repeats) self.old) }
+        ensures read { Gives (λ name. (name.now, parser_state self.new)) result
+            (from_here (node_of repeats) self.old) }
         ensures left { tokens_left self.new ≤ tokens_left self.old }
     {
         let name = self.short_name()?;
@@ -94,7 +95,8 @@ impl<'a> Parser<'a> {
 
     /// The nodes of a tuple, whose opening brace is the token.
     fn tuple(&mut self) -> Result<Vec<&'a [u8]>, ConfigFault>
-        ensures read { Gives (λ group. (names_of group.items, parser_state self.new)) result (tuple_at self.old.token.at (parser_state self.old)) }
+        ensures read { Gives (λ group. (names_of group.items, parser_state self.new)) result
+            (tuple_at self.old.token.at (parser_state self.old)) }
         ensures left { tokens_left self.new ≤ tokens_left self.old }
     {
         let brace = self.token.at;
@@ -108,7 +110,8 @@ impl<'a> Parser<'a> {
     /// A node list, whose opening bracket is the token.
     #[tactic(auto, unfolding(crate::specs::Shape::groups_at))]
     pub fn groups(&mut self) -> Result<Vec<Vec<&'a [u8]>>, ConfigFault>
-        ensures read { Gives (λ groups. (groups_of groups.items, parser_state self.new)) result (from_here groups_at self.old) }
+        ensures read { Gives (λ groups. (groups_of groups.items, parser_state self.new)) result
+            (from_here groups_at self.old) }
         ensures left { tokens_left self.new ≤ tokens_left self.old }
     {
         if !self.is(Symbol::OpenList) {

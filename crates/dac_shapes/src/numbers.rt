@@ -14,7 +14,9 @@ use dac_tokens::{ConfigFault, FaultKind, Token};
 
 /// The number that the digits are, if it fits.
 fn number_of(digits: &[u8]) -> Option<u32>
-    ensures { result ≡ (if nat_lt (value_from 0 digits.now) ms_bound then Some (value_from 0 digits.now) else None) }
+    ensures { result
+        ≡ (if nat_lt (value_from 0 digits.now) ms_bound then Some (value_from 0 digits.now)
+        else None) }
 {
     let mut value: u32 = 0;
     for digit in digits {

@@ -34,11 +34,13 @@ pub trait Pair<'a>: Drop {
 
     /// The name that the parser's token is.
     fn name(parser: &Parser<'a>, before: &[Self]) -> Result<Self::Name, ConfigFault>
-        ensures { Gives named result (name_at (map said before.now) (located_of parser.now.token)) };
+        ensures { Gives named result
+            (name_at (map said before.now) (located_of parser.now.token)) };
 
     /// What stands behind the comma, with the brace that closes the pair.
     fn rest(parser: &mut Parser<'a>, name: Self::Name) -> Result<Self, ConfigFault>
-        ensures read { Gives (λ x. (said x, parser_state parser.new)) result (rest_at (named name) (parser_state parser.old)) }
+        ensures read { Gives (λ x. (said x, parser_state parser.new)) result
+            (rest_at (named name) (parser_state parser.old)) }
         ensures left { tokens_left parser.new ≤ tokens_left parser.old };
 }
 
@@ -72,7 +74,8 @@ impl<'a, P: Pair<'a>> Elements<'a> for Pairs<'a, P> {
 impl<'a> Parser<'a> {
     /// This value, if the brace that closes its pair comes next.
     pub fn close_pair<T: Drop>(&mut self, value: T) -> Result<T, ConfigFault>
-        ensures read { Gives (λ _. parser_state self.new) result (symbol_at CloseTuple (parser_state self.old)) }
+        ensures read { Gives (λ _. parser_state self.new) result
+            (symbol_at CloseTuple (parser_state self.old)) }
         ensures same { IfOk result (λ x. x ≡ value) }
         ensures left { tokens_left self.new ≤ tokens_left self.old }
     {

@@ -31,7 +31,8 @@ impl Parser<'_> {
     pub fn advance(&mut self) -> Result<(), ConfigFault>
         ensures read { Gives (λ _. here self.new) result (token (parser_state self.old)) }
         ensures left { tokens_left self.new ≤ tokens_left self.old }
-        ensures fewer { IfOk result (λ _. is_end (word_of self.new.token.token) ≡ false → tokens_left self.new < tokens_left self.old) }
+        ensures fewer { IfOk result (λ _. is_end (word_of self.new.token.token) ≡ false
+            → tokens_left self.new < tokens_left self.old) }
     {
         self.token = self.tokens.next()?;
         Ok(())
@@ -67,7 +68,8 @@ impl Parser<'_> {
     /// Passes over this symbol, which comes next.
     #[tactic(auto, unfolding(crate::specs::Shape::symbol_at))]
     pub fn symbol(&mut self, symbol: Symbol) -> Result<(), ConfigFault>
-        ensures read { Gives (λ _. parser_state self.new) result (symbol_at symbol (parser_state self.old)) }
+        ensures read { Gives (λ _. parser_state self.new) result
+            (symbol_at symbol (parser_state self.old)) }
         ensures left { tokens_left self.new ≤ tokens_left self.old }
     {
         self.advance()?;
@@ -80,7 +82,8 @@ impl Parser<'_> {
     /// Reads the token behind this symbol, which comes next.
     #[tactic(auto)]
     pub fn behind(&mut self, symbol: Symbol) -> Result<(), ConfigFault>
-        ensures read { Gives (λ _. here self.new) result (behind_at symbol (parser_state self.old)) }
+        ensures read { Gives (λ _. here self.new) result
+            (behind_at symbol (parser_state self.old)) }
         ensures left { tokens_left self.new ≤ tokens_left self.old }
     {
         self.symbol(symbol)?;
@@ -90,7 +93,8 @@ impl Parser<'_> {
     /// Whether a comma comes next, or else this symbol.
     #[tactic(auto, unfolding(crate::specs::Shape::more_at))]
     pub fn more(&mut self, close: Symbol) -> Result<bool, ConfigFault>
-        ensures read { Gives (λ b. (b, parser_state self.new)) result (more_at close (parser_state self.old)) }
+        ensures read { Gives (λ b. (b, parser_state self.new)) result
+            (more_at close (parser_state self.old)) }
         ensures left { tokens_left self.new ≤ tokens_left self.old }
         ensures fewer { IfOk result (λ b. b ≡ true → tokens_left self.new < tokens_left self.old) }
     {

@@ -20,7 +20,8 @@ impl<'a> Parser<'a> {
     /// The value of the parameter of this name.
     #[tactic(auto, unfolding(crate::specs::Shape::param_value_at))]
     fn param_value(&mut self, name: ParamName) -> Result<Param<'a>, ConfigFault>
-        ensures read { Gives (λ param. (param_of param, parser_state self.new)) result (param_value_at name (parser_state self.old)) }
+        ensures read { Gives (λ param. (param_of param, parser_state self.new)) result
+            (param_value_at name (parser_state self.old)) }
         ensures left { tokens_left self.new ≤ tokens_left self.old }
     {
         match name {
@@ -39,7 +40,8 @@ impl<'a> Parser<'a> {
     /// The full stop and the end behind it, and the place of the end.
     #[tactic(auto, unfolding(crate::specs::Shape::end_at))]
     fn end(&mut self) -> Result<usize, ConfigFault>
-        ensures { Gives (λ at. (at, parser_state self.new)) result (end_at (parser_state self.old)) }
+        ensures { Gives (λ at. (at, parser_state self.new)) result
+            (end_at (parser_state self.old)) }
     {
         self.behind(Symbol::FullStop)?;
         match self.token.token {

@@ -23,9 +23,11 @@ fn closing_of(symbol: Symbol) -> Option<Symbol>
 impl Parser<'_> {
     /// Reads the token behind strings in a row, of which the first is the token.
     fn behind_texts(&mut self) -> Result<(), ConfigFault>
-        ensures read { (n : ℕ) → tokens_left self.old < n → Gives (λ _. here self.new) result (texts_at n (parser_state self.old)) }
+        ensures read { (n : ℕ) → tokens_left self.old < n
+            → Gives (λ _. here self.new) result (texts_at n (parser_state self.old)) }
         ensures left { tokens_left self.new ≤ tokens_left self.old }
-        ensures fewer { IfOk result (λ _. is_end (word_of self.new.token.token) ≡ false → tokens_left self.new < tokens_left self.old) }
+        ensures fewer { IfOk result (λ _. is_end (word_of self.new.token.token) ≡ false
+            → tokens_left self.new < tokens_left self.old) }
     {
         loop {
             self.advance()?;
@@ -38,9 +40,12 @@ impl Parser<'_> {
     /// Reads the token behind the closing symbol, up to which terms parted by commas, or nothing, stand.
     #[cycle(terms)]
     fn behind_terms(&mut self, close: Symbol) -> Result<(), ConfigFault>
-        ensures read { (n : ℕ) → tokens_left self.old < n → Gives (λ _. here self.new) result (terms_in (term_at n) close n (parser_state self.old)) }
+        ensures read { (n : ℕ) → tokens_left self.old < n
+            → Gives (λ _. here self.new) result
+            (terms_in (term_at n) close n (parser_state self.old)) }
         ensures left { tokens_left self.new ≤ tokens_left self.old }
-        ensures fewer { IfOk result (λ _. is_end (word_of self.new.token.token) ≡ false → tokens_left self.new < tokens_left self.old) }
+        ensures fewer { IfOk result (λ _. is_end (word_of self.new.token.token) ≡ false
+            → tokens_left self.new < tokens_left self.old) }
     {
         self.advance()?;
         if self.is(close) {
@@ -61,9 +66,11 @@ impl Parser<'_> {
     /// Reads the token behind a term, which begins with the token.
     #[cycle(terms)]
     fn behind_term(&mut self) -> Result<(), ConfigFault>
-        ensures read { (n : ℕ) → IsEnough (located_of self.old.token) (parser_state self.old) n → Gives (λ _. here self.new) result (from_here (term_at n) self.old) }
+        ensures read { (n : ℕ) → IsEnough (located_of self.old.token) (parser_state self.old) n
+            → Gives (λ _. here self.new) result (from_here (term_at n) self.old) }
         ensures left { tokens_left self.new ≤ tokens_left self.old }
-        ensures fewer { IfOk result (λ _. is_end (word_of self.new.token.token) ≡ false → tokens_left self.new < tokens_left self.old) }
+        ensures fewer { IfOk result (λ _. is_end (word_of self.new.token.token) ≡ false
+            → tokens_left self.new < tokens_left self.old) }
     {
         match self.token.token {
             Token::Atom(_) | Token::Number { .. } => self.advance(),
@@ -79,7 +86,8 @@ impl Parser<'_> {
     /// Passes over a term and the brace that closes its pair.
     #[tactic(auto, unfolding(crate::specs::Shape::passed_at))]
     pub fn pass(&mut self) -> Result<(), ConfigFault>
-        ensures read { Gives (λ _. parser_state self.new) result (passed_at (parser_state self.old)) }
+        ensures read { Gives (λ _. parser_state self.new) result
+            (passed_at (parser_state self.old)) }
         ensures left { tokens_left self.new ≤ tokens_left self.old }
     {
         self.advance()?;

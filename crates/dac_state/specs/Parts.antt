@@ -10,10 +10,19 @@ use Rattle.dac_meaning.specs.StateValue.{StateValue, IsState}
 
 -- the state of these parts
 abbrev pub state_of_parts : Dots → PermissionsValue → WishesValue → Lives → Claims → DrainsValue → StateValue
-state_of_parts heard permissions wishes lives claims drains = record { heard = heard; known = wishes.known; permits = permissions.standing; starts = wishes.standing; lives = lives; claims = claims; drains = drains.standing }
+state_of_parts heard permissions wishes lives claims drains = record {
+  heard = heard;
+  known = wishes.known;
+  permits = permissions.standing;
+  starts = wishes.standing;
+  lives = lives;
+  claims = claims;
+  drains = drains.standing;
+}
 
 -- the parts make a state
-pub record AreParts (heard : Dots) (permissions : PermissionsValue) (wishes : WishesValue) (lives : Lives) (claims : Claims) (drains : DrainsValue) : Type 0 where
+pub record AreParts (heard : Dots) (permissions : PermissionsValue) (wishes : WishesValue) (lives : Lives)
+    (claims : Claims) (drains : DrainsValue) : Type 0 where
   -- permissions, wishes and drains know the same dots
   pub alike : permissions.known ≡ wishes.known
   pub drained : drains.known ≡ wishes.known

@@ -56,7 +56,15 @@ pieces_at version t known r = do
 
 -- the state of the dots heard, the dots known and its pieces
 abbrev pub state_from : Dots × Dots → Pieces → StateValue
-state_from dots p = record { heard = dots.0; known = dots.1; permits = p.0.0; starts = p.0.1; lives = p.1.0.0; claims = p.1.0.1; drains = p.1.1 }
+state_from dots p = record {
+  heard = dots.0;
+  known = dots.1;
+  permits = p.0.0;
+  starts = p.0.1;
+  lives = p.1.0.0;
+  claims = p.1.0.1;
+  drains = p.1.1;
+}
 
 -- the parts of a state, one after the other
 unfoldable pub parts_at : Version → Table → Rest → Field StateValue

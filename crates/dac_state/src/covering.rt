@@ -49,7 +49,8 @@ fn holds_dot(heard: &Context, op: &Op) -> bool
 
 /// Whether what the operation permits and knows is below these permissions.
 fn holds_permit(permissions: &Permissions, op: &Op) -> bool
-    ensures { IsTrue result ↔ IsPermissionsBelow (permissions_of (meaning_of (op.now ∷ []))) permissions.now }
+    ensures { IsTrue result
+        ↔ IsPermissionsBelow (permissions_of (meaning_of (op.now ∷ []))) permissions.now }
 {
     laws::delta_is_meaning();
     op.tells_invariant();

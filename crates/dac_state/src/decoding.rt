@@ -51,7 +51,8 @@ fn read_standing<'a>(
     config: &Config,
     known: &Context,
 ) -> Result<((Permissions, Wishes), ByteReader<'a>), ReadFault>
-    ensures exact { Gives (λ x. ((x.0.0.standing, x.0.1.standing), x.1)) result (standing_at version config.now known.now reader.entry) }
+    ensures exact { Gives (λ x. ((x.0.0.standing, x.0.1.standing), x.1)) result
+        (standing_at version config.now known.now reader.entry) }
     ensures permitted { IfOk result (λ x. x.0.0.known ≡ known.now) }
     ensures wished { IfOk result (λ x. x.0.1.known ≡ known.now) }
 {
@@ -84,7 +85,8 @@ fn read_chains_and_drains<'a>(
     config: &Config,
     known: &Context,
 ) -> Result<(((Lives, Claims), Drains), ByteReader<'a>), ReadFault>
-    ensures exact { Gives (λ x. ((x.0.0, x.0.1.standing), x.1)) result (chains_and_drains_at version config.now known.now reader.entry) }
+    ensures exact { Gives (λ x. ((x.0.0, x.0.1.standing), x.1)) result
+        (chains_and_drains_at version config.now known.now reader.entry) }
     ensures drained { IfOk result (λ x. x.0.1.known ≡ known.now) }
 {
     let (chains, rest) = read_chains(reader, alloc, version, config)?;
@@ -104,7 +106,9 @@ fn read_pieces<'a>(
     config: &Config,
     known: &Context,
 ) -> Result<(Pieces, ByteReader<'a>), ReadFault>
-    ensures exact { Gives (λ x. (((x.0.0.0.standing, x.0.0.1.standing), (x.0.1.0, x.0.1.1.standing)), x.1)) result (pieces_at version config.now known.now reader.entry) }
+    ensures exact { Gives
+        (λ x. (((x.0.0.0.standing, x.0.0.1.standing), (x.0.1.0, x.0.1.1.standing)), x.1)) result
+        (pieces_at version config.now known.now reader.entry) }
     ensures permitted { IfOk result (λ x. x.0.0.0.known ≡ known.now) }
     ensures wished { IfOk result (λ x. x.0.0.1.known ≡ known.now) }
     ensures drained { IfOk result (λ x. x.0.1.1.known ≡ known.now) }
@@ -176,8 +180,10 @@ fn decode_in(
     config: &Config,
     bytes: &[u8],
 ) -> Result<State, ReadFault>
-    ensures found { IfOk result (λ s. IsInForm version config.now s × (bytes.now ≡ state_bytes version s)) }
-    ensures only { (s : StateValue) → IsInForm version config.now s → bytes.now ≡ state_bytes version s → Gives (λ s. s) result (Ok s) }
+    ensures found { IfOk result
+        (λ s. IsInForm version config.now s × (bytes.now ≡ state_bytes version s)) }
+    ensures only { (s : StateValue) → IsInForm version config.now s
+        → bytes.now ≡ state_bytes version s → Gives (λ s. s) result (Ok s) }
     ensures exact { Gives (λ s. s) result (state_at version config.now bytes.now) }
 {
     states_have_one_spelling(config);
@@ -196,9 +202,11 @@ impl State {
     ) -> Result<(Self, ByteReader<'a>), ReadFault>
         ensures exact { Gives (λ x. x) result (parts_at version config.now reader.entry) }
         // What is read is spelled so, and in form.
-        ensures found { IsFoundAs (λ x. x) (state_bytes version) (IsInForm version config.now) reader.entry result }
+        ensures found { IsFoundAs (λ x. x) (state_bytes version) (IsInForm version config.now)
+            reader.entry result }
         // What is spelled so and in form is read, unless memory runs out.
-        ensures again { IsReadAgain (λ x. x) (state_bytes version) (IsInForm version config.now) reader.entry result }
+        ensures again { IsReadAgain (λ x. x) (state_bytes version) (IsInForm version config.now)
+            reader.entry result }
     {
         states_have_one_spelling(config);
         read_next(reader, alloc, version, config)
@@ -214,7 +222,8 @@ impl State {
         // What is read is spelled so, and in form.
         ensures found { IfOk result (λ s. IsInForm Two config.now s × (bytes.now ≡ spelling_of s)) }
         // What is spelled so and in form is read, unless memory runs out.
-        ensures only { (s : StateValue) → IsInForm Two config.now s → bytes.now ≡ spelling_of s → Gives (λ s. s) result (Ok s) }
+        ensures only { (s : StateValue) → IsInForm Two config.now s → bytes.now ≡ spelling_of s
+            → Gives (λ s. s) result (Ok s) }
         // Which fault it is.
         ensures exact { Gives (λ s. s) result (state_at Two config.now bytes.now) }
     {
@@ -227,9 +236,11 @@ impl State {
     /// The faults are those of [`State::decode`], with `Trailing` at the first byte after the claims.
     pub fn decode_1(alloc: Global, config: &Config, bytes: &[u8]) -> Result<Self, ReadFault>
         // What is read is spelled so, and in form.
-        ensures found { IfOk result (λ s. IsInForm One config.now s × (bytes.now ≡ state_bytes One s)) }
+        ensures found { IfOk result
+            (λ s. IsInForm One config.now s × (bytes.now ≡ state_bytes One s)) }
         // What is spelled so and in form is read, unless memory runs out.
-        ensures only { (s : StateValue) → IsInForm One config.now s → bytes.now ≡ state_bytes One s → Gives (λ s. s) result (Ok s) }
+        ensures only { (s : StateValue) → IsInForm One config.now s → bytes.now ≡ state_bytes One s
+            → Gives (λ s. s) result (Ok s) }
         // Which fault it is.
         ensures exact { Gives (λ s. s) result (state_at One config.now bytes.now) }
     {

@@ -76,7 +76,9 @@ impl Heard {
         requires mine { IsSubset (heard_beside self.now known.now) known.now }
         requires theirs { IsSubset (heard_beside other.now other_known.now) other_known.now }
         ensures known { IfOk result (λ dots. dots.0 ≡ set.union known.now other_known.now) }
-        ensures heard { IfOk result (λ dots. heard_beside dots.1 dots.0 ≡ set.union (heard_beside self.now known.now) (heard_beside other.now other_known.now)) }
+        ensures heard { IfOk result (λ dots. heard_beside dots.1 dots.0
+            ≡ set.union (heard_beside self.now known.now)
+            (heard_beside other.now other_known.now)) }
     {
         let heard = self.beside(known).union(other.beside(other_known))?;
         if self.both_know_no_more(known, other, other_known, &heard) {
@@ -103,7 +105,9 @@ impl Heard {
     pub(crate) fn leq(&self, known: &Context, other: &Self, other_known: &Context) -> bool
         requires { IsSubset (heard_beside self.now known.now) known.now }
         ensures { IsTrue result
-            ↔ IsSubset known.now other_known.now × IsSubset (heard_beside self.now known.now) (heard_beside other.now other_known.now) }
+            ↔ IsSubset known.now other_known.now
+            × IsSubset (heard_beside self.now known.now)
+            (heard_beside other.now other_known.now) }
     {
         if !known.is_subset(other_known) {
             return false;

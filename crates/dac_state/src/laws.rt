@@ -13,7 +13,9 @@ use dac_part_bytes::laws::parts_have_one_spelling;
 /// States in form and their spellings are one to one under a configuration, in each version. What is read as a state is its spelling
 /// and in form. A state in form is read from its spelling, whatever follows.
 pub fn states_have_one_spelling(config: &Config)
-    ensures { (version : Version) → IsCodec (parts_at version config.now) (state_bytes version) (IsInForm version config.now) }
+    ensures { (version : Version)
+        → IsCodec (parts_at version config.now) (state_bytes version)
+        (IsInForm version config.now) }
 {
     parts_have_one_spelling(config);
 }

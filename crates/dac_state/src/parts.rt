@@ -33,9 +33,11 @@ impl Model for Parts {
 
     ghost coded = { coded_state };
 
-    ghost view = { λ a. state_of_parts (heard_beside a.heard a.wishes.known) a.permissions a.wishes a.lives a.claims a.drains };
+    ghost view = { λ a. state_of_parts (heard_beside a.heard a.wishes.known) a.permissions a.wishes
+        a.lives a.claims a.drains };
 
-    ghost invariant = { λ a. AreParts (heard_beside a.heard a.wishes.known) a.permissions a.wishes a.lives a.claims a.drains };
+    ghost invariant = { λ a. AreParts (heard_beside a.heard a.wishes.known) a.permissions a.wishes
+        a.lives a.claims a.drains };
 }
 
 impl Parts {

@@ -29,9 +29,12 @@ placed places blank items = items ++ replicate (places - length items) blank
 abbrev pub IsMark : Table → StateValue → AppId → NodeId → Mark → Type 0
 IsMark table s app node Down = (inc : ℕ) → ¬ IsLive s.lives node inc
 IsMark table s app node Barred = (inc : ℕ) × IsLive s.lives node inc × ¬ IsPermittedAt table s (key_at app node inc)
-IsMark table s app node Drained = (inc : ℕ) × IsLive s.lives node inc × IsPermittedAt table s (key_at app node inc) × IsDrainedAt s node inc
-IsMark table s app node Idle = (inc : ℕ) × IsLive s.lives node inc × IsPermittedAt table s (key_at app node inc) × ¬ (IsDrainedAt s node inc) × ¬ IsStartedAt s (key_at app node inc)
-IsMark table s app node Ok = (inc : ℕ) × IsLive s.lives node inc × IsPermittedAt table s (key_at app node inc) × ¬ (IsDrainedAt s node inc) × IsStartedAt s (key_at app node inc)
+IsMark table s app node Drained =
+    (inc : ℕ) × IsLive s.lives node inc × IsPermittedAt table s (key_at app node inc) × IsDrainedAt s node inc
+IsMark table s app node Idle = (inc : ℕ) × IsLive s.lives node inc × IsPermittedAt table s (key_at app node inc)
+    × ¬ (IsDrainedAt s node inc) × ¬ IsStartedAt s (key_at app node inc)
+IsMark table s app node Ok = (inc : ℕ) × IsLive s.lives node inc × IsPermittedAt table s (key_at app node inc)
+    × ¬ (IsDrainedAt s node inc) × IsStartedAt s (key_at app node inc)
 
 -- the mark of a node that is live at this incarnation, or isn't live
 abbrev pub mark_at : Table → StateValue → AppId → NodeId → Option ℕ → Mark
@@ -65,7 +68,8 @@ drained_of table s = placed MAX_NODES false (list_map (drains_live s) (nodes_of 
 
 -- the greatest claim of an application, what is to become of it, and the mark of each node
 abbrev pub app_summary : Table → StateValue → AppId → AppSummary
-app_summary table s app = record { claim = map.get s.claims app; verdict = verdict_of table s app; marks = marks_of table s app }
+app_summary table s app =
+    record { claim = map.get s.claims app; verdict = verdict_of table s app; marks = marks_of table s app }
 
 -- in the place of an application that isn't there
 abbrev pub no_app : AppSummary
@@ -78,4 +82,10 @@ app_summaries table s = placed MAX_APPS no_app (list_map (app_summary table s) (
 -- What a state says, in short: how many dots it has heard and knows, and the life of each node of the configuration.
 -- Then comes where each of its applications stands
 abbrev pub summary_of : Table → StateValue → Summary
-summary_of table s = record { heard = set.len s.heard; known = set.len s.known; lives = lives_of table s; drained = drained_of table s; apps = app_summaries table s }
+summary_of table s = record {
+  heard = set.len s.heard;
+  known = set.len s.known;
+  lives = lives_of table s;
+  drained = drained_of table s;
+  apps = app_summaries table s;
+}

@@ -47,7 +47,8 @@ drained_text _ _ = []
 -- the life of a node of this name, and whether it is drained
 abbrev pub life_text : List ℕ → Option Life → Bool → List ℕ
 life_text node None drained = codes "node " ++ (name_text node ++ codes " unknown\n")
-life_text node (Some life) drained = codes "node " ++ (name_text node ++ (flag_text life.flag ++ (decimal life.inc ++ (drained_text life.flag drained ++ codes "\n"))))
+life_text node (Some life) drained = codes "node "
+    ++ (name_text node ++ (flag_text life.flag ++ (decimal life.inc ++ (drained_text life.flag drained ++ codes "\n"))))
 
 -- ---- applications
 
@@ -118,7 +119,8 @@ member_text table app marks group node = member_in table (group_of table app nod
 
 -- the nodes of a group, by their names, where these are the groups of nodes by their numbers
 abbrev pub group_in : Table → List (Option ℕ) → List Mark → ℕ → List ℕ
-group_in table groups marks group = flat_map (λ node. member_in table (slice_index_or groups node.0 None) marks group node) (nodes_of table)
+group_in table groups marks group =
+    flat_map (λ node. member_in table (slice_index_or groups node.0 None) marks group node) (nodes_of table)
 
 -- the nodes of one group of the application's list, by their names
 abbrev pub group_text : Table → AppId → List Mark → ℕ → List ℕ
@@ -126,7 +128,8 @@ group_text table app marks group = flat_map (member_text table app marks group) 
 
 -- the nodes of the application's list, group by group; there are no more groups than nodes
 abbrev pub list_text : Table → AppId → List Mark → List ℕ
-list_text table app marks = codes "list" ++ (flat_map (group_text table app marks) (range_with_len 0 MAX_NODES) ++ codes "\n")
+list_text table app marks =
+    codes "list" ++ (flat_map (group_text table app marks) (range_with_len 0 MAX_NODES) ++ codes "\n")
 
 -- ---- the page
 
@@ -135,11 +138,13 @@ counts_text heard known = codes "heard " ++ (decimal heard ++ (codes " known " +
 
 -- the line of a node, whose life is among these by their numbers, and whether it is drained among those
 abbrev pub node_line : Table → List (Option Life) → List Bool → NodeId → List ℕ
-node_line table lives drained node = life_text (node_name table node) (slice_index_or lives node.0 None) (slice_index_or drained node.0 false)
+node_line table lives drained node =
+    life_text (node_name table node) (slice_index_or lives node.0 None) (slice_index_or drained node.0 false)
 
 -- the two lines of an application
 abbrev pub summary_text : Table → AppId → AppSummary → List ℕ
-summary_text table app summary = standing_text table app summary.claim summary.verdict ++ list_text table app summary.marks
+summary_text table app summary =
+    standing_text table app summary.claim summary.verdict ++ list_text table app summary.marks
 
 -- the lines of the application, of these by their numbers
 unfoldable pub app_lines : Table → List AppSummary → AppId → List ℕ

@@ -88,7 +88,8 @@ fn put_at_node(
     word: &[u8],
     node: NodeId,
 ) -> Result<(), NoMemory>
-    ensures { OnOk result (text.new.items ≡ text.old.items ++ (word.now ++ node_text config.now node)) }
+    ensures { OnOk result
+        (text.new.items ≡ text.old.items ++ (word.now ++ node_text config.now node)) }
 {
     text.extend_from_slice(word)?;
     put_node(alloc, text, config, node)
@@ -127,7 +128,8 @@ fn put_standing(
     verdict: Verdict,
 ) -> Result<(), NoMemory>
     requires { app.0 < app_count config.now }
-    ensures { OnOk result (text.new.items ≡ text.old.items ++ standing_text config.now app claim verdict) }
+    ensures { OnOk result
+        (text.new.items ≡ text.old.items ++ standing_text config.now app claim verdict) }
 {
     text.extend_from_slice(b"app ")?;
     put_printed_name(text, config.app_name(app))?;
@@ -201,7 +203,8 @@ fn counted_group(count: u16, group: Option<u16>) -> u16
 /// How many groups come up to the last one that has a node, where these are the groups of nodes by their numbers.
 fn group_count(config: &Config, groups: &[Option<u16>; MAX_NODES]) -> u16
     ensures few { result ≤ MAX_NODES }
-    ensures has { (node group : ℕ) → node < node_count config.now → group < MAX_NODES → slice_index_or groups.now node None ≡ Some group → group < result }
+    ensures has { (node group : ℕ) → node < node_count config.now → group < MAX_NODES
+        → slice_index_or groups.now node None ≡ Some group → group < result }
 {
     let mut count = 0;
     for number in 0..config.nodes() {
@@ -213,7 +216,8 @@ fn group_count(config: &Config, groups: &[Option<u16>; MAX_NODES]) -> u16
 /// Whether a node is of this group, where these are the groups of nodes by their numbers.
 fn is_member(groups: &[Option<u16>; MAX_NODES], group: u16, node: NodeId) -> bool
     requires { node.0 < MAX_NODES }
-    ensures { result ≡ option_map_or (λ other. other == group) (slice_index_or groups.now node.0 None) false }
+    ensures { result
+        ≡ option_map_or (λ other. other == group) (slice_index_or groups.now node.0 None) false }
 {
     match groups[node.0 as usize] {
         Some(other) => other == group,
@@ -232,7 +236,9 @@ fn put_member(
     node: NodeId,
 ) -> Result<(), NoMemory>
     requires { node.0 < MAX_NODES }
-    ensures { OnOk result (text.new.items ≡ text.old.items ++ member_in config.now (slice_index_or groups.now node.0 None) marks.now group node) }
+    ensures { OnOk result (text.new.items
+        ≡ text.old.items
+        ++ member_in config.now (slice_index_or groups.now node.0 None) marks.now group node) }
 {
     if !is_member(groups, group, node) {
         return Ok(());
@@ -250,7 +256,8 @@ fn put_group(
     marks: &[Mark; MAX_NODES],
     group: u16,
 ) -> Result<(), NoMemory>
-    ensures { OnOk result (text.new.items ≡ text.old.items ++ group_in config.now groups.now marks.now group) }
+    ensures { OnOk result
+        (text.new.items ≡ text.old.items ++ group_in config.now groups.now marks.now group) }
 {
     for number in 0..config.nodes() {
         let node = NodeId(number);
@@ -288,7 +295,8 @@ fn put_summary(
     summary: &AppSummary,
 ) -> Result<(), NoMemory>
     requires { app.0 < app_count config.now }
-    ensures { OnOk result (text.new.items ≡ text.old.items ++ summary_text config.now app summary.now) }
+    ensures { OnOk result
+        (text.new.items ≡ text.old.items ++ summary_text config.now app summary.now) }
 {
     put_standing(alloc, text, config, app, summary.claim, summary.verdict)?;
     put_list(alloc, text, config, app, &summary.marks)

@@ -86,7 +86,8 @@ pub fn put_node_line(
 ) -> Result<(), NoMemory>
     requires node { node.0 < node_count config.now }
     requires place { node.0 < MAX_NODES }
-    ensures { OnOk result (text.new.items ≡ text.old.items ++ node_line config.now lives.now drained.now node) }
+    ensures { OnOk result
+        (text.new.items ≡ text.old.items ++ node_line config.now lives.now drained.now node) }
 {
     let life = lives[node.0 as usize];
     let is_drained = drained[node.0 as usize];

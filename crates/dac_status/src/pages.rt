@@ -60,7 +60,10 @@ fn put_nodes(
     config: &Config,
     summary: &Summary,
 ) -> Result<(), NoMemory>
-    ensures { OnOk result (text.new.items ≡ text.old.items ++ flat_map (node_line config.now summary.now.lives summary.now.drained) (nodes_of config.now)) }
+    ensures { OnOk result (text.new.items
+        ≡ text.old.items
+        ++ flat_map (node_line config.now summary.now.lives summary.now.drained)
+        (nodes_of config.now)) }
 {
     for number in 0..config.nodes() {
         let node = NodeId(number);
@@ -76,7 +79,8 @@ fn put_apps(
     config: &Config,
     summary: &Summary,
 ) -> Result<(), NoMemory>
-    ensures { OnOk result (text.new.items ≡ text.old.items ++ flat_map (app_lines config.now summary.now.apps) (apps_of config.now)) }
+    ensures { OnOk result (text.new.items
+        ≡ text.old.items ++ flat_map (app_lines config.now summary.now.apps) (apps_of config.now)) }
 {
     for number in 0..config.apps() {
         put_app(alloc, text, config, &summary.apps, AppId(number))?;

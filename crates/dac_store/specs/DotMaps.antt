@@ -1,4 +1,5 @@
--- Stores at keys as a store: the list of the keys with their stores, in the order of the keys. A key whose store holds no dots isn't kept.
+-- Stores at keys as a store: the list of the keys with their stores, in the order of the keys. A key whose store holds
+-- no dots isn't kept.
 use Rattle.std.specs.Prelude.{◌≡◌, Bool, false, T, List, Option, None, Some, unwrap_or, if◌then◌else◌}
 use Rattle.std.specs.declared.cmp.Ordering.{Ordering}
 use Rattle.std.specs.List.{list_any}
@@ -25,14 +26,19 @@ IsKept is_store is_empty None = Unit {0}
 IsKept is_store is_empty (Some s) = is_store s × (is_empty s ≡ false)
 
 -- the keys strictly rise, and each store holds dots
-pub record IsKeyed {K S : Type 0} (R : K → K → Ordering) (is_store : S → Type 0) (is_empty : S → Bool) (m : List (K × S)) : Type 0 where
+pub record IsKeyed {K S : Type 0} (R : K → K → Ordering) (is_store : S → Type 0) (is_empty : S → Bool)
+    (m : List (K × S)) : Type 0 where
   pub in_order : T (is_sorted R m)
   pub stores : (k : K) → IsKept is_store is_empty (find R k m)
 
 -- by the stores at each key
-abbrev pub IsKeyedBelow : {K S : Type 0} → (K → K → Ordering) → S → (S → Dots → S → Dots → Type 0) → List (K × S) → Dots → List (K × S) → Dots → Type 0
-IsKeyedBelow {K} R nothing below m c t d = (k : K) → below (store_at nothing (find R k m)) c (store_at nothing (find R k t)) d
+abbrev pub IsKeyedBelow : {K S : Type 0} → (K → K → Ordering) → S → (S → Dots → S → Dots → Type 0) → List (K × S) → Dots
+    → List (K × S) → Dots → Type 0
+IsKeyedBelow {K} R nothing below m c t d =
+    (k : K) → below (store_at nothing (find R k m)) c (store_at nothing (find R k t)) d
 
 -- at each key the join of the stores there, unless it holds no dots
-abbrev pub join_keyed : {K S : Type 0} → (K → K → Ordering) → S → (S → Bool) → (S → Dots → S → Dots → S) → List (K × S) → Dots → List (K × S) → Dots → List (K × S)
-join_keyed R nothing is_empty join m c t d = merge_entries R (λ _ v w. unless_empty is_empty (join (store_at nothing v) c (store_at nothing w) d)) m t
+abbrev pub join_keyed : {K S : Type 0} → (K → K → Ordering) → S → (S → Bool) → (S → Dots → S → Dots → S) → List (K × S)
+    → Dots → List (K × S) → Dots → List (K × S)
+join_keyed R nothing is_empty join m c t d =
+    merge_entries R (λ _ v w. unless_empty is_empty (join (store_at nothing v) c (store_at nothing w) d)) m t

@@ -20,18 +20,25 @@ pub record IsWithin {S : Type 0} (is_store : S → Type 0) (has : S → Dot → 
 
 -- The laws. `below s c t d` orders s beside c and t beside d, and says nothing of c and d alone. The join
 -- takes the union of the contexts. The last laws say what a store without dots is.
-pub record IsDotStore {S : Type 0} (is_store : S → Type 0) (has : S → Dot → Bool) (below : S → Dots → S → Dots → Type 0) (join : S → Dots → S → Dots → S) (nothing : S) (is_empty : S → Bool) : Type 0 where
+pub record IsDotStore {S : Type 0} (is_store : S → Type 0) (has : S → Dot → Bool) (below : S → Dots → S → Dots → Type 0)
+    (join : S → Dots → S → Dots → S) (nothing : S) (is_empty : S → Bool) : Type 0 where
   pub refl : (s : S) (c : Dots) → IsWithin is_store has s c → below s c s c
-  pub trans : (s : S) (c : Dots) (t : S) (d : Dots) (u : S) (e : Dots) → IsWithin is_store has s c → IsWithin is_store has t d → IsWithin is_store has u e
+  pub trans : (s : S) (c : Dots) (t : S) (d : Dots) (u : S) (e : Dots) → IsWithin is_store has s c
+      → IsWithin is_store has t d → IsWithin is_store has u e
       → IsSubset c d → IsSubset d e → below s c t d → below t d u e → below s c u e
-  pub antisymm : (s t : S) (c : Dots) → IsWithin is_store has s c → IsWithin is_store has t c → below s c t c → below t c s c → s ≡ t
+  pub antisymm : (s t : S) (c : Dots) → IsWithin is_store has s c → IsWithin is_store has t c → below s c t c
+      → below t c s c → s ≡ t
   -- a join is a store, and its dots come from the two sides
   pub stored : (s : S) (c : Dots) (t : S) (d : Dots) → is_store s → is_store t → is_store (join s c t d)
-  pub comes : (s : S) (c : Dots) (t : S) (d : Dots) (x : Dot) → is_store s → is_store t → has (join s c t d) x ≡ true → (has s x || has t x) ≡ true
+  pub comes : (s : S) (c : Dots) (t : S) (d : Dots) (x : Dot) → is_store s → is_store t → has (join s c t d) x ≡ true
+      → (has s x || has t x) ≡ true
   -- it is the least upper bound
-  pub left : (s : S) (c : Dots) (t : S) (d : Dots) → IsWithin is_store has s c → IsWithin is_store has t d → below s c (join s c t d) (set.union c d)
-  pub right : (s : S) (c : Dots) (t : S) (d : Dots) → IsWithin is_store has s c → IsWithin is_store has t d → below t d (join s c t d) (set.union c d)
-  pub least : (s : S) (c : Dots) (t : S) (d : Dots) (u : S) (e : Dots) → IsWithin is_store has s c → IsWithin is_store has t d → IsWithin is_store has u e
+  pub left : (s : S) (c : Dots) (t : S) (d : Dots) → IsWithin is_store has s c → IsWithin is_store has t d
+      → below s c (join s c t d) (set.union c d)
+  pub right : (s : S) (c : Dots) (t : S) (d : Dots) → IsWithin is_store has s c → IsWithin is_store has t d
+      → below t d (join s c t d) (set.union c d)
+  pub least : (s : S) (c : Dots) (t : S) (d : Dots) (u : S) (e : Dots) → IsWithin is_store has s c
+      → IsWithin is_store has t d → IsWithin is_store has u e
       → IsSubset c e → IsSubset d e → below s c u e → below t d u e → below (join s c t d) (set.union c d) u e
   -- one store is empty, and it is the one without dots
   pub empty_store : is_store nothing
@@ -64,4 +71,5 @@ IsStoredBelow below v w = IsSubset v.context w.context × below v.store v.contex
 
 -- the union of the contexts, and the join of the stores beside them
 abbrev pub join_stored : {S : Type 0} → (S → Dots → S → Dots → S) → Stored S → Stored S → Stored S
-join_stored join v w = record { store = join v.store v.context w.store w.context; context = set.union v.context w.context }
+join_stored join v w =
+    record { store = join v.store v.context w.store w.context; context = set.union v.context w.context }

@@ -38,7 +38,8 @@ impl<S: DotStore> Model for Causal<S> {
 
     ghost Value = { Stored S };
 
-    ghost coded = { code_by (S × Dots) (coded× S.code (set.code coded_dot)) (λ v. (v.store, v.context)) (λ p. record { store = p.0; context = p.1 }) (λ _. refl) };
+    ghost coded = { code_by (S × Dots) (coded× S.code (set.code coded_dot))
+        (λ v. (v.store, v.context)) (λ p. record { store = p.0; context = p.1 }) (λ _. refl) };
 
     ghost view = { λ a. record { store = kept_in a.kept; context = a.context } };
 
@@ -49,8 +50,10 @@ impl<S: DotStore> Causal<S> {
     /// The store beside the context. Both are handed back where the store holds a dot that isn't in the
     /// context. It takes no memory.
     pub fn new(store: S, context: Context) -> Result<Self, (S, Context)>
-        ensures ok { IfOk result (λ causal. (causal ≡ record { store = store; context = context }) × IsHeld (S.has store) context) }
-        ensures err { IfErr result (λ back. (back ≡ (store, context)) × ¬ (IsHeld (S.has store) context)) }
+        ensures ok { IfOk result (λ causal. (causal ≡ record { store = store; context = context })
+            × IsHeld (S.has store) context) }
+        ensures err { IfErr result
+            (λ back. (back ≡ (store, context)) × ¬ (IsHeld (S.has store) context)) }
     {
         store.tells_invariant();
         if store.within(&context) {
@@ -68,8 +71,10 @@ impl<S: DotStore> Causal<S> {
     /// The store beside a context that others may share. Both are handed back where the store holds a dot that isn't
     /// in the context. It takes no memory.
     pub fn with_shared(store: S, context: SharedContext) -> Result<Self, (S, SharedContext)>
-        ensures ok { IfOk result (λ causal. (causal ≡ record { store = store; context = context }) × IsHeld (S.has store) context) }
-        ensures err { IfErr result (λ back. (back ≡ (store, context)) × ¬ (IsHeld (S.has store) context)) }
+        ensures ok { IfOk result (λ causal. (causal ≡ record { store = store; context = context })
+            × IsHeld (S.has store) context) }
+        ensures err { IfErr result
+            (λ back. (back ≡ (store, context)) × ¬ (IsHeld (S.has store) context)) }
     {
         store.tells_invariant();
         if store.within(context.context()) {
@@ -139,7 +144,8 @@ impl<S: DotStore> Causal<S> {
     /// Whether a join with this side surely leaves the other side's store as it is.
     fn leaves(&self, other: &Self) -> Result<bool, NoMemory>
         ensures nothing { IfOk result (λ leaves. leaves ≡ true → self.now.store ≡ S.nothing) }
-        ensures unheard { IfOk result (λ leaves. leaves ≡ true → IsUnheard (S.has other.now.store) self.now.context) }
+        ensures unheard { IfOk result
+            (λ leaves. leaves ≡ true → IsUnheard (S.has other.now.store) self.now.context) }
     {
         let store = self.store();
         store.tells_invariant();
@@ -161,7 +167,8 @@ impl<S: DotStore> Causal<S> {
 
     /// The store of the join.
     fn join_kept(&self, other: &Self) -> Result<Kept<S>, NoMemory>
-        ensures { IfOk result (λ kept. kept_in kept ≡ S.join self.now.store self.now.context other.now.store other.now.context) }
+        ensures { IfOk result (λ kept. kept_in kept
+            ≡ S.join self.now.store self.now.context other.now.store other.now.context) }
     {
         self.tells_invariant();
         other.tells_invariant();

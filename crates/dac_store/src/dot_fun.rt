@@ -53,7 +53,8 @@ impl<V: Lattice> DotFun<V> {
     /// it wasn't, and where memory is refused ([`NoMemory`], the only error), the store stays as it was.
     pub fn push(&mut self, dot: Dot, value: V) -> Result<bool, NoMemory>
         ensures ok { IfOk result (λ pushed. pushed ≡ is_above_entries dot_cmp self.old dot) }
-        ensures new { IfOk result (λ pushed. self.new ≡ (if pushed then self.old ++ (dot, value) ∷ [] else self.old)) }
+        ensures new { IfOk result
+            (λ pushed. self.new ≡ (if pushed then self.old ++ (dot, value) ∷ [] else self.old)) }
         ensures err { OnErr result (self.new ≡ self.old) }
         ensures last { OnErr result (is_above_entries dot_cmp self.old dot ≡ true) }
     {
@@ -83,7 +84,8 @@ impl<V: Lattice> DotFun<V> {
     /// value that isn't above.
     fn lets_stand(&self, heard: &Context, dot: Dot, theirs: &V) -> bool
         ensures { IsTrue result
-            ↔ (set.contains heard.now dot ≡ true → StandsBelow V.below (find dot_cmp dot self.now) (Some theirs.now)) }
+            ↔ (set.contains heard.now dot ≡ true
+            → StandsBelow V.below (find dot_cmp dot self.now) (Some theirs.now)) }
     {
         if !heard.contains(dot) {
             return true;
@@ -107,7 +109,8 @@ impl<V: Lattice> Combine<Dot, V> for JoinHeard<'_> {
     ghost use Rattle.std.specs.FinSet as set;
     ghost use Rattle.dac_store.specs.AtDot.{join_at};
 
-    ghost combined = { λ h x. join_at V.join (set.contains h.mine.now x) (set.contains h.theirs.now x) };
+    ghost combined = { λ h x. join_at V.join (set.contains h.mine.now x)
+        (set.contains h.theirs.now x) };
 
     fn left(&self, dot: Dot, mine: &V) -> Result<Option<V>, NoMemory> {
         if self.theirs.contains(dot) {

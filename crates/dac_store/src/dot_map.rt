@@ -53,10 +53,13 @@ impl<K: MapKey, S: DotStore> DotMap<K, S> {
     /// that was so. Where it wasn't, and where memory is refused ([`NoMemory`], the only error), the map stays as it
     /// was.
     pub fn push(&mut self, key: K, store: S) -> Result<bool, NoMemory>
-        ensures ok { IfOk result (λ pushed. pushed ≡ (is_above_entries K.cmp self.old key && not (S.is_empty store))) }
-        ensures new { IfOk result (λ pushed. self.new ≡ (if pushed then self.old ++ (key, store) ∷ [] else self.old)) }
+        ensures ok { IfOk result
+            (λ pushed. pushed ≡ (is_above_entries K.cmp self.old key && not (S.is_empty store))) }
+        ensures new { IfOk result
+            (λ pushed. self.new ≡ (if pushed then self.old ++ (key, store) ∷ [] else self.old)) }
         ensures err { OnErr result (self.new ≡ self.old) }
-        ensures last { OnErr result ((is_above_entries K.cmp self.old key && not (S.is_empty store)) ≡ true) }
+        ensures last { OnErr result
+            ((is_above_entries K.cmp self.old key && not (S.is_empty store)) ≡ true) }
     {
         store.tells_invariant();
         if !ends_below(&self.entries, key) || store.is_empty() {
@@ -83,7 +86,8 @@ impl<K: MapKey, S: DotStore> DotMap<K, S> {
     /// Whether what is at a key is below a store of the other side.
     fn leq_at(&self, heard: &MarkedContext<'_>, key: K, theirs: &S, other_heard: &Context) -> bool
         ensures { IsTrue result
-            ↔ S.below (store_at S.nothing (find K.cmp key self.now)) heard.now theirs.now other_heard.now }
+            ↔ S.below (store_at S.nothing (find K.cmp key self.now)) heard.now theirs.now
+            other_heard.now }
     {
         // Of most stores nothing was heard, and the own one need not be looked up.
         if theirs.is_unheard(heard) {
@@ -108,7 +112,8 @@ struct JoinStores<'a> {
 impl<K: MapKey, S: DotStore> Combine<K, S> for JoinStores<'_> {
     ghost use Rattle.dac_store.specs.DotMaps.{unless_empty, store_at};
 
-    ghost combined = { λ h _ v w. unless_empty S.is_empty (S.join (store_at S.nothing v) h.mine.now (store_at S.nothing w) h.theirs.now) };
+    ghost combined = { λ h _ v w. unless_empty S.is_empty
+        (S.join (store_at S.nothing v) h.mine.now (store_at S.nothing w) h.theirs.now) };
 
     fn left(&self, _key: K, mine: &S) -> Result<Option<S>, NoMemory> {
         if mine.is_unheard(self.theirs) {

@@ -60,7 +60,8 @@ impl DotSet {
     /// where memory is refused ([`NoMemory`], the only error), the set stays as it was.
     pub fn push(&mut self, dot: Dot) -> Result<bool, NoMemory>
         ensures ok { IfOk result (λ pushed. pushed ≡ is_above_dots self.old dot) }
-        ensures new { IfOk result (λ pushed. self.new ≡ (if pushed then set.insert self.old dot else self.old)) }
+        ensures new { IfOk result
+            (λ pushed. self.new ≡ (if pushed then set.insert self.old dot else self.old)) }
         ensures err { OnErr result (self.new ≡ self.old) }
         ensures last { OnErr result (is_above_dots self.old dot ≡ true) }
     {
@@ -123,7 +124,10 @@ impl DotSet {
 
     /// Adds the dots of `from` that may stay beside those of another side.
     fn add_staying(&mut self, from: &Self, beside: &Self, heard: &Context) -> Result<(), NoMemory>
-        ensures { OnOk result ((q : _) → set.contains self.new q ≡ (set.contains self.old q || (set.contains from.now q && may_stay beside.now heard.now q))) }
+        ensures { OnOk result ((q : _)
+            → set.contains self.new q
+            ≡ (set.contains self.old q
+            || (set.contains from.now q && may_stay beside.now heard.now q))) }
     {
         for dot in from.dots() {
             if beside.lets_stay(heard, *dot) {
@@ -135,7 +139,9 @@ impl DotSet {
 
     /// Takes out the dots that another side has heard of and doesn't hold.
     fn drop_missing(&mut self, beside: &Self, heard: &Context) -> Result<(), NoMemory>
-        ensures { OnOk result ((q : _) → set.contains self.new q ≡ (set.contains self.old q && may_stay beside.now heard.now q)) }
+        ensures { OnOk result ((q : _)
+            → set.contains self.new q
+            ≡ (set.contains self.old q && may_stay beside.now heard.now q)) }
     {
         let known = heard.dots()?;
         for dot in &known {
@@ -148,7 +154,8 @@ impl DotSet {
 
     /// The join with a side that knows few dots: these dots but those that it dropped, and its own.
     fn join_few(&self, heard: &Context, few: &Self, few_heard: &Context) -> Result<Self, NoMemory>
-        ensures { IfOk result (λ joined. joined ≡ join_sets self.now heard.now few.now few_heard.now) }
+        ensures { IfOk result
+            (λ joined. joined ≡ join_sets self.now heard.now few.now few_heard.now) }
     {
         let mut joined = self.copy_with_room(few.dots().len())?;
         joined.drop_missing(few, few_heard)?;
@@ -170,7 +177,8 @@ impl DotSet {
         other: &Self,
         other_heard: &Context,
     ) -> Result<Self, NoMemory>
-        ensures { IfOk result (λ joined. joined ≡ join_sets self.now heard.now other.now other_heard.now) }
+        ensures { IfOk result
+            (λ joined. joined ≡ join_sets self.now heard.now other.now other_heard.now) }
     {
         let most = self.dots().len().max(other.dots().len());
         let mut joined = DotSet::with_room(self.alloc, most)?;

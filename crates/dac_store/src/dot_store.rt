@@ -56,7 +56,8 @@ pub trait DotStore: Drop {
         other: &Self,
         other_heard: &Context,
     ) -> Result<Self, NoMemory>
-        ensures { IfOk result (λ joined. joined ≡ join self.now heard.now other.now other_heard.now) };
+        ensures { IfOk result
+            (λ joined. joined ≡ join self.now heard.now other.now other_heard.now) };
 
     /// Whether this store is below the other one. The other holds no dot that this side has heard of and doesn't
     /// hold. It holds no lower value at one that both hold.

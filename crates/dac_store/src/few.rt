@@ -76,7 +76,9 @@ impl FewDots {
     pub(crate) fn insert(&mut self, alloc: Global, dot: Dot) -> Result<(), NoMemory>
         requires { IsRising dot_cmp (dots_of self.old) }
         ensures rising { IsRising dot_cmp (dots_of self.new) }
-        ensures ok { OnOk result ((q : _) → has_key dot_cmp (dots_of self.new) q ≡ (eq_by_cmp dot_cmp q dot || has_key dot_cmp (dots_of self.old) q)) }
+        ensures ok { OnOk result ((q : _)
+            → has_key dot_cmp (dots_of self.new) q
+            ≡ (eq_by_cmp dot_cmp q dot || has_key dot_cmp (dots_of self.old) q)) }
         ensures err { OnErr result (dots_of self.new ≡ dots_of self.old) }
     {
         match self {
@@ -91,7 +93,9 @@ impl FewDots {
     pub(crate) fn remove(&mut self, dot: Dot)
         requires { IsRising dot_cmp (dots_of self.old) }
         ensures rising { IsRising dot_cmp (dots_of self.new) }
-        ensures value { (q : _) → has_key dot_cmp (dots_of self.new) q ≡ (not (eq_by_cmp dot_cmp q dot) && has_key dot_cmp (dots_of self.old) q) }
+        ensures value { (q : _)
+            → has_key dot_cmp (dots_of self.new) q
+            ≡ (not (eq_by_cmp dot_cmp q dot) && has_key dot_cmp (dots_of self.old) q) }
     {
         match self {
             FewDots::Empty => (),
@@ -109,7 +113,9 @@ impl FewDots {
 /// A dot beside a single one, which takes memory only where it is another.
 fn one_or_two(alloc: Global, single: Dot, dot: Dot) -> Result<FewDots, NoMemory>
     ensures rising { IfOk result (λ both. IsRising dot_cmp (dots_of both)) }
-    ensures ok { IfOk result (λ both. (q : _) → has_key dot_cmp (dots_of both) q ≡ (eq_by_cmp dot_cmp q dot || has_key dot_cmp (single ∷ []) q)) }
+    ensures ok { IfOk result (λ both. (q : _)
+        → has_key dot_cmp (dots_of both) q
+        ≡ (eq_by_cmp dot_cmp q dot || has_key dot_cmp (single ∷ []) q)) }
 {
     match single.cmp(&dot) {
         Ordering::Less => two(alloc, single, dot),

@@ -95,7 +95,8 @@ pub(crate) fn merge_few<V: Lattice, C: Combine<Dot, V>>(
     mine: &[(Dot, V)],
     theirs: &[(Dot, V)],
 ) -> Result<FewEntries<V>, NoMemory>
-    ensures { IfOk result (λ merged. entries_of merged ≡ merge_entries dot_cmp (C.combined how.now) mine.now theirs.now) }
+    ensures { IfOk result (λ merged. entries_of merged
+        ≡ merge_entries dot_cmp (C.combined how.now) mine.now theirs.now) }
 {
     if mine.len() <= 1 && theirs.len() <= 1 {
         return merge_singles(alloc, how, mine.first(), theirs.first());
@@ -112,7 +113,8 @@ fn merge_singles<V: Lattice, C: Combine<Dot, V>>(
     theirs: Option<&(Dot, V)>,
 ) -> Result<FewEntries<V>, NoMemory>
     ensures { IfOk result (λ merged. entries_of merged
-        ≡ merge_entries dot_cmp (C.combined how.now) (option_to_list (option_copied mine.entry)) (option_to_list (option_copied theirs.entry))) }
+        ≡ merge_entries dot_cmp (C.combined how.now) (option_to_list (option_copied mine.entry))
+        (option_to_list (option_copied theirs.entry))) }
 {
     match (mine, theirs) {
         (Some(mine), Some(theirs)) => merge_pair(alloc, how, mine, theirs),
@@ -129,7 +131,8 @@ fn merge_pair<V: Lattice, C: Combine<Dot, V>>(
     mine: &(Dot, V),
     theirs: &(Dot, V),
 ) -> Result<FewEntries<V>, NoMemory>
-    ensures { IfOk result (λ merged. entries_of merged ≡ merge_entries dot_cmp (C.combined how.now) (mine.now ∷ []) (theirs.now ∷ [])) }
+    ensures { IfOk result (λ merged. entries_of merged
+        ≡ merge_entries dot_cmp (C.combined how.now) (mine.now ∷ []) (theirs.now ∷ [])) }
 {
     let (x, mine) = mine;
     let (y, theirs) = theirs;

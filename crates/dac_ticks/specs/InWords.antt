@@ -1,6 +1,6 @@
 -- What a tick claims, in words. It is exactly the applications whose due candidate is its own node, each on the state
 -- that the earlier claims left.
-use Rattle.std.specs.Prelude.{◌≡◌, ◌⊎◌, ℕ, List, [], ◌∷◌, Option, None, Some}
+use Rattle.std.specs.Prelude.{◌≡◌, ◌⊎◌, ℕ, List, [], ◌∷◌, Option, None, Some, ◌+◌, ◌≤◌}
 use Rattle.dac_base.specs.declared.NodeId.{NodeId}
 use Rattle.dac_base.specs.declared.AppId.{AppId}
 use Rattle.dac_dots.specs.declared.dot.Origin.{Origin}
@@ -10,29 +10,36 @@ use Rattle.dac_chains.specs.declared.claims.How.TheVariants.{Normal, Failover as
 use Rattle.dac_operations.specs.Operations.{Operation}
 use Rattle.dac_meaning.specs.StateValue.{StateValue, join}
 use Rattle.dac_meaning.specs.Meaning.{meaning_of}
-use Rattle.dac_config.specs.Table.{Table}
+use Rattle.dac_config.specs.Table.{Table, app_count}
 use Rattle.dac_placement.specs.declared.verdicts.Verdict.{Verdict}
 use Rattle.dac_placement.specs.declared.verdicts.Verdict.TheVariants.{Start, Failover, Move, Takeover}
-use Rattle.dac_placement.specs.Placement.{IsVerdict, candidate_of}
-use Rattle.dac_decide.specs.FailoverWait.{Note, IsDueBy, IsHeldAt}
+use Rattle.dac_placement.specs.Placement.{IsVerdict, candidate_of, apps_of}
+use Rattle.dac_decide.specs.FailoverWait.{Note, IsDueBy, IsHeldAt, waits_of}
 use Rattle.dac_commands.specs.Written.{HasLastTerm, IsNextClaim}
+use Rattle.dac_base.specs.declared.limits.TheConstants.{MAX_COUNTER}
+use Rattle.dac_commands.specs.Commands.{greatest_counter}
+use Rattle.dac_ticks.specs.Ticks.{turn_of}
 
 -- the application's verdict names the node, and is to be carried out now
-pub record IsMine (t : Table) (own : Origin) (notes : List Note) (now : ℕ) (s : StateValue) (app : AppId) (verdict : Verdict) : Type 0 where
+pub record IsMine (t : Table) (own : Origin) (notes : List Note) (now : ℕ) (s : StateValue) (app : AppId)
+    (verdict : Verdict) : Type 0 where
   pub verdict_is : IsVerdict t s app verdict
   pub candidate : candidate_of verdict ≡ Some own.node
   pub due : IsDueBy t notes s app now verdict
 
 -- it names another node or none, or isn't to be carried out now
-pub record IsNotMine (t : Table) (own : Origin) (notes : List Note) (now : ℕ) (s : StateValue) (app : AppId) : Type 0 where
+pub record IsNotMine (t : Table) (own : Origin) (notes : List Note) (now : ℕ) (s : StateValue)
+    (app : AppId) : Type 0 where
   pub verdict : Verdict
   pub verdict_is : IsVerdict t s app verdict
   pub left : candidate_of verdict ≡ Some own.node → ¬ IsDueBy t notes s app now verdict
 
 -- A failover and a takeover are claimed so, from the node that held the application, and a start and a move as normal.
 abbrev pub ComesBy : StateValue → AppId → Verdict → How → Option NodeId → Type 0
-ComesBy s app (Failover n) how from = (how ≡ FailedOver) × (holder : NodeId) × (IsHeldAt s app holder × (from ≡ Some holder))
-ComesBy s app (Takeover n) how from = (how ≡ TakenOver) × (holder : NodeId) × (IsHeldAt s app holder × (from ≡ Some holder))
+ComesBy s app (Failover n) how from =
+    (how ≡ FailedOver) × (holder : NodeId) × (IsHeldAt s app holder × (from ≡ Some holder))
+ComesBy s app (Takeover n) how from =
+    (how ≡ TakenOver) × (holder : NodeId) × (IsHeldAt s app holder × (from ≡ Some holder))
 ComesBy s app (Start n) how from = (how ≡ Normal) × (from ≡ None)
 ComesBy s app (Move n) how from = (how ≡ Normal) × (from ≡ None)
 ComesBy s app _ how from = ⊥
@@ -45,15 +52,42 @@ pub record IsClaimOf (own : Origin) (s : StateValue) (app : AppId) (verdict : Ve
   pub comes : ComesBy s app verdict how from
   pub claims : IsNextClaim s app how from o.act
 
--- Of these applications in turn, exactly those are claimed that are the node's to claim and whose terms aren't used
--- up. Exactly those are passed that are the node's to claim and whose terms are used up. Each claim is heard before
--- the next application is looked at.
+-- what is issued and passed of the applications that come later in the turn, from the state that it has then
+abbrev pub Onward : Type 1
+Onward = StateValue → List Operation → List AppId → Type 0
+
+module _ (t : Table) (own : Origin) (notes : List Note) (now : ℕ) (s : StateValue) (app : AppId) (onward : Onward) where
+  -- The application isn't the node's to claim, and nothing is done with it.
+  abbrev pub IsLeft : List Operation → List AppId → Type 0
+  IsLeft ops passed = IsNotMine t own notes now s app × onward s ops passed
+
+  -- It is the node's to claim, and the next operation claims it. That is heard before the turn goes on.
+  abbrev pub IsClaimed : List Operation → List AppId → Type 0
+  IsClaimed ops passed =
+      (verdict : Verdict) × (o : Operation) × (rest : List Operation)
+      × ((ops ≡ o ∷ rest) × (IsMine t own notes now s app verdict
+      × (IsClaimOf own s app verdict o × onward (join s (meaning_of (o ∷ []))) rest passed)))
+
+  -- It is the node's to claim, but its terms are used up, and the turn passes it.
+  abbrev pub IsPassed : List Operation → List AppId → Type 0
+  IsPassed ops passed =
+      (verdict : Verdict) × (rest : List AppId)
+      × ((passed ≡ app ∷ rest) × (IsMine t own notes now s app verdict
+      × (HasLastTerm s app × onward s ops rest)))
+
+-- Each of these applications in turn is left, claimed or passed.
 abbrev pub IsTurn : Table → Origin → List Note → ℕ → StateValue → List AppId → List Operation → List AppId → Type 0
 IsTurn t own notes now s [] ops passed = (ops ≡ []) × (passed ≡ [])
 IsTurn t own notes now s (app ∷ apps) ops passed =
-    (IsNotMine t own notes now s app × IsTurn t own notes now s apps ops passed)
-    ⊎ (((verdict : Verdict) × (o : Operation) × (rest : List Operation) ×
-    ((ops ≡ o ∷ rest) × (IsMine t own notes now s app verdict ×
-    (IsClaimOf own s app verdict o × IsTurn t own notes now (join s (meaning_of (o ∷ []))) apps rest passed))))
-    ⊎ ((verdict : Verdict) × (rest : List AppId) ×
-    ((passed ≡ app ∷ rest) × (IsMine t own notes now s app verdict × (HasLastTerm s app × IsTurn t own notes now s apps ops rest)))))
+    let onward : Onward = λ later issued passed. IsTurn t own notes now later apps issued passed in
+    IsLeft t own notes now s app onward ops passed
+    ⊎ (IsClaimed t own notes now s app onward ops passed ⊎ IsPassed t own notes now s app onward ops passed)
+
+-- the incarnation has a counter for each application
+abbrev pub HasRoom : Table → Origin → StateValue → Type 0
+HasRoom t own s = greatest_counter own s.known + app_count t ≤ MAX_COUNTER
+
+-- What a turn issues and passes is so in words, where there is a counter for each application.
+abbrev pub TurnsInWords : Type 0
+TurnsInWords = (t : Table) (own : Origin) (notes : List Note) (now : ℕ) (s : StateValue) → HasRoom t own s
+    → let turn = turn_of t own (waits_of t notes) now s in IsTurn t own notes now s (apps_of t) turn.ops turn.passed

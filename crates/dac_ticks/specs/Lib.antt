@@ -1,4 +1,5 @@
 pub mod Ticks
+pub mod Again
 pub mod Staying
 pub mod Progress
 pub mod InWords

@@ -38,4 +38,5 @@ IsSparing p = MatchOption p.left (p.ops.items ≡ []) (λ after. ¬ (p.ops.items
 pub record IsMade (first : StateValue) (turn : Turn) (made : Made) : Type 0 where
   pub ops : made.ops ≡ turn.ops
   pub passed : made.passed ≡ turn.passed
-  pub left : MatchOption made.left ((turn.ops ≡ []) × (turn.state ≡ first)) (λ after. (after ≡ turn.state) × ¬ (turn.ops ≡ []))
+  pub left : MatchOption made.left ((turn.ops ≡ []) × (turn.state ≡ first))
+      (λ after. (after ≡ turn.state) × ¬ (turn.ops ≡ []))

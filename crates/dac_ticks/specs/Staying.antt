@@ -32,16 +32,19 @@ AreKeptAt t s node os = (o : Operation) (app : AppId) → In o os → ClaimsApp 
 
 -- Each claim among the operations is under a later term than any claim of its application in the state.
 abbrev pub AreLaterClaims : StateValue → List Operation → Type 0
-AreLaterClaims s os = (o : Operation) (app : AppId) → In o os → (term : ℕ) (how : How) (from : Option NodeId) → o.act ≡ Claim app term how from
+AreLaterClaims s os = (o : Operation) (app : AppId) → In o os → (term : ℕ) (how : How) (from : Option NodeId)
+    → o.act ≡ Claim app term how from
     → (claim : ClaimValue) → map.get s.claims app ≡ Some claim → claim.term < term
 
--- So it is with what an incarnation claims of some applications in turn, in the state that it finds. A tick takes all of
--- the configuration in turn.
+-- So it is with what an incarnation claims of some applications in turn, in the state that it finds. A tick takes all
+-- of the configuration in turn.
 abbrev pub ClaimsAreLater : Type 0
-ClaimsAreLater = (t : Table) (own : Origin) (waits : List (Option Noted)) (now : ℕ) (s : StateValue) (apps : List AppId) → IsState s → AreLaterClaims s (turn_over t own waits now (turn_from s) apps).ops
+ClaimsAreLater = (t : Table) (own : Origin) (waits : List (Option Noted)) (now : ℕ) (s : StateValue) (apps : List AppId)
+    → IsState s → AreLaterClaims s (turn_over t own waits now (turn_from s) apps).ops
 
 -- What an incarnation that is live claims of some applications in turn is kept at its node, in the state that all these
 -- claims leave. So it is after a tick, and after each claim alone.
 abbrev pub ClaimsStay : Type 0
-ClaimsStay = (t : Table) (own : Origin) (waits : List (Option Noted)) (now : ℕ) (s : StateValue) (apps : List AppId) → IsState s → IsLive s.lives own.node own.inc
+ClaimsStay = (t : Table) (own : Origin) (waits : List (Option Noted)) (now : ℕ) (s : StateValue) (apps : List AppId)
+    → IsState s → IsLive s.lives own.node own.inc
     → let turn = turn_over t own waits now (turn_from s) apps in AreKeptAt t turn.state own.node turn.ops

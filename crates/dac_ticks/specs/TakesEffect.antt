@@ -17,12 +17,14 @@ use Rattle.dac_commands.specs.Causes.{refusal_of_command}
 abbrev pub AtLive : StateValue → NodeId → (ℕ → Type 0) → Type 0
 AtLive s node P = (inc : ℕ) × (IsLive s.lives node inc × P inc)
 
--- What is so in the state that is left. No incarnation of a node that was declared down is live. At the live incarnation of
--- the node, the application is permitted exactly if the permit says so. It is wished there after a start, and it isn't after
--- a stop. That incarnation is drained exactly if the drain says so. What was taken over runs at the own node.
+-- What is so in the state that is left. No incarnation of a node that was declared down is live. At the live
+-- incarnation of the node, the application is permitted exactly if the permit says so. It is wished there after a
+-- start, and it isn't after a stop. That incarnation is drained exactly if the drain says so. What was taken over runs
+-- at the own node.
 abbrev pub TakesEffect : Table → Origin → StateValue → Command → Type 0
 TakesEffect t own left (Down node) = (inc : ℕ) → ¬ IsLive left.lives node inc
-TakesEffect t own left (Permit app node value) = AtLive left node (λ inc. IsPermittedAt t left (key_at app node inc) ↔ (value ≡ true))
+TakesEffect t own left (Permit app node value) =
+    AtLive left node (λ inc. IsPermittedAt t left (key_at app node inc) ↔ (value ≡ true))
 TakesEffect t own left (Start app node) = AtLive left node (λ inc. IsStartedAt left (key_at app node inc))
 TakesEffect t own left (Stop app node) = AtLive left node (λ inc. ¬ IsStartedAt left (key_at app node inc))
 TakesEffect t own left (Drain node value) = AtLive left node (λ inc. IsDrainedAt left node inc ↔ (value ≡ true))
@@ -30,5 +32,6 @@ TakesEffect t own left (Takeover app) = RunsAt t left app own.node
 
 -- so it is after each command that isn't refused, once its operation is joined
 abbrev pub CommandsTakeEffect : Type 0
-CommandsTakeEffect = (t : Table) (own : Origin) (s : StateValue) (c : Command) → IsState s → refusal_of_command t own s c ≡ None
+CommandsTakeEffect =
+    (t : Table) (own : Origin) (s : StateValue) (c : Command) → IsState s → refusal_of_command t own s c ≡ None
     → TakesEffect t own (join s (meaning_of (next_operation s own (act_of t s c) ∷ []))) c

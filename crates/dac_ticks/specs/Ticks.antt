@@ -37,7 +37,8 @@ claim_of t own s app = next_operation s own (claimed_by s app (verdict_of t s ap
 
 -- the incarnation's node is the candidate of this verdict, and the verdict is due now, where so much is noted
 abbrev pub is_mine_by : Table → Origin → List (Option Noted) → ℕ → StateValue → AppId → Verdict → Bool
-is_mine_by t own waits now s app verdict = option_map_or (λ (n : NodeId). n.0 == own.node.0) (candidate_of verdict) false && is_due_by t (noted_at waits app) s app now verdict
+is_mine_by t own waits now s app verdict = option_map_or (λ (n : NodeId). n.0 == own.node.0) (candidate_of verdict)
+    false && is_due_by t (noted_at waits app) s app now verdict
 
 -- the application is the incarnation's to claim now
 abbrev pub is_mine : Table → Origin → List (Option Noted) → ℕ → StateValue → AppId → Bool
@@ -58,7 +59,8 @@ abbrev pub passing : Turn → AppId → Turn
 passing turn app = record { ops = turn.ops; passed = turn.passed ++ app ∷ []; state = turn.state }
 
 abbrev pub claiming : Turn → Operation → Turn
-claiming turn o = record { ops = turn.ops ++ o ∷ []; passed = turn.passed; state = join turn.state (meaning_of (o ∷ [])) }
+claiming turn o =
+    record { ops = turn.ops ++ o ∷ []; passed = turn.passed; state = join turn.state (meaning_of (o ∷ [])) }
 
 -- one application more
 abbrev pub turned : Table → Origin → List (Option Noted) → ℕ → Turn → AppId → Turn

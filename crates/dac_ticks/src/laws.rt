@@ -1,6 +1,6 @@
 //! The laws of turns, each as a clause of a function that does nothing.
-ghost use Rattle.dac_ticks.specs.laws.Again.{SecondTickClaimsNothing};
-ghost use Rattle.dac_ticks.specs.laws.Words.{TurnsInWords};
+ghost use Rattle.dac_ticks.specs.Again.{SecondTickClaimsNothing};
+ghost use Rattle.dac_ticks.specs.InWords.{TurnsInWords};
 ghost use Rattle.dac_ticks.specs.TakesEffect.{CommandsTakeEffect};
 ghost use Rattle.dac_ticks.specs.Staying.{ClaimsAreLater, ClaimsStay};
 

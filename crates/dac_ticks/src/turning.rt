@@ -78,7 +78,8 @@ pub fn tick(
     requires knows { KnowsItself own state.now }
     // a counter for each application
     requires room { greatest_counter own state.now.known + app_count config.now ≤ MAX_COUNTER }
-    ensures value { IfOk result (IsMade state.now (turn_of config.now own waits.now now state.now)) }
+    ensures value { IfOk result
+        (IsMade state.now (turn_of config.now own waits.now now state.now)) }
     ensures words { IfOk result (λ turn. (notes : List Note) → waits.now ≡ waits_of config.now notes
         → IsTurn config.now own notes now state.now (apps_of config.now) turn.ops turn.passed) }
 {

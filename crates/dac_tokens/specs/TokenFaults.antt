@@ -35,13 +35,18 @@ pub data NoToken (depth : ℕ) (bytes : List ℕ) : ℕ → FaultKind → Type 0
   LoneDot : (rest : List ℕ) → bytes ≡ codes "." ++ rest → ¬ EndsTerm rest → NoToken depth bytes 0 BadToken
   LoneMinus : (rest : List ℕ) → bytes ≡ codes "-" ++ rest → ¬ Begins IsAsciiDigit rest → NoToken depth bytes 0 BadToken
   Unknown : Begins IsUnknown bytes → NoToken depth bytes 0 BadToken
-  Function : (rest : List ℕ) → bytes ≡ codes "fun" ++ rest → ¬ Begins IsNameByte rest → NoToken depth bytes 0 Unsupported
-  OtherNumber : (negative : Bool) (digits own rest : List ℕ) → bytes ≡ own ++ rest → IsNumber negative digits own → ¬ Begins IsAsciiDigit rest → GoesOnAsNumber rest → NoToken depth bytes 0 Unsupported
-  InQuotes : (name rest : List ℕ) → bytes ≡ codes "'" ++ (name ++ rest) → All IsQuotable name → Begins IsUnquotable rest → NoToken depth bytes (1 + length name) Unsupported
+  Function : (rest : List ℕ) → bytes ≡ codes "fun" ++ rest → ¬ Begins IsNameByte rest
+      → NoToken depth bytes 0 Unsupported
+  OtherNumber : (negative : Bool) (digits own rest : List ℕ) → bytes ≡ own ++ rest → IsNumber negative digits own
+      → ¬ Begins IsAsciiDigit rest → GoesOnAsNumber rest → NoToken depth bytes 0 Unsupported
+  InQuotes : (name rest : List ℕ) → bytes ≡ codes "'" ++ (name ++ rest) → All IsQuotable name → Begins IsUnquotable rest
+      → NoToken depth bytes (1 + length name) Unsupported
   NoQuote : (name : List ℕ) → bytes ≡ codes "'" ++ name → All IsQuotable name → NoToken depth bytes 0 BadToken
   ThreeQuotes : (rest : List ℕ) → bytes ≡ 34 ∷ 34 ∷ 34 ∷ rest → NoToken depth bytes 0 Unsupported
-  ControlEscape : (inner rest : List ℕ) → bytes ≡ 34 ∷ (inner ++ 92 ∷ 94 ∷ rest) → IsStringText inner → NoToken depth bytes (1 + length inner) Unsupported
-  NoDoubleQuote : (inner last : List ℕ) → bytes ≡ 34 ∷ (inner ++ last) → IsStringText inner → (last ≡ []) ⊎ (last ≡ 92 ∷ []) → NoToken depth bytes 0 BadToken
+  ControlEscape : (inner rest : List ℕ) → bytes ≡ 34 ∷ (inner ++ 92 ∷ 94 ∷ rest) → IsStringText inner
+      → NoToken depth bytes (1 + length inner) Unsupported
+  NoDoubleQuote : (inner last : List ℕ) → bytes ≡ 34 ∷ (inner ++ last) → IsStringText inner
+      → (last ≡ []) ⊎ (last ≡ 92 ∷ []) → NoToken depth bytes 0 BadToken
   Refused : Begins IsRefused bytes → NoToken depth bytes 0 Unsupported
   TooDeep : MAX_DEPTH ≤ depth → Begins IsOpeningBracket bytes → NoToken depth bytes 0 Unsupported
 
@@ -58,4 +63,5 @@ pub record IsFaultAt (at depth : ℕ) (bytes : List ℕ) (e : ConfigFault) : Typ
 -- bytes that begin at the offset `at`, with so many brackets open, are these tokens up to this fault
 abbrev pub StopAt : ℕ → ℕ → List ℕ → List Located → ConfigFault → Type 0
 StopAt at depth bytes [] e = IsFaultAt at depth bytes e
-StopAt at depth bytes (t ∷ ts) e = (own rest : List ℕ) × IsNextToken at bytes t own rest × (depth_behind depth t.word ≤ MAX_DEPTH) × StopAt (t.at + length own) (depth_behind depth t.word) rest ts e
+StopAt at depth bytes (t ∷ ts) e = (own rest : List ℕ) × IsNextToken at bytes t own rest
+    × (depth_behind depth t.word ≤ MAX_DEPTH) × StopAt (t.at + length own) (depth_behind depth t.word) rest ts e

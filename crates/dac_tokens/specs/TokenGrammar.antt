@@ -122,7 +122,8 @@ pub record IsNextToken (at : ℕ) (bytes : List ℕ) (t : Located) (own rest : L
 -- bytes that begin at the offset `at` are these tokens one after another, and behind them at most a gap
 abbrev pub AreSpelled : ℕ → List ℕ → List Located → Type 0
 AreSpelled at bytes [] = IsLastGap bytes
-AreSpelled at bytes (t ∷ ts) = (own rest : List ℕ) × IsNextToken at bytes t own rest × AreSpelled (t.at + length own) rest ts
+AreSpelled at bytes (t ∷ ts) =
+    (own rest : List ℕ) × IsNextToken at bytes t own rest × AreSpelled (t.at + length own) rest ts
 
 -- how many brackets may be open, so that it can't change unseen
 pub the_limit : MAX_DEPTH ≡ 64

@@ -13,4 +13,5 @@ use Rattle.dac_weave.specs.Woven.{At}
 -- to where the run leaves it.
 pub record IsConverged (t : Table) (js : List JournalValue) (es : List WorldEvent) : Type 0 where
   pub converges : Converges t es (answers_of t (start t) es) (shown_world t (model_run t es))
-  pub ends : (i : ℕ) (j : JournalValue) → At js i j → IsHistory t j.opening.node (off_after 0) (map entry_of j.records) ((model_run t es).node j.opening.node)
+  pub ends : (i : ℕ) (j : JournalValue) → At js i j
+      → IsHistory t j.opening.node (off_after 0) (map entry_of j.records) ((model_run t es).node j.opening.node)

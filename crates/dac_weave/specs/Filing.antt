@@ -28,4 +28,5 @@ pub record Files (old : List (Vec ℕ)) (label : ℕ) (number : ℕ) (new : List
 -- Of these items each place filed under a label is one, and each item has an equal one filed under its label.
 pub record Finds {X : Type 0} (label_of : X → ℕ) (xs : List X) (lists : List (Vec ℕ)) : Type 0 where
   pub within : (q k : ℕ) → IsIn lists q k → (x : X) × (slice_get xs k ≡ Some x)
-  pub found : (i : ℕ) (x : X) → slice_get xs i ≡ Some x → (k : ℕ) × (IsIn lists (label_of x) k × (slice_get xs k ≡ Some x))
+  pub found : (i : ℕ) (x : X) → slice_get xs i ≡ Some x
+      → (k : ℕ) × (IsIn lists (label_of x) k × (slice_get xs k ≡ Some x))

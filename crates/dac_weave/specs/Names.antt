@@ -20,7 +20,8 @@ pub record Begins (t : Table) (j : JournalValue) (s : Strand) : Type 0 where
 
 -- the event of the world that is this event at its node, if there is one now
 abbrev pub Names : List Operation → List Message → Event → Option What → Type 0
-Names os ms e found = MatchOption found ((what : What) → event_of os ms what ≡ Ok e → ⊥) (λ what. event_of os ms what ≡ Ok e)
+Names os ms e found =
+    MatchOption found ((what : What) → event_of os ms what ≡ Ok e → ⊥) (λ what. event_of os ms what ≡ Ok e)
 
 -- no event of the world is this event at its node
 abbrev pub IsUnnamed : List Operation → List Message → Event → Type 0
@@ -37,4 +38,5 @@ shipped_in (Err why) = []
 
 -- r is the lesser by name of k and i, and k where they are equal
 pub record IsLesser (js : List JournalValue) (k i r : ℕ) : Type 0 where
-  pub cases : (a b : JournalValue) → At js k a → At js i b → ((r ≡ k) × (a.opening.node.0 ≤ b.opening.node.0)) ⊎ ((r ≡ i) × (b.opening.node.0 < a.opening.node.0))
+  pub cases : (a b : JournalValue) → At js k a → At js i b
+      → ((r ≡ k) × (a.opening.node.0 ≤ b.opening.node.0)) ⊎ ((r ≡ i) × (b.opening.node.0 < a.opening.node.0))

@@ -27,7 +27,8 @@ pub record HaveStrands (js : List JournalValue) (ss : List Strand) : Type 0 wher
 pub record Weaves (t : Table) (js : List JournalValue) (l : Loom) : Type 0 where
   pub count : length l.strands.items ≡ length js
   pub strands : (i : ℕ) (j : JournalValue) (s : Strand) → At js i j → At l.strands.items i s → IsStrand t j s
-  pub seen : (i : ℕ) (j : JournalValue) (s : Strand) → At js i j → At l.strands.items i s → seen_in t l.events.items j.opening.node ≡ take s.placed (told j)
+  pub seen : (i : ℕ) (j : JournalValue) (s : Strand) → At js i j → At l.strands.items i s
+      → seen_in t l.events.items j.opening.node ≡ take s.placed (told j)
   pub others : (n : NodeId) → HasNone js n → seen_in t l.events.items n ≡ []
   pub operations : l.operations ≡ (run_from t (start t) l.events.items).operations
   pub messages : l.messages ≡ (run_from t (start t) l.events.items).messages
@@ -49,7 +50,8 @@ pub record IsStill (js : List JournalValue) (l : Loom) (i : ℕ) : Type 0 where
   pub strand : Strand
   pub at : At js i journal
   pub strand_at : At l.strands.items i strand
-  pub cause : (strand.good ≤ strand.placed) ⊎ ((r : Record) × (At journal.records strand.placed r × IsUnnamed l.operations l.messages r.event))
+  pub cause : (strand.good ≤ strand.placed)
+      ⊎ ((r : Record) × (At journal.records strand.placed r × IsUnnamed l.operations l.messages r.event))
 
 abbrev pub AllStill : List JournalValue → Loom → Type 0
 AllStill js l = (i : ℕ) → i < length js → IsStill js l i
@@ -63,7 +65,8 @@ abbrev pub longer : Strand → Strand
 longer s = record { placed = s.placed + 1; good = s.good }
 
 -- this record of the i-th journal is placed
-pub record PlacesRecord (old : Loom) (i : ℕ) (what : What) (new : Loom) (j : JournalValue) (s : Strand) (r : Record) : Type 0 where
+pub record PlacesRecord (old : Loom) (i : ℕ) (what : What) (new : Loom) (j : JournalValue) (s : Strand)
+    (r : Record) : Type 0 where
   pub strands : new.strands.items ≡ set old.strands.items i (longer s)
   pub events : new.events.items ≡ old.events.items ++ (record { node = j.opening.node; what = what }) ∷ []
   pub operations : new.operations ≡ old.operations ++ issued_in r.answer
@@ -71,13 +74,15 @@ pub record PlacesRecord (old : Loom) (i : ℕ) (what : What) (new : Loom) (j : J
 
 -- the next record of the i-th journal is placed
 pub record Places (js : List JournalValue) (old : Loom) (i : ℕ) (what : What) (new : Loom) : Type 0 where
-  pub each : (j : JournalValue) (s : Strand) (r : Record) → At js i j → At old.strands.items i s → At j.records s.placed r → PlacesRecord old i what new j s r
+  pub each : (j : JournalValue) (s : Strand) (r : Record) → At js i j → At old.strands.items i s
+      → At j.records s.placed r → PlacesRecord old i what new j s r
 
 -- the i-th journal isn't placed whole
 abbrev pub IsLeft : List Strand → ℕ → JournalValue → Type 0
 IsLeft ss i j = (s : Strand) × (At ss i s × (s.placed < length j.records))
 
--- of the journals that aren't placed whole the first by name is this node's, and this is the place of its first record that isn't placed
+-- of the journals that aren't placed whole the first by name is this node's, and this is the place of its first
+-- record that isn't placed
 pub record IsLeftAt (js : List JournalValue) (ss : List Strand) (node : NodeId) (place : ℕ) : Type 0 where
   pub index : ℕ
   pub journal : JournalValue

@@ -29,7 +29,8 @@ node_step_by t n d (Ok e) = moved d (model_step t n d e).node (model_step t n d 
 
 -- what an event of the world does at its node alone
 abbrev pub node_step : Table → NodeId → ModelNode → Result Event WorldFault → NodeStepped
-node_step t n d e = cond (nat_lt n.0 (node_count t)) (node_step_by t n d e) (record { node = d; answer = Err NoSuchNode })
+node_step t n d e =
+    cond (nat_lt n.0 (node_count t)) (node_step_by t n d e) (record { node = d; answer = Err NoSuchNode })
 
 -- what these events leave
 abbrev pub replayed : Table → NodeId → ModelNode → List Seen → ModelNode
@@ -39,14 +40,21 @@ replayed t n d (x ∷ xs) = replayed t n (node_step t n d x.event).node xs
 -- each answer is the step's
 abbrev pub AreAnswered : Table → NodeId → ModelNode → List Seen → Type 0
 AreAnswered t n d [] = Unit {0}
-AreAnswered t n d (x ∷ xs) = (x.answer ≡ (node_step t n d x.event).answer) × AreAnswered t n (node_step t n d x.event).node xs
+AreAnswered t n d (x ∷ xs) =
+    (x.answer ≡ (node_step t n d x.event).answer) × AreAnswered t n (node_step t n d x.event).node xs
 
 -- so many records, from the first on, have the step's answers, and no more
 pub record IsLongest (t : Table) (j : JournalValue) (k : ℕ) : Type 0 where
   pub within : k ≤ length j.records
   pub answered : AreAnswered t j.opening.node (off_after 0) (take k (told j))
-  pub ends : (x : Seen) → At (told j) k x → x.answer ≡ (node_step t j.opening.node (replayed t j.opening.node (off_after 0) (take k (told j))) x.event).answer → ⊥
+  pub ends : (x : Seen) → At (told j) k x
+      → x.answer
+      ≡ (node_step t j.opening.node (replayed t j.opening.node (off_after 0) (take k (told j))) x.event).answer → ⊥
 
--- From old, the program's node goes on to new as by the record's event, and same tells whether it answers as the record says.
-pub record Repeats (t : Table) (me : NodeId) (old : NodeValue) (r : Record) (new : NodeValue) (same : Bool) : Type 0 where
-  pub by : (d : ModelNode) → shown t d ≡ old → (shown t (model_step t me d r.event).node ≡ new) × (IsTrue same ↔ ((model_step t me d r.event).answer ≡ r.answer))
+-- From old, the program's node goes on to new as by the record's event, and same tells whether it answers
+-- as the record says.
+pub record Repeats (t : Table) (me : NodeId) (old : NodeValue) (r : Record) (new : NodeValue)
+    (same : Bool) : Type 0 where
+  pub by : (d : ModelNode) → shown t d ≡ old
+      → (shown t (model_step t me d r.event).node ≡ new)
+      × (IsTrue same ↔ ((model_step t me d r.event).answer ≡ r.answer))

@@ -25,7 +25,8 @@ seen_of t w e = record { event = event_of w.operations w.messages e.what; answer
 -- what node n sees of these events, one after another from w
 abbrev pub seen_at : Table → NodeId → ModelWorld → List WorldEvent → List Seen
 seen_at t n w [] = []
-seen_at t n w (e ∷ es) = cond (nat_eq e.node.0 n.0) (seen_of t w e ∷ seen_at t n (happens t w e).world es) (seen_at t n (happens t w e).world es)
+seen_at t n w (e ∷ es) = cond (nat_eq e.node.0 n.0) (seen_of t w e ∷ seen_at t n (happens t w e).world es)
+    (seen_at t n (happens t w e).world es)
 
 -- what node n sees of a whole run
 abbrev pub seen_in : Table → List WorldEvent → NodeId → List Seen
@@ -79,17 +80,28 @@ pub record GivesFronts (t : Table) (js : List JournalValue) (es : List WorldEven
   pub others : (n : NodeId) → HasNone js n → seen_in t es n ≡ []
 
 -- The i-th journal is one of these, and of those the first by name.
-pub record IsFirst (js : List JournalValue) (among : ℕ → JournalValue → Type 0) (i : ℕ) (j : JournalValue) : Type 0 where
+pub record IsFirst (js : List JournalValue) (among : ℕ → JournalValue → Type 0) (i : ℕ)
+    (j : JournalValue) : Type 0 where
   pub there : At js i j
   pub is : among i j
   pub least : (k : ℕ) (b : JournalValue) → At js k b → among k b → j.opening.node.0 ≤ b.opening.node.0
 
--- Some run gives all before this place of the i-th journal, and the journals of lesser names whole; none gives
--- more of this one.
+-- the run gives the journals of lesser names whole
+abbrev pub GivesEarlier : Table → List JournalValue → NodeId → List WorldEvent → Type 0
+GivesEarlier t js node es =
+    (k : ℕ) (b : JournalValue) → At js k b → b.opening.node.0 < node.0 → seen_in t es b.opening.node ≡ told b
+
+-- the run gives a front of each journal, of this one all before this place, and the journals of lesser names whole
+abbrev pub ReachesPlace : Table → List JournalValue → JournalValue → ℕ → List WorldEvent → Type 0
+ReachesPlace t js j place es =
+    GivesFronts t js es
+    × ((length (seen_in t es j.opening.node) + 1 ≡ place) × GivesEarlier t js j.opening.node es)
+
+-- Some run reaches this place of the i-th journal, and none gives more of this one.
 pub record IsStuckAt (t : Table) (js : List JournalValue) (i : ℕ) (j : JournalValue) (place : ℕ) : Type 0 where
   pub there : At js i j
   pub within : place ≤ length j.records
-  pub reached : (es : List WorldEvent) × (GivesFronts t js es × ((length (seen_in t es j.opening.node) + 1 ≡ place) × ((k : ℕ) (b : JournalValue) → At js k b → b.opening.node.0 < j.opening.node.0 → seen_in t es b.opening.node ≡ told b)))
+  pub reached : (es : List WorldEvent) × ReachesPlace t js j place es
   pub never : (es : List WorldEvent) → GivesFronts t js es → length (seen_in t es j.opening.node) < place
 
 -- the fault of journals that no run gives

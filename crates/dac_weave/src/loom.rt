@@ -110,7 +110,8 @@ impl<'a> Loom<'a> {
     fn ready(&self, journals: &[Closed], i: usize) -> Option<What>
         requires fits { HaveStrands journals.now self.now.strands.items }
         requires within { i < length journals.now }
-        ensures { MatchOption result (IsStill journals.now self.now i) (CanBePlaced journals.now self.now i) }
+        ensures { MatchOption result (IsStill journals.now self.now i)
+            (CanBePlaced journals.now self.now i) }
     {
         let strand = &self.strands[i];
         let records = journals[i].records();
@@ -129,7 +130,9 @@ impl<'a> Loom<'a> {
     fn find_between(&self, journals: &[Closed], low: usize, high: usize) -> Option<(usize, What)>
         requires fits { HaveStrands journals.now self.now.strands.items }
         requires within { high ≤ length journals.now }
-        ensures { MatchOption result (StillBetween journals.now self.now low high) (λ found. (found.0 < length journals.now) × CanBePlaced journals.now self.now found.0 found.1) }
+        ensures { MatchOption result (StillBetween journals.now self.now low high)
+            (λ found. (found.0 < length journals.now)
+            × CanBePlaced journals.now self.now found.0 found.1) }
     {
         for i in low..high {
             match self.ready(journals, i) {
@@ -145,7 +148,9 @@ impl<'a> Loom<'a> {
     fn find(&self, journals: &[Closed], from: usize) -> Option<(usize, What)>
         requires fits { HaveStrands journals.now self.now.strands.items }
         requires within { from ≤ length journals.now }
-        ensures { MatchOption result (AllStill journals.now self.now) (λ found. (found.0 < length journals.now) × CanBePlaced journals.now self.now found.0 found.1) }
+        ensures { MatchOption result (AllStill journals.now self.now)
+            (λ found. (found.0 < length journals.now)
+            × CanBePlaced journals.now self.now found.0 found.1) }
     {
         match self.find_between(journals, from, journals.len()) {
             Some(found) => Some(found),
@@ -191,7 +196,8 @@ impl<'a> Loom<'a> {
     /// The least-named journal that isn't placed whole.
     fn least_left(&self, journals: &[Closed]) -> Option<usize>
         requires { length self.now.strands.items ≡ length journals.now }
-        ensures { MatchOption result (AllWhole journals.now self.now.strands.items) (λ i. (j : JournalValue) × IsFirst journals.now (IsLeft self.now.strands.items) i j) }
+        ensures { MatchOption result (AllWhole journals.now self.now.strands.items)
+            (λ i. (j : JournalValue) × IsFirst journals.now (IsLeft self.now.strands.items) i j) }
     {
         let mut least: Option<usize> = None;
         for i in 0..journals.len() {
@@ -205,7 +211,8 @@ impl<'a> Loom<'a> {
     /// The node of the least-named journal that isn't placed whole, and the place of its first record that isn't.
     pub(crate) fn first_left(&self, journals: &[Closed]) -> Option<(NodeId, u64)>
         requires { HaveStrands journals.now self.now.strands.items }
-        ensures { MatchOption result (AllWhole journals.now self.now.strands.items) (λ found. IsLeftAt journals.now self.now.strands.items found.0 found.1) }
+        ensures { MatchOption result (AllWhole journals.now self.now.strands.items)
+            (λ found. IsLeftAt journals.now self.now.strands.items found.0 found.1) }
     {
         match self.least_left(journals) {
             None => None,

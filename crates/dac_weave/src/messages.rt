@@ -57,7 +57,8 @@ impl<'a> Messages<'a> {
 
     /// The number of an equal message, from 1, if there is one.
     pub(crate) fn number(&self, message: &Message) -> Option<u64>
-        ensures { MatchOption result ((k : ℕ) → counted self.now k ≡ Some message.now → ⊥) (λ k. counted self.now k ≡ Some message.now) }
+        ensures { MatchOption result ((k : ℕ) → counted self.now k ≡ Some message.now → ⊥)
+            (λ k. counted self.now k ≡ Some message.now) }
     {
         let bucket = self.buckets.bucket(label_of_message(message));
         for i in 0..bucket.len() {

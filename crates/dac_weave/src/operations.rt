@@ -57,7 +57,8 @@ impl<'a> Operations<'a> {
 
     /// The number of an equal operation, from 1, if there is one.
     pub(crate) fn number(&self, operation: &Op) -> Option<u64>
-        ensures { MatchOption result ((k : ℕ) → counted self.now k ≡ Some operation.now → ⊥) (λ k. counted self.now k ≡ Some operation.now) }
+        ensures { MatchOption result ((k : ℕ) → counted self.now k ≡ Some operation.now → ⊥)
+            (λ k. counted self.now k ≡ Some operation.now) }
     {
         let bucket = self.buckets.bucket(label_of_operation(operation));
         for i in 0..bucket.len() {

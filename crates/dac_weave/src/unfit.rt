@@ -29,7 +29,8 @@ pub(crate) fn lesser(journals: &[Closed], least: Option<usize>, i: usize) -> usi
 fn is_other(journals: &[Closed], i: usize, k: usize) -> bool
     requires first { i < length journals.now }
     requires second { k < length journals.now }
-    ensures { (j b : JournalValue) → At journals.now i j → At journals.now k b → IsTrue result ↔ (k ≢ i) × (b.opening.node ≡ j.opening.node) }
+    ensures { (j b : JournalValue) → At journals.now i j → At journals.now k b
+        → IsTrue result ↔ (k ≢ i) × (b.opening.node ≡ j.opening.node) }
 {
     k != i && journals[k].node() == journals[i].node()
 }
@@ -57,7 +58,8 @@ fn is_unfit(journals: &[Closed], i: usize) -> bool
 
 /// The least-named journal that is no whole history, or not the only one.
 pub(crate) fn unfit(journals: &[Closed]) -> Option<usize>
-    ensures { MatchOption result (AllFit journals.now) (λ i. (j : JournalValue) × IsFirst journals.now (IsUnfit journals.now) i j) }
+    ensures { MatchOption result (AllFit journals.now)
+        (λ i. (j : JournalValue) × IsFirst journals.now (IsUnfit journals.now) i j) }
 {
     let mut least: Option<usize> = None;
     for i in 0..journals.len() {

@@ -37,7 +37,8 @@ unless (Some e) read = Err e
 
 -- The packet that bytes of a version spell under a configuration, or the first fault.
 unfoldable pub packet_in : Version → Table → List ℕ → Result Packet WireFault
-packet_in version t bytes = unless (front_fault version t bytes) (in_packet (fields_at version t (after PREAMBLE (whole bytes))))
+packet_in version t bytes =
+    unless (front_fault version t bytes) (in_packet (fields_at version t (after PREAMBLE (whole bytes))))
 
 -- The version that bytes are read by: one where they name it, and else two.
 unfoldable pub version_in : List ℕ → Version

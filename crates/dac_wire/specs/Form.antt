@@ -72,7 +72,8 @@ pub record AreOver (version : Version) (nodes : ℕ) (over : List Dot) : Type 0 
   pub count : length over < 2 ^ 16
 
 -- a claim by a node in the application's list
-pub record IsClaimInForm (t : Table) (issuer : NodeId) (claimed : AppId) (number : ℕ) (how : How) (taken : Option NodeId) : Type 0 where
+pub record IsClaimInForm (t : Table) (issuer : NodeId) (claimed : AppId) (number : ℕ) (how : How)
+    (taken : Option NodeId) : Type 0 where
   -- there is such an application
   pub app : claimed.0 < app_count t
   -- its term is one that can be issued
@@ -90,7 +91,8 @@ IsAct version t issuer (Down node inc) = (node.0 < node_count t) × IsIncarnatio
 IsAct version t issuer (Permit key value over) = IsKey version t key × AreOver version (node_count t) over
 IsAct version t issuer (Start key over) = IsKey version t key × AreOver version (node_count t) over
 IsAct version t issuer (Stop key over) = IsKey version t key × AreOver version (node_count t) over
-IsAct version t issuer (Drain node inc value over) = IsOrigin version (node_count t) (origin node inc) × AreOver version (node_count t) over
+IsAct version t issuer (Drain node inc value over) =
+    IsOrigin version (node_count t) (origin node inc) × AreOver version (node_count t) over
 IsAct version t issuer (Claim app term how from) = IsClaimInForm t issuer app term how from
 
 -- an operation that can be read

@@ -62,7 +62,8 @@ body_bytes version Nothing = []
 -- Who ships it, for which node, for which incarnation of it, and how many deltas the sender had. Then what it got of
 -- the receiver, and what it brings
 unfoldable pub message_bytes : Version → Message → List ℕ
-message_bytes version m = origin_bytes version m.from ++ u8_bytes m.to.0 ++ incarnation_bytes version (only_code m.only) ++ u64_bytes m.up_to ++ ack_bytes version m.ack ++ body_bytes version m.body
+message_bytes version m = origin_bytes version m.from ++ u8_bytes m.to.0 ++ incarnation_bytes version (only_code m.only)
+    ++ u64_bytes m.up_to ++ ack_bytes version m.ack ++ body_bytes version m.body
 
 -- ---- operations
 
@@ -74,10 +75,12 @@ over_bytes version over = u16_bytes (length over) ++ flat_map (dot_bytes version
 unfoldable pub act_fields_bytes : Version → Act → List ℕ
 act_fields_bytes version Up = []
 act_fields_bytes version (Down node inc) = u8_bytes node.0 ++ incarnation_bytes version inc
-act_fields_bytes version (Permit key value over) = key_bytes version key ++ u8_bytes (value_code value) ++ over_bytes version over
+act_fields_bytes version (Permit key value over) =
+    key_bytes version key ++ u8_bytes (value_code value) ++ over_bytes version over
 act_fields_bytes version (Start key over) = key_bytes version key ++ over_bytes version over
 act_fields_bytes version (Stop key over) = key_bytes version key ++ over_bytes version over
-act_fields_bytes version (Drain node inc value over) = origin_bytes version (origin node inc) ++ u8_bytes (value_code value) ++ over_bytes version over
+act_fields_bytes version (Drain node inc value over) =
+    origin_bytes version (origin node inc) ++ u8_bytes (value_code value) ++ over_bytes version over
 act_fields_bytes version (Claim app term how from) = app_bytes app ++ u64_bytes term ++ manner_bytes how from
 
 -- which act it is, and its fields
@@ -97,7 +100,8 @@ content_bytes version (packet.Single o) = operation_bytes version o
 
 -- The one spelling of a packet in a version, under a configuration.
 unfoldable pub packet_bytes : Version → Table → Packet → List ℕ
-packet_bytes version t p = preamble_bytes version t ++ u8_bytes (packet_code (kind_of_packet p)) ++ content_bytes version p
+packet_bytes version t p =
+    preamble_bytes version t ++ u8_bytes (packet_code (kind_of_packet p)) ++ content_bytes version p
 
 -- The spelling that is written: that of version two.
 abbrev pub spelling_of : Table → Packet → List ℕ

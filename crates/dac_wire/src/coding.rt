@@ -89,7 +89,8 @@ fn decode_fields(
     bytes: &[u8],
 ) -> Result<Packet, WireFault>
     requires { PREAMBLE ≤ length bytes.now }
-    ensures { Gives result (in_packet (fields_at version config.now (after PREAMBLE (whole bytes.now)))) }
+    ensures { Gives result
+        (in_packet (fields_at version config.now (after PREAMBLE (whole bytes.now)))) }
 {
     match read_fields(ByteReader::behind(bytes, PREAMBLE), alloc, version, config) {
         Ok(packet) => Ok(packet),
@@ -104,8 +105,11 @@ fn decode_in(
     config: &Config,
     bytes: &[u8],
 ) -> Result<Packet, WireFault>
-    ensures found { IfOk result (λ p. IsPacket version config.now p × (bytes.now ≡ packet_bytes version config.now p) × (length bytes.now ≤ MAX_MESSAGE)) }
-    ensures only { (p : Packet) → IsPacket version config.now p → bytes.now ≡ packet_bytes version config.now p → length bytes.now ≤ MAX_MESSAGE → Gives result (Ok p) }
+    ensures found { IfOk result (λ p. IsPacket version config.now p
+        × (bytes.now ≡ packet_bytes version config.now p) × (length bytes.now ≤ MAX_MESSAGE)) }
+    ensures only { (p : Packet) → IsPacket version config.now p
+        → bytes.now ≡ packet_bytes version config.now p → length bytes.now ≤ MAX_MESSAGE
+        → Gives result (Ok p) }
     ensures exact { Gives result (packet_in version config.now bytes.now) }
 {
     parts_have_one_spelling(config);
@@ -138,9 +142,12 @@ fn version_in(bytes: &[u8]) -> Version
 /// Version 1 has incarnations in four bytes, and no drains.
 pub fn decode(alloc: Global, config: &Config, bytes: &[u8]) -> Result<Packet, WireFault>
     // What is read is spelled so in some version, and in form for it.
-    ensures found { IfOk result (λ p. (version : Version) × IsPacket version config.now p × (bytes.now ≡ packet_bytes version config.now p) × (length bytes.now ≤ MAX_MESSAGE)) }
+    ensures found { IfOk result (λ p. (version : Version) × IsPacket version config.now p
+        × (bytes.now ≡ packet_bytes version config.now p) × (length bytes.now ≤ MAX_MESSAGE)) }
     // What is spelled so and in form is read, unless memory runs out.
-    ensures only { (version : Version) (p : Packet) → IsPacket version config.now p → bytes.now ≡ packet_bytes version config.now p → length bytes.now ≤ MAX_MESSAGE → Gives result (Ok p) }
+    ensures only { (version : Version) (p : Packet) → IsPacket version config.now p
+        → bytes.now ≡ packet_bytes version config.now p → length bytes.now ≤ MAX_MESSAGE
+        → Gives result (Ok p) }
     // Which fault it is: the one that reading from left to right gives.
     ensures exact { Gives result (packet_at config.now bytes.now) }
 {
@@ -166,8 +173,10 @@ fn spell(alloc: Global, config: &Config, packet: &Packet) -> Result<Vec<u8>, NoM
 /// other fault. All bytes are written before they are counted, so memory may be refused for a packet that is too long.
 /// A count that doesn't fit its field is written by its lowest bits.
 pub fn encode(alloc: Global, config: &Config, packet: &Packet) -> Result<Vec<u8>, WireFault>
-    ensures ok { IfOk result (λ bytes. (bytes.items ≡ spelling_of config.now packet.now) × (length bytes.items ≤ MAX_MESSAGE)) }
-    ensures err { IfErr result (λ fault. IsEncodeFault (length (spelling_of config.now packet.now)) fault) }
+    ensures ok { IfOk result (λ bytes. (bytes.items ≡ spelling_of config.now packet.now)
+        × (length bytes.items ≤ MAX_MESSAGE)) }
+    ensures err { IfErr result
+        (λ fault. IsEncodeFault (length (spelling_of config.now packet.now)) fault) }
 {
     let Ok(bytes) = spell(alloc, config, packet) else {
         return Err(WireFault::new(WireFaultKind::NoMemory, 0));

@@ -24,7 +24,8 @@ fn read_dots<'a>(
     nodes: u8,
     count: u16,
 ) -> Result<(Vec<Dot>, ByteReader<'a>), ReadFault>
-    ensures { Gives (λ x. (x.0.items, x.1)) result (items_at (dot_above_at version nodes) Some count None reader.entry) }
+    ensures { Gives (λ x. (x.0.items, x.1)) result
+        (items_at (dot_above_at version nodes) Some count None reader.entry) }
 {
     let mut dots = Vec::new(alloc);
     let mut before = None;
@@ -258,7 +259,8 @@ fn read_dot_and_act<'a>(
     version: Version,
     config: &Config,
 ) -> Result<((Dot, Act), ByteReader<'a>), ReadFault>
-    ensures { Gives (λ x. (record { dot = x.0.0; act = x.0.1 }, x.1)) result (dot_and_act_at version config.now reader.entry) }
+    ensures { Gives (λ x. (record { dot = x.0.0; act = x.0.1 }, x.1)) result
+        (dot_and_act_at version config.now reader.entry) }
 {
     let (dot, rest) = reader.read_dot(version, config.nodes())?;
     let (act, rest) = read_act(rest, alloc, version, config, dot.origin.node)?;

@@ -23,7 +23,7 @@ use Rattle.dac_lattice.specs.declared.flags.Flag.TheVariants.{Up, Down}
 use Rattle.dac_lattice.specs.Chains.{IsAny}
 use Rattle.dac_lattice.specs.Maps.{IsMap}
 use Rattle.dac_lattice.specs.Flags.{IsFlagBelow}
-use Rattle.dac_lattice.specs.Entries.{find_below}
+use Rattle.dac_lattice.specs.laws.Entries.{find_below}
 use Rattle.dac_lattice.specs.laws.EntryLaws.{first, second}
 use Rattle.dac_store.specs.AtDot.{StandsBelow}
 use Rattle.dac_store.specs.DotFuns.{is_empty_list}

@@ -17,7 +17,8 @@ use Rattle.dac_wishes.specs.declared.wish_act.WishAct.TheVariants.{Start, Other 
 use Rattle.dac_wishes.specs.Keys.{key_cmp, same_key}
 use Rattle.dac_wishes.specs.Writes.{Write, same_dot}
 use Rattle.dac_wishes.specs.laws.WishesValue.{same_wishes}
-use Rattle.dac_wishes.specs.Replacing.{named_by, contains-named_by, replaces}
+use Rattle.dac_wishes.specs.Replacing.{named_by, replaces}
+use Rattle.dac_wishes.specs.laws.Replacing.{contains-named_by}
 use Rattle.dac_wishes.specs.StoredWishes.{StoredDots, AreStoredDots, wishes_of}
 use Rattle.dac_wishes.specs.laws.StartsByKey.{contains-writes_of}
 use Rattle.dac_wishes.specs.WishMeaning.{wish_delta, wishes}

@@ -17,7 +17,8 @@ use Rattle.dac_store.specs.laws.DotMaps.{keyed_laws, at_join}
 use Rattle.dac_wishes.specs.declared.key.Key.{Key}
 use Rattle.dac_wishes.specs.Keys.{key_cmp, same_key}
 use Rattle.dac_wishes.specs.laws.Keys.{keys_total, exact_keys}
-use Rattle.dac_wishes.specs.Writes.{Write, write, same_dot, same_dot_itself}
+use Rattle.dac_wishes.specs.Writes.{Write, write, same_dot}
+use Rattle.dac_wishes.specs.laws.KeyedWrites.{same_dot_itself}
 use Rattle.dac_wishes.specs.WishesValue.{AreWishes, AreWishesBelow, join_wishes, is_wished, SomeStands}
 use Rattle.dac_wishes.specs.laws.WishesValue.{known-join, standing-join, same_wishes}
 use Rattle.dac_wishes.specs.StoredWishes.{StoredDots, AreStoredDots, writes_of, wishes_of}

@@ -1,4 +1,5 @@
--- What stands beside what one operation says: which of it may be there, where what the operation says is below all of it.
+-- What stands beside what one operation says: which of it may be there, where what the operation says is
+-- below all of it.
 use Rattle.std.specs.Prelude.{Bool, true, false, not, List, Option, None, Some, if◌then◌else◌}
 use Rattle.std.specs.declared.cmp.Ordering.{Ordering}
 use Rattle.std.specs.List.{list_all}

@@ -19,7 +19,8 @@ abbrev pub vote_of : DrainAct → Option (Origin × Flag)
 vote_of (Drain at value over) = Some (at, flag_of value)
 vote_of (Other over) = None
 
--- The value is what the operations mean: a drain stands, with its value, if an operation is it and none replaces its dot.
+-- The value is what the operations mean: a drain stands, with its value, if an operation is it and
+-- none replaces its dot.
 abbrev pub IsMeaning : List (Dot × DrainAct) → DrainsValue → Type 0
 IsMeaning = votes.IsVoteMeaning origin_cmp over_of vote_of
 

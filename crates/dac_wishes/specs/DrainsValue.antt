@@ -1,5 +1,6 @@
--- What drains are: the drains that stand, with their values, beside the dots that are known. Equal parts are equal
--- values. A drain's true is Down, and its false Up. Drains are votes of origins: an incarnation of a node is drained or not.
+-- What drains are: the drains that stand, with their values, beside the dots that are known. Equal parts are
+-- equal values. A drain's true is Down, and its false Up. Drains are votes of origins: an incarnation of a node
+-- is drained or not.
 use Rattle.std.specs.Prelude.{◌≡◌, ℕ, Bool, true, false, List, Some}
 use Rattle.std.specs.List.{list_any}
 use Rattle.std.specs.Coded.{Coded}

@@ -21,7 +21,8 @@ abbrev pub keyed_write_cmp : {K : Type 0} → (K → K → Ordering) → KeyedWr
 keyed_write_cmp R a b = ordering_then (R a.key b.key) (dot_cmp a.dot b.dot)
 
 abbrev pub coded_keyed_write : {K : Type 0} → Coded K → Coded (KeyedWrite K)
-coded_keyed_write {K = K} coded_key = code_by (K × Dot) (coded× coded_key coded_dot) (λ w. (w.key, w.dot)) (λ p. record { key = p.0; dot = p.1 }) (λ _. refl)
+coded_keyed_write {K = K} coded_key = code_by (K
+    × Dot) (coded× coded_key coded_dot) (λ w. (w.key, w.dot)) (λ p. record { key = p.0; dot = p.1 }) (λ _. refl)
 
 -- one and the same dot
 abbrev pub same_dot : Dot → Dot → Bool

@@ -16,4 +16,5 @@ same_key = eq_by_cmp key_cmp
 
 -- a key as three numbers
 abbrev pub coded_key : Coded Key
-coded_key = code_by (ℕ × (ℕ × ℕ)) (coded× coded_ℕ (coded× coded_ℕ coded_ℕ)) (λ k. (k.app.0, (k.node.0, k.inc))) (λ p. record { app = record { 0 = p.0 }; node = record { 0 = p.1.0 }; inc = p.1.1 }) (λ _. refl)
+coded_key = code_by (ℕ × (ℕ × ℕ)) (coded× coded_ℕ (coded× coded_ℕ coded_ℕ)) (λ k. (k.app.0, (k.node.0, k.inc)))
+    (λ p. record { app = record { 0 = p.0 }; node = record { 0 = p.1.0 }; inc = p.1.1 }) (λ _. refl)

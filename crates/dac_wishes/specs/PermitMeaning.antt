@@ -10,7 +10,6 @@ use Rattle.dac_wishes.specs.Writes.{Write}
 use Rattle.dac_wishes.specs.PermissionsValue.{PermissionsValue, flag_of}
 use Rattle.dac_wishes.specs.VoteMeaning as votes
 pub use Rattle.dac_wishes.specs.VoteMeaning.{or_else}
-pub use Rattle.dac_wishes.specs.laws.VoteMeaning.{else_none}
 
 -- the dots that an act replaces
 abbrev pub over_of : PermitAct → List Dot
@@ -30,7 +29,8 @@ says key a = votes.says_of key_cmp key (vote_of a)
 abbrev pub permit_in : Write → Dot × PermitAct → Option Flag
 permit_in = votes.vote_in key_cmp vote_of
 
--- The value is what the operations mean: a permit stands, with its value, if an operation is it and none replaces its dot.
+-- The value is what the operations mean: a permit stands, with its value, if an operation is it and
+-- none replaces its dot.
 abbrev pub IsMeaning : List (Dot × PermitAct) → PermissionsValue → Type 0
 IsMeaning = votes.IsVoteMeaning key_cmp over_of vote_of
 

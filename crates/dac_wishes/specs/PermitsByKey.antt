@@ -1,4 +1,5 @@
--- Permits by key: the keys of the permits that stand, each with their dots and values. This is how they are kept and read.
+-- Permits by key: the keys of the permits that stand, each with their dots and values. This is how they
+-- are kept and read.
 use Rattle.std.specs.Prelude.{List}
 use Rattle.dac_wishes.specs.declared.key.Key.{Key}
 use Rattle.dac_wishes.specs.Keys.{key_cmp}

@@ -1,5 +1,5 @@
--- What a set of operations means for votes: which votes stand, with their values, and which dots are known. An operation
--- votes by its act, which says which key it is of and what it says, if it is a vote.
+-- What a set of operations means for votes: which votes stand, with their values, and which dots are known. An
+-- operation votes by its act, which says which key it is of and what it says, if it is a vote.
 use Rattle.std.specs.Prelude.{◌≡◌, List, [], ◌∷◌, Option, None, Some, if◌then◌else◌}
 use Rattle.std.specs.declared.cmp.Ordering.{Ordering}
 use Rattle.std.specs.Ordering.{eq_by_cmp}
@@ -35,11 +35,14 @@ module _ {K : Type 0} (R : K → K → Ordering) {A : Type 0} (vote : A → Opti
   said w [] = None
   said w (o ∷ os) = or_else (vote_in w o) (said w os)
 
--- The value is what the operations mean: a vote stands, with its value, if an operation is it and none replaces its dot.
-pub record IsVoteMeaning {K : Type 0} (R : K → K → Ordering) {A : Type 0} (over : A → List Dot) (vote : A → Option (K × Flag)) (os : List (Dot × A)) (v : VotesValue R) : Type 0 where
+-- The value is what the operations mean: a vote stands, with its value, if an operation is it and
+-- none replaces its dot.
+pub record IsVoteMeaning {K : Type 0} (R : K → K → Ordering) {A : Type 0} (over : A → List Dot)
+    (vote : A → Option (K × Flag)) (os : List (Dot × A)) (v : VotesValue R) : Type 0 where
   pub known : AreNamedIn over os v.known
   pub standing : (w : KeyedWrite K) → map.get v.standing w ≡ (if is_replaced over w.dot os then None else said R vote w os)
 
 -- what one operation adds
-abbrev pub vote_delta : {K : Type 0} (R : K → K → Ordering) {A : Type 0} → (A → List Dot) → (A → Option (K × Flag)) → Dot → A → VotesValue R
+abbrev pub vote_delta : {K : Type 0} (R : K → K → Ordering) {A : Type 0} → (A → List Dot) → (A → Option (K × Flag))
+    → Dot → A → VotesValue R
 vote_delta R over vote d a = record { known = named_by over d a; standing = map.from_entries (votes_in d (vote a)) }

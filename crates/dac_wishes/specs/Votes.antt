@@ -36,7 +36,8 @@ AreVotes {K = K} R v = (w : KeyedWrite K) → is_some (map.get v.standing w) ≡
 -- Written without join.
 pub record AreVotesBelow {K : Type 0} (R : K → K → Ordering) (x y : VotesValue R) : Type 0 where
   pub known : IsSubset x.known y.known
-  pub standing : (w : KeyedWrite K) → set.contains x.known w.dot ≡ true → StandsBelow IsFlagBelow (map.get x.standing w) (map.get y.standing w)
+  pub standing : (w : KeyedWrite K) → set.contains x.known w.dot ≡ true
+      → StandsBelow IsFlagBelow (map.get x.standing w) (map.get y.standing w)
 
 -- nothing known
 abbrev pub no_votes : {K : Type 0} (R : K → K → Ordering) → VotesValue R
@@ -44,18 +45,21 @@ no_votes R = record { known = set.empty; standing = map.empty }
 
 -- What stands of a vote when two sides come together. It is the greater value where it stands on both, and else its
 -- value where the other side doesn't know its dot
-abbrev pub joined_vote : {K : Type 0} (R : K → K → Ordering) → VotesValue R → VotesValue R → KeyedWrite K → Option Flag → Option Flag → Option Flag
+abbrev pub joined_vote : {K : Type 0} (R : K → K → Ordering) → VotesValue R → VotesValue R → KeyedWrite K → Option Flag
+    → Option Flag → Option Flag
 joined_vote R x y w = join_at join_flags (set.contains x.known w.dot) (set.contains y.known w.dot)
 
 unfoldable pub join_votes : {K : Type 0} (R : K → K → Ordering) → VotesValue R → VotesValue R → VotesValue R
 join_votes R x y = record {
   known = set.union x.known y.known;
-  standing = map.from_entries (merge_entries (keyed_write_cmp R) (joined_vote R x y) (map.entries x.standing) (map.entries y.standing));
+  standing = map.from_entries
+      (merge_entries (keyed_write_cmp R) (joined_vote R x y) (map.entries x.standing) (map.entries y.standing));
 }
 
 -- the votes of a key among others, by their dots
 abbrev pub votes_among : {K : Type 0} (R : K → K → Ordering) → K → List (KeyedWrite K × Flag) → List (Dot × Flag)
-votes_among {K = K} R key es = list_map (λ (e : KeyedWrite K × Flag). (e.0.dot, e.1)) (filter (λ (e : KeyedWrite K × Flag). eq_by_cmp R e.0.key key) es)
+votes_among {K = K} R key es = list_map (λ (e : KeyedWrite K × Flag). (e.0.dot, e.1)) (filter
+    (λ (e : KeyedWrite K × Flag). eq_by_cmp R e.0.key key) es)
 
 -- the votes that stand at a key, in the order of their dots
 abbrev pub votes_at : {K : Type 0} (R : K → K → Ordering) → K → Votes R → List (Dot × Flag)

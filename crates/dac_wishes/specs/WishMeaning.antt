@@ -28,7 +28,8 @@ is_start w o = wishes w.key o.1 && is_under w.dot o
 -- The value is what the operations mean: a wish stands if an operation is it and none replaces its dot.
 pub record IsMeaning (os : List (Dot × WishAct)) (v : WishesValue) : Type 0 where
   pub known : AreNamedIn over_of os v.known
-  pub standing : (w : Write) → set.contains v.standing w ≡ (list_any (is_start w) os && not (is_replaced over_of w.dot os))
+  pub standing : (w : Write)
+      → set.contains v.standing w ≡ (list_any (is_start w) os && not (is_replaced over_of w.dot os))
 
 -- the wishes in an operation
 abbrev pub starts_in : Dot → WishAct → List Write

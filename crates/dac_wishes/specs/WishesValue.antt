@@ -16,17 +16,20 @@ pub record WishesValue : Type 0 where
   pub standing : Writes
 
 abbrev pub coded_wishes : Coded WishesValue
-coded_wishes = code_by (Dots × Writes) (coded× (set.code coded_dot) (set.code coded_write)) (λ v. (v.known, v.standing)) (λ p. record { known = p.0; standing = p.1 }) (λ _. refl)
+coded_wishes = code_by (Dots × Writes) (coded× (set.code coded_dot) (set.code coded_write)) (λ v. (v.known, v.standing))
+    (λ p. record { known = p.0; standing = p.1 }) (λ _. refl)
 
 -- what stands is known, in forged values too
 abbrev pub AreWishes : WishesValue → Type 0
 AreWishes v = (w : Write) → set.contains v.standing w ≡ true → set.contains v.known w.dot ≡ true
 
--- x is below y: y knows all that x does, and what x knows and lets stand no more doesn't stand in y. Written without join.
+-- x is below y: y knows all that x does, and what x knows and lets stand no more doesn't stand in
+-- y. Written without join.
 pub record AreWishesBelow (x y : WishesValue) : Type 0 where
   pub known : IsSubset x.known y.known
   -- a wish that stands in y and that x knows stands in x
-  pub standing : (w : Write) → set.contains y.standing w ≡ true → set.contains x.known w.dot ≡ true → set.contains x.standing w ≡ true
+  pub standing : (w : Write) → set.contains y.standing w ≡ true → set.contains x.known w.dot ≡ true
+      → set.contains x.standing w ≡ true
 
 -- nothing known
 abbrev pub no_wishes : WishesValue

@@ -9,7 +9,6 @@ use Rattle.dac_wishes.specs.declared.key.Key.{Key}
 use Rattle.dac_wishes.specs.Keys.{key_cmp, same_key, coded_key}
 use Rattle.dac_wishes.specs.KeyedWrites.{KeyedWrite, keyed_write, keyed_write_cmp, coded_keyed_write}
 pub use Rattle.dac_wishes.specs.KeyedWrites.{same_dot}
-pub use Rattle.dac_wishes.specs.laws.KeyedWrites.{same_dot_is, same_dot_itself}
 
 -- what is written, and the dot of the operation that writes it
 abbrev pub Write : Type 0

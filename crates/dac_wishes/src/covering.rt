@@ -28,7 +28,8 @@ impl Permissions {
     /// Whether what an operation adds is below what is kept, so that to join it would change nothing: an operation of this
     /// dot, which permits this key or not, if it does, and replaces these dots. It takes no memory.
     pub fn covers(&self, dot: Dot, permit: Option<(Key, bool)>, over: &[Dot]) -> bool
-        ensures { IsTrue result ↔ IsPermissionsBelow (permit_delta dot (permit_act permit over.now)) self.now }
+        ensures { IsTrue result
+            ↔ IsPermissionsBelow (permit_delta dot (permit_act permit over.now)) self.now }
     {
         knows_all(self.context(), dot, over)
             && let_stand(dot, permit_vote(permit), over, self.entries())
@@ -42,7 +43,8 @@ impl Drains {
     /// Whether what an operation adds is below what is kept, so that to join it would change nothing: an operation of this
     /// dot, which drains this incarnation or ends that, if it does, and replaces these dots. It takes no memory.
     pub fn covers(&self, dot: Dot, drain: Option<(Origin, bool)>, over: &[Dot]) -> bool
-        ensures { IsTrue result ↔ AreDrainsBelow (drain_delta dot (drain_act drain over.now)) self.now }
+        ensures { IsTrue result
+            ↔ AreDrainsBelow (drain_delta dot (drain_act drain over.now)) self.now }
     {
         knows_all(self.context(), dot, over)
             && let_stand(dot, drain_vote(drain), over, self.entries())
@@ -56,7 +58,8 @@ impl Wishes {
     /// Whether what an operation adds is below what is kept, so that to join it would change nothing: an operation of this
     /// dot, which wishes a start of this key, if it does, and replaces these dots. It takes no memory.
     pub fn covers(&self, dot: Dot, start: Option<Key>, over: &[Dot]) -> bool
-        ensures { IsTrue result ↔ AreWishesBelow (wish_delta dot (wish_act start over.now)) self.now }
+        ensures { IsTrue result
+            ↔ AreWishesBelow (wish_delta dot (wish_act start over.now)) self.now }
     {
         knows_all(self.context(), dot, over) && let_wishes(dot, start, over, self.entries())
     }

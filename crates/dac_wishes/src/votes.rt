@@ -49,7 +49,8 @@ pub(crate) fn kept_beside<K: MapKey>(
     named: &SharedContext,
 ) -> Result<Causal<DotMap<K, DotFun<Flag>>>, NoMemory>
     requires { IsHeld (has_in has_dot (stored_vote dot vote)) named.now }
-    ensures { IfOk result (λ causal. causal ≡ record { store = stored_vote dot vote; context = named.now }) }
+    ensures { IfOk result
+        (λ causal. causal ≡ record { store = stored_vote dot vote; context = named.now }) }
 {
     let store = kept_alone(alloc, dot, vote)?;
     let context = named.copy()?;

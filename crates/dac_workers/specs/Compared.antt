@@ -40,8 +40,8 @@ sent_one seat r = if r.seat == seat then shipped_in r.answer else None
 abbrev pub event_one : ℕ → Record → Option Event
 event_one seat r = if r.seat == seat then Some r.event else None
 
--- Over so many phases: all that the worker's seat asked is to hear what the shipper's seat shipped, in order and each once; and
--- all that this one asked is to ship to the node, five times a phase.
+-- Over so many phases: all that the worker's seat asked is to hear what the shipper's seat shipped, in order and each
+-- once; and all that this one asked is to ship to the node, five times a phase.
 pub record Linked (phases : ℕ) (to : NodeId) (shipper worker : ℕ) (sender receiver : List Record) : Type 0 where
   pub same : found (event_one worker) receiver ≡ map Hear (found (sent_one shipper) sender)
   pub ships : found (event_one shipper) sender ≡ ships_to to (5 * phases)

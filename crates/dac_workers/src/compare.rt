@@ -94,7 +94,8 @@ pub fn are_ships(wanted: usize, records: &[Record], seat: u16, to: NodeId) -> bo
 
 /// Whether all that the records of this seat ask is to hear these messages, in order and no others.
 pub fn are_heard(sent: &[&Message], records: &[Record], seat: u16) -> bool
-    ensures { result ≡ true → found (event_one seat) records.now ≡ map (λ m. Event.Hear m.now) sent.now }
+    ensures { result ≡ true
+        → found (event_one seat) records.now ≡ map (λ m. Event.Hear m.now) sent.now }
 {
     let mut next = 0;
     for i in 0..records.len() {

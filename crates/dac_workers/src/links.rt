@@ -51,7 +51,8 @@ pub fn ship_once<L: SiteName, R: Wait>(
 ) -> Result<(), RunFault>
     ensures number { seat.new.number ≡ seat.old.number }
     ensures link { sends_on out.new.end ≡ sends_on out.old.end }
-    ensures ok { OnOk result (ShipsOne config.now to seat.old.calls seat.new.calls (view out.old.pass).put (view out.new.pass).put) }
+    ensures ok { OnOk result (ShipsOne config.now to seat.old.calls seat.new.calls
+        (view out.old.pass).put (view out.new.pass).put) }
 {
     let ends = Ends { from, to };
     match site.call(rt, seat, Event::Ship { to }) {
@@ -80,7 +81,8 @@ pub fn ship_link<L: SiteName, R: Wait>(
 ) -> Result<(), RunFault>
     ensures number { seat.new.number ≡ seat.old.number }
     ensures link { sends_on out.new.end ≡ sends_on out.old.end }
-    ensures ok { OnOk result (Ships config.now to 4 seat.old.calls seat.new.calls (view out.old.pass).put (view out.new.pass).put (None ∷ [])) }
+    ensures ok { OnOk result (Ships config.now to 4 seat.old.calls seat.new.calls
+        (view out.old.pass).put (view out.new.pass).put (None ∷ [])) }
 {
     for _count in 0..SHIPS {
         ship_once(rt, alloc, config, from, to, site, seat, out)?;
@@ -101,7 +103,8 @@ pub fn ship_last<L: SiteName, R: Wait>(
 ) -> Result<(), RunFault>
     ensures number { seat.new.number ≡ seat.old.number }
     ensures link { sends_on out.new.end ≡ sends_on out.old.end }
-    ensures ok { OnOk result (Ships config.now to 1 seat.old.calls seat.new.calls (view out.old.pass).put (view out.new.pass).put (None ∷ [])) }
+    ensures ok { OnOk result (Ships config.now to 1 seat.old.calls seat.new.calls
+        (view out.old.pass).put (view out.new.pass).put (None ∷ [])) }
 {
     ship_once(rt, alloc, config, from, to, site, seat, out)?;
     put(rt, Ends { from, to }, out, Letter::end())
@@ -139,7 +142,8 @@ pub fn hear_link<L: SiteName, G: Gate, R: Wait>(
 ) -> Result<(), RunFault>
     ensures number { seat.new.number ≡ seat.old.number }
     ensures link { receives_on link.new.end ≡ receives_on link.old.end }
-    ensures ok { OnOk result (Hears config.now seat.old.calls seat.new.calls (view link.old.pass).taken (view link.new.pass).taken (None ∷ [])) }
+    ensures ok { OnOk result (Hears config.now seat.old.calls seat.new.calls
+        (view link.old.pass).taken (view link.new.pass).taken (None ∷ [])) }
 {
     let ends = Ends { from, to };
     for _ in rt.forever() {

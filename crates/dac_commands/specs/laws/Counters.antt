@@ -12,7 +12,8 @@ use Rattle.dac_dots.specs.declared.dot.Origin.{Origin}
 use Rattle.dac_dots.specs.declared.dot.Dot.{Dot}
 use Rattle.dac_dots.specs.Dots.{Dots, dot, origin_cmp, IsNext, IsUsedUp}
 use Rattle.dac_dots.specs.laws.Dots.{origins_total, exact_origins}
-use Rattle.dac_wishes.specs.Writes.{same_dot, same_dot_is, same_dot_itself}
+use Rattle.dac_wishes.specs.Writes.{same_dot}
+use Rattle.dac_wishes.specs.laws.KeyedWrites.{same_dot_is, same_dot_itself}
 use Rattle.dac_commands.specs.Commands.{greatest_among, greatest_counter}
 use Rattle.std.proofs.lemmas.Bool.{false_from_ne_true}
 use Rattle.dac_base.specs.declared.limits.TheConstants.{MAX_COUNTER}

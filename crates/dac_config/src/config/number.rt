@@ -39,7 +39,8 @@ fn node_of(alloc: Global, draft: &Draft<'_>, name: &[u8]) -> Result<Node, NoMemo
 
 /// The nodes, in the order of their names in the draft.
 fn nodes_of(alloc: Global, draft: &Draft<'_>) -> Result<Vec<Node>, NoMemory>
-    ensures { IfOk result (λ nodes. map node_row nodes.items ≡ map (numbered_node (draft_of draft.now)) (draft_of draft.now).nodes) }
+    ensures { IfOk result (λ nodes. map node_row nodes.items
+        ≡ map (numbered_node (draft_of draft.now)) (draft_of draft.now).nodes) }
 {
     let mut nodes = Vec::new(alloc);
     for name in &draft.nodes {
@@ -51,7 +52,8 @@ fn nodes_of(alloc: Global, draft: &Draft<'_>) -> Result<Vec<Node>, NoMemory>
 /// The numbers of the nodes that the group names.
 fn numbers_of(alloc: Global, nodes: &[Node], group: &[&[u8]]) -> Result<Vec<u8>, NoMemory>
     requires { length nodes.now ≤ MAX_NODES }
-    ensures { IfOk result (λ numbers. numbers.items ≡ numbers_from 0 (map node_row nodes.now) (names_of group.now)) }
+    ensures { IfOk result
+        (λ numbers. numbers.items ≡ numbers_from 0 (map node_row nodes.now) (names_of group.now)) }
 {
     let mut numbers = Vec::new(alloc);
     for (number, node) in nodes.iter().enumerate() {
@@ -65,7 +67,8 @@ fn numbers_of(alloc: Global, nodes: &[Node], group: &[&[u8]]) -> Result<Vec<u8>,
 /// The groups by the numbers of their nodes.
 fn groups_of(alloc: Global, nodes: &[Node], groups: &[Vec<&[u8]>]) -> Result<Vec<Vec<u8>>, NoMemory>
     requires { length nodes.now ≤ MAX_NODES }
-    ensures { IfOk result (λ numbered. map (λ group. group.items) numbered.items ≡ map (numbers_from 0 (map node_row nodes.now)) (groups_of groups.now)) }
+    ensures { IfOk result (λ numbered. map (λ group. group.items) numbered.items
+        ≡ map (numbers_from 0 (map node_row nodes.now)) (groups_of groups.now)) }
 {
     let mut numbered = Vec::new(alloc);
     for group in groups {
@@ -76,7 +79,8 @@ fn groups_of(alloc: Global, nodes: &[Node], groups: &[Vec<&[u8]>]) -> Result<Vec
 
 /// The place of the first group that has the node.
 fn place_of_group(groups: &[Vec<u8>], node: u8) -> Option<usize>
-    ensures place { result ≡ position (λ group. list_any (λ other. other == node) group.items) groups.now }
+    ensures place { result
+        ≡ position (λ group. list_any (λ other. other == node) group.items) groups.now }
     ensures within { IfSome result (λ at. at < length groups.now) }
 {
     groups.iter().position(|group| group.contains(&node))
@@ -97,8 +101,10 @@ fn place_of(groups: &[Vec<u8>], node: u8) -> u8
 fn places_of(alloc: Global, nodes: usize, groups: &[Vec<u8>]) -> Result<Vec<u8>, NoMemory>
     requires nodes { nodes ≤ MAX_NODES }
     requires groups { length groups.now ≤ MAX_NODES }
-    requires members { All (λ group. All (λ number. number < nodes) group) (map (λ group. group.items) groups.now) }
-    ensures { IfOk result (λ places. ArePlaces places.items (map (λ group. group.items) groups.now)) }
+    requires members { All (λ group. All (λ number. number < nodes) group)
+        (map (λ group. group.items) groups.now) }
+    ensures { IfOk result
+        (λ places. ArePlaces places.items (map (λ group. group.items) groups.now)) }
 {
     let mut places = Vec::new(alloc);
     for node in 0..nodes {
@@ -130,9 +136,14 @@ fn add_app(
 ) -> Result<(), NoMemory>
     requires few { length nodes.now ≤ MAX_NODES }
     requires groups { length (app_of app.now).groups ≤ MAX_NODES }
-    requires new { is_among app.now.name.now (map (λ row. row.name) (map app_row numbered.old.entries)) ≡ false }
-    ensures rows { OnOk result (map app_row numbered.new.entries ≡ map app_row numbered.old.entries ++ numbered_app (draft_of draft.now).permissions (map node_row nodes.now) (app_of app.now) ∷ []) }
-    ensures places { OnOk result (All IsPlaced numbered.old.entries → All IsPlaced numbered.new.entries) }
+    requires new { is_among app.now.name.now
+        (map (λ row. row.name) (map app_row numbered.old.entries)) ≡ false }
+    ensures rows { OnOk result (map app_row numbered.new.entries
+        ≡ map app_row numbered.old.entries
+        ++ numbered_app (draft_of draft.now).permissions (map node_row nodes.now)
+        (app_of app.now) ∷ []) }
+    ensures places { OnOk result
+        (All IsPlaced numbered.old.entries → All IsPlaced numbered.new.entries) }
 {
     let groups = groups_of(alloc, nodes, &app.groups)?;
     let places = places_of(alloc, nodes.len(), &groups)?;

@@ -33,7 +33,8 @@ fn put_node<S: Sink>(sink: &mut S, config: &Config, node: NodeId)
 /// Nodes by their names, with a comma between any two.
 fn put_members<S: Sink>(sink: &mut S, config: &Config, group: &[u8])
     requires { All (λ number. number < node_count config.now) group.now }
-    ensures { Gains S.holds sink.old sink.new (parted (map (node_name_text config.now.nodes) group.now)) }
+    ensures { Gains S.holds sink.old sink.new
+        (parted (map (node_name_text config.now.nodes) group.now)) }
 {
     let mut before: &[u8] = b"";
     for number in group {
@@ -59,8 +60,10 @@ fn put_group<S: Sink>(sink: &mut S, config: &Config, group: &[u8])
 
 /// The groups of an application, with a comma between any two.
 fn put_groups<S: Sink>(sink: &mut S, config: &Config, groups: &[Vec<u8>])
-    requires { All (λ group. All (λ number. number < node_count config.now) group.items) groups.now }
-    ensures { Gains S.holds sink.old sink.new (parted (map (group_text config.now.nodes) (map (λ group. group.items) groups.now))) }
+    requires { All (λ group. All (λ number. number < node_count config.now) group.items)
+        groups.now }
+    ensures { Gains S.holds sink.old sink.new
+        (parted (map (group_text config.now.nodes) (map (λ group. group.items) groups.now))) }
 {
     let mut before: &[u8] = b"";
     for group in groups {
@@ -72,7 +75,8 @@ fn put_groups<S: Sink>(sink: &mut S, config: &Config, groups: &[Vec<u8>])
 
 fn put_app<S: Sink>(sink: &mut S, config: &Config, name: &[u8], app: &App)
     requires { HasMembersBelow (node_count config.now) app.now }
-    ensures { Gains S.holds sink.old sink.new (app_text config.now.nodes (named_row name.now app.now)) }
+    ensures { Gains S.holds sink.old sink.new
+        (app_text config.now.nodes (named_row name.now app.now)) }
 {
     sink.put(b"{");
     put_name(sink, name);
@@ -85,7 +89,8 @@ fn put_app<S: Sink>(sink: &mut S, config: &Config, name: &[u8], app: &App)
 
 /// The applications with their groups, with a comma between any two.
 fn put_apps<S: Sink>(sink: &mut S, config: &Config)
-    ensures { Gains S.holds sink.old sink.new (parted (map (app_text config.now.nodes) config.now.apps)) }
+    ensures { Gains S.holds sink.old sink.new
+        (parted (map (app_text config.now.nodes) config.now.apps)) }
 {
     let mut before: &[u8] = b"";
     for at in 0..config.apps() {
@@ -98,7 +103,8 @@ fn put_apps<S: Sink>(sink: &mut S, config: &Config)
 
 /// The applications that aren't permitted where no one has said, with a comma between any two.
 fn put_bans<S: Sink>(sink: &mut S, config: &Config)
-    ensures { Gains S.holds sink.old sink.new (parted (map (λ row. ban_text row.name) (filter (λ row. not row.permission) config.now.apps))) }
+    ensures { Gains S.holds sink.old sink.new (parted
+        (map (λ row. ban_text row.name) (filter (λ row. not row.permission) config.now.apps))) }
 {
     let mut before: &[u8] = b"";
     for at in 0..config.apps() {
@@ -132,7 +138,8 @@ fn is_in(list: SyncList, node: &Node) -> bool
 
 /// The nodes in this list by their names, with a comma between any two.
 fn put_sync_list<S: Sink>(sink: &mut S, config: &Config, list: SyncList)
-    ensures { Gains S.holds sink.old sink.new (parted (map (λ row. name_text row.name) (filter (is_in list) config.now.nodes))) }
+    ensures { Gains S.holds sink.old sink.new
+        (parted (map (λ row. name_text row.name) (filter (is_in list) config.now.nodes))) }
 {
     let mut before: &[u8] = b"";
     for at in 0..config.nodes() {

@@ -5,7 +5,7 @@ use Rattle.std.proofs.lemmas.Bool.{false≢true, or_cases, or_left, or_right, fa
 use Rattle.dac_dots.specs.declared.dot.Dot.{Dot}
 use Rattle.dac_lattice.specs.Pieces.{In as InPairs}
 use Rattle.dac_wishes.specs.laws.Stores.{both_ways}
-use Rattle.dac_wishes.specs.Writes.{same_dot_is}
+use Rattle.dac_wishes.specs.laws.KeyedWrites.{same_dot_is}
 use Rattle.dac_operations.specs.declared.act.Act.{Act}
 use Rattle.dac_operations.specs.Operations.{Operation, operation}
 use Rattle.dac_meaning.specs.Meaning.{In, Within, Agree, has_dot, pairs}

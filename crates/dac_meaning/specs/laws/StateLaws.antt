@@ -9,7 +9,8 @@ use Rattle.dac_lattice.specs.Chains.{IsAny}
 use Rattle.dac_lattice.specs.Flags.{flag_cmp}
 use Rattle.dac_lattice.specs.laws.Flags.{flags_exact}
 use Rattle.dac_wishes.specs.laws.Stores.{subset_left, subset_right, subset_union, subset_empty, same_context}
-use Rattle.dac_chains.specs.Greatest.{AreNotAbove, greater, greatest_laws, empty_is_least}
+use Rattle.dac_chains.specs.Greatest.{AreNotAbove, greater}
+use Rattle.dac_chains.specs.laws.Greatest.{greatest_laws, empty_is_least}
 use Rattle.dac_chains.specs.Lives.{Lives, life_cmp}
 use Rattle.dac_chains.specs.laws.Lives.{lives_total, exact_lives}
 use Rattle.dac_chains.specs.Claims.{Claims, claim_cmp, how_cmp}

@@ -29,7 +29,8 @@ use Rattle.dac_ticks.specs.Ticks.{Turn, turn_of, claim_of}
 use Rattle.dac_ticks.specs.laws.Turning.{numbered, turned_by, turn_reaches}
 use Rattle.dac_ticks.specs.laws.Claims.{state_joined}
 use Rattle.dac_ticks.specs.laws.Claimed.{claim_alike, claim_state, claimed_as}
-use Rattle.dac_ticks.specs.laws.Again.{IsAmong, second_tick}
+use Rattle.dac_ticks.specs.laws.Again.{second_tick}
+use Rattle.dac_ticks.specs.Again.{IsAmong}
 use Rattle.dac_model_node.specs.ModelNode.{ModelNode, ModelRun, base_after, joined, run_shown}
 use Rattle.dac_model_node.specs.EventRefusals.{causes_to_tick, refusal_to_tick, needed, too_few_left, too_many_deltas}
 use Rattle.dac_model_node.specs.Deeds.{meanings, opening_at, ticks_by}

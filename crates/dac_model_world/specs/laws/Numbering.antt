@@ -16,7 +16,7 @@ use Rattle.dac_lattice.specs.declared.flags.Flag.TheVariants.{Up as IsUp}
 use Rattle.dac_chains.specs.declared.lives.Life.{Life}
 use Rattle.dac_chains.specs.Greatest.{IsGreatest, IsSaid}
 use Rattle.dac_chains.specs.Lives.{life_cmp}
-use Rattle.dac_wishes.specs.Writes.{same_dot_is, same_dot_itself}
+use Rattle.dac_wishes.specs.laws.KeyedWrites.{same_dot_is, same_dot_itself}
 use Rattle.dac_operations.specs.declared.act.Act.{Act}
 use Rattle.dac_operations.specs.declared.act.Act.TheVariants.{Up, Down, Permit, Start, Stop, Drain, Claim}
 use Rattle.dac_operations.specs.Operations.{Operation}

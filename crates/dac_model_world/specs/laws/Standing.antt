@@ -16,9 +16,9 @@ use Rattle.dac_wishes.specs.declared.key.Key.{Key}
 use Rattle.dac_wishes.specs.Keys.{key_cmp, same_key}
 use Rattle.dac_wishes.specs.laws.Keys.{same_key_is, same_key_itself}
 use Rattle.dac_wishes.specs.KeyedWrites.{keyed_write}
-use Rattle.dac_wishes.specs.laws.KeyedWrites.{tied_is}
+use Rattle.dac_wishes.specs.laws.KeyedWrites.{tied_is, same_dot_is, same_dot_itself}
 use Rattle.dac_wishes.specs.DrainsValue.{origin}
-use Rattle.dac_wishes.specs.Writes.{Write, write, same_dot, same_dot_is, same_dot_itself}
+use Rattle.dac_wishes.specs.Writes.{Write, write, same_dot}
 use Rattle.dac_operations.specs.declared.act.Act.{Act}
 use Rattle.dac_operations.specs.declared.act.Act.TheVariants.{Permit, Start, Stop, Drain}
 use Rattle.dac_operations.specs.Operations.{Operation, over_list}

@@ -6,11 +6,13 @@ use Rattle.std.specs.List.{reduce, cons_option}
 use Rattle.std.specs.declared.cmp.Ordering.{Ordering}
 use Rattle.std.specs.declared.cmp.Ordering.TheVariants.{Less, Equal, Greater}
 use Rattle.std.specs.Ordering.{nat_cmp, ordering_then, ordering_reverse, is_lt, is_gt, ord_min, MatchOrdering}
+use Rattle.std.specs.Cmp.{IsTotalOrder}
 use Rattle.std.proofs.lemmas.Bool.{true≢false, false≢true}
-use Rattle.std.proofs.lemmas.Cmp.{ranked, upto, tied_itself}
+use Rattle.std.proofs.lemmas.Cmp.{ranked, upto, tied_itself, nat_cmp_total, on_total, then_total}
 use Rattle.std.proofs.lemmas.List.Sums.{fold-append}
+use Rattle.dac_base.specs.laws.Ids.{nodes_total}
 use Rattle.dac_lattice.specs.Lattices.{join_options}
-use Rattle.dac_placement.specs.Ranks.{Rank, rank_cmp, ranks_total}
+use Rattle.dac_placement.specs.Ranks.{Rank, rank_cmp}
 
 -- ---- one more of them
 
@@ -24,6 +26,10 @@ reduce_more f [] (Some y) = refl
 reduce_more f (x ∷ xs) (Some y) = ap (λ z. Some z) (fold-append f x xs (y ∷ []))
 
 -- ---- the order of ranks
+
+-- it is a total order
+ranks_total : IsTotalOrder rank_cmp
+ranks_total = then_total (on_total (λ (r : Rank). r.group) nat_cmp_total) (then_total (on_total (λ (r : Rank). r.load) nat_cmp_total) (on_total (λ (r : Rank). r.node) nodes_total))
 
 -- a comes first, or ties with b
 abbrev pub IsUpTo : Rank → Rank → Type 0

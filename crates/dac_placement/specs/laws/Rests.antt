@@ -14,18 +14,11 @@ use Rattle.dac_state.specs.StateValue.{StateValue}
 use Rattle.dac_placement.specs.declared.standing.Standing.{Standing}
 use Rattle.dac_placement.specs.declared.standing.Standing.TheVariants.{Unclaimed, Lost, Stopped, Barred, Upheld}
 use Rattle.dac_placement.specs.declared.verdicts.Verdict.TheVariants.{Takeover, Kept}
-use Rattle.dac_placement.specs.Placement.{IsDrainedAt, IsAllowedAt, is_allowed_at, IsStartedAt, is_started_at, EachEligible, key_at, key_of, is_up, RunsAt, IsEarlier, is_earlier, IsFirst, first_choice, standing_at, standing_of, verdict_by, verdict_of, candidate_of}
+use Rattle.dac_placement.specs.Placement.{IsDrainedAt, IsAllowedAt, is_allowed_at, IsStartedAt, is_started_at, key_at, key_of, is_up, RunsAt, is_earlier, IsFirst, first_choice, standing_at, standing_of, verdict_by, verdict_of, candidate_of}
+use Rattle.dac_placement.specs.InWords.{Rests}
 use Rattle.dac_placement.specs.laws.Tests.{up_is, allowed_is, started_is}
 use Rattle.dac_placement.specs.laws.FirstChoice.{first_is}
 use Rattle.dac_placement.specs.laws.Judged.{IsChoice, earlier_if, none_earlier}
-
--- where it stands so, it is left alone
-abbrev pub Rests : Table → StateValue → AppId → Standing → Type 0
-Rests table s app Unclaimed = EachEligible table s app (λ _. ⊥)
-Rests table s app Lost = EachEligible table s app (λ _. ⊥)
-Rests table s app (Stopped n) = Unit {0}
-Rests table s app Barred = EachEligible table s app (λ _. ⊥)
-Rests table s app (Upheld n) = EachEligible table s app (λ m. ¬ IsEarlier table app m n)
 
 some_none : {X : Type 0} {v : X} {Y : Type 0} → ◌≡◌ {A = Option X} (Some v) None → Y
 some_none e = cc

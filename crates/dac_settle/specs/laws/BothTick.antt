@@ -11,7 +11,7 @@ use Rattle.dac_decide.specs.FailoverWait.{Note, waits_of}
 use Rattle.dac_commands.specs.Causes.{terms_used_up}
 use Rattle.dac_ticks.specs.Ticks.{turn_from}
 use Rattle.dac_ticks.specs.laws.Turning.{turned_by}
-use Rattle.dac_ticks.specs.laws.Again.{noting}
+use Rattle.dac_ticks.specs.Again.{noting}
 use Rattle.dac_settle.specs.Settling.{Member, with_member, own_of, turn_at, holding, ticked, IsTick, MemberEvent, Run, AllSame, IsRound}
 use Rattle.dac_settle.specs.Settling.MemberEvent.{Tick, Ship, Deliver}
 use Rattle.dac_settle.specs.Worked.{first_node, second_node, IsEither, the_app, worked_table, member_with, both_hold}

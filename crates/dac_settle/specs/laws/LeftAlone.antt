@@ -19,6 +19,7 @@ use Rattle.dac_placement.specs.Placement.{EachEligible, IsEligible, is_eligible,
 use Rattle.dac_placement.specs.laws.Tests.{eligible_is, started_is, allowed_is}
 use Rattle.dac_placement.specs.laws.Judged.{verdict_in_words}
 use Rattle.dac_ticks.specs.laws.Claimed.{Alike, alike_back}
+use Rattle.dac_settle.specs.Placed.{IsFit}
 
 -- at this incarnation the application is started and permitted, and no eligible node is of an earlier group
 abbrev pub IsWellAt : Table → StateValue → AppId → Origin → Type 0
@@ -120,11 +121,6 @@ pub each_alike : (t : Table) (s u : StateValue) → Alike s u → (app : AppId) 
 each_alike t s u a app P all = λ m lt may. all m lt (to_eligible t u s (alike_back s u a) app m may)
 
 -- who may run an application stays so
-pub record IsFit (t : Table) (s : StateValue) (app : AppId) (o : Origin) : Type 0 where
-  pub eligible : IsEligible t s app o.node
-  pub earliest : EachEligible t s app (λ m. ¬ IsEarlier t app m o.node)
-  pub live : IsUp s o
-
 pub fit_alike : (t : Table) (s u : StateValue) → Alike s u → (app : AppId) (o : Origin) → IsFit t s app o → IsFit t u app o
 fit_alike t s u a app o fit = record {
   eligible = to_eligible t s u a app o.node fit.eligible;

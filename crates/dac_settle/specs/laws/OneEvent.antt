@@ -22,7 +22,7 @@ use Rattle.dac_messages.specs.declared.event.Event.TheVariants.{Boot, Crash, Com
 use Rattle.dac_messages.specs.declared.reply.Reply.TheVariants.{Ticked, Shipped, Heard}
 use Rattle.dac_events.specs.declared.refusal.Refusal.TheVariants.{NoMemory}
 use Rattle.dac_ticks.specs.Ticks.{Turn}
-use Rattle.dac_ticks.specs.laws.Again.{tick_of}
+use Rattle.dac_ticks.specs.Again.{tick_of}
 use Rattle.dac_model_world.specs.ModelNode.{ModelNode, ModelRun, joined, shown, run_shown}
 use Rattle.dac_model_world.specs.EventRefusals.{refusal_of, refusal_by}
 use Rattle.dac_model_world.specs.Deeds.{message_of, hears, hears_message, ships, looks_after, ticks_by, opening_at, note_of}

@@ -11,7 +11,6 @@ use Rattle.std.proofs.lemmas.Bool.{false≢true}
 use Rattle.std.proofs.lemmas.Cmp.{ranked}
 use Rattle.dac_base.specs.declared.NodeId.{NodeId}
 use Rattle.dac_base.specs.declared.AppId.{AppId}
-use Rattle.dac_dots.specs.declared.dot.Origin.{Origin}
 use Rattle.dac_lattice.specs.Chains.{IsAtMost}
 use Rattle.dac_lattice.specs.laws.Chains.{chain_laws}
 use Rattle.dac_chains.specs.Greatest.{IsGreatest}
@@ -25,14 +24,14 @@ use Rattle.dac_meaning.specs.Meaning.{In, meaning_of, claim_said}
 use Rattle.dac_meaning.specs.laws.Joins.{meaning-same}
 use Rattle.dac_meaning.specs.Chained.{SaysFor}
 use Rattle.dac_config.specs.Table.{Table}
-use Rattle.dac_placement.specs.Placement.{IsStartedAt, IsAllowedAt, key_at, apps_of, verdict_of, candidate_of}
+use Rattle.dac_placement.specs.Placement.{IsStartedAt, IsAllowedAt, key_at, verdict_of, candidate_of}
 use Rattle.dac_placement.specs.laws.Rests.{candidate_is}
 use Rattle.dac_commands.specs.Commands.{next_term}
-use Rattle.dac_ticks.specs.Ticks.{claim_of}
 use Rattle.dac_ticks.specs.laws.Claimed.{Alike, alike_back, claimed_as}
-use Rattle.dac_settle.specs.Rounds.{Placement, IsGrown, IsPlacement}
+use Rattle.dac_settle.specs.Rounds.{IsGrown, IsPlacement}
+use Rattle.dac_settle.specs.Placed.{IsGood, here, placed}
 use Rattle.dac_settle.specs.laws.AnyPlacement.{one}
-use Rattle.dac_settle.specs.laws.LeftAlone.{IsFit, fit_alike, left_if, if_left, left_alike}
+use Rattle.dac_settle.specs.laws.LeftAlone.{fit_alike, left_if, if_left, left_alike}
 use Rattle.dac_settle.specs.laws.OnlyClaims.{AddsClaims, alike, claim_greatest, said_is_claim}
 
 -- ---- terms
@@ -49,31 +48,6 @@ terms_at_most a b h = le_then a.term b.term _ (nat_cmp a.term b.term) (ranked a.
 -- the term of the next claim after the greatest
 abbrev term_after : Option Claim → ℕ
 term_after c = option_map_or (λ (x : Claim). x.term) c 0 + 1
-
--- ---- placement by verdicts
-
--- Beside s, the operation is the next claim of the application, which isn't settled in s. Its node is live at its
--- incarnation and eligible, and no eligible node is of an earlier group.
-pub record IsGood (t : Table) (s : List Operation) (app : AppId) (o : Operation) : Type 0 where
-  pub open_app : IsSome (candidate_of (verdict_of t (meaning_of s) app))
-  pub claim : Claim
-  pub says : claim_said o.dot o.act ≡ Some (app, claim)
-  pub next : claim.term ≡ next_term (meaning_of s) app
-  pub fit : IsFit t (meaning_of s) app claim.origin
-
--- the live incarnation of a node by a set
-abbrev pub here : NodeId → List Operation → Origin
-here n x = record { node = n; inc = unwrap_or (live_at (meaning_of x).lives n) 0 }
-
--- placement by the verdicts of a configuration
-abbrev pub placed : Table → Placement
-placed t = record {
-  apps = apps_of t;
-  candidate = λ x app. candidate_of (verdict_of t (meaning_of x) app);
-  claim = λ n x app. claim_of t (here n x) (meaning_of x) app;
-  IsLive = λ x n. (inc : ℕ) × IsLive (meaning_of x).lives n inc;
-  IsWell = IsGood t;
-}
 
 some_none : {X : Type 0} {v : X} {Y : Type 0} → ◌≡◌ {A = Option X} (Some v) None → Y
 some_none e = cc

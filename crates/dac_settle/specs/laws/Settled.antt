@@ -17,13 +17,14 @@ use Rattle.dac_placement.specs.declared.verdicts.Verdict.TheVariants.{Start, Fai
 use Rattle.dac_placement.specs.Placement.{apps_of, verdict_of, candidate_of}
 use Rattle.dac_decide.specs.FailoverWait.{Note, IsLost, IsLostByNewest}
 use Rattle.dac_ticks.specs.laws.Turning.{numbered, apps_from}
-use Rattle.dac_ticks.specs.laws.Again.{noting}
+use Rattle.dac_ticks.specs.Again.{noting}
 use Rattle.dac_settle.specs.Rounds.{Held, IsApp, IsGrown, SetsEvent, Sets, InCopies, with_held, Happens as SetsHappen, Run as SetsRun, IsTickOf as IsSetsTick, Ticks as SetsTick, IsReady as AreReady, IsRound as IsRoundOfSets, Rounds as RoundsOfSets}
 use Rattle.dac_settle.specs.Rounds.SetsEvent.{Tick as Ticked, Ship as Shipped, Deliver as Delivered}
 use Rattle.dac_settle.specs.Settling.{Member, Members, with_member, turn_at, holding, ticked, MemberEvent, Happens, Run, Ticks, IsReady, IsRound, Rounds, IsSettled, RoundsSettleBy}
 use Rattle.dac_settle.specs.Settling.MemberEvent.{Tick, Ship, Deliver}
 use Rattle.dac_settle.specs.laws.AnyPlacement.{in_copies, same_node, one, some_is, grown_united, tick_grown, any_settle}
-use Rattle.dac_settle.specs.laws.Placed.{placed, one_inc, grown_alike, is_placement}
+use Rattle.dac_settle.specs.laws.Placed.{one_inc, grown_alike, is_placement}
+use Rattle.dac_settle.specs.Placed.{placed}
 use Rattle.dac_settle.specs.laws.Turns.{lost_back, IsMemberOf, tick_claims}
 
 -- ---- members and their sets

@@ -11,7 +11,7 @@ use Rattle.dac_dots.specs.Dots.{dot}
 use Rattle.dac_chains.specs.declared.claims.Claim.{Claim}
 use Rattle.dac_chains.specs.Lives.{Lives, IsLive, live_at}
 use Rattle.dac_chains.specs.laws.Live.{live_is}
-use Rattle.dac_wishes.specs.Writes.{same_dot_itself}
+use Rattle.dac_wishes.specs.laws.KeyedWrites.{same_dot_itself}
 use Rattle.dac_operations.specs.Operations.{Operation}
 use Rattle.dac_meaning.specs.Meaning.{In, Within, Agree, names, meaning_of}
 use Rattle.dac_meaning.specs.laws.Members.{In-append_left, In-append_cases, finds}
@@ -27,11 +27,12 @@ use Rattle.dac_commands.specs.laws.Counters.{counter-greatest}
 use Rattle.dac_ticks.specs.Ticks.{Turn, passing, claiming, claim_of, is_mine, turn_over}
 use Rattle.dac_ticks.specs.laws.Turning.{AreBelow, apps_below, turned_by}
 use Rattle.dac_ticks.specs.laws.Words.{own_if, if_own}
-use Rattle.dac_ticks.specs.laws.Again.{noting}
+use Rattle.dac_ticks.specs.Again.{noting}
 use Rattle.dac_settle.specs.Rounds.{IsApp, IsGrown, Claims}
 use Rattle.dac_settle.specs.Settling.{Member, own_of, turn_at, IsLate, IsTick}
 use Rattle.dac_settle.specs.laws.AnyPlacement.{one, grown_by}
-use Rattle.dac_settle.specs.laws.Placed.{placed, here, IsTaken, grown_alike, alike_grown, claims_cases, taken_if, well}
+use Rattle.dac_settle.specs.laws.Placed.{IsTaken, grown_alike, alike_grown, claims_cases, taken_if, well}
+use Rattle.dac_settle.specs.Placed.{placed, here}
 use Rattle.dac_settle.specs.laws.Due.{candidate_due}
 
 -- ---- dots

@@ -42,7 +42,8 @@ use Rattle.dac_settle.specs.Worked.{first_node, second_node, IsEither, the_app, 
 use Rattle.dac_settle.specs.laws.AnyPlacement.{one, same_node, grown_itself, grown_by}
 use Rattle.dac_settle.specs.laws.OnlyClaims.{AddsClaims, is_claim, alike, claim_greatest}
 use Rattle.dac_settle.specs.laws.LeftAlone.{left_if, if_left, to_eligible, to_started}
-use Rattle.dac_settle.specs.laws.Placed.{placed, IsGood, IsTaken, alike_grown, claims_cases, stays, taken_if, well}
+use Rattle.dac_settle.specs.laws.Placed.{IsTaken, alike_grown, claims_cases, stays, taken_if, well}
+use Rattle.dac_settle.specs.Placed.{placed, IsGood}
 use Rattle.dac_settle.specs.laws.Started.{AreStarts, are_live, live_only, no_claim_said}
 
 none_some : {Z : Type 0} {v : Z} {Y : Type 0} → ◌≡◌ {A = Option Z} None (Some v) → Y

@@ -152,12 +152,12 @@ settled_there t w final s last v ready rounds h shows n state runs app lt =
 
 pub worlds_settle : InEachRun Settles
 worlds_settle t events answers v ran = record {
-  each = λ before rounds replies more events_are answers_are answered ready are n state runs app lt.
-      let w = world_after t (start t) before replies in
-      let s = set_run no_sets before replies in
-      let h = sound_run t (start t) no_sets before replies w (sound_start t) (answered, refl) in
-      let all = rounds_are t (app_count t) w s rounds more h are in
-      let ends : ran.final ≡ world_after t w rounds more =
-      ran.run.1 ∙ (λ i. world_after t (start t) (events_are i) (answers_are i)) ∙ after_both t (start t) before rounds replies more answered in
-      settled_there t w (world_after t w rounds more) s (set_run s rounds more) v ready all.0 all.1 (subst (λ f. Shows t f v) ends ran.shows) n state runs app lt;
+  each = λ e n state runs app lt.
+      let w = world_after t (start t) e.before e.replies in
+      let s = set_run no_sets e.before e.replies in
+      let h = sound_run t (start t) no_sets e.before e.replies w (sound_start t) (e.answered, refl) in
+      let all = rounds_are t (app_count t) w s e.rounds e.more h e.last in
+      let ends : ran.final ≡ world_after t w e.rounds e.more =
+      ran.run.1 ∙ (λ i. world_after t (start t) (e.events_are i) (e.answers_are i)) ∙ after_both t (start t) e.before e.rounds e.replies e.more e.answered in
+      settled_there t w (world_after t w e.rounds e.more) s (set_run s e.rounds e.more) v e.ready all.0 all.1 (subst (λ f. Shows t f v) ends ran.shows) n state runs app lt;
 }

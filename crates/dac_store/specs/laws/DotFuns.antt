@@ -12,7 +12,7 @@ use Rattle.dac_dots.specs.laws.Dots.{dots_total, exact_dots}
 use Rattle.dac_dots.specs.declared.dot.Dot.{Dot}
 use Rattle.dac_lattice.specs.Lattices.{IsLattice, IsIn}
 use Rattle.dac_lattice.specs.Maps.{IsMap}
-use Rattle.dac_lattice.specs.Entries.{sorted_merge, find_merge}
+use Rattle.dac_lattice.specs.laws.Entries.{sorted_merge, find_merge}
 use Rattle.dac_store.specs.Stores.{IsWithin, IsDotStore}
 use Rattle.dac_store.specs.AtDot.{StandsBelow, join_at, Under}
 use Rattle.dac_store.specs.laws.AtDot.{at_alone, at_alone_right, at_unheard, at_refl, at_trans, at_antisymm, at_closed, at_comes, at_left, at_right, at_least}

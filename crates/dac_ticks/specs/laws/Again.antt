@@ -34,32 +34,11 @@ use Rattle.dac_decide.specs.laws.Lost.{same_to, same_itself}
 use Rattle.dac_decide.specs.laws.Kept.{kept_is}
 use Rattle.dac_commands.specs.Commands.{next_operation}
 use Rattle.dac_commands.specs.Causes.{terms_used_up}
-use Rattle.dac_ticks.specs.Ticks.{Turn, turn_from, claim_of, is_mine, turn_over, turn_of}
+use Rattle.dac_ticks.specs.Ticks.{Turn, turn_from, claim_of, is_mine, turn_over}
+use Rattle.dac_ticks.specs.Again.{IsAmong, noting, SecondTickClaimsNothing}
 use Rattle.dac_ticks.specs.laws.Turning.{numbered, apps_from, turned_by, turn_more}
 use Rattle.dac_ticks.specs.laws.Words.{is_own, own_if}
 use Rattle.dac_ticks.specs.laws.Claimed.{Alike, alike_itself, alike_through, alike_back, claim_alike, claim_state, other_claim, own_claim, claimed_as}
-
--- the application is one of these
-abbrev pub IsAmong : AppId → List AppId → Type 0
-IsAmong app [] = ⊥
-IsAmong app (a ∷ apps) = (a ≡ app) ⊎ IsAmong app apps
-
--- what is noted at a tick that finds this state
-abbrev pub noting : StateValue → ℕ → List Note → List Note
-noting s now notes = record { state = s; moment = now } ∷ notes
-
--- the turn of a tick that notes first
-abbrev pub tick_of : Table → Origin → List Note → ℕ → StateValue → Turn
-tick_of t own notes now s = turn_of t own (waits_of t (noting s now notes)) now s
-
--- Let the incarnation be the live one of its node. Then a second tick at the same moment claims nothing and leaves
--- the state as it is. It notes once more. It passes none but those that the first passed. It may pass fewer: a claim
--- of the first may have made another node the better choice.
-abbrev pub SecondTickClaimsNothing : Type 0
-SecondTickClaimsNothing = (t : Table) (own : Origin) (notes : List Note) (now : ℕ) (s : StateValue) → IsState s → IsLive s.lives own.node own.inc
-    → let first = tick_of t own notes now s in
-    let second = tick_of t own (noting s now notes) now first.state in
-    (second.ops ≡ []) × ((second.state ≡ first.state) × ((app : AppId) → IsAmong app second.passed → IsAmong app first.passed))
 
 -- ---- lists
 

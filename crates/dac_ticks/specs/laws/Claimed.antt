@@ -27,20 +27,21 @@ use Rattle.dac_lattice.specs.Lattices.{join_options}
 use Rattle.dac_chains.specs.declared.claims.Claim.{Claim}
 use Rattle.dac_chains.specs.declared.claims.How.{How}
 use Rattle.dac_chains.specs.declared.claims.How.TheVariants.{Normal, Failover as FailedOver, Takeover as TakenOver}
-use Rattle.dac_chains.specs.Greatest.{alone, empty_is_least, get-greater, greater}
+use Rattle.dac_chains.specs.Greatest.{alone, greater}
+use Rattle.dac_chains.specs.laws.Greatest.{empty_is_least, get-greater}
 use Rattle.dac_chains.specs.declared.lives.LifeAct.TheVariants.{Other as NoLife}
 use Rattle.dac_chains.specs.Lives.{life_cmp, said_life}
 use Rattle.dac_chains.specs.laws.Lives.{lives_total, exact_lives}
 use Rattle.dac_chains.specs.Claims.{claim_cmp, how_cmp}
 use Rattle.dac_chains.specs.laws.Claims.{claims_total, exact_hows, exact_claims}
-use Rattle.dac_wishes.specs.Writes.{Write, same_dot_is}
+use Rattle.dac_wishes.specs.Writes.{Write}
+use Rattle.dac_wishes.specs.laws.KeyedWrites.{same_dot_is, keyed_writes_total, exact_keyed_writes}
 use Rattle.dac_wishes.specs.laws.Writes.{writes_total, exact_writes}
 use Rattle.dac_wishes.specs.WishesValue.{WishesValue, may_stand}
 use Rattle.dac_wishes.specs.laws.WishesValue.{standing-join as standing-wishes}
 use Rattle.dac_wishes.specs.PermissionsValue.{PermissionsValue}
 use Rattle.dac_wishes.specs.laws.Keys.{keys_total, exact_keys}
 use Rattle.dac_wishes.specs.KeyedWrites.{KeyedWrite}
-use Rattle.dac_wishes.specs.laws.KeyedWrites.{keyed_writes_total, exact_keyed_writes}
 use Rattle.dac_wishes.specs.Votes.{VotesValue, joined_vote, join_votes}
 use Rattle.dac_wishes.specs.laws.Votes.{standing-join_votes}
 use Rattle.dac_wishes.specs.DrainsValue.{DrainsValue, DrainWrite}

@@ -16,6 +16,7 @@ use Rattle.dac_decide.specs.declared.waits.Noted.{Noted}
 use Rattle.dac_commands.specs.Commands.{greatest_counter}
 use Rattle.dac_commands.specs.Causes.{terms_used_up, used_up}
 use Rattle.dac_ticks.specs.Ticks.{Turn, turn_from, passing, claiming, claim_of, turn_over, turn_of}
+use Rattle.dac_ticks.specs.InWords.{HasRoom}
 use Rattle.dac_ticks.specs.Issued.{AreIssued}
 use Rattle.dac_ticks.specs.laws.Counters.{counter_after}
 use Rattle.dac_ticks.specs.laws.Turning.{AreBelow, numbered, apps_below, claim_is_bare, turned_by}
@@ -36,10 +37,6 @@ pub record IsNextClaimIn (t : Table) (own : Origin) (s : StateValue) (o : Operat
 abbrev pub AreNextClaims : Table → Origin → StateValue → List Operation → Type 0
 AreNextClaims t own s [] = Unit {0}
 AreNextClaims t own s (o ∷ os) = IsNextClaimIn t own s o × AreNextClaims t own (join s (meaning_of (o ∷ []))) os
-
--- the incarnation has a counter for each application
-abbrev pub HasRoom : Table → Origin → StateValue → Type 0
-HasRoom t own s = greatest_counter own s.known + app_count t ≤ MAX_COUNTER
 
 -- ---- a turn goes on from another
 

@@ -11,7 +11,8 @@ use Rattle.dac_dots.specs.declared.dot.Dot.{Dot}
 use Rattle.dac_dots.specs.Dots.{dot, dot_cmp, origin_cmp}
 use Rattle.dac_dots.specs.laws.Dots.{dots_total, exact_origins}
 use Rattle.dac_dots.specs.Keys.{has_key}
-use Rattle.dac_wishes.specs.Writes.{same_dot, same_dot_is, same_dot_itself}
+use Rattle.dac_wishes.specs.Writes.{same_dot}
+use Rattle.dac_wishes.specs.laws.KeyedWrites.{same_dot_is, same_dot_itself}
 use Rattle.dac_operations.specs.declared.act.Act.{Act}
 use Rattle.dac_operations.specs.Operations.{over_list}
 use Rattle.dac_meaning.specs.StateValue.{StateValue, join}

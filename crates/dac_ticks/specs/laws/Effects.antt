@@ -25,14 +25,15 @@ use Rattle.dac_lattice.specs.Lattices.{join_options}
 use Rattle.dac_chains.specs.declared.lives.Life.{Life}
 use Rattle.dac_chains.specs.declared.claims.Claim.{Claim}
 use Rattle.dac_chains.specs.declared.claims.How.{How}
-use Rattle.dac_chains.specs.Greatest.{get-greater}
+use Rattle.dac_chains.specs.laws.Greatest.{get-greater}
 use Rattle.dac_chains.specs.Lives.{Lives, IsLive, life_cmp}
 use Rattle.dac_chains.specs.laws.Lives.{lives_total, exact_lives}
 use Rattle.dac_config.specs.Table.{Table, default_permission}
 use Rattle.dac_wishes.specs.declared.key.Key.{Key}
 use Rattle.dac_wishes.specs.Keys.{same_key}
 use Rattle.dac_wishes.specs.laws.Keys.{keys_total, exact_keys, same_key_itself}
-use Rattle.dac_wishes.specs.Writes.{Write, write, same_dot, same_dot_itself, dots_at}
+use Rattle.dac_wishes.specs.Writes.{Write, write, same_dot, dots_at}
+use Rattle.dac_wishes.specs.laws.KeyedWrites.{same_dot_itself}
 use Rattle.dac_wishes.specs.laws.Writes.{contains-dots_at}
 use Rattle.dac_wishes.specs.WishesValue.{WishesValue, SomeStands, may_stand}
 use Rattle.dac_wishes.specs.laws.WishesValue.{standing-join}

@@ -34,15 +34,10 @@ use Rattle.dac_commands.specs.laws.Terms.{terms_used_up_is, next_claim_is}
 use Rattle.dac_ticks.specs.Ticks.{Turn, turn_from, passing, claiming, held_by, claimed_by, claim_of, is_mine, turn_over, turn_of}
 use Rattle.dac_ticks.specs.declared.turning.Found.TheVariants.{Left, Passed, Claimed}
 use Rattle.dac_ticks.specs.Progress.{found_of}
-use Rattle.dac_ticks.specs.InWords.{IsMine, IsNotMine, ComesBy, IsClaimOf, IsTurn}
+use Rattle.dac_ticks.specs.InWords.{IsMine, IsNotMine, ComesBy, IsClaimOf, IsTurn, HasRoom}
 use Rattle.dac_ticks.specs.laws.Counters.{counter_after}
 use Rattle.dac_ticks.specs.laws.Turning.{AreBelow, numbered, apps_below, claim_is_bare, turned_by}
-use Rattle.dac_ticks.specs.laws.Claims.{HasRoom, less_room, room_after, counter_left}
-
--- What a turn issues and passes is so in words, where there is a counter for each application.
-abbrev pub TurnsInWords : Type 0
-TurnsInWords = (t : Table) (own : Origin) (notes : List Note) (now : ℕ) (s : StateValue) → HasRoom t own s
-    → let turn = turn_of t own (waits_of t notes) now s in IsTurn t own notes now s (apps_of t) turn.ops turn.passed
+use Rattle.dac_ticks.specs.laws.Claims.{less_room, room_after, counter_left}
 
 -- ---- candidates
 

@@ -12,7 +12,7 @@ use Rattle.dac_dots.specs.Dots.{dot_cmp}
 use Rattle.dac_dots.specs.laws.Dots.{dots_total, exact_dots, origins_total, exact_origins}
 use Rattle.dac_lattice.specs.declared.flags.Flag.{Flag}
 use Rattle.dac_lattice.specs.declared.flags.Flag.TheVariants.{Up, Down}
-use Rattle.dac_lattice.specs.Entries.{find_below}
+use Rattle.dac_lattice.specs.laws.Entries.{find_below}
 use Rattle.dac_lattice.specs.laws.EntryLaws.{first, second}
 use Rattle.dac_wishes.specs.KeyedWrites.{same_dot}
 use Rattle.dac_wishes.specs.laws.KeyedWrites.{same_dot_is}

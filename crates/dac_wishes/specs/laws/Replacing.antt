@@ -1,12 +1,50 @@
 -- Laws of the definitions in `Replacing`.
-use Rattle.std.specs.Prelude.{◌≡◌, Bool, true, false, List, [], ◌∷◌, refl}
+use Rattle.std.specs.Prelude.{◌≡◌, Bool, true, false, List, [], ◌∷◌, refl, ◌||◌}
 use Rattle.std.proofs.Common.{sym, ap, subst, ◌∙◌, inl, inr}
 use Rattle.std.specs.List.{list_any}
 use Rattle.std.proofs.lemmas.Bool.{false≢true, or_cases, or_left, or_right}
 use Rattle.dac_dots.specs.declared.dot.Dot.{Dot}
 use Rattle.dac_lattice.specs.Pieces.{In, AreOperations}
-use Rattle.dac_wishes.specs.Writes.{same_dot_is}
-use Rattle.dac_wishes.specs.Replacing.{is_under}
+use Rattle.dac_wishes.specs.laws.KeyedWrites.{same_dot_is}
+use Rattle.dac_wishes.specs.Replacing.{is_under, replaces, is_replaced, names, SparesItself, named_by, AreNamedIn}
+use Rattle.std.specs.FinSet as set
+use Rattle.dac_dots.specs.Dots.{Dots, dot_cmp}
+use Rattle.dac_dots.specs.laws.Dots.{dots_total}
+use Rattle.dac_dots.specs.Keys.{has_key}
+
+module _ {A : Type 0} (over : A → List Dot) where
+  or_turn : (a b : Bool) → (a || b) ≡ (b || a)
+  or_turn true true = refl
+  or_turn true false = refl
+  or_turn false true = refl
+  or_turn false false = refl
+
+  pub contains-named_by : (d : Dot) (a : A) (x : Dot) → set.contains (named_by over d a) x ≡ names over x (d, a)
+  contains-named_by d a x = set.contains-from_list dots_total (d ∷ over a) x
+
+  -- with one operation more, the dots that it names are known too
+  pub known_more : (os : List (Dot × A)) (o : Dot × A) (known : Dots) → AreNamedIn over os known → AreNamedIn over (o ∷ os) (set.union known (named_by over o.0 o.1))
+  known_more os o known h x =
+      set.contains-union dots_total known (named_by over o.0 o.1) x
+      ∙ (λ i. h x i || contains-named_by o.0 o.1 x i)
+      ∙ or_turn (list_any (names over x) os) (names over x o)
+
+  -- what is named is replaced, or the dot of one
+  pub names-or : (x : Dot) (os : List (Dot × A)) → list_any (names over x) os ≡ (is_replaced over x os || list_any (is_under x) os)
+  names-or x [] = refl
+  names-or x (o ∷ os) = ap (λ b. (is_under x o || replaces over x o) || b) (names-or x os) ∙ regroup (is_under x o) (replaces over x o) (is_replaced over x os) (list_any (is_under x) os)
+    where
+      regroup : (a b c e : Bool) → ((a || b) || (c || e)) ≡ ((b || c) || (a || e))
+      regroup true true c e = refl
+      regroup true false true e = refl
+      regroup true false false e = refl
+      regroup false true c e = refl
+      regroup false false true e = refl
+      regroup false false false e = refl
+
+  -- an operation spares its own dot
+  pub spares : (os : List (Dot × A)) (o : Dot × A) → AreOperations (SparesItself over) (o ∷ os) → (x : Dot) → is_under x o ≡ true → replaces over x o ≡ false
+  spares os o h x e = ap (has_key dot_cmp (over o.1)) (same_dot_is x o.0 e) ∙ h.fit o (inl refl)
 
 -- what a test finds is one of the operations
 pub found : {A : Type 0} (p : Dot × A → Bool) (os : List (Dot × A)) → list_any p os ≡ true → (o : Dot × A) × (In o os × (p o ≡ true))

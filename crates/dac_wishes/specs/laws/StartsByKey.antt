@@ -14,7 +14,7 @@ use Rattle.dac_dots.specs.Dots.{Dots, dot_cmp}
 use Rattle.dac_dots.specs.laws.Dots.{dots_total, exact_dots}
 use Rattle.dac_dots.specs.Keys.{has_key}
 use Rattle.dac_lattice.specs.Chains.{IsAny}
-use Rattle.dac_lattice.specs.Entries.{find_below}
+use Rattle.dac_lattice.specs.laws.Entries.{find_below}
 use Rattle.dac_lattice.specs.laws.EntryLaws.{first, second}
 use Rattle.dac_store.specs.DotFuns.{is_empty_list}
 use Rattle.dac_store.specs.DotSets.{is_empty_set}
@@ -25,8 +25,7 @@ use Rattle.dac_wishes.specs.laws.Keys.{keys_total, exact_keys, same_key_is}
 use Rattle.dac_wishes.specs.Writes.{Write, Writes, write, write_cmp, same_dot, dots_among, dots_at}
 use Rattle.dac_wishes.specs.laws.Writes.{writes_total, exact_writes, same_write, contains-dots_at, list_any-alike}
 use Rattle.dac_wishes.specs.StoredWishes.{writes_at, writes_of}
-use Rattle.dac_wishes.specs.ByKey.{keys_in-rising, none_if_absent}
-use Rattle.dac_wishes.specs.laws.ByKey.{find_kept, keyed_by_key, kept_again, again_kept}
+use Rattle.dac_wishes.specs.laws.ByKey.{keys_in-rising, none_if_absent, find_kept, keyed_by_key, kept_again, again_kept}
 use Rattle.dac_wishes.specs.StartsByKey.{AreStarts, keys_of, starts_by_key}
 
 -- ---- what stands

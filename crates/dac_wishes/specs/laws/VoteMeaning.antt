@@ -22,7 +22,8 @@ use Rattle.dac_wishes.specs.KeyedWrites.{KeyedWrite, keyed_write_cmp, same_dot}
 use Rattle.dac_wishes.specs.laws.KeyedWrites.{keyed_writes_total, same_dot_is, same_keyed_write}
 use Rattle.dac_wishes.specs.Votes.{VotesValue, AreVotes, join_votes, no_votes}
 use Rattle.dac_wishes.specs.laws.Votes.{known-join_votes, standing-join_votes, same_votes}
-use Rattle.dac_wishes.specs.Replacing.{is_under, replaces, is_replaced, SparesItself, contains-named_by, known_more, names-or, spares}
+use Rattle.dac_wishes.specs.Replacing.{is_under, replaces, is_replaced, SparesItself}
+use Rattle.dac_wishes.specs.laws.Replacing.{contains-named_by, known_more, names-or, spares}
 use Rattle.dac_wishes.specs.VoteMeaning.{IsVoteMeaning, or_else, said, says_of, vote_delta, vote_in, votes_in}
 
 -- ---- the joined deltas of operations are what they mean

@@ -15,7 +15,8 @@ use Rattle.dac_lattice.specs.Chains.{IsAny}
 use Rattle.dac_lattice.specs.Flags.{IsFlagBelow}
 use Rattle.dac_lattice.specs.laws.Flags.{flag_laws}
 use Rattle.dac_lattice.specs.Lattices.{IsLattice, IsIn}
-use Rattle.dac_lattice.specs.Entries.{merge_entries, find_merge}
+use Rattle.dac_lattice.specs.Entries.{merge_entries}
+use Rattle.dac_lattice.specs.laws.Entries.{find_merge}
 use Rattle.dac_store.specs.laws.Stores.{subset_left, subset_right, subset_union, subset_empty, same_context}
 use Rattle.dac_store.specs.AtDot.{StandsBelow, Under}
 use Rattle.dac_store.specs.laws.AtDot.{at_refl, at_trans, at_antisymm, at_comes, at_left, at_right, at_least}

@@ -19,7 +19,7 @@ use Rattle.dac_lattice.specs.Chains.{IsAny}
 use Rattle.dac_lattice.specs.Lattices.{IsIn}
 use Rattle.dac_lattice.specs.Maps.{IsMap}
 use Rattle.dac_lattice.specs.laws.Flags.{flag_laws}
-use Rattle.dac_lattice.specs.Entries.{find_below}
+use Rattle.dac_lattice.specs.laws.Entries.{find_below}
 use Rattle.dac_lattice.specs.laws.EntryLaws.{first, second}
 use Rattle.dac_store.specs.DotFuns.{is_empty_list}
 use Rattle.dac_store.specs.laws.DotFuns.{when_empty, fun_laws}
@@ -31,8 +31,7 @@ use Rattle.dac_wishes.specs.Votes.{Votes, votes_among, votes_at}
 use Rattle.dac_wishes.specs.VoteMeaning.{or_else}
 use Rattle.dac_wishes.specs.laws.VoteMeaning.{else_none}
 use Rattle.dac_wishes.specs.StoredVotes.{DotFlags, AreKeyedVotes, keyed_votes, votes_of}
-use Rattle.dac_wishes.specs.ByKey.{keys_in-rising, none_if_absent}
-use Rattle.dac_wishes.specs.laws.ByKey.{find_kept, keyed_by_key, kept_again, again_kept}
+use Rattle.dac_wishes.specs.laws.ByKey.{keys_in-rising, none_if_absent, find_kept, keyed_by_key, kept_again, again_kept}
 use Rattle.dac_wishes.specs.VotesByKey.{voted_keys, votes_by_key}
 
 find-append : {K X : Type 0} (R : K → K → Ordering) (q : K) (es fs : List (K × X)) → find R q (es ++ fs) ≡ or_else (find R q es) (find R q fs)

@@ -11,12 +11,13 @@ use Rattle.dac_lattice.specs.Pieces.{AreOperations, IsPiece}
 use Rattle.dac_store.specs.laws.Stores.{same_context, both_ways}
 use Rattle.dac_wishes.specs.declared.wish_act.WishAct.{WishAct}
 use Rattle.dac_wishes.specs.declared.wish_act.WishAct.TheVariants.{Start, Other}
-use Rattle.dac_wishes.specs.Writes.{Write, write_cmp, same_dot, same_dot_is}
+use Rattle.dac_wishes.specs.Writes.{Write, write_cmp, same_dot}
+use Rattle.dac_wishes.specs.laws.KeyedWrites.{same_dot_is}
 use Rattle.dac_wishes.specs.laws.Writes.{writes_total, same_write}
 use Rattle.dac_wishes.specs.WishesValue.{WishesValue, AreWishes, join_wishes, no_wishes}
 use Rattle.dac_wishes.specs.laws.WishesValue.{known-join, standing-join, same_wishes}
-use Rattle.dac_wishes.specs.Replacing.{is_under, replaces, is_replaced, SparesItself, contains-named_by, known_more, names-or, spares}
-use Rattle.dac_wishes.specs.laws.Replacing.{found, finds, again}
+use Rattle.dac_wishes.specs.Replacing.{is_under, replaces, is_replaced, SparesItself}
+use Rattle.dac_wishes.specs.laws.Replacing.{contains-named_by, known_more, names-or, spares, found, finds, again}
 use Rattle.dac_wishes.specs.WishMeaning.{IsMeaning, is_start, over_of, starts_in, wish_delta, wishes}
 
 -- ---- the joined deltas of operations are what they mean

@@ -1,5 +1,5 @@
 use Rattle.std.proofs.Common.{refl}
-use Rattle.dac_deltas.specs.Joins.{joins_are_least}
+use Rattle.dac_deltas.specs.laws.Joins.{joins_are_least}
 use Rattle.dac_deltas.specs.laws.Logs.{pushes_append, pushes_append_all, trims_move_the_base, intervals_are_of_the_log, dropped_have_none}
 use Rattle.dac_deltas.proofs.laws.buffers_keep_logs.Goals as goal
 

@@ -1,4 +1,4 @@
-use Rattle.dac_lattice.specs.Maps.{map_laws}
+use Rattle.dac_lattice.specs.laws.Maps.{map_laws}
 use Rattle.dac_lattice.proofs.maps.MapOfLattice.join.Goals as goal
 
 -- the merge is what the laws of maps say is closed
