@@ -16,6 +16,6 @@ fn main(rt: HostRuntime) -> anyhow::Result<ExitCode> {
     for word in &words {
         texts.push(word.as_str())?;
     }
-    let status = run(&rt, &rt, alloc, &texts, &mut rt.stdin(), &mut rt.stdout());
+    let status = run(&rt, alloc, &texts, &mut rt.stdin(), &mut rt.stdout());
     Ok(ExitCode::from(status))
 }
