@@ -23,7 +23,7 @@ asks_script script given phases lent parts given_is asks lent_is parts_are =
     ap (map (λ (p : Phase). p.lines.items)) given_is ∙ asks ∙ ap (λ (l : List (Bor (List LiveLine))). map lines_in (map (λ part. part.now) l)) lent_is ∙ ap (map lines_in) parts_are
 
 -- a fault of the weave is one of the script
-pub weave_fails : (table : Table) (script : List LiveLine) (report : LiveReport) (fault : WeaveFault) (why : PlayFault) → IsReportOf table script report → IsTrueFault table report.closed.items fault → IsRefusal table report.closed.items fault → why ≡ unwoven_fault_of fault → IsFaultOf table script why
+pub weave_fails : (table : Table) (script : List LiveLine) (report : LiveReport) (fault : WeaveFault) (why : PlayFault) → IsReportOf table script report → IsTrueFault table report.closed fault → IsRefusal table report.closed fault → why ≡ unwoven_fault_of fault → IsFaultOf table script why
 weave_fails table script report (weave.Unwoven node place) why reported ends none is =
     subst (IsFaultOf table script) (sym is) (record { report = report; reported = reported; ends = ends; none = none })
 weave_fails table script report weave.NoMemory why reported ends none is = subst (IsFaultOf table script) (sym is) tt

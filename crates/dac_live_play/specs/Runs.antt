@@ -23,13 +23,13 @@ use Rattle.dac_live_play.specs.Phases.{parts_of, AsksAs}
 -- this one asked is to ship. The pages are those of the whole journals. Each caller's seat has exactly its lines as
 -- records, and was answered so.
 pub record IsReport (table : Table) (phases : List Phase) (report : LiveReport) : Type 0 where
-  pub nodes : AreNodes (node_count table) report.closed.items
-  pub histories : AreTrueOf table report.closed.items
-  pub seats : SeatsHold report.closed.items
-  pub links : LinksHold (length phases) report.closed.items
-  pub pages : PagesHold table report.closed.items report.pages.items
-  pub callers : CallersHold phases report.answers.items report.closed.items
-  pub lines : AreAnswered phases report.answers.items
+  pub nodes : AreNodes (node_count table) report.closed
+  pub histories : AreTrueOf table report.closed
+  pub seats : SeatsHold report.closed
+  pub links : LinksHold (length phases) report.closed
+  pub pages : PagesHold table report.closed report.pages
+  pub callers : CallersHold phases report.answers report.closed
+  pub lines : AreAnswered phases report.answers
 
 -- a run reports this, whose phases ask what the script says
 pub record IsReportOf (table : Table) (script : List LiveLine) (report : LiveReport) : Type 0 where
@@ -42,16 +42,16 @@ pub record IsReportOf (table : Table) (script : List LiveLine) (report : LiveRep
 -- leaves holds of it
 pub record IsWoven (table : Table) (report : LiveReport) : Type 0 where
   pub events : List WorldEvent
-  pub gives : Gives table report.closed.items events
-  pub recorded : IsRecorded table report.closed.items events
-  pub converges : IsConverged table report.closed.items events
+  pub gives : Gives table report.closed events
+  pub recorded : IsRecorded table report.closed events
+  pub converges : IsConverged table report.closed events
 
 -- no run of the world has the journals that a run of the script left, and each ends at this place of this node
 pub record IsUnwovenAt (table : Table) (script : List LiveLine) (node : NodeId) (place : ℕ) : Type 0 where
   pub report : LiveReport
   pub reported : IsReportOf table script report
-  pub ends : IsUnwoven table report.closed.items node place
-  pub none : (events : List WorldEvent) → IsRecorded table report.closed.items events → ⊥
+  pub ends : IsUnwoven table report.closed node place
+  pub none : (events : List WorldEvent) → IsRecorded table report.closed events → ⊥
 
 -- Why a script isn't run to its end. More than four nodes are always the fault, unless memory was refused. Want of
 -- memory is no fault of a run.

@@ -96,7 +96,7 @@ pages_text table pages = flat_map (last_text table pages) (nodes_of table)
 -- what is printed of a run in these phases
 abbrev pub run_text : Table → List (List LiveLine) → LiveReport → List ℕ
 run_text table parts report =
-    phases_text table parts (map (λ a. a.items) report.answers.items) ++ (pages_text table report.pages.items ++ codes "close ok\nweave ok\n")
+    phases_text table parts report.answers ++ (pages_text table report.pages ++ codes "close ok\nweave ok\n")
 
 -- what is printed of a script, by a report of its run
 abbrev pub live_text : Table → List LiveLine → LiveReport → List ℕ

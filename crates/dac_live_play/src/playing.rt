@@ -43,7 +43,7 @@ pub fn play_live<T: Threads + Wait + Sync>(
     let parts = parts_of(alloc, script)?;
     let phases = phases_of(alloc, &parts)?;
     let report = run_live(rt, alloc, config, &phases, &Open)?;
-    weave(alloc, config, &report.closed)?;
+    weave(alloc, config, report.closed.as_slice())?;
     let text = live_lines(alloc, config, &parts, &phases, &report)?;
     Ok(text)
 }

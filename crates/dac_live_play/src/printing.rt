@@ -10,7 +10,7 @@ use crate::texts::{CALLERS, put_feed, put_own};
 use dac_base::{NoMemory, NodeId};
 use dac_config::Config;
 use dac_live_script::LiveLine;
-use dac_report::{Line, LineAnswer, LiveReport, Page, Phase};
+use dac_report::{AnswerList, Line, LineAnswer, LiveReport, Page, Phase};
 use dac_status::{header, page};
 use std::alloc::Global;
 
@@ -122,17 +122,16 @@ fn put_phases(
     config: &Config,
     parts: &[&[LiveLine]],
     phases: &[Phase],
-    answers: &[Vec<LineAnswer>],
+    answers: &[AnswerList],
 ) -> Result<(), NoMemory>
     requires { AsksAs phases.now (map (λ part. part.now) parts.now) }
     ensures { OnOk result (text.new.items
         ≡ text.old.items
-        ++ phases_text config.now (map (λ part. part.now) parts.now)
-        (map (λ told. told.items) answers.now)) }
+        ++ phases_text config.now (map (λ part. part.now) parts.now) answers.now) }
 {
     for place in 0..phases.len().min(answers.len()) {
         let lines = &phases[place].lines;
-        let told = &answers[place];
+        let told = answers[place].as_slice();
         let lines = phase_lines(alloc, config, place, parts[place], lines, told)?;
         text.extend_from_slice(&lines)?;
     }
@@ -203,8 +202,15 @@ pub fn live_lines(
         (λ text. text.items ≡ run_text config.now (map (λ part. part.now) parts.now) report.now) }
 {
     let mut text = Vec::new(alloc);
-    put_phases(alloc, &mut text, config, parts, phases, &report.answers)?;
-    put_pages(alloc, &mut text, config, &report.pages)?;
+    put_phases(
+        alloc,
+        &mut text,
+        config,
+        parts,
+        phases,
+        report.answers.as_slice(),
+    )?;
+    put_pages(alloc, &mut text, config, report.pages.as_slice())?;
     text.extend_from_slice(b"close ok\nweave ok\n")?;
     Ok(text)
 }

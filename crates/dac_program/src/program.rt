@@ -43,9 +43,8 @@ fn refuse<T: Print + Eprint, W: Write>(rt: &T, error: &Error, output: &mut W) ->
 /// output with status 0. The text about words that are no command line goes to the standard error with status 2, or 1
 /// where it can't be written.
 #[tactic(auto, using(crate::proofs::Reading::nothing_read))]
-pub fn run<'a, T: Print + Eprint, H: Threads + Wait + Sync, R: Read, W: Write>(
+pub fn run<'a, T: Print + Eprint + Threads + Wait + Sync, R: Read, W: Write>(
     rt: &T,
-    threads: &H,
     alloc: Global,
     words: &'a [&'a str],
     input: &mut R,
@@ -73,7 +72,7 @@ pub fn run<'a, T: Print + Eprint, H: Threads + Wait + Sync, R: Read, W: Write>(
     match read_request(alloc, words) {
         Ok(Some(Request::Check)) => check(alloc, input, output).status(),
         Ok(Some(Request::Sim)) => simulate(alloc, input, output).status(),
-        Ok(Some(Request::Live)) => live(threads, alloc, input, output).status(),
+        Ok(Some(Request::Live)) => live(rt, alloc, input, output).status(),
         Ok(None) => 2,
         Err(error) => refuse(rt, &error, output),
     }

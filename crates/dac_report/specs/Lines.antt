@@ -1,6 +1,5 @@
 -- What the lines of callers ask, and what they are answered.
 use Rattle.std.specs.Prelude.{⊤, ℕ, ◌≡◌, ◌<◌, ◌≤◌, ◌==◌, ◌&&◌, All, Bool, List, Option, Some, None, Result, flat_map, if◌then◌else◌, length, zip}
-use Rattle.std.specs.Global.{Vec}
 use Rattle.std.specs.List.{AllZip}
 use Rattle.dac_messages.specs.declared.event.Event.{Event}
 use Rattle.dac_messages.specs.declared.reply.Reply.{Reply}
@@ -58,9 +57,9 @@ abbrev pub told_in : ℕ → ℕ → List Line → List LineAnswer → List (Res
 told_in node caller lines answers = found (told_one node caller) (zip lines answers)
 
 -- those that it is given over all phases, in order
-abbrev pub told_of : ℕ → ℕ → List Phase → List (Vec LineAnswer) → List (Result Reply Refusal)
+abbrev pub told_of : ℕ → ℕ → List Phase → List (List LineAnswer) → List (Result Reply Refusal)
 told_of node caller phases answers =
-    flat_map (λ (p : Phase × Vec LineAnswer). told_in node caller p.0.lines.items p.1.items) (zip phases answers)
+    flat_map (λ (p : Phase × List LineAnswer). told_in node caller p.0.lines.items p.1) (zip phases answers)
 
 -- ---- what answers what
 -- a line that asks has an answer, and one that reads has a fresh or a stale page
@@ -77,23 +76,23 @@ abbrev pub LinesAnswered : List Line → List LineAnswer → Type 0
 LinesAnswered lines answers = AllZip (λ (line : Line) (answer : LineAnswer). Answers line.what answer) lines answers
 
 -- each line of each phase is
-abbrev pub AreAnswered : List Phase → List (Vec LineAnswer) → Type 0
+abbrev pub AreAnswered : List Phase → List (List LineAnswer) → Type 0
 AreAnswered phases answers =
-    AllZip (λ (p : Phase) (all : Vec LineAnswer). LinesAnswered p.lines.items all.items) phases answers
+    AllZip (λ (p : Phase) (all : List LineAnswer). LinesAnswered p.lines.items all) phases answers
 
 -- ---- callers' seats
 -- the records of this caller's seat are what its lines ask, in order, and were answered as the lines are
-pub record CallerHolds (node caller : ℕ) (phases : List Phase) (answers : List (Vec LineAnswer))
+pub record CallerHolds (node caller : ℕ) (phases : List Phase) (answers : List (List LineAnswer))
     (records : List Record) : Type 0 where
   pub asked : found (event_one caller) records ≡ asks_of node caller phases
   pub told : found (answer_one caller) records ≡ told_of node caller phases answers
 
 -- those of all callers of a node are
-abbrev pub NodeHolds : ℕ → List Phase → List (Vec LineAnswer) → List Record → Type 0
+abbrev pub NodeHolds : ℕ → List Phase → List (List LineAnswer) → List Record → Type 0
 NodeHolds node phases answers records =
     (caller : ℕ) → 1 ≤ caller → caller ≤ 4 → CallerHolds node caller phases answers records
 
 -- those of all callers of all nodes are
-abbrev pub CallersHold : List Phase → List (Vec LineAnswer) → List JournalValue → Type 0
+abbrev pub CallersHold : List Phase → List (List LineAnswer) → List JournalValue → Type 0
 CallersHold phases answers closed =
     (node : ℕ) → node < length closed → NodeHolds node phases answers (records_at closed node)

@@ -8,7 +8,7 @@ ghost use Rattle.dac_report.specs.Asked.{answer_one};
 ghost use Rattle.dac_report.specs.Lines.{AreAnswered, CallerHolds, NodeHolds, CallersHold};
 
 use crate::lines::{asked_by, told_to};
-use crate::report::LineAnswer;
+use crate::lists::AnswerList;
 use dac_base::{NoMemory, NodeId};
 use dac_messages::Event;
 use dac_run::{Answer, CALLERS, Closed, Phase, Record, event_of};
@@ -125,7 +125,7 @@ pub fn are_told(told: &[&Answer], records: &[Record], seat: u16) -> bool
 fn caller_holds(
     alloc: Global,
     phases: &[Phase],
-    answers: &[Vec<LineAnswer>],
+    answers: &[AnswerList],
     node: NodeId,
     caller: u8,
     records: &[Record],
@@ -147,7 +147,7 @@ fn caller_holds(
 fn node_holds(
     alloc: Global,
     phases: &[Phase],
-    answers: &[Vec<LineAnswer>],
+    answers: &[AnswerList],
     node: NodeId,
     records: &[Record],
 ) -> Result<bool, NoMemory>
@@ -168,7 +168,7 @@ fn node_holds(
 pub fn strange_node(
     alloc: Global,
     phases: &[Phase],
-    answers: &[Vec<LineAnswer>],
+    answers: &[AnswerList],
     closed: &[Closed],
 ) -> Result<Option<NodeId>, NoMemory>
     requires few { length closed.now ≤ MAX_NODES }

@@ -1,6 +1,7 @@
 //! Answers and readings, handed out to the lines that they are of.
 
 use crate::callers::answers_of;
+use crate::lists::AnswerList;
 use crate::report::LineAnswer;
 use dac_base::NodeId;
 use dac_run::{Answer, Ask, CloseFault, Closed, Line, Phase, RunFault, Seen};
@@ -78,11 +79,7 @@ fn next_of(rests: &mut [Rest], line: &Line) -> Option<LineAnswer> {
 }
 
 // What came of each line of a phase.
-fn answers_in(
-    alloc: Global,
-    rests: &mut [Rest],
-    lines: &[Line],
-) -> Result<Vec<LineAnswer>, RunFault> {
+fn answers_in(alloc: Global, rests: &mut [Rest], lines: &[Line]) -> Result<AnswerList, RunFault> {
     let mut all = Vec::new(alloc);
     for i in 0..lines.len() {
         let line = &lines[i];
@@ -93,7 +90,7 @@ fn answers_in(
             return Err(RunFault::NoMemory);
         }
     }
-    Ok(all)
+    Ok(AnswerList::new(all))
 }
 
 /// The records of a caller's seat aren't what its lines ask, and so no record is named.
@@ -109,7 +106,7 @@ pub(crate) fn all_answers(
     phases: &[Phase],
     closed: &[Closed],
     seen: Vec<Seen>,
-) -> Result<Vec<Vec<LineAnswer>>, RunFault> {
+) -> Result<Vec<AnswerList>, RunFault> {
     let mut rests = rests_of(alloc, closed, seen)?;
     let mut all = Vec::new(alloc);
     for i in 0..phases.len() {

@@ -5,6 +5,7 @@ ghost use Rattle.std.specs.Option.{option_copied};
 ghost use Rattle.dac_run.specs.Compared.{found};
 ghost use Rattle.dac_report.specs.Lines.{is_of, ask_one, asks_of, told_one, told_in, told_of, Answers, LinesAnswered, AreAnswered};
 
+use crate::lists::AnswerList;
 use crate::report::LineAnswer;
 use dac_base::{NoMemory, NodeId};
 use dac_messages::Event;
@@ -113,7 +114,7 @@ fn with_answers<'a>(
 pub fn told_to<'a>(
     alloc: Global,
     phases: &[Phase],
-    answers: &'a [Vec<LineAnswer>],
+    answers: &'a [AnswerList],
     node: NodeId,
     caller: u8,
 ) -> Result<Vec<&'a Answer>, NoMemory>
@@ -158,7 +159,7 @@ fn lines_answered(lines: &[Line], answers: &[LineAnswer]) -> bool
 }
 
 /// Whether each line is answered: one that asks by an answer, and one that reads by a fresh or a stale page.
-pub fn are_answered(phases: &[Phase], answers: &[Vec<LineAnswer>]) -> bool
+pub fn are_answered(phases: &[Phase], answers: &[AnswerList]) -> bool
     ensures { result ≡ true → AreAnswered phases.now answers.now }
 {
     if phases.len() != answers.len() {

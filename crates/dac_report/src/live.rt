@@ -10,9 +10,10 @@ ghost use Rattle.dac_report.specs.Pairs.{LinksHold, SeatsHold};
 use crate::callers::strange_node;
 use crate::handing::{all_answers, mismatch};
 use crate::lines::are_answered;
+use crate::lists::{AnswerList, AnswersByPhase, ClosedList, PageList};
 use crate::nodes::last_pages;
 use crate::pairs::lost_link;
-use crate::report::{LineAnswer, LiveReport};
+use crate::report::LiveReport;
 use crate::seats::check_seats;
 use dac_base::NodeId;
 use dac_config::Config;
@@ -37,7 +38,7 @@ fn check_links(alloc: Global, phases: usize, closed: &[Closed]) -> Result<(), Ru
 fn check_callers(
     alloc: Global,
     phases: &[Phase],
-    answers: &[Vec<LineAnswer>],
+    answers: &[AnswerList],
     closed: &[Closed],
 ) -> Result<(), RunFault>
     requires { length closed.now ≤ MAX_NODES }
@@ -61,13 +62,13 @@ fn report_of(
     phases: &[Phase],
     outcome: Outcome,
 ) -> Result<LiveReport, RunFault>
-    ensures nodes { IfOk result (λ r. AreNodes (node_count config.now) r.closed.items) }
-    ensures histories { IfOk result (λ r. AreTrueOf config.now r.closed.items) }
-    ensures seats { IfOk result (λ r. SeatsHold r.closed.items) }
-    ensures links { IfOk result (λ r. LinksHold (length phases.now) r.closed.items) }
-    ensures pages { IfOk result (λ r. PagesHold config.now r.closed.items r.pages.items) }
-    ensures callers { IfOk result (λ r. CallersHold phases.now r.answers.items r.closed.items) }
-    ensures lines { IfOk result (λ r. AreAnswered phases.now r.answers.items) }
+    ensures nodes { IfOk result (λ r. AreNodes (node_count config.now) r.closed) }
+    ensures histories { IfOk result (λ r. AreTrueOf config.now r.closed) }
+    ensures seats { IfOk result (λ r. SeatsHold r.closed) }
+    ensures links { IfOk result (λ r. LinksHold (length phases.now) r.closed) }
+    ensures pages { IfOk result (λ r. PagesHold config.now r.closed r.pages) }
+    ensures callers { IfOk result (λ r. CallersHold phases.now r.answers r.closed) }
+    ensures lines { IfOk result (λ r. AreAnswered phases.now r.answers) }
 {
     let Outcome {
         closed,
@@ -80,9 +81,9 @@ fn report_of(
     let answers = all_answers(alloc, phases, closed.as_slice(), seen)?;
     check_callers(alloc, phases, answers.as_slice(), closed.as_slice())?;
     Ok(LiveReport {
-        answers,
-        pages,
-        closed,
+        answers: AnswersByPhase::new(answers),
+        pages: PageList::new(pages),
+        closed: ClosedList::new(closed),
     })
 }
 
@@ -104,20 +105,20 @@ pub fn run_live<G: Gate, R: Threads + Wait + Sync>(
     // Lines of nodes that there are, and of callers 1 to 4.
     requires { All (HasLines (node_count config.now)) phases.now }
     // A journal of each node, by name.
-    ensures nodes { IfOk result (λ r. AreNodes (node_count config.now) r.closed.items) }
+    ensures nodes { IfOk result (λ r. AreNodes (node_count config.now) r.closed) }
     // Each journal is a history of its node under the configuration, from one that was never booted.
-    ensures histories { IfOk result (λ r. AreTrueOf config.now r.closed.items) }
+    ensures histories { IfOk result (λ r. AreTrueOf config.now r.closed) }
     // Each record is of a seat of its node: of a caller's, or of one of the two for another node.
-    ensures seats { IfOk result (λ r. SeatsHold r.closed.items) }
+    ensures seats { IfOk result (λ r. SeatsHold r.closed) }
     // All that a link's worker asked is to hear what its shipper shipped, in order and each once. All that the shipper asked is to
     // ship, five times a phase.
-    ensures links { IfOk result (λ r. LinksHold (length phases.now) r.closed.items) }
+    ensures links { IfOk result (λ r. LinksHold (length phases.now) r.closed) }
     // The last page of each node is that after all records of its journal.
-    ensures pages { IfOk result (λ r. PagesHold config.now r.closed.items r.pages.items) }
+    ensures pages { IfOk result (λ r. PagesHold config.now r.closed r.pages) }
     // The records of each caller's seat are what its lines ask, in order, and were answered as the lines are.
-    ensures callers { IfOk result (λ r. CallersHold phases.now r.answers.items r.closed.items) }
+    ensures callers { IfOk result (λ r. CallersHold phases.now r.answers r.closed) }
     // Each line is answered: one that asks by an answer, and one that reads by a fresh or a stale page.
-    ensures lines { IfOk result (λ r. AreAnswered phases.now r.answers.items) }
+    ensures lines { IfOk result (λ r. AreAnswered phases.now r.answers) }
     ensures many { 4 < node_count config.now → result ≡ Err RunFault.TooManyNodes }
 {
     if config.nodes() > MAX_SITES {

@@ -1,8 +1,8 @@
 //! What a run reports.
 
+use crate::lists::{AnswersByPhase, ClosedList, PageList};
 use dac_events::Refusal;
 use dac_messages::Reply;
-use dac_run::{Closed, Page};
 
 /// What came of a line.
 #[derive(Drop)]
@@ -19,9 +19,9 @@ pub enum LineAnswer {
 #[derive(Drop)]
 pub struct LiveReport {
     /// Of each phase, what came of each line.
-    pub answers: Vec<Vec<LineAnswer>>,
+    pub answers: AnswersByPhase,
     /// The last page of each node, by name.
-    pub pages: Vec<Page>,
+    pub pages: PageList,
     /// The journal of each node, by name.
-    pub closed: Vec<Closed>,
+    pub closed: ClosedList,
 }

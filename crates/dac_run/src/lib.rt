@@ -1,7 +1,7 @@
 //! Running sites: up to four, each under a name of its own, with all their threads.
 //!
-//! A run goes in phases. In a phase the callers, shippers and link workers of all sites run at once, each in a thread of
-//! its own, until all have ended; then each link ships and hears once more, while no thread runs.
+//! A run goes in phases. In a phase the callers with lines, the shippers and the link workers of all sites run at once, each
+//! in a thread of its own, until all have ended; then each link ships and hears once more, while no thread runs.
 #![tactic(auto)]
 
 pub use dac_workers::compare::{SHIPS_OF_PHASE, are_heard, are_ships, event_of, sent_by};

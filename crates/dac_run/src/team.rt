@@ -1,6 +1,6 @@
 //! What the threads of a site begin with, and what they do in a phase.
 
-use crate::phases::{Ask, Phase};
+use crate::phases::{Ask, Line, Phase};
 use dac_base::NodeId;
 use dac_config::Config;
 use dac_links::{LinkReceiver, LinkSender};
@@ -46,9 +46,10 @@ pub(crate) struct Team<L: SiteName> {
     pub(crate) hears: Vec<ToHear<L>>,
 }
 
-/// Their handles.
+/// Their handles. A caller without lines in the phase has no thread, and stays as it is.
 #[derive(Drop)]
 pub(crate) struct Started<L: SiteName> {
+    idle: Vec<Caller<L>>,
     callers: Vec<JoinHandle<Result<Caller<L>, RunFault>>>,
     ships: Vec<JoinHandle<Result<ToShip<L>, RunFault>>>,
     hears: Vec<JoinHandle<Result<ToHear<L>, RunFault>>>,
@@ -99,6 +100,11 @@ fn do_line<L: SiteName, R: Wait>(
     }
 }
 
+// Whether the line is one of the caller on this seat of this node.
+fn is_of(line: &Line, node: NodeId, seat: u16) -> bool {
+    line.node == node && u16::from(line.caller) == seat
+}
+
 // The lines of a caller in a phase, in order.
 fn call_lines<L: SiteName, R: Wait>(
     rt: &R,
@@ -108,7 +114,7 @@ fn call_lines<L: SiteName, R: Wait>(
     mut caller: Caller<L>,
 ) -> Result<Caller<L>, RunFault> {
     for line in &phase.lines {
-        if line.node == node && u16::from(line.caller) == caller.seat.number() {
+        if is_of(line, node, caller.seat.number()) {
             do_line(rt, node, site, &mut caller, &line.what)?;
         }
     }
@@ -151,6 +157,33 @@ fn hear_all<L: SiteName, G: Gate, R: Wait>(
         rt, alloc, config, from, node, site, &mut seat, &mut link, gate,
     )?;
     Ok(ToHear { from, seat, link })
+}
+
+// Whether the caller on this seat of this node has lines in the phase.
+fn has_lines(phase: &Phase, node: NodeId, seat: u16) -> bool {
+    phase.lines.iter().any(|line| is_of(line, node, seat))
+}
+
+// The callers of a site that have lines in the phase, and those that have none.
+fn parted<L: SiteName>(
+    alloc: Global,
+    node: NodeId,
+    phase: &Phase,
+    callers: Vec<Caller<L>>,
+) -> Result<(Vec<Caller<L>>, Vec<Caller<L>>), RunFault> {
+    let mut busy = Vec::new(alloc);
+    let mut idle = Vec::new(alloc);
+    for caller in callers {
+        let pushed = if has_lines(phase, node, caller.seat.number()) {
+            busy.push(caller)
+        } else {
+            idle.push(caller)
+        };
+        if pushed.is_err() {
+            return Err(RunFault::NoMemory);
+        }
+    }
+    Ok((busy, idle))
 }
 
 /// Starts the callers of a site, each in a thread.
@@ -232,7 +265,7 @@ pub(crate) struct Shared<'a, G: Gate> {
     pub(crate) nodes: u8,
 }
 
-/// Starts all threads of a site for a phase.
+/// Starts all threads of a site for a phase: of its links, and of each caller with lines.
 pub(crate) fn start<'s, E, L: SiteName + Send + Sync, G: Gate, R: Threads + Wait + Sync>(
     scope: &Scope<'s, E>,
     rt: &'s R,
@@ -249,23 +282,24 @@ pub(crate) fn start<'s, E, L: SiteName + Send + Sync, G: Gate, R: Threads + Wait
     } = team;
     let alloc = shared.alloc;
     let config = shared.config;
+    let (busy, idle) = parted(alloc, node, phase, callers)?;
     let hears = start_hears(scope, rt, alloc, config, node, site, shared.gate, hears)?;
     let ships = start_ships(scope, rt, alloc, config, node, site, ships)?;
-    let callers = start_callers(scope, rt, alloc, node, site, phase, callers)?;
+    let callers = start_callers(scope, rt, alloc, node, site, phase, busy)?;
     Ok(Started {
+        idle,
         callers,
         ships,
         hears,
     })
 }
 
-// What the threads give back.
-fn results_of<T: Drop, R: Wait + Threads>(
+// What the threads give back goes behind the list.
+fn with_results<T: Drop, R: Wait + Threads>(
     rt: &R,
-    alloc: Global,
+    mut all: Vec<T>,
     handles: Vec<JoinHandle<Result<T, RunFault>>>,
 ) -> Result<Vec<T>, RunFault> {
-    let mut all = Vec::new(alloc);
     let mut fault = None;
     for handle in handles {
         match handle.join(rt) {
@@ -289,13 +323,14 @@ pub(crate) fn join_all<L: SiteName, R: Wait + Threads>(
     started: Started<L>,
 ) -> Result<Team<L>, RunFault> {
     let Started {
+        idle,
         callers,
         ships,
         hears,
     } = started;
-    let callers = results_of(rt, alloc, callers);
-    let ships = results_of(rt, alloc, ships);
-    let hears = results_of(rt, alloc, hears);
+    let callers = with_results(rt, idle, callers);
+    let ships = with_results(rt, Vec::new(alloc), ships);
+    let hears = with_results(rt, Vec::new(alloc), hears);
     Ok(Team {
         callers: callers?,
         ships: ships?,

@@ -2,20 +2,32 @@
 //!
 //! `distac check` reads a configuration and prints its canonical text. `distac sim` reads a configuration and a script,
 //! plays the script in a world of controllers, and prints what comes of each line. `distac live` runs a script at
-//! controllers in threads. This crate is the process alone: `run` is the whole program over a reader and a writer, and
-//! `main` calls it.
+//! controllers in threads. This crate is the process alone: `run` of `dac_program` is the whole program over a reader and
+//! a writer, and `main` calls it.
 #![tactic(auto)]
 
-pub use dac_program::run;
+use dac_program::run;
+use std::io::ErrorKind;
 use std::process::ExitCode;
+
+/// What is printed on the standard error of a command line whose words aren't all UTF-8.
+const NOT_UTF_8: &str =
+    "error: a word of the command line isn't UTF-8\n\nFor more information, try '--help'.";
 
 fn main(rt: HostRuntime) -> anyhow::Result<ExitCode> {
     let alloc = rt.alloc();
-    let words: Vec<String> = std::env::args(&rt)?.collect(alloc)?;
+    let words = match std::env::args(&rt) {
+        Err(error) if error.kind() == ErrorKind::InvalidData => {
+            eprintln!(rt; "{NOT_UTF_8}")?;
+            return Ok(ExitCode::from(2));
+        }
+        words => words?,
+    };
+    let words: Vec<String> = words.collect(alloc)?;
     let mut texts = Vec::new(alloc);
     for word in &words {
         texts.push(word.as_str())?;
     }
-    let status = run(&rt, &rt, alloc, &texts, &mut rt.stdin(), &mut rt.stdout());
+    let status = run(&rt, alloc, &texts, &mut rt.stdin(), &mut rt.stdout());
     Ok(ExitCode::from(status))
 }

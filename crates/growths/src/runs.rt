@@ -100,7 +100,7 @@ fn run_phases<T: Threads + Wait + Sync>(
         return Said::Other;
     }
     match run_live(rt, alloc, config, phases, &Open) {
-        Ok(report) => Said::Well(report.closed.len() as u64),
+        Ok(report) => Said::Well(report.closed.as_slice().len() as u64),
         Err(_) => Said::NoMemory,
     }
 }

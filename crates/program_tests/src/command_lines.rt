@@ -1,11 +1,10 @@
 //! Command lines, and what is printed for those that ask for help or for nothing that there is.
 use dac_program::{Request, read_request, run};
 use std::alloc::Global;
-use std::cell::Cell;
 use std::fmt::Display;
 use std::io;
 use std::io::{Eprint, ErrorKind, Print};
-use std::sync::Wait;
+use std::sync::{Mutex, Wait};
 use std::thread::Threads;
 
 /// Words, whether what is printed for them is an error, and its text.
@@ -196,27 +195,31 @@ Documents:
 
 /// A runtime that keeps what is printed on the standard output and on the standard error.
 #[derive(Drop)]
-struct Streams {
-    alloc: Global,
-    output: Cell<String>,
-    error: Cell<String>,
+struct Streams<'a, T: Wait> {
+    rt: &'a T,
+    output: Mutex<String>,
+    error: Mutex<String>,
 }
 
+impl<T: Wait> Wait for Streams<'_, T> {}
+
+impl<T: Threads + Wait> Threads for Streams<'_, T> {}
+
 /// Puts the text of a value behind what a stream has.
-fn add<D: Display + Drop>(alloc: Global, stream: &Cell<String>, value: D) -> io::Result<()> {
-    let mut text = stream.replace(String::new(alloc));
+fn add<T: Wait, D: Display + Drop>(rt: &T, stream: &Mutex<String>, value: D) -> io::Result<()> {
+    let mut held = stream.lock(rt);
+    let text = &mut *held;
     write!(text, "{value}")?;
-    stream.set(text);
     Ok(())
 }
 
-impl Print for Streams {
+impl<T: Wait> Print for Streams<'_, T> {
     fn print<D: Display + Drop>(&self, value: D) -> io::Result<()> {
-        add(self.alloc, &self.output, value)
+        add(self.rt, &self.output, value)
     }
 
     fn println<D: Display + Drop>(&self, value: D) -> io::Result<()> {
-        add(self.alloc, &self.output, format_args!("{value}\n"))
+        add(self.rt, &self.output, format_args!("{value}\n"))
     }
 
     /// The program prints text alone.
@@ -225,13 +228,13 @@ impl Print for Streams {
     }
 }
 
-impl Eprint for Streams {
+impl<T: Wait> Eprint for Streams<'_, T> {
     fn eprint<D: Display + Drop>(&self, value: D) -> io::Result<()> {
-        add(self.alloc, &self.error, value)
+        add(self.rt, &self.error, value)
     }
 
     fn eprintln<D: Display + Drop>(&self, value: D) -> io::Result<()> {
-        add(self.alloc, &self.error, format_args!("{value}\n"))
+        add(self.rt, &self.error, format_args!("{value}\n"))
     }
 }
 
@@ -246,21 +249,14 @@ fn answers<T: Threads + Wait + Sync>(
     said: &str,
 ) -> bool {
     let streams = Streams {
-        alloc,
-        output: Cell::new(String::new(alloc)),
-        error: Cell::new(String::new(alloc)),
+        rt,
+        output: Mutex::new(String::new(alloc)),
+        error: Mutex::new(String::new(alloc)),
     };
     let mut written = Vec::new(alloc);
-    let answered = run(
-        &streams,
-        rt,
-        alloc,
-        words,
-        &mut b"".as_slice(),
-        &mut written,
-    );
+    let answered = run(&streams, alloc, words, &mut b"".as_slice(), &mut written);
     let Streams {
-        alloc: _,
+        rt: _,
         output,
         error,
     } = streams;

@@ -20,7 +20,7 @@ pub fn status_of<T: Print + Eprint + Threads + Wait + Sync, R: Read, W: Write>(
     input: &mut R,
     output: &mut W,
 ) -> u8 {
-    run(rt, rt, alloc, &["distac", word], input, output)
+    run(rt, alloc, &["distac", word], input, output)
 }
 
 /// The status and the output of `distac` with one word more, on an input.

@@ -4,7 +4,7 @@ use dac_config::read_config;
 use dac_events::Command;
 use dac_messages::Event;
 use dac_report::{
-    Ask, Gate, Line, LineAnswer, LiveReport, Phase, RunFault, are_runnable, run_live,
+    AnswerList, Ask, Gate, Line, LineAnswer, LiveReport, Phase, RunFault, are_runnable, run_live,
 };
 use std::alloc::Global;
 use std::sync::Wait;
@@ -237,9 +237,9 @@ fn twenty_phases(alloc: Global) -> Option<Vec<Phase>> {
 }
 
 /// Whether each line was answered without a refusal, and each page that was read was fresh.
-fn are_well(answers: &[Vec<LineAnswer>]) -> bool {
+fn are_well(answers: &[AnswerList]) -> bool {
     answers.iter().all(|lines| {
-        lines.iter().all(|line| match line {
+        lines.as_slice().iter().all(|line| match line {
             LineAnswer::Done(Ok(_)) | LineAnswer::Fresh => true,
             _ => false,
         })
@@ -250,16 +250,10 @@ fn are_well(answers: &[Vec<LineAnswer>]) -> bool {
 fn twenty_are_well<R: Threads + Wait + Sync>(rt: &R, alloc: Global) -> Option<bool> {
     let phases = twenty_phases(alloc)?;
     let report = ran(rt, alloc, FOUR, phases.as_slice(), &Open)?.ok()?;
-    let records = report
-        .closed
-        .iter()
-        .all(|closed| closed.records().len() >= 358);
-    Some(
-        report.answers.len() == 20
-            && report.closed.len() == 4
-            && are_well(&report.answers)
-            && records,
-    )
+    let answers = report.answers.as_slice();
+    let closed = report.closed.as_slice();
+    let records = closed.iter().all(|closed| closed.records().len() >= 358);
+    Some(answers.len() == 20 && closed.len() == 4 && are_well(answers) && records)
 }
 
 #[test]
@@ -292,8 +286,10 @@ fn three_phases(alloc: Global) -> Option<Vec<Phase>> {
 
 /// Whether two reports have the same final pages, but for their places.
 fn are_alike(one: &LiveReport, other: &LiveReport) -> bool {
-    one.pages.len() == other.pages.len()
-        && one.pages.iter().zip(other.pages.iter()).all(|(left, right)| left.origin == right.origin
+    let pages = one.pages.as_slice();
+    let others = other.pages.as_slice();
+    pages.len() == others.len()
+        && pages.iter().zip(others.iter()).all(|(left, right)| left.origin == right.origin
             && left.summary == right.summary)
 }
 

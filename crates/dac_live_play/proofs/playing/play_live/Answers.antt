@@ -26,8 +26,8 @@ returns-in_err-weave-clause-fault g c =
     let reported : IsReportOf c.args.config.now c.args.script.now c.in_ok-report.report = record { phases = c.deref-2.result.now; asks = asks; few = λ many. no_error _ _ (run.many many); is = is } in
     let p = err_from_is_err_and c.from_residual-in_err-weave.result c.from_residual-in_err-weave.ensures.1 in
     rw p.1 (weave_fails c.args.config.now c.args.script.now c.in_ok-report.report c.in_err-weave.field-0.0 p.0 reported
-    (subst (λ js. IsTrueFault c.args.config.now js c.in_err-weave.field-0.0) c.deref-3.ensures.value c.in_err-weave.ensures.unwoven)
-    (subst (λ js. IsRefusal c.args.config.now js c.in_err-weave.field-0.0) c.deref-3.ensures.value c.in_err-weave.ensures.complete)
+    (subst (λ js. IsTrueFault c.args.config.now js c.in_err-weave.field-0.0) c.as_slice.ensures c.in_err-weave.ensures.unwoven)
+    (subst (λ js. IsRefusal c.args.config.now js c.in_err-weave.field-0.0) c.as_slice.ensures c.in_err-weave.ensures.complete)
     p.2)
 
 pub returns-clause-ok : goal.returns-clause-ok
@@ -42,9 +42,9 @@ returns-clause-ok g c =
       reported = reported;
       woven = record {
         events = events;
-        gives = subst (λ js. Gives c.args.config.now js events) c.deref-3.ensures.value c.in_ok-weave.ensures.woven;
-        recorded = subst (λ js. IsRecorded c.args.config.now js events) c.deref-3.ensures.value c.in_ok-weave.ensures.recorded;
-        converges = subst (λ js. IsConverged c.args.config.now js events) c.deref-3.ensures.value c.in_ok-weave.ensures.converges;
+        gives = subst (λ js. Gives c.args.config.now js events) c.as_slice.ensures c.in_ok-weave.ensures.woven;
+        recorded = subst (λ js. IsRecorded c.args.config.now js events) c.as_slice.ensures c.in_ok-weave.ensures.recorded;
+        converges = subst (λ js. IsConverged c.args.config.now js events) c.as_slice.ensures c.in_ok-weave.ensures.converges;
       };
-      text_is = c.in_ok-text.ensures ∙ ap (λ parts. run_text c.args.config.now (map (λ part. part.now) parts) c.in_ok-report.report) c.deref-4.ensures.value ∙ ap (λ parts. run_text c.args.config.now parts c.in_ok-report.report) c.in_ok-parts.ensures;
+      text_is = c.in_ok-text.ensures ∙ ap (λ parts. run_text c.args.config.now (map (λ part. part.now) parts) c.in_ok-report.report) c.deref-3.ensures.value ∙ ap (λ parts. run_text c.args.config.now parts c.in_ok-report.report) c.in_ok-parts.ensures;
     }

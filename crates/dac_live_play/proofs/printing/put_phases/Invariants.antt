@@ -1,11 +1,10 @@
 use Rattle.std.proofs.Common.{◌≡◌, ℕ, ◌+◌, List, ◌++◌, map}
 use Rattle.dac_live_script.specs.declared.line.LiveLine.{LiveLine}
-use Rattle.dac_report.specs.declared.report.LineAnswer.{LineAnswer}
 use Rattle.dac_live_play.specs.Texts.{phase_text, phases_text}
 use Rattle.dac_live_play.proofs.Placing.{left}
 use Rattle.dac_live_play.proofs.printing.put_phases.Given as goal
 
 abbrev pub invariant-loop-place : goal.invariant-loop-place
 invariant-loop-place l =
-    l.text.items ++ left (λ place part told. phase_text l.config (place + 1) part told) (map (λ part. part.now) l.parts) (map (λ told. told.items) l.answers) l.place
-    ≡ l.fn.text.items ++ phases_text l.config (map (λ part. part.now) l.parts) (map (λ told. told.items) l.answers)
+    l.text.items ++ left (λ place part told. phase_text l.config (place + 1) part told) (map (λ part. part.now) l.parts) l.answers l.place
+    ≡ l.fn.text.items ++ phases_text l.config (map (λ part. part.now) l.parts) l.answers
